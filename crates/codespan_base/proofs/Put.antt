@@ -1,0 +1,59 @@
+-- A loop of `put`.
+use Rattle.std.proofs.Common.{◌≡◌, ℕ, ◌<◌, true, ltb, List, [], ◌∷◌, ◌++◌, length, take, drop, refl, sym, ap, ◌∙◌, arith, Option, None, Some, is_some, suc, zero}
+use Rattle.std.specs.Io.KnownBytes.{append_known, Appends, Keeps}
+use Rattle.std.proofs.lemmas.Bool.{ne_eqb, false≢true}
+use Rattle.std.proofs.lemmas.Bool.Decides.{nat_tests}
+use Rattle.std.proofs.lemmas.List.{take-append-drop}
+use Rattle.codespan_base.specs.Streams.{bytes}
+use Rattle.codespan_base.specs.WriterLaw.{Frame, Sink, refusing, after_put, sent, is_told, Began}
+use Rattle.codespan_base.proofs.Sends.{spelled-bytes, append_known-nil, bytes-append}
+
+-- a refusal to take any of some bytes
+pub after_put-none : (f : Frame) (bs : List ℕ) (n : ℕ) → n ≡ 0 → 0 < length bs → after_put f bs n ≡ refusing f
+after_put-none f bs n e h = rw e (let t : ltb 0 (length bs) ≡ true = grind (arith, nat_tests) in rw t refl)
+
+pub after_put-some : (f : Frame) (bs : List ℕ) (n : ℕ) → (n ≡ 0 → length bs ≡ 0) → after_put f bs n ≡ f
+after_put-some f [] zero h = refl
+after_put-some f (b ∷ bs) zero h = absurd (omega (arith, h refl))
+after_put-some f bs (suc n) h = rw (ne_eqb (suc n) 0 (λ e. omega (arith, e))) refl
+
+sink-by : (s t : Sink) (f : Frame) (o : Option (List ℕ)) → t.frame ≡ f → t.held ≡ o → t ≡ record { frame = f; held = o }
+sink-by s t f o e h = rw (sym e, sym h) refl
+
+-- what one `put` did, as a stream
+pub put-sent : (s : Sink) (bs : List ℕ) (n : ℕ) (t : Sink) → (n ≡ 0 → ⊥) → (t.frame ≡ after_put s.frame bs n) × (is_told s ≡ true → t.held ≡ append_known s.held (take n bs)) → (t.frame ≡ s.frame) × (is_told s ≡ true → t ≡ sent s (bytes (take n bs)))
+unfolding sent
+put-sent s bs n t h p = let f : t.frame ≡ s.frame = p.0 ∙ after_put-some s.frame bs n (λ e. absurd (h e)) in
+    (f, λ told. sink-by s t _ _ f (p.1 told ∙ ap (append_known s.held) (sym (spelled-bytes s.frame.spelling (take n bs)))))
+
+pub put-none : (s : Sink) (bs : List ℕ) (n : ℕ) (t : Sink) → n ≡ 0 → 0 < length bs → (t.frame ≡ after_put s.frame bs n) × (is_told s ≡ true → t.held ≡ append_known s.held (take n bs)) → (t.frame ≡ refusing s.frame) × (is_told s ≡ true → Began s (bytes bs) t)
+put-none s bs n t e h p = let f : t.frame ≡ refusing s.frame = p.0 ∙ after_put-none s.frame bs n e h in
+    (f, λ told. record { begun = []; rest = bs; whole = sym (spelled-bytes s.frame.spelling bs); held = p.1 told ∙ ap (λ (k : ℕ). append_known s.held (take k bs)) e })
+
+pub put-refused : (s : Sink) (bs : List ℕ) (t : Sink) → (t.frame ≡ refusing s.frame) × (is_told s ≡ true → t.held ≡ s.held) → (t.frame ≡ refusing s.frame) × (is_told s ≡ true → Began s (bytes bs) t)
+put-refused s bs t p =
+    (p.0, λ told. record { begun = []; rest = bs; whole = sym (spelled-bytes s.frame.spelling bs); held = p.1 told ∙ sym (append_known-nil s.held) })
+
+pub bytes-take : (n : ℕ) (bs : List ℕ) → bytes bs ≡ bytes (take n bs) ++ bytes (drop n bs)
+bytes-take n bs = ap bytes (sym (take-append-drop n bs)) ∙ bytes-append (take n bs) (drop n bs)
+
+-- a `put` that is one `write` of a writer inside
+Appends-some : (o m : Option (List ℕ)) (bs : List ℕ) → is_some o ≡ true → Appends o m bs → m ≡ append_known o bs
+Appends-some None m bs h a = absurd (false≢true h)
+Appends-some (Some xs) None bs h a = absurd a
+Appends-some (Some xs) (Some ys) bs h a = ap (λ (l : List ℕ). Some l) a
+
+Keeps-some : (o m : Option (List ℕ)) → is_some o ≡ true → Keeps o m → m ≡ o
+Keeps-some None m h a = absurd (false≢true h)
+Keeps-some (Some xs) None h a = absurd a
+Keeps-some (Some xs) (Some ys) h a = ap (λ (l : List ℕ). Some l) a
+
+pub told-appends : (s : Sink) (m : Option (List ℕ)) (bs : List ℕ) → is_told s ≡ true → Appends s.held m bs → m ≡ append_known s.held bs
+unfolding is_told
+told-appends s m bs h a = Appends-some s.held m bs h a
+
+pub told-keeps : (s : Sink) (m : Option (List ℕ)) → is_told s ≡ true → Keeps s.held m → m ≡ s.held
+unfolding is_told
+told-keeps s m h a = Keeps-some s.held m h a
+
+pub ruleset putting = (after_put-none, after_put-some, told-appends, told-keeps)

@@ -1,0 +1,89 @@
+-- Calls that send, one after another.
+use Rattle.std.proofs.Common.{◌≡◌, ℕ, List, [], ◌∷◌, ◌++◌, refl, sym, ap, ◌∙◌, append_assoc, append-nil, Option, None, Some, is_some}
+use Rattle.std.specs.Io.KnownBytes.{append_known}
+use Rattle.codespan_base.specs.Streams.{Stream, Byte, Mark, Slot, Spelling, spelled, bytes}
+use Rattle.codespan_base.specs.WriterLaw.{Sink, sent, is_told, Began}
+
+pub spelled-append : (f : Spelling) (a b : Stream) → spelled f (a ++ b) ≡ spelled f a ++ spelled f b
+spelled-append f [] b = refl
+spelled-append f (Slot k ∷ a) b = spelled-append f a b
+spelled-append f (Byte x ∷ a) b = ap (λ (l : List ℕ). x ∷ l) (spelled-append f a b)
+spelled-append f (Mark m ∷ a) b = ap (λ (l : List ℕ). f m ++ l) (spelled-append f a b) ∙ sym (append_assoc (f m) (spelled f a) (spelled f b))
+
+pub append_known-append : (o : Option (List ℕ)) (a b : List ℕ) → append_known (append_known o a) b ≡ append_known o (a ++ b)
+append_known-append None a b = refl
+append_known-append (Some xs) a b = ap (λ (l : List ℕ). Some l) (append_assoc xs a b)
+
+pub append_known-nil : (o : Option (List ℕ)) → append_known o [] ≡ o
+append_known-nil None = refl
+append_known-nil (Some xs) = ap (λ (l : List ℕ). Some l) (append-nil xs)
+
+pub spelled-bytes : (f : Spelling) (bs : List ℕ) → spelled f (bytes bs) ≡ bs
+unfolding bytes
+spelled-bytes f [] = refl
+spelled-bytes f (b ∷ bs) = ap (λ (l : List ℕ). b ∷ l) (spelled-bytes f bs)
+
+pub bytes-append : (a b : List ℕ) → bytes (a ++ b) ≡ bytes a ++ bytes b
+unfolding bytes
+bytes-append [] b = refl
+bytes-append (x ∷ a) b = ap (λ (l : Stream). Byte x ∷ l) (bytes-append a b)
+
+pub sent-append : (s : Sink) (a b : Stream) → sent s (a ++ b) ≡ sent (sent s a) b
+unfolding sent
+sent-append s a b = rw (append_known-append, spelled-append)
+
+pub Began-first : (s : Sink) (a : Stream) (t : Sink) (b : Stream) → Began s a t → Began s (a ++ b) t
+Began-first s a t b p = record {
+  begun = p.begun;
+  rest = p.rest ++ spelled s.frame.spelling b;
+  whole = sym (append_assoc p.begun p.rest (spelled s.frame.spelling b)) ∙ ap (λ (l : List ℕ). l ++ spelled s.frame.spelling b) p.whole ∙ sym (spelled-append s.frame.spelling a b);
+  held = p.held;
+}
+
+pub Began-last : (s : Sink) (a b : Stream) (u : Sink) → Began (sent s a) b u → Began s (a ++ b) u
+unfolding sent
+Began-last s a b u q = record {
+  begun = spelled s.frame.spelling a ++ q.begun;
+  rest = q.rest;
+  whole = append_assoc (spelled s.frame.spelling a) q.begun q.rest ∙ ap (λ (l : List ℕ). spelled s.frame.spelling a ++ l) q.whole ∙ sym (spelled-append s.frame.spelling a b);
+  held = q.held ∙ append_known-append s.held (spelled s.frame.spelling a) q.begun;
+}
+
+pub sent-nil : (s : Sink) → sent s [] ≡ s
+unfolding sent
+sent-nil s = ap (λ (o : Option (List ℕ)). record s { held = o }) (append_known-nil s.held)
+
+is_some-append : (o : Option (List ℕ)) (bs : List ℕ) → is_some (append_known o bs) ≡ is_some o
+is_some-append None bs = refl
+is_some-append (Some xs) bs = refl
+
+pub is_told-sent : (s : Sink) (a : Stream) → is_told (sent s a) ≡ is_told s
+unfolding sent is_told
+is_told-sent s a = is_some-append s.held (spelled s.frame.spelling a)
+
+-- a beginning of the first part is one of the whole, however many parts follow
+pub Began_first_2 : (s : Sink) (a : Stream) (t : Sink) (b1 b2 : Stream) → Began s a t → Began s (a ++ b1 ++ b2) t
+Began_first_2 s a t b1 b2 p = Began-first s (a ++ b1) t b2 (Began-first s a t b1 p)
+
+pub Began_first_3 : (s : Sink) (a : Stream) (t : Sink) (b1 b2 b3 : Stream) → Began s a t → Began s (a ++ b1 ++ b2 ++ b3) t
+Began_first_3 s a t b1 b2 b3 p = Began-first s (a ++ b1 ++ b2) t b3 (Began_first_2 s a t b1 b2 p)
+
+pub Began_first_4 : (s : Sink) (a : Stream) (t : Sink) (b1 b2 b3 b4 : Stream) → Began s a t → Began s (a ++ b1 ++ b2 ++ b3 ++ b4) t
+Began_first_4 s a t b1 b2 b3 b4 p = Began-first s (a ++ b1 ++ b2 ++ b3) t b4 (Began_first_3 s a t b1 b2 b3 p)
+
+pub Began_first_5 : (s : Sink) (a : Stream) (t : Sink) (b1 b2 b3 b4 b5 : Stream) → Began s a t → Began s (a ++ b1 ++ b2 ++ b3 ++ b4 ++ b5) t
+Began_first_5 s a t b1 b2 b3 b4 b5 p = Began-first s (a ++ b1 ++ b2 ++ b3 ++ b4) t b5 (Began_first_4 s a t b1 b2 b3 b4 p)
+
+pub Began_first_6 : (s : Sink) (a : Stream) (t : Sink) (b1 b2 b3 b4 b5 b6 : Stream) → Began s a t → Began s (a ++ b1 ++ b2 ++ b3 ++ b4 ++ b5 ++ b6) t
+Began_first_6 s a t b1 b2 b3 b4 b5 b6 p = Began-first s (a ++ b1 ++ b2 ++ b3 ++ b4 ++ b5) t b6 (Began_first_5 s a t b1 b2 b3 b4 b5 p)
+
+pub Began_first_7 : (s : Sink) (a : Stream) (t : Sink) (b1 b2 b3 b4 b5 b6 b7 : Stream) → Began s a t → Began s (a ++ b1 ++ b2 ++ b3 ++ b4 ++ b5 ++ b6 ++ b7) t
+Began_first_7 s a t b1 b2 b3 b4 b5 b6 b7 p = Began-first s (a ++ b1 ++ b2 ++ b3 ++ b4 ++ b5 ++ b6) t b7 (Began_first_6 s a t b1 b2 b3 b4 b5 b6 p)
+
+pub Began_first_8 : (s : Sink) (a : Stream) (t : Sink) (b1 b2 b3 b4 b5 b6 b7 b8 : Stream) → Began s a t → Began s (a ++ b1 ++ b2 ++ b3 ++ b4 ++ b5 ++ b6 ++ b7 ++ b8) t
+Began_first_8 s a t b1 b2 b3 b4 b5 b6 b7 b8 p = Began-first s (a ++ b1 ++ b2 ++ b3 ++ b4 ++ b5 ++ b6 ++ b7) t b8 (Began_first_7 s a t b1 b2 b3 b4 b5 b6 b7 p)
+
+pub Began_first_9 : (s : Sink) (a : Stream) (t : Sink) (b1 b2 b3 b4 b5 b6 b7 b8 b9 : Stream) → Began s a t → Began s (a ++ b1 ++ b2 ++ b3 ++ b4 ++ b5 ++ b6 ++ b7 ++ b8 ++ b9) t
+Began_first_9 s a t b1 b2 b3 b4 b5 b6 b7 b8 b9 p = Began-first s (a ++ b1 ++ b2 ++ b3 ++ b4 ++ b5 ++ b6 ++ b7 ++ b8) t b9 (Began_first_8 s a t b1 b2 b3 b4 b5 b6 b7 b8 p)
+
+pub ruleset sendings = (is_told-sent, sent-append, sent-nil, Began-first, Began-last, Began_first_2, Began_first_3, Began_first_4, Began_first_5, Began_first_6, Began_first_7, Began_first_8, Began_first_9)

@@ -1,0 +1,40 @@
+-- The bytes of a style in escape sequences.
+use Rattle.std.specs.Prelude.{ℕ, ◌+◌, Bool, true, false, List, [], ◌∷◌, ◌++◌, Option, Some, None, codes, decimal}
+use Rattle.codespan_base.specs.declared.term.config.color.Color.{Color}
+use Rattle.codespan_base.specs.declared.term.config.color.Color.TheVariants.{Black, Red, Green, Yellow, Blue, Magenta, Cyan, White}
+use Rattle.codespan_base.specs.declared.term.config.color.ColorSpec.{ColorSpec}
+
+-- the number of a colour
+abbrev pub color_number : Color → ℕ
+color_number Black = 0
+color_number Red = 1
+color_number Green = 2
+color_number Yellow = 3
+color_number Blue = 4
+color_number Magenta = 5
+color_number Cyan = 6
+color_number White = 7
+
+-- one escape sequence
+unfoldable pub escape : List ℕ → List ℕ
+escape parameters = 0x1b ∷ codes "[" ++ parameters ++ codes "m"
+
+-- what turns all styles off
+unfoldable pub ansi_reset : List ℕ
+ansi_reset = escape (codes "0")
+
+-- what turns bold on
+unfoldable pub ansi_bold : Bool → List ℕ
+ansi_bold true = escape (codes "1")
+ansi_bold false = []
+
+-- what sets a colour in a plane: `3` is the text, `4` what is behind it
+unfoldable pub ansi_color : List ℕ → Bool → Option Color → List ℕ
+ansi_color plane intense None = []
+ansi_color plane true (Some color) = escape (plane ++ codes "8;5;" ++ decimal (8 + color_number color))
+ansi_color plane false (Some color) = escape (plane ++ decimal (color_number color))
+
+-- what sets a style, whatever was set before
+unfoldable pub ansi_style : ColorSpec → List ℕ
+ansi_style spec =
+    ansi_reset ++ ansi_bold spec.bold ++ ansi_color (codes "3") spec.intense spec.fg ++ ansi_color (codes "4") spec.intense spec.bg

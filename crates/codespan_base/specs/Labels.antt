@@ -1,0 +1,115 @@
+-- Labels, as a picture sees them.
+use Rattle.std.specs.Prelude.{ℕ, ◌+◌, ◌-◌, ◌^◌, min, max, Bool, true, false, not, ◌&&◌, ◌||◌, ◌==◌, nat_lt, List, [], ◌∷◌, map, filter, reverse, Option, Some, None, if◌then◌else◌}
+use Rattle.std.specs.List.{enumerate_from, filter_map}
+use Rattle.codespan_base.specs.declared.diagnostic.LabelStyle.{LabelStyle}
+use Rattle.codespan_base.specs.declared.diagnostic.LabelStyle.TheVariants.{Primary, Secondary}
+use Rattle.codespan_base.specs.Streams.{Stream}
+use Rattle.codespan_base.specs.FileModel.{FileModel, line_of, line_start}
+
+-- a label's range is of the file, or, once it is drawn, of its line; its message is a stream, so that a slot can stand for it
+pub record Labelled : Type 0 where
+  pub style : LabelStyle
+  pub start : ℕ
+  pub end : ℕ
+  pub message : Stream
+
+-- the stream is empty
+abbrev pub is_blank : Stream → Bool
+is_blank [] = true
+is_blank _ = false
+
+-- the label has a message
+abbrev pub has_message : Labelled → Bool
+has_message x = not (is_blank x.message)
+
+-- the style is that of a cause
+abbrev pub is_primary_style : LabelStyle → Bool
+is_primary_style Primary = true
+is_primary_style Secondary = false
+
+-- the label is a cause
+abbrev pub is_primary : Labelled → Bool
+is_primary x = is_primary_style x.style
+
+-- ---- one label and the lines of its file
+
+-- the line of a label's start
+abbrev pub first_line : FileModel → Labelled → ℕ
+first_line f x = line_of f.starts x.start
+
+-- the line of a label's end
+abbrev pub last_line : FileModel → Labelled → ℕ
+last_line f x = line_of f.starts x.end
+
+-- the label ends on the line that it begins on
+abbrev pub is_single : FileModel → Labelled → Bool
+is_single f x = first_line f x == last_line f x
+
+-- the label with its drawn range: at least one byte long and counted from its line's start
+abbrev pub drawn_label : FileModel → Labelled → Labelled
+drawn_label f x = record x {
+  start = x.start - line_start f (first_line f x);
+  end = min (2 ^ 64 - 1) (max (x.end - line_start f (first_line f x)) (x.start - line_start f (first_line f x) + 1));
+}
+
+-- ---- the labels of a file, in the list's order
+
+-- the ids in the order of their first appearance
+abbrev pub first_seen : {Id : Type 0} → (Id → Id → Bool) → List Id → List Id
+first_seen same [] = []
+first_seen same (id ∷ ids) = id ∷ filter (λ other. not (same id other)) (first_seen same ids)
+
+-- the labels that end on another line than they begin on; each one's place in this list is its lane
+abbrev pub multi_labels : FileModel → List Labelled → List Labelled
+multi_labels f labels = filter (λ x. not (is_single f x)) labels
+
+-- by their starts, and by their ends where these are equal
+abbrev pub stands_before : Labelled → Labelled → Bool
+stands_before x y = nat_lt x.start y.start || (x.start == y.start && nat_lt x.end y.end)
+
+-- a label put in its place among labels in order, before those that are equal to it
+abbrev pub put_in : Labelled → List Labelled → List Labelled
+put_in x [] = x ∷ []
+put_in x (y ∷ ys) = if stands_before y x then y ∷ put_in x ys else x ∷ y ∷ ys
+
+-- labels in the order of their ranges, equal ones as they stand
+abbrev pub sorted : List Labelled → List Labelled
+sorted [] = []
+sorted (x ∷ xs) = put_in x (sorted xs)
+
+-- the single-line labels of a line by their drawn ranges; of equal ranges the one given last stands first
+abbrev pub single_labels : FileModel → List Labelled → ℕ → List Labelled
+single_labels f labels l =
+    sorted (reverse (map (drawn_label f) (filter (λ x. is_single f x && (first_line f x == l)) labels)))
+
+-- ---- marks of the multi-line labels on a line
+
+-- what a label over several lines does on one of them
+pub data Part : Type 0 where
+  Top : ℕ → Part
+  Left : Part
+  Bottom : ℕ → Stream → Part
+
+-- a mark: what a label does on a line, with the label's lane and style
+pub record LaneMark : Type 0 where
+  pub lane : ℕ
+  pub style : LabelStyle
+  pub part : Part
+
+-- the label begins on the line, ends on it, goes through it, or has no mark there
+abbrev pub part_on : FileModel → ℕ → Labelled → Option Part
+part_on f l x =
+    if first_line f x == l then Some (Top (x.start - line_start f l))
+    else if last_line f x == l then Some (Bottom (x.end - line_start f l) x.message)
+    else if nat_lt (first_line f x) l && nat_lt l (last_line f x) then Some Left
+    else None
+
+-- a mark, where the label has one
+abbrev pub mark_of : ℕ → Labelled → Option Part → Option LaneMark
+mark_of lane x None = None
+mark_of lane x (Some part) = Some (record { lane = lane; style = x.style; part = part })
+
+-- the marks of a line, in the order of the lanes
+abbrev pub marks_on : FileModel → List Labelled → ℕ → List LaneMark
+marks_on f labels l =
+    filter_map (λ (entry : ℕ × Labelled). mark_of entry.0 entry.1 (part_on f l entry.1)) (enumerate_from 0 (multi_labels f labels))

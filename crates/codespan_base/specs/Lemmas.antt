@@ -1,0 +1,5 @@
+-- Lemmas that the laws of files stand on. A reader may skip them: nothing is defined here.
+pub mod Lines
+pub mod Simple
+pub mod Mapped
+pub mod Missing

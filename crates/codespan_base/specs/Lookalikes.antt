@@ -1,0 +1,15 @@
+-- When two sets of characters, or two configurations, draw alike, whatever memory their texts lie in.
+use Rattle.std.specs.Prelude.{◌≡◌}
+use Rattle.codespan_base.specs.declared.term.config.chars.Chars.{Chars}
+use Rattle.codespan_base.specs.declared.term.config.Config.{Config}
+use Rattle.codespan_base.specs.Characters.{start_text}
+
+-- the same text before a place, and the same characters
+pub record IsChars (table chars : Chars) : Type 0 where
+  pub start : start_text chars.snippet_start ≡ start_text table.snippet_start
+  pub others : chars ≡ record table { snippet_start = chars.snippet_start }
+
+-- the same characters, and the same in every other field
+pub record IsConfig (table config : Config) : Type 0 where
+  pub chars : IsChars table.chars config.chars
+  pub others : config ≡ record table { chars = config.chars }

@@ -1,0 +1,93 @@
+-- What a writer is given: bytes, marks of style, and, where a law speaks of them, slots that stand for labels' messages.
+use Rattle.std.specs.Prelude.{ℕ, Bool, not, List, [], ◌∷◌, ◌++◌, map, replicate, count_by}
+use Rattle.std.specs.List.{repeat}
+use Rattle.std.specs.Int.{is_in_range}
+use Rattle.std.specs.Char.{encode_utf8}
+use Rattle.codespan_base.specs.declared.diagnostic.Severity.{Severity}
+use Rattle.codespan_base.specs.declared.diagnostic.LabelStyle.{LabelStyle}
+
+-- the marks of style, one for each call of `WriteStyle`
+pub data StyleMark : Type 0 where
+  Header : Severity → StyleMark
+  HeaderMessage : StyleMark
+  LineNumber : StyleMark
+  NoteBullet : StyleMark
+  SourceBorder : StyleMark
+  LabelMark : Severity → LabelStyle → StyleMark
+  Reset : StyleMark
+
+-- a slot names a label by its place in the diagnostic's list
+pub data Item : Type 0 where
+  Byte : ℕ → Item
+  Mark : StyleMark → Item
+  Slot : ℕ → Item
+
+-- what a row, or a whole picture, sends
+abbrev pub Stream : Type 0
+Stream = List Item
+
+-- a text as a stream
+unfoldable pub bytes : List ℕ → Stream
+bytes bs = map Byte bs
+
+-- one mark as a stream
+unfoldable pub one_mark : StyleMark → Stream
+one_mark m = Mark m ∷ []
+
+-- so many blanks
+unfoldable pub blanks : ℕ → Stream
+blanks n = bytes (replicate n 32)
+
+-- one blank
+abbrev pub space : Stream
+space = bytes (32 ∷ [])
+
+-- the end of a row
+abbrev pub newline : Stream
+newline = bytes (10 ∷ [])
+
+-- one character, by its code
+abbrev pub glyph : ℕ → Stream
+glyph c = bytes (encode_utf8 c)
+
+-- so many of one character
+unfoldable pub repeated : ℕ → ℕ → Stream
+repeated n c = repeat n (glyph c)
+
+-- fixed bytes for each mark
+abbrev pub Spelling : Type 0
+Spelling = StyleMark → List ℕ
+
+-- what a writer gains that spells each mark as these bytes
+abbrev pub spelled : Spelling → Stream → List ℕ
+spelled spelling [] = []
+spelled spelling (Byte b ∷ s) = b ∷ spelled spelling s
+spelled spelling (Mark m ∷ s) = spelling m ++ spelled spelling s
+spelled spelling (Slot k ∷ s) = spelled spelling s
+
+-- every mark is spelled as nothing
+abbrev pub no_marks : Spelling
+no_marks _ = []
+
+-- the text of a stream: its bytes
+abbrev pub text_of : Stream → List ℕ
+text_of s = spelled no_marks s
+
+-- the stream with each slot filled by its label's message
+abbrev pub filled : (ℕ → List ℕ) → Stream → Stream
+filled message [] = []
+filled message (Slot k ∷ s) = map Byte (message k) ++ filled message s
+filled message (Byte b ∷ s) = Byte b ∷ filled message s
+filled message (Mark m ∷ s) = Mark m ∷ filled message s
+
+-- the byte continues a character of UTF-8
+abbrev pub is_continuation : ℕ → Bool
+is_continuation b = is_in_range 128 191 b
+
+-- how many characters a text has: each has one byte that continues none before it
+abbrev pub character_count : List ℕ → ℕ
+character_count bs = count_by (λ b. not (is_continuation b)) bs
+
+-- the characters of a row
+abbrev pub row_length : Stream → ℕ
+row_length s = character_count (text_of s)

@@ -1,0 +1,96 @@
+-- The styles of a picture's parts, and which style each mark has.
+use Rattle.std.specs.Prelude.{ℕ, true, false, List, Option, Some, None}
+use Rattle.codespan_base.specs.declared.diagnostic.Severity.{Severity}
+use Rattle.codespan_base.specs.declared.diagnostic.Severity.TheVariants.{Bug, Error, Warning, Note, Help}
+use Rattle.codespan_base.specs.declared.diagnostic.LabelStyle.{LabelStyle}
+use Rattle.codespan_base.specs.declared.diagnostic.LabelStyle.TheVariants.{Primary, Secondary}
+use Rattle.codespan_base.specs.declared.term.config.color.Color.{Color}
+use Rattle.codespan_base.specs.declared.term.config.color.Color.TheVariants.{Red, Green, Yellow, Cyan}
+use Rattle.codespan_base.specs.declared.term.config.color.ColorSpec.{ColorSpec}
+use Rattle.codespan_base.specs.declared.term.config.styles.Styles.{Styles}
+use Rattle.codespan_base.specs.Streams.{StyleMark, Header, HeaderMessage, LineNumber, NoteBullet, SourceBorder, LabelMark, Reset}
+
+-- ---- the default styles
+
+-- a plain colour
+abbrev pub colored : Color → ColorSpec
+colored color = record { fg = Some color; bg = None; bold = false; intense = false }
+
+-- bold and intense
+abbrev pub bright : Option Color → ColorSpec
+bright color = record { fg = color; bg = None; bold = true; intense = true }
+
+-- the default styles
+abbrev pub default_styles : Styles
+default_styles = record {
+  header_bug = bright (Some Red);
+  header_error = bright (Some Red);
+  header_warning = bright (Some Yellow);
+  header_note = bright (Some Green);
+  header_help = bright (Some Cyan);
+  header_message = bright None;
+  primary_label_bug = colored Red;
+  primary_label_error = colored Red;
+  primary_label_warning = colored Yellow;
+  primary_label_note = colored Green;
+  primary_label_help = colored Cyan;
+  secondary_label = colored Cyan;
+  line_number = colored Cyan;
+  source_border = colored Cyan;
+  note_bullet = colored Cyan;
+}
+
+-- ---- the style of each mark
+
+-- of a header
+abbrev pub header_style : Styles → Severity → ColorSpec
+header_style styles Bug = styles.header_bug
+header_style styles Error = styles.header_error
+header_style styles Warning = styles.header_warning
+header_style styles Note = styles.header_note
+header_style styles Help = styles.header_help
+
+-- of a label
+abbrev pub label_style : Styles → Severity → LabelStyle → ColorSpec
+label_style styles severity Secondary = styles.secondary_label
+label_style styles Bug Primary = styles.primary_label_bug
+label_style styles Error Primary = styles.primary_label_error
+label_style styles Warning Primary = styles.primary_label_warning
+label_style styles Note Primary = styles.primary_label_note
+label_style styles Help Primary = styles.primary_label_help
+
+-- how a writer of colours spells a mark, by its bytes for each style and for the reset
+abbrev pub spelling_by : Styles → (ColorSpec → List ℕ) → List ℕ → StyleMark → List ℕ
+spelling_by styles set reset (Header severity) = set (header_style styles severity)
+spelling_by styles set reset HeaderMessage = set styles.header_message
+spelling_by styles set reset LineNumber = set styles.line_number
+spelling_by styles set reset NoteBullet = set styles.note_bullet
+spelling_by styles set reset SourceBorder = set styles.source_border
+spelling_by styles set reset (LabelMark severity style) = set (label_style styles severity style)
+spelling_by styles set reset Reset = reset
+
+-- ---- styles with nothing set
+
+-- nothing is set
+abbrev pub unset : ColorSpec
+unset = record { fg = None; bg = None; bold = false; intense = false }
+
+-- no part has a style
+abbrev pub no_color_styles : Styles
+no_color_styles = record {
+  header_bug = unset;
+  header_error = unset;
+  header_warning = unset;
+  header_note = unset;
+  header_help = unset;
+  header_message = unset;
+  primary_label_bug = unset;
+  primary_label_error = unset;
+  primary_label_warning = unset;
+  primary_label_note = unset;
+  primary_label_help = unset;
+  secondary_label = unset;
+  line_number = unset;
+  source_border = unset;
+  note_bullet = unset;
+}

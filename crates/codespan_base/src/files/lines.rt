@@ -1,0 +1,30 @@
+//! Where the lines of a text start, and its columns.
+ghost use Rattle.std.specs.Prelude.{◌≡◌, ◌≤◌, length};
+ghost use Rattle.codespan_base.specs.Lines.{line_starts_of, column_index_of};
+ghost use Rattle.codespan_base.specs.LineStarts.{starts_left};
+
+use crate::files::LineStarts;
+use std::ops::Range;
+
+/// 0 and then, for each newline, its place plus 1.
+pub fn line_starts(source: &str) -> LineStarts<'_>
+    ensures { starts_left result ≡ line_starts_of source.now }
+{
+    LineStarts::new(source)
+}
+
+/// The number of character boundaries after the line's start, up to the byte, the line's end and the text's.
+#[tactic(auto, using(crate::proofs::ColumnLemmas::column_steps))]
+pub fn column_index(source: &str, line_range: Range<usize>, byte_index: usize) -> usize
+    ensures value { result ≡ column_index_of source.now line_range.start line_range.end byte_index }
+    ensures bound { result ≤ length source.now }
+{
+    let end = byte_index.min(line_range.end).min(source.len());
+    let mut count = 0;
+    for i in line_range.start..end {
+        if source.is_char_boundary(i + 1) {
+            count += 1;
+        }
+    }
+    count
+}

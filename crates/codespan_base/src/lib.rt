@@ -1,0 +1,10 @@
+//! Diagnostics as data, the files that they speak of, and what their pictures look like.
+//!
+//! Users name these by the paths of `codespan_reporting`, which has all of them again.
+#![tactic(auto)]
+
+pub mod diagnostic;
+pub mod files;
+pub mod laws;
+pub mod term;
+mod worked;

@@ -1,0 +1,12 @@
+//! What a picture looks like, and the writers that it is sent to.
+
+pub mod config;
+
+pub use config::chars::{Chars, SnippetStart};
+pub use config::color::{Ansi, Color, ColorSpec, NoColor, WriteColor};
+pub use config::plain::PlainWriter;
+pub use config::styles::Styles;
+pub use config::styles_writer::StylesWriter;
+pub use config::write_style::{GeneralWriteResult, WriteStyle};
+pub use config::{Config, DisplayStyle, Layout};
+pub use std::io::Write as GeneralWrite;

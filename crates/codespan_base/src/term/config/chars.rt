@@ -1,0 +1,117 @@
+//! The characters that a picture is drawn with.
+
+/// The text that stands before the place of a snippet.
+///
+/// `Fixed` takes no memory, so that the tables of characters need none.
+#[derive(Debug, Drop)]
+pub enum SnippetStart {
+    Fixed(&'static str),
+    Owned(String),
+}
+
+/// The characters that a picture is drawn with.
+///
+/// [`Chars::ascii`] is for terminals that do not show box drawing.
+#[derive(Debug, Drop)]
+pub struct Chars {
+    /// Before the place of a snippet: `"┌─"`, in ASCII `"-->"`.
+    pub snippet_start: SnippetStart,
+    /// Left of the source: `'│'`, in ASCII `'|'`.
+    pub source_border_left: char,
+    /// The same where lines are left out: `'·'`, in ASCII `'.'`.
+    pub source_border_left_break: char,
+
+    /// Before a note: `'='`.
+    pub note_bullet: char,
+
+    /// Under a primary label of one line: `'^'`.
+    pub single_primary_caret: char,
+    /// Under a secondary label of one line: `'-'`.
+    pub single_secondary_caret: char,
+
+    /// Under the start of a primary label over several lines: `'^'`.
+    pub multi_primary_caret_start: char,
+    /// Under the end of a primary label over several lines: `'^'`.
+    pub multi_primary_caret_end: char,
+    /// Under the start of a secondary label over several lines: `'\''`.
+    pub multi_secondary_caret_start: char,
+    /// Under the end of a secondary label over several lines: `'\''`.
+    pub multi_secondary_caret_end: char,
+    /// The top corner of a label over several lines: `'╭'`, in ASCII `'/'`.
+    pub multi_top_left: char,
+    /// The line from its top corner to its start: `'─'`, in ASCII `'-'`.
+    pub multi_top: char,
+    /// The bottom corner of a label over several lines: `'╰'`, in ASCII `'\'`.
+    pub multi_bottom_left: char,
+    /// The line from its bottom corner to its end: `'─'`, in ASCII `'-'`.
+    pub multi_bottom: char,
+    /// Its lane between the corners: `'│'`, in ASCII `'|'`.
+    pub multi_left: char,
+
+    /// Between a caret and the message that hangs from it: `'│'`, in ASCII `'|'`.
+    pub pointer_left: char,
+}
+
+impl Default for Chars {
+    ghost use Rattle.codespan_base.specs.Lookalikes.{IsChars};
+    ghost use Rattle.codespan_base.specs.Characters.{box_drawing};
+
+    ghost is_default = { IsChars box_drawing };
+
+    fn default() -> Chars {
+        Chars::box_drawing()
+    }
+}
+
+impl Chars {
+    ghost use Rattle.codespan_base.specs.Lookalikes.{IsChars};
+    ghost use Rattle.codespan_base.specs.Characters.{box_drawing, ascii};
+
+    /// The characters of box drawing.
+    pub fn box_drawing() -> Chars
+        ensures { IsChars box_drawing result }
+    {
+        Chars {
+            snippet_start: SnippetStart::Fixed("┌─"),
+            source_border_left: '│',
+            source_border_left_break: '·',
+            note_bullet: '=',
+            single_primary_caret: '^',
+            single_secondary_caret: '-',
+            multi_primary_caret_start: '^',
+            multi_primary_caret_end: '^',
+            multi_secondary_caret_start: '\'',
+            multi_secondary_caret_end: '\'',
+            multi_top_left: '╭',
+            multi_top: '─',
+            multi_bottom_left: '╰',
+            multi_bottom: '─',
+            multi_left: '│',
+            pointer_left: '│',
+        }
+    }
+
+    /// Characters of ASCII alone.
+    pub fn ascii() -> Chars
+        ensures { IsChars ascii result }
+    {
+        Chars {
+            snippet_start: SnippetStart::Fixed("-->"),
+            source_border_left: '|',
+            source_border_left_break: '.',
+            note_bullet: '=',
+            single_primary_caret: '^',
+            single_secondary_caret: '-',
+            multi_primary_caret_start: '^',
+            multi_primary_caret_end: '^',
+            multi_secondary_caret_start: '\'',
+            multi_secondary_caret_end: '\'',
+            multi_top_left: '/',
+            multi_top: '-',
+            multi_bottom_left: '\\',
+            multi_bottom: '-',
+            multi_left: '|',
+            pointer_left: '|',
+        }
+    }
+}

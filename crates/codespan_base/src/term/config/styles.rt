@@ -1,0 +1,128 @@
+//! The styles of a picture's parts.
+
+ghost use Rattle.std.specs.Prelude.{◌≡◌};
+ghost use Rattle.codespan_base.specs.StyleTables.{colored, bright};
+
+use crate::term::config::color::{Color, ColorSpec};
+
+/// The styles of a picture's parts.
+///
+/// The default styles are this project's own.
+#[derive(Clone, Copy, Debug, PartialEq, Eq)]
+pub struct Styles {
+    /// The severity in the header of a bug. By default bold and bright red.
+    pub header_bug: ColorSpec,
+    /// The severity in the header of an error. By default bold and bright red.
+    pub header_error: ColorSpec,
+    /// The severity in the header of a warning. By default bold and bright yellow.
+    pub header_warning: ColorSpec,
+    /// The severity in the header of a note. By default bold and bright green.
+    pub header_note: ColorSpec,
+    /// The severity in the header of a help. By default bold and bright cyan.
+    pub header_help: ColorSpec,
+    /// The message in a header. By default bold and intense.
+    pub header_message: ColorSpec,
+
+    /// Primary labels of a bug. By default red.
+    pub primary_label_bug: ColorSpec,
+    /// Primary labels of an error. By default red.
+    pub primary_label_error: ColorSpec,
+    /// Primary labels of a warning. By default yellow.
+    pub primary_label_warning: ColorSpec,
+    /// Primary labels of a note. By default green.
+    pub primary_label_note: ColorSpec,
+    /// Primary labels of a help. By default cyan.
+    pub primary_label_help: ColorSpec,
+    /// Secondary labels. By default cyan.
+    pub secondary_label: ColorSpec,
+
+    /// Line numbers. By default cyan.
+    pub line_number: ColorSpec,
+    /// The border left of the source. By default cyan.
+    pub source_border: ColorSpec,
+    /// The bullet of a note. By default cyan.
+    pub note_bullet: ColorSpec,
+}
+
+impl Styles {
+    ghost use Rattle.std.specs.Prelude.{◌≡◌};
+    ghost use Rattle.codespan_base.specs.StyleTables.{no_color_styles};
+
+    /// Styles that set nothing.
+    pub fn no_color() -> Styles
+        ensures { result ≡ no_color_styles }
+    {
+        let unset = ColorSpec {
+            fg: None,
+            bg: None,
+            bold: false,
+            intense: false,
+        };
+        Styles {
+            header_bug: unset,
+            header_error: unset,
+            header_warning: unset,
+            header_note: unset,
+            header_help: unset,
+            header_message: unset,
+            primary_label_bug: unset,
+            primary_label_error: unset,
+            primary_label_warning: unset,
+            primary_label_note: unset,
+            primary_label_help: unset,
+            secondary_label: unset,
+            line_number: unset,
+            source_border: unset,
+            note_bullet: unset,
+        }
+    }
+}
+
+impl Default for Styles {
+    ghost use Rattle.std.specs.Prelude.{◌≡◌};
+    ghost use Rattle.codespan_base.specs.StyleTables.{default_styles};
+
+    ghost is_default = { λ s. s ≡ default_styles };
+
+    fn default() -> Styles {
+        Styles {
+            header_bug: bright(Some(Color::Red)),
+            header_error: bright(Some(Color::Red)),
+            header_warning: bright(Some(Color::Yellow)),
+            header_note: bright(Some(Color::Green)),
+            header_help: bright(Some(Color::Cyan)),
+            header_message: bright(None),
+            primary_label_bug: colored(Color::Red),
+            primary_label_error: colored(Color::Red),
+            primary_label_warning: colored(Color::Yellow),
+            primary_label_note: colored(Color::Green),
+            primary_label_help: colored(Color::Cyan),
+            secondary_label: colored(Color::Cyan),
+            line_number: colored(Color::Cyan),
+            source_border: colored(Color::Cyan),
+            note_bullet: colored(Color::Cyan),
+        }
+    }
+}
+
+fn colored(color: Color) -> ColorSpec
+    ensures { result ≡ colored color }
+{
+    ColorSpec {
+        fg: Some(color),
+        bg: None,
+        bold: false,
+        intense: false,
+    }
+}
+
+fn bright(color: Option<Color>) -> ColorSpec
+    ensures { result ≡ bright color }
+{
+    ColorSpec {
+        fg: color,
+        bg: None,
+        bold: true,
+        intense: true,
+    }
+}

@@ -1,0 +1,49 @@
+-- A rich picture means its labels: the laws of its parts, together.
+use Rattle.std.proofs.Common.{◌<◌, Bool}
+use Rattle.codespan_base.specs.declared.term.config.Config.{Config}
+use Rattle.codespan_base.specs.declared.diagnostic.Diagnostic.{Diagnostic}
+use Rattle.codespan_base.specs.FileModel.{FileModel, line_count}
+use Rattle.codespan_reporting.specs.Rows.{Look}
+use Rattle.codespan_reporting.specs.Snippets.{LabelledFile, line_at}
+use Rattle.codespan_reporting.specs.RowStreams.{caret_row}
+use Rattle.codespan_reporting.specs.Picture.{files_of}
+use Rattle.codespan_reporting.specs.CaretLaws.{CaretsAreCells}
+use Rattle.codespan_reporting.specs.MessageLaws.{IsEquivalence}
+use Rattle.codespan_reporting.specs.Headline.{SnippetMeansLabels, MeansLabels}
+use Rattle.codespan_reporting.proofs.Texts.{text_of-append}
+use Rattle.codespan_reporting.proofs.CaretLemmas.{text_of-line_carets}
+use Rattle.codespan_reporting.proofs.BreakLemmas as breaks
+use Rattle.codespan_reporting.proofs.FillLemmas.{drawing_of_shown}
+use Rattle.codespan_reporting.proofs.LaneLineRuns as runs
+use Rattle.codespan_reporting.proofs.MessagesOnce as messages
+use Rattle.codespan_reporting.proofs.PaddingLemmas as padding
+use Rattle.codespan_reporting.proofs.PointerLemmas as pointers
+use Rattle.codespan_reporting.proofs.RangeLemmas as ranges
+use Rattle.codespan_reporting.proofs.RowBoundLemmas as bounds
+
+-- the text of a caret row is its caret cells
+pub carets_are_cells : (look : Look) → CaretsAreCells look
+unfolding caret_row
+carets_are_cells look = λ line. simp (text_of-append, text_of-line_carets)
+
+-- the snippet of a file means the labels of the file
+pub snippet_means_labels : (config : Config) (look : Look) (s : LabelledFile) → SnippetMeansLabels config look s
+snippet_means_labels config look s = record {
+  drawn = drawing_of_shown config s;
+  breaks = breaks.breaks_are_gaps config s (drawing_of_shown config s);
+  few = bounds.source_rows_few config s;
+  pointers = λ l wide. pointers.pointers_are_cells look (line_at s l) wide;
+  bars = λ ordered. ranges.bars_are_labels config.layout s ordered;
+  covered = λ ordered. ranges.breaks_are_covered config s ordered;
+  lanes = λ ordered. runs.lanes_are_lines config s ordered;
+}
+
+-- the picture means the labels of the diagnostic
+pub picture_means_labels : {Id : Type 0} (config : Config) (same : Id → Id → Bool) (file : Id → FileModel) (d : Diagnostic Id)
+    → IsEquivalence same → ((id : Id) → 0 < line_count (file id)) → MeansLabels config same file d
+picture_means_labels config same file d equal some_line = record {
+  each_file = λ s inside. snippet_means_labels config _ s;
+  carets = carets_are_cells;
+  messages = messages.messages_stand_once config same file d equal some_line;
+  room = padding.padding_has_room config (files_of same file d);
+}

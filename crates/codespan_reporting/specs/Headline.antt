@@ -1,0 +1,98 @@
+-- The contracts of the calls that draw a diagnostic: what is drawn, what it means, and what a refusal tells.
+use Rattle.std.specs.Prelude.{◌≡◌, ◌≢◌, ℕ, ◌<◌, ◌≤◌, ◌⊎◌, Bool, true, List, length, Contains, IsSome, MatchResult, Result}
+use Rattle.codespan_base.specs.declared.term.config.Config.{Config}
+use Rattle.codespan_base.specs.declared.term.config.DisplayStyle.TheVariants.{Rich}
+use Rattle.codespan_base.specs.declared.diagnostic.Diagnostic.{Diagnostic}
+use Rattle.codespan_base.specs.declared.files.error.Error.{Error}
+use Rattle.codespan_base.specs.declared.files.error.Error.TheVariants.{FormatError, OutOfMemory, Io}
+use Rattle.codespan_base.specs.FileModel.{FileModel, Lookup}
+use Rattle.codespan_base.specs.Labels.{Labelled}
+use Rattle.codespan_base.specs.Streams.{text_of}
+use Rattle.codespan_base.specs.WriterLaw.{Frame, Sink, refusing, sent, is_told, Began}
+use Rattle.codespan_reporting.specs.Rows.{Look}
+use Rattle.codespan_reporting.specs.RowParts.{line_cells}
+use Rattle.codespan_reporting.specs.Snippets.{LabelledFile, InFile, line_at}
+use Rattle.codespan_reporting.specs.Padding.{padding_of}
+use Rattle.codespan_reporting.specs.Picture.{look_of, labels_of, files_of, picture}
+use Rattle.codespan_reporting.specs.Lookups.{Refusals, lookups_in, early_lookups, IsRefusedBy, IsSomeRefused, AllAnswered, headers_before_refusal}
+use Rattle.codespan_reporting.specs.CaretLaws.{CaretsAreCells, StartsInWide, PointersAreCells}
+use Rattle.codespan_reporting.specs.LaneLaws.{BarsAreLabels, LanesAreLines}
+use Rattle.codespan_reporting.specs.LineLaws.{BreaksAreGaps, BreaksAreCovered, DrawingOfShown, SourceRowsAreFew}
+use Rattle.codespan_reporting.specs.MessageLaws.{MessagesStandOnce}
+use Rattle.codespan_reporting.specs.PaddingLaws.{PaddingHasRoom}
+
+-- ---- what a rich picture means
+
+-- no label of a file starts after its end
+abbrev pub StartsBeforeEnds : List Labelled → Type 0
+StartsBeforeEnds labels = (x : Labelled) → Contains labels x → x.start ≤ x.end
+
+-- what the snippet of one file means
+pub record SnippetMeansLabels (config : Config) (look : Look) (s : LabelledFile) : Type 0 where
+  pub drawn : DrawingOfShown config s
+  pub breaks : BreaksAreGaps config s
+  pub few : SourceRowsAreFew config s
+  pub pointers : (l : ℕ) → StartsInWide (line_at s l).labels (line_cells look (line_at s l)) → PointersAreCells look (line_at s l)
+  pub bars : StartsBeforeEnds s.labels → BarsAreLabels config.layout s
+  pub covered : StartsBeforeEnds s.labels → BreaksAreCovered config s
+  pub lanes : StartsBeforeEnds s.labels → LanesAreLines config s
+
+-- what a rich picture means
+pub record MeansLabels {Id : Type 0} (config : Config) (same : Id → Id → Bool) (file : Id → FileModel) (d : Diagnostic Id) : Type 0 where
+  pub each_file : (s : LabelledFile) → Contains (files_of same file d) s
+      → SnippetMeansLabels config (look_of config d.severity (padding_of config (files_of same file d))) s
+  pub carets : (look : Look) → CaretsAreCells look
+  pub messages : MessagesStandOnce config same file d
+  pub room : PaddingHasRoom config (files_of same file d)
+
+-- ---- what a call draws
+
+-- the names of the labels' files are stated
+abbrev pub NamesAreStated : {Id : Type 0} → (Id → FileModel) → Diagnostic Id → Type 0
+NamesAreStated {Id} file d = (x : InFile Id) → Contains (labels_of d) x → IsSome (file x.id).name
+
+module _ {Id : Type 0} (config : Config) (same : Id → Id → Bool) (file : Id → FileModel) (refusal : Refusals Id) (d : Diagnostic Id) where
+  -- the lookups of the picture
+  abbrev lookups : List (Id × Lookup)
+  lookups = lookups_in config.display_style config same file refusal d
+
+  -- the text is the picture's, which in rich style means the labels; no lookup was refused
+  pub record IsDrawn (text : List ℕ) : Type 0 where
+    pub answered : AllAnswered refusal lookups
+    pub is : NamesAreStated file d → text ≡ text_of (picture config same file d)
+    pub meaning : config.display_style ≡ Rich → MeansLabels config same file d
+
+  -- what a string call tells: want of memory, a name whose Display refused, or what a lookup was refused with; memory alone where there is no lookup
+  abbrev pub IsTextRefusal : Error → Type 0
+  IsTextRefusal OutOfMemory = Unit {0}
+  IsTextRefusal FormatError = 0 < length lookups
+  IsTextRefusal e = IsRefusedBy refusal lookups e
+
+  -- what the calls that answer a string do
+  abbrev pub DrawsText : {T : Type 0} → (T → List ℕ) → Result T Error → Type 0
+  DrawsText text r = MatchResult r (λ t. IsDrawn (text t)) IsTextRefusal
+
+  -- what an error says of a writer: `Io` that it refused, or that a lookup told it; any other that it refused nothing
+  abbrev pub Blames : Frame → Error → Frame → Type 0
+  Blames old (Io e) new = (new ≡ refusing old) ⊎ ((new ≡ old) × IsRefusedBy refusal lookups (Io e))
+  Blames old OutOfMemory new = (new ≡ old) × (0 < length lookups)
+  Blames old FormatError new = (new ≡ old) × (0 < length lookups)
+  Blames old e new = (new ≡ old) × IsRefusedBy refusal lookups e
+
+  -- the error is none that is told for want of memory, of a writer or of a name's Display
+  abbrev pub IsOfFile : Error → Type 0
+  IsOfFile (Io e) = ⊥
+  IsOfFile FormatError = ⊥
+  IsOfFile OutOfMemory = ⊥
+  IsOfFile e = Unit {0}
+
+  -- what the calls that draw to a writer do to it; in short and medium style a file's refusal leaves the headers before it
+  pub record DrawsTo (old : Sink) (r : Result (Unit {0}) Error) (new : Sink) : Type 0 where
+    pub frame : MatchResult r (λ _. new.frame ≡ old.frame) (λ e. Blames old.frame e new.frame)
+    pub stream : NamesAreStated file d → is_told old ≡ true
+        → MatchResult r (λ _. new ≡ sent old (picture config same file d)) (λ _. Began old (picture config same file d) new)
+    pub answered : MatchResult r (λ _. AllAnswered refusal lookups) (λ _. Unit {0})
+    pub early : config.display_style ≡ Rich → IsSomeRefused refusal (early_lookups config same file refusal (labels_of d)) → new ≡ old
+    pub headers : config.display_style ≢ Rich → NamesAreStated file d → is_told old ≡ true
+        → MatchResult r (λ _. Unit {0}) (λ e. IsOfFile e → new ≡ sent old (headers_before_refusal config file refusal d))
+    pub meaning : config.display_style ≡ Rich → MeansLabels config same file d

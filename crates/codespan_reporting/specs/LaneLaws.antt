@@ -1,0 +1,78 @@
+-- The laws of lanes: what a lane shows in each row says where its label goes.
+use Rattle.std.specs.Prelude.{◌≡◌, ℕ, ◌<◌, ◌≤◌, ◌⊎◌, ◌↔◌, false, List, length, slice_get, Option, Some, None}
+use Rattle.std.specs.Option.{option_map}
+use Rattle.codespan_base.specs.declared.term.config.Config.{Config}
+use Rattle.codespan_base.specs.declared.term.config.Layout.{Layout}
+use Rattle.codespan_base.specs.FileModel.{FileModel}
+use Rattle.codespan_base.specs.Labels.{Labelled, first_line, last_line, multi_labels, LaneMark, Part}
+use Rattle.codespan_reporting.specs.Lanes.{Shape, Gap, Bar, TopCorner, BottomCorner, source_shape, plain_shape, below_shape, underline_shape, mark_in, is_unbroken}
+use Rattle.codespan_reporting.specs.Rows.{Line, Row, EmptyRow, BreakRow, SourceRow, CaretRow, PointerRow, HangingRow, UnderlineRow}
+use Rattle.codespan_reporting.specs.RowParts.{leading_of}
+use Rattle.codespan_reporting.specs.Snippets.{LabelledFile, line_at, snippet}
+
+-- what a row shows in a lane, from the mark in it
+abbrev pub shape_of : (Part → Shape) → Option LaneMark → Shape
+shape_of shape None = Gap
+shape_of shape (Some m) = shape m.part
+
+-- what a row shows in a lane
+abbrev pub shape_in : Layout → Row → ℕ → Shape
+shape_in layout (EmptyRow lanes) lane = shape_of plain_shape (mark_in lanes.marks lane)
+shape_in layout (BreakRow lanes) lane = shape_of plain_shape (mark_in lanes.marks lane)
+shape_in layout (SourceRow line) lane = shape_of (source_shape (leading_of line)) (mark_in line.lanes.marks lane)
+shape_in layout (CaretRow line) lane = shape_of (below_shape layout (leading_of line)) (mark_in line.lanes.marks lane)
+shape_in layout (PointerRow line) lane = shape_of (below_shape layout (leading_of line)) (mark_in line.lanes.marks lane)
+shape_in layout (HangingRow line x) lane = shape_of (below_shape layout (leading_of line)) (mark_in line.lanes.marks lane)
+shape_in layout (UnderlineRow line m) lane =
+    shape_of (underline_shape layout (leading_of line) m.lane lane) (mark_in line.lanes.marks lane)
+shape_in layout _ lane = Gap
+
+-- the label's lane
+abbrev pub HasLane : LabelledFile → ℕ → Labelled → Type 0
+HasLane s lane x = slice_get (multi_labels s.file s.labels) lane ≡ Some x
+
+-- a label covers a line after its first one, up to its last
+abbrev pub IsCovered : FileModel → Labelled → ℕ → Type 0
+IsCovered f x l = (first_line f x < l) × (l ≤ last_line f x)
+
+-- on source rows and break rows a lane has a bar exactly where its label covers the line
+abbrev pub BarsAreLabels : Layout → LabelledFile → Type 0
+BarsAreLabels layout s = (l lane : ℕ) (x : Labelled) → HasLane s lane x
+    → ((shape_in layout (SourceRow (line_at s l)) lane ≡ Bar) ↔ IsCovered s.file x l)
+    × ((shape_in layout (BreakRow (line_at s l).lanes) lane ≡ Bar) ↔ IsCovered s.file x l)
+
+-- ---- each lane is one line
+
+-- the line of a row that stands below that line's source row
+abbrev pub line_below : Row → Option Line
+line_below (CaretRow line) = Some line
+line_below (PointerRow line) = Some line
+line_below (HangingRow line x) = Some line
+line_below (UnderlineRow line m) = Some line
+line_below _ = None
+
+-- what one of these rows shows in a lane
+abbrev pub shape_at : Layout → List Row → ℕ → ℕ → Option Shape
+shape_at layout rows k lane = option_map (λ row. shape_in layout row lane) (slice_get rows k)
+
+-- below a top corner in a source row the other rows of its line may leave the lane out, unless nothing is broken
+pub record MayLeaveOut (layout : Layout) (s : LabelledFile) (rows : List Row) (lane : ℕ) (x : Labelled) (top k : ℕ) : Type 0 where
+  pub is_classic : is_unbroken layout ≡ false
+  pub turns_early : slice_get rows top ≡ Some (SourceRow (line_at s (first_line s.file x)))
+  pub is_gap : shape_at layout rows k lane ≡ Some Gap
+  pub is_below : (row : Row) → slice_get rows k ≡ Some row → line_below row ≡ Some (line_at s (first_line s.file x))
+
+-- a lane turns in one row, runs down, and turns back in one later row
+pub record IsOneLine (layout : Layout) (s : LabelledFile) (rows : List Row) (lane : ℕ) (x : Labelled) : Type 0 where
+  pub top : ℕ
+  pub bottom : ℕ
+  pub in_order : top < bottom
+  pub turns : shape_at layout rows top lane ≡ Some TopCorner
+  pub turns_back : shape_at layout rows bottom lane ≡ Some BottomCorner
+  pub between : (k : ℕ) → top < k → k < bottom → (shape_at layout rows k lane ≡ Some Bar) ⊎ MayLeaveOut layout s rows lane x top k
+  pub before : (k : ℕ) → k < top → shape_at layout rows k lane ≡ Some Gap
+  pub after : (k : ℕ) → bottom < k → k < length rows → shape_at layout rows k lane ≡ Some Gap
+
+-- each lane of a file is one line
+abbrev pub LanesAreLines : Config → LabelledFile → Type 0
+LanesAreLines config s = (lane : ℕ) (x : Labelled) → HasLane s lane x → IsOneLine config.layout s (snippet config s) lane x
