@@ -36,6 +36,7 @@ joined-from name text u (suc n) i h =
     ∙ ap (λ b. slice_range text at b ++ drop next text) e
     ∙ touching at next text (omega (arith, law.ascending i (omega arith)))
 
+-- the lines of the file of a text join to it
 pub lines_join : (name : Option (List ℕ)) (text : List ℕ) → IsUtf8 text → LinesJoin (simple_file name text)
 lines_join name text u = record {
   from_start = refl;
@@ -56,6 +57,7 @@ counts-rise p a (suc m) (suc n) h =
       counts-rise p (a + 1) m n (omega arith),
     )
 
+-- columns rise along a line
 pub columns_rise : ColumnsRise
 columns_rise text start end byte later h =
     counts-rise (is_char_boundary text) (start + 1) (min byte (min end (length text)) - start) (min later (min end (length text)) - start) (omega arith)

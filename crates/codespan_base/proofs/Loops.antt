@@ -1,7 +1,7 @@
 -- A loop that sends a stream piece by piece.
-use Rattle.std.proofs.Common.{◌≡◌, true, [], ◌++◌, refl, sym, ap, subst, ◌∙◌, append_assoc, append-nil}
+use Rattle.std.proofs.Common.{◌≡◌, true, [], ◌++◌, refl, sym, ap, subst, ◌∙◌, append_assoc, append-nil, Result, Ok, Err}
 use Rattle.codespan_base.specs.Streams.{Stream}
-use Rattle.codespan_base.specs.WriterLaw.{Sink, sent, is_told, Began, refusing}
+use Rattle.codespan_base.specs.WriterLaw.{Sink, sent, is_told, Began, Sends, refusing}
 use Rattle.codespan_base.proofs.Sends.{is_told-sent, sent-append, sent-nil, Began-first, Began-last}
 
 -- of the whole stream, which began at s, the rest is still to come
@@ -15,6 +15,7 @@ pub record StillToCome (s : Sink) (whole rest : Stream) (t : Sink) : Type 0 wher
   pub frame : t.frame ≡ s.frame
   pub told : is_told s ≡ true → Coming s whole rest t
 
+-- nothing has come yet
 pub StillToCome-start : (s : Sink) (whole rest : Stream) → rest ≡ whole → StillToCome s whole rest s
 StillToCome-start s whole rest e = record { frame = refl; told = λ h. record { done = []; is_whole = e; is = sym (sent-nil s) } }
 
@@ -41,8 +42,16 @@ StillToCome-refused s whole rest t u piece next p e r = (
       (Began-last s q.done (piece ++ next) u (Began-first (sent s q.done) piece u next (subst (λ (x : Sink). Began x piece u) q.is (e.1 (told_then s whole rest t h p))))),
 )
 
+-- nothing is left
 pub StillToCome-end : (s : Sink) (whole rest : Stream) (t : Sink) → StillToCome s whole rest t → rest ≡ [] → (t.frame ≡ s.frame) × (is_told s ≡ true → t ≡ sent s whole)
 StillToCome-end s whole rest t p e =
     (p.frame, λ h. let q : Coming s whole rest t = p.told h in q.is ∙ ap (sent s) (sym (append-nil q.done) ∙ ap (λ (l : Stream). q.done ++ l) (sym e) ∙ q.is_whole))
 
-pub ruleset loops = (StillToCome-start, StillToCome-more, StillToCome-refused, StillToCome-end)
+-- the last call sends all that is still to come
+pub StillToCome-last : {E : Type 0} (s : Sink) (whole rest : Stream) (t : Sink) (r : Result (Unit {0}) E) (u : Sink) → StillToCome s whole rest t → Sends t rest r u → Sends s whole r u
+StillToCome-last s whole rest t (Ok x) u p e =
+    StillToCome-end s whole [] u (StillToCome-more s whole rest t u rest [] p e (sym (append-nil rest))) refl
+StillToCome-last s whole rest t (Err x) u p e = StillToCome-refused s whole rest t u rest [] p e (sym (append-nil rest))
+
+-- a loop that sends a stream piece by piece
+pub ruleset loops = (StillToCome-start, StillToCome-more, StillToCome-refused, StillToCome-end, StillToCome-last)

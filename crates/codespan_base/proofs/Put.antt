@@ -12,6 +12,7 @@ use Rattle.codespan_base.proofs.Sends.{spelled-bytes, append_known-nil, bytes-ap
 pub after_put-none : (f : Frame) (bs : List ℕ) (n : ℕ) → n ≡ 0 → 0 < length bs → after_put f bs n ≡ refusing f
 after_put-none f bs n e h = rw e (let t : ltb 0 (length bs) ≡ true = grind (arith, nat_tests) in rw t refl)
 
+-- some bytes were taken, or there were none
 pub after_put-some : (f : Frame) (bs : List ℕ) (n : ℕ) → (n ≡ 0 → length bs ≡ 0) → after_put f bs n ≡ f
 after_put-some f [] zero h = refl
 after_put-some f (b ∷ bs) zero h = absurd (omega (arith, h refl))
@@ -26,18 +27,22 @@ unfolding sent
 put-sent s bs n t h p = let f : t.frame ≡ s.frame = p.0 ∙ after_put-some s.frame bs n (λ e. absurd (h e)) in
     (f, λ told. sink-by s t _ _ f (p.1 told ∙ ap (append_known s.held) (sym (spelled-bytes s.frame.spelling (take n bs)))))
 
+-- a `put` that took none of some bytes, as a refused stream
 pub put-none : (s : Sink) (bs : List ℕ) (n : ℕ) (t : Sink) → n ≡ 0 → 0 < length bs → (t.frame ≡ after_put s.frame bs n) × (is_told s ≡ true → t.held ≡ append_known s.held (take n bs)) → (t.frame ≡ refusing s.frame) × (is_told s ≡ true → Began s (bytes bs) t)
 put-none s bs n t e h p = let f : t.frame ≡ refusing s.frame = p.0 ∙ after_put-none s.frame bs n e h in
     (f, λ told. record { begun = []; rest = bs; whole = sym (spelled-bytes s.frame.spelling bs); held = p.1 told ∙ ap (λ (k : ℕ). append_known s.held (take k bs)) e })
 
+-- a `put` that was refused, as a refused stream
 pub put-refused : (s : Sink) (bs : List ℕ) (t : Sink) → (t.frame ≡ refusing s.frame) × (is_told s ≡ true → t.held ≡ s.held) → (t.frame ≡ refusing s.frame) × (is_told s ≡ true → Began s (bytes bs) t)
 put-refused s bs t p =
     (p.0, λ told. record { begun = []; rest = bs; whole = sym (spelled-bytes s.frame.spelling bs); held = p.1 told ∙ sym (append_known-nil s.held) })
 
+-- the bytes that were taken, and those that are left
 pub bytes-take : (n : ℕ) (bs : List ℕ) → bytes bs ≡ bytes (take n bs) ++ bytes (drop n bs)
 bytes-take n bs = ap bytes (sym (take-append-drop n bs)) ∙ bytes-append (take n bs) (drop n bs)
 
--- a `put` that is one `write` of a writer inside
+-- ---- a `put` that is one `write` of a writer inside
+
 Appends-some : (o m : Option (List ℕ)) (bs : List ℕ) → is_some o ≡ true → Appends o m bs → m ≡ append_known o bs
 Appends-some None m bs h a = absurd (false≢true h)
 Appends-some (Some xs) None bs h a = absurd a
@@ -48,12 +53,15 @@ Keeps-some None m h a = absurd (false≢true h)
 Keeps-some (Some xs) None h a = absurd a
 Keeps-some (Some xs) (Some ys) h a = ap (λ (l : List ℕ). Some l) a
 
+-- a write to the writer inside
 pub told-appends : (s : Sink) (m : Option (List ℕ)) (bs : List ℕ) → is_told s ≡ true → Appends s.held m bs → m ≡ append_known s.held bs
 unfolding is_told
 told-appends s m bs h a = Appends-some s.held m bs h a
 
+-- a write to the writer inside that was refused
 pub told-keeps : (s : Sink) (m : Option (List ℕ)) → is_told s ≡ true → Keeps s.held m → m ≡ s.held
 unfolding is_told
 told-keeps s m h a = Keeps-some s.held m h a
 
+-- one `put`
 pub ruleset putting = (after_put-none, after_put-some, told-appends, told-keeps)

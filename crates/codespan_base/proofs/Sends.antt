@@ -4,34 +4,41 @@ use Rattle.std.specs.Io.KnownBytes.{append_known}
 use Rattle.codespan_base.specs.Streams.{Stream, Byte, Mark, Slot, Spelling, spelled, bytes}
 use Rattle.codespan_base.specs.WriterLaw.{Sink, sent, is_told, Began}
 
+-- what two streams spell, one after the other
 pub spelled-append : (f : Spelling) (a b : Stream) → spelled f (a ++ b) ≡ spelled f a ++ spelled f b
 spelled-append f [] b = refl
 spelled-append f (Slot k ∷ a) b = spelled-append f a b
 spelled-append f (Byte x ∷ a) b = ap (λ (l : List ℕ). x ∷ l) (spelled-append f a b)
 spelled-append f (Mark m ∷ a) b = ap (λ (l : List ℕ). f m ++ l) (spelled-append f a b) ∙ sym (append_assoc (f m) (spelled f a) (spelled f b))
 
+-- bytes come to known bytes, and then more
 pub append_known-append : (o : Option (List ℕ)) (a b : List ℕ) → append_known (append_known o a) b ≡ append_known o (a ++ b)
 append_known-append None a b = refl
 append_known-append (Some xs) a b = ap (λ (l : List ℕ). Some l) (append_assoc xs a b)
 
+-- no bytes come
 pub append_known-nil : (o : Option (List ℕ)) → append_known o [] ≡ o
 append_known-nil None = refl
 append_known-nil (Some xs) = ap (λ (l : List ℕ). Some l) (append-nil xs)
 
+-- bytes are spelled as themselves
 pub spelled-bytes : (f : Spelling) (bs : List ℕ) → spelled f (bytes bs) ≡ bs
 unfolding bytes
 spelled-bytes f [] = refl
 spelled-bytes f (b ∷ bs) = ap (λ (l : List ℕ). b ∷ l) (spelled-bytes f bs)
 
+-- two texts as one stream
 pub bytes-append : (a b : List ℕ) → bytes (a ++ b) ≡ bytes a ++ bytes b
 unfolding bytes
 bytes-append [] b = refl
 bytes-append (x ∷ a) b = ap (λ (l : Stream). Byte x ∷ l) (bytes-append a b)
 
+-- a stream came, and then another
 pub sent-append : (s : Sink) (a b : Stream) → sent s (a ++ b) ≡ sent (sent s a) b
 unfolding sent
 sent-append s a b = rw (append_known-append, spelled-append)
 
+-- a beginning of the first part is one of the whole
 pub Began-first : (s : Sink) (a : Stream) (t : Sink) (b : Stream) → Began s a t → Began s (a ++ b) t
 Began-first s a t b p = record {
   begun = p.begun;
@@ -40,6 +47,7 @@ Began-first s a t b p = record {
   held = p.held;
 }
 
+-- a beginning of the last part, after the first part came
 pub Began-last : (s : Sink) (a b : Stream) (u : Sink) → Began (sent s a) b u → Began s (a ++ b) u
 unfolding sent
 Began-last s a b u q = record {
@@ -49,6 +57,7 @@ Began-last s a b u q = record {
   held = q.held ∙ append_known-append s.held (spelled s.frame.spelling a) q.begun;
 }
 
+-- nothing came
 pub sent-nil : (s : Sink) → sent s [] ≡ s
 unfolding sent
 sent-nil s = ap (λ (o : Option (List ℕ)). record s { held = o }) (append_known-nil s.held)
@@ -57,6 +66,7 @@ is_some-append : (o : Option (List ℕ)) (bs : List ℕ) → is_some (append_kno
 is_some-append None bs = refl
 is_some-append (Some xs) bs = refl
 
+-- a writer that tells its bytes goes on telling them
 pub is_told-sent : (s : Sink) (a : Stream) → is_told (sent s a) ≡ is_told s
 unfolding sent is_told
 is_told-sent s a = is_some-append s.held (spelled s.frame.spelling a)
@@ -86,4 +96,5 @@ Began_first_8 s a t b1 b2 b3 b4 b5 b6 b7 b8 p = Began-first s (a ++ b1 ++ b2 ++ 
 pub Began_first_9 : (s : Sink) (a : Stream) (t : Sink) (b1 b2 b3 b4 b5 b6 b7 b8 b9 : Stream) → Began s a t → Began s (a ++ b1 ++ b2 ++ b3 ++ b4 ++ b5 ++ b6 ++ b7 ++ b8 ++ b9) t
 Began_first_9 s a t b1 b2 b3 b4 b5 b6 b7 b8 b9 p = Began-first s (a ++ b1 ++ b2 ++ b3 ++ b4 ++ b5 ++ b6 ++ b7 ++ b8) t b9 (Began_first_8 s a t b1 b2 b3 b4 b5 b6 b7 b8 p)
 
+-- calls that send, one after another
 pub ruleset sendings = (is_told-sent, sent-append, sent-nil, Began-first, Began-last, Began_first_2, Began_first_3, Began_first_4, Began_first_5, Began_first_6, Began_first_7, Began_first_8, Began_first_9)

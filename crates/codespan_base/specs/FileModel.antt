@@ -1,5 +1,5 @@
 -- A file as its lookups show it: a name, a text, and the text cut into lines.
-use Rattle.std.specs.Prelude.{◌≡◌, ◌≢◌, ℕ, ◌+◌, ◌-◌, ◌<◌, ◌≤◌, ◌↔◌, Bool, true, false, List, [], length, slice_index, slice_range, count_by, nat_le, Option, Some, None, unwrap_or, Result, MatchResult, ◌^◌, ◌==◌, if◌then◌else◌}
+use Rattle.std.specs.Prelude.{◌≡◌, ◌≢◌, ℕ, ◌+◌, ◌-◌, ◌<◌, ◌≤◌, ◌↔◌, Bool, true, false, List, [], length, slice_index, slice_range, count_by, nat_le, Option, Some, None, unwrap_or, Result, MatchResult, IfErr, ◌^◌, ◌==◌, if◌then◌else◌}
 use Rattle.std.specs.Str.{IsCharBoundary}
 use Rattle.std.specs.declared.ops.Range.{Range}
 use Rattle.codespan_base.specs.declared.files.error.Error.{Error}
@@ -45,6 +45,10 @@ pub record IsLineRange (f : FileModel) (i : ℕ) (r : Range ℕ) : Type 0 where
 -- a lookup tells its refusal, or that memory ran out, and nothing else
 abbrev pub Tells : {T : Type 0} → Option Error → Result T Error → Type 0
 Tells o r = MatchResult r (λ _. o ≡ None) (λ e. e ≢ OutOfMemory → o ≡ Some e)
+
+-- the call is not refused for want of memory
+abbrev pub NeedsNoMemory : {T : Type 0} → Result T Error → Type 0
+NeedsNoMemory r = IfErr r (λ e. e ≢ OutOfMemory)
 
 -- the text is cut into lines
 pub record IsLawful (f : FileModel) : Type 0 where

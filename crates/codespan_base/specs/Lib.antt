@@ -1,3 +1,5 @@
+-- diagnostics
+pub mod Diagnostics
 -- files
 pub mod Lines
 pub mod LineStarts
@@ -7,14 +9,17 @@ pub mod MappedModel
 pub mod Settings
 pub mod ErrorText
 pub mod FileLaws
+pub mod FileTables
 pub mod Lemmas
 -- labels
 pub mod Labels
 -- writers
 pub mod Streams
+pub mod Pieces
 pub mod WriterLaw
 pub mod ColorLaw
 pub mod Writers
+pub mod Tags
 -- tables
 pub mod Characters
 pub mod StyleTables

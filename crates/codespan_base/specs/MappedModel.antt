@@ -65,7 +65,3 @@ mapped_refusal text settings (LineRange i) = past_end text i
 mapped_refusal text settings (LocationAt byte) =
     let i = line_of (line_starts_of text) byte in number_refusal (setting settings i) i
 mapped_refusal text settings _ = None
-
--- what setting a line's number is refused with
-abbrev pub setting_refusal : List ℕ → ℕ → Option Error
-setting_refusal text i = past_end text i

@@ -1,5 +1,6 @@
--- A text as a file: a line starts after each newline, and a line ends where the next one starts.
-use Rattle.std.specs.Prelude.{ℕ, ◌+◌, ◌-◌, nat_lt, true, false, if◌then◌else◌, List, [], ◌∷◌, ◌++◌, length, drop, slice_index, Option, Some, None}
+-- A text as a file, and a table of such files: a line starts after each newline, and ends where the next one starts.
+use Rattle.std.specs.Prelude.{ℕ, ◌+◌, ◌-◌, nat_lt, true, false, if◌then◌else◌, List, [], ◌∷◌, ◌++◌, length, drop, slice_index, slice_get, Option, Some, None}
+use Rattle.std.specs.Option.{option_map_or}
 use Rattle.codespan_base.specs.declared.files.error.Error.{Error}
 use Rattle.codespan_base.specs.declared.files.error.Error.TheVariants.{LineTooLarge, FileMissing}
 use Rattle.codespan_base.specs.declared.files.Location.{Location}
@@ -62,3 +63,11 @@ missing_file = record {
 abbrev pub missing_refusal : Lookup → Option Error
 missing_refusal (LineNumber i) = line_number_refusal i
 missing_refusal _ = Some FileMissing
+
+-- the file of an id, in a table of names and sources
+abbrev pub table_file : {Name Source : Type 0} → (Name → Option (List ℕ)) → (Source → List ℕ) → List (Name × Source) → ℕ → FileModel
+table_file output text entries id = option_map_or (λ entry. simple_file (output entry.0) (text entry.1)) (slice_get entries id) missing_file
+
+-- what a lookup is refused with there
+abbrev pub table_refusal : {Name Source : Type 0} → (Source → List ℕ) → List (Name × Source) → ℕ → Lookup → Option Error
+table_refusal text entries id lookup = option_map_or (λ entry. simple_refusal (text entry.1) lookup) (slice_get entries id) (missing_refusal lookup)

@@ -62,3 +62,7 @@ abbrev pub Puts : {E : Type 0} → Sink → List ℕ → Result ℕ E → Sink �
 Puts old bs r new =
     MatchResult r (λ n. new.frame ≡ after_put old.frame bs n) (λ _. new.frame ≡ refusing old.frame)
     × (is_told old ≡ true → MatchResult r (λ n. new.held ≡ append_known old.held (take n bs)) (λ _. new.held ≡ old.held))
+
+-- a writer of this frame, but for whether it has refused, and with these bytes
+abbrev pub with_flag : Frame → Bool → Option (List ℕ) → Sink
+with_flag f flag bytes = record { frame = record f { refused = flag }; held = bytes }

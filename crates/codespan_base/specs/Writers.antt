@@ -1,11 +1,44 @@
--- What the law of writers sees of the writers of this crate.
-use Rattle.std.specs.Prelude.{ℕ, List, [], Option}
+-- What the laws of writers see of the writers of this crate.
+use Rattle.std.specs.Prelude.{◌≡◌, ℕ, false, List, [], Option, Result, Ok}
+use Rattle.codespan_base.specs.declared.term.config.ansi.Ansi.{Ansi}
 use Rattle.codespan_base.specs.declared.term.config.color.ColorSpec.{ColorSpec}
+use Rattle.codespan_base.specs.declared.term.config.no_color.NoColor.{NoColor}
 use Rattle.codespan_base.specs.declared.term.config.plain.PlainWriter.{PlainWriter}
 use Rattle.codespan_base.specs.declared.term.config.styles_writer.StylesWriter.{StylesWriter}
-use Rattle.codespan_base.specs.Streams.{no_marks}
+use Rattle.codespan_base.specs.Streams.{Spelling, no_marks}
 use Rattle.codespan_base.specs.WriterLaw.{Sink}
 use Rattle.codespan_base.specs.StyleTables.{spelling_by}
+
+-- ---- the writer that each of them writes to
+
+-- of plain text
+abbrev pub plain_inner : {W : Type 0} → PlainWriter W → W
+plain_inner p = p.inner
+
+-- of text with styles
+abbrev pub styles_inner : {W : Type 0} → StylesWriter W → W
+styles_inner p = p.inner
+
+-- of escape sequences
+abbrev pub ansi_inner : {W : Type 0} → Ansi W → W
+ansi_inner p = p.inner
+
+-- of no colours
+abbrev pub no_color_inner : {W : Type 0} → NoColor W → W
+no_color_inner p = p.inner
+
+-- ---- calls that send nothing
+
+-- the call succeeds, and the writer stays as it was
+pub record IsSilent {T E : Type 0} (old : T) (result : Result (Unit {0}) E) (new : T) : Type 0 where
+  pub ok : result ≡ Ok tt
+  pub same : new ≡ old
+
+-- ---- the two that take marks
+
+-- a writer that spells marks so and holds these bytes, owns what it writes to, and has refused nothing yet
+abbrev pub fresh_sink : Spelling → Option (List ℕ) → Sink
+fresh_sink spelling bytes = record { frame = record { spelling = spelling; refused = false; through = [] }; held = bytes }
 
 -- a plain writer spells every mark as nothing
 abbrev pub plain_sink : {W : Type 0} → (W → Option (List ℕ)) → PlainWriter W → Sink

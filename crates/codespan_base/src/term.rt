@@ -2,8 +2,10 @@
 
 pub mod config;
 
+pub use config::ansi::Ansi;
 pub use config::chars::{Chars, SnippetStart};
-pub use config::color::{Ansi, Color, ColorSpec, NoColor, WriteColor};
+pub use config::color::{Color, ColorSpec, WriteColor};
+pub use config::no_color::NoColor;
 pub use config::plain::PlainWriter;
 pub use config::styles::Styles;
 pub use config::styles_writer::StylesWriter;

@@ -6,8 +6,8 @@ ghost use Rattle.codespan_base.specs.Characters.{utf8};
 ghost use Rattle.codespan_base.specs.FileModel.{line_of, line_text};
 ghost use Rattle.codespan_base.specs.FileModel.Lookup.{Source, LineNumber, LineRange};
 ghost use Rattle.codespan_base.specs.Lines.{line_starts_of, column_index_of};
-ghost use Rattle.codespan_base.specs.SimpleModel.{simple_file, simple_refusal, missing_refusal};
-ghost use Rattle.codespan_base.specs.MappedModel.{with_number, number_from, setting, mapped_refusal, setting_refusal};
+ghost use Rattle.codespan_base.specs.SimpleModel.{simple_file, simple_refusal, past_end, missing_refusal};
+ghost use Rattle.codespan_base.specs.MappedModel.{with_number, number_from, setting, mapped_refusal};
 ghost use Rattle.codespan_base.specs.declared.files.error.Error.TheVariants.{FileMissing, LineTooLarge};
 
 /// Columns count the characters that begin after the line's start; lines start after each newline.
@@ -42,7 +42,7 @@ fn mapped_overflow()
     ensures greatest { number_from (setting (with_number 1 (2 ^ 64 - 1) []) 1) 1 ≡ 2 ^ 64 - 1 }
     ensures answered { mapped_refusal (codes "a\nb\nc\nd") (with_number 1 (2 ^ 64 - 1) []) (LineNumber 1) ≡ None }
     ensures refused { mapped_refusal (codes "a\nb\nc\nd") (with_number 1 (2 ^ 64 - 1) []) (LineNumber 2) ≡ Some (LineTooLarge 2 1) }
-    ensures no_line { setting_refusal (codes "a\nb\nc\nd") 4 ≡ Some (LineTooLarge 4 3) }
+    ensures no_line { past_end (codes "a\nb\nc\nd") 4 ≡ Some (LineTooLarge 4 3) }
 {}
 
 /// A number that is set again stands in place of the earlier one.

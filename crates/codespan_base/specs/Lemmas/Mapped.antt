@@ -41,6 +41,7 @@ newline_before text i h =
 last_or_not : (text : List ℕ) (i : ℕ) → i < length (line_starts_of text) → (i + 1 < length (line_starts_of text)) ⊎ (i + 1 ≡ length (line_starts_of text))
 last_or_not text i h = ⊎_elim inl (λ p. inr (omega arith)) (cases_lt (i + 1) (length (line_starts_of text)))
 
+-- a line ends at a character boundary
 end_cut : (text : List ℕ) → IsUtf8 text → (i : ℕ) → i < length (line_starts_of text) → IsCharBoundary text (get_or (mapped_ends text) i 0)
 end_cut text u i h =
     elim (last_or_not text i h) [
@@ -48,6 +49,7 @@ end_cut text u i h =
       | inr p ↦ rw (mapped_end_of_last text i p) (IsCharBoundary-end text)
     ]
 
+-- a line does not end before its start
 end_after : (text : List ℕ) → IsUtf8 text → (i : ℕ) → i < length (line_starts_of text) → get_or (line_starts_of text) i 0 ≤ get_or (mapped_ends text) i 0
 end_after text u i h =
     let law = simple_lawful None text u in

@@ -2,7 +2,7 @@
 use Rattle.std.proofs.Common.{◌≡◌, ℕ, zero, suc, ◌<◌, true, Option, Some, None, refl, ap, arith, eqb}
 use Rattle.std.proofs.lemmas.Bool.{eqb-true}
 use Rattle.std.specs.Option.{option_map_or}
-use Rattle.std.specs.Prelude.{[], ◌∷◌}
+use Rattle.std.specs.Prelude.{List, [], ◌∷◌, map, slice_get}
 use Rattle.std.proofs.Common.{get_or}
 use Rattle.std.specs.Str.{IsCharBoundary}
 use Rattle.codespan_base.specs.declared.files.error.Error.{Error}
@@ -10,10 +10,12 @@ use Rattle.codespan_base.specs.FileModel.{FileModel, Lookup, IsLawful, RefusesPa
 use Rattle.codespan_base.specs.FileModel.Lookup.{LineRange}
 use Rattle.codespan_base.specs.SimpleModel.{missing_file, missing_refusal}
 
+-- the only start and end of an empty text is a boundary
 cut_at_zero : (i : ℕ) → i < 1 → IsCharBoundary [] (get_or (0 ∷ []) i 0)
 cut_at_zero zero h = (omega arith, λ k. absurd (omega arith))
 cut_at_zero (suc i) h = absurd (omega arith)
 
+-- the file of an id that is not there is lawful
 missing_lawful : IsLawful missing_file
 missing_lawful = record {
   some_line = omega arith;
@@ -28,12 +30,13 @@ missing_lawful = record {
   missing_text = λ _. refl;
 }
 
--- a file is lawful, and so is one that is not there
-pub lawful_or : {X : Type 0} (file : X → FileModel) (o : Option X) → ((x : X) → IsLawful (file x)) → IsLawful (option_map_or file o missing_file)
-lawful_or file None h = missing_lawful
-lawful_or file (Some x) h = h x
+-- the files of a table are lawful, seen through a view of what it holds, and so is one that is not there
+pub table_lawful : {X Y : Type 0} (view : X → Y) (file : Y → FileModel) (xs : List X) (id : ℕ) → ((x : X) → IsLawful (file (view x))) → IsLawful (option_map_or file (slice_get (map view xs) id) missing_file)
+table_lawful view file [] id h = missing_lawful
+table_lawful view file (x ∷ xs) zero h = h x
+table_lawful view file (x ∷ xs) (suc id) h = table_lawful view file xs id h
 
--- and so are their refusals past the last line
+-- their refusals past the last line are as the law has them
 pub past_end_or : {X : Type 0} (file : X → FileModel) (refusal : X → Lookup → Option Error) (i : ℕ) (o : Option X) → ((x : X) → RefusesPastEnd (file x) i (refusal x (LineRange i))) → RefusesPastEnd (option_map_or file o missing_file) i (option_map_or (λ x. refusal x (LineRange i)) o (missing_refusal (LineRange i)))
 past_end_or file refusal i None h = λ there. absurd (cc)
 past_end_or file refusal i (Some x) h = h x

@@ -10,14 +10,20 @@ use Rattle.codespan_base.specs.FileModel.{line_of}
 use Rattle.std.specs.Prelude.{count_by, nat_le, nat_lt, if◌then◌else◌, Some, None, ◌↔◌}
 use Rattle.codespan_base.specs.declared.files.error.Error.TheVariants.{LineTooLarge}
 use Rattle.std.specs.Str.{IsUtf8, IsCharBoundary}
+use Rattle.std.specs.declared.convert.AsStr.{Ghosts}
+use Rattle.std.proofs.lemmas.Str.{IsUtf8-had}
+use Rattle.codespan_base.specs.declared.files.simple.SimpleFile.{SimpleFile}
+use Rattle.codespan_base.specs.FileTables.{source_of}
 use Rattle.std.proofs.lemmas.Str.{IsCharBoundary-after_ascii, IsCharBoundary-start, IsCharBoundary-end}
 use Rattle.std.proofs.lemmas.List.{get_or_append_left, get_or_push, length-append}
 use Rattle.codespan_base.specs.Lines.{line_starts_of, starts_after}
 use Rattle.codespan_base.specs.SimpleModel.{simple_file, simple_refusal, line_ends}
-use Rattle.codespan_base.specs.FileModel.{IsLawful, RefusesPastEnd, TellsPastEnd}
+use Rattle.codespan_base.specs.declared.files.Location.{Location}
+use Rattle.codespan_base.specs.FileModel.{FileModel, IsLawful, RefusesPastEnd, TellsPastEnd}
 use Rattle.codespan_base.specs.FileModel.Lookup.{LineRange}
 use Rattle.codespan_base.specs.Lemmas.Lines.{cuts, count_split}
 
+-- a line starts at a character boundary
 start_cut : (text : List ℕ) → IsUtf8 text → (i : ℕ) → i < length (line_starts_of text) → IsCharBoundary text (get_or (line_starts_of text) i 0)
 start_cut text u zero h = IsCharBoundary-start text u
 start_cut text u (suc k) h =
@@ -29,6 +35,7 @@ start_cut text u (suc k) h =
     let e : x ≡ (x - (0 + 1)) + 1 = omega arith in
     rw e (IsCharBoundary-after_ascii text (x - (0 + 1)) u (omega arith) (omega arith))
 
+-- a line starts before the next one
 ascending : (text : List ℕ) (i : ℕ) → i + 1 < length (line_starts_of text) → get_or (line_starts_of text) i 0 < get_or (line_starts_of text) (i + 1) 0
 ascending text zero h = (cuts 0 text).above 0 (omega arith)
 ascending text (suc k) h =
@@ -41,6 +48,7 @@ end_before_last text i h =
     let e : i + 1 ≡ suc i = omega arith in
     rw e (get_or_append_left (starts_after 0 text) (length text ∷ []) 0 i (omega arith))
 
+-- the last line ends with the text
 pub end_of_last : (text : List ℕ) (i : ℕ) → i + 1 ≡ length (line_starts_of text) → get_or (line_ends text) i 0 ≡ length text
 end_of_last text i h = get_or_push (starts_after 0 text) (length text) 0 i (omega arith)
 
@@ -48,6 +56,7 @@ end_of_last text i h = get_or_push (starts_after 0 text) (length text) 0 i (omeg
 last_or_not : (text : List ℕ) (i : ℕ) → i < length (line_starts_of text) → (i + 1 < length (line_starts_of text)) ⊎ (i + 1 ≡ length (line_starts_of text))
 last_or_not text i h = ⊎_elim inl (λ p. inr (omega arith)) (cases_lt (i + 1) (length (line_starts_of text)))
 
+-- a line ends at a character boundary
 end_cut : (text : List ℕ) → IsUtf8 text → (i : ℕ) → i < length (line_starts_of text) → IsCharBoundary text (get_or (line_ends text) i 0)
 end_cut text u i h =
     elim (last_or_not text i h) [
@@ -55,6 +64,7 @@ end_cut text u i h =
       | inr p ↦ rw (end_of_last text i p) (IsCharBoundary-end text)
     ]
 
+-- a line does not end before its start
 end_after : (text : List ℕ) → IsUtf8 text → (i : ℕ) → i < length (line_starts_of text) → get_or (line_starts_of text) i 0 ≤ get_or (line_ends text) i 0
 end_after text u i h =
     elim (last_or_not text i h) [
@@ -77,6 +87,7 @@ simple_lawful name text u = record {
   missing_text = λ e. absurd (cc);
 }
 
+-- of n lines the refusal past the last is told exactly from n on
 past_end_is : (n i : ℕ) → TellsPastEnd (if nat_lt i n then None else Some (LineTooLarge i (n - 1))) ↔ (n ≤ i)
 past_end_is n i =
     elim (leb_tells (suc i) n) [
@@ -88,6 +99,7 @@ past_end_is n i =
 pub simple_past_end : (name : Option (List ℕ)) (text : List ℕ) (i : ℕ) → RefusesPastEnd (simple_file name text) i (simple_refusal text (LineRange i))
 simple_past_end name text i there = past_end_is (length (line_starts_of text)) i
 
+-- a line d lines further down starts no earlier
 rising_by : (text : List ℕ) (i d : ℕ) → i + d < length (line_starts_of text) → get_or (line_starts_of text) i 0 ≤ get_or (line_starts_of text) (i + d) 0
 rising_by text i zero h = rw add-zero (omega arith)
 rising_by text i (suc d) h =
@@ -96,6 +108,7 @@ rising_by text i (suc d) h =
     let after : get_or (line_starts_of text) (i + d) 0 < get_or (line_starts_of text) ((i + d) + 1) 0 = ascending text (i + d) (omega arith) in
     rw e (omega arith)
 
+-- lines start in their order
 rising : (text : List ℕ) (i j : ℕ) → i ≤ j → j < length (line_starts_of text) → get_or (line_starts_of text) i 0 ≤ get_or (line_starts_of text) j 0
 rising text i j h k =
     let e : j ≡ i + (j - i) = omega arith in
@@ -119,3 +132,22 @@ line_of_inside text xs byte i e found =
     count_split byte (line_starts_of text) i f.0 (λ k p. omega (arith, f.1 k p)) f.2 in
     let some : 1 ≤ i = elim (cases_lt 0 i) [ inl p ↦ p | inr p ↦ absurd (omega (arith, f.2 0 p (omega arith))) ] in
     (some, omega arith)
+
+-- what a file lends is text
+pub text_is_utf8 : {Name Source : Type 0} {texts : Ghosts Source} (file : SimpleFile Name Source texts) → IsUtf8 (texts.text (source_of file))
+text_is_utf8 file = IsUtf8-had _ file.utf8
+
+-- the law says nothing of numbers, columns and locations
+pub renumbered_lawful : (f : FileModel) (number : ℕ → ℕ) (column : ℕ → ℕ → ℕ) (location : ℕ → Location) → IsLawful f → IsLawful (record f { number = number; column = column; location = location })
+renumbered_lawful f number column location law = record {
+  some_line = law.some_line;
+  first = law.first;
+  ascending = law.ascending;
+  starts_cut = law.starts_cut;
+  ends_cut = law.ends_cut;
+  ends_after = law.ends_after;
+  ends_before = law.ends_before;
+  one_end = law.one_end;
+  missing_name = law.missing_name;
+  missing_text = law.missing_text;
+}

@@ -1,15 +1,18 @@
-//! The lookups that a table of files need not write out: numbers and columns as most files count them.
+//! Numbers and columns as most files count them, for tables of files that count so.
 
 ghost use Rattle.std.specs.Prelude.{◌≡◌, ◌+◌, IfOk};
-ghost use Rattle.codespan_base.specs.FileModel.{Tells, column_of, location_of, line_number_refusal, column_refusal, location_refusal};
+ghost use Rattle.codespan_base.specs.FileModel.{NeedsNoMemory, Tells, column_of, location_of, line_number_refusal, column_refusal, location_refusal};
 
 use crate::files::{Error, Files, Location, column_index};
 use std::convert::AsStr;
 
-/// The index plus 1.
+/// The line number that most files have: the index plus 1.
+///
+/// Refuses at `usize::MAX` alone, with `LineTooLarge { given: usize::MAX, max: usize::MAX - 1 }`. Takes no memory.
 pub fn default_line_number(line_index: usize) -> Result<usize, Error>
     ensures value { IfOk result (λ n. n ≡ line_index + 1) }
     ensures refused { Tells (line_number_refusal line_index) result }
+    ensures memory { NeedsNoMemory result }
 {
     if line_index == usize::MAX {
         return Err(Error::LineTooLarge {
@@ -20,7 +23,12 @@ pub fn default_line_number(line_index: usize) -> Result<usize, Error>
     Ok(line_index + 1)
 }
 
-/// `column_index` of the source, the line's range and the byte, plus 1.
+/// The column number that most files have: [`column_index`] of the source, the line's range and the byte, plus 1.
+///
+/// Refuses as the table's `source` and then its `line_range` do.
+///
+/// The table's own `column_number` can not call this, since that would go in a circle: there stands
+/// [`column_number_by_default!`](crate::column_number_by_default).
 pub fn default_column_number<'a, F: Files<'a>>(
     files: &'a F,
     id: F::FileId,
@@ -35,7 +43,12 @@ pub fn default_column_number<'a, F: Files<'a>>(
     Ok(column_index(source.as_str(), range, byte_index) + 1)
 }
 
-/// The number of the byte's line, and the column number there.
+/// The location that most files have: the number of the byte's line, and the byte's column number there.
+///
+/// Refuses as the table's `line_index`, then its `line_number` and then its `column_number` do.
+///
+/// The table's own `location` can not call this, since that would go in a circle: there stands
+/// [`location_by_default!`](crate::location_by_default).
 pub fn default_location<'a, F: Files<'a>>(
     files: &'a F,
     id: F::FileId,
@@ -51,7 +64,9 @@ pub fn default_location<'a, F: Files<'a>>(
     })
 }
 
-/// The body of a `column_number` that counts characters from the line's start.
+/// The body of a table's own `column_number`, from its `source` and `line_range`: what [`default_column_number`] gives.
+///
+/// [`default_column_number`]: crate::files::default_column_number
 #[macro_export]
 macro_rules! column_number_by_default {
     ($files:expr, $id:expr, $line_index:expr, $byte_index:expr) => {{
@@ -61,7 +76,10 @@ macro_rules! column_number_by_default {
     }};
 }
 
-/// The body of a `location` that asks for the byte's line, and its numbers there.
+/// The body of a table's own `location`, from its `line_index`, `line_number` and `column_number`: what
+/// [`default_location`] gives.
+///
+/// [`default_location`]: crate::files::default_location
 #[macro_export]
 macro_rules! location_by_default {
     ($files:expr, $id:expr, $byte_index:expr) => {{

@@ -12,15 +12,33 @@ use std::{fmt, io};
 pub enum Error {
     /// The file is not in the table.
     FileMissing,
-    /// The file has no such byte. Given by files of users alone.
-    IndexTooLarge { given: usize, max: usize },
-    /// The file has no such line, or its number does not fit. Lines are counted from 0.
-    LineTooLarge { given: usize, max: usize },
-    /// The line has no such column. Given by files of users alone.
-    ColumnTooLarge { given: usize, max: usize },
-    /// The byte is inside a character. Given by files of users alone.
-    InvalidCharBoundary { given: usize },
-    /// A writer refused, or took nothing.
+    /// The file is there, but it has no such byte. Given by users' own files alone.
+    IndexTooLarge {
+        /// The byte that was asked for, from 0.
+        given: usize,
+        /// The greatest that the file has.
+        max: usize,
+    },
+    /// The file is there, but it has no such line, or the line's number does not fit.
+    LineTooLarge {
+        /// The line index that was asked for, from 0.
+        given: usize,
+        /// The greatest that is answered.
+        max: usize,
+    },
+    /// The line is there, but it has no such column. Given by users' own files alone.
+    ColumnTooLarge {
+        /// The column that was asked for, from 0.
+        given: usize,
+        /// The greatest that the line has.
+        max: usize,
+    },
+    /// The byte is inside a character. Given by users' own files alone.
+    InvalidCharBoundary {
+        /// The byte that was asked for, from 0.
+        given: usize,
+    },
+    /// A writer refused a write, or took nothing of it.
     Io(io::Error),
     /// A `Display` refused, and no growth of the text that it writes to was refused.
     FormatError,
@@ -28,6 +46,7 @@ pub enum Error {
     OutOfMemory,
 }
 
+/// A writer's refusal, kept as the cause.
 impl From<io::Error> for Error {
     ghost from_gives = { λ cause e. e ≡ Io cause };
 
@@ -36,6 +55,7 @@ impl From<io::Error> for Error {
     }
 }
 
+/// A `Display` refused.
 impl From<fmt::Error> for Error {
     ghost from_gives = { λ _ e. e ≡ FormatError };
 
@@ -44,6 +64,7 @@ impl From<fmt::Error> for Error {
     }
 }
 
+/// A growth was refused.
 impl From<AllocError> for Error {
     ghost from_gives = { λ _ e. e ≡ OutOfMemory };
 
@@ -52,6 +73,16 @@ impl From<AllocError> for Error {
     }
 }
 
+/// A growth was refused; the value that was to be added is dropped.
+impl<T: Drop> From<AllocFailed<T>> for Error {
+    ghost from_gives = { λ _ e. e ≡ OutOfMemory };
+
+    fn from(_cause: AllocFailed<T>) -> Error {
+        Error::OutOfMemory
+    }
+}
+
+/// One line in lower case. Of `Io` it is the text of the cause.
 impl fmt::Display for Error {
     ghost use Rattle.codespan_base.specs.ErrorText.{error_text};
 
@@ -70,19 +101,12 @@ impl fmt::Display for Error {
                 write!(f, "invalid column {given}, maximum column {max}")
             }
             Error::InvalidCharBoundary { .. } => write!(f, "index is not a code point boundary"),
-            Error::Io(cause) => write!(f, "{cause}"),
+            Error::Io(error) => write!(f, "{error}"),
             Error::FormatError => write!(f, "formatting error"),
             Error::OutOfMemory => write!(f, "out of memory"),
         }
     }
 }
 
+/// The cause of `Io` is in the variant and in the text, so `source` gives none.
 impl std::error::Error for Error {}
-
-impl<T: Drop> From<AllocFailed<T>> for Error {
-    ghost from_gives = { λ _ e. e ≡ OutOfMemory };
-
-    fn from(_cause: AllocFailed<T>) -> Error {
-        Error::OutOfMemory
-    }
-}

@@ -6,14 +6,20 @@ ghost use Rattle.codespan_base.specs.LineStarts.{starts_left};
 use crate::files::LineStarts;
 use std::ops::Range;
 
-/// 0 and then, for each newline, its place plus 1.
+/// The bytes at which the lines of a text start: 0 and then, for each newline, its place plus 1. Takes no memory.
+///
+/// Tables of files keep these and search them for a byte's line: [`Files::line_index`](crate::files::Files::line_index).
 pub fn line_starts(source: &str) -> LineStarts<'_>
     ensures { starts_left result ≡ line_starts_of source.now }
 {
     LineStarts::new(source)
 }
 
-/// The number of character boundaries after the line's start, up to the byte, the line's end and the text's.
+/// The column of a byte on a line, in characters from 0: how many character boundaries come after the line's start, up to
+/// the byte, the line's end or the text's end, whichever comes first.
+///
+/// Before the line's start it is 0, and inside a character that of the character. Past the line's end it is that of the
+/// end. Any range and byte will do. Takes no memory.
 #[tactic(auto, using(crate::proofs::ColumnLemmas::column_steps))]
 pub fn column_index(source: &str, line_range: Range<usize>, byte_index: usize) -> usize
     ensures value { result ≡ column_index_of source.now line_range.start line_range.end byte_index }

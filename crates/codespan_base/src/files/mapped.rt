@@ -1,9 +1,8 @@
 //! One text as a file whose line numbers are set, in the manner of `#line`.
-ghost use Rattle.std.specs.Prelude.{◌≡◌, ◌≢◌, ◌≤◌, [], refl, IfOk, IfErr, IfSome, OnOk, OnErr, IsErrOf};
+
+ghost use Rattle.std.specs.Prelude.{◌≡◌, ◌≤◌, [], refl, IfOk, IsOk, IfErr, IfSome, OnOk, OnErr, IsErrOf, None};
 ghost use Rattle.std.specs.Str.{IsUtf8};
-ghost use Rattle.codespan_base.specs.FileModel.{Tells};
 ghost use Rattle.codespan_base.specs.Lines.{line_starts_of};
-ghost use Rattle.codespan_base.specs.MappedModel.{setting, with_number, setting_refusal};
 ghost use Rattle.codespan_base.specs.Settings.{IsStrictlySorted, IsAt, IsGapFor};
 
 use crate::files::{Error, Files, Location, default_line_number, line_starts};
@@ -12,13 +11,17 @@ use std::convert::AsStr;
 use std::fmt::Display;
 use std::ops::Range;
 
-/// A named text; a line with a set index, and each line after it, counts from the number set there.
-#[derive(Drop)]
+/// A table with a single file, whose line numbers can be set as `#line` does in C.
+///
+/// A line whose number is set has that number, and the lines after it count on from there, up to the next line whose
+/// number is set. Before the first such line they count from 1. A line starts after each newline, and ends before its
+/// own newline, the last one with the source. Columns count characters from 1.
+#[derive(Debug, Drop)]
 pub struct MappedFile<Name, Source: AsStr> {
     name: Name,
     source: Source,
     line_starts: Vec<usize>,
-    /// The set indices with their numbers, ascending.
+    // The set line indices with their numbers, the indices ascending.
     numbers: Vec<(usize, usize)>,
     ghost starts: { line_starts.items ≡ line_starts_of (Source.text source) },
     ghost utf8: { ∥ IsUtf8 (Source.text source) ∥₁ },
@@ -26,11 +29,14 @@ pub struct MappedFile<Name, Source: AsStr> {
 }
 
 impl<Name: Drop, Source: AsStr + Drop> MappedFile<Name, Source> {
+    ghost use Rattle.codespan_base.specs.FileTables.{mapped_name_of, mapped_source_of, settings_of};
+
+    /// A file of this name and source, with no line's number set. Refuses with `OutOfMemory`, and then drops both.
     pub fn new(alloc: Global, name: Name, source: Source) -> Result<Self, Error>
-        ensures name { IfOk result (λ f. f.name ≡ name) }
-        ensures source { IfOk result (λ f. f.source ≡ source) }
-        ensures numbers { IfOk result (λ f. f.numbers.items ≡ []) }
-        ensures err { OnErr result (IsErrOf result Error.OutOfMemory) }
+        ensures name { IfOk result (λ file. mapped_name_of file ≡ name) }
+        ensures source { IfOk result (λ file. mapped_source_of file ≡ source) }
+        ensures numbers { IfOk result (λ file. settings_of file ≡ []) }
+        ensures refused { OnErr result (IsErrOf result Error.OutOfMemory) }
     {
         let line_starts = line_starts(source.as_str()).collect(alloc)?;
         Ok(MappedFile {
@@ -43,13 +49,22 @@ impl<Name: Drop, Source: AsStr + Drop> MappedFile<Name, Source> {
 }
 
 impl<Name, Source: AsStr> MappedFile<Name, Source> {
-    /// Gives the line this number, in place of an earlier one.
+    ghost use Rattle.codespan_base.specs.FileTables.{mapped_name_of, mapped_source_of, settings_of};
+    ghost use Rattle.codespan_base.specs.FileModel.{Tells};
+    ghost use Rattle.codespan_base.specs.SimpleModel.{past_end};
+    ghost use Rattle.codespan_base.specs.MappedModel.{setting, with_number};
+
+    /// Gives the line at this index, from 0, this number, in place of an earlier number of the same index. What that does
+    /// to the lines around it says [`crate::laws::set_numbers_count_on`].
+    ///
+    /// Refuses with `LineTooLarge` of the index and the last line's index where the file has no such line, or with
+    /// `OutOfMemory`; a refusal changes nothing.
     pub fn set_line(&mut self, line_index: usize, number: usize) -> Result<(), Error>
-        ensures name { self.new.name ≡ self.old.name }
-        ensures source { self.new.source ≡ self.old.source }
-        ensures ok { OnOk result (self.new.numbers.items ≡ with_number line_index number self.old.numbers.items) }
-        ensures err { OnErr result (self.new.numbers.items ≡ self.old.numbers.items) }
-        ensures refused { Tells (setting_refusal (Source.text self.old.source) line_index) result }
+        ensures name { mapped_name_of self.new ≡ mapped_name_of self.old }
+        ensures source { mapped_source_of self.new ≡ mapped_source_of self.old }
+        ensures ok { OnOk result (settings_of self.new ≡ with_number line_index number (settings_of self.old)) }
+        ensures err { OnErr result (settings_of self.new ≡ settings_of self.old) }
+        ensures refused { Tells (past_end (Source.text (mapped_source_of self.old)) line_index) result }
     {
         let lines = self.line_starts.len();
         if line_index >= lines {
@@ -63,25 +78,25 @@ impl<Name, Source: AsStr> MappedFile<Name, Source> {
                 self.numbers[at] = (line_index, number);
                 Ok(())
             }
-            Err(at) => match self.numbers.insert(at, (line_index, number)) {
-                Ok(()) => Ok(()),
-                Err(_) => Err(Error::OutOfMemory),
-            },
+            Err(at) => {
+                self.numbers.insert(at, (line_index, number))?;
+                Ok(())
+            }
         }
     }
 
-    // Where the index is set, or where it would go.
+    // Where the line's number is set, or where it would go.
     fn search(&self, line_index: usize) -> Result<usize, usize>
-        ensures found { IfOk result (IsAt self.now.numbers.items line_index) }
-        ensures absent { IfErr result (IsGapFor self.now.numbers.items line_index) }
+        ensures found { IfOk result (IsAt (settings_of self.now) line_index) }
+        ensures absent { IfErr result (IsGapFor (settings_of self.now) line_index) }
     {
         self.numbers
             .binary_search_by_key(&line_index, |&(index, _)| index)
     }
 
-    // The setting that a line counts from.
+    // The set index that the line counts from, with its number.
     fn nearest(&self, line_index: usize) -> Option<(usize, usize)>
-        ensures value { result ≡ setting self.now.numbers.items line_index }
+        ensures value { result ≡ setting (settings_of self.now) line_index }
         ensures below { IfSome result (λ s. s.0 ≤ line_index) }
     {
         match self.search(line_index) {
@@ -92,23 +107,28 @@ impl<Name, Source: AsStr> MappedFile<Name, Source> {
     }
 }
 
+/// No call takes memory. A name is lent, since a copy of it need not print the same.
 impl<'a, Name: Display + 'a, Source: AsStr + 'a> Files<'a> for MappedFile<Name, Source> {
+    ghost use Rattle.codespan_base.specs.FileTables.{mapped_name_of, mapped_source_of, settings_of};
     ghost use Rattle.codespan_base.specs.SimpleModel.{past_end};
-    ghost use Rattle.codespan_base.specs.MappedModel.{mapped_file, mapped_refusal};
-    ghost use Rattle.codespan_base.specs.FileModel.{IsLineRange};
-    ghost use Rattle.codespan_base.specs.declared.files.error.Error.TheVariants.{OutOfMemory};
+    ghost use Rattle.codespan_base.specs.MappedModel.{mapped_file, mapped_refusal, mapped_column, mapped_location, number_from, number_refusal, setting};
+    ghost use Rattle.codespan_base.specs.FileModel.{IsLineRange, NeedsNoMemory, Tells, line_of};
+    ghost use Rattle.codespan_base.specs.FileModel.Lookup.{LocationAt};
     ghost use Rattle.codespan_base.specs.Lemmas.Mapped.{mapped_lawful, mapped_past_end};
     ghost use Rattle.std.proofs.lemmas.Str.{IsUtf8-had};
 
+    /// There is one file.
     type FileId = ();
 
+    /// The name, lent.
     type Name = &'a Name;
 
+    /// The source's text, lent.
     type Source = &'a str;
 
-    ghost file = { λ s _. mapped_file (Name.output s.name) (Source.text s.source) s.numbers.items };
+    ghost file = { λ s _. mapped_file (Name.output (mapped_name_of s)) (Source.text (mapped_source_of s)) (settings_of s) };
 
-    ghost refusal = { λ s _. mapped_refusal (Source.text s.source) s.numbers.items };
+    ghost refusal = { λ s _. mapped_refusal (Source.text (mapped_source_of s)) (settings_of s) };
 
     ghost lawful = { λ s _. mapped_lawful (Name.output s.name) (Source.text s.source) s.numbers.items (IsUtf8-had _ s.utf8) };
 
@@ -116,22 +136,48 @@ impl<'a, Name: Display + 'a, Source: AsStr + 'a> Files<'a> for MappedFile<Name, 
 
     ghost past_end = { λ s _ i. mapped_past_end (Name.output s.name) (Source.text s.source) s.numbers.items i };
 
-    fn name(&'a self, _id: ()) -> Result<&'a Name, Error> {
+    /// The file's name, lent. Never refuses.
+    fn name(&'a self, _id: ()) -> Result<&'a Name, Error>
+        ensures succeeds { IsOk result }
+        ensures lent { IfOk result (λ name. name.now ≡ mapped_name_of self.now) }
+        ensures value { IfOk result (λ name. Name.output name.now ≡ Name.output (mapped_name_of self.now)) }
+        ensures refused { Tells None result }
+    {
         Ok(&self.name)
     }
 
-    fn source(&'a self, _id: ()) -> Result<&'a str, Error> {
+    /// The source's text, lent. Never refuses.
+    fn source(&'a self, _id: ()) -> Result<&'a str, Error>
+        ensures succeeds { IsOk result }
+        ensures lent { IfOk result (λ text. text.now ≡ Source.text (mapped_source_of self.now)) }
+        ensures refused { Tells None result }
+    {
         Ok(self.source.as_str())
     }
 
-    fn line_index(&'a self, _id: (), byte_index: usize) -> Result<usize, Error> {
+    /// The index of the byte's line, by binary search; past the end that of the last line. Never refuses.
+    fn line_index(&'a self, _id: (), byte_index: usize) -> Result<usize, Error>
+        ensures succeeds { IsOk result }
+        ensures value { IfOk result (λ line.
+            line ≡ line_of (line_starts_of (Source.text (mapped_source_of self.now))) byte_index) }
+        ensures refused { Tells None result }
+    {
         match self.line_starts.binary_search(&byte_index) {
             Ok(line) => Ok(line),
             Err(next) => Ok(next - 1),
         }
     }
 
-    fn line_number(&'a self, _id: (), line_index: usize) -> Result<usize, Error> {
+    /// The number set nearest above the line or at it, plus the lines from there on, found by binary search. Where none
+    /// is set there, the index plus 1. Whether there is such a line is not asked.
+    ///
+    /// Refuses with `LineTooLarge` of the index and the greatest index whose number fits, where the number does not.
+    fn line_number(&'a self, _id: (), line_index: usize) -> Result<usize, Error>
+        ensures value { IfOk result (λ number.
+            number ≡ number_from (setting (settings_of self.now) line_index) line_index) }
+        ensures refused { Tells (number_refusal (setting (settings_of self.now) line_index) line_index) result }
+        ensures memory { NeedsNoMemory result }
+    {
         match self.nearest(line_index) {
             None => default_line_number(line_index),
             Some((index, number)) => match number.checked_add(line_index - index) {
@@ -144,25 +190,36 @@ impl<'a, Name: Display + 'a, Source: AsStr + 'a> Files<'a> for MappedFile<Name, 
         }
     }
 
-    fn column_number(
-        &'a self,
-        id: (),
-        line_index: usize,
-        byte_index: usize,
-    ) -> Result<usize, Error> {
+    /// The column number of the byte on the line, in characters. Refuses as `line_range` does.
+    fn column_number(&'a self, id: (), line_index: usize, byte_index: usize) -> Result<usize, Error>
+        ensures value { IfOk result (λ number.
+            number ≡ mapped_column (Source.text (mapped_source_of self.now)) line_index byte_index) }
+        ensures refused { Tells (past_end (Source.text (mapped_source_of self.now)) line_index) result }
+        ensures memory { NeedsNoMemory result }
+    {
         crate::column_number_by_default!(self, id, line_index, byte_index)
     }
 
+    /// The number of the byte's line and the byte's column number there. Refuses as `line_number` of that line does.
     #[tactic(auto, using(crate::specs::Lemmas::Lines::line_of_below))]
-    fn location(&'a self, id: (), byte_index: usize) -> Result<Location, Error> {
+    fn location(&'a self, id: (), byte_index: usize) -> Result<Location, Error>
+        ensures value { IfOk result (λ place.
+            place
+            ≡ mapped_location (Source.text (mapped_source_of self.now)) (settings_of self.now) byte_index) }
+        ensures refused { Tells (mapped_refusal (Source.text (mapped_source_of self.now)) (settings_of self.now) (LocationAt byte_index))
+            result }
+        ensures memory { NeedsNoMemory result }
+    {
         crate::location_by_default!(self, id, byte_index)
     }
 
+    /// The bytes of the line without its newline. Refuses with `LineTooLarge` of the index and the last line's index
+    /// where the file has no such line.
     #[tactic(auto, using(crate::specs::Lemmas::Mapped::mapped_range))]
     fn line_range(&'a self, _id: (), line_index: usize) -> Result<Range<usize>, Error>
-        ensures value { IfOk result (IsLineRange (mapped_file (Name.output self.now.name) (Source.text self.now.source) self.now.numbers.items) line_index) }
-        ensures refused { Tells (past_end (Source.text self.now.source) line_index) result }
-        ensures memory { IfErr result (λ e. e ≢ OutOfMemory) }
+        ensures value { IfOk result (IsLineRange (mapped_file (Name.output (mapped_name_of self.now)) (Source.text (mapped_source_of self.now)) (settings_of self.now)) line_index) }
+        ensures refused { Tells (past_end (Source.text (mapped_source_of self.now)) line_index) result }
+        ensures memory { NeedsNoMemory result }
     {
         let count = self.line_starts.len();
         if line_index >= count {

@@ -1,5 +1,6 @@
 //! One text as a file.
-ghost use Rattle.std.specs.Prelude.{◌≡◌, ◌-◌, refl, IfOk, OnErr, IsErrOf, IfErr, ◌≢◌};
+
+ghost use Rattle.std.specs.Prelude.{◌≡◌, ◌-◌, ◌+◌, refl, IfOk, IsOk, OnErr, IsErrOf, None};
 ghost use Rattle.std.specs.Str.{IsUtf8};
 ghost use Rattle.codespan_base.specs.Lines.{line_starts_of};
 
@@ -9,7 +10,11 @@ use std::convert::AsStr;
 use std::fmt::Display;
 use std::ops::Range;
 
-#[derive(Drop)]
+/// A table with a single file: a name and a source, with the line starts of the source.
+///
+/// A line starts after each newline, and ends where the next one starts, the last one with the source. Lines are
+/// numbered from 1, and columns count characters from 1.
+#[derive(Debug, Drop)]
 pub struct SimpleFile<Name, Source: AsStr> {
     name: Name,
     source: Source,
@@ -19,10 +24,13 @@ pub struct SimpleFile<Name, Source: AsStr> {
 }
 
 impl<Name: Drop, Source: AsStr + Drop> SimpleFile<Name, Source> {
+    ghost use Rattle.codespan_base.specs.FileTables.{name_of, source_of};
+
+    /// A file of this name and source. Refuses with `OutOfMemory`, and then drops both.
     pub fn new(alloc: Global, name: Name, source: Source) -> Result<Self, Error>
-        ensures name { IfOk result (λ f. f.name ≡ name) }
-        ensures source { IfOk result (λ f. f.source ≡ source) }
-        ensures err { OnErr result (IsErrOf result Error.OutOfMemory) }
+        ensures name { IfOk result (λ file. name_of file ≡ name) }
+        ensures source { IfOk result (λ file. source_of file ≡ source) }
+        ensures refused { OnErr result (IsErrOf result Error.OutOfMemory) }
     {
         let line_starts = line_starts(source.as_str()).collect(alloc)?;
         Ok(SimpleFile {
@@ -34,79 +42,116 @@ impl<Name: Drop, Source: AsStr + Drop> SimpleFile<Name, Source> {
 }
 
 impl<Name, Source: AsStr> SimpleFile<Name, Source> {
+    ghost use Rattle.codespan_base.specs.FileTables.{name_of, source_of};
+
+    /// The name of the file.
     pub fn name(&self) -> &Name
-        ensures { result.now ≡ self.now.name }
+        ensures { result.now ≡ name_of self.now }
     {
         &self.name
     }
 
+    /// The source of the file.
     pub fn source(&self) -> &Source
-        ensures { result.now ≡ self.now.source }
+        ensures { result.now ≡ source_of self.now }
     {
         &self.source
     }
 }
 
+/// No call takes memory. A name is lent, since a copy of it need not print the same.
 impl<'a, Name: Display + 'a, Source: AsStr + 'a> Files<'a> for SimpleFile<Name, Source> {
-    ghost use Rattle.codespan_base.specs.SimpleModel.{simple_file, simple_refusal, past_end};
-    ghost use Rattle.codespan_base.specs.FileModel.{IsLineRange, Tells};
-    ghost use Rattle.codespan_base.specs.declared.files.error.Error.TheVariants.{OutOfMemory};
-    ghost use Rattle.codespan_base.specs.Lemmas.Simple.{simple_lawful, simple_past_end};
-    ghost use Rattle.std.proofs.lemmas.Str.{IsUtf8-had};
+    ghost use Rattle.codespan_base.specs.FileTables.{name_of, source_of};
+    ghost use Rattle.codespan_base.specs.SimpleModel.{simple_file, simple_refusal, simple_column, simple_location, past_end};
+    ghost use Rattle.codespan_base.specs.FileModel.{IsLineRange, NeedsNoMemory, Tells, line_of, line_number_refusal};
+    ghost use Rattle.codespan_base.specs.Lemmas.Simple.{simple_lawful, simple_past_end, text_is_utf8};
 
+    /// There is one file.
     type FileId = ();
 
+    /// The name, lent.
     type Name = &'a Name;
 
+    /// The source's text, lent.
     type Source = &'a str;
 
-    ghost file = { λ s _. simple_file (Name.output s.name) (Source.text s.source) };
+    ghost file = { λ s _. simple_file (Name.output (name_of s)) (Source.text (source_of s)) };
 
-    ghost refusal = { λ s _. simple_refusal (Source.text s.source) };
+    ghost refusal = { λ s _. simple_refusal (Source.text (source_of s)) };
 
-    ghost lawful = { λ s _. simple_lawful (Name.output s.name) (Source.text s.source) (IsUtf8-had _ s.utf8) };
+    ghost lawful = { λ s _. simple_lawful (Name.output (name_of s)) (Source.text (source_of s)) (text_is_utf8 s) };
 
     ghost same_file = { λ s i j e. (refl, refl) };
 
-    ghost past_end = { λ s _ i. simple_past_end (Name.output s.name) (Source.text s.source) i };
+    ghost past_end = { λ s _ i. simple_past_end (Name.output (name_of s)) (Source.text (source_of s)) i };
 
-    fn name(&'a self, _id: ()) -> Result<&'a Name, Error> {
+    /// The file's name, lent. Never refuses.
+    fn name(&'a self, _id: ()) -> Result<&'a Name, Error>
+        ensures succeeds { IsOk result }
+        ensures lent { IfOk result (λ name. name.now ≡ name_of self.now) }
+        ensures value { IfOk result (λ name. Name.output name.now ≡ Name.output (name_of self.now)) }
+        ensures refused { Tells None result }
+    {
         Ok(&self.name)
     }
 
-    fn source(&'a self, _id: ()) -> Result<&'a str, Error> {
+    /// The source's text, lent. Never refuses.
+    fn source(&'a self, _id: ()) -> Result<&'a str, Error>
+        ensures succeeds { IsOk result }
+        ensures lent { IfOk result (λ text. text.now ≡ Source.text (source_of self.now)) }
+        ensures refused { Tells None result }
+    {
         Ok(self.source.as_str())
     }
 
-    fn line_index(&'a self, _id: (), byte_index: usize) -> Result<usize, Error> {
+    /// The index of the byte's line, by binary search; past the end that of the last line. Never refuses.
+    fn line_index(&'a self, _id: (), byte_index: usize) -> Result<usize, Error>
+        ensures succeeds { IsOk result }
+        ensures value { IfOk result (λ line.
+            line ≡ line_of (line_starts_of (Source.text (source_of self.now))) byte_index) }
+        ensures refused { Tells None result }
+    {
         match self.line_starts.binary_search(&byte_index) {
             Ok(line) => Ok(line),
             Err(next) => Ok(next - 1),
         }
     }
 
-    fn line_number(&'a self, _id: (), line_index: usize) -> Result<usize, Error> {
+    /// The index plus 1, as [`default_line_number`] has it. Whether there is such a line is not asked.
+    fn line_number(&'a self, _id: (), line_index: usize) -> Result<usize, Error>
+        ensures value { IfOk result (λ number. number ≡ line_index + 1) }
+        ensures refused { Tells (line_number_refusal line_index) result }
+        ensures memory { NeedsNoMemory result }
+    {
         default_line_number(line_index)
     }
 
-    fn column_number(
-        &'a self,
-        id: (),
-        line_index: usize,
-        byte_index: usize,
-    ) -> Result<usize, Error> {
+    /// The column number of the byte on the line, in characters. Refuses as `line_range` does.
+    fn column_number(&'a self, id: (), line_index: usize, byte_index: usize) -> Result<usize, Error>
+        ensures value { IfOk result (λ number.
+            number ≡ simple_column (Source.text (source_of self.now)) line_index byte_index) }
+        ensures refused { Tells (past_end (Source.text (source_of self.now)) line_index) result }
+        ensures memory { NeedsNoMemory result }
+    {
         crate::column_number_by_default!(self, id, line_index, byte_index)
     }
 
+    /// The number of the byte's line and the byte's column number there. Never refuses.
     #[tactic(auto, using(crate::specs::Lemmas::Lines::line_of_below))]
-    fn location(&'a self, id: (), byte_index: usize) -> Result<Location, Error> {
+    fn location(&'a self, id: (), byte_index: usize) -> Result<Location, Error>
+        ensures succeeds { IsOk result }
+        ensures value { IfOk result (λ place. place ≡ simple_location (Source.text (source_of self.now)) byte_index) }
+        ensures refused { Tells None result }
+    {
         crate::location_by_default!(self, id, byte_index)
     }
 
+    /// The bytes of the line, its newline too. Refuses with `LineTooLarge` of the index and the last line's index
+    /// where the file has no such line.
     fn line_range(&'a self, _id: (), line_index: usize) -> Result<Range<usize>, Error>
-        ensures value { IfOk result (IsLineRange (simple_file (Name.output self.now.name) (Source.text self.now.source)) line_index) }
-        ensures refused { Tells (past_end (Source.text self.now.source) line_index) result }
-        ensures memory { IfErr result (λ e. e ≢ OutOfMemory) }
+        ensures value { IfOk result (IsLineRange (simple_file (Name.output (name_of self.now)) (Source.text (source_of self.now))) line_index) }
+        ensures refused { Tells (past_end (Source.text (source_of self.now)) line_index) result }
+        ensures memory { NeedsNoMemory result }
     {
         let count = self.line_starts.len();
         if line_index >= count {

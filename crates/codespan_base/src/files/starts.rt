@@ -1,11 +1,15 @@
 //! The iterator over the line starts of a text.
 ghost use Rattle.std.specs.Prelude.{◌≤◌, length};
 
-/// The line starts of a text.
-#[derive(Drop)]
+/// The bytes at which the lines of a text start, in ascending order.
+///
+/// Given by [`line_starts`](crate::files::line_starts). It ends: see [`crate::laws::line_starts_end`].
+#[derive(Debug, Drop)]
 pub struct LineStarts<'a> {
     source: &'a str,
+    // Where the search for the next newline goes on.
     at: usize,
+    // Whether the first start was given.
     begun: bool,
     ghost within: { at ≤ length source.now },
 }
@@ -15,6 +19,7 @@ impl<'a> LineStarts<'a> {
     ghost use Rattle.codespan_base.specs.Lines.{line_starts_of};
     ghost use Rattle.codespan_base.specs.LineStarts.{starts_left};
 
+    // All starts of the text.
     pub(super) fn new(source: &'a str) -> Self
         ensures { starts_left result ≡ line_starts_of source.now }
     {
@@ -30,6 +35,7 @@ impl<'a> Iterator for LineStarts<'a> {
     ghost use Rattle.std.specs.Iterator.{YieldsFirst, item_count};
     ghost use Rattle.codespan_base.specs.LineStarts.{starts_left};
 
+    /// A byte.
     type Item = usize;
 
     ghost next_gives = { YieldsFirst starts_left };

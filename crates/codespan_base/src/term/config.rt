@@ -1,16 +1,28 @@
 //! The configuration of a picture, and the writers that it is sent to.
 
+ghost use Rattle.std.specs.Prelude.{◌≡◌, Ok, IsTrue, IfOk, OnErr, IsErrOf};
+ghost use Rattle.codespan_base.specs.Characters.{is_fixed};
 ghost use Rattle.codespan_base.specs.Lookalikes.{IsConfig};
 ghost use Rattle.codespan_base.specs.Defaults.{default_config};
 
+pub mod ansi;
 pub mod chars;
 pub mod color;
+#[cfg(test)]
+mod example;
+pub mod no_color;
+pub mod pieces;
 pub mod plain;
+pub mod pouring;
+pub mod putting;
 pub mod sending;
 pub mod styles;
 pub mod styles_writer;
+#[cfg(test)]
+mod tests;
 pub mod write_style;
 
+use crate::files::Error;
 use chars::Chars;
 
 /// What a picture looks like.
@@ -34,6 +46,21 @@ pub struct Config {
     pub after_label_lines: usize,
     /// How numbers and lanes are laid out. By default [`Layout::Classic`], which is that of the Rust crate.
     pub layout: Layout,
+}
+
+impl Config {
+    /// The same configuration. Refuses with `OutOfMemory` alone, and not where the text before a place is `Fixed`.
+    pub fn clone(&self) -> Result<Config, Error>
+        ensures same { IfOk result (IsConfig self.now) }
+        ensures kind { IfOk result (λ c. is_fixed c.chars.snippet_start ≡ is_fixed self.now.chars.snippet_start) }
+        ensures fixed { IsTrue (is_fixed self.now.chars.snippet_start) → result ≡ Ok self.now }
+        ensures memory { OnErr result (IsErrOf result Error.OutOfMemory) }
+    {
+        Ok(Config {
+            chars: self.chars.clone()?,
+            ..*self
+        })
+    }
 }
 
 impl Default for Config {

@@ -1,12 +1,34 @@
 //! The characters that a picture is drawn with.
 
+ghost use Rattle.std.specs.Prelude.{◌≡◌, Ok, IsTrue, IfOk, OnErr, IsErrOf};
+ghost use Rattle.codespan_base.specs.Characters.{start_text, is_fixed};
+
+use crate::files::Error;
+
 /// The text that stands before the place of a snippet.
 ///
 /// `Fixed` takes no memory, so that the tables of characters need none.
 #[derive(Debug, Drop)]
 pub enum SnippetStart {
+    /// Takes no memory.
     Fixed(&'static str),
+    /// Text of the user's own.
     Owned(String),
+}
+
+impl SnippetStart {
+    /// The same text, of the same kind. Refuses with `OutOfMemory` alone, and not where the text is `Fixed`.
+    pub fn clone(&self) -> Result<SnippetStart, Error>
+        ensures same { IfOk result (λ s. start_text s ≡ start_text self.now) }
+        ensures kind { IfOk result (λ s. is_fixed s ≡ is_fixed self.now) }
+        ensures fixed { IsTrue (is_fixed self.now) → result ≡ Ok self.now }
+        ensures memory { OnErr result (IsErrOf result Error.OutOfMemory) }
+    {
+        match self {
+            SnippetStart::Fixed(text) => Ok(SnippetStart::Fixed(text)),
+            SnippetStart::Owned(text) => Ok(SnippetStart::Owned(text.clone()?)),
+        }
+    }
 }
 
 /// The characters that a picture is drawn with.
@@ -113,5 +135,18 @@ impl Chars {
             multi_left: '|',
             pointer_left: '|',
         }
+    }
+
+    /// The same characters. Refuses with `OutOfMemory` alone, and not where the text before a place is `Fixed`.
+    pub fn clone(&self) -> Result<Chars, Error>
+        ensures same { IfOk result (IsChars self.now) }
+        ensures kind { IfOk result (λ c. is_fixed c.snippet_start ≡ is_fixed self.now.snippet_start) }
+        ensures fixed { IsTrue (is_fixed self.now.snippet_start) → result ≡ Ok self.now }
+        ensures memory { OnErr result (IsErrOf result Error.OutOfMemory) }
+    {
+        Ok(Chars {
+            snippet_start: self.snippet_start.clone()?,
+            ..*self
+        })
     }
 }

@@ -1,5 +1,6 @@
-//! Colours, and writers that send them.
+//! Colours, and the law of writers that send them.
 
+ghost use Rattle.std.specs.Prelude.{◌≡◌};
 ghost use Rattle.codespan_base.specs.ColorLaw.{Paints};
 
 use std::io;
@@ -30,6 +31,32 @@ pub struct ColorSpec {
     pub intense: bool,
 }
 
+impl ColorSpec {
+    ghost use Rattle.codespan_base.specs.StyleTables.{unset};
+
+    /// A style that sets nothing.
+    pub fn new() -> ColorSpec
+        ensures { result ≡ unset }
+    {
+        ColorSpec {
+            fg: None,
+            bg: None,
+            bold: false,
+            intense: false,
+        }
+    }
+}
+
+impl Default for ColorSpec {
+    ghost use Rattle.codespan_base.specs.StyleTables.{unset};
+
+    ghost is_default = { λ spec. spec ≡ unset };
+
+    fn default() -> ColorSpec {
+        ColorSpec::new()
+    }
+}
+
 /// A writer of colours: fixed bytes for each style, and for the reset.
 pub trait WriteColor: Write {
     ghost use Rattle.std.specs.Prelude.{ℕ, List};
@@ -48,16 +75,4 @@ pub trait WriteColor: Write {
     /// Sends the bytes of the reset, or a beginning of them where it is refused.
     fn reset(&mut self) -> io::Result<()>
         ensures { Paints (Self.contents self.old) reset_bytes result (Self.contents self.new) };
-}
-
-/// A writer of colours by escape sequences.
-#[derive(Debug, Drop)]
-pub struct Ansi<W> {
-    inner: W,
-}
-
-/// A writer of colours that sends none.
-#[derive(Debug, Drop)]
-pub struct NoColor<W> {
-    inner: W,
 }

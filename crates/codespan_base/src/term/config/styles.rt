@@ -3,6 +3,7 @@
 ghost use Rattle.std.specs.Prelude.{◌≡◌};
 ghost use Rattle.codespan_base.specs.StyleTables.{colored, bright};
 
+use crate::diagnostic::{LabelStyle, Severity};
 use crate::term::config::color::{Color, ColorSpec};
 
 /// The styles of a picture's parts.
@@ -45,19 +46,68 @@ pub struct Styles {
 }
 
 impl Styles {
-    ghost use Rattle.std.specs.Prelude.{◌≡◌};
-    ghost use Rattle.codespan_base.specs.StyleTables.{no_color_styles};
+    ghost use Rattle.codespan_base.specs.StyleTables.{no_color_styles, header_style, label_style as style_of_label};
+
+    /// The style of a header's severity.
+    pub fn header(&self, severity: Severity) -> &ColorSpec
+        ensures { result.now ≡ header_style self.now severity }
+    {
+        match severity {
+            Severity::Bug => &self.header_bug,
+            Severity::Error => &self.header_error,
+            Severity::Warning => &self.header_warning,
+            Severity::Note => &self.header_note,
+            Severity::Help => &self.header_help,
+        }
+    }
+
+    /// The style of a header's message.
+    pub fn header_message(&self) -> &ColorSpec
+        ensures { result.now ≡ self.now.header_message }
+    {
+        &self.header_message
+    }
+
+    /// The style of line numbers.
+    pub fn line_number(&self) -> &ColorSpec
+        ensures { result.now ≡ self.now.line_number }
+    {
+        &self.line_number
+    }
+
+    /// The style of the bullets of notes.
+    pub fn note_bullet(&self) -> &ColorSpec
+        ensures { result.now ≡ self.now.note_bullet }
+    {
+        &self.note_bullet
+    }
+
+    /// The style of the border left of the source.
+    pub fn source_border(&self) -> &ColorSpec
+        ensures { result.now ≡ self.now.source_border }
+    {
+        &self.source_border
+    }
+
+    /// The style of a label in a diagnostic of this severity.
+    pub fn label(&self, severity: Severity, label_style: LabelStyle) -> &ColorSpec
+        ensures { result.now ≡ style_of_label self.now severity label_style }
+    {
+        match (label_style, severity) {
+            (LabelStyle::Primary, Severity::Bug) => &self.primary_label_bug,
+            (LabelStyle::Primary, Severity::Error) => &self.primary_label_error,
+            (LabelStyle::Primary, Severity::Warning) => &self.primary_label_warning,
+            (LabelStyle::Primary, Severity::Note) => &self.primary_label_note,
+            (LabelStyle::Primary, Severity::Help) => &self.primary_label_help,
+            (LabelStyle::Secondary, _) => &self.secondary_label,
+        }
+    }
 
     /// Styles that set nothing.
     pub fn no_color() -> Styles
         ensures { result ≡ no_color_styles }
     {
-        let unset = ColorSpec {
-            fg: None,
-            bg: None,
-            bold: false,
-            intense: false,
-        };
+        let unset = ColorSpec::new();
         Styles {
             header_bug: unset,
             header_error: unset,
@@ -110,9 +160,7 @@ fn colored(color: Color) -> ColorSpec
 {
     ColorSpec {
         fg: Some(color),
-        bg: None,
-        bold: false,
-        intense: false,
+        ..ColorSpec::new()
     }
 }
 
@@ -121,8 +169,8 @@ fn bright(color: Option<Color>) -> ColorSpec
 {
     ColorSpec {
         fg: color,
-        bg: None,
         bold: true,
         intense: true,
+        ..ColorSpec::new()
     }
 }

@@ -1,6 +1,16 @@
 //! Text with styles.
 
+ghost use Rattle.std.specs.Prelude.{◌≡◌, refl};
+ghost use Rattle.codespan_base.specs.Streams.{bytes};
+ghost use Rattle.codespan_base.specs.WriterLaw.{Sends};
+
+use crate::diagnostic::{LabelStyle, Severity};
+use crate::term::config::color::{ColorSpec, WriteColor};
+use crate::term::config::putting::put_through;
 use crate::term::config::styles::Styles;
+use crate::term::config::write_style::WriteStyle;
+use std::io;
+use std::io::Write;
 
 /// A writer that spells each mark as the bytes of its style, and the reset as those of the reset.
 #[derive(Debug, Drop)]
@@ -8,4 +18,109 @@ pub struct StylesWriter<'a, W> {
     inner: W,
     styles: &'a Styles,
     refused: bool,
+}
+
+impl<'a, W: WriteColor> StylesWriter<'a, W> {
+    ghost use Rattle.codespan_base.specs.StyleTables.{spelling_by};
+    ghost use Rattle.codespan_base.specs.Writers.{fresh_sink, styles_sink, styles_inner};
+
+    /// Text in these styles, written to `writer`. It has refused nothing yet.
+    pub fn new(writer: W, styles: &'a Styles) -> StylesWriter<'a, W>
+        ensures begins { styles_sink W.contents W.color_bytes W.reset_bytes result
+            ≡ fresh_sink (spelling_by styles.now W.color_bytes W.reset_bytes) (W.contents writer) }
+        ensures inner { styles_inner result ≡ writer }
+    {
+        StylesWriter {
+            inner: writer,
+            styles,
+            refused: false,
+        }
+    }
+
+    fn set_color(&mut self, spec: &ColorSpec) -> io::Result<()>
+        ensures { Sends (styles_sink W.contents W.color_bytes W.reset_bytes self.old) (bytes (W.color_bytes spec.now))
+            result (styles_sink W.contents W.color_bytes W.reset_bytes self.new) }
+    {
+        match self.inner.set_color(spec) {
+            Ok(()) => Ok(()),
+            Err(error) => {
+                self.refused = true;
+                Err(error)
+            }
+        }
+    }
+
+    fn reset_color(&mut self) -> io::Result<()>
+        ensures { Sends (styles_sink W.contents W.color_bytes W.reset_bytes self.old) (bytes W.reset_bytes)
+            result (styles_sink W.contents W.color_bytes W.reset_bytes self.new) }
+    {
+        match self.inner.reset() {
+            Ok(()) => Ok(()),
+            Err(error) => {
+                self.refused = true;
+                Err(error)
+            }
+        }
+    }
+}
+
+impl<W: WriteColor> Write for StylesWriter<'_, W> {
+    ghost use Rattle.codespan_base.specs.Writers.{styles_inner};
+
+    ghost contents = { λ p. W.contents (styles_inner p) };
+
+    fn write(&mut self, buf: &[u8]) -> io::Result<usize> {
+        self.inner.write(buf)
+    }
+
+    fn flush(&mut self) -> io::Result<()> {
+        self.inner.flush()
+    }
+}
+
+#[tactic(auto, using(crate::proofs::Marks::marking))]
+impl<W: WriteColor> WriteStyle for StylesWriter<'_, W> {
+    ghost use Rattle.codespan_base.specs.Writers.{styles_sink};
+
+    ghost sink = { λ p. styles_sink W.contents W.color_bytes W.reset_bytes p };
+
+    fn set_header(&mut self, severity: Severity) -> io::Result<()> {
+        let styles = self.styles;
+        self.set_color(styles.header(severity))
+    }
+
+    fn set_header_message(&mut self) -> io::Result<()> {
+        let styles = self.styles;
+        self.set_color(&styles.header_message)
+    }
+
+    fn set_line_number(&mut self) -> io::Result<()> {
+        let styles = self.styles;
+        self.set_color(&styles.line_number)
+    }
+
+    fn set_note_bullet(&mut self) -> io::Result<()> {
+        let styles = self.styles;
+        self.set_color(&styles.note_bullet)
+    }
+
+    fn set_source_border(&mut self) -> io::Result<()> {
+        let styles = self.styles;
+        self.set_color(&styles.source_border)
+    }
+
+    fn set_label(&mut self, severity: Severity, label_style: LabelStyle) -> io::Result<()> {
+        let styles = self.styles;
+        self.set_color(styles.label(severity, label_style))
+    }
+
+    fn reset(&mut self) -> io::Result<()> {
+        self.reset_color()
+    }
+
+    fn put(&mut self, bytes: &[u8]) -> io::Result<usize> {
+        put_through(&mut self.inner, &mut self.refused, bytes)
+    }
+
+    ghost tells = { λ _. refl };
 }

@@ -1,0 +1,65 @@
+//! No colours.
+
+ghost use Rattle.std.specs.Prelude.{◌≡◌, []};
+ghost use Rattle.codespan_base.specs.ColorLaw.{Paints};
+ghost use Rattle.codespan_base.specs.Writers.{IsSilent};
+
+use crate::term::config::color::{ColorSpec, WriteColor};
+use std::io;
+use std::io::Write;
+
+/// A writer of colours that sends none.
+#[derive(Debug, Drop)]
+pub struct NoColor<W> {
+    inner: W,
+}
+
+impl<W: Write> NoColor<W> {
+    ghost use Rattle.codespan_base.specs.Writers.{no_color_inner};
+
+    /// Text without colours, written to `writer`.
+    pub fn new(writer: W) -> NoColor<W>
+        ensures { no_color_inner result ≡ writer }
+    {
+        NoColor { inner: writer }
+    }
+}
+
+impl<W: Write> Write for NoColor<W> {
+    ghost use Rattle.codespan_base.specs.Writers.{no_color_inner};
+
+    ghost contents = { λ p. W.contents (no_color_inner p) };
+
+    fn write(&mut self, buf: &[u8]) -> io::Result<usize> {
+        self.inner.write(buf)
+    }
+
+    fn flush(&mut self) -> io::Result<()> {
+        self.inner.flush()
+    }
+}
+
+#[tactic(auto, using(crate::proofs::Paints::paintings))]
+impl<W: Write> WriteColor for NoColor<W> {
+    ghost use Rattle.codespan_base.specs.Writers.{no_color_inner};
+
+    ghost color_bytes = { λ _. [] };
+
+    ghost reset_bytes = { [] };
+
+    fn set_color(&mut self, _spec: &ColorSpec) -> io::Result<()>
+        ensures paints { Paints (W.contents (no_color_inner self.old)) []
+            result (W.contents (no_color_inner self.new)) }
+        ensures silent { IsSilent self.old result self.new }
+    {
+        Ok(())
+    }
+
+    fn reset(&mut self) -> io::Result<()>
+        ensures paints { Paints (W.contents (no_color_inner self.old)) []
+            result (W.contents (no_color_inner self.new)) }
+        ensures silent { IsSilent self.old result self.new }
+    {
+        Ok(())
+    }
+}
