@@ -16,4 +16,3 @@ pub mod PieceList
 pub mod Marks
 pub mod Paints
 pub mod AnsiLemmas
-pub mod WorkedColors
