@@ -42,6 +42,10 @@ StillToCome-refused s whole rest t u piece next p e r = (
       (Began-last s q.done (piece ++ next) u (Began-first (sent s q.done) piece u next (subst (λ (x : Sink). Began x piece u) q.is (e.1 (told_then s whole rest t h p))))),
 )
 
+-- the same is still to come, in other words
+pub StillToCome-same : (s : Sink) (whole rest other : Stream) (t : Sink) → rest ≡ other → StillToCome s whole rest t → StillToCome s whole other t
+StillToCome-same s whole rest other t e p = subst (λ (l : Stream). StillToCome s whole l t) e p
+
 -- nothing is left
 pub StillToCome-end : (s : Sink) (whole rest : Stream) (t : Sink) → StillToCome s whole rest t → rest ≡ [] → (t.frame ≡ s.frame) × (is_told s ≡ true → t ≡ sent s whole)
 StillToCome-end s whole rest t p e =

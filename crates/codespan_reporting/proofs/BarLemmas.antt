@@ -5,7 +5,9 @@ use Rattle.std.proofs.lemmas.Bool.Decides.{nat_tests}
 use Rattle.codespan_base.specs.FileModel.{FileModel, line_start, line_text}
 use Rattle.codespan_base.specs.declared.term.config.Layout.{Layout}
 use Rattle.codespan_base.specs.Labels.{Labelled, first_line, last_line, part_on, mark_of, marks_on, multi_labels, LaneMark, Part, Top, Left, Bottom}
-use Rattle.codespan_reporting.specs.Lanes.{Shape, Gap, Bar, TopCorner, source_shape, plain_shape, mark_in}
+use Rattle.codespan_reporting.specs.declared.term.renderer.lanes.Shape.{Shape}
+use Rattle.codespan_reporting.specs.declared.term.renderer.lanes.Shape.TheVariants.{Gap, Bar, TopCorner}
+use Rattle.codespan_reporting.specs.Lanes.{source_shape, plain_shape, mark_in}
 use Rattle.codespan_reporting.specs.LaneLaws.{shape_of, shape_in, HasLane, IsCovered}
 use Rattle.codespan_reporting.specs.Rows.{SourceRow, BreakRow}
 use Rattle.codespan_reporting.specs.Cells.{leading_whitespace, drawn_text}

@@ -12,7 +12,9 @@ use Rattle.codespan_base.specs.declared.diagnostic.LabelStyle.TheVariants.{Prima
 use Rattle.codespan_base.specs.declared.term.config.chars.Chars.{Chars}
 use Rattle.codespan_base.specs.Labels.{Labelled, is_primary}
 use Rattle.codespan_base.specs.Streams.{Stream, blanks, text_of}
-use Rattle.codespan_reporting.specs.Cells.{Cell, cells_then, placeholder, width_of, width_at}
+use Rattle.codespan_reporting.specs.declared.term.renderer.cells.Cell.{Cell}
+use Rattle.codespan_reporting.specs.Widths.{width_at}
+use Rattle.codespan_reporting.specs.Cells.{cells_then, placeholder, width_of}
 use Rattle.codespan_reporting.specs.Carets.{covers, style_under, caret_for, greatest_end, caret_width, owns, style_at, caret_cells}
 use Rattle.codespan_reporting.proofs.Texts.{text_of-append, encode_utf8_all-append, encode_utf8_all-blanks, text_of-blanks, text_of-one_mark, text_of-repeated}
 use Rattle.codespan_reporting.specs.Rows.{Look, Line}

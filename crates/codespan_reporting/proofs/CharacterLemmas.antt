@@ -7,7 +7,7 @@ use Rattle.codespan_base.specs.declared.term.config.chars.Chars.{Chars}
 use Rattle.codespan_base.specs.Labels.{Labelled, LaneMark, Part, Top, Left, Bottom}
 use Rattle.codespan_base.specs.Streams.{Stream, StyleMark, Reset, LabelMark, SourceBorder, NoteBullet, one_mark, bytes, glyph, repeated, space, row_length, character_count}
 use Rattle.codespan_base.specs.Characters.{start_text}
-use Rattle.codespan_reporting.specs.Cells.{Cell}
+use Rattle.codespan_reporting.specs.declared.term.renderer.cells.Cell.{Cell}
 use Rattle.codespan_reporting.specs.Carets.{style_under, greatest_end}
 use Rattle.codespan_reporting.specs.Lanes.{label_glyph}
 use Rattle.codespan_reporting.specs.Rows.{Look, Place, Lanes, Line, Row, HeaderRow, StartRow, EmptyRow, BreakRow, SourceRow, CaretRow, PointerRow, HangingRow, UnderlineRow, FirstNoteRow, LaterNoteRow, BlankRow, hanging, trailing}

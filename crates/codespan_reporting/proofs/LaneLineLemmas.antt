@@ -4,7 +4,9 @@ use Rattle.std.specs.Option.{option_map}
 use Rattle.std.proofs.lemmas.List.{length-append}
 use Rattle.codespan_base.specs.declared.term.config.Layout.{Layout}
 use Rattle.codespan_base.specs.Labels.{Labelled, first_line}
-use Rattle.codespan_reporting.specs.Lanes.{Shape, Gap, Bar, TopCorner, BottomCorner, is_unbroken}
+use Rattle.codespan_reporting.specs.declared.term.renderer.lanes.Shape.{Shape}
+use Rattle.codespan_reporting.specs.declared.term.renderer.lanes.Shape.TheVariants.{Gap, Bar, TopCorner, BottomCorner}
+use Rattle.codespan_reporting.specs.Lanes.{is_unbroken}
 use Rattle.codespan_reporting.specs.Rows.{Line, Row, SourceRow}
 use Rattle.codespan_reporting.specs.Snippets.{LabelledFile, line_at}
 use Rattle.codespan_reporting.specs.LaneLaws.{shape_in, shape_at, line_below, MayLeaveOut, IsOneLine}

@@ -6,7 +6,9 @@ use Rattle.codespan_base.specs.declared.term.config.Layout.TheVariants.{Classic,
 use Rattle.codespan_base.specs.declared.diagnostic.LabelStyle.{LabelStyle}
 use Rattle.codespan_base.specs.Streams.{Stream}
 use Rattle.codespan_base.specs.Labels.{Labelled, LaneMark, Part, Top, Left, Bottom}
-use Rattle.codespan_reporting.specs.Lanes.{Shape, Gap, Bar, TopCorner, BottomCorner, source_shape, below_shape, underline_shape, mark_in, is_unbroken, turns_early}
+use Rattle.codespan_reporting.specs.declared.term.renderer.lanes.Shape.{Shape}
+use Rattle.codespan_reporting.specs.declared.term.renderer.lanes.Shape.TheVariants.{Gap, Bar, TopCorner, BottomCorner}
+use Rattle.codespan_reporting.specs.Lanes.{source_shape, below_shape, underline_shape, mark_in, is_unbroken, turns_early}
 use Rattle.codespan_reporting.specs.LaneLaws.{shape_of, shape_in}
 use Rattle.codespan_reporting.specs.Rows.{Line, Row, SourceRow, CaretRow, PointerRow, HangingRow, UnderlineRow, caret_rows, hanging_rows, hanging, underline_rows, rows_of, has_underline}
 use Rattle.codespan_reporting.specs.RowParts.{leading_of}

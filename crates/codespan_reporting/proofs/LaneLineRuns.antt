@@ -8,7 +8,8 @@ use Rattle.codespan_base.specs.declared.term.config.Config.{Config}
 use Rattle.codespan_base.specs.declared.term.config.Layout.{Layout}
 use Rattle.codespan_base.specs.FileModel.{FileModel, line_start, line_of, line_count}
 use Rattle.codespan_base.specs.Labels.{Labelled, is_single, first_line, last_line, part_on, mark_of, marks_on, multi_labels, LaneMark, Part, Top, Left, Bottom}
-use Rattle.codespan_reporting.specs.Lanes.{Gap, Bar, plain_shape, mark_in}
+use Rattle.codespan_reporting.specs.declared.term.renderer.lanes.Shape.TheVariants.{Gap, Bar}
+use Rattle.codespan_reporting.specs.Lanes.{plain_shape, mark_in}
 use Rattle.codespan_reporting.specs.Lines.{is_shown, is_drawn, drawn_lines, is_broken}
 use Rattle.codespan_reporting.specs.Rows.{Row, BreakRow, StartRow, EmptyRow, rows_of}
 use Rattle.codespan_reporting.specs.Snippets.{LabelledFile, line_at, break_rows, rows_after, snippet, place_of, bare_lanes}

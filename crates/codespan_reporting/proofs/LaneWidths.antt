@@ -7,7 +7,9 @@ use Rattle.codespan_base.specs.declared.diagnostic.LabelStyle.TheVariants.{Prima
 use Rattle.codespan_base.specs.Labels.{LaneMark, Part}
 use Rattle.std.specs.List.{range_with_len}
 use Rattle.codespan_base.specs.Streams.{Stream, StyleMark, LabelMark, Reset, one_mark, glyph, repeated, row_length}
-use Rattle.codespan_reporting.specs.Lanes.{Shape, Gap, Bar, TopCorner, BottomCorner, corner_line, filling, label_glyph, mark_in, lane_cells}
+use Rattle.codespan_reporting.specs.declared.term.renderer.lanes.Shape.{Shape}
+use Rattle.codespan_reporting.specs.declared.term.renderer.lanes.Shape.TheVariants.{Gap, Bar, TopCorner, BottomCorner}
+use Rattle.codespan_reporting.specs.Lanes.{corner_line, filling, label_glyph, mark_in, lane_cells}
 use Rattle.codespan_reporting.specs.Rows.{Look, Lanes}
 use Rattle.codespan_reporting.specs.RowParts.{lane_of, lanes_in}
 use Rattle.codespan_reporting.proofs.Texts.{row_length-append, row_length-glyph, row_length-one_mark, row_length-repeated, row_length-blanks}

@@ -19,5 +19,15 @@ pub mod RowBoundLemmas
 pub mod SlotLemmas
 pub mod SlotSums
 pub mod CharacterLemmas
+pub mod CellSteps
+pub mod LaneWalk
+pub mod RowWords
+pub mod Passing
+pub mod Best
+pub mod CaretRuns
+pub mod Hanging
+pub mod Laying
+pub mod TextRuns
 pub mod Texts
+pub mod Underlines
 pub mod MeaningLemmas

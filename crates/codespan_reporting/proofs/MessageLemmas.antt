@@ -48,7 +48,7 @@ greatest_none m (x ∷ xs) h =
     omega (arith, same, other)
 
 -- some label has the greatest end
-some_rightmost : (x : Labelled) (xs : List Labelled) → rightmost (x ∷ xs) ≡ None → ⊥
+pub some_rightmost : (x : Labelled) (xs : List Labelled) → rightmost (x ∷ xs) ≡ None → ⊥
 some_rightmost x xs h =
     let parts = no_end (fold (λ n (y : Labelled). max n y.end) (max 0 x.end) xs) x xs h in
     let same = greatest_none (max 0 x.end) xs parts.0 in

@@ -14,7 +14,9 @@ use Rattle.codespan_base.specs.declared.diagnostic.LabelStyle.{LabelStyle}
 use Rattle.codespan_base.specs.declared.term.config.chars.Chars.{Chars}
 use Rattle.codespan_base.specs.Labels.{Labelled, has_message}
 use Rattle.codespan_base.specs.Streams.{LabelMark, Reset, one_mark, glyph, blanks, text_of}
-use Rattle.codespan_reporting.specs.Cells.{Cell, cells_then, width_of, width_at}
+use Rattle.codespan_reporting.specs.declared.term.renderer.cells.Cell.{Cell}
+use Rattle.codespan_reporting.specs.Widths.{width_at}
+use Rattle.codespan_reporting.specs.Cells.{cells_then, width_of}
 use Rattle.codespan_reporting.specs.Carets.{greatest_end}
 use Rattle.codespan_reporting.specs.Lanes.{label_glyph}
 use Rattle.codespan_reporting.specs.CaretLaws.{points_at, pointer_cells, StartsInWide, PointersAreCells}

@@ -6,9 +6,11 @@ use Rattle.codespan_base.specs.declared.diagnostic.LabelStyle.{LabelStyle}
 use Rattle.codespan_base.specs.declared.diagnostic.LabelStyle.TheVariants.{Primary, Secondary}
 use Rattle.codespan_base.specs.Streams.{Stream}
 use Rattle.codespan_base.specs.Labels.{Labelled, has_message, is_blank, is_primary, is_primary_style, LaneMark, Part, Top, Left, Bottom}
-use Rattle.codespan_reporting.specs.Cells.{Cell}
+use Rattle.codespan_reporting.specs.declared.term.renderer.cells.Cell.{Cell}
 use Rattle.codespan_reporting.specs.Carets.{style_under, covers, greatest_end, do_overlap}
-use Rattle.codespan_reporting.specs.Lanes.{Shape, source_shape, plain_shape, below_shape, underline_shape, mark_in, corner_line, filling, lane_cells, Gap, Bar, TopCorner, BottomCorner}
+use Rattle.codespan_reporting.specs.declared.term.renderer.lanes.Shape.{Shape}
+use Rattle.codespan_reporting.specs.declared.term.renderer.lanes.Shape.TheVariants.{Gap, Bar, TopCorner, BottomCorner}
+use Rattle.codespan_reporting.specs.Lanes.{source_shape, plain_shape, below_shape, underline_shape, mark_in, corner_line, filling, lane_cells}
 use Rattle.codespan_reporting.specs.Rows.{Look, Lanes, Line, Around, others, behind, last_with_end, does_trail, rightmost, trailing_of, hanging_of, trailing, hanging}
 use Rattle.codespan_reporting.specs.RowParts.{styled, lane_of, lanes_in, source_lanes, plain_lanes, below_lanes, underline_lanes, line_cells, takes_in, source_style, source_glyph, coloured_text, caret_glyphs, carets, pointer_style, pointer_at, pointers, starts_in, greatest_start}
 

@@ -7,7 +7,8 @@ use Rattle.codespan_base.specs.declared.diagnostic.LabelStyle.{LabelStyle}
 use Rattle.codespan_base.specs.declared.term.config.chars.Chars.{Chars}
 use Rattle.codespan_base.specs.Streams.{Stream, Item, Byte, Mark, Slot, LabelMark, Reset, one_mark, space, glyph, repeated, newline, filled}
 use Rattle.codespan_base.specs.Labels.{Labelled, is_blank, Part, Top, Left, Bottom}
-use Rattle.codespan_reporting.specs.Cells.{Cell, width_of}
+use Rattle.codespan_reporting.specs.declared.term.renderer.cells.Cell.{Cell}
+use Rattle.codespan_reporting.specs.Cells.{width_of}
 use Rattle.codespan_reporting.specs.Rows.{Look, Line, Row, HeaderRow, StartRow, EmptyRow, BreakRow, SourceRow, CaretRow, PointerRow, HangingRow, UnderlineRow, FirstNoteRow, LaterNoteRow, BlankRow, trailing}
 use Rattle.codespan_reporting.specs.RowParts.{gutter, numbered_gutter, border, break_border, label_message, underline_lanes, leading_of, line_cells, line_cells_to_end, carets, trailing_message, pointers, cells_before, underline_message, underline, end_caret}
 use Rattle.codespan_reporting.specs.RowStreams.{empty_row, break_row, source_row, opening, caret_row, pointer_row, hanging_row, underline_row, stream_of, stream_of_rows}

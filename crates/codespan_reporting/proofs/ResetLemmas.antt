@@ -8,9 +8,11 @@ use Rattle.codespan_base.specs.declared.diagnostic.LabelStyle.TheVariants.{Prima
 use Rattle.codespan_base.specs.declared.term.config.chars.Chars.{Chars}
 use Rattle.codespan_base.specs.Labels.{Labelled, LaneMark, Part}
 use Rattle.codespan_base.specs.Streams.{Stream, StyleMark, Byte, Mark, Slot, Reset, LabelMark, bytes, one_mark, blanks, repeated, glyph, space}
-use Rattle.codespan_reporting.specs.Cells.{Cell}
+use Rattle.codespan_reporting.specs.declared.term.renderer.cells.Cell.{Cell}
 use Rattle.codespan_reporting.specs.Carets.{style_under, greatest_end}
-use Rattle.codespan_reporting.specs.Lanes.{Shape, Gap, Bar, TopCorner, BottomCorner, filling, label_glyph, lane_cells, mark_in}
+use Rattle.codespan_reporting.specs.declared.term.renderer.lanes.Shape.{Shape}
+use Rattle.codespan_reporting.specs.declared.term.renderer.lanes.Shape.TheVariants.{Gap, Bar, TopCorner, BottomCorner}
+use Rattle.codespan_reporting.specs.Lanes.{filling, label_glyph, lane_cells, mark_in}
 use Rattle.codespan_reporting.specs.Rows.{Place, Look, Lanes, Line, Row, HeaderRow, StartRow, EmptyRow, BreakRow, SourceRow, CaretRow, PointerRow, HangingRow, UnderlineRow, FirstNoteRow, LaterNoteRow, BlankRow, hanging}
 use Rattle.codespan_reporting.specs.RowParts.{change, styled, lane_of, lanes_in, source_lanes, plain_lanes, below_lanes, source_glyph, source_style, coloured_text, caret_glyphs, carets, trailing_message, label_message, blanks_up_to, pointer_at, pointer_style, pointers, starts_in, greatest_start, gutter, numbered_gutter, border, break_border, locus, line_cells}
 use Rattle.codespan_reporting.specs.RowStreams.{stream_of, header_row, start_row, empty_row, break_row, source_row, opening, caret_row, pointer_row, hanging_row, underline_row, first_note_row, later_note_row}

@@ -9,9 +9,11 @@ use Rattle.codespan_base.specs.declared.diagnostic.LabelStyle.TheVariants.{Prima
 use Rattle.codespan_base.specs.declared.term.config.chars.Chars.{Chars}
 use Rattle.codespan_base.specs.Streams.{Stream, StyleMark, Byte, one_mark, bytes, blanks, space, glyph, repeated, newline}
 use Rattle.codespan_base.specs.Labels.{Labelled, LaneMark, Part, Top, Left, Bottom}
-use Rattle.codespan_reporting.specs.Cells.{Cell}
+use Rattle.codespan_reporting.specs.declared.term.renderer.cells.Cell.{Cell}
 use Rattle.codespan_reporting.specs.Carets.{style_under, greatest_end}
-use Rattle.codespan_reporting.specs.Lanes.{Shape, Gap, Bar, TopCorner, BottomCorner, mark_in, label_glyph, filling, lane_cells}
+use Rattle.codespan_reporting.specs.declared.term.renderer.lanes.Shape.{Shape}
+use Rattle.codespan_reporting.specs.declared.term.renderer.lanes.Shape.TheVariants.{Gap, Bar, TopCorner, BottomCorner}
+use Rattle.codespan_reporting.specs.Lanes.{mark_in, label_glyph, filling, lane_cells}
 use Rattle.codespan_reporting.specs.Rows.{Place, Look, Lanes, Line, Row, HeaderRow, StartRow, EmptyRow, BreakRow, SourceRow, CaretRow, PointerRow, HangingRow, UnderlineRow, FirstNoteRow, LaterNoteRow, BlankRow, trailing, hanging}
 use Rattle.codespan_reporting.specs.RowParts.{locus, gutter, numbered_gutter, border, break_border, change, styled, label_message, lane_of, lanes_in, source_lanes, plain_lanes, below_lanes, underline_lanes, line_cells, source_style, source_glyph, coloured_text, caret_glyphs, carets, trailing_message, blanks_up_to, pointer_at, pointers, pointer_style, starts_in, greatest_start, underline_message, underline}
 use Rattle.codespan_reporting.specs.RowStreams.{bracketed, leading_locus, header_row, start_row, empty_row, break_row, source_row, opening, caret_row, pointer_row, hanging_row, underline_row, first_note_row, later_note_row, stream_of, stream_of_rows}

@@ -4,7 +4,8 @@ use Rattle.std.specs.List.{list_any, range_with_len}
 use Rattle.codespan_base.specs.declared.term.config.chars.Chars.{Chars}
 use Rattle.codespan_base.specs.Labels.{Labelled}
 use Rattle.codespan_base.specs.Streams.{text_of}
-use Rattle.codespan_reporting.specs.Cells.{Cell, width_of}
+use Rattle.codespan_reporting.specs.declared.term.renderer.cells.Cell.{Cell}
+use Rattle.codespan_reporting.specs.Cells.{width_of}
 use Rattle.codespan_reporting.specs.Carets.{caret_cells}
 use Rattle.codespan_reporting.specs.Rows.{Look, Line, trailing, hanging}
 use Rattle.codespan_reporting.specs.RowParts.{line_cells, line_cells_to_end, trailing_message, starts_in, greatest_start, cells_before, label_message}

@@ -6,7 +6,8 @@ use Rattle.codespan_base.specs.declared.diagnostic.LabelStyle.{LabelStyle}
 use Rattle.codespan_base.specs.declared.diagnostic.LabelStyle.TheVariants.{Primary, Secondary}
 use Rattle.codespan_base.specs.declared.term.config.chars.Chars.{Chars}
 use Rattle.codespan_base.specs.Labels.{Labelled, is_primary}
-use Rattle.codespan_reporting.specs.Cells.{Cell, width_of}
+use Rattle.codespan_reporting.specs.declared.term.renderer.cells.Cell.{Cell}
+use Rattle.codespan_reporting.specs.Cells.{width_of}
 
 -- two ranges share a byte
 abbrev pub do_overlap : ℕ → ℕ → ℕ → ℕ → Bool

@@ -1,5 +1,5 @@
 -- Labels, marks and places as the calls of a renderer are given them.
-use Rattle.std.specs.Prelude.{ℕ, ◌+◌, Bool, true, ◌&&◌, nat_le, nat_lt, List, [], ◌∷◌, map, string_bytes}
+use Rattle.std.specs.Prelude.{ℕ, ◌+◌, Bool, true, ◌&&◌, ◌==◌, nat_le, nat_lt, List, [], ◌∷◌, map, Option, Some, None, if◌then◌else◌, string_bytes}
 use Rattle.std.specs.Borrow.{Bor}
 use Rattle.std.specs.declared.ops.Range.{Range}
 use Rattle.codespan_base.specs.declared.diagnostic.LabelStyle.{LabelStyle}
@@ -56,3 +56,15 @@ place_of_given at = record { name = string_bytes at.name; location = at.location
 -- a text as it is lent
 abbrev pub text_now : Bor (List ℕ) → List ℕ
 text_now s = s.now
+
+-- ---- a walk over the lanes
+
+-- the mark in a lane, where it is the first of those that are left
+abbrev pub mark_here : List GivenMark → ℕ → Option GivenMark
+mark_here [] lane = None
+mark_here (m ∷ ms) lane = if m.0 == lane then Some m else None
+
+-- the marks that are left after that lane
+abbrev pub marks_after : List GivenMark → ℕ → List GivenMark
+marks_after [] lane = []
+marks_after (m ∷ ms) lane = if m.0 == lane then ms else m ∷ ms

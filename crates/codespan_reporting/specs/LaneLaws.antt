@@ -5,7 +5,9 @@ use Rattle.codespan_base.specs.declared.term.config.Config.{Config}
 use Rattle.codespan_base.specs.declared.term.config.Layout.{Layout}
 use Rattle.codespan_base.specs.FileModel.{FileModel}
 use Rattle.codespan_base.specs.Labels.{Labelled, first_line, last_line, multi_labels, LaneMark, Part}
-use Rattle.codespan_reporting.specs.Lanes.{Shape, Gap, Bar, TopCorner, BottomCorner, source_shape, plain_shape, below_shape, underline_shape, mark_in, is_unbroken}
+use Rattle.codespan_reporting.specs.declared.term.renderer.lanes.Shape.{Shape}
+use Rattle.codespan_reporting.specs.declared.term.renderer.lanes.Shape.TheVariants.{Gap, Bar, TopCorner, BottomCorner}
+use Rattle.codespan_reporting.specs.Lanes.{source_shape, plain_shape, below_shape, underline_shape, mark_in, is_unbroken}
 use Rattle.codespan_reporting.specs.Rows.{Line, Row, EmptyRow, BreakRow, SourceRow, CaretRow, PointerRow, HangingRow, UnderlineRow}
 use Rattle.codespan_reporting.specs.RowParts.{leading_of}
 use Rattle.codespan_reporting.specs.Snippets.{LabelledFile, line_at, snippet}

@@ -6,14 +6,9 @@ use Rattle.codespan_base.specs.declared.term.config.chars.Chars.{Chars}
 use Rattle.codespan_base.specs.declared.term.config.Layout.{Layout}
 use Rattle.codespan_base.specs.declared.term.config.Layout.TheVariants.{Classic, Unbroken}
 use Rattle.codespan_base.specs.Streams.{Stream, LabelMark, Reset, one_mark, glyph, blanks, repeated}
+use Rattle.codespan_reporting.specs.declared.term.renderer.lanes.Shape.{Shape}
+use Rattle.codespan_reporting.specs.declared.term.renderer.lanes.Shape.TheVariants.{Gap, Bar, TopCorner, BottomCorner}
 use Rattle.codespan_base.specs.Labels.{LaneMark, Part, Top, Left, Bottom}
-
--- what a lane shows in a row
-pub data Shape : Type 0 where
-  Gap : Shape
-  Bar : Shape
-  TopCorner : Shape
-  BottomCorner : Shape
 
 -- the lane begins, on a line whose text begins with so many bytes of white space, in the source row
 abbrev pub turns_early : ℕ → ℕ → Bool

@@ -10,7 +10,9 @@ pub use Rattle.codespan_base.specs.Defaults
 pub use Rattle.codespan_base.specs.StyleTables
 pub use Rattle.codespan_base.specs.Ansi
 -- a line: its characters, carets and lanes
+pub mod Widths
 pub mod Cells
+pub mod CellsLeft
 pub mod Carets
 pub mod Lanes
 -- rows and their streams
@@ -18,6 +20,9 @@ pub mod Rows
 pub mod RowParts
 pub mod RowStreams
 pub mod Given
+pub mod GivenLine
+pub mod Runs
+pub mod Renderers
 -- the picture
 pub mod Lines
 pub mod Snippets

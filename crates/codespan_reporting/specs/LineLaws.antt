@@ -4,7 +4,7 @@ use Rattle.std.specs.List.{range_with_len}
 use Rattle.codespan_base.specs.declared.term.config.Config.{Config}
 use Rattle.codespan_base.specs.FileModel.{line_count}
 use Rattle.codespan_base.specs.Labels.{Labelled}
-use Rattle.codespan_reporting.specs.Lanes.{Bar}
+use Rattle.codespan_reporting.specs.declared.term.renderer.lanes.Shape.TheVariants.{Bar}
 use Rattle.codespan_reporting.specs.Lines.{drawn_lines, is_shown}
 use Rattle.codespan_reporting.specs.Rows.{Lanes, Row, BreakRow, SourceRow}
 use Rattle.codespan_reporting.specs.Snippets.{LabelledFile, rows_after, drawing, line_at, snippet}

@@ -8,9 +8,12 @@ use Rattle.codespan_base.specs.declared.diagnostic.LabelStyle.TheVariants.{Prima
 use Rattle.codespan_base.specs.declared.term.config.chars.Chars.{Chars}
 use Rattle.codespan_base.specs.Streams.{Stream, LineNumber, SourceBorder, LabelMark, Reset, one_mark, glyph, bytes, blanks, space, repeated}
 use Rattle.codespan_base.specs.Labels.{Labelled, is_primary, is_primary_style, LaneMark, Part, Top, Left, Bottom}
-use Rattle.codespan_reporting.specs.Cells.{Cell, cells, cells_to_end, width_of, leading_whitespace}
+use Rattle.codespan_reporting.specs.declared.term.renderer.cells.Cell.{Cell}
+use Rattle.codespan_reporting.specs.Cells.{cells, cells_to_end, width_of, leading_whitespace}
 use Rattle.codespan_reporting.specs.Carets.{covers, style_under, caret_for, greatest_end}
-use Rattle.codespan_reporting.specs.Lanes.{Shape, Gap, source_shape, plain_shape, below_shape, underline_shape, mark_in, lane_cells, label_glyph}
+use Rattle.codespan_reporting.specs.declared.term.renderer.lanes.Shape.{Shape}
+use Rattle.codespan_reporting.specs.declared.term.renderer.lanes.Shape.TheVariants.{Gap}
+use Rattle.codespan_reporting.specs.Lanes.{source_shape, plain_shape, below_shape, underline_shape, mark_in, lane_cells, label_glyph}
 use Rattle.codespan_reporting.specs.Rows.{Place, Look, Lanes, Line, hanging}
 
 -- ---- parts of rows
@@ -177,6 +180,10 @@ pointers look labels cs = flat_map (pointer_at look labels (hanging labels)) cs
 abbrev pub cells_before : ℕ → List Cell → List Cell
 cells_before place cs = filter (λ (c : Cell). nat_lt c.place place) cs
 
+-- the characters of a line that begin at a place or before it
+abbrev pub cells_up_to : ℕ → List Cell → List Cell
+cells_up_to place cs = filter (λ (c : Cell). nat_le c.place place) cs
+
 -- ---- underlines
 
 -- the caret under a multi-line label's start
@@ -197,7 +204,7 @@ underline_message (p ∷ ps) = space ++ (p ∷ ps)
 -- the line runs from the corner to the last character that begins at or before the start, or before the end
 unfoldable pub underline : Chars → LabelStyle → List Cell → Part → Stream
 underline chars style cs (Top start) =
-    repeated (width_of (filter (λ (c : Cell). nat_le c.place start) cs)) chars.multi_top ++ glyph (start_caret chars style)
+    repeated (width_of (cells_up_to start cs)) chars.multi_top ++ glyph (start_caret chars style)
 underline chars style cs Left = []
 underline chars style cs (Bottom end message) =
     repeated (width_of (cells_before end cs)) chars.multi_bottom ++ glyph (end_caret chars style) ++ underline_message message

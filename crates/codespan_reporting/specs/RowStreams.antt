@@ -81,6 +81,15 @@ first_note_row chars padding piece =
 unfoldable pub later_note_row : ℕ → List ℕ → Stream
 later_note_row padding piece = gutter padding ++ space ++ space ++ bytes piece
 
+-- the later rows of a note
+abbrev pub later_notes : ℕ → List (List ℕ) → Stream
+later_notes padding pieces = flat_map (λ piece. later_note_row padding piece ++ newline) pieces
+
+-- the rows of a note of these pieces
+abbrev pub note_stream : Chars → ℕ → List (List ℕ) → Stream
+note_stream chars padding [] = []
+note_stream chars padding (p ∷ ps) = first_note_row chars padding p ++ newline ++ later_notes padding ps
+
 -- the stream of a row
 abbrev pub stream_of : Look → Row → Stream
 stream_of look (HeaderRow place heading) = header_row look.severity place heading

@@ -6,4 +6,4 @@ pub use codespan_base::term::{
     Ansi, Chars, Color, ColorSpec, Config, DisplayStyle, GeneralWrite, GeneralWriteResult, Layout,
     NoColor, PlainWriter, SnippetStart, Styles, StylesWriter, WriteColor, WriteStyle, config,
 };
-pub use renderer::{Locus, MultiLabel, SingleLabel, lanes_in_order};
+pub use renderer::{Locus, MultiLabel, Renderer, SingleLabel, lanes_in_order};
