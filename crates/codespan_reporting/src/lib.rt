@@ -4,6 +4,8 @@
 #![tactic(auto)]
 
 pub mod laws;
+#[cfg(test)]
+mod quick_start;
 pub mod term;
 mod worked;
 

@@ -1,4 +1,5 @@
 use Rattle.std.proofs.Common.{rules, ◌≡◌, ◌+◌, ◌-◌, sym, subst, ap, ◌∙◌, arith}
+use Rattle.std.specs.Char.{encode_utf8}
 use Rattle.std.proofs.lemmas.Result.{err_from_is_err_and}
 use Rattle.std.proofs.lemmas.Str.{IsUtf8-had, length-encode}
 use Rattle.codespan_base.specs.Streams.{Stream}
@@ -47,7 +48,7 @@ loop-cell-preserved-in_ok-send_tab g c =
 pub loop-cell-preserved-in_ok-end_text_run : goal.loop-cell-preserved-in_ok-end_text_run
 loop-cell-preserved-in_ok-end_text_run g c =
     let n = over-next c.args.look.tab_width c.args.line.text.now c.loop-cell.end c.in-Some.cell _ (cells_left c.next.new.self) c.in-Some.ensures.steps c.loop-cell.invariant.over in
-    let grows = piece-grows c.as_bytes-text.result.now c.loop-cell.end c.loop-cell.end _ _ (omega arith) (rw c.as_bytes-text.ensures.value n.text_left) (n.bytes ∙ sym (length-encode c.in-Some.cell.code)) in
+    let grows = piece-grows c.as_bytes-text.result.now c.loop-cell.end c.loop-cell.end (encode_utf8 c.in-Some.cell.code) c.in-Some.cell.bytes (omega arith) (rw c.as_bytes-text.ensures.value n.text_left) (n.bytes ∙ sym (length-encode c.in-Some.cell.code)) in
     let none : c.loop-cell.end - c.loop-cell.end ≡ 0 = omega arith in
     record {
       coming = rw (grows, none) (StillToCome-more _ _ _ _ _ _ _ c.loop-cell.invariant.coming c.in_ok-end_text_run.ensures
@@ -61,7 +62,7 @@ pub loop-cell-preserved : goal.loop-cell-preserved
 loop-cell-preserved g c =
     let n = over-next c.args.look.tab_width c.args.line.text.now c.loop-cell.end c.in-Some.cell _ (cells_left c.next.new.self) c.in-Some.ensures.steps c.loop-cell.invariant.over in
     let same : c.loop-cell.was ≡ c.text_style-style.result = search rules in
-    let grows = piece-grows c.as_bytes-text.result.now c.loop-cell.start c.loop-cell.end _ _ c.loop-cell.invariant.ordered (rw c.as_bytes-text.ensures.value n.text_left) (n.bytes ∙ sym (length-encode c.in-Some.cell.code)) in
+    let grows = piece-grows c.as_bytes-text.result.now c.loop-cell.start c.loop-cell.end (encode_utf8 c.in-Some.cell.code) c.in-Some.cell.bytes c.loop-cell.invariant.ordered (rw c.as_bytes-text.ensures.value n.text_left) (n.bytes ∙ sym (length-encode c.in-Some.cell.code)) in
     let rest = text-same (look_of_given c.args.look) (line_of_given c.args.line) c.loop-cell.was c.text_style-style.result (piece c.as_bytes-text.result.now c.loop-cell.start c.loop-cell.end) c.in-Some.cell _ (cells_left c.next.new.self) c.in-Some.ensures.steps c.text_style-style.ensures c.if-cell-eq9.false same in
     record {
       coming = rw (same, grows) (rw rest at c.loop-cell.invariant.coming);
