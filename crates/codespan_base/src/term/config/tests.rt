@@ -1,5 +1,6 @@
 //! The tables, every mark of every writer, and writers that stop.
 
+mod flushing;
 mod stopping;
 
 use crate::diagnostic::{LabelStyle, Severity};
