@@ -1,11 +1,21 @@
 -- The best style that labels give.
-use Rattle.std.proofs.Common.{◌≡◌, Bool, true, false, List, [], ◌∷◌, Option, None, Some, refl}
+use Rattle.std.proofs.Common.{◌≡◌, Bool, true, false, cond, List, [], ◌∷◌, filter, fold, Option, None, Some, refl}
 use Rattle.std.specs.Prelude.{◌&&◌, if◌then◌else◌}
 use Rattle.std.specs.List.{list_any}
 use Rattle.codespan_base.specs.declared.diagnostic.LabelStyle.{LabelStyle}
 use Rattle.codespan_base.specs.declared.diagnostic.LabelStyle.TheVariants.{Primary, Secondary}
 use Rattle.codespan_base.specs.Labels.{Labelled, is_primary}
-use Rattle.codespan_reporting.specs.Runs.{best_from}
+use Rattle.codespan_reporting.specs.Runs.{better, best_from}
+
+-- a label that passes betters what was found
+pub best-cons : (passes : Labelled → Bool) (found : Option LabelStyle) (x : Labelled) (xs : List Labelled)
+    → best_from passes found (x ∷ xs) ≡ best_from passes (if passes x then better found x.style else found) xs
+best-cons passes found x xs = by_test (passes x)
+  where
+    by_test : (b : Bool) → fold (λ best (y : Labelled). better best y.style) found (cond b (x ∷ filter passes xs) (filter passes xs))
+        ≡ best_from passes (if b then better found x.style else found) xs
+    by_test true = refl
+    by_test false = refl
 
 primary-cons : (passes : Labelled → Bool) (x : Labelled) (xs : List Labelled) (b : Bool) → passes x ≡ b
     → best_from passes (Some Primary) xs ≡ Some Primary → best_from passes (Some Primary) (x ∷ xs) ≡ Some Primary

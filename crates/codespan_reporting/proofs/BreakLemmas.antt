@@ -4,6 +4,7 @@ use Rattle.std.proofs.lemmas.List.Elements.{filter_map-append}
 use Rattle.std.proofs.lemmas.Bool.Decides.{nat_tests}
 use Rattle.codespan_base.specs.declared.term.config.Config.{Config}
 use Rattle.codespan_base.specs.Labels.{Labelled, LaneMark}
+use Rattle.codespan_reporting.specs.Cells.{leading_whitespace}
 use Rattle.codespan_reporting.specs.Rows.{Row, Lanes, Line, SourceRow, HangingRow, UnderlineRow, BreakRow, caret_rows, hanging_rows, underline_rows, rows_of, hanging, has_underline}
 use Rattle.codespan_reporting.specs.Snippets.{LabelledFile, line_at, between, drawing}
 use Rattle.codespan_reporting.specs.LineLaws.{broken_line, broken_before, shown_lines, BreaksAreGaps, DrawingOfShown}
@@ -31,7 +32,7 @@ no_break_line line =
     ∙ ap₂ (λ s t. s ++ t)
     (breaks-append (SourceRow line ∷ caret_rows line line.labels) (hanging_rows line (hanging line.labels))
     ∙ ap₂ (λ s t. s ++ t) (no_break_caret line line.labels) (no_break_hanging line (hanging line.labels)))
-    (breaks-map (UnderlineRow line) (filter (λ (m : LaneMark). has_underline line.text m.part) line.lanes.marks) (λ m. refl))
+    (breaks-map (UnderlineRow line) (filter (λ (m : LaneMark). has_underline (leading_whitespace line.text) m.part) line.lanes.marks) (λ m. refl))
 
 -- ---- the breaks of a drawing
 

@@ -1,5 +1,5 @@
 -- Which message trails, which hang, and the pointers from which they hang.
-use Rattle.std.proofs.Common.{◌≡◌, ℕ, zero, suc, ◌+◌, ◌-◌, ◌<◌, ◌≤◌, Bool, true, false, cond, ◌==◌, ◌&&◌, ◌||◌, nat_lt, nat_le, List, [], ◌∷◌, ◌++◌, length, get_or, take, drop, map, filter, reverse, Option, Some, None, refl, sym, ap, ◌∙◌, arith, drop-cons, add-one, append_assoc, append-nil, ◌⊎◌, ⊎_elim}
+use Rattle.std.proofs.Common.{◌≡◌, ℕ, zero, suc, ◌+◌, ◌-◌, ◌<◌, ◌≤◌, Bool, true, false, cond, ◌==◌, ◌&&◌, ◌||◌, nat_lt, nat_le, List, [], ◌∷◌, ◌++◌, length, get_or, take, drop, map, filter, fold, reverse, Option, Some, None, refl, sym, ap, ◌∙◌, arith, drop-cons, add-one, append_assoc, append-nil, ◌⊎◌, ⊎_elim}
 use Rattle.std.specs.Prelude.{not, if◌then◌else◌}
 use Rattle.std.specs.List.{list_any, push}
 use Rattle.std.specs.Option.{option_map_or}
@@ -8,6 +8,7 @@ use Rattle.std.proofs.lemmas.Option.{slice_get-get_or}
 use Rattle.std.proofs.lemmas.List.{map-append, reverse-append}
 use Rattle.std.proofs.lemmas.List.Elements.{filter-append}
 use Rattle.std.proofs.lemmas.List.Folds.{list_any-append}
+use Rattle.std.proofs.lemmas.List.Sums.{fold-append}
 use Rattle.std.proofs.lemmas.Grind.{flat_map-append}
 use Rattle.codespan_base.specs.declared.diagnostic.LabelStyle.{LabelStyle}
 use Rattle.codespan_base.specs.declared.diagnostic.LabelStyle.TheVariants.{Primary, Secondary}
@@ -17,11 +18,11 @@ use Rattle.codespan_reporting.specs.declared.term.renderer.cells.Cell.{Cell}
 use Rattle.codespan_reporting.specs.Carets.{greatest_end}
 use Rattle.codespan_reporting.specs.Given.{GivenLabel, labelled, all_labelled}
 use Rattle.codespan_reporting.specs.Lanes.{label_glyph}
-use Rattle.codespan_reporting.specs.Rows.{Look, Line, Around, HangingRow, last_with_end, does_trail, rightmost, hanging, hanging_rows}
+use Rattle.codespan_reporting.specs.Rows.{Look, Line, Around, HangingRow, last_with_end, is_overlapped, does_trail, rightmost, hanging, hanging_rows}
 use Rattle.codespan_reporting.specs.RowParts.{starts_in, pointer_style, greatest_start, blanks_up_to, pointer_at, pointers, cells_before}
 use Rattle.codespan_reporting.specs.RowStreams.{pointer_row, hanging_row, stream_of, stream_of_rows}
-use Rattle.codespan_reporting.specs.Runs.{better, best_from, pointer_found, around_given, is_overlapped, AreHanging, hanging_stream}
-use Rattle.codespan_reporting.proofs.Best.{best-primary}
+use Rattle.codespan_reporting.specs.Runs.{better, best_from, pointer_found, around_given, AreHanging, hanging_stream}
+use Rattle.codespan_reporting.proofs.Best.{best-cons, best-primary}
 use Rattle.codespan_reporting.proofs.MessageLemmas.{some_rightmost}
 use Rattle.codespan_reporting.proofs.RowWords.{blanks-add}
 
@@ -75,13 +76,14 @@ none_trails xs r end greatest last h = none_by xs (around_given xs r) (ap (λ e.
 
 -- the best of two lists
 best_append : (p : Labelled → Bool) (found : Option LabelStyle) (xs ys : List Labelled) → best_from p found (xs ++ ys) ≡ best_from p (best_from p found xs) ys
-best_append p found [] ys = refl
-best_append p found (x ∷ xs) ys = best_append p (if p x then better found x.style else found) xs ys
+best_append p found xs ys =
+    let step = λ (best : Option LabelStyle) (x : Labelled). better best x.style in
+    ap (fold step found) (filter-append p xs ys) ∙ fold-append step found (filter p xs) (filter p ys)
 
 -- after a secondary style only a primary one counts
 best_later : (c : Cell) (xs : List Labelled) → best_from (starts_in c) (Some Secondary) xs ≡ Some (pointer_style xs c)
 best_later c [] = refl
-best_later c (x ∷ xs) = by_style (best_later c xs) (starts_in c x) x.style
+best_later c (x ∷ xs) = best-cons (starts_in c) (Some Secondary) x xs ∙ by_style (best_later c xs) (starts_in c x) x.style
   where
     by_style : best_from (starts_in c) (Some Secondary) xs ≡ Some (pointer_style xs c) → (b : Bool) (s : LabelStyle)
         → best_from (starts_in c) (if b then better (Some Secondary) s else Some Secondary) xs
@@ -94,7 +96,7 @@ best_later c (x ∷ xs) = by_style (best_later c xs) (starts_in c x) x.style
 -- the best style of the labels that start in the character is that of its pointer
 best_is : (c : Cell) (xs : List Labelled) → best_from (starts_in c) None xs ≡ pointer_found xs c
 best_is c [] = refl
-best_is c (x ∷ xs) = by_style (best_is c xs) (starts_in c x) x.style
+best_is c (x ∷ xs) = best-cons (starts_in c) None x xs ∙ by_style (best_is c xs) (starts_in c x) x.style
   where
     by_style : best_from (starts_in c) None xs ≡ pointer_found xs c → (b : Bool) (s : LabelStyle)
         → best_from (starts_in c) (if b then better None s else None) xs
@@ -129,7 +131,7 @@ best_step c found best xs i d empty h is e = rw (drop-cons xs i d h, add-one, e,
     by_message : (x : GivenLabel) (b : Bool)
         → best_from (starts_in c) (if b then (if starts_in c (labelled x) then better found x.0 else found) else found) (filter has_message (all_labelled (drop (suc i) xs)))
         ≡ best_from (starts_in c) found (cond b (labelled x ∷ filter has_message (all_labelled (drop (suc i) xs))) (filter has_message (all_labelled (drop (suc i) xs))))
-    by_message x true = refl
+    by_message x true = sym (best-cons (starts_in c) found (labelled x) (filter has_message (all_labelled (drop (suc i) xs))))
     by_message x false = refl
 
 -- ---- the pointers of a line

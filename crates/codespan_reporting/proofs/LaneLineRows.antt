@@ -35,7 +35,7 @@ each_below P line a b d =
     (each_hanging P line (hanging line.labels) b d)
 
 abbrev is_underlined : Line → LaneMark → Bool
-is_underlined line m = has_underline line.text m.part
+is_underlined line m = has_underline (leading_of line) m.part
 
 each_under : (P : Row → Type 0) (line : Line) (marks : List LaneMark) → Each (λ m. P (UnderlineRow line m)) marks
     → Each P (map (UnderlineRow line) (filter (is_underlined line) marks))

@@ -10,6 +10,7 @@ use Rattle.codespan_base.specs.declared.term.config.Layout.TheVariants.{Classic,
 use Rattle.codespan_base.specs.FileModel.{FileModel, line_count, line_start}
 use Rattle.codespan_base.specs.Streams.{Stream}
 use Rattle.codespan_base.specs.Labels.{Labelled, is_blank, is_primary, LaneMark, Part, Top, Left, Bottom, first_line, last_line, is_single, drawn_label, first_seen, multi_labels, stands_before, put_in, sorted, single_labels, part_on, mark_of, marks_on}
+use Rattle.codespan_reporting.specs.Cells.{leading_whitespace}
 use Rattle.codespan_reporting.specs.Lines.{shows, is_shown, drawn_lines, is_broken}
 use Rattle.codespan_reporting.specs.Rows.{Place, Heading, Lanes, Line, HeaderRow, StartRow, EmptyRow, BreakRow, SourceRow, PointerRow, HangingRow, UnderlineRow, FirstNoteRow, LaterNoteRow, BlankRow, hanging, has_underline, caret_rows, hanging_rows, underline_rows, rows_of}
 use Rattle.codespan_reporting.specs.Snippets.{LabelledFile, InFile, labelled_file, labelled_files, lane_count, bare_lanes, line_at, break_rows, rows_after, least, if_any, locus_start, place_of, snippet, snippets, piece_rows, note_rows, rich_rows}
@@ -60,17 +61,17 @@ module _ (φ : Stream → Stream) (keeps : (s : Stream) → is_blank (φ s) ≡ 
       ∙ sym (map-map (HangingRow (re_line φ line)) (re φ) (reverse (x ∷ xs)))
       ∙ ap (map (HangingRow (re_line φ line))) (sym (reverse-map (re φ) (x ∷ xs))))
 
-  has-underline : (text : List ℕ) (part : Part) → has_underline text (re_part φ part) ≡ has_underline text part
-  has-underline text (Top start) = refl
-  has-underline text Left = refl
-  has-underline text (Bottom end message) = refl
+  has-underline : (leading : ℕ) (part : Part) → has_underline leading (re_part φ part) ≡ has_underline leading part
+  has-underline leading (Top start) = refl
+  has-underline leading Left = refl
+  has-underline leading (Bottom end message) = refl
 
   underline-rows : (line : Line) → map (re_row φ) (underline_rows line) ≡ underline_rows (re_line φ line)
   underline-rows line =
-      let p = λ (m : LaneMark). has_underline line.text m.part in
+      let p = λ (m : LaneMark). has_underline (leading_whitespace line.text) m.part in
       map-map (re_row φ) (UnderlineRow line) (filter p line.lanes.marks)
       ∙ sym (map-map (UnderlineRow (re_line φ line)) (re_mark φ) (filter p line.lanes.marks))
-      ∙ ap (λ q. map (UnderlineRow (re_line φ line)) (map (re_mark φ) (filter q line.lanes.marks))) (fun_ext (λ (m : LaneMark). sym (has-underline line.text m.part)))
+      ∙ ap (λ q. map (UnderlineRow (re_line φ line)) (map (re_mark φ) (filter q line.lanes.marks))) (fun_ext (λ (m : LaneMark). sym (has-underline (leading_whitespace line.text) m.part)))
       ∙ ap (map (UnderlineRow (re_line φ line))) (sym (filter-map p (re_mark φ) line.lanes.marks))
 
   line-rows : (line : Line) → map (re_row φ) (rows_of line) ≡ rows_of (re_line φ line)

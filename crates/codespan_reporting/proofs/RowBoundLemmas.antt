@@ -8,6 +8,7 @@ use Rattle.codespan_base.specs.declared.term.config.Config.{Config}
 use Rattle.codespan_base.specs.FileModel.{FileModel, line_count}
 use Rattle.codespan_base.specs.Labels.{Labelled, LaneMark, first_line, last_line}
 use Rattle.codespan_reporting.specs.Lines.{shows, is_shown, is_drawn, drawn_lines, is_broken}
+use Rattle.codespan_reporting.specs.Cells.{leading_whitespace}
 use Rattle.codespan_reporting.specs.Rows.{Line, SourceRow, BreakRow, HangingRow, UnderlineRow, PointerRow, caret_rows, hanging_rows, underline_rows, rows_of, hanging, has_underline}
 use Rattle.codespan_reporting.specs.Snippets.{LabelledFile, line_at, break_rows, rows_after}
 use Rattle.codespan_reporting.specs.LineLaws.{is_source_row, reach, SourceRowsAreFew}
@@ -199,7 +200,7 @@ one_source line =
       count-cons is_source_row (SourceRow line) (caret_rows line line.labels),
       no_source_caret line line.labels,
       no_source_hanging line (hanging line.labels),
-      count-map-none is_source_row (UnderlineRow line) (filter (λ (m : LaneMark). has_underline line.text m.part) line.lanes.marks) (λ m. refl),
+      count-map-none is_source_row (UnderlineRow line) (filter (λ (m : LaneMark). has_underline (leading_whitespace line.text) m.part) line.lanes.marks) (λ m. refl),
     )
 
 count-rows_after : (s : LabelledFile) (was : Option ℕ) (ls : List ℕ) → count_by is_source_row (rows_after s was ls) ≡ length ls

@@ -10,6 +10,7 @@ use Rattle.codespan_base.specs.declared.term.config.Config.{Config}
 use Rattle.codespan_base.specs.FileModel.{FileModel, line_count, line_of, line_start}
 use Rattle.codespan_base.specs.Streams.{Stream, Slot}
 use Rattle.codespan_base.specs.Labels.{Labelled, has_message, is_blank, LaneMark, Part, Top, Left, Bottom, first_line, last_line, is_single, drawn_label, first_seen, multi_labels, stands_before, put_in, sorted, single_labels, part_on, mark_of}
+use Rattle.codespan_reporting.specs.Cells.{leading_whitespace}
 use Rattle.codespan_reporting.specs.Lines.{shows, is_drawn, drawn_lines, is_broken}
 use Rattle.codespan_reporting.specs.Rows.{Heading, Look, Line, HeaderRow, StartRow, EmptyRow, BreakRow, SourceRow, CaretRow, PointerRow, HangingRow, UnderlineRow, FirstNoteRow, LaterNoteRow, BlankRow, trailing, hanging, has_underline, caret_rows, hanging_rows, underline_rows, rows_of}
 use Rattle.codespan_reporting.specs.RowStreams.{stream_of_rows}
@@ -104,15 +105,15 @@ hanging_sum k line (x ∷ xs) =
       sum-reverse (label_slots k) (x ∷ xs),
     )
 
-no_underline : (k : ℕ) (text : List ℕ) (part : Part) → has_underline text part ≡ false → part_slots k part ≡ 0
-no_underline k text (Top start) h = refl
-no_underline k text Left h = refl
-no_underline k text (Bottom end message) h = cc
+no_underline : (k : ℕ) (leading : ℕ) (part : Part) → has_underline leading part ≡ false → part_slots k part ≡ 0
+no_underline k leading (Top start) h = refl
+no_underline k leading Left h = refl
+no_underline k leading (Bottom end message) h = cc
 
 underline_sum : (k : ℕ) (line : Line) → sum_by (row_slots k) (underline_rows line) ≡ sum_by (mark_slots k) line.lanes.marks
 underline_sum k line =
-    sum-map (row_slots k) (UnderlineRow line) (filter (λ (m : LaneMark). has_underline line.text m.part) line.lanes.marks)
-    ∙ sum-filter_free (mark_slots k) (λ (m : LaneMark). has_underline line.text m.part) (λ m. no_underline k line.text m.part) line.lanes.marks
+    sum-map (row_slots k) (UnderlineRow line) (filter (λ (m : LaneMark). has_underline (leading_whitespace line.text) m.part) line.lanes.marks)
+    ∙ sum-filter_free (mark_slots k) (λ (m : LaneMark). has_underline (leading_whitespace line.text) m.part) (λ m. no_underline k (leading_whitespace line.text) m.part) line.lanes.marks
 
 line_sum : (k : ℕ) (line : Line) → sum_by (row_slots k) (rows_of line) ≡ sum_by (label_slots k) line.labels + sum_by (mark_slots k) line.lanes.marks
 line_sum k line =

@@ -18,7 +18,6 @@ use Rattle.codespan_base.proofs.Loops.{StillToCome}
 use Rattle.codespan_reporting.specs.declared.term.renderer.cells.Cell.{Cell}
 use Rattle.codespan_reporting.specs.declared.term.renderer.MultiLabel.{MultiLabel}
 use Rattle.codespan_reporting.specs.declared.term.renderer.lanes.LaneRow.TheVariants.{Underline}
-use Rattle.codespan_reporting.specs.declared.term.renderer.MultiLabel.TheVariants as given
 use Rattle.codespan_reporting.specs.Cells.{width_of, leading_whitespace}
 use Rattle.codespan_reporting.specs.Given.{GivenMark, mark_of_given, part_of}
 use Rattle.codespan_reporting.specs.GivenLine.{row_lanes}
@@ -26,7 +25,6 @@ use Rattle.codespan_reporting.specs.Lanes.{underline_shape, mark_in}
 use Rattle.codespan_reporting.specs.Rows.{Look, Lanes, Line, UnderlineRow, has_underline}
 use Rattle.codespan_reporting.specs.RowParts.{lane_of, underline_lanes, underline_message, cells_before, cells_up_to}
 use Rattle.codespan_reporting.specs.RowStreams.{underline_row, stream_of_rows, later_notes}
-use Rattle.codespan_reporting.specs.Runs.{underline_in}
 
 -- ---- the lanes of an underline row
 
@@ -96,28 +94,22 @@ pub ruleset widths_before = (width-before-first, width-before-next)
 
 -- the rows of the marks that are left
 abbrev pub underlines_of : Look → Line → List GivenMark → Stream
-underlines_of look line marks = stream_of_rows look (map (UnderlineRow line) (filter (λ (m : LaneMark). has_underline line.text m.part) (map mark_of_given marks)))
-
--- the test by the measured white space is that of the row
-has-is : (text : List ℕ) (leading : ℕ) (part : MultiLabel) → leading ≡ leading_whitespace text → has_underline text (part_of part) ≡ underline_in leading (part_of part)
-has-is text leading (given.Top start) e = rw e refl
-has-is text leading given.Left e = refl
-has-is text leading (given.Bottom end message) e = refl
+underlines_of look line marks = stream_of_rows look (map (UnderlineRow line) (filter (λ (m : LaneMark). has_underline (leading_whitespace line.text) m.part) (map mark_of_given marks)))
 
 -- the mark at a place has a row
 pub underlines-in : (look : Look) (line : Line) (leading : ℕ) (marks : List GivenMark) (i : ℕ) (d : GivenMark) → i < length marks
-    → leading ≡ leading_whitespace line.text → underline_in leading (part_of (get_or marks i d).2) ≡ true
+    → leading ≡ leading_whitespace line.text → has_underline leading (part_of (get_or marks i d).2) ≡ true
     → underlines_of look line (drop i marks) ≡ underline_row look line (mark_of_given (get_or marks i d)) ++ newline ++ underlines_of look line (drop (i + 1) marks)
 underlines-in look line leading marks i d h e t =
-    let k : has_underline line.text (part_of (get_or marks i d).2) ≡ true = has-is line.text leading (get_or marks i d).2 e ∙ t in
+    let k : has_underline (leading_whitespace line.text) (part_of (get_or marks i d).2) ≡ true = rw e at t in
     rw (drop-cons marks i d h, k, add-one) refl
 
 -- it has none
 pub underlines-out : (look : Look) (line : Line) (leading : ℕ) (marks : List GivenMark) (i : ℕ) (d : GivenMark) → i < length marks
-    → leading ≡ leading_whitespace line.text → underline_in leading (part_of (get_or marks i d).2) ≡ false
+    → leading ≡ leading_whitespace line.text → has_underline leading (part_of (get_or marks i d).2) ≡ false
     → underlines_of look line (drop i marks) ≡ underlines_of look line (drop (i + 1) marks)
 underlines-out look line leading marks i d h e t =
-    let k : has_underline line.text (part_of (get_or marks i d).2) ≡ false = has-is line.text leading (get_or marks i d).2 e ∙ t in
+    let k : has_underline (leading_whitespace line.text) (part_of (get_or marks i d).2) ≡ false = rw e at t in
     rw (drop-cons marks i d h, k, add-one) refl
 
 -- ---- the rows of a note

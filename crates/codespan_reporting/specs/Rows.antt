@@ -79,11 +79,13 @@ last_with_end end (x ∷ xs) =
     behind x (last_with_end end xs)
     (if x.end == end then Some (record { before = []; here = x; after = xs }) else None)
 
+-- one of the others overlaps the label
+abbrev pub is_overlapped : Labelled → List Labelled → Bool
+is_overlapped x others = list_any (λ (y : Labelled). do_overlap x.start x.end y.start y.end) others
+
 -- its message trails where it has one and no other label of the line overlaps it
 abbrev pub does_trail : Around → Bool
-does_trail a =
-    has_message a.here
-    && not (list_any (λ (x : Labelled). do_overlap a.here.start a.here.end x.start x.end) (others a))
+does_trail a = has_message a.here && not (is_overlapped a.here (others a))
 
 -- the last label with the greatest end
 abbrev pub rightmost : List Labelled → Option Around
@@ -109,11 +111,11 @@ hanging labels = hanging_of labels (rightmost labels)
 
 -- ---- underlines
 
--- a top corner that the source row draws has no row of its own
-abbrev pub has_underline : List ℕ → Part → Bool
-has_underline text (Top start) = not (turns_early (leading_whitespace text) start)
-has_underline text Left = false
-has_underline text (Bottom end message) = true
+-- a mark has a row of its own, on a line whose text begins with so many bytes of white space; a top corner that the source row draws has none
+abbrev pub has_underline : ℕ → Part → Bool
+has_underline leading (Top start) = not (turns_early leading start)
+has_underline leading Left = false
+has_underline leading (Bottom end message) = true
 
 -- ---- the rows of a line
 
@@ -129,7 +131,7 @@ hanging_rows line (x ∷ xs) = PointerRow line ∷ map (HangingRow line) (revers
 
 -- the underlines, in the order of the lanes
 abbrev pub underline_rows : Line → List Row
-underline_rows line = map (UnderlineRow line) (filter (λ (m : LaneMark). has_underline line.text m.part) line.lanes.marks)
+underline_rows line = map (UnderlineRow line) (filter (λ (m : LaneMark). has_underline (leading_whitespace line.text) m.part) line.lanes.marks)
 
 -- all rows of a line
 abbrev pub rows_of : Line → List Row

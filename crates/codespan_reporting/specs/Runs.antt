@@ -1,17 +1,16 @@
 -- Words of the loops that send rows: runs of one character, and the best style found so far.
-use Rattle.std.specs.Prelude.{◌≡◌, ℕ, ◌+◌, Bool, true, false, not, nat_lt, List, [], ◌∷◌, ◌++◌, map, filter, reverse, take, drop, slice_get, Option, Some, None, if◌then◌else◌}
+use Rattle.std.specs.Prelude.{◌≡◌, ℕ, ◌+◌, Bool, nat_lt, List, ◌++◌, map, filter, fold, reverse, take, drop, slice_get, Option, Some, None, if◌then◌else◌}
 use Rattle.std.specs.List.{list_any}
 use Rattle.std.specs.Option.{option_map}
 use Rattle.std.specs.Borrow.{Bor}
 use Rattle.codespan_base.specs.declared.diagnostic.LabelStyle.{LabelStyle}
 use Rattle.codespan_base.specs.declared.diagnostic.LabelStyle.TheVariants.{Primary}
 use Rattle.codespan_base.specs.declared.term.config.chars.Chars.{Chars}
-use Rattle.codespan_base.specs.Labels.{Labelled, has_message, Part, Top, Left, Bottom}
+use Rattle.codespan_base.specs.Labels.{Labelled, has_message}
 use Rattle.codespan_base.specs.Streams.{Stream, blanks, repeated}
 use Rattle.codespan_reporting.specs.declared.term.renderer.cells.Cell.{Cell}
-use Rattle.codespan_reporting.specs.Carets.{caret_for, do_overlap}
+use Rattle.codespan_reporting.specs.Carets.{caret_for}
 use Rattle.codespan_reporting.specs.Given.{GivenLabel, labelled, all_labelled}
-use Rattle.codespan_reporting.specs.Lanes.{turns_early}
 use Rattle.codespan_reporting.specs.Rows.{Look, Line, Around, HangingRow, hanging}
 use Rattle.codespan_reporting.specs.RowParts.{starts_in, pointer_style}
 use Rattle.codespan_reporting.specs.RowStreams.{stream_of_rows}
@@ -33,8 +32,7 @@ better _ style = Some style
 
 -- the best style among what was found and the labels that pass
 abbrev pub best_from : (Labelled → Bool) → Option LabelStyle → List Labelled → Option LabelStyle
-best_from passes found [] = found
-best_from passes found (x ∷ xs) = best_from passes (if passes x then better found x.style else found) xs
+best_from passes found xs = fold (λ best (x : Labelled). better best x.style) found (filter passes xs)
 
 -- the style of the pointer under a character, where a label hangs from it
 abbrev pub pointer_found : List Labelled → Cell → Option LabelStyle
@@ -52,10 +50,6 @@ around_given xs None = None
 around_given xs (Some place) =
     option_map (λ x. record { before = all_labelled (take place xs); here = labelled x; after = all_labelled (drop (place + 1) xs) }) (slice_get xs place)
 
--- one of the others overlaps the label
-abbrev pub is_overlapped : Labelled → List Labelled → Bool
-is_overlapped x others = list_any (λ (y : Labelled). do_overlap x.start x.end y.start y.end) others
-
 -- the labels that hang are those of the two lists that have a message
 pub record AreHanging (labels before after : List GivenLabel) : Type 0 where
   pub are : filter has_message (all_labelled (before ++ after)) ≡ hanging (all_labelled labels)
@@ -63,9 +57,3 @@ pub record AreHanging (labels before after : List GivenLabel) : Type 0 where
 -- the rows of messages that hang, the last one first
 abbrev pub hanging_stream : Look → Line → List Labelled → Stream
 hanging_stream look line xs = stream_of_rows look (map (HangingRow line) (reverse xs))
-
--- a mark has a row of its own, on a line whose text begins with so many bytes of white space
-abbrev pub underline_in : ℕ → Part → Bool
-underline_in leading (Top start) = not (turns_early leading start)
-underline_in leading Left = false
-underline_in leading (Bottom end message) = true

@@ -3,8 +3,8 @@
 ghost use Rattle.std.specs.Prelude.{◌≡◌, ◌<◌, length, false, IfSome};
 ghost use Rattle.std.specs.Option.{option_map_or};
 ghost use Rattle.codespan_reporting.specs.Given.{labelled, all_labelled};
-ghost use Rattle.codespan_reporting.specs.Runs.{given_label, around_given, is_overlapped, AreHanging};
-ghost use Rattle.codespan_reporting.specs.Rows.{trailing, last_with_end, does_trail};
+ghost use Rattle.codespan_reporting.specs.Runs.{given_label, around_given, AreHanging};
+ghost use Rattle.codespan_reporting.specs.Rows.{trailing, last_with_end, is_overlapped, does_trail};
 
 use crate::term::renderer::SingleLabel;
 use crate::term::renderer::carets::{covers_part, greatest_end};

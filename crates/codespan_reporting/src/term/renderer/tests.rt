@@ -1,5 +1,6 @@
 //! Worked rows by direct calls.
 
+mod flushing;
 mod stopping;
 
 use crate::term::renderer::{Locus, MultiLabel, Renderer, SingleLabel, lanes_in_order};

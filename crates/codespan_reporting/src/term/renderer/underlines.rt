@@ -5,9 +5,8 @@ ghost use Rattle.codespan_base.specs.Streams.{newline, bytes};
 ghost use Rattle.codespan_base.specs.WriterLaw.{Sends};
 ghost use Rattle.codespan_reporting.specs.Cells.{cells, width_of};
 ghost use Rattle.codespan_reporting.specs.Given.{mark_of_given, part_of};
-ghost use Rattle.codespan_reporting.specs.Runs.{underline_in};
 ghost use Rattle.codespan_reporting.specs.GivenLine.{look_of_given, line_of_given, lanes_of_given};
-ghost use Rattle.codespan_reporting.specs.Rows.{underline_rows};
+ghost use Rattle.codespan_reporting.specs.Rows.{has_underline, underline_rows};
 ghost use Rattle.codespan_reporting.specs.RowParts.{border, gutter, leading_of, underline, underline_lanes, underline_message, start_caret, end_caret, cells_before, cells_up_to};
 ghost use Rattle.codespan_reporting.specs.RowStreams.{underline_row, stream_of_rows};
 
@@ -153,7 +152,7 @@ fn send_underline_row<W: WriteStyle>(
 
 /// Whether a mark has an underline row: a top corner that the source row draws has none.
 fn has_underline(leading: usize, part: MultiLabel<'_>) -> bool
-    ensures { result ≡ underline_in leading (part_of part.entry) }
+    ensures { result ≡ has_underline leading (part_of part.entry) }
 {
     match part {
         MultiLabel::Top(start) => start > leading,

@@ -1,6 +1,6 @@
 use Rattle.std.proofs.Common.{◌≡◌, drop}
 use Rattle.codespan_reporting.specs.Given.{labelled, all_labelled}
-use Rattle.codespan_reporting.specs.Runs.{is_overlapped}
+use Rattle.codespan_reporting.specs.Rows.{is_overlapped}
 use Rattle.codespan_reporting.proofs.term.renderer.messages.is_overlapped.Given as goal
 
 -- the others that are left decide
