@@ -31,3 +31,6 @@ pub mod TextRuns
 pub mod Texts
 pub mod Underlines
 pub mod MeaningLemmas
+pub mod OrderMembers
+pub mod OrderPictures
+pub mod OrderSorts

@@ -29,7 +29,8 @@ use Rattle.codespan_reporting.proofs.MessageLemmas.{around_is}
 
 -- ---- hanging labels are labels of the line
 
-any-filter : (p q : Labelled → Bool) (xs : List Labelled) → list_any p (filter q xs) ≡ true → list_any p xs ≡ true
+-- what passes among the labels that a filter keeps passes among all
+pub any-filter : (p q : Labelled → Bool) (xs : List Labelled) → list_any p (filter q xs) ≡ true → list_any p xs ≡ true
 any-filter p q [] h = cc
 any-filter p q (x ∷ xs) h = by_test (any-filter p q xs) (q x) h
   where

@@ -14,6 +14,7 @@ ghost use Rattle.codespan_reporting.specs.Headline.{MeansLabels, StartsBeforeEnd
 ghost use Rattle.codespan_reporting.specs.LaneLaws.{BarsAreLabels, LanesAreLines};
 ghost use Rattle.codespan_reporting.specs.LineLaws.{BreaksAreCovered, BreaksAreGaps, DrawingOfShown, SourceRowsAreFew};
 ghost use Rattle.codespan_reporting.specs.MessageLaws.{EachTrailsOrHangs, IsEquivalence, MessagesStandOnceWhereLawful};
+ghost use Rattle.codespan_reporting.specs.OrderLaws.{OrderIsFree};
 ghost use Rattle.codespan_reporting.specs.PaddingLaws.{PaddingHasRoom};
 ghost use Rattle.codespan_reporting.specs.RowLaws.{CharactersAreFree, RowsEndReset};
 ghost use Rattle.codespan_reporting.specs.RowParts.{plain_lanes, source_lanes, below_lanes, underline_lanes, line_cells};
@@ -90,6 +91,14 @@ pub fn messages_stand_once<Id>()
 /// Of a line's labels with a message one trails at most, and each other one hangs.
 pub fn each_message_trails_or_hangs()
     ensures { EachTrailsOrHangs }
+{}
+
+// ---- the order of labels
+
+/// A reordering of the labels that keeps the orders that a rich picture shows changes nothing in it: that of the files by their
+/// first labels, of each file's labels over several lines, and of the labels of one line and one drawn range.
+pub fn order_is_free<Id>()
+    ensures { (same : Id → Id → Bool) (file : Id → FileModel) → OrderIsFree same file }
 {}
 
 // ---- every row
