@@ -12,7 +12,7 @@ ghost use Rattle.std.specs.Iterator.Runs.{WholeRun};
 mod clones;
 #[cfg(test)]
 mod tests;
-mod text;
+pub mod text;
 
 use crate::diagnostic::clones::{clone_labels, clone_notes};
 use crate::diagnostic::text::display_text;

@@ -31,6 +31,14 @@ pub mod TextRuns
 pub mod Texts
 pub mod Underlines
 pub mod MeaningLemmas
+-- refusals, and ways to end a drawing
+pub mod Chains
+pub mod Refusals
+pub mod Drawing
+pub mod OneLine
+pub mod OneLabel
+pub mod NoLabel
+pub mod Emitting
 pub mod OrderMembers
 pub mod OrderPictures
 pub mod OrderSorts

@@ -1,5 +1,6 @@
 -- A rich picture means its labels: the laws of its parts, together.
 use Rattle.std.proofs.Common.{◌<◌, Bool}
+use Rattle.std.specs.Cmp.{IsEquivalence}
 use Rattle.codespan_base.specs.declared.term.config.Config.{Config}
 use Rattle.codespan_base.specs.declared.diagnostic.Diagnostic.{Diagnostic}
 use Rattle.codespan_base.specs.FileModel.{FileModel, line_count}
@@ -8,7 +9,6 @@ use Rattle.codespan_reporting.specs.Snippets.{LabelledFile, line_at}
 use Rattle.codespan_reporting.specs.RowStreams.{caret_row}
 use Rattle.codespan_reporting.specs.Picture.{files_of}
 use Rattle.codespan_reporting.specs.CaretLaws.{CaretsAreCells}
-use Rattle.codespan_reporting.specs.MessageLaws.{IsEquivalence}
 use Rattle.codespan_reporting.specs.Headline.{SnippetMeansLabels, MeansLabels}
 use Rattle.codespan_reporting.proofs.Texts.{text_of-append}
 use Rattle.codespan_reporting.proofs.CaretLemmas.{text_of-line_carets}

@@ -6,6 +6,7 @@ use Rattle.std.specs.Str.Lines.{lines}
 use Rattle.std.proofs.lemmas.Bool.Decides.{nat_tests}
 use Rattle.std.proofs.lemmas.List.Sums.{sum_by-cons, sum_by-append, count_by-le-length}
 use Rattle.std.proofs.lemmas.List.Sorted.{sum_by-IsPermutation, IsPermutation-reverse}
+use Rattle.std.specs.Cmp.{IsEquivalence}
 use Rattle.codespan_base.specs.declared.term.config.Config.{Config}
 use Rattle.codespan_base.specs.FileModel.{FileModel, line_count, line_of, line_start}
 use Rattle.codespan_base.specs.Streams.{Stream, Slot}
@@ -15,7 +16,7 @@ use Rattle.codespan_reporting.specs.Lines.{shows, is_drawn, drawn_lines, is_brok
 use Rattle.codespan_reporting.specs.Rows.{Heading, Look, Line, HeaderRow, StartRow, EmptyRow, BreakRow, SourceRow, CaretRow, PointerRow, HangingRow, UnderlineRow, FirstNoteRow, LaterNoteRow, BlankRow, trailing, hanging, has_underline, caret_rows, hanging_rows, underline_rows, rows_of}
 use Rattle.codespan_reporting.specs.RowStreams.{stream_of_rows}
 use Rattle.codespan_reporting.specs.Snippets.{LabelledFile, InFile, labelled_file, labelled_files, bare_lanes, line_at, break_rows, rows_after, place_of, snippet, snippets, piece_rows, note_rows, rich_rows}
-use Rattle.codespan_reporting.specs.MessageLaws.{weight_of, slot_count, slotted, all_slotted, IsEquivalence}
+use Rattle.codespan_reporting.specs.MessageLaws.{weight_of, slot_count, slotted, all_slotted}
 use Rattle.codespan_reporting.proofs.MessageLemmas.{trailing_and_hanging}
 use Rattle.codespan_reporting.proofs.SlotLemmas.{slots, slots-is, slots-nil, part_slots, row_slots, slots-rows}
 
@@ -374,14 +375,14 @@ module _ {Id : Type 0} (same : Id → Id → Bool) (law : IsEquivalence same) wh
       clash : same i z ≡ true → (o : Id) (b c : Bool) → same i o ≡ b → same o z ≡ c → cond (not b) (cond c v 0) 0 ≡ 0
       clash is o true c here there = refl
       clash is o false false here there = refl
-      clash is o false true here there = let e = law.through i z o is (law.back o z there) in cc
+      clash is o false true here there = let e = law.congr i z o is ∙ (law.symm z o ∙ there) in cc
 
       apart : same i z ≡ false → (o : Id) → not (same i o) ≡ false → (c : Bool) → same o z ≡ c → cond c v 0 ≡ 0
       apart is o here false there = refl
       apart is o here true there = by_same (same i o) refl here
         where
           by_same : (b : Bool) → same i o ≡ b → not b ≡ false → cond true v 0 ≡ 0
-          by_same true two h = let e = law.through i o z two there in cc
+          by_same true two h = let e = law.congr i o z two ∙ there in cc
           by_same false two h = cc
 
       by_test : sum_by (λ id. cond (same id z) v 0) (first_seen same ids) ≡ cond (list_any (λ id. same id z) ids) v 0 → (b : Bool) → same i z ≡ b
@@ -411,7 +412,7 @@ module _ {Id : Type 0} (same : Id → Id → Bool) (law : IsEquivalence same) wh
       → sum_by (λ (x : InFile Id). sum_by (λ id. cond (same id x.id) (w x) 0) (first_seen same ids)) xs ≡ sum_by w xs
   all_seen w ids [] h = refl
   all_seen w ids (x ∷ xs) h =
-      let here = h x.id (or_left (same x.id x.id) (list_any (λ id. same id x.id) (map (λ (y : InFile Id). y.id) xs)) (law.self x.id)) in
+      let here = h x.id (or_left (same x.id x.id) (list_any (λ id. same id x.id) (map (λ (y : InFile Id). y.id) xs)) (law.refl x.id)) in
       let e = ap {B = ℕ} (λ b. cond b (w x) 0) here in
       omega (
         arith,

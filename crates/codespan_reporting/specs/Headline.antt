@@ -1,5 +1,5 @@
 -- The contracts of the calls that draw a diagnostic: what is drawn, what it means, and what a refusal tells.
-use Rattle.std.specs.Prelude.{◌≡◌, ◌≢◌, ℕ, ◌<◌, ◌≤◌, ◌⊎◌, Bool, true, List, length, Contains, IsSome, MatchResult, Result}
+use Rattle.std.specs.Prelude.{◌≡◌, ◌≢◌, ℕ, ◌<◌, ◌≤◌, ◌⊎◌, Bool, true, List, length, Contains, IsSome, Some, MatchResult, Result}
 use Rattle.codespan_base.specs.declared.term.config.Config.{Config}
 use Rattle.codespan_base.specs.declared.term.config.DisplayStyle.TheVariants.{Rich}
 use Rattle.codespan_base.specs.declared.diagnostic.Diagnostic.{Diagnostic}
@@ -7,14 +7,14 @@ use Rattle.codespan_base.specs.declared.files.error.Error.{Error}
 use Rattle.codespan_base.specs.declared.files.error.Error.TheVariants.{FormatError, OutOfMemory, Io}
 use Rattle.codespan_base.specs.FileModel.{FileModel, Lookup}
 use Rattle.codespan_base.specs.Labels.{Labelled}
-use Rattle.codespan_base.specs.Streams.{text_of}
+use Rattle.codespan_base.specs.Streams.{Stream, text_of}
 use Rattle.codespan_base.specs.WriterLaw.{Frame, Sink, refusing, sent, is_told, Began}
 use Rattle.codespan_reporting.specs.Rows.{Look}
 use Rattle.codespan_reporting.specs.RowParts.{line_cells}
 use Rattle.codespan_reporting.specs.Snippets.{LabelledFile, InFile, line_at}
 use Rattle.codespan_reporting.specs.Padding.{padding_of}
-use Rattle.codespan_reporting.specs.Picture.{look_of, labels_of, files_of, picture}
-use Rattle.codespan_reporting.specs.Lookups.{Refusals, lookups_in, early_lookups, IsRefusedBy, IsSomeRefused, AllAnswered, headers_before_refusal}
+use Rattle.codespan_reporting.specs.Picture.{look_of, labels_of, files_of, heading_of, notes_of, picture, rich_stream}
+use Rattle.codespan_reporting.specs.Lookups.{Refusals, lookups_in, early_lookups, first_refusal, IsSomeRefused, AllAnswered, headers_before_refusal}
 use Rattle.codespan_reporting.specs.CaretLaws.{CaretsAreCells, StartsInWide, PointersAreCells}
 use Rattle.codespan_reporting.specs.LaneLaws.{BarsAreLabels, LanesAreLines}
 use Rattle.codespan_reporting.specs.LineLaws.{BreaksAreGaps, BreaksAreCovered, DrawingOfShown, SourceRowsAreFew}
@@ -51,6 +51,47 @@ pub record MeansLabels {Id : Type 0} (config : Config) (same : Id → Id → Boo
 abbrev pub NamesAreStated : {Id : Type 0} → (Id → FileModel) → Diagnostic Id → Type 0
 NamesAreStated {Id} file d = (x : InFile Id) → Contains (labels_of d) x → IsSome (file x.id).name
 
+-- ---- what a refusal tells
+
+module _ {Id : Type 0} (refusal : Refusals Id) (lookups : List (Id × Lookup)) where
+  -- what a string call tells: want of memory, a name whose Display refused, or what the first lookup that refuses is refused with;
+  -- memory alone where there is no lookup
+  abbrev pub IsTextRefusal : Error → Type 0
+  IsTextRefusal OutOfMemory = Unit {0}
+  IsTextRefusal FormatError = 0 < length lookups
+  IsTextRefusal e = first_refusal refusal lookups ≡ Some e
+
+  -- what an error says of a writer: `Io` that it refused, or that a lookup told it; any other that it refused nothing
+  abbrev pub Blames : Frame → Error → Frame → Type 0
+  Blames old (Io e) new = (new ≡ refusing old) ⊎ ((new ≡ old) × (first_refusal refusal lookups ≡ Some (Io e)))
+  Blames old OutOfMemory new = (new ≡ old) × (0 < length lookups)
+  Blames old FormatError new = (new ≡ old) × (0 < length lookups)
+  Blames old e new = (new ≡ old) × (first_refusal refusal lookups ≡ Some e)
+
+-- the error is none that is told for want of memory, of a writer or of a name's Display
+abbrev pub IsOfFile : Error → Type 0
+IsOfFile (Io e) = ⊥
+IsOfFile FormatError = ⊥
+IsOfFile OutOfMemory = ⊥
+IsOfFile e = Unit {0}
+
+-- ---- the views
+
+module _ {Id : Type 0} (view renderer : Config) (same : Id → Id → Bool) (file : Id → FileModel) (refusal : Refusals Id) (d : Diagnostic Id) where
+  -- the rich picture: the view's config chooses lines and padding, the renderer's characters, tabs and lanes
+  abbrev pub viewed_picture : Stream
+  viewed_picture = rich_stream renderer view d.severity (heading_of d) (files_of same file d) (notes_of d)
+
+  -- what the call that draws a rich picture does to the writer
+  pub record DrawsRich (old : Sink) (r : Result (Unit {0}) Error) (new : Sink) : Type 0 where
+    pub frame : MatchResult r (λ _. new.frame ≡ old.frame) (λ e. Blames refusal (lookups_in Rich view same file refusal d) old.frame e new.frame)
+    pub stream : NamesAreStated file d → is_told old ≡ true
+        → MatchResult r (λ _. new ≡ sent old viewed_picture) (λ _. Began old viewed_picture new)
+    pub answered : MatchResult r (λ _. AllAnswered refusal (lookups_in Rich view same file refusal d)) (λ _. Unit {0})
+    pub early : IsSomeRefused refusal (early_lookups view same file refusal (labels_of d)) → new ≡ old
+
+-- ---- the calls that emit
+
 module _ {Id : Type 0} (config : Config) (same : Id → Id → Bool) (file : Id → FileModel) (refusal : Refusals Id) (d : Diagnostic Id) where
   -- the lookups of the picture
   abbrev lookups : List (Id × Lookup)
@@ -62,33 +103,13 @@ module _ {Id : Type 0} (config : Config) (same : Id → Id → Bool) (file : Id 
     pub is : NamesAreStated file d → text ≡ text_of (picture config same file d)
     pub meaning : config.display_style ≡ Rich → MeansLabels config same file d
 
-  -- what a string call tells: want of memory, a name whose Display refused, or what a lookup was refused with; memory alone where there is no lookup
-  abbrev pub IsTextRefusal : Error → Type 0
-  IsTextRefusal OutOfMemory = Unit {0}
-  IsTextRefusal FormatError = 0 < length lookups
-  IsTextRefusal e = IsRefusedBy refusal lookups e
-
   -- what the calls that answer a string do
   abbrev pub DrawsText : {T : Type 0} → (T → List ℕ) → Result T Error → Type 0
-  DrawsText text r = MatchResult r (λ t. IsDrawn (text t)) IsTextRefusal
-
-  -- what an error says of a writer: `Io` that it refused, or that a lookup told it; any other that it refused nothing
-  abbrev pub Blames : Frame → Error → Frame → Type 0
-  Blames old (Io e) new = (new ≡ refusing old) ⊎ ((new ≡ old) × IsRefusedBy refusal lookups (Io e))
-  Blames old OutOfMemory new = (new ≡ old) × (0 < length lookups)
-  Blames old FormatError new = (new ≡ old) × (0 < length lookups)
-  Blames old e new = (new ≡ old) × IsRefusedBy refusal lookups e
-
-  -- the error is none that is told for want of memory, of a writer or of a name's Display
-  abbrev pub IsOfFile : Error → Type 0
-  IsOfFile (Io e) = ⊥
-  IsOfFile FormatError = ⊥
-  IsOfFile OutOfMemory = ⊥
-  IsOfFile e = Unit {0}
+  DrawsText text r = MatchResult r (λ t. IsDrawn (text t)) (IsTextRefusal refusal lookups)
 
   -- what the calls that draw to a writer do to it; in short and medium style a file's refusal leaves the headers before it
   pub record DrawsTo (old : Sink) (r : Result (Unit {0}) Error) (new : Sink) : Type 0 where
-    pub frame : MatchResult r (λ _. new.frame ≡ old.frame) (λ e. Blames old.frame e new.frame)
+    pub frame : MatchResult r (λ _. new.frame ≡ old.frame) (λ e. Blames refusal lookups old.frame e new.frame)
     pub stream : NamesAreStated file d → is_told old ≡ true
         → MatchResult r (λ _. new ≡ sent old (picture config same file d)) (λ _. Began old (picture config same file d) new)
     pub answered : MatchResult r (λ _. AllAnswered refusal lookups) (λ _. Unit {0})

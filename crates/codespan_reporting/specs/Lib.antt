@@ -29,6 +29,8 @@ pub mod Snippets
 pub mod Padding
 pub mod Picture
 pub mod Lookups
+pub mod Scope
+pub mod Views
 -- what a picture means
 pub mod CaretLaws
 pub mod LaneLaws

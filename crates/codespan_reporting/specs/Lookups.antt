@@ -1,5 +1,5 @@
 -- The lookups that a picture rests on, in their order, and what refuses it.
-use Rattle.std.specs.Prelude.{◌≡◌, ℕ, ◌+◌, Bool, not, ◌&&◌, ◌||◌, nat_lt, nat_le, List, [], ◌∷◌, ◌++◌, map, filter, flat_map, Option, Some, None, Contains, if◌then◌else◌, true, false, is_none, take_while}
+use Rattle.std.specs.Prelude.{◌≡◌, ◌≢◌, ℕ, ◌+◌, Bool, not, ◌&&◌, ◌||◌, nat_lt, nat_le, List, [], ◌∷◌, ◌++◌, map, filter, flat_map, Option, Some, None, Contains, if◌then◌else◌, true, false, is_none, take_while, Result, MatchResult}
 use Rattle.std.specs.List.{range_with_len}
 use Rattle.codespan_base.specs.declared.term.config.Config.{Config}
 use Rattle.codespan_base.specs.declared.term.config.DisplayStyle.{DisplayStyle}
@@ -8,7 +8,7 @@ use Rattle.codespan_base.specs.declared.term.config.Layout.{Layout}
 use Rattle.codespan_base.specs.declared.term.config.Layout.TheVariants.{Classic, Unbroken}
 use Rattle.codespan_base.specs.declared.diagnostic.Diagnostic.{Diagnostic}
 use Rattle.codespan_base.specs.declared.files.error.Error.{Error}
-use Rattle.codespan_base.specs.declared.files.error.Error.TheVariants.{LineTooLarge}
+use Rattle.codespan_base.specs.declared.files.error.Error.TheVariants.{LineTooLarge, FormatError, OutOfMemory}
 use Rattle.codespan_base.specs.FileModel.{FileModel, Lookup, line_count, or_refusal}
 use Rattle.codespan_base.specs.FileModel.Lookup.{Name, Source, LineIndex, LineNumber, LocationAt, LineRange}
 use Rattle.codespan_base.specs.Labels.{Labelled, is_primary, first_line, last_line, first_seen}
@@ -61,11 +61,11 @@ asked_of {Id} id ls = map (λ l. (id, l)) ls
 
 module _ {Id : Type 0} (config : Config) (same : Id → Id → Bool) (file : Id → FileModel) (refusal : Refusals Id) (xs : List (InFile Id)) where
   -- the ids of the files
-  abbrev ids : List Id
+  abbrev pub ids : List Id
   ids = first_seen same (map (λ (x : InFile Id). x.id) xs)
 
   -- the numbers of filled lines that the padding needs
-  abbrev numbers_for_padding : Layout → Id → List Lookup
+  abbrev pub numbers_for_padding : Layout → Id → List Lookup
   numbers_for_padding Classic id = []
   numbers_for_padding Unbroken id = map LineNumber (filled_lines config (labelled_file same file xs id))
 
@@ -96,6 +96,10 @@ lookups_in Short config same file refusal d = header_lookups (labels_of d)
 abbrev pub first_refusal : {Id : Type 0} → Refusals Id → List (Id × Lookup) → Option Error
 first_refusal refusal [] = None
 first_refusal refusal (l ∷ ls) = or_refusal (refusal l.0 l.1) (first_refusal refusal ls)
+
+-- lookups that tell their first refusal, or that memory ran out, or that the Display of a name refused
+abbrev pub TellsNaming : {T : Type 0} → Option Error → Result T Error → Type 0
+TellsNaming o r = MatchResult r (λ _. o ≡ None) (λ e. e ≢ OutOfMemory → e ≢ FormatError → o ≡ Some e)
 
 -- what a picture is refused with
 abbrev pub picture_refusal : {Id : Type 0} → Config → (Id → Id → Bool) → (Id → FileModel) → Refusals Id → Diagnostic Id → Option Error

@@ -1,6 +1,7 @@
 -- The law of messages: each stands in exactly one place of a rich picture.
-use Rattle.std.specs.Prelude.{◌≡◌, ℕ, ◌+◌, ◌<◌, Bool, true, false, ◌==◌, List, ◌∷◌, map, sum_by, count_by, slice_get, Option, Some, None, if◌then◌else◌, []}
+use Rattle.std.specs.Prelude.{◌≡◌, ℕ, ◌+◌, ◌<◌, Bool, false, ◌==◌, List, ◌∷◌, map, sum_by, count_by, slice_get, Option, Some, None, if◌then◌else◌, []}
 use Rattle.std.specs.List.{enumerate_from}
+use Rattle.std.specs.Cmp.{IsEquivalence}
 use Rattle.codespan_base.specs.declared.term.config.Config.{Config}
 use Rattle.codespan_base.specs.declared.diagnostic.Diagnostic.{Diagnostic}
 use Rattle.codespan_base.specs.FileModel.{FileModel, line_count}
@@ -40,12 +41,6 @@ message_text xs k = message_of (slice_get xs k)
 abbrev pub slotted_picture : {Id : Type 0} → Config → (Id → Id → Bool) → (Id → FileModel) → Diagnostic Id → Stream
 slotted_picture config same file d =
     rich_picture config d.severity (heading_of d) (labelled_files same file (all_slotted (labels_of d))) (notes_of d)
-
--- ids are equal as the law of `Eq` says
-pub record IsEquivalence {Id : Type 0} (same : Id → Id → Bool) : Type 0 where
-  pub self : (a : Id) → same a a ≡ true
-  pub back : (a b : Id) → same a b ≡ true → same b a ≡ true
-  pub through : (a b c : Id) → same a b ≡ true → same b c ≡ true → same a c ≡ true
 
 -- in rich style each message stands in exactly one slot, and the slots filled give the picture
 pub record MessagesStandOnce {Id : Type 0} (config : Config) (same : Id → Id → Bool) (file : Id → FileModel) (d : Diagnostic Id) : Type 0 where

@@ -3,6 +3,7 @@
 //! The calls of [`crate::term`] promise the pictures that these laws speak of.
 
 ghost use Rattle.std.specs.Prelude.{◌≡◌, ◌*◌, ◌<◌, ℕ, Bool, List};
+ghost use Rattle.std.specs.Cmp.{IsEquivalence};
 ghost use Rattle.codespan_base.specs.declared.term.config.Config.{Config};
 ghost use Rattle.codespan_base.specs.declared.term.config.Layout.{Layout};
 ghost use Rattle.codespan_base.specs.declared.diagnostic.Diagnostic.{Diagnostic};
@@ -13,7 +14,7 @@ ghost use Rattle.codespan_reporting.specs.CaretLaws.{CaretsAreCells, PointersAre
 ghost use Rattle.codespan_reporting.specs.Headline.{MeansLabels, StartsBeforeEnds};
 ghost use Rattle.codespan_reporting.specs.LaneLaws.{BarsAreLabels, LanesAreLines};
 ghost use Rattle.codespan_reporting.specs.LineLaws.{BreaksAreCovered, BreaksAreGaps, DrawingOfShown, SourceRowsAreFew};
-ghost use Rattle.codespan_reporting.specs.MessageLaws.{EachTrailsOrHangs, IsEquivalence, MessagesStandOnceWhereLawful};
+ghost use Rattle.codespan_reporting.specs.MessageLaws.{EachTrailsOrHangs, MessagesStandOnceWhereLawful};
 ghost use Rattle.codespan_reporting.specs.OrderLaws.{OrderIsFree};
 ghost use Rattle.codespan_reporting.specs.PaddingLaws.{PaddingHasRoom};
 ghost use Rattle.codespan_reporting.specs.RowLaws.{CharactersAreFree, RowsEndReset};

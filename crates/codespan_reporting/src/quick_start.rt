@@ -1,27 +1,30 @@
 //! The quick start of README.md.
 
-use crate::diagnostic::{Diagnostic, Label, LabelStyle};
-use crate::files::{Error, Files, SimpleFiles};
-use crate::term::{Config, PlainWriter, Renderer};
+use crate::diagnostic::{Diagnostic, Label, LabelStyle, Severity};
+use crate::files::{Error, SimpleFiles};
+use crate::term::{Config, PlainWriter, Renderer, emit_into_string, in_scope};
 use std::alloc::Global;
 use std::test::Fail;
 
-const SOURCE: &str = "fn main() {\n    let mut v = vec![Some(\"foo\"), Some(\"bar\")];\n    \
-                      v.push(v.pop().unwrap());\n}\n";
-
-/// The rows of the source's third line.
-fn draw(alloc: Global, source: &str) -> Result<Vec<u8>, Error> {
+/// The picture of a fault in a file of settings, if it can be drawn yet.
+fn picture(alloc: Global) -> Result<Option<String>, Error> {
     let mut files = SimpleFiles::new(alloc);
-    let id = files.add("one_line.rs", source)?;
-    let label = Label::primary(alloc, id, 71..72).with_message(
-        "second mutable borrow occurs here",
-    )?;
+    let id = files.add("settings.toml", "retries = many\n")?;
+    let label = Label::primary(alloc, id, 10..14).with_message("expected a number")?;
     let diagnostic = Diagnostic::error(alloc)
-        .with_code("E0499")?
-        .with_message("cannot borrow `v` as mutable more than once at a time")?
+        .with_code("E0001")?
+        .with_message("a value of the wrong type")?
         .with_label(label)?;
-    let location = files.location(id, 71)?;
 
+    let config = Config::default();
+    if !in_scope(&config, &files, &diagnostic)? {
+        return Ok(None);
+    }
+    emit_into_string(&config, &files, &diagnostic).map(Some)
+}
+
+/// The rows of a line with three labels.
+fn rows(alloc: Global) -> Result<Vec<u8>, Error> {
     let config = Config::default();
     let mut plain = PlainWriter::new(Vec::new(alloc));
     let mut renderer = Renderer::new(&mut plain, &config);
@@ -43,21 +46,21 @@ fn draw(alloc: Global, source: &str) -> Result<Vec<u8>, Error> {
         ),
     ];
     let line = "    v.push(v.pop().unwrap());";
-    renderer.render_snippet_source(
-        1,
-        location.line_number,
-        line,
-        diagnostic.severity,
-        &labels,
-        0,
-        &[],
-    )?;
+    renderer.render_snippet_source(1, 3, line, Severity::Error, &labels, 0, &[])?;
     Ok(plain.into_inner())
 }
 
 #[test]
 fn quick_start(rt: HostRuntime) -> Result<(), Fail> {
-    let rows = draw(rt.alloc(), SOURCE)?;
+    let picture = picture(rt.alloc())?;
+    let want = "error[E0001]: a value of the wrong type\n  \
+                ┌─ settings.toml:1:11\n  \
+                │\n\
+                1 │ retries = many\n  \
+                │           ^^^^ expected a number\n\n";
+    assert!(rt; matches!(&picture, Some(text) if text.as_str() == want));
+
+    let rows = rows(rt.alloc())?;
     let want = "3 │     v.push(v.pop().unwrap());\n\
                 \x20 │     - ---- ^ second mutable borrow occurs here\n\
                 \x20 │     │ │     \n\

@@ -1,9 +1,15 @@
 //! The calls that draw a diagnostic.
 
+mod emit;
 pub mod renderer;
+#[cfg(test)]
+mod tests;
+pub mod views;
 
 pub use codespan_base::term::{
     Ansi, Chars, Color, ColorSpec, Config, DisplayStyle, GeneralWrite, GeneralWriteResult, Layout,
     NoColor, PlainWriter, SnippetStart, Styles, StylesWriter, WriteColor, WriteStyle, config,
 };
+pub use emit::emit_into_string;
 pub use renderer::{Locus, MultiLabel, Renderer, SingleLabel, lanes_in_order};
+pub use views::{RichDiagnostic, in_scope};

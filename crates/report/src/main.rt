@@ -1,11 +1,40 @@
-//! `report STYLE NAME START END MESSAGE` draws one diagnostic over the source on standard input.
+//! `report STYLE NAME START END MESSAGE` draws an error with one label over the source on standard input.
+//!
+//! `STYLE` is `rich` for now. `START` and `END` are bytes of the source, in decimal digits: what the label covers. `NAME` is the
+//! file's name, and `MESSAGE` what both the error and the label say.
+//!
+//! | status | what was done | one line on standard error |
+//! |---|---|---|
+//! | 0 | the picture was written to standard output | none |
+//! | 1 | the input could not be read, was not UTF-8 or is not drawn yet; the drawing or the output was refused | which of them |
+//! | 2 | nothing: the arguments are wrong | how it is called |
+//!
+//! Nothing is written to standard output unless the whole picture was drawn. Arguments that are not UTF-8 are wrong.
 #![tactic(auto)]
 
+mod arguments;
+mod drawing;
+mod fault;
+mod request;
 mod run;
+mod streams;
+#[cfg(test)]
+mod tests;
 
-use run::run;
+use arguments::arguments;
+use run::{conclude, run};
 use std::process::ExitCode;
 
 fn main(rt: HostRuntime) -> ExitCode {
-    ExitCode::from(run(&mut rt.stderr()))
+    let status = match arguments(&rt) {
+        Ok(args) => run(
+            rt.alloc(),
+            &args,
+            &mut rt.stdin(),
+            &mut rt.stdout(),
+            &mut rt.stderr(),
+        ),
+        Err(fault) => conclude(Err(fault), &mut rt.stderr()),
+    };
+    ExitCode::from(status)
 }

@@ -27,13 +27,13 @@ use chars::Chars;
 
 /// What a picture looks like.
 #[derive(Debug, Drop)]
-pub struct Config {
+pub struct Config<'chars> {
     /// How much of a diagnostic is drawn. By default [`DisplayStyle::Rich`].
     pub display_style: DisplayStyle,
     /// The cells between tab stops; a tab takes none where it is 0. By default 4.
     pub tab_width: usize,
     /// The characters that a picture is drawn with. By default [`Chars::box_drawing`].
-    pub chars: Chars,
+    pub chars: Chars<'chars>,
     /// How many lines are shown after the first line of a label over several lines, where it has so many.
     /// By default 3.
     pub start_context_lines: usize,
@@ -48,9 +48,9 @@ pub struct Config {
     pub layout: Layout,
 }
 
-impl Config {
+impl<'chars> Config<'chars> {
     /// The same configuration. Refuses with `OutOfMemory` alone, and not where the text before a place is `Fixed`.
-    pub fn clone(&self) -> Result<Config, Error>
+    pub fn clone(&self) -> Result<Config<'chars>, Error>
         ensures same { IfOk result (IsConfig self.now) }
         ensures kind { IfOk result (λ c. is_fixed c.chars.snippet_start ≡ is_fixed self.now.chars.snippet_start) }
         ensures fixed { IsTrue (is_fixed self.now.chars.snippet_start) → result ≡ Ok self.now }
@@ -63,10 +63,10 @@ impl Config {
     }
 }
 
-impl Default for Config {
+impl<'chars> Default for Config<'chars> {
     ghost is_default = { IsConfig default_config };
 
-    fn default() -> Config {
+    fn default() -> Config<'chars> {
         Config {
             display_style: DisplayStyle::Rich,
             tab_width: 4,

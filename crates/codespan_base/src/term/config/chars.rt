@@ -9,16 +9,16 @@ use crate::files::Error;
 ///
 /// `Fixed` takes no memory, so that the tables of characters need none.
 #[derive(Debug, Drop)]
-pub enum SnippetStart {
-    /// Takes no memory.
-    Fixed(&'static str),
+pub enum SnippetStart<'chars> {
+    /// Text that is lent. Takes no memory.
+    Fixed(&'chars str),
     /// Text of the user's own.
     Owned(String),
 }
 
-impl SnippetStart {
+impl<'chars> SnippetStart<'chars> {
     /// The same text, of the same kind. Refuses with `OutOfMemory` alone, and not where the text is `Fixed`.
-    pub fn clone(&self) -> Result<SnippetStart, Error>
+    pub fn clone(&self) -> Result<SnippetStart<'chars>, Error>
         ensures same { IfOk result (λ s. start_text s ≡ start_text self.now) }
         ensures kind { IfOk result (λ s. is_fixed s ≡ is_fixed self.now) }
         ensures fixed { IsTrue (is_fixed self.now) → result ≡ Ok self.now }
@@ -35,9 +35,9 @@ impl SnippetStart {
 ///
 /// [`Chars::ascii`] is for terminals that do not show box drawing.
 #[derive(Debug, Drop)]
-pub struct Chars {
+pub struct Chars<'chars> {
     /// Before the place of a snippet: `"┌─"`, in ASCII `"-->"`.
-    pub snippet_start: SnippetStart,
+    pub snippet_start: SnippetStart<'chars>,
     /// Left of the source: `'│'`, in ASCII `'|'`.
     pub source_border_left: char,
     /// The same where lines are left out: `'·'`, in ASCII `'.'`.
@@ -74,23 +74,23 @@ pub struct Chars {
     pub pointer_left: char,
 }
 
-impl Default for Chars {
+impl<'chars> Default for Chars<'chars> {
     ghost use Rattle.codespan_base.specs.Lookalikes.{IsChars};
     ghost use Rattle.codespan_base.specs.Characters.{box_drawing};
 
     ghost is_default = { IsChars box_drawing };
 
-    fn default() -> Chars {
+    fn default() -> Chars<'chars> {
         Chars::box_drawing()
     }
 }
 
-impl Chars {
+impl<'chars> Chars<'chars> {
     ghost use Rattle.codespan_base.specs.Lookalikes.{IsChars};
     ghost use Rattle.codespan_base.specs.Characters.{box_drawing, ascii};
 
     /// The characters of box drawing.
-    pub fn box_drawing() -> Chars
+    pub fn box_drawing() -> Chars<'chars>
         ensures { IsChars box_drawing result }
     {
         Chars {
@@ -114,7 +114,7 @@ impl Chars {
     }
 
     /// Characters of ASCII alone.
-    pub fn ascii() -> Chars
+    pub fn ascii() -> Chars<'chars>
         ensures { IsChars ascii result }
     {
         Chars {
@@ -138,7 +138,7 @@ impl Chars {
     }
 
     /// The same characters. Refuses with `OutOfMemory` alone, and not where the text before a place is `Fixed`.
-    pub fn clone(&self) -> Result<Chars, Error>
+    pub fn clone(&self) -> Result<Chars<'chars>, Error>
         ensures same { IfOk result (IsChars self.now) }
         ensures kind { IfOk result (λ c. is_fixed c.snippet_start ≡ is_fixed self.now.snippet_start) }
         ensures fixed { IsTrue (is_fixed self.now.snippet_start) → result ≡ Ok self.now }

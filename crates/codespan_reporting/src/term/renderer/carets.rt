@@ -75,7 +75,7 @@ fn style_under(labels: &[SingleLabel<'_>], cell: Cell) -> Option<LabelStyle>
 #[tactic(auto, unfolding(crate::specs::Runs::caret_run))]
 fn send_caret_run<W: WriteStyle>(
     w: &mut W,
-    chars: &Chars,
+    chars: &Chars<'_>,
     style: Option<LabelStyle>,
     count: u128,
 ) -> io::Result<()>

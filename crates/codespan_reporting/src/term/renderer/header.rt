@@ -94,7 +94,7 @@ pub fn send_header<W: WriteStyle>(
 }
 
 /// The text before a place.
-fn start_text(chars: &Chars) -> &str
+fn start_text<'a>(chars: &'a Chars<'_>) -> &'a str
     ensures { result.now ≡ start_text chars.now.snippet_start }
 {
     match &chars.snippet_start {
@@ -107,7 +107,7 @@ fn start_text(chars: &Chars) -> &str
 #[tactic(auto, using(codespan_base::proofs::Sends::sendings), unfolding(crate::specs::RowStreams::start_row))]
 pub fn send_start<W: WriteStyle>(
     w: &mut W,
-    chars: &Chars,
+    chars: &Chars<'_>,
     padding: usize,
     locus: &Locus,
 ) -> io::Result<()>

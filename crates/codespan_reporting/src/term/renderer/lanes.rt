@@ -102,7 +102,7 @@ fn crossing<'d>(row: LaneRow<'d>, lane: usize) -> Option<(usize, LabelStyle, Mul
 }
 
 /// The character of the line that runs right from a corner.
-fn corner_line(chars: &Chars, part: MultiLabel<'_>) -> char
+fn corner_line(chars: &Chars<'_>, part: MultiLabel<'_>) -> char
     ensures { result ≡ corner_line chars.now (part_of part.entry) }
 {
     match part {

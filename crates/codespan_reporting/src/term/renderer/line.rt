@@ -11,7 +11,7 @@ use codespan_base::term::{Chars, Layout};
 /// What all rows of a picture share.
 #[derive(Clone, Copy)]
 pub struct Look<'config> {
-    pub chars: &'config Chars,
+    pub chars: &'config Chars<'config>,
     pub tab_width: usize,
     pub layout: Layout,
     pub severity: Severity,

@@ -40,7 +40,7 @@ pub fn send_break<W: WriteStyle>(w: &mut W, look: Look<'_>, lanes: Lanes<'_, '_>
 #[tactic(auto, using(crate::proofs::RowWords::gutter_is), unfolding(crate::specs::RowStreams::first_note_row))]
 fn send_first_piece<W: WriteStyle>(
     w: &mut W,
-    chars: &Chars,
+    chars: &Chars<'_>,
     padding: usize,
     piece: &str,
 ) -> io::Result<()>
@@ -82,7 +82,7 @@ fn send_later_piece<W: WriteStyle>(w: &mut W, padding: usize, piece: &str) -> io
 /// The rows of a note: one for each of its lines.
 pub fn send_note<W: WriteStyle>(
     w: &mut W,
-    chars: &Chars,
+    chars: &Chars<'_>,
     padding: usize,
     message: &str,
 ) -> io::Result<()>

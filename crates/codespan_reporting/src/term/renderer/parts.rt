@@ -72,7 +72,7 @@ pub fn send_numbered_gutter<W: WriteStyle>(
 
 /// The border left of the source.
 #[tactic(auto, using(codespan_base::proofs::Sends::sendings), unfolding(crate::specs::RowParts::border))]
-pub fn send_border<W: WriteStyle>(w: &mut W, chars: &Chars) -> io::Result<()>
+pub fn send_border<W: WriteStyle>(w: &mut W, chars: &Chars<'_>) -> io::Result<()>
     ensures { Sends (W.sink w.old) (border chars.now) result (W.sink w.new) }
 {
     w.set_source_border()?;
@@ -82,7 +82,7 @@ pub fn send_border<W: WriteStyle>(w: &mut W, chars: &Chars) -> io::Result<()>
 
 /// The border where lines are left out.
 #[tactic(auto, using(codespan_base::proofs::Sends::sendings), unfolding(crate::specs::RowParts::break_border))]
-pub fn send_break_border<W: WriteStyle>(w: &mut W, chars: &Chars) -> io::Result<()>
+pub fn send_break_border<W: WriteStyle>(w: &mut W, chars: &Chars<'_>) -> io::Result<()>
     ensures { Sends (W.sink w.old) (break_border chars.now) result (W.sink w.new) }
 {
     w.set_source_border()?;

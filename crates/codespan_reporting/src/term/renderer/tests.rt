@@ -64,7 +64,7 @@ fn draw_on<W: WriteStyle>(rt: &impl Abort, w: &mut W, given: Given<'_>) -> Resul
 fn rows_of(
     rt: &impl Abort,
     alloc: Global,
-    config: &Config,
+    config: &Config<'_>,
     given: Given<'_>,
 ) -> Result<Vec<u8>, Error> {
     let mut plain = PlainWriter::new(Vec::new(alloc));

@@ -46,7 +46,7 @@ fn width_before(text: &str, tab_width: usize, place: usize) -> u128
 }
 
 /// The caret under the start of a label.
-fn start_caret(chars: &Chars, style: LabelStyle) -> char
+fn start_caret(chars: &Chars<'_>, style: LabelStyle) -> char
     ensures { result ≡ start_caret chars.now style }
 {
     match style {
@@ -56,7 +56,7 @@ fn start_caret(chars: &Chars, style: LabelStyle) -> char
 }
 
 /// The caret under the end of a label.
-fn end_caret(chars: &Chars, style: LabelStyle) -> char
+fn end_caret(chars: &Chars<'_>, style: LabelStyle) -> char
     ensures { result ≡ end_caret chars.now style }
 {
     match style {

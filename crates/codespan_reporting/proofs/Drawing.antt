@@ -1,0 +1,92 @@
+-- Drawing a rich picture: what each way to end it comes to.
+use Rattle.std.proofs.Common.{◌≡◌, ◌≢◌, Bool, true, ◌<◌, List, [], ◌++◌, length, None, Some, Ok, Err, Result, refl, sym, subst, ap, ◌∙◌, arith}
+use Rattle.std.proofs.lemmas.List.{length-append}
+use Rattle.std.specs.Prelude.{IfErr}
+use Rattle.codespan_base.specs.declared.term.config.Config.{Config}
+use Rattle.codespan_base.specs.declared.diagnostic.Diagnostic.{Diagnostic}
+use Rattle.codespan_base.specs.declared.files.error.Error.{Error}
+use Rattle.codespan_base.specs.declared.files.error.Error.TheVariants.{FormatError, OutOfMemory}
+use Rattle.codespan_base.specs.FileModel.{FileModel, Lookup}
+use Rattle.codespan_base.specs.Streams.{Stream}
+use Rattle.codespan_base.specs.WriterLaw.{Sink, sent, is_told, Began, Sends, refusing}
+use Rattle.codespan_base.proofs.Sends.{append_known-nil, Began-last}
+use Rattle.codespan_reporting.specs.Picture.{labels_of}
+use Rattle.codespan_reporting.specs.Renderers.{IsIo}
+use Rattle.codespan_reporting.specs.Lookups.{Refusals, early_lookups, late_lookups, first_refusal}
+use Rattle.codespan_reporting.specs.Headline.{DrawsRich, viewed_picture, NamesAreStated}
+use Rattle.codespan_reporting.proofs.Chains.{Came, came_both, came_then_stopped}
+use Rattle.codespan_reporting.proofs.Refusals.{first_refusal-some, first_refusal-none, all_answered, some_refused, Blames-lookup, Blames-writer}
+
+-- nothing came, which is a beginning of everything
+pub Began-none : (s : Sink) (items : Stream) (t : Sink) → t ≡ s → Began s items t
+Began-none s items t same = record { begun = []; rest = _; whole = refl; held = ap (λ (x : Sink). x.held) same ∙ sym (append_known-nil s.held) }
+
+-- what came is a beginning of it and of what comes after
+pub Began-came : (s t : Sink) (a b : Stream) → is_told s ≡ true → Came s a t → Began s (a ++ b) t
+Began-came s t a b told came = Began-last s a b t (Began-none (sent s a) b t (came.1 told))
+
+module _ {Id : Type 0} (view renderer : Config) (same : Id → Id → Bool) (file : Id → FileModel) (refusal : Refusals Id) (d : Diagnostic Id) where
+  -- the lookups before the header
+  abbrev pub before_header : List (Id × Lookup)
+  before_header = early_lookups view same file refusal (labels_of d)
+
+  -- the lookups after it
+  abbrev pub after_header : List (Id × Lookup)
+  after_header = late_lookups view same file refusal (labels_of d)
+
+  -- the whole picture, or a beginning of it
+  abbrev pub Begins : Sink → Sink → Type 0
+  Begins old new = NamesAreStated file d → is_told old ≡ true → Began old (viewed_picture view renderer same file refusal d) new
+
+  -- a lookup before the header refused: nothing is written
+  pub refused_early : (old new : Sink) (e : Error) → new ≡ old → 0 < length before_header
+      → (e ≢ OutOfMemory → e ≢ FormatError → first_refusal refusal before_header ≡ Some e) → DrawsRich view renderer same file refusal d old (Err e) new
+  refused_early old new e unchanged some told = record {
+    frame = Blames-lookup refusal (before_header ++ after_header) old.frame new.frame e (ap (λ (s : Sink). s.frame) unchanged)
+        (omega (arith, length-append before_header after_header)) (λ p q. first_refusal-some refusal before_header after_header e (told p q));
+    stream = λ named tells. Began-none old _ new unchanged;
+    answered = tt;
+    early = λ p. unchanged;
+  }
+
+  -- the writer refused
+  pub refused_by_writer : (old new : Sink) (e : Error) → first_refusal refusal before_header ≡ None → new.frame ≡ refusing old.frame → IsIo e
+      → Begins old new → DrawsRich view renderer same file refusal d old (Err e) new
+  refused_by_writer old new e answered frame io begun = record {
+    frame = Blames-writer refusal (before_header ++ after_header) old.frame new.frame e frame io;
+    stream = begun;
+    answered = tt;
+    early = λ p. absurd (some_refused refusal before_header answered p);
+  }
+
+  -- a lookup after the header refused
+  pub refused_late : (old new : Sink) (e : Error) → first_refusal refusal before_header ≡ None → new.frame ≡ old.frame → 0 < length after_header
+      → (e ≢ OutOfMemory → e ≢ FormatError → first_refusal refusal after_header ≡ Some e) → Begins old new → DrawsRich view renderer same file refusal d old (Err e) new
+  refused_late old new e answered frame some told begun = record {
+    frame = Blames-lookup refusal (before_header ++ after_header) old.frame new.frame e frame
+        (omega (arith, length-append before_header after_header)) (λ p q. first_refusal-none refusal before_header after_header answered ∙ told p q);
+    stream = begun;
+    answered = tt;
+    early = λ p. absurd (some_refused refusal before_header answered p);
+  }
+
+  -- all was answered and written
+  pub drawn : (old new : Sink) → first_refusal refusal before_header ≡ None → first_refusal refusal after_header ≡ None → new.frame ≡ old.frame
+      → (NamesAreStated file d → is_told old ≡ true → new ≡ sent old (viewed_picture view renderer same file refusal d)) → DrawsRich view renderer same file refusal d old (Ok tt) new
+  drawn old new answered_early answered_late frame came = record {
+    frame = frame;
+    stream = came;
+    answered = all_answered refusal (before_header ++ after_header) (first_refusal-none refusal before_header after_header answered_early ∙ answered_late);
+    early = λ p. absurd (some_refused refusal before_header answered_early p);
+  }
+
+  -- after the header, which came, the rest was sent or cut short
+  pub finished : (old mid new : Sink) (first rest : Stream) (r : Result (Unit {0}) Error) → first_refusal refusal before_header ≡ None → first_refusal refusal after_header ≡ None
+      → Came old first mid → Sends mid rest r new → IfErr r IsIo
+      → (NamesAreStated file d → viewed_picture view renderer same file refusal d ≡ first ++ rest) → DrawsRich view renderer same file refusal d old r new
+  finished old mid new first rest (Ok x) answered_early answered_late came sends io is =
+      let both = came_both old mid new first rest came sends in
+      drawn old new answered_early answered_late both.0 (λ named told. both.1 told ∙ ap (sent old) (sym (is named)))
+  finished old mid new first rest (Err e) answered_early answered_late came sends io is =
+      let stopped = came_then_stopped old mid new first rest came sends in
+      refused_by_writer old new e answered_early stopped.0 io (λ named told. subst (λ (s : Stream). Began old s new) (sym (is named)) (stopped.1 told))

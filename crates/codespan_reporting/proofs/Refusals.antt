@@ -1,0 +1,88 @@
+-- The first lookup that refuses, and what its refusal tells of a writer.
+use Rattle.std.proofs.Common.{◌≡◌, ◌≢◌, zero, suc, ◌<◌, List, [], ◌∷◌, ◌++◌, length, Option, None, Some, inl, inr, ⊎_elim, refl, sym, ap, ◌∙◌, arith}
+use Rattle.codespan_base.specs.declared.files.error.Error.{Error}
+use Rattle.codespan_base.specs.declared.files.error.Error.TheVariants.{FileMissing, IndexTooLarge, LineTooLarge, ColumnTooLarge, InvalidCharBoundary, Io, FormatError, OutOfMemory}
+use Rattle.codespan_base.specs.FileModel.{Lookup, or_refusal}
+use Rattle.codespan_base.specs.WriterLaw.{Frame, refusing}
+use Rattle.codespan_reporting.specs.Renderers.{IsIo}
+use Rattle.codespan_reporting.specs.Lookups.{Refusals, first_refusal, AllAnswered, IsSomeRefused}
+use Rattle.codespan_reporting.specs.Headline.{Blames, IsTextRefusal}
+
+module _ {Id : Type 0} (refusal : Refusals Id) where
+  -- ---- runs of lookups
+
+  -- a lookup that refuses, and others after it
+  refused_then : (o p : Option Error) (e : Error) → o ≡ Some e → or_refusal o p ≡ Some e
+  refused_then None p e h = cc
+  refused_then (Some x) p e h = h
+
+  -- what refuses some lookups refuses them with more after them
+  pub first_refusal-some : (ls ms : List (Id × Lookup)) (e : Error) → first_refusal refusal ls ≡ Some e → first_refusal refusal (ls ++ ms) ≡ Some e
+  first_refusal-some [] ms e h = cc
+  first_refusal-some (l ∷ ls) ms e h = by_first (refusal l.0 l.1) h (first_refusal-some ls ms e)
+    where
+      by_first : (o : Option Error) → or_refusal o (first_refusal refusal ls) ≡ Some e
+          → (first_refusal refusal ls ≡ Some e → first_refusal refusal (ls ++ ms) ≡ Some e) → or_refusal o (first_refusal refusal (ls ++ ms)) ≡ Some e
+      by_first None h later = later h
+      by_first (Some x) h later = h
+
+  -- where some lookups are answered, those after them tell what the run is refused with
+  pub first_refusal-none : (ls ms : List (Id × Lookup)) → first_refusal refusal ls ≡ None → first_refusal refusal (ls ++ ms) ≡ first_refusal refusal ms
+  first_refusal-none [] ms h = refl
+  first_refusal-none (l ∷ ls) ms h = by_first (refusal l.0 l.1) h (first_refusal-none ls ms)
+    where
+      by_first : (o : Option Error) → or_refusal o (first_refusal refusal ls) ≡ None
+          → (first_refusal refusal ls ≡ None → first_refusal refusal (ls ++ ms) ≡ first_refusal refusal ms)
+          → or_refusal o (first_refusal refusal (ls ++ ms)) ≡ first_refusal refusal ms
+      by_first None h later = later h
+      by_first (Some x) h later = cc
+
+  first_answered : (o p : Option Error) → or_refusal o p ≡ None → (o ≡ None) × (p ≡ None)
+  first_answered None p h = (refl, h)
+  first_answered (Some x) p h = cc
+
+  -- where nothing refuses, each lookup is answered
+  pub all_answered : (ls : List (Id × Lookup)) → first_refusal refusal ls ≡ None → AllAnswered refusal ls
+  all_answered [] h id lookup (k, low, same) = absurd (omega arith)
+  all_answered (l ∷ ls) h id lookup (zero, low, same) = ap (λ (m : Id × Lookup). refusal m.0 m.1) (sym same) ∙ (first_answered _ _ h).0
+  all_answered (l ∷ ls) h id lookup (suc k, low, same) = all_answered ls (first_answered _ _ h).1 id lookup (k, omega arith, same)
+
+  -- where one refuses, something refuses
+  pub some_refused : (ls : List (Id × Lookup)) → first_refusal refusal ls ≡ None → IsSomeRefused refusal ls → ⊥
+  some_refused ls h p = let answered = all_answered ls h p.is.id p.is.lookup p.is.is_made in let refused = p.is.is_refused in cc
+
+  -- ---- what a refusal tells
+
+  -- a lookup's refusal leaves the writer as it was
+  pub Blames-lookup : (ls : List (Id × Lookup)) (old new : Frame) (e : Error) → new ≡ old → 0 < length ls
+      → (e ≢ OutOfMemory → e ≢ FormatError → first_refusal refusal ls ≡ Some e) → Blames refusal ls old e new
+  Blames-lookup ls old new OutOfMemory same some told = (same, some)
+  Blames-lookup ls old new FormatError same some told = (same, some)
+  Blames-lookup ls old new (Io cause) same some told = inr (same, told (λ q. cc) (λ q. cc))
+  Blames-lookup ls old new FileMissing same some told = (same, told (λ q. cc) (λ q. cc))
+  Blames-lookup ls old new (IndexTooLarge given max) same some told = (same, told (λ q. cc) (λ q. cc))
+  Blames-lookup ls old new (LineTooLarge given max) same some told = (same, told (λ q. cc) (λ q. cc))
+  Blames-lookup ls old new (ColumnTooLarge given max) same some told = (same, told (λ q. cc) (λ q. cc))
+  Blames-lookup ls old new (InvalidCharBoundary given) same some told = (same, told (λ q. cc) (λ q. cc))
+
+  -- a writer's refusal says that it refused
+  pub Blames-writer : (ls : List (Id × Lookup)) (old new : Frame) (e : Error) → new ≡ refusing old → IsIo e → Blames refusal ls old e new
+  Blames-writer ls old new (Io cause) same io = inl same
+  Blames-writer ls old new OutOfMemory same io = absurd io
+  Blames-writer ls old new FormatError same io = absurd io
+  Blames-writer ls old new FileMissing same io = absurd io
+  Blames-writer ls old new (IndexTooLarge given max) same io = absurd io
+  Blames-writer ls old new (LineTooLarge given max) same io = absurd io
+  Blames-writer ls old new (ColumnTooLarge given max) same io = absurd io
+  Blames-writer ls old new (InvalidCharBoundary given) same io = absurd io
+
+  -- of a writer that did not refuse, a refusal is one that a string call tells
+  pub IsTextRefusal-kept : (ls : List (Id × Lookup)) (old new : Frame) (e : Error) → (new ≡ refusing old → ⊥) → Blames refusal ls old e new → IsTextRefusal refusal ls e
+  IsTextRefusal-kept ls old new (Io cause) kept blame = ⊎_elim (λ h. absurd (kept h)) (λ h. h.1) blame
+  IsTextRefusal-kept ls old new OutOfMemory kept blame = tt
+  IsTextRefusal-kept ls old new FormatError kept blame = blame.1
+  IsTextRefusal-kept ls old new FileMissing kept blame = blame.1
+  IsTextRefusal-kept ls old new (IndexTooLarge given max) kept blame = blame.1
+  IsTextRefusal-kept ls old new (LineTooLarge given max) kept blame = blame.1
+  IsTextRefusal-kept ls old new (ColumnTooLarge given max) kept blame = blame.1
+  IsTextRefusal-kept ls old new (InvalidCharBoundary given) kept blame = blame.1

@@ -1,0 +1,38 @@
+//! The calls that emit a diagnostic.
+
+ghost use Rattle.std.specs.Prelude.{IsTrue, string_bytes};
+ghost use Rattle.codespan_reporting.specs.Headline.{DrawsText};
+ghost use Rattle.codespan_reporting.specs.Scope.{is_in_scope};
+
+use crate::term::renderer::Renderer;
+use crate::term::views::RichDiagnostic;
+use codespan_base::diagnostic::Diagnostic;
+use codespan_base::files::{Error, Files};
+use codespan_base::term::{Config, PlainWriter};
+
+/// The picture of a diagnostic, as plain text.
+///
+/// Refuses as the first lookup that refuses does, with `FormatError` where the `Display` of a file's name refuses, and with
+/// `OutOfMemory` where a growth is refused; `Io` is told only where a lookup told it.
+///
+/// Diagnostics that [`in_scope`](crate::term::in_scope) does not let through can not be drawn yet.
+pub fn emit_into_string<'files, F: Files<'files>>(
+    config: &Config<'_>,
+    files: &'files F,
+    diagnostic: &Diagnostic<F::FileId>,
+) -> Result<String, Error>
+    requires { IsTrue (is_in_scope config.now (F.file files.now) diagnostic.now) }
+    ensures { DrawsText config.now F.FileId.eq (F.file files.now) (F.refusal files.now) diagnostic.now string_bytes result }
+{
+    let mut plain = PlainWriter::new(Vec::new(*diagnostic.labels.allocator()));
+    let mut renderer = Renderer::new(&mut plain, config);
+    let drawn = RichDiagnostic::new(diagnostic, config).render(files, &mut renderer);
+    match drawn {
+        Ok(()) => match String::from_utf8(plain.into_inner()) {
+            Ok(text) => Ok(text),
+            Err(_) => Err(Error::OutOfMemory),
+        },
+        Err(_) if plain.has_refused() => Err(Error::OutOfMemory),
+        Err(error) => Err(error),
+    }
+}

@@ -1,0 +1,5 @@
+pub mod Alike
+pub mod Drawn
+pub mod Numbers
+pub mod Outcomes
+pub mod Words

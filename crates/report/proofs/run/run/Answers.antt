@@ -1,0 +1,35 @@
+use Rattle.std.proofs.Common.{ap, subst, sym, ◌∙◌, ◌≤◌, ℕ}
+use Rattle.report.specs.Faults.{status_of}
+use Rattle.report.proofs.Outcomes.{kept_at_wrong, kept_undrawable, status_at_most, success_by_status, wrong_by_status}
+use Rattle.report.proofs.run.run.Goals as goal
+
+pub returns-clause-status : goal.returns-clause-status
+returns-clause-status g c = subst (λ (n : ℕ). n ≤ 2) (sym c.conclude.ensures.status) (status_at_most c.report.result)
+
+pub returns-clause-usage : goal.returns-clause-usage
+returns-clause-usage g c = (
+  λ two. c.report.ensures.usage.0 (wrong_by_status c.report.result (sym c.conclude.ensures.status ∙ two)),
+  λ none. c.conclude.ensures.status ∙ ap status_of (c.report.ensures.usage.1 none),
+)
+
+pub returns-clause-unread : goal.returns-clause-unread
+returns-clause-unread g c = λ two. c.report.ensures.unread (wrong_by_status c.report.result (sym c.conclude.ensures.status ∙ two))
+
+pub returns-clause-unwritten : goal.returns-clause-unwritten
+returns-clause-unwritten g c =
+    λ two. kept_at_wrong c.report.result c.report.ensures.kept (wrong_by_status c.report.result (sym c.conclude.ensures.status ∙ two))
+
+pub returns-clause-silent : goal.returns-clause-silent
+returns-clause-silent g c = λ zero. success_by_status c.report.result (sym c.conclude.ensures.status ∙ zero) c.conclude.ensures.silent
+
+pub returns-clause-read : goal.returns-clause-read
+returns-clause-read g c = λ zero. success_by_status c.report.result (sym c.conclude.ensures.status ∙ zero) c.report.ensures.read
+
+pub returns-clause-drawn : goal.returns-clause-drawn
+returns-clause-drawn g c = λ zero. success_by_status c.report.result (sym c.conclude.ensures.status ∙ zero) c.report.ensures.drawn
+
+pub returns-clause-drawable : goal.returns-clause-drawable
+returns-clause-drawable g c = λ zero. success_by_status c.report.result (sym c.conclude.ensures.status ∙ zero) c.report.ensures.drawable
+
+pub returns-clause-kept : goal.returns-clause-kept
+returns-clause-kept g c = kept_undrawable _ _ _ c.report.result c.report.ensures.drawable c.report.ensures.told c.report.ensures.kept

@@ -1,0 +1,25 @@
+use Rattle.std.proofs.Common.{◌≡◌, ℕ, false, List, [], ◌++◌, Option, Some, None, Result, Ok, Err, IfSome, IsOk, OnOk, subst, sym, ap, ◌∙◌}
+use Rattle.std.specs.Result.{is_err}
+use Rattle.std.specs.Str.{IsUtf8}
+use Rattle.std.proofs.lemmas.Str.{IsUtf8-had}
+use Rattle.report.proofs.streams.read_source.Goals as goal
+
+-- what was read to the end and is no text was no text
+no_text : {E : Type 0} (held : Option (List ℕ)) (read : Result ℕ E) (old new : List ℕ) → is_err read ≡ false
+    → OnOk read (IfSome held (λ bytes. new ≡ old ++ bytes)) → old ≡ [] → ¬ (IsUtf8 new) → IfSome held (λ bytes. ¬ (IsUtf8 bytes))
+no_text held (Err e) old new done all empty odd = absurd (cc done)
+no_text None (Ok n) old new done all empty odd = tt
+no_text (Some bytes) (Ok n) old new done all empty odd = λ text. odd (subst IsUtf8 (sym (all ∙ ap (λ front. front ++ bytes) empty)) text)
+
+-- a refusal is no success
+not_both : {T E : Type 0} (r : Result T E) (e : E) → r ≡ Err e → IsOk r → ⊥
+not_both (Ok x) e is ok = cc is
+not_both (Err d) e is ok = cc ok
+
+pub returns-clause-odd : goal.returns-clause-odd
+returns-clause-odd g c =
+    λ _. no_text _ c.read_to_end.result c.new-bytes.result.items _ (sym c.is_err.ensures.value ∙ c.if-is_err.false) c.read_to_end.ensures.bytes c.new-bytes.ensures.items
+    (λ text. not_both _ _ c.in-Err.is (c.from_utf8.ensures.succeeds text))
+
+pub returns-in-Ok-clause-text : goal.returns-in-Ok-clause-text
+returns-in-Ok-clause-text g c = IsUtf8-had _ c.in-Ok.source.ok

@@ -1,0 +1,48 @@
+-- What a request draws over a source.
+use Rattle.std.specs.Prelude.{◌≡◌, ℕ, IsTrue, List, [], ◌∷◌, Some, None}
+use Rattle.std.specs.Str.{IsUtf8}
+use Rattle.codespan_base.specs.declared.diagnostic.Diagnostic.{Diagnostic}
+use Rattle.codespan_base.specs.declared.diagnostic.LabelStyle.TheVariants.{Primary}
+use Rattle.codespan_base.specs.declared.diagnostic.Severity.TheVariants.{Error}
+use Rattle.codespan_base.specs.FileModel.{FileModel}
+use Rattle.codespan_base.specs.SimpleModel.{simple_file}
+use Rattle.codespan_base.specs.Labels.{Labelled, is_single}
+use Rattle.codespan_base.specs.Defaults.{default_config}
+use Rattle.codespan_base.specs.Streams.{bytes, text_of}
+use Rattle.codespan_reporting.specs.Rows.{Heading}
+use Rattle.codespan_reporting.specs.Picture.{labels_of, heading_of, rich_picture}
+use Rattle.report.specs.Requests.{RequestView}
+
+-- the file of the request's name and the source
+abbrev pub file_of : RequestView → List ℕ → FileModel
+file_of request source = simple_file (Some request.name) source
+
+-- the label that is asked for: a primary one with the message
+abbrev pub label_of : RequestView → Labelled
+label_of request = record { style = Primary; start = request.start; end = request.end; message = bytes request.message }
+
+-- what the header says: the message, and no code
+abbrev pub heading_of_request : RequestView → Heading
+heading_of_request request = record { code = None; message = request.message }
+
+-- the text of the picture: an error in rich style with the one label, drawn by the default configuration
+unfoldable pub picture_text : RequestView → List ℕ → List ℕ
+picture_text request source =
+    text_of (rich_picture default_config Error (heading_of_request request)
+    (record { file = file_of request source; labels = label_of request ∷ [] } ∷ []) [])
+
+-- the label ends on the line that it begins on
+abbrev pub IsWithinLine : RequestView → List ℕ → Type 0
+IsWithinLine request source = IsTrue (is_single (file_of request source) (label_of request))
+
+-- the source is UTF-8, and the label ends on the line that it begins on: what is drawn so far
+pub record CanBeDrawn (request : RequestView) (source : List ℕ) : Type 0 where
+  pub is_text : IsUtf8 source
+  pub is_within_line : IsWithinLine request source
+
+-- the diagnostic is the one that is asked for
+pub record IsAsked (request : RequestView) (d : Diagnostic (Unit {0})) : Type 0 where
+  pub severity : d.severity ≡ Error
+  pub heading : heading_of d ≡ heading_of_request request
+  pub labels : labels_of d ≡ record { id = tt; label = label_of request } ∷ []
+  pub notes : d.notes.items ≡ []

@@ -1,0 +1,67 @@
+//! Why nothing was drawn, or the picture not written.
+
+ghost use Rattle.std.specs.Prelude.{◌≡◌, IfSome, OnOk};
+ghost use Rattle.std.specs.Fmt.{with_newline};
+ghost use Rattle.std.specs.Io.KnownBytes.{Appends};
+ghost use Rattle.report.specs.declared.fault.Fault.TheVariants.{Drawing};
+
+use codespan_reporting::files::Error;
+use std::io::Write;
+use std::{fmt, io};
+
+/// Why a run ends without its picture.
+#[derive(Debug, Drop)]
+pub enum Fault {
+    /// The number or the form of the arguments is wrong.
+    WrongArguments,
+    /// A read was refused, or the memory that the input needs.
+    CannotReadInput,
+    /// The input is not UTF-8.
+    NotUtf8,
+    /// The label ends on another line than it begins on.
+    NotDrawnYet,
+    /// The drawing was refused.
+    Drawing(Error),
+    /// A write or the flush of the output was refused.
+    CannotWriteOutput,
+}
+
+impl Fault {
+    ghost use Rattle.report.specs.Faults.{fault_text};
+
+    /// Writes the fault's line.
+    pub fn write_line<W: Write>(&self, faults: &mut W) -> io::Result<()>
+        ensures { OnOk result (IfSome (with_newline (fault_text self.now)) (Appends (W.contents faults.old) (W.contents faults.new))) }
+    {
+        writeln!(faults, "{self}")
+    }
+}
+
+/// A drawing that was refused.
+impl From<Error> for Fault {
+    ghost from_gives = { λ error fault. fault ≡ Drawing error };
+
+    fn from(error: Error) -> Fault {
+        Fault::Drawing(error)
+    }
+}
+
+/// One line, without its end.
+impl fmt::Display for Fault {
+    ghost use Rattle.report.specs.Faults.{fault_text};
+
+    ghost output = { fault_text };
+
+    fn fmt<W: fmt::Write>(&self, f: &mut fmt::Formatter<W>) -> fmt::Result {
+        match self {
+            Fault::WrongArguments => write!(f, "usage: report STYLE NAME START END MESSAGE"),
+            Fault::CannotReadInput => write!(f, "report: cannot read input"),
+            Fault::NotUtf8 => write!(f, "report: input is not UTF-8"),
+            Fault::NotDrawnYet => write!(f, "report: not drawn yet"),
+            Fault::Drawing(error) => write!(f, "report: {error}"),
+            Fault::CannotWriteOutput => write!(f, "report: cannot write output"),
+        }
+    }
+}
+
+impl std::error::Error for Fault {}

@@ -1,0 +1,51 @@
+//! What the arguments ask for.
+
+ghost use Rattle.std.specs.Prelude.{◌≡◌, map, string_bytes};
+ghost use Rattle.std.specs.Option.{option_map};
+ghost use Rattle.report.specs.Requests.{number_of};
+
+/// An error over a source: the file's name, the bytes that its label covers, and what both say.
+#[derive(Clone, Copy, Debug)]
+pub struct Request<'args> {
+    /// The name of the file.
+    pub name: &'args str,
+    /// The first byte of the label.
+    pub start: usize,
+    /// The byte after the label.
+    pub end: usize,
+    /// What the error and its label say.
+    pub message: &'args str,
+}
+
+impl<'args> Request<'args> {
+    ghost use Rattle.report.specs.Requests.{request_view, request_of};
+
+    /// The request of the arguments `rich NAME START END MESSAGE`; `None` where their number or form is another.
+    pub fn from_arguments(args: &'args [String]) -> Option<Request<'args>>
+        ensures { option_map request_view result ≡ request_of (map string_bytes args.now) }
+    {
+        let [style, name, start, end, message] = args else {
+            return None;
+        };
+        if style.as_str() != "rich" {
+            return None;
+        }
+        Some(Request {
+            name: name.as_str(),
+            start: parse_number(start.as_str())?,
+            end: parse_number(end.as_str())?,
+            message: message.as_str(),
+        })
+    }
+}
+
+/// The number of one or more ASCII digits; `None` where there is another character, or the number does not fit.
+fn parse_number(text: &str) -> Option<usize>
+    ensures { result ≡ number_of text.now }
+{
+    if text.bytes().all(|byte| byte.is_ascii_digit()) {
+        text.parse().ok()
+    } else {
+        None
+    }
+}

@@ -1,0 +1,294 @@
+//! Runs over readers and writers in memory, and over some that refuse.
+
+use crate::run::run;
+use std::alloc::{AllocError, Global};
+use std::io;
+use std::io::{ErrorKind, Read, Write};
+use std::test::Fail;
+
+/// The arguments of most runs.
+const REQUEST: [&str; 5] = ["rich", "f.txt", "0", "3", "bad"];
+
+/// What they draw over `abc` and a newline.
+const PICTURE: &str = "error: bad\n  ┌─ f.txt:1:1\n  │\n1 │ abc\n  │ ^^^ bad\n\n";
+
+/// The line of wrong arguments.
+const USAGE: &str = "usage: report STYLE NAME START END MESSAGE\n";
+
+/// An input that counts its reads, and refuses one of them.
+#[derive(Drop)]
+struct Input<'a> {
+    left: &'a [u8],
+    reads: usize,
+    refused_read: Option<usize>,
+}
+
+impl<'a> Input<'a> {
+    /// An input that refuses no read.
+    fn new(text: &'a [u8]) -> Self {
+        Input {
+            left: text,
+            reads: 0,
+            refused_read: None,
+        }
+    }
+}
+
+impl Read for Input<'_> {
+    fn read(&mut self, buf: &mut [u8]) -> io::Result<usize> {
+        let read = self.reads;
+        self.reads = read.saturating_add(1);
+        if self.refused_read == Some(read) {
+            return Err(io::Error::from(ErrorKind::PermissionDenied));
+        }
+        self.left.read(buf)
+    }
+}
+
+/// An output that takes four bytes at a write, and refuses one write, or each flush.
+#[derive(Drop)]
+struct Output {
+    taken: Vec<u8>,
+    writes: usize,
+    refused_write: Option<usize>,
+    refuses_flush: bool,
+}
+
+impl Output {
+    /// An output that refuses nothing.
+    fn new(alloc: Global) -> Self {
+        Output {
+            taken: Vec::new(alloc),
+            writes: 0,
+            refused_write: None,
+            refuses_flush: false,
+        }
+    }
+
+    /// What it has taken, as a text.
+    fn text(&self) -> &str {
+        match std::str::from_utf8(self.taken.as_slice()) {
+            Ok(text) => text,
+            Err(_) => "not UTF-8",
+        }
+    }
+}
+
+impl Write for Output {
+    fn write(&mut self, buf: &[u8]) -> io::Result<usize> {
+        let write = self.writes;
+        self.writes = write.saturating_add(1);
+        if self.refused_write == Some(write) {
+            return Err(io::Error::from(ErrorKind::BrokenPipe));
+        }
+        self.taken.write(&buf[..buf.len().min(4)])
+    }
+
+    fn flush(&mut self) -> io::Result<()> {
+        if self.refuses_flush {
+            return Err(io::Error::from(ErrorKind::BrokenPipe));
+        }
+        Ok(())
+    }
+}
+
+/// The words as the program has them.
+fn arguments(alloc: Global, words: &[&str]) -> Result<Vec<String>, AllocError> {
+    words
+        .iter()
+        .map(|word| String::from_str(alloc, word))
+        .try_collect(alloc)
+}
+
+/// What a run answered and wrote.
+#[derive(Drop)]
+struct Outcome {
+    status: u8,
+    output: Output,
+    faults: Output,
+}
+
+/// A run over an input and an output that refuse nothing.
+fn ran(alloc: Global, words: &[&str], text: &[u8]) -> Result<Outcome, AllocError> {
+    let args = arguments(alloc, words)?;
+    let mut output = Output::new(alloc);
+    let mut faults = Output::new(alloc);
+    let status = run(
+        alloc,
+        &args,
+        &mut Input::new(text),
+        &mut output,
+        &mut faults,
+    );
+    Ok(Outcome {
+        status,
+        output,
+        faults,
+    })
+}
+
+#[test]
+fn report_run(rt: HostRuntime) -> Result<(), Fail> {
+    let drawn = ran(rt.alloc(), &REQUEST, b"abc\n")?;
+    assert_eq!(rt;
+        (drawn.output.text(), drawn.faults.text(), drawn.status),
+        (PICTURE, "", 0)
+    );
+    let wrong = ran(rt.alloc(), &["rich", "f.txt", "0", "x", "bad"], b"abc\n")?;
+    assert_eq!(rt;
+        (wrong.output.text(), wrong.faults.text(), wrong.status),
+        ("", USAGE, 2)
+    );
+    Ok(())
+}
+
+#[test]
+fn report_two_lines(rt: HostRuntime) -> Result<(), Fail> {
+    let two = ran(rt.alloc(), &["rich", "f.txt", "0", "4", "bad"], b"abc\nd")?;
+    let line = "report: not drawn yet\n";
+    assert_eq!(rt;
+        (two.output.text(), two.faults.text(), two.status),
+        ("", line, 1)
+    );
+    Ok(())
+}
+
+#[test]
+fn wrong_arguments(rt: HostRuntime) -> Result<(), Fail> {
+    let wrong: [&[&str]; 14] = [
+        &[],
+        &["rich"],
+        &["rich", "f.txt", "0", "3"],
+        &["rich", "f.txt", "0", "3", "bad", "worse"],
+        &["short", "f.txt", "0", "3", "bad"],
+        &["Rich", "f.txt", "0", "3", "bad"],
+        &["rich", "f.txt", "+0", "3", "bad"],
+        &["rich", "f.txt", "0", "+3", "bad"],
+        &["rich", "f.txt", "-0", "3", "bad"],
+        &["rich", "f.txt", "", "3", "bad"],
+        &["rich", "f.txt", "0", "", "bad"],
+        &["rich", "f.txt", "0", "3 ", "bad"],
+        &["rich", "f.txt", "0", "٣", "bad"],
+        &["rich", "f.txt", "0", "18446744073709551616", "bad"],
+    ];
+    for words in wrong {
+        let args = arguments(rt.alloc(), words)?;
+        let mut input = Input::new(b"abc\n");
+        let mut output = Output::new(rt.alloc());
+        let mut faults = Output::new(rt.alloc());
+        let status = run(rt.alloc(), &args, &mut input, &mut output, &mut faults);
+        assert_eq!(rt;
+            (output.text(), faults.text(), status),
+            ("", USAGE, 2),
+            "{words:?}"
+        );
+        assert_eq!(rt; input.reads, 0, "{words:?}");
+    }
+    Ok(())
+}
+
+#[test]
+fn right_numbers(rt: HostRuntime) -> Result<(), Fail> {
+    let leading_zeros = ran(rt.alloc(), &["rich", "f.txt", "000", "03", "bad"], b"abc\n")?;
+    assert_eq!(rt;
+        (leading_zeros.output.text(), leading_zeros.status),
+        (PICTURE, 0)
+    );
+    let words = ["rich", "f.txt", "0", "18446744073709551615", "bad"];
+    let greatest = ran(rt.alloc(), &words, b"abc")?;
+    assert_eq!(rt; (greatest.faults.text(), greatest.status), ("", 0));
+    Ok(())
+}
+
+#[test]
+fn input_not_utf8(rt: HostRuntime) -> Result<(), Fail> {
+    let line = "report: input is not UTF-8\n";
+    for text in [b"\xff".as_slice(), b"abc\xe2\x94", b"\xc0\x80\n"] {
+        let odd = ran(rt.alloc(), &REQUEST, text)?;
+        assert_eq!(rt;
+            (odd.output.text(), odd.faults.text(), odd.status),
+            ("", line, 1)
+        );
+    }
+    Ok(())
+}
+
+#[test]
+fn refused_input(rt: HostRuntime) -> Result<(), Fail> {
+    let args = arguments(rt.alloc(), &REQUEST)?;
+    for read in 0..2 {
+        let mut input = Input::new(b"abc\n");
+        input.refused_read = Some(read);
+        let mut output = Output::new(rt.alloc());
+        let mut faults = Output::new(rt.alloc());
+        let status = run(rt.alloc(), &args, &mut input, &mut output, &mut faults);
+        let line = "report: cannot read input\n";
+        assert_eq!(rt;
+            (output.text(), faults.text(), status),
+            ("", line, 1),
+            "read {read}"
+        );
+    }
+    Ok(())
+}
+
+#[test]
+fn refused_output(rt: HostRuntime) -> Result<(), Fail> {
+    let args = arguments(rt.alloc(), &REQUEST)?;
+    let line = "report: cannot write output\n";
+    for write in 0..PICTURE.len().div_ceil(4) {
+        let mut output = Output::new(rt.alloc());
+        output.refused_write = Some(write);
+        let mut faults = Output::new(rt.alloc());
+        let status = run(
+            rt.alloc(),
+            &args,
+            &mut Input::new(b"abc\n"),
+            &mut output,
+            &mut faults,
+        );
+        assert_eq!(rt; (faults.text(), status), (line, 1), "write {write}");
+        assert_eq!(rt;
+            output.taken.as_slice(),
+            &PICTURE.as_bytes()[..write * 4],
+            "write {write}"
+        );
+    }
+    let mut output = Output::new(rt.alloc());
+    output.refuses_flush = true;
+    let mut faults = Output::new(rt.alloc());
+    let status = run(
+        rt.alloc(),
+        &args,
+        &mut Input::new(b"abc\n"),
+        &mut output,
+        &mut faults,
+    );
+    assert_eq!(rt; (output.text(), faults.text(), status), (PICTURE, line, 1));
+    Ok(())
+}
+
+#[test]
+fn refused_faults(rt: HostRuntime) -> Result<(), Fail> {
+    let runs: [(&[&str], &[u8], u8); 3] = [
+        (&[], b"abc\n", 2),
+        (&REQUEST, b"\xff", 1),
+        (&["rich", "f.txt", "0", "4", "bad"], b"abc\nd", 1),
+    ];
+    for (words, text, wanted) in runs {
+        let args = arguments(rt.alloc(), words)?;
+        let mut output = Output::new(rt.alloc());
+        let mut faults = Output::new(rt.alloc());
+        faults.refused_write = Some(1);
+        let status = run(
+            rt.alloc(),
+            &args,
+            &mut Input::new(text),
+            &mut output,
+            &mut faults,
+        );
+        assert_eq!(rt; (output.text(), status), ("", wanted), "{words:?}");
+        assert_eq!(rt; faults.taken.len(), 4, "{words:?}");
+    }
+    Ok(())
+}
