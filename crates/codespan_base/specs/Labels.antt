@@ -45,12 +45,16 @@ last_line f x = line_of f.starts x.end
 abbrev pub is_single : FileModel → Labelled → Bool
 is_single f x = first_line f x == last_line f x
 
--- the label with its drawn range: at least one byte long and counted from its line's start
-abbrev pub drawn_label : FileModel → Labelled → Labelled
-drawn_label f x = record x {
-  start = x.start - line_start f (first_line f x);
-  end = min (2 ^ 64 - 1) (max (x.end - line_start f (first_line f x)) (x.start - line_start f (first_line f x) + 1));
+-- the label with its drawn range, where its line starts at this byte: at least one byte long, and counted from there
+abbrev pub from_line_start : ℕ → Labelled → Labelled
+from_line_start start x = record x {
+  start = x.start - start;
+  end = min (2 ^ 64 - 1) (max (x.end - start) (x.start - start + 1));
 }
+
+-- the label with its drawn range
+abbrev pub drawn_label : FileModel → Labelled → Labelled
+drawn_label f x = from_line_start (line_start f (first_line f x)) x
 
 -- ---- the labels of a file, in the list's order
 

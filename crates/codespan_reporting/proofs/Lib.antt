@@ -31,6 +31,7 @@ pub mod TextRuns
 pub mod Texts
 pub mod Underlines
 pub mod MeaningLemmas
+pub mod Alike
 -- refusals, and ways to end a drawing
 pub mod Chains
 pub mod Refusals

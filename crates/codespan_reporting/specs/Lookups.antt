@@ -101,10 +101,6 @@ first_refusal refusal (l ∷ ls) = or_refusal (refusal l.0 l.1) (first_refusal r
 abbrev pub TellsNaming : {T : Type 0} → Option Error → Result T Error → Type 0
 TellsNaming o r = MatchResult r (λ _. o ≡ None) (λ e. e ≢ OutOfMemory → e ≢ FormatError → o ≡ Some e)
 
--- what a picture is refused with
-abbrev pub picture_refusal : {Id : Type 0} → Config → (Id → Id → Bool) → (Id → FileModel) → Refusals Id → Diagnostic Id → Option Error
-picture_refusal config same file refusal d = first_refusal refusal (lookups_in config.display_style config same file refusal d)
-
 -- one of these lookups is refused with this error
 pub record IsRefusedBy {Id : Type 0} (refusal : Refusals Id) (lookups : List (Id × Lookup)) (error : Error) : Type 0 where
   pub id : Id

@@ -1,4 +1,3 @@
-pub mod Alike
 pub mod Drawn
 pub mod Numbers
 pub mod Outcomes

@@ -25,7 +25,7 @@ pub mod write_style;
 use crate::files::Error;
 use chars::Chars;
 
-/// What a picture looks like.
+/// What a picture looks like. `'chars` is the lifetime of the text before a place, where that text is lent.
 #[derive(Debug, Drop)]
 pub struct Config<'chars> {
     /// How much of a diagnostic is drawn. By default [`DisplayStyle::Rich`].

@@ -53,8 +53,7 @@ fn draw_line<W: WriteStyle>(
     )
 }
 
-/// Draws a line to a writer, by the default configuration. It takes no `&Config`, which names `'static`: the borrow checker does not
-/// cover that beside a writer with several lifetimes.
+/// Draws a line to a writer, by the default configuration.
 fn draw_on<W: WriteStyle>(rt: &impl Abort, w: &mut W, given: Given<'_>) -> Result<(), Error> {
     let config = Config::default();
     draw_line(rt, &mut Renderer::new(w, &config), given)

@@ -3,10 +3,10 @@
 ghost use Rattle.std.specs.Prelude.{◌≡◌, ◌∷◌, [], IfOk, IsSome};
 ghost use Rattle.codespan_base.specs.FileModel.{IsLineRange, line_of, name_text};
 ghost use Rattle.codespan_base.specs.FileModel.Lookup.{Name, LineIndex, LineNumber, LocationAt, LineRange};
+ghost use Rattle.codespan_base.specs.Labels.{from_line_start};
 ghost use Rattle.codespan_reporting.specs.Given.{labelled, place_of_given};
 ghost use Rattle.codespan_reporting.specs.Lookups.{TellsNaming, asked_of, first_refusal};
 ghost use Rattle.codespan_reporting.specs.Picture.{label_of};
-ghost use Rattle.codespan_reporting.specs.Views.{from_line_start};
 
 use crate::term::renderer::{Locus, SingleLabel};
 use codespan_base::diagnostic::Label;

@@ -1,9 +1,9 @@
 use Rattle.std.proofs.Common.{rules, ◌≡◌, ◌<◌, length, None, Err, slice_range, refl, ap, ap₂, ◌∙◌, arith}
 use Rattle.std.proofs.lemmas.Result.{err_from_is_err_and}
 use Rattle.codespan_base.specs.FileModel.{line_count, line_of, line_text, or_refusal}
+use Rattle.codespan_base.specs.Labels.{from_line_start}
 use Rattle.codespan_reporting.specs.Lookups.{first_refusal}
 use Rattle.codespan_reporting.specs.Picture.{label_of}
-use Rattle.codespan_reporting.specs.Views.{from_line_start}
 use Rattle.codespan_reporting.proofs.Chains.{stopped_before, Began-as}
 use Rattle.codespan_reporting.proofs.Drawing.{Began-came, refused_early, refused_by_writer, refused_late, finished}
 use Rattle.codespan_reporting.proofs.OneLabel.{one_label, named_one, early_is, late_is, picture_is, picture_of}
