@@ -100,13 +100,17 @@ pub record LaneMark : Type 0 where
   pub style : LabelStyle
   pub part : Part
 
--- the label begins on the line, ends on it, goes through it, or has no mark there
-abbrev pub part_on : FileModel → ℕ → Labelled → Option Part
-part_on f l x =
-    if first_line f x == l then Some (Top (x.start - line_start f l))
-    else if last_line f x == l then Some (Bottom (x.end - line_start f l) x.message)
-    else if nat_lt (first_line f x) l && nat_lt l (last_line f x) then Some Left
+-- what a label from line `s` to line `e` does on line `l`, which starts at this byte: it begins there, ends there, goes through, or does nothing
+abbrev pub part_at : ℕ → ℕ → ℕ → ℕ → Labelled → Option Part
+part_at s e l start x =
+    if s == l then Some (Top (x.start - start))
+    else if e == l then Some (Bottom (x.end - start) x.message)
+    else if nat_lt s l && nat_lt l e then Some Left
     else None
+
+-- what the label does on a line of its file
+abbrev pub part_on : FileModel → ℕ → Labelled → Option Part
+part_on f l x = part_at (first_line f x) (last_line f x) l (line_start f l) x
 
 -- a mark, where the label has one
 abbrev pub mark_of : ℕ → Labelled → Option Part → Option LaneMark

@@ -2,15 +2,8 @@
 use Rattle.std.proofs.Common.{◌≡◌, true, ◌++◌, sym, subst, ap, ◌∙◌}
 use Rattle.codespan_base.specs.Streams.{Stream}
 use Rattle.codespan_base.specs.WriterLaw.{Sink, sent, is_told, Began, refusing}
+use Rattle.codespan_reporting.specs.Asking.{Came, Stopped}
 use Rattle.codespan_base.proofs.Sends.{is_told-sent, sent-append, Began-first, Began-last}
-
--- the stream came, where the writer tells its bytes, and nothing was refused
-abbrev pub Came : Sink → Stream → Sink → Type 0
-Came s a t = (t.frame ≡ s.frame) × (is_told s ≡ true → t ≡ sent s a)
-
--- the writer refused, and a beginning of the stream came
-abbrev pub Stopped : Sink → Stream → Sink → Type 0
-Stopped s a t = (t.frame ≡ refusing s.frame) × (is_told s ≡ true → Began s a t)
 
 -- a writer that tells its bytes goes on telling them
 pub told_after : (s t : Sink) (a : Stream) → Came s a t → is_told s ≡ true → is_told t ≡ true

@@ -1,5 +1,5 @@
 -- Drawing a rich picture: what each way to end it comes to.
-use Rattle.std.proofs.Common.{◌≡◌, ◌≢◌, Bool, true, ◌<◌, List, [], ◌++◌, length, None, Some, Ok, Err, Result, refl, sym, subst, ap, ◌∙◌, arith}
+use Rattle.std.proofs.Common.{◌≡◌, ◌≢◌, Bool, true, ◌<◌, List, [], ◌++◌, length, None, Some, Ok, Err, Result, inl, inr, refl, sym, subst, ap, ◌∙◌, arith}
 use Rattle.std.proofs.lemmas.List.{length-append}
 use Rattle.std.specs.Prelude.{IfErr}
 use Rattle.codespan_base.specs.declared.term.config.Config.{Config}
@@ -14,7 +14,8 @@ use Rattle.codespan_reporting.specs.Picture.{labels_of}
 use Rattle.codespan_reporting.specs.Renderers.{IsIo}
 use Rattle.codespan_reporting.specs.Lookups.{Refusals, early_lookups, late_lookups, first_refusal}
 use Rattle.codespan_reporting.specs.Headline.{DrawsRich, viewed_picture, NamesAreStated}
-use Rattle.codespan_reporting.proofs.Chains.{Came, came_both, came_then_stopped}
+use Rattle.codespan_reporting.specs.Asking.{Came}
+use Rattle.codespan_reporting.proofs.Chains.{came_both, came_then_stopped}
 use Rattle.codespan_reporting.proofs.Refusals.{first_refusal-some, first_refusal-none, all_answered, some_refused, Blames-lookup, Blames-writer}
 
 -- nothing came, which is a beginning of everything
@@ -24,6 +25,10 @@ Began-none s items t same = record { begun = []; rest = _; whole = refl; held = 
 -- what came is a beginning of it and of what comes after
 pub Began-came : (s t : Sink) (a b : Stream) → is_told s ≡ true → Came s a t → Began s (a ++ b) t
 Began-came s t a b told came = Began-last s a b t (Began-none (sent s a) b t (came.1 told))
+
+-- an error is not both of these
+two_errors : (e : Error) → e ≡ FormatError → e ≡ OutOfMemory → ⊥
+two_errors e h m = cc
 
 module _ {Id : Type 0} (view renderer : Config) (same : Id → Id → Bool) (file : Id → FileModel) (refusal : Refusals Id) (d : Diagnostic Id) where
   -- the lookups before the header
@@ -47,6 +52,7 @@ module _ {Id : Type 0} (view renderer : Config) (same : Id → Id → Bool) (fil
     stream = λ named tells. Began-none old _ new unchanged;
     answered = tt;
     early = λ p. unchanged;
+    unprintable = λ h. inl unchanged;
   }
 
   -- the writer refused
@@ -57,17 +63,19 @@ module _ {Id : Type 0} (view renderer : Config) (same : Id → Id → Bool) (fil
     stream = begun;
     answered = tt;
     early = λ p. absurd (some_refused refusal before_header answered p);
+    unprintable = λ h. absurd (subst IsIo h io);
   }
 
   -- a lookup after the header refused
   pub refused_late : (old new : Sink) (e : Error) → first_refusal refusal before_header ≡ None → new.frame ≡ old.frame → 0 < length after_header
-      → (e ≢ OutOfMemory → e ≢ FormatError → first_refusal refusal after_header ≡ Some e) → Begins old new → DrawsRich view renderer same file refusal d old (Err e) new
+      → (e ≢ OutOfMemory → first_refusal refusal after_header ≡ Some e) → Begins old new → DrawsRich view renderer same file refusal d old (Err e) new
   refused_late old new e answered frame some told begun = record {
     frame = Blames-lookup refusal (before_header ++ after_header) old.frame new.frame e frame
-        (omega (arith, length-append before_header after_header)) (λ p q. first_refusal-none refusal before_header after_header answered ∙ told p q);
+        (omega (arith, length-append before_header after_header)) (λ p q. first_refusal-none refusal before_header after_header answered ∙ told p);
     stream = begun;
     answered = tt;
     early = λ p. absurd (some_refused refusal before_header answered p);
+    unprintable = λ h. inr (told (λ (m : e ≡ OutOfMemory). two_errors e h m) ∙ ap Some h);
   }
 
   -- all was answered and written
@@ -78,6 +86,7 @@ module _ {Id : Type 0} (view renderer : Config) (same : Id → Id → Bool) (fil
     stream = came;
     answered = all_answered refusal (before_header ++ after_header) (first_refusal-none refusal before_header after_header answered_early ∙ answered_late);
     early = λ p. absurd (some_refused refusal before_header answered_early p);
+    unprintable = tt;
   }
 
   -- after the header, which came, the rest was sent or cut short

@@ -1,6 +1,5 @@
 -- Emitting a picture as a text.
-use Rattle.std.proofs.Common.{◌≡◌, ℕ, Bool, true, List, [], Some, Ok, refl, sym, subst, ap, ◌∙◌}
-use Rattle.std.proofs.lemmas.Bool.{and_parts, false≢true}
+use Rattle.std.proofs.Common.{◌≡◌, ℕ, Bool, true, List, [], Some, Ok, sym, subst, ap, ◌∙◌}
 use Rattle.codespan_base.specs.declared.term.config.DisplayStyle.{DisplayStyle}
 use Rattle.codespan_base.specs.declared.term.config.DisplayStyle.TheVariants.{Rich, Medium, Short}
 use Rattle.codespan_base.specs.declared.term.config.Config.{Config}
@@ -12,7 +11,6 @@ use Rattle.codespan_base.specs.Writers.{fresh_sink}
 use Rattle.codespan_reporting.specs.Lookups.{Refusals, lookups_in, AllAnswered}
 use Rattle.codespan_reporting.specs.Picture.{picture_in}
 use Rattle.codespan_reporting.specs.Headline.{NamesAreStated, viewed_picture, DrawsRich, IsDrawn, MeansLabels}
-use Rattle.codespan_reporting.specs.Scope.{is_rich, is_in_scope}
 
 -- a plain writer that held nothing and was sent a stream holds its text
 held_text : (old new : Sink) (bytes : List ℕ) (s : Stream) → old ≡ fresh_sink no_marks (Some []) → new.held ≡ Some bytes
@@ -43,12 +41,3 @@ module _ {Id : Type 0} (config : Config) (same : Id → Id → Bool) (file : Id 
       let parts = by_style config.display_style style bytes same_draws.answered
       (λ named. held_text old new bytes _ fresh held (same_draws.stream named)) in
       record { answered = parts.0; is = parts.1; meaning = λ rich. means }
-
-is_rich-true : (style : DisplayStyle) → is_rich style ≡ true → style ≡ Rich
-is_rich-true Rich h = refl
-is_rich-true Medium h = absurd (false≢true h)
-is_rich-true Short h = absurd (false≢true h)
-
--- what is in scope is in rich style
-pub rich_in_scope : {Id : Type 0} (config : Config) (file : Id → FileModel) (d : Diagnostic Id) → is_in_scope config file d ≡ true → config.display_style ≡ Rich
-rich_in_scope config file d scope = is_rich-true config.display_style (and_parts _ _ (and_parts _ _ scope).0).0

@@ -196,7 +196,7 @@ module _ (s : LabelledFile) (shown : ℕ → Bool) where
   rows_after-shown n none = from_start 0 n refl (λ l h. none l (omega arith))
 
 -- no line past the file's last one is shown
-none_past : (config : Config) (s : LabelledFile) (l : ℕ) → line_count s.file ≤ l → is_shown config s.file s.labels l ≡ false
+pub none_past : (config : Config) (s : LabelledFile) (l : ℕ) → line_count s.file ≤ l → is_shown config s.file s.labels l ≡ false
 none_past config s l h = let past : nat_lt l (line_count s.file) ≡ false = grind (arith, nat_tests) in simp past
 
 pub drawing_of_shown : (config : Config) (s : LabelledFile) → DrawingOfShown config s

@@ -36,10 +36,42 @@ pub mod Alike
 pub mod Chains
 pub mod Refusals
 pub mod Drawing
-pub mod OneLine
-pub mod OneLabel
-pub mod NoLabel
 pub mod Emitting
 pub mod OrderMembers
 pub mod OrderPictures
 pub mod OrderSorts
+-- entries in order
+pub mod SortedLists
+pub mod EntryGroups
+pub mod StepLines
+pub mod EntryOrder
+pub mod LabelEntries
+pub mod FilePlaces
+pub mod EntryMarks
+pub mod EntryPicture
+pub mod FileParts
+-- from labels to entries in order
+pub mod Gathering
+pub mod Contexts
+pub mod FileOrder
+pub mod LabelPlaces
+pub mod LabelsGathered
+-- from entries in order to rows
+pub mod Askings
+pub mod MarkOrder
+pub mod StepStreams
+pub mod GroupSteps
+pub mod GivenSteps
+pub mod SnippetParts
+pub mod SheetDrawing
+pub mod SheetFiles
+-- room for line numbers, and where snippets start
+pub mod LocusStarts
+pub mod Greatest
+pub mod DrawnPadding
+pub mod PlacedPadding
+pub mod EntryPadding
+pub mod NoteRows
+-- before the header
+pub mod SheetPrepared
+pub mod RichParts

@@ -1,11 +1,9 @@
 -- Two orders of a file's labels that its snippet shows alike: the same labels are there.
-use Rattle.std.proofs.Common.{◌≡◌, ℕ, min, Bool, true, false, not, ◌==◌, ◌&&◌, ◌||◌, nat_le, cond, List, [], ◌∷◌, ◌++◌, map, filter, fold, reverse, ⊎_elim, refl, sym, ap, ◌∙◌, arith}
+use Rattle.std.proofs.Common.{◌≡◌, ℕ, min, Bool, true, false, not, ◌==◌, ◌&&◌, ◌||◌, nat_le, cond, List, [], ◌∷◌, map, filter, fold, reverse, ⊎_elim, refl, sym, ap, ◌∙◌, arith}
 use Rattle.std.specs.List.{list_any}
 use Rattle.std.proofs.Math.Bool.{or-false, or_assoc}
 use Rattle.std.proofs.lemmas.Bool.{cases_Bool, eq-eqb, or_right}
 use Rattle.std.proofs.lemmas.Bool.Decides.{nat_tests}
-use Rattle.std.proofs.lemmas.List.{reverse-append, append-nil}
-use Rattle.std.proofs.lemmas.List.Elements.{filter-append}
 use Rattle.codespan_base.specs.FileModel.{FileModel}
 use Rattle.codespan_base.specs.Labels.{Labelled, is_primary, is_single, first_line, drawn_label, multi_labels, single_labels}
 use Rattle.codespan_reporting.specs.OrderLaws.{is_drawn_at}
@@ -13,6 +11,7 @@ use Rattle.codespan_reporting.specs.Snippets.{least, if_any, locus_start}
 use Rattle.codespan_reporting.proofs.OrderSorts.{has_range, sorted-same}
 use Rattle.codespan_reporting.proofs.PointerLemmas.{any-filter}
 use Rattle.codespan_reporting.proofs.RefillLemmas.{any-map, filter-map}
+use Rattle.codespan_reporting.proofs.SortedLists.{any-filtered, filter-filter, filter-reverse}
 
 -- ---- the orders of one file
 
@@ -83,16 +82,6 @@ same-tests f xs ys alike p = by_tests (list_any p xs) (list_any p ys) (passes-al
 
 -- ---- the least start
 
--- a test of what a filter keeps
-any-filtered : {X : Type 0} (p q : X → Bool) (xs : List X) → list_any p (filter q xs) ≡ list_any (λ x. q x && p x) xs
-any-filtered p q [] = refl
-any-filtered p q (x ∷ xs) = by_test (q x) (any-filtered p q xs)
-  where
-    by_test : (b : Bool) → list_any p (filter q xs) ≡ list_any (λ y. q y && p y) xs
-        → list_any p (cond b (x ∷ filter q xs) (filter q xs)) ≡ ((b && p x) || list_any (λ y. q y && p y) xs)
-    by_test true rest = ap (λ b. p x || b) rest
-    by_test false rest = rest
-
 -- the labels that pass a test are the same too
 filter-tests : (xs ys : List Labelled) (q : Labelled → Bool) → SameTests xs ys → SameTests (filter q xs) (filter q ys)
 filter-tests xs ys q same p = any-filtered p q xs ∙ same (λ x. q x && p x) ∙ sym (any-filtered p q ys)
@@ -139,29 +128,6 @@ locus-same xs ys same = least-same (if_any (filter is_primary xs) xs) (if_any (f
     (if_any-tests (filter is_primary xs) (filter is_primary ys) xs ys (filter-tests xs ys is_primary same) same)
 
 -- ---- the labels of a line
-
--- the first goes last
-reverse-cons : {X : Type 0} (x : X) (xs : List X) → reverse (x ∷ xs) ≡ reverse xs ++ x ∷ []
-reverse-cons x xs = reverse-append (x ∷ []) xs
-
--- what a filter keeps of a list from its end
-filter-reverse : {X : Type 0} (q : X → Bool) (xs : List X) → filter q (reverse xs) ≡ reverse (filter q xs)
-filter-reverse q [] = refl
-filter-reverse {X} q (x ∷ xs) = ap (filter q) (reverse-cons x xs) ∙ filter-append q (reverse xs) (x ∷ []) ∙ ap (λ ys. ys ++ filter q (x ∷ [])) (filter-reverse q xs) ∙ by_test (q x)
-  where
-    by_test : (b : Bool) → reverse (filter q xs) ++ cond b (x ∷ []) [] ≡ reverse (cond b (x ∷ filter q xs) (filter q xs))
-    by_test true = sym (reverse-cons x (filter q xs))
-    by_test false = append-nil (reverse (filter q xs))
-
--- two filters are one
-filter-filter : {X : Type 0} (p q : X → Bool) (xs : List X) → filter p (filter q xs) ≡ filter (λ x. q x && p x) xs
-filter-filter p q [] = refl
-filter-filter p q (x ∷ xs) = by_test (q x) (filter-filter p q xs)
-  where
-    by_test : (b : Bool) → filter p (filter q xs) ≡ filter (λ y. q y && p y) xs
-        → filter p (cond b (x ∷ filter q xs) (filter q xs)) ≡ cond (b && p x) (x ∷ filter (λ y. q y && p y) xs) (filter (λ y. q y && p y) xs)
-    by_test true rest = ap (λ ys. cond (p x) (x ∷ ys) ys) rest
-    by_test false rest = rest
 
 -- the labels of a line with one drawn range
 line_range : (f : FileModel) (xs : List Labelled) (l start end : ℕ)

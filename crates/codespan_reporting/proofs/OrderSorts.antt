@@ -55,7 +55,7 @@ put_in-keeps start end x (y ∷ ys) =
     (cases_Bool (stands_before y x))
 
 -- the labels of one range stay in order
-sorted-keeps : (start end : ℕ) (xs : List Labelled) → filter (has_range start end) (sorted xs) ≡ filter (has_range start end) xs
+pub sorted-keeps : (start end : ℕ) (xs : List Labelled) → filter (has_range start end) (sorted xs) ≡ filter (has_range start end) xs
 sorted-keeps start end [] = refl
 sorted-keeps start end (x ∷ xs) =
     put_in-keeps start end x (sorted xs) ∙ ap (λ (ys : List Labelled). cond (has_range start end x) (x ∷ ys) ys) (sorted-keeps start end xs)
@@ -63,7 +63,7 @@ sorted-keeps start end (x ∷ xs) =
 -- ---- labels in order
 
 -- no label stands before an earlier one
-abbrev Ascends : List Labelled → Type 0
+abbrev pub Ascends : List Labelled → Type 0
 Ascends [] = Unit {0}
 Ascends (x ∷ xs) = Each (λ y. stands_before y x ≡ false) xs × Ascends xs
 
@@ -82,7 +82,7 @@ put_in-ascends x (y ∷ ys) h =
     (λ t. ((t, each_weaker (λ z. stands_before z y ≡ false) (λ z. stands_before z x ≡ false) ys (λ z k. before_chain z y x k t) h.0), h))
 
 -- sorted labels are in order
-sorted-ascends : (xs : List Labelled) → Ascends (sorted xs)
+pub sorted-ascends : (xs : List Labelled) → Ascends (sorted xs)
 sorted-ascends [] = tt
 sorted-ascends (x ∷ xs) = put_in-ascends x (sorted xs) (sorted-ascends xs)
 
@@ -127,7 +127,7 @@ same-rest x xs ys same start end = by_test (has_range start end x) (same start e
     by_test false e = e
 
 -- labels in order are one list where those of each range are
-ascending-same : (xs ys : List Labelled) → Ascends xs → Ascends ys → SameRanges xs ys → xs ≡ ys
+pub ascending-same : (xs ys : List Labelled) → Ascends xs → Ascends ys → SameRanges xs ys → xs ≡ ys
 ascending-same [] [] a b same = refl
 ascending-same [] (y ∷ ys) a b same = let e = same y.start y.end ∙ own_first y ys in cc
 ascending-same (x ∷ xs) [] a b same = let e = sym (own_first x xs) ∙ same x.start x.end in cc

@@ -76,7 +76,7 @@ contains-flat_map f x y [] (k, low, same) c = absurd (omega arith)
 contains-flat_map f x y (z ∷ xs) (zero, low, same) c = contains-append_left y (f z) (flat_map f xs) (rw same c)
 contains-flat_map f x y (z ∷ xs) (suc k, low, same) c = contains-append_right y (f z) (flat_map f xs) (contains-flat_map f x y xs (k, omega arith, same) c)
 
-contains-filter : {X : Type 0} (p : X → Bool) (x : X) (xs : List X) → p x ≡ true → Contains xs x → Contains (filter p xs) x
+pub contains-filter : {X : Type 0} (p : X → Bool) (x : X) (xs : List X) → p x ≡ true → Contains xs x → Contains (filter p xs) x
 contains-filter p x [] e (k, low, same) = absurd (omega arith)
 contains-filter p x (y ∷ xs) e (zero, low, same) = rw (ap p same ∙ e) (zero, omega arith, same)
 contains-filter p x (y ∷ xs) e (suc k, low, same) = by_test (contains-filter p x xs e (k, omega arith, same)) (p y)
@@ -85,7 +85,7 @@ contains-filter p x (y ∷ xs) e (suc k, low, same) = by_test (contains-filter p
     by_test c true = there x y (filter p xs) c
     by_test c false = c
 
-contains-range : (a n l : ℕ) → a ≤ l → l < a + n → Contains (range_with_len a n) l
+pub contains-range : (a n l : ℕ) → a ≤ l → l < a + n → Contains (range_with_len a n) l
 contains-range a zero l h k = absurd (omega arith)
 contains-range a (suc n) l h k = ⊎_elim (λ p. there l a _ (contains-range (a + 1) n l (omega arith) (omega arith))) (λ p. (zero, omega arith, omega arith)) (cases_lt a l)
 

@@ -14,7 +14,7 @@ use Rattle.codespan_reporting.specs.RowParts.{line_cells}
 use Rattle.codespan_reporting.specs.Snippets.{LabelledFile, InFile, line_at}
 use Rattle.codespan_reporting.specs.Padding.{padding_of}
 use Rattle.codespan_reporting.specs.Picture.{look_of, labels_of, files_of, heading_of, notes_of, picture, rich_stream}
-use Rattle.codespan_reporting.specs.Lookups.{Refusals, lookups_in, early_lookups, first_refusal, IsSomeRefused, AllAnswered, headers_before_refusal}
+use Rattle.codespan_reporting.specs.Lookups.{Refusals, lookups_in, early_lookups, late_lookups, first_refusal, IsSomeRefused, AllAnswered, headers_before_refusal}
 use Rattle.codespan_reporting.specs.CaretLaws.{CaretsAreCells, StartsInWide, PointersAreCells}
 use Rattle.codespan_reporting.specs.LaneLaws.{BarsAreLabels, LanesAreLines}
 use Rattle.codespan_reporting.specs.LineLaws.{BreaksAreGaps, BreaksAreCovered, DrawingOfShown, SourceRowsAreFew}
@@ -82,13 +82,15 @@ module _ {Id : Type 0} (view renderer : Config) (same : Id → Id → Bool) (fil
   abbrev pub viewed_picture : Stream
   viewed_picture = rich_stream renderer view d.severity (heading_of d) (files_of same file d) (notes_of d)
 
-  -- what the call that draws a rich picture does to the writer
+  -- what the call that draws a rich picture does to the writer; where the name of a file can not be printed nothing is written
   pub record DrawsRich (old : Sink) (r : Result (Unit {0}) Error) (new : Sink) : Type 0 where
     pub frame : MatchResult r (λ _. new.frame ≡ old.frame) (λ e. Blames refusal (lookups_in Rich view same file refusal d) old.frame e new.frame)
     pub stream : NamesAreStated file d → is_told old ≡ true
         → MatchResult r (λ _. new ≡ sent old viewed_picture) (λ _. Began old viewed_picture new)
     pub answered : MatchResult r (λ _. AllAnswered refusal (lookups_in Rich view same file refusal d)) (λ _. Unit {0})
     pub early : IsSomeRefused refusal (early_lookups view same file refusal (labels_of d)) → new ≡ old
+    pub unprintable : MatchResult r (λ _. Unit {0}) (λ e. e ≡ FormatError
+        → (new ≡ old) ⊎ (first_refusal refusal (late_lookups view same file refusal (labels_of d)) ≡ Some FormatError))
 
 -- ---- the calls that emit
 

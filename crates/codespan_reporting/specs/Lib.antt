@@ -28,8 +28,17 @@ pub mod Lines
 pub mod Snippets
 pub mod Padding
 pub mod Picture
+pub mod Loci
 pub mod Lookups
-pub mod Scope
+pub mod Asking
+pub mod Entries
+pub mod GivenEntries
+pub mod PlacedLabels
+pub mod Steps
+pub mod GivenSnippets
+pub mod GivenSheets
+pub mod GivenPadding
+pub mod StepDrawing
 pub mod Views
 -- what a picture means
 pub mod CaretLaws

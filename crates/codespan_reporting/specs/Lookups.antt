@@ -37,18 +37,30 @@ abbrev pub ends_context : Option Error → Bool
 ends_context (Some (LineTooLarge given max)) = true
 ends_context _ = false
 
+-- what a line is refused with: its range, and, where the file has it, its number; a line too many ends the context after this one
+abbrev pub line_refusal : FileModel → (Lookup → Option Error) → ℕ → ℕ → Option Error
+line_refusal f refusal last l =
+    if nat_lt last l && ends_context (refusal (LineRange l)) then None
+    else or_refusal (refusal (LineRange l)) (if nat_lt l (line_count f) then refusal (LineNumber l) else None)
+
 -- the line after the last one, where the context reaches it, is asked for too: of a file that is there this ends the context
 abbrev pub probe : Config → FileModel → (Lookup → Option Error) → Labelled → List Lookup
 probe config f refusal x =
     if nat_le (line_count f) (last_line f x + config.after_label_lines) && not (ends_context (refusal (LineRange (line_count f))))
     then LineRange (line_count f) ∷ [] else []
 
--- those of one label: the lines of its ends, then the ranges and numbers of its lines and of the lines around them
+-- the line is one of the label's, or stands around them
+abbrev pub is_asked : Config → FileModel → Labelled → ℕ → Bool
+is_asked config f x l = spans f x l || is_around config (first_line f x) (last_line f x) l
+
+-- the lines of the file that a label asks for: its own and those around them
+abbrev pub asked_lines : Config → FileModel → Labelled → List ℕ
+asked_lines config f x = filter (is_asked config f x) (range_with_len 0 (line_count f))
+
+-- those of one label: the lines of its ends, then the ranges and numbers of the lines that it asks for
 abbrev pub of_label : Config → FileModel → (Lookup → Option Error) → Labelled → List Lookup
 of_label config f refusal x =
-    LineIndex x.start ∷ LineIndex x.end
-    ∷ flat_map of_line (filter (λ l. spans f x l || is_around config (first_line f x) (last_line f x) l) (range_with_len 0 (line_count f)))
-    ++ probe config f refusal x
+    LineIndex x.start ∷ LineIndex x.end ∷ flat_map of_line (asked_lines config f x) ++ probe config f refusal x
 
 -- lines that are drawn and not shown
 abbrev pub filled_lines : Config → LabelledFile → List ℕ
@@ -58,6 +70,22 @@ filled_lines config s =
 -- lookups of one file
 abbrev pub asked_of : {Id : Type 0} → Id → List Lookup → List (Id × Lookup)
 asked_of {Id} id ls = map (λ l. (id, l)) ls
+
+-- those of one label of a diagnostic
+abbrev pub label_asked : {Id : Type 0} → Config → (Id → FileModel) → Refusals Id → InFile Id → List (Id × Lookup)
+label_asked config file refusal x = asked_of x.id (of_label config (file x.id) (refusal x.id) x.label)
+
+-- those of all labels, in their order
+abbrev pub label_lookups : {Id : Type 0} → Config → (Id → FileModel) → Refusals Id → List (InFile Id) → List (Id × Lookup)
+label_lookups config file refusal xs = flat_map (label_asked config file refusal) xs
+
+-- where a file's snippet starts: its name, and the location of the start
+abbrev pub locus_lookups : {Id : Type 0} → (Id → Id → Bool) → (Id → FileModel) → List (InFile Id) → Id → List Lookup
+locus_lookups same file xs id = Name ∷ LocationAt (locus_start (labelled_file same file xs id).labels) ∷ []
+
+-- those with a file's snippet: its source, and the ranges and the numbers of the lines that are filled in
+abbrev pub snippet_lookups : {Id : Type 0} → Config → (Id → Id → Bool) → (Id → FileModel) → List (InFile Id) → Id → List (Id × Lookup)
+snippet_lookups config same file xs id = asked_of id (Source ∷ flat_map of_line (filled_lines config (labelled_file same file xs id)))
 
 module _ {Id : Type 0} (config : Config) (same : Id → Id → Bool) (file : Id → FileModel) (refusal : Refusals Id) (xs : List (InFile Id)) where
   -- the ids of the files
@@ -72,13 +100,13 @@ module _ {Id : Type 0} (config : Config) (same : Id → Id → Bool) (file : Id 
   -- the lookups of a rich picture before its header: where one of these refuses nothing is written
   abbrev pub early_lookups : List (Id × Lookup)
   early_lookups =
-      flat_map (λ (x : InFile Id). asked_of x.id (of_label config (file x.id) (refusal x.id) x.label)) xs
+      label_lookups config file refusal xs
       ++ flat_map (λ id. asked_of id (numbers_for_padding config.layout id)) ids
-      ++ flat_map (λ id. asked_of id (Name ∷ LocationAt (locus_start (labelled_file same file xs id).labels) ∷ [])) ids
+      ++ flat_map (λ id. asked_of id (locus_lookups same file xs id)) ids
 
   -- the lookups of a rich picture with its lines
   abbrev pub late_lookups : List (Id × Lookup)
-  late_lookups = flat_map (λ id. asked_of id (Source ∷ flat_map of_line (filled_lines config (labelled_file same file xs id)))) ids
+  late_lookups = flat_map (snippet_lookups config same file xs) ids
 
 -- the lookups of short and medium style, for each primary label
 abbrev pub header_lookups : {Id : Type 0} → List (InFile Id) → List (Id × Lookup)

@@ -13,9 +13,13 @@ use Rattle.codespan_reporting.specs.Snippets.{LabelledFile}
 abbrev pub digit_count : ℕ → ℕ
 digit_count n = length (decimal n)
 
+-- the line is one of these two, or stands between them
+abbrev pub spans_line : ℕ → ℕ → ℕ → Bool
+spans_line s e l = (l == s) || (l == e) || (nat_le s l && nat_le l e)
+
 -- the line is an end of the label or stands between its ends
 abbrev pub spans : FileModel → Labelled → ℕ → Bool
-spans f x l = (l == first_line f x) || (l == last_line f x) || (nat_le (first_line f x) l && nat_le l (last_line f x))
+spans f x l = spans_line (first_line f x) (last_line f x) l
 
 -- the lines of the labels
 abbrev pub spanned_lines : LabelledFile → List ℕ

@@ -2,12 +2,12 @@
 
 use crate::diagnostic::{Diagnostic, Label, LabelStyle, Severity};
 use crate::files::{Error, SimpleFiles};
-use crate::term::{Config, PlainWriter, Renderer, emit_into_string, in_scope};
+use crate::term::{Config, PlainWriter, Renderer, emit_into_string};
 use std::alloc::Global;
 use std::test::Fail;
 
-/// The picture of a fault in a file of settings, if it can be drawn yet.
-fn picture(alloc: Global) -> Result<Option<String>, Error> {
+/// The picture of a fault in a file of settings.
+fn picture(alloc: Global) -> Result<String, Error> {
     let mut files = SimpleFiles::new(alloc);
     let id = files.add("settings.toml", "retries = many\n")?;
     let label = Label::primary(alloc, id, 10..14).with_message("expected a number")?;
@@ -16,11 +16,7 @@ fn picture(alloc: Global) -> Result<Option<String>, Error> {
         .with_message("a value of the wrong type")?
         .with_label(label)?;
 
-    let config = Config::default();
-    if !in_scope(&config, &files, &diagnostic)? {
-        return Ok(None);
-    }
-    emit_into_string(&config, &files, &diagnostic).map(Some)
+    emit_into_string(&Config::default(), &files, &diagnostic)
 }
 
 /// The rows of a line with three labels.
@@ -58,7 +54,7 @@ fn quick_start(rt: HostRuntime) -> Result<(), Fail> {
                 │\n\
                 1 │ retries = many\n  \
                 │           ^^^^ expected a number\n\n";
-    assert!(rt; matches!(&picture, Some(text) if text.as_str() == want));
+    assert_eq!(rt; picture.as_str(), want);
 
     let rows = rows(rt.alloc())?;
     let want = "3 │     v.push(v.pop().unwrap());\n\

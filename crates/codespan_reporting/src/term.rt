@@ -12,4 +12,4 @@ pub use codespan_base::term::{
 };
 pub use emit::emit_into_string;
 pub use renderer::{Locus, MultiLabel, Renderer, SingleLabel, lanes_in_order};
-pub use views::{RichDiagnostic, in_scope};
+pub use views::RichDiagnostic;

@@ -1,8 +1,8 @@
 -- What the outcome of a run tells.
 use Rattle.std.proofs.Common.{◌≤◌, IfErr, OnOk, Result, refl, ◌≡◌, ◌≢◌, ℕ, List, Option, Some, None, Ok, Err, IfSome, IsErrOf, subst, arith}
+use Rattle.std.specs.Str.{IsUtf8}
 use Rattle.report.specs.declared.fault.Fault.{Fault}
-use Rattle.report.specs.declared.fault.Fault.TheVariants.{WrongArguments, CannotReadInput, NotUtf8, NotDrawnYet, Drawing, CannotWriteOutput}
-use Rattle.report.specs.Drawings.{CanBeDrawn}
+use Rattle.report.specs.declared.fault.Fault.TheVariants.{WrongArguments, CannotReadInput, NotUtf8, Drawing, CannotWriteOutput}
 use Rattle.report.specs.Faults.{FaultTells, status_of}
 use Rattle.report.specs.Requests.{WhereKnown, request_of}
 
@@ -12,7 +12,6 @@ status_at_most (Ok done) = omega arith
 status_at_most (Err WrongArguments) = omega arith
 status_at_most (Err CannotReadInput) = omega arith
 status_at_most (Err NotUtf8) = omega arith
-status_at_most (Err NotDrawnYet) = omega arith
 status_at_most (Err (Drawing error)) = omega arith
 status_at_most (Err CannotWriteOutput) = omega arith
 
@@ -22,7 +21,6 @@ wrong_by_status (Ok done) two = absurd (omega arith)
 wrong_by_status (Err WrongArguments) two = refl
 wrong_by_status (Err CannotReadInput) two = absurd (omega arith)
 wrong_by_status (Err NotUtf8) two = absurd (omega arith)
-wrong_by_status (Err NotDrawnYet) two = absurd (omega arith)
 wrong_by_status (Err (Drawing error)) two = absurd (omega arith)
 wrong_by_status (Err CannotWriteOutput) two = absurd (omega arith)
 
@@ -32,7 +30,6 @@ success_by_status (Ok done) zero held = held
 success_by_status (Err WrongArguments) zero held = absurd (omega arith)
 success_by_status (Err CannotReadInput) zero held = absurd (omega arith)
 success_by_status (Err NotUtf8) zero held = absurd (omega arith)
-success_by_status (Err NotDrawnYet) zero held = absurd (omega arith)
 success_by_status (Err (Drawing error)) zero held = absurd (omega arith)
 success_by_status (Err CannotWriteOutput) zero held = absurd (omega arith)
 
@@ -49,15 +46,15 @@ known_weaker None b P Q follows known = tt
 known_weaker (Some x) None P Q follows known = tt
 known_weaker (Some x) (Some y) P Q follows known = follows x y known
 
--- where the source can not be drawn the output stays
-pub kept_undrawable : (words : List (List ℕ)) (bytes : Option (List ℕ)) (X : Type 0) (outcome : Result (Unit {0}) Fault)
-    → OnOk outcome (WhereKnown words bytes CanBeDrawn)
-    → IfErr outcome (λ fault. WhereKnown words bytes (FaultTells fault))
+-- where the source is not UTF-8 the output stays
+pub kept_at_not_utf8 : (words : List (List ℕ)) (bytes : Option (List ℕ)) (X : Type 0) (outcome : Result (Unit {0}) Fault)
+    → OnOk outcome (WhereKnown words bytes (λ _ source. IsUtf8 source))
+    → IfErr outcome (λ fault. WhereKnown words bytes (λ _. FaultTells fault))
     → IfErr outcome (λ fault. fault ≢ CannotWriteOutput → X)
-    → WhereKnown words bytes (λ request source. ¬ (CanBeDrawn request source) → X)
-kept_undrawable words bytes X (Ok done) can told kept =
-    known_weaker (request_of words) bytes CanBeDrawn (λ request source. ¬ (CanBeDrawn request source) → X)
-    (λ request source drawn cannot. absurd (cannot drawn)) can
-kept_undrawable words bytes X (Err fault) can told kept =
-    known_weaker (request_of words) bytes (FaultTells fault) (λ request source. ¬ (CanBeDrawn request source) → X)
-    (λ request source tells cannot. kept (λ output. cannot (subst (λ (f : Fault). FaultTells f request source) output tells))) told
+    → WhereKnown words bytes (λ _ source. ¬ (IsUtf8 source) → X)
+kept_at_not_utf8 words bytes X (Ok done) utf8 told kept =
+    known_weaker (request_of words) bytes (λ _ source. IsUtf8 source) (λ _ source. ¬ (IsUtf8 source) → X)
+    (λ request source is other. absurd (other is)) utf8
+kept_at_not_utf8 words bytes X (Err fault) utf8 told kept =
+    known_weaker (request_of words) bytes (λ _. FaultTells fault) (λ _ source. ¬ (IsUtf8 source) → X)
+    (λ request source tells other. kept (λ output. other (subst (λ (f : Fault). FaultTells f source) output tells))) told

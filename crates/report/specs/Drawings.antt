@@ -1,12 +1,11 @@
 -- What a request draws over a source.
-use Rattle.std.specs.Prelude.{◌≡◌, ℕ, IsTrue, List, [], ◌∷◌, Some, None}
-use Rattle.std.specs.Str.{IsUtf8}
+use Rattle.std.specs.Prelude.{◌≡◌, ℕ, List, [], ◌∷◌, Some, None}
 use Rattle.codespan_base.specs.declared.diagnostic.Diagnostic.{Diagnostic}
 use Rattle.codespan_base.specs.declared.diagnostic.LabelStyle.TheVariants.{Primary}
 use Rattle.codespan_base.specs.declared.diagnostic.Severity.TheVariants.{Error}
 use Rattle.codespan_base.specs.FileModel.{FileModel}
 use Rattle.codespan_base.specs.SimpleModel.{simple_file}
-use Rattle.codespan_base.specs.Labels.{Labelled, is_single}
+use Rattle.codespan_base.specs.Labels.{Labelled}
 use Rattle.codespan_base.specs.Defaults.{default_config}
 use Rattle.codespan_base.specs.Streams.{bytes, text_of}
 use Rattle.codespan_reporting.specs.Rows.{Heading}
@@ -30,15 +29,6 @@ unfoldable pub picture_text : RequestView → List ℕ → List ℕ
 picture_text request source =
     text_of (rich_picture default_config Error (heading_of_request request)
     (record { file = file_of request source; labels = label_of request ∷ [] } ∷ []) [])
-
--- the label ends on the line that it begins on
-abbrev pub IsWithinLine : RequestView → List ℕ → Type 0
-IsWithinLine request source = IsTrue (is_single (file_of request source) (label_of request))
-
--- the source is UTF-8, and the label ends on the line that it begins on: what is drawn so far
-pub record CanBeDrawn (request : RequestView) (source : List ℕ) : Type 0 where
-  pub is_text : IsUtf8 source
-  pub is_within_line : IsWithinLine request source
 
 -- the diagnostic is the one that is asked for
 pub record IsAsked (request : RequestView) (d : Diagnostic (Unit {0})) : Type 0 where

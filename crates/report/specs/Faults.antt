@@ -4,9 +4,7 @@ use Rattle.std.specs.Option.{option_map}
 use Rattle.std.specs.Str.{IsUtf8}
 use Rattle.codespan_base.specs.ErrorText.{error_text}
 use Rattle.report.specs.declared.fault.Fault.{Fault}
-use Rattle.report.specs.declared.fault.Fault.TheVariants.{WrongArguments, CannotReadInput, NotUtf8, NotDrawnYet, Drawing, CannotWriteOutput}
-use Rattle.report.specs.Drawings.{CanBeDrawn, IsWithinLine}
-use Rattle.report.specs.Requests.{RequestView}
+use Rattle.report.specs.declared.fault.Fault.TheVariants.{WrongArguments, CannotReadInput, NotUtf8, Drawing, CannotWriteOutput}
 
 -- the program's status: 0 where there is no fault, 2 for wrong arguments, and 1 for any other fault
 abbrev pub status_of : Result (Unit {0}) Fault → ℕ
@@ -14,7 +12,6 @@ status_of (Ok done) = 0
 status_of (Err WrongArguments) = 2
 status_of (Err CannotReadInput) = 1
 status_of (Err NotUtf8) = 1
-status_of (Err NotDrawnYet) = 1
 status_of (Err (Drawing error)) = 1
 status_of (Err CannotWriteOutput) = 1
 
@@ -23,15 +20,13 @@ abbrev pub fault_text : Fault → Option (List ℕ)
 fault_text WrongArguments = Some (codes "usage: report STYLE NAME START END MESSAGE")
 fault_text CannotReadInput = Some (codes "report: cannot read input")
 fault_text NotUtf8 = Some (codes "report: input is not UTF-8")
-fault_text NotDrawnYet = Some (codes "report: not drawn yet")
 fault_text (Drawing error) = option_map (λ text. codes "report: " ++ text) (error_text error)
 fault_text CannotWriteOutput = Some (codes "report: cannot write output")
 
--- what a fault tells of what was asked for and of its source
-abbrev pub FaultTells : Fault → RequestView → List ℕ → Type 0
-FaultTells WrongArguments request source = ⊥
-FaultTells CannotReadInput request source = Unit {0}
-FaultTells NotUtf8 request source = ¬ (IsUtf8 source)
-FaultTells NotDrawnYet request source = ¬ (IsWithinLine request source)
-FaultTells (Drawing error) request source = Unit {0}
-FaultTells CannotWriteOutput request source = CanBeDrawn request source
+-- what a fault tells of the source of a request
+abbrev pub FaultTells : Fault → List ℕ → Type 0
+FaultTells WrongArguments source = ⊥
+FaultTells CannotReadInput source = Unit {0}
+FaultTells NotUtf8 source = ¬ (IsUtf8 source)
+FaultTells (Drawing error) source = Unit {0}
+FaultTells CannotWriteOutput source = IsUtf8 source

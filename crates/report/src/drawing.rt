@@ -1,31 +1,26 @@
 //! The picture of a request.
 
-ghost use Rattle.std.specs.Prelude.{◌≡◌, ◌⊎◌, IfOk, IfErr, OnOk, IsErrOf, string_bytes};
+ghost use Rattle.std.specs.Prelude.{◌≡◌, IfOk, IfErr, string_bytes};
 ghost use Rattle.codespan_base.specs.Diagnostics.{IsTextRefusal};
 ghost use Rattle.codespan_base.specs.declared.files.error.Error.{Error};
-ghost use Rattle.report.specs.Drawings.{IsAsked, IsWithinLine, picture_text};
+ghost use Rattle.report.specs.Drawings.{IsAsked, picture_text};
 ghost use Rattle.report.specs.Requests.{request_view};
 
 use crate::fault::Fault;
 use crate::request::Request;
 use codespan_reporting::diagnostic::{Diagnostic, Label};
 use codespan_reporting::files::{Error, SimpleFile};
-use codespan_reporting::term::{Config, emit_into_string, in_scope};
+use codespan_reporting::term::{Config, emit_into_string};
 use std::alloc::Global;
 
 /// The text of the picture that is asked for.
 pub fn draw(alloc: Global, request: &Request<'_>, source: &str) -> Result<String, Fault>
     ensures text { IfOk result (λ text. string_bytes text ≡ picture_text (request_view request.now) source.now) }
-    ensures drawn { OnOk result (IsWithinLine (request_view request.now) source.now) }
-    ensures not_yet { IsErrOf result Fault.NotDrawnYet → ¬ (IsWithinLine (request_view request.now) source.now) }
-    ensures refused { IfErr result (λ fault. (fault ≡ Fault.NotDrawnYet) ⊎ ((error : Error) × (fault ≡ Fault.Drawing error))) }
+    ensures refused { IfErr result (λ fault. (error : Error) × (fault ≡ Fault.Drawing error)) }
 {
     let file = SimpleFile::new(alloc, request.name, source)?;
     let diagnostic = diagnostic(alloc, request)?;
     let config = Config::default();
-    if !in_scope(&config, &file, &diagnostic)? {
-        return Err(Fault::NotDrawnYet);
-    }
     Ok(emit_into_string(&config, &file, &diagnostic)?)
 }
 

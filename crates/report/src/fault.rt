@@ -18,8 +18,6 @@ pub enum Fault {
     CannotReadInput,
     /// The input is not UTF-8.
     NotUtf8,
-    /// The label ends on another line than it begins on.
-    NotDrawnYet,
     /// The drawing was refused.
     Drawing(Error),
     /// A write or the flush of the output was refused.
@@ -57,7 +55,6 @@ impl fmt::Display for Fault {
             Fault::WrongArguments => write!(f, "usage: report STYLE NAME START END MESSAGE"),
             Fault::CannotReadInput => write!(f, "report: cannot read input"),
             Fault::NotUtf8 => write!(f, "report: input is not UTF-8"),
-            Fault::NotDrawnYet => write!(f, "report: not drawn yet"),
             Fault::Drawing(error) => write!(f, "report: {error}"),
             Fault::CannotWriteOutput => write!(f, "report: cannot write output"),
         }

@@ -2,7 +2,8 @@
 
 ghost use Rattle.std.specs.Prelude.{◌≡◌, ◌≢◌, ◌≤◌, ◌↔◌, None, IfErr, IsErrOf, OnOk, map, string_bytes};
 ghost use Rattle.std.specs.Io.KnownBytes.{Appends, IsAtEnd};
-ghost use Rattle.report.specs.Drawings.{CanBeDrawn, picture_text};
+ghost use Rattle.std.specs.Str.{IsUtf8};
+ghost use Rattle.report.specs.Drawings.{picture_text};
 ghost use Rattle.report.specs.Faults.{FaultTells, status_of};
 ghost use Rattle.report.specs.Requests.{WhereKnown, request_of};
 
@@ -31,9 +32,9 @@ pub fn run<R: Read, W: Write, E: Write>(
     ensures read { result ≡ 0 → IsAtEnd (R.remaining input.new) }
     ensures drawn { result ≡ 0 → WhereKnown (map string_bytes args.now) (R.remaining input.old) (λ request source.
         Appends (W.contents output.old) (W.contents output.new) (picture_text request source)) }
-    ensures drawable { result ≡ 0 → WhereKnown (map string_bytes args.now) (R.remaining input.old) CanBeDrawn }
-    ensures kept { WhereKnown (map string_bytes args.now) (R.remaining input.old) (λ request source.
-        ¬ (CanBeDrawn request source) → output.new ≡ output.old) }
+    ensures utf8 { result ≡ 0 → WhereKnown (map string_bytes args.now) (R.remaining input.old) (λ _ source. IsUtf8 source) }
+    ensures kept { WhereKnown (map string_bytes args.now) (R.remaining input.old) (λ _ source.
+        ¬ (IsUtf8 source) → output.new ≡ output.old) }
 {
     conclude(report(alloc, args, input, output), faults)
 }
@@ -67,8 +68,8 @@ fn report<R: Read, W: Write>(
     ensures read { OnOk result (IsAtEnd (R.remaining input.new)) }
     ensures drawn { OnOk result (WhereKnown (map string_bytes args.now) (R.remaining input.old) (λ request source.
         Appends (W.contents output.old) (W.contents output.new) (picture_text request source))) }
-    ensures drawable { OnOk result (WhereKnown (map string_bytes args.now) (R.remaining input.old) CanBeDrawn) }
-    ensures told { IfErr result (λ fault. WhereKnown (map string_bytes args.now) (R.remaining input.old) (FaultTells fault)) }
+    ensures utf8 { OnOk result (WhereKnown (map string_bytes args.now) (R.remaining input.old) (λ _ source. IsUtf8 source)) }
+    ensures told { IfErr result (λ fault. WhereKnown (map string_bytes args.now) (R.remaining input.old) (λ _. FaultTells fault)) }
     ensures kept { IfErr result (λ fault. fault ≢ Fault.CannotWriteOutput → output.new ≡ output.old) }
 {
     let request = Request::from_arguments(args).ok_or(Fault::WrongArguments)?;

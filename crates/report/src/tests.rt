@@ -12,6 +12,9 @@ const REQUEST: [&str; 5] = ["rich", "f.txt", "0", "3", "bad"];
 /// What they draw over `abc` and a newline.
 const PICTURE: &str = "error: bad\n  ┌─ f.txt:1:1\n  │\n1 │ abc\n  │ ^^^ bad\n\n";
 
+/// What a label over both lines draws over `abc`, a newline and `d`.
+const TWO_LINES: &str = "error: bad\n  ┌─ f.txt:1:1\n  │  \n1 │ ╭ abc\n2 │ │ d\n  │ ╰^ bad\n\n";
+
 /// The line of wrong arguments.
 const USAGE: &str = "usage: report STYLE NAME START END MESSAGE\n";
 
@@ -145,10 +148,9 @@ fn report_run(rt: HostRuntime) -> Result<(), Fail> {
 #[test]
 fn report_two_lines(rt: HostRuntime) -> Result<(), Fail> {
     let two = ran(rt.alloc(), &["rich", "f.txt", "0", "4", "bad"], b"abc\nd")?;
-    let line = "report: not drawn yet\n";
     assert_eq!(rt;
         (two.output.text(), two.faults.text(), two.status),
-        ("", line, 1)
+        (TWO_LINES, "", 0)
     );
     Ok(())
 }
@@ -270,23 +272,19 @@ fn refused_output(rt: HostRuntime) -> Result<(), Fail> {
 
 #[test]
 fn refused_faults(rt: HostRuntime) -> Result<(), Fail> {
-    let runs: [(&[&str], &[u8], u8); 3] = [
-        (&[], b"abc\n", 2),
-        (&REQUEST, b"\xff", 1),
-        (&["rich", "f.txt", "0", "4", "bad"], b"abc\nd", 1),
+    let runs: [(&[&str], &[u8], Option<usize>, u8); 3] = [
+        (&[], b"abc\n", None, 2),
+        (&REQUEST, b"\xff", None, 1),
+        (&REQUEST, b"abc\n", Some(0), 1),
     ];
-    for (words, text, wanted) in runs {
+    for (words, text, refused_read, wanted) in runs {
         let args = arguments(rt.alloc(), words)?;
+        let mut input = Input::new(text);
+        input.refused_read = refused_read;
         let mut output = Output::new(rt.alloc());
         let mut faults = Output::new(rt.alloc());
         faults.refused_write = Some(1);
-        let status = run(
-            rt.alloc(),
-            &args,
-            &mut Input::new(text),
-            &mut output,
-            &mut faults,
-        );
+        let status = run(rt.alloc(), &args, &mut input, &mut output, &mut faults);
         assert_eq!(rt; (output.text(), status), ("", wanted), "{words:?}");
         assert_eq!(rt; faults.taken.len(), 4, "{words:?}");
     }

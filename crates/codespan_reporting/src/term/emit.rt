@@ -1,8 +1,8 @@
 //! The calls that emit a diagnostic.
 
-ghost use Rattle.std.specs.Prelude.{IsTrue, string_bytes};
+ghost use Rattle.std.specs.Prelude.{◌≡◌, string_bytes};
 ghost use Rattle.codespan_reporting.specs.Headline.{DrawsText};
-ghost use Rattle.codespan_reporting.specs.Scope.{is_in_scope};
+ghost use Rattle.codespan_base.specs.declared.term.config.DisplayStyle.TheVariants.{Rich};
 
 use crate::term::renderer::Renderer;
 use crate::term::views::RichDiagnostic;
@@ -15,13 +15,13 @@ use codespan_base::term::{Config, PlainWriter};
 /// Refuses as the first lookup that refuses does, with `FormatError` where the `Display` of a file's name refuses, and with
 /// `OutOfMemory` where a growth is refused; `Io` is told only where a lookup told it.
 ///
-/// Diagnostics that [`in_scope`](crate::term::in_scope) does not let through can not be drawn yet.
+/// The style has to be [`DisplayStyle::Rich`](codespan_base::term::DisplayStyle::Rich): the others are not drawn yet.
 pub fn emit_into_string<'files, F: Files<'files>>(
     config: &Config<'_>,
     files: &'files F,
     diagnostic: &Diagnostic<F::FileId>,
 ) -> Result<String, Error>
-    requires { IsTrue (is_in_scope config.now (F.file files.now) diagnostic.now) }
+    requires { config.now.display_style ≡ Rich }
     ensures { DrawsText config.now F.FileId.eq (F.file files.now) (F.refusal files.now) diagnostic.now string_bytes result }
 {
     let mut plain = PlainWriter::new(Vec::new(*diagnostic.labels.allocator()));

@@ -1,36 +1,27 @@
 //! Worked rows through the public calls.
 
+mod drawing;
+mod label_orders;
 mod listing;
+mod other_files;
 mod refusals;
+mod several_lines;
+mod single_lines;
+mod small_lanes;
+mod small_pictures;
 
 use crate::diagnostic::{Diagnostic, Label, Severity};
 use crate::files::{Error, Files, SimpleFile, SimpleFiles};
-use crate::term::{Chars, Config, emit_into_string, in_scope};
+use crate::term::{Chars, Config, DisplayStyle, emit_into_string};
 use listing::{Listing, Refused};
 use std::alloc::Global;
 use std::process::Abort;
 use std::test::Fail;
 
-/// The picture, which the diagnostic is in scope of.
-fn draw<'files, F: Files<'files>>(
-    rt: &impl Abort,
-    config: &Config<'_>,
-    files: &'files F,
-    diagnostic: &Diagnostic<F::FileId>,
-) -> Result<String, Error> {
-    assert!(rt; in_scope(config, files, diagnostic)?);
-    emit_into_string(config, files, diagnostic)
-}
-
 #[test]
 fn bare_bug(rt: HostRuntime) -> Result<(), Fail> {
     let files = SimpleFile::new(rt.alloc(), "f", "")?;
-    let text = draw(
-        &rt,
-        &Config::default(),
-        &files,
-        &Diagnostic::bug(rt.alloc()),
-    )?;
+    let text = emit_into_string(&Config::default(), &files, &Diagnostic::bug(rt.alloc()))?;
     assert_eq!(rt; text.as_str(), "bug: \n\n");
     Ok(())
 }
@@ -53,11 +44,12 @@ fn assert_drawn(
     config: &Config<'_>,
     row: Row<'_>,
 ) -> Result<(), Error> {
+    assert!(rt; matches!(config.display_style, DisplayStyle::Rich));
     let files = SimpleFile::new(alloc, row.name, row.source)?;
     let diagnostic = Diagnostic::new(alloc, row.severity)
         .with_message(row.message)?
         .with_label(row.label)?;
-    let text = draw(rt, config, &files, &diagnostic)?;
+    let text = emit_into_string(config, &files, &diagnostic)?;
     assert_eq!(rt; text.as_str(), row.picture);
     Ok(())
 }
@@ -218,33 +210,6 @@ fn moon_jump(rt: HostRuntime) -> Result<(), Fail> {
     Ok(())
 }
 
-/// What can be drawn so far, and what not.
-#[test]
-fn scope(rt: HostRuntime) -> Result<(), Fail> {
-    let alloc = rt.alloc();
-    let files = SimpleFile::new(alloc, "f", "ab\ncd")?;
-    let config = Config::default();
-    let inside = Diagnostic::error(alloc).with_label(Label::primary(alloc, (), 0..2))?;
-    assert!(rt; in_scope(&config, &files, &inside)?);
-    let over_two = Diagnostic::error(alloc).with_label(Label::primary(alloc, (), 0..4))?;
-    assert!(rt; !in_scope(&config, &files, &over_two)?);
-    let with_note = Diagnostic::error(alloc).with_note("n")?;
-    assert!(rt; !in_scope(&config, &files, &with_note)?);
-    Ok(())
-}
-
-/// A file that is missing is told by the test.
-#[test]
-fn scope_of_missing_file(rt: HostRuntime) -> Result<(), Fail> {
-    let alloc = rt.alloc();
-    let mut files = SimpleFiles::new(alloc);
-    let id = files.add("f", "ab")?;
-    let missing = Diagnostic::error(alloc).with_label(Label::primary(alloc, id + 7, 0..1))?;
-    let answer = in_scope(&Config::default(), &files, &missing);
-    assert!(rt; matches!(answer, Err(Error::FileMissing)));
-    Ok(())
-}
-
 /// A table of files of a user's own, whose lines are numbered from 0.
 #[test]
 fn line_number_zero(rt: HostRuntime) -> Result<(), Fail> {
@@ -252,7 +217,7 @@ fn line_number_zero(rt: HostRuntime) -> Result<(), Fail> {
     let files = Listing::new(alloc, "f", "ab", Refused::default())?;
     let label = Label::primary(alloc, (), 0..1).with_message("z")?;
     let diagnostic = Diagnostic::error(alloc).with_label(label)?;
-    let text = draw(&rt, &Config::default(), &files, &diagnostic)?;
+    let text = emit_into_string(&Config::default(), &files, &diagnostic)?;
     let picture = "error: \n  ┌─ f:0:1\n  │\n0 │ ab\n  │ ^ z\n\n";
     assert_eq!(rt; text.as_str(), picture);
     Ok(())

@@ -1,8 +1,17 @@
 //! What a diagnostic's picture shows.
 
-mod label_line;
+mod entry;
+mod file_order;
+mod gather;
+mod label_lines;
+mod lines;
+mod loci;
+mod marks;
+mod padding;
+mod pass;
 mod rich;
-mod scope;
+mod sheet;
+mod snippets;
+mod sort;
 
 pub use rich::RichDiagnostic;
-pub use scope::in_scope;

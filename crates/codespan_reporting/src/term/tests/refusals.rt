@@ -2,9 +2,8 @@
 
 use crate::diagnostic::{Diagnostic, Label};
 use crate::files::{Error, Files, SimpleFile};
-use crate::term::tests::draw;
 use crate::term::tests::listing::{Listing, Refused};
-use crate::term::{Config, PlainWriter, Renderer, RichDiagnostic, in_scope};
+use crate::term::{Config, PlainWriter, Renderer, RichDiagnostic, emit_into_string};
 use std::alloc::Global;
 use std::fmt::Display;
 use std::io::{ErrorKind, Write};
@@ -20,7 +19,6 @@ fn draw_to<'files, F: Files<'files>>(
     diagnostic: &Diagnostic<F::FileId>,
 ) -> Result<(Vec<u8>, Result<(), Error>), Error> {
     let config = Config::default();
-    assert!(rt; in_scope(&config, files, diagnostic)?);
     let mut plain = PlainWriter::new(Vec::new(alloc));
     let mut renderer = Renderer::new(&mut plain, &config);
     let answer = RichDiagnostic::new(diagnostic, &config).render(files, &mut renderer);
@@ -65,7 +63,7 @@ fn refused_lookups(rt: HostRuntime) -> Result<(), Fail> {
         let (text, answer) = draw_to(&rt, rt.alloc(), &files, &diagnostic)?;
         assert!(rt; matches!(answer, Err(Error::ColumnTooLarge { given: 7, max: 1 })));
         assert_eq!(rt; text.as_slice(), held.as_bytes());
-        let answer = draw(&rt, &Config::default(), &files, &diagnostic);
+        let answer = emit_into_string(&Config::default(), &files, &diagnostic);
         assert!(rt; matches!(answer, Err(Error::ColumnTooLarge { given: 7, max: 1 })));
     }
     Ok(())
@@ -94,7 +92,7 @@ fn unprintable_name(rt: HostRuntime) -> Result<(), Fail> {
     let (text, answer) = draw_to(&rt, rt.alloc(), &files, &diagnostic)?;
     assert!(rt; matches!(answer, Err(Error::FormatError)));
     assert_eq!(rt; text.as_slice(), b"".as_slice());
-    let answer = draw(&rt, &Config::default(), &files, &diagnostic);
+    let answer = emit_into_string(&Config::default(), &files, &diagnostic);
     assert!(rt; matches!(answer, Err(Error::FormatError)));
     Ok(())
 }
@@ -132,7 +130,6 @@ fn is_whole_after(
     writes: usize,
 ) -> Result<bool, Error> {
     let files = SimpleFile::new(alloc, "f", "ab")?;
-    assert!(rt; in_scope(config, &files, diagnostic)?);
     let mut plain = PlainWriter::new(Stopping {
         text: Vec::new(alloc),
         writes_left: writes,

@@ -1,24 +1,30 @@
 //! Rich style: a diagnostic over the lines that its labels speak of.
 
-ghost use Rattle.std.specs.Prelude.{◌≡◌, ◌++◌, ◌∷◌, [], IfErr, IsTrue, None, length, decimal};
+ghost use Rattle.std.specs.Prelude.{◌≡◌, ◌+◌, ◌<◌, ◌≤◌, ◌++◌, ◌∷◌, [], IfErr, None, drop, filter, length, map, slice_index_or, slice_range};
 ghost use Rattle.codespan_base.specs.Streams.{newline};
 ghost use Rattle.codespan_base.specs.WriterLaw.{Sends};
-ghost use Rattle.codespan_reporting.specs.Cells.{drawn_text};
-ghost use Rattle.codespan_reporting.specs.Given.{labelled, place_of_given};
+ghost use Rattle.codespan_reporting.specs.Asking.{SendsAsking};
+ghost use Rattle.codespan_reporting.specs.Entries.{is_of_file};
+ghost use Rattle.codespan_reporting.specs.Given.{place_of_given};
+ghost use Rattle.codespan_reporting.specs.GivenEntries.{entry_of};
+ghost use Rattle.codespan_reporting.specs.GivenSheets.{IsPrepared, has_any, is_followed, placed_snippet, placed_snippets};
 ghost use Rattle.codespan_reporting.specs.Headline.{DrawsRich};
-ghost use Rattle.codespan_reporting.specs.Picture.{look_of, heading_of};
+ghost use Rattle.codespan_reporting.specs.Lookups.{first_refusal, late_lookups, snippet_lookups};
+ghost use Rattle.codespan_reporting.specs.Picture.{look_of, heading_of, labels_of, notes_of};
 ghost use Rattle.codespan_reporting.specs.Renderers.{writer_of, config_of, SameRenderer, IsIo};
-ghost use Rattle.codespan_reporting.specs.Rows.{rows_of};
-ghost use Rattle.codespan_reporting.specs.RowStreams.{header_row, start_row, empty_row, stream_of_rows};
-ghost use Rattle.codespan_reporting.specs.Scope.{is_in_scope};
+ghost use Rattle.codespan_reporting.specs.Rows.{BlankRow, Place};
+ghost use Rattle.codespan_reporting.specs.RowStreams.{header_row, stream_of_rows};
+ghost use Rattle.codespan_reporting.specs.Snippets.{labelled_file, labelled_files, note_rows};
 
-use crate::term::renderer::parts::count_digits;
-use crate::term::renderer::{Renderer, SingleLabel};
-use crate::term::views::label_line::{LabelLine, drawn_label, find_label_line};
-use codespan_base::diagnostic::{Diagnostic, Label, Severity};
+use crate::term::renderer::Renderer;
+use crate::term::views::marks::LineMarks;
+use crate::term::views::sheet::{Sheet, prepare};
+use crate::term::views::snippets::{Snippet, draw_snippet};
+use crate::term::views::sort::file_len;
+use codespan_base::diagnostic::Diagnostic;
 use codespan_base::files::{Error, Files};
 use codespan_base::term::{Config, WriteStyle};
-use std::convert::AsStr;
+use std::ops::Range;
 
 /// Draws a diagnostic over the lines of the source that its labels speak of.
 #[derive(Clone, Copy)]
@@ -47,7 +53,7 @@ impl<'diagnostic, 'config, FileId: Copy + Eq> RichDiagnostic<'diagnostic, 'confi
     ///
     /// Refuses as the first lookup that refuses does, with `FormatError` where the `Display` of a file's name refuses, with
     /// `OutOfMemory` where a growth is refused, and with `Io` where the writer refuses. It has written nothing then, unless the
-    /// writer or the lookup of a source refused.
+    /// writer, a growth, or the lookup of a source or of a line between two shown ones refused.
     pub fn render<'files, F, W>(
         &self,
         files: &'files F,
@@ -57,20 +63,19 @@ impl<'diagnostic, 'config, FileId: Copy + Eq> RichDiagnostic<'diagnostic, 'confi
         F: Files<'files, FileId = FileId>,
         W: WriteStyle,
         FileId: 'files,
-        requires { IsTrue (is_in_scope (view_config_of self.now) (F.file files.now) (diagnostic_of self.now)) }
         ensures same { SameRenderer renderer.old renderer.new }
         ensures draws { DrawsRich (view_config_of self.now) (config_of renderer.old) FileId.eq (F.file files.now) (F.refusal files.now) (diagnostic_of self.now) (W.sink (writer_of renderer.old)) result (W.sink (writer_of renderer.new)) }
     {
-        match self.diagnostic.labels.as_slice() {
-            [label] => self.render_label(label, files, renderer),
-            _ => render_bare(self.diagnostic, renderer),
+        if self.diagnostic.labels.is_empty() {
+            draw_bare(self.diagnostic, renderer)
+        } else {
+            self.draw_labels(files, renderer)
         }
     }
 
-    /// A diagnostic with one label, which is inside one line.
-    fn render_label<'files, F, W>(
+    /// The picture of a diagnostic with labels.
+    fn draw_labels<'files, F, W>(
         &self,
-        label: &Label<FileId>,
         files: &'files F,
         renderer: &mut Renderer<'_, '_, W>,
     ) -> Result<(), Error>
@@ -78,31 +83,96 @@ impl<'diagnostic, 'config, FileId: Copy + Eq> RichDiagnostic<'diagnostic, 'confi
         F: Files<'files, FileId = FileId>,
         W: WriteStyle,
         FileId: 'files,
-        requires labels { (diagnostic_of self.now).labels.items ≡ label.now ∷ [] }
-        requires scope { IsTrue (is_in_scope (view_config_of self.now) (F.file files.now) (diagnostic_of self.now)) }
+        requires { 0 < length (diagnostic_of self.now).labels.items }
         ensures same { SameRenderer renderer.old renderer.new }
         ensures draws { DrawsRich (view_config_of self.now) (config_of renderer.old) FileId.eq (F.file files.now) (F.refusal files.now) (diagnostic_of self.now) (W.sink (writer_of renderer.old)) result (W.sink (writer_of renderer.new)) }
     {
-        let line = find_label_line(files, label)?;
-        render_header(self.diagnostic, renderer)?;
-        let source = files.source(label.file_id)?;
-        let text = source.as_str();
-        let text = &text[line.range.start..line.range.end];
-        let drawn = drawn_label(label, line.range.start);
-        let padding = count_digits(line.number);
-        render_snippet(
-            renderer,
-            padding,
-            self.diagnostic.severity,
-            &line,
-            text,
-            drawn,
-        )
+        let diagnostic = self.diagnostic;
+        let labels = &diagnostic.labels;
+        let alloc = *labels.allocator();
+        let sheet = prepare(alloc, files, self.config, labels.as_slice())?;
+        draw_header(diagnostic, renderer)?;
+        self.draw_snippets(files, renderer, &sheet)?;
+        draw_notes(diagnostic, renderer, sheet.padding)
+    }
+
+    /// The snippets of all files, with an empty row after each, but after the last one only where notes follow.
+    fn draw_snippets<'files, F, W>(
+        &self,
+        files: &'files F,
+        renderer: &mut Renderer<'_, '_, W>,
+        sheet: &Sheet<'_, FileId>,
+    ) -> Result<(), Error>
+    where
+        F: Files<'files, FileId = FileId>,
+        W: WriteStyle,
+        FileId: 'files,
+        requires { IsPrepared FileId.eq (F.file files.now) (view_config_of self.now) (labels_of (diagnostic_of self.now)) sheet.now }
+        ensures same { SameRenderer renderer.old renderer.new }
+        ensures draws { SendsAsking (first_refusal (F.refusal files.now) (late_lookups (view_config_of self.now) FileId.eq (F.file files.now) (F.refusal files.now) (labels_of (diagnostic_of self.now)))) (W.sink (writer_of renderer.old)) (stream_of_rows (look_of (config_of renderer.old) (diagnostic_of self.now).severity sheet.now.padding) (placed_snippets (view_config_of self.now) (has_any (notes_of (diagnostic_of self.now))) (map place_of_given sheet.now.loci.items) (labelled_files FileId.eq (F.file files.now) (labels_of (diagnostic_of self.now))))) result (W.sink (writer_of renderer.new)) }
+    {
+        let mut marks = LineMarks::new(*self.diagnostic.labels.allocator());
+        let mut start = 0;
+        for place in 0..sheet.ids.len() {
+            let len = file_len(&sheet.entries[start..], place);
+            self.draw_file(
+                files,
+                renderer,
+                sheet,
+                &mut marks,
+                place,
+                start..start + len,
+            )?;
+            start += len;
+        }
+        Ok(())
+    }
+
+    /// The snippet of the file at a place, whose entries are those of the range, and the row after it where something follows.
+    fn draw_file<'files, 'd, F, W>(
+        &self,
+        files: &'files F,
+        renderer: &mut Renderer<'_, '_, W>,
+        sheet: &Sheet<'d, FileId>,
+        marks: &mut LineMarks<'d>,
+        place: usize,
+        range: Range<usize>,
+    ) -> Result<(), Error>
+    where
+        F: Files<'files, FileId = FileId>,
+        W: WriteStyle,
+        FileId: 'files,
+        requires prepared { IsPrepared FileId.eq (F.file files.now) (view_config_of self.now) (labels_of (diagnostic_of self.now)) sheet.now }
+        requires inside { place < length sheet.now.ids.items }
+        requires order { range.start ≤ range.end }
+        requires end { range.end ≤ length sheet.now.entries.items }
+        requires own { map entry_of (slice_range sheet.now.entries.items range.start range.end) ≡ filter (is_of_file place) (map entry_of sheet.now.entries.items) }
+        ensures same { SameRenderer renderer.old renderer.new }
+        ensures draws { (id : FileId) (start : Place) → id ≡ slice_index_or sheet.now.ids.items place id → start ≡ slice_index_or (map place_of_given sheet.now.loci.items) place start → SendsAsking (first_refusal (F.refusal files.now) (snippet_lookups (view_config_of self.now) FileId.eq (F.file files.now) (labels_of (diagnostic_of self.now)) id)) (W.sink (writer_of renderer.old)) (stream_of_rows (look_of (config_of renderer.old) (diagnostic_of self.now).severity sheet.now.padding) (placed_snippet (view_config_of self.now) (is_followed (has_any (notes_of (diagnostic_of self.now))) (drop (place + 1) sheet.now.ids.items)) start (labelled_file FileId.eq (F.file files.now) (labels_of (diagnostic_of self.now)) id))) result (W.sink (writer_of renderer.new)) }
+    {
+        let diagnostic = self.diagnostic;
+        let snippet = Snippet {
+            id: sheet.ids[place],
+            locus: &sheet.loci[place],
+            lane_count: sheet.lane_counts[place],
+            entries: &sheet.entries[range],
+            padding: sheet.padding,
+            severity: diagnostic.severity,
+        };
+        let is_followed = has_notes(diagnostic) || place + 1 < sheet.ids.len();
+        draw_snippet(renderer, files, &snippet, marks, is_followed)
     }
 }
 
+/// Whether the diagnostic has a note.
+fn has_notes<FileId>(diagnostic: &Diagnostic<FileId>) -> bool
+    ensures { result ≡ has_any (notes_of diagnostic.now) }
+{
+    !diagnostic.notes.is_empty()
+}
+
 /// The header.
-fn render_header<FileId, W: WriteStyle>(
+fn draw_header<FileId, W: WriteStyle>(
     diagnostic: &Diagnostic<FileId>,
     renderer: &mut Renderer<'_, '_, W>,
 ) -> Result<(), Error>
@@ -118,36 +188,31 @@ fn render_header<FileId, W: WriteStyle>(
     )
 }
 
-/// A diagnostic without labels.
-#[tactic(auto, using(codespan_base::proofs::Sends::sendings))]
-fn render_bare<FileId, W: WriteStyle>(
+/// The notes, and the empty line at the end.
+fn draw_notes<FileId, W: WriteStyle>(
+    diagnostic: &Diagnostic<FileId>,
+    renderer: &mut Renderer<'_, '_, W>,
+    padding: usize,
+) -> Result<(), Error>
+    ensures same { SameRenderer renderer.old renderer.new }
+    ensures sends { Sends (W.sink (writer_of renderer.old)) (stream_of_rows (look_of (config_of renderer.old) diagnostic.now.severity padding) (note_rows (notes_of diagnostic.now) ++ BlankRow ∷ [])) result (W.sink (writer_of renderer.new)) }
+    ensures io { IfErr result IsIo }
+{
+    for note in &diagnostic.notes {
+        renderer.render_snippet_note(padding, note.as_str())?;
+    }
+    renderer.render_empty()
+}
+
+/// A diagnostic without labels: its header and its notes. It asks for nothing and takes no memory.
+fn draw_bare<FileId, W: WriteStyle>(
     diagnostic: &Diagnostic<FileId>,
     renderer: &mut Renderer<'_, '_, W>,
 ) -> Result<(), Error>
     ensures same { SameRenderer renderer.old renderer.new }
-    ensures sends { Sends (W.sink (writer_of renderer.old)) (header_row diagnostic.now.severity None (heading_of diagnostic.now) ++ newline ++ newline) result (W.sink (writer_of renderer.new)) }
+    ensures sends { Sends (W.sink (writer_of renderer.old)) (header_row diagnostic.now.severity None (heading_of diagnostic.now) ++ newline ++ stream_of_rows (look_of (config_of renderer.old) diagnostic.now.severity 0) (note_rows (notes_of diagnostic.now) ++ BlankRow ∷ [])) result (W.sink (writer_of renderer.new)) }
     ensures io { IfErr result IsIo }
 {
-    render_header(diagnostic, renderer)?;
-    renderer.render_empty()
-}
-
-/// The snippet of a file with one label in one line, and the empty line after it.
-#[tactic(auto, using(codespan_base::proofs::Sends::sendings))]
-fn render_snippet<W: WriteStyle>(
-    renderer: &mut Renderer<'_, '_, W>,
-    padding: usize,
-    severity: Severity,
-    line: &LabelLine,
-    text: &str,
-    label: SingleLabel<'_>,
-) -> Result<(), Error>
-    ensures same { SameRenderer renderer.old renderer.new }
-    ensures sends { Sends (W.sink (writer_of renderer.old)) (start_row (config_of renderer.old).chars padding (place_of_given line.now.locus) ++ newline ++ (empty_row (look_of (config_of renderer.old) severity padding) (record { count = 0; marks = [] }) ++ newline) ++ stream_of_rows (look_of (config_of renderer.old) severity padding) (rows_of (record { number = line.now.number; text = drawn_text text.now; labels = labelled label.entry ∷ []; lanes = record { count = 0; marks = [] } })) ++ newline) result (W.sink (writer_of renderer.new)) }
-    ensures io { IfErr result IsIo }
-{
-    renderer.render_snippet_start(padding, &line.locus)?;
-    renderer.render_snippet_empty(padding, severity, 0, &[])?;
-    renderer.render_snippet_source(padding, line.number, text, severity, &[label], 0, &[])?;
-    renderer.render_empty()
+    draw_header(diagnostic, renderer)?;
+    draw_notes(diagnostic, renderer, 0)
 }

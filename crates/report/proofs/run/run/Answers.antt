@@ -1,6 +1,6 @@
 use Rattle.std.proofs.Common.{ap, subst, sym, ◌∙◌, ◌≤◌, ℕ}
 use Rattle.report.specs.Faults.{status_of}
-use Rattle.report.proofs.Outcomes.{kept_at_wrong, kept_undrawable, status_at_most, success_by_status, wrong_by_status}
+use Rattle.report.proofs.Outcomes.{kept_at_not_utf8, kept_at_wrong, status_at_most, success_by_status, wrong_by_status}
 use Rattle.report.proofs.run.run.Goals as goal
 
 pub returns-clause-status : goal.returns-clause-status
@@ -28,8 +28,8 @@ returns-clause-read g c = λ zero. success_by_status c.report.result (sym c.conc
 pub returns-clause-drawn : goal.returns-clause-drawn
 returns-clause-drawn g c = λ zero. success_by_status c.report.result (sym c.conclude.ensures.status ∙ zero) c.report.ensures.drawn
 
-pub returns-clause-drawable : goal.returns-clause-drawable
-returns-clause-drawable g c = λ zero. success_by_status c.report.result (sym c.conclude.ensures.status ∙ zero) c.report.ensures.drawable
+pub returns-clause-utf8 : goal.returns-clause-utf8
+returns-clause-utf8 g c = λ zero. success_by_status c.report.result (sym c.conclude.ensures.status ∙ zero) c.report.ensures.utf8
 
 pub returns-clause-kept : goal.returns-clause-kept
-returns-clause-kept g c = kept_undrawable _ _ _ c.report.result c.report.ensures.drawable c.report.ensures.told c.report.ensures.kept
+returns-clause-kept g c = kept_at_not_utf8 _ _ _ c.report.result c.report.ensures.utf8 c.report.ensures.told c.report.ensures.kept

@@ -1,0 +1,140 @@
+-- Drawing with lookups on the way, part by part: what came, what was asked, and what a refusal cut short.
+use Rattle.std.proofs.Common.{◌≡◌, ◌≢◌, [], ◌∷◌, ◌++◌, List, Option, None, Some, Result, Ok, Err, inl, inr, ⊎_elim, refl, sym, subst, ap, ◌∙◌}
+use Rattle.std.specs.Prelude.{IfErr}
+use Rattle.std.specs.Result.{IsErrOf}
+use Rattle.std.proofs.lemmas.List.{map-append}
+use Rattle.codespan_base.specs.declared.files.error.Error.{Error}
+use Rattle.codespan_base.specs.declared.files.error.Error.TheVariants.{OutOfMemory}
+use Rattle.codespan_base.specs.FileModel.{Lookup, or_refusal}
+use Rattle.codespan_base.specs.Streams.{Stream}
+use Rattle.codespan_base.specs.WriterLaw.{Sink, Sends, Began}
+use Rattle.codespan_base.proofs.Sends.{sent-nil, Began-first, Began-last}
+use Rattle.codespan_reporting.specs.Asking.{Stopped, EndedAsking, SendsAsking}
+use Rattle.codespan_reporting.specs.Lookups.{Refusals, asked_of, first_refusal}
+use Rattle.codespan_reporting.specs.Renderers.{IsIo}
+use Rattle.codespan_reporting.proofs.Chains.{told_after, came_both, came_then_stopped, stopped_before}
+use Rattle.codespan_reporting.proofs.Drawing.{Began-none}
+
+-- ---- refusals, one after another
+
+-- nothing refuses after these
+pub or_refusal-none : (o : Option Error) → or_refusal o None ≡ o
+or_refusal-none None = refl
+or_refusal-none (Some e) = refl
+
+-- three in a row
+pub or_refusal_assoc : (o p q : Option Error) → or_refusal (or_refusal o p) q ≡ or_refusal o (or_refusal p q)
+or_refusal_assoc None p q = refl
+or_refusal_assoc (Some e) p q = refl
+
+-- what refuses at first refuses whatever is asked after it
+pub or_refusal-some : (o p : Option Error) (e : Error) → o ≡ Some e → or_refusal o p ≡ Some e
+or_refusal-some o p e h = ap (λ (x : Option Error). or_refusal x p) h
+
+-- where the first part is answered, the rest decides
+pub or_refusal-answered : (o p : Option Error) → o ≡ None → or_refusal o p ≡ p
+or_refusal-answered o p h = ap (λ (x : Option Error). or_refusal x p) h
+
+module _ {Id : Type 0} (refusal : Refusals Id) where
+  -- the first refusal of some lookups and of others after them
+  pub first_refusal-append : (ls ms : List (Id × Lookup)) → first_refusal refusal (ls ++ ms) ≡ or_refusal (first_refusal refusal ls) (first_refusal refusal ms)
+  first_refusal-append [] ms = refl
+  first_refusal-append (l ∷ ls) ms =
+      ap (or_refusal (refusal l.0 l.1)) (first_refusal-append ls ms)
+      ∙ sym (or_refusal_assoc (refusal l.0 l.1) (first_refusal refusal ls) (first_refusal refusal ms))
+
+  -- the same of lookups of one file
+  pub first_refusal-asked : (id : Id) (ls ms : List Lookup)
+      → first_refusal refusal (asked_of id (ls ++ ms)) ≡ or_refusal (first_refusal refusal (asked_of id ls)) (first_refusal refusal (asked_of id ms))
+  first_refusal-asked id ls ms =
+      ap (first_refusal refusal) (map-append (λ (l : Lookup). (id, l)) ls ms) ∙ first_refusal-append (asked_of id ls) (asked_of id ms)
+
+-- ---- one part
+
+-- an error that is equal to want of memory
+pub out_of_memory : {T : Type 0} (e x : Error) → e ≡ x → IsErrOf {T = T} (Err x) OutOfMemory → e ≡ OutOfMemory
+out_of_memory {T} e x same is = same ∙ inside x is
+  where
+    inside : (y : Error) → IsErrOf {T = T} (Err y) OutOfMemory → y ≡ OutOfMemory
+    inside y h = cc
+
+-- a refusal tells an error that is equal
+pub same_error : (o : Option Error) (e x : Error) → e ≡ x → (x ≢ OutOfMemory → o ≡ Some x) → e ≢ OutOfMemory → o ≡ Some e
+same_error o e x same told = subst (λ (y : Error). y ≢ OutOfMemory → o ≡ Some y) (sym same) told
+
+-- nothing is sent and nothing is asked
+pub asking_nothing : (s : Sink) → SendsAsking None s [] (Ok tt) s
+asking_nothing s = (refl, (refl, λ told. sym (sent-nil s)))
+
+-- a lookup that is answered sends nothing
+pub asking_answered : (o : Option Error) (s : Sink) → o ≡ None → SendsAsking o s [] (Ok tt) s
+asking_answered o s answered = (answered, (refl, λ told. sym (sent-nil s)))
+
+-- a call that sends asks for nothing
+pub asking_of_sends : (s t : Sink) (a : Stream) (r : Result (Unit {0}) Error) → Sends s a r t → IfErr r IsIo → SendsAsking None s a r t
+asking_of_sends s t a (Ok x) sends io = (refl, sends)
+asking_of_sends s t a (Err e) sends io = inl (io, sends)
+
+-- a lookup that is refused leaves the writer as it was; any stream could have come
+pub asking_refused : (o : Option Error) (s : Sink) (a : Stream) (e : Error) → (e ≢ OutOfMemory → o ≡ Some e) → SendsAsking o s a (Err e) s
+asking_refused o s a e told = inr (record { frame = refl; begun = λ tells. Began-none s a s refl; told = told })
+
+-- the same where more would have been asked
+pub asking_refused_before : (o p : Option Error) (s : Sink) (a : Stream) (e : Error) → (e ≢ OutOfMemory → o ≡ Some e) → SendsAsking (or_refusal o p) s a (Err e) s
+asking_refused_before o p s a e told = asking_refused (or_refusal o p) s a e (λ m. or_refusal-some o p e (told m))
+
+-- memory ran out before anything was sent
+pub asking_no_memory : (o : Option Error) (s : Sink) (a : Stream) (e : Error) → e ≡ OutOfMemory → SendsAsking o s a (Err e) s
+asking_no_memory o s a e is = asking_refused o s a e (λ other. absurd (other is))
+
+-- ---- one part after another
+
+-- a part that went well, and then another, however that one ends
+pub asking_then : (o p : Option Error) (s t u : Sink) (a b : Stream) (x : Unit {0}) (r : Result (Unit {0}) Error)
+    → SendsAsking o s a (Ok x) t → SendsAsking p t b r u → SendsAsking (or_refusal o p) s (a ++ b) r u
+asking_then o p s t u a b x (Ok y) first second =
+    (or_refusal-answered o p first.0 ∙ second.0, came_both s t u a b first.1 second.1)
+asking_then o p s t u a b x (Err e) first second =
+    ⊎_elim
+    (λ (w : IsIo e × Stopped t b u). inl (w.0, came_then_stopped s t u a b first.1 w.1))
+    (λ (w : EndedAsking p t b e u). inr (record {
+      frame = w.frame ∙ first.1.0;
+      begun = λ tells. Began-last s a b u (subst (λ (y : Sink). Began y b u) (first.1.1 tells) (w.begun (told_after s t a first.1 tells)));
+      told = λ m. or_refusal-answered o p first.0 ∙ w.told m;
+    }))
+    second
+
+-- a part that was refused, with more that would have come and been asked after it
+pub asking_cut : (o p : Option Error) (s t : Sink) (a b : Stream) (e : Error) → SendsAsking o s a (Err e) t → SendsAsking (or_refusal o p) s (a ++ b) (Err e) t
+asking_cut o p s t a b e part =
+    ⊎_elim
+    (λ (w : IsIo e × Stopped s a t). inl (w.0, stopped_before s t a b w.1))
+    (λ (w : EndedAsking o s a e t). inr (record {
+      frame = w.frame;
+      begun = λ tells. Began-first s a t b (w.begun tells);
+      told = λ m. or_refusal-some o p e (w.told m);
+    }))
+    part
+
+-- a lookup was answered, and then a part
+pub asking_after : (o p : Option Error) (s t : Sink) (a : Stream) (r : Result (Unit {0}) Error) → o ≡ None → SendsAsking p s a r t → SendsAsking (or_refusal o p) s a r t
+asking_after o p s t a r answered part = asking_then o p s s t [] a tt r (asking_answered o s answered) part
+
+-- ---- the same in other words
+
+-- an equal refusal and an equal stream
+pub asking_as : (o p : Option Error) (s t : Sink) (a b : Stream) (r : Result (Unit {0}) Error) → o ≡ p → a ≡ b → SendsAsking o s a r t → SendsAsking p s b r t
+asking_as o p s t a b r same_refusal same_stream part =
+    subst (λ (x : Option Error). SendsAsking x s b r t) same_refusal (subst (λ (x : Stream). SendsAsking o s x r t) same_stream part)
+
+-- an equal refusal
+pub asking_as_refusal : (o p : Option Error) (s t : Sink) (a : Stream) (r : Result (Unit {0}) Error) → o ≡ p → SendsAsking o s a r t → SendsAsking p s a r t
+asking_as_refusal o p s t a r same part = asking_as o p s t a a r same refl part
+
+-- an equal stream
+pub asking_as_stream : (o : Option Error) (s t : Sink) (a b : Stream) (r : Result (Unit {0}) Error) → a ≡ b → SendsAsking o s a r t → SendsAsking o s b r t
+asking_as_stream o s t a b r same part = asking_as o o s t a b r refl same part
+
+-- a stream that a configuration decides, at an equal one
+pub asking_at : {K : Type 0} (f : K → Stream) (k m : K) → m ≡ k → (o : Option Error) (s t : Sink) (r : Result (Unit {0}) Error) → SendsAsking o s (f m) r t → SendsAsking o s (f k) r t
+asking_at f k m same o s t r part = subst (λ (x : _). SendsAsking o s (f x) r t) same part

@@ -1,0 +1,95 @@
+-- Files in the order of their first label.
+use Rattle.std.proofs.Common.{◌≡◌, ℕ, zero, suc, ◌<◌, length, get_or, arith, Bool, true, false, not, ◌||◌, List, [], ◌∷◌, ◌++◌, refl, sym, ap, ◌∙◌}
+use Rattle.std.specs.Prelude.{filter, map, if◌then◌else◌}
+use Rattle.std.specs.Cmp.{IsEquivalence}
+use Rattle.std.specs.List.{list_any}
+use Rattle.std.proofs.lemmas.List.{append-nil, get_or-map, length-map, map-append}
+use Rattle.std.proofs.lemmas.List.Elements.{filter-append}
+use Rattle.codespan_base.specs.Labels.{first_seen}
+use Rattle.codespan_reporting.specs.PlacedLabels.{file_ids}
+use Rattle.codespan_reporting.specs.Snippets.{InFile}
+
+module _ {Id : Type 0} (same : Id → Id → Bool) (o : IsEquivalence same) where
+  -- the id is that of one of these
+  abbrev pub has : List Id → Id → Bool
+  has ids i = list_any (λ j. same j i) ids
+
+  -- ids without those that are another one's have the same others
+  has-kept : (j i : Id) → same j i ≡ false → (ks : List Id) → has (filter (λ k. not (same j k)) ks) i ≡ has ks i
+  has-kept j i apart [] = refl
+  has-kept j i apart (k ∷ ks) = by (same j k) (λ t. sym (o.congr j k i t) ∙ apart) (has-kept j i apart ks)
+    where
+      by : (b : Bool) → (b ≡ true → same k i ≡ false) → has (filter (λ m. not (same j m)) ks) i ≡ has ks i
+          → has (if not b then k ∷ filter (λ m. not (same j m)) ks else filter (λ m. not (same j m)) ks) i ≡ (same k i || has ks i)
+      by true other rest = rest ∙ ap (λ (b : Bool). b || has ks i) (sym (other refl))
+      by false other rest = ap (λ (b : Bool). same k i || b) rest
+
+  -- one more id comes last, unless it is there
+  pub first_seen-more : (js : List Id) (i : Id) → first_seen same (js ++ i ∷ []) ≡ (if has (first_seen same js) i then first_seen same js else first_seen same js ++ i ∷ [])
+  first_seen-more [] i = refl
+  first_seen-more (j ∷ js) i =
+      ap (λ (ids : List Id). j ∷ filter keeps ids) (first_seen-more js i)
+      ∙ by (same j i) (has seen i) (has (filter keeps seen) i) (λ (b : same j i ≡ true). ap not b) (λ (b : same j i ≡ false). ap not b) (λ apart. has-kept j i apart seen)
+    where
+      keeps : Id → Bool
+      keeps k = not (same j k)
+
+      seen : List Id
+      seen = first_seen same js
+
+      by : (b c d : Bool) → (b ≡ true → keeps i ≡ false) → (b ≡ false → keeps i ≡ true) → (b ≡ false → d ≡ c)
+          → j ∷ filter keeps (if c then seen else seen ++ i ∷ []) ≡ (if b || d then j ∷ filter keeps seen else j ∷ filter keeps seen ++ i ∷ [])
+      by true true d out within kept = refl
+      by true false d out within kept =
+          ap (λ (ids : List Id). j ∷ ids)
+          (filter-append keeps seen (i ∷ []) ∙ ap (λ (t : Bool). filter keeps seen ++ (if t then i ∷ [] else [])) (out refl) ∙ append-nil (filter keeps seen))
+      by false c d out within kept =
+          by_seen c ∙ ap (λ (t : Bool). if t then j ∷ filter keeps seen else j ∷ filter keeps seen ++ i ∷ []) (sym (kept refl))
+        where
+          by_seen : (c : Bool) → j ∷ filter keeps (if c then seen else seen ++ i ∷ []) ≡ (if c then j ∷ filter keeps seen else j ∷ filter keeps seen ++ i ∷ [])
+          by_seen true = refl
+          by_seen false =
+              ap (λ (ids : List Id). j ∷ ids)
+              (filter-append keeps seen (i ∷ []) ∙ ap (λ (t : Bool). filter keeps seen ++ (if t then i ∷ [] else [])) (within refl))
+
+  -- the id of one more label, which is added unless it is there
+  pub file_ids-more : (ids new : List Id) (xs ys : List (InFile Id)) (x : InFile Id) (there : Bool) → ids ≡ file_ids same xs → there ≡ has ids x.id
+      → (there ≡ true → new ≡ ids) → (there ≡ false → new ≡ ids ++ x.id ∷ []) → ys ≡ xs ++ x ∷ [] → new ≡ file_ids same ys
+  file_ids-more ids new xs ys x there are is kept added more =
+      by there kept added ∙ ap (λ (b : Bool). if b then ids else ids ++ x.id ∷ []) is
+      ∙ ap (λ (js : List Id). if has js x.id then js else js ++ x.id ∷ []) are
+      ∙ sym (first_seen-more (map (λ (y : InFile Id). y.id) xs) x.id)
+      ∙ ap (first_seen same) (sym (map-append (λ (y : InFile Id). y.id) xs (x ∷ [])))
+      ∙ ap (file_ids same) (sym more)
+    where
+      by : (b : Bool) → (b ≡ true → new ≡ ids) → (b ≡ false → new ≡ ids ++ x.id ∷ []) → new ≡ (if b then ids else ids ++ x.id ∷ [])
+      by true kept added = kept refl
+      by false kept added = added refl
+
+  -- an id that is there is among those that are seen first
+  first_seen-has : (js : List Id) (i : Id) → has (first_seen same js) i ≡ has js i
+  first_seen-has [] i = refl
+  first_seen-has (j ∷ js) i =
+      by (same j i) (λ (apart : same j i ≡ false). has-kept j i apart (first_seen same js)) (first_seen-has js i)
+    where
+      by : (b : Bool) → (b ≡ false → has (filter (λ k. not (same j k)) (first_seen same js)) i ≡ has (first_seen same js) i) → has (first_seen same js) i ≡ has js i
+          → (b || has (filter (λ k. not (same j k)) (first_seen same js)) i) ≡ (b || has js i)
+      by true kept rest = refl
+      by false kept rest = kept refl ∙ rest
+
+  -- each id is among itself and others
+  has-one : (js : List Id) (k : ℕ) (d : Id) → k < length js → has js (get_or js k d) ≡ true
+  has-one [] k d h = absurd (omega arith)
+  has-one (j ∷ js) zero d h = ap (λ b. b || has js j) (o.refl j)
+  has-one (j ∷ js) (suc k) d h = ap (λ b. same j (get_or js k d) || b) (has-one js k d (omega arith)) ∙ either (same j (get_or js k d))
+    where
+      either : (b : Bool) → (b || true) ≡ true
+      either true = refl
+      either false = refl
+
+  -- the file of each label is among those of all
+  pub file_ids-has : (xs : List (InFile Id)) (k : ℕ) (x : InFile Id) → k < length xs → has (file_ids same xs) (get_or xs k x).id ≡ true
+  file_ids-has xs k x h =
+      first_seen-has (map (λ (y : InFile Id). y.id) xs) (get_or xs k x).id
+      ∙ ap (has (map (λ (y : InFile Id). y.id) xs)) (sym (get_or-map (λ (y : InFile Id). y.id) xs k x x.id h))
+      ∙ has-one (map (λ (y : InFile Id). y.id) xs) k x.id (omega (arith, length-map xs (λ (y : InFile Id). y.id)))

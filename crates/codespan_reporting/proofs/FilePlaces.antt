@@ -1,0 +1,81 @@
+-- The place of a label's file among those of a diagnostic.
+use Rattle.std.proofs.Common.{◌≡◌, ℕ, zero, suc, ◌+◌, ◌<◌, Bool, true, false, not, ◌==◌, cond, List, [], ◌∷◌, length, get_or, map, filter, refl, sym, ◌∙◌, ap, subst, arith, true≢false, ⊎_elim}
+use Rattle.std.specs.Cmp.{IsEquivalence, both_ways}
+use Rattle.std.specs.List.{AllByRecursion}
+use Rattle.std.proofs.lemmas.Bool.{cases_Bool, eqb-true, eq-eqb, ne_eqb}
+use Rattle.codespan_base.specs.Labels.{first_seen}
+use Rattle.codespan_reporting.specs.Snippets.{InFile}
+use Rattle.codespan_reporting.specs.PlacedLabels.{IsAt, file_ids, file_place}
+use Rattle.codespan_reporting.proofs.SortedLists.{all-weaker, all-filter, all-pass}
+
+module _ {Id : Type 0} (same : Id → Id → Bool) (o : IsEquivalence same) where
+  -- the ids differ
+  abbrev pub Differ : List Id → Type 0
+  Differ [] = Unit {0}
+  Differ (j ∷ js) = AllByRecursion (λ k. same j k ≡ false) js × Differ js
+
+  -- those that a filter keeps differ
+  differ-filter : (p : Id → Bool) (js : List Id) → Differ js → Differ (filter p js)
+  differ-filter p [] h = tt
+  differ-filter p (j ∷ js) h =
+      ⊎_elim
+      (λ t. rw t (all-filter (λ k. same j k ≡ false) p js h.0, differ-filter p js h.1))
+      (λ f. rw f (differ-filter p js h.1))
+      (cases_Bool (p j))
+
+  -- what is not so is false
+  not_so : (b : Bool) → not b ≡ true → b ≡ false
+  not_so true h = absurd (true≢false (sym h))
+  not_so false h = refl
+
+  -- the ids in the order of their first appearance differ
+  pub first_seen-differ : (js : List Id) → Differ (first_seen same js)
+  first_seen-differ [] = tt
+  first_seen-differ (j ∷ js) = (
+    all-weaker (λ k. not (same j k) ≡ true) (λ k. same j k ≡ false) (λ k t. not_so (same j k) t) (filter (λ k. not (same j k)) (first_seen same js)) (all-pass (λ k. not (same j k)) (first_seen same js)),
+    differ-filter (λ k. not (same j k)) (first_seen same js) (first_seen-differ js),
+  )
+
+  -- an id has the place of the first one
+  pub place-here : (j : Id) (js : List Id) (i : Id) → same j i ≡ true → file_place same (j ∷ js) i ≡ 0
+  place-here j js i t = ap (λ b. cond (not b) (1 + file_place same js i) 0) t
+
+  -- or a later one
+  pub place-later : (j : Id) (js : List Id) (i : Id) → same j i ≡ false → file_place same (j ∷ js) i ≡ suc (file_place same js i)
+  place-later j js i f = ap (λ b. cond (not b) (1 + file_place same js i) 0) f ∙ omega arith
+
+  -- what holds of each id holds of that at a place
+  at-all : (P : Id → Type 0) (ids : List Id) (f : ℕ) (id : Id) → AllByRecursion P ids → IsAt ids f id → P id
+  at-all P [] f id h a = absurd a
+  at-all P (j ∷ js) zero id h a = subst P a h.0
+  at-all P (j ∷ js) (suc f) id h a = at-all P js f id h.1 a
+
+  -- places after the first compare as those of the others
+  both-later : (a b c : ℕ) → c ≡ suc a → (c == suc b) ≡ (a == b)
+  both-later a b c e =
+      both_ways _ _ (λ t. let k : c ≡ suc b = eqb-true c (suc b) t in eq-eqb a b (omega arith)) (λ t. let k : a ≡ b = eqb-true a b t in eq-eqb c (suc b) (omega arith))
+
+  -- of ids that differ the one at a place is equal to those that have the place
+  place-is : (ids : List Id) (f : ℕ) (id : Id) → Differ ids → IsAt ids f id → (i : Id) → (file_place same ids i == f) ≡ same id i
+  place-is [] f id d a i = absurd a
+  place-is (j ∷ js) zero id d a i =
+      ⊎_elim
+      (λ (t : same j i ≡ true). eq-eqb (file_place same (j ∷ js) i) 0 (place-here j js i t) ∙ sym t ∙ ap (λ q. same q i) a)
+      (λ (v : same j i ≡ false). ne_eqb (file_place same (j ∷ js) i) 0 (λ e. omega (arith, e, place-later j js i v)) ∙ sym v ∙ ap (λ q. same q i) a)
+      (cases_Bool (same j i))
+  place-is (j ∷ js) (suc f) id d a i =
+      ⊎_elim
+      (λ (t : same j i ≡ true). let apart : same j id ≡ false = at-all (λ k. same j k ≡ false) js f id d.0 a in
+      ne_eqb (file_place same (j ∷ js) i) (suc f) (λ e. omega (arith, e, place-here j js i t)) ∙ sym (o.symm id i ∙ sym (o.congr j i id t) ∙ apart))
+      (λ (v : same j i ≡ false). both-later (file_place same js i) f (file_place same (j ∷ js) i) (place-later j js i v) ∙ place-is js f id d.1 a i)
+      (cases_Bool (same j i))
+
+  -- the id at a place of a diagnostic's files is equal to those of the labels there
+  pub file_place-at : (xs : List (InFile Id)) (f : ℕ) (id : Id) → IsAt (file_ids same xs) f id → (i : Id) → (file_place same (file_ids same xs) i == f) ≡ same id i
+  file_place-at xs f id a i = place-is (file_ids same xs) f id (first_seen-differ (map (λ (x : InFile Id). x.id) xs)) a i
+
+-- the id at a place
+pub at-get : {Id : Type 0} (ids : List Id) (f : ℕ) (d : Id) → f < length ids → IsAt ids f (get_or ids f d)
+at-get [] f d h = absurd (omega arith)
+at-get (j ∷ js) zero d h = refl
+at-get (j ∷ js) (suc f) d h = at-get js f d (omega arith)

@@ -1,0 +1,205 @@
+-- The walk over entries in order, group by group.
+use Rattle.std.proofs.Common.{◌≡◌, ℕ, zero, suc, ◌+◌, ◌-◌, ◌<◌, ◌≤◌, true, false, List, [], ◌∷◌, ◌++◌, length, take, drop, get_or, slice_range, Option, Some, None, ⊎_elim, refl, sym, ◌∙◌, ap, subst, arith, length-drop}
+use Rattle.std.specs.Prelude.{◌==◌, nat_le}
+use Rattle.std.specs.List.{prefix_len}
+use Rattle.std.proofs.Math.Nat.{add-sub_cancel_left}
+use Rattle.std.proofs.Math.Seq.{take-add, take-length}
+use Rattle.std.proofs.lemmas.List.{get_or-drop, length-take-le, append_assoc, drop-drop}
+use Rattle.std.proofs.lemmas.Bool.{cases_Bool, eqb-true, eq-eqb}
+use Rattle.std.proofs.lemmas.Bool.Decides.{nat_tests}
+use Rattle.codespan_reporting.specs.Entries.{Entry, is_shown, is_on_line}
+use Rattle.codespan_reporting.specs.Steps.{Draw, Fill, Break, join_group, groups, marks_of, gap_after, walk}
+
+-- ---- groups
+
+-- an entry is of its own line
+same_line : (x : Entry) → is_on_line x.line x ≡ true
+same_line x = eq-eqb x.line x.line refl
+
+-- the first entry is counted
+prefix_len-first : (x : Entry) (xs : List Entry) → prefix_len (is_on_line x.line) (x ∷ xs) ≡ suc (prefix_len (is_on_line x.line) xs)
+prefix_len-first x xs = rw (same_line x) (omega arith)
+
+-- an entry and those of its line that follow it are a group
+groups-cons : (x : Entry) (xs : List Entry)
+    → groups (x ∷ xs) ≡ (x ∷ take (prefix_len (is_on_line x.line) xs) xs) ∷ groups (drop (prefix_len (is_on_line x.line) xs) xs)
+groups-cons x [] = refl
+groups-cons x (y ∷ ys) =
+    ⊎_elim
+    (λ t. let same : y.line ≡ x.line = eqb-true y.line x.line t in
+    let counted = ap (λ n. prefix_len (is_on_line n) ys) same in
+    let plus : 1 + prefix_len (is_on_line x.line) ys ≡ suc (prefix_len (is_on_line x.line) ys) = omega arith in
+    rw (groups-cons y ys, t, counted, plus) refl)
+    (λ f. let none : prefix_len (is_on_line x.line) (y ∷ ys) ≡ 0 = rw f refl in
+    let m = prefix_len (is_on_line y.line) ys in
+    let rest : List (List Entry) = (y ∷ take m ys) ∷ groups (drop m ys) in
+    let apart : join_group x rest ≡ (x ∷ []) ∷ rest = rw f refl in
+    subst (λ n. groups (x ∷ y ∷ ys) ≡ (x ∷ take n (y ∷ ys)) ∷ groups (drop n (y ∷ ys))) (sym none)
+    (ap (join_group x) (groups-cons y ys) ∙ apart ∙ ap (λ (gs : List (List Entry)). (x ∷ []) ∷ gs) (sym (groups-cons y ys))))
+    (cases_Bool (y.line == x.line))
+
+-- the first group of a list that is not empty
+groups-first : (xs : List Entry) (d : Entry) (l : ℕ) → 0 < length xs → (get_or xs 0 d).line ≡ l
+    → groups xs ≡ take (prefix_len (is_on_line l) xs) xs ∷ groups (drop (prefix_len (is_on_line l) xs) xs)
+groups-first [] d l some is = absurd (omega arith)
+groups-first (x ∷ xs) d l some is =
+    subst (λ n. groups (x ∷ xs) ≡ take (prefix_len (is_on_line n) (x ∷ xs)) (x ∷ xs) ∷ groups (drop (prefix_len (is_on_line n) (x ∷ xs)) (x ∷ xs))) is
+    (rw (prefix_len-first x xs) (groups-cons x xs))
+
+-- it is not empty
+prefix_len-some : (xs : List Entry) (d : Entry) (l : ℕ) → 0 < length xs → (get_or xs 0 d).line ≡ l → 0 < prefix_len (is_on_line l) xs
+prefix_len-some [] d l some is = absurd (omega arith)
+prefix_len-some (x ∷ xs) d l some is = subst (λ n. 0 < prefix_len (is_on_line n) (x ∷ xs)) is (omega (arith, prefix_len-first x xs))
+
+-- ---- the walk
+
+-- a group of a line that is shown
+walk-shown : (was : Option ℕ) (skipped group : List Entry) (gs : List (List Entry)) (d : Entry) (l : ℕ) → (get_or group 0 d).line ≡ l
+    → length (marks_of group) < length group
+    → walk was skipped (group ∷ gs) ≡ gap_after was l skipped (marks_of group) ++ (Draw l (marks_of group) ∷ walk (Some l) [] gs)
+walk-shown was skipped [] gs d l is less = absurd (omega arith)
+walk-shown was skipped (x ∷ group) gs d l is less =
+    ⊎_elim
+    (λ t. rw (← is) (rw t refl))
+    (λ f. absurd (omega (arith, less, ap (λ n. length (drop n (x ∷ group))) (none f))))
+    (cases_Bool (is_shown x))
+  where
+    none : is_shown x ≡ false → prefix_len is_shown (x ∷ group) ≡ 0
+    none f = rw f refl
+
+-- a group of a line that is not
+walk-hidden : (was : Option ℕ) (skipped group : List Entry) (gs : List (List Entry)) → 0 < length group → length group ≤ length (marks_of group)
+    → walk was skipped (group ∷ gs) ≡ walk was (skipped ++ group) gs
+walk-hidden was skipped [] gs some more = absurd (omega arith)
+walk-hidden was skipped (x ∷ group) gs some more =
+    ⊎_elim
+    (λ t. absurd (omega (arith, more, fewer t)))
+    (λ f. rw f refl)
+    (cases_Bool (is_shown x))
+  where
+    fewer : is_shown x ≡ true → length (marks_of (x ∷ group)) ≤ length group
+    fewer t = simp length-drop (rw t (omega arith))
+
+-- ---- what stands between two shown lines
+
+-- one line
+pub gap-one : (was : Option ℕ) (c d : ℕ) (skipped marks : List Entry) → was ≡ Some c → d ≡ c + 2 → gap_after was d skipped marks ≡ Fill (d - 1) skipped ∷ []
+gap-one was c d skipped marks is far =
+    let before : c + 1 ≡ d - 1 = omega arith in
+    ap (λ w. gap_after w d skipped marks) is ∙ rw (eq-eqb d (c + 2) far, before) refl
+
+-- more than one line
+pub gap-wide : (was : Option ℕ) (c d : ℕ) (skipped marks : List Entry) → was ≡ Some c → c + 3 ≤ d → gap_after was d skipped marks ≡ Break marks ∷ []
+gap-wide was c d skipped marks is far =
+    let other : (d == c + 2) ≡ false = grind (arith, nat_tests) in
+    let wide : nat_le (c + 3) d ≡ true = grind (arith, nat_tests) in
+    ap (λ w. gap_after w d skipped marks) is ∙ rw (other, wide) refl
+
+-- none
+pub gap-close : (was : Option ℕ) (c d : ℕ) (skipped marks : List Entry) → was ≡ Some c → d ≤ c + 1 → gap_after was d skipped marks ≡ []
+gap-close was c d skipped marks is near =
+    let other : (d == c + 2) ≡ false = grind (arith, nat_tests) in
+    let narrow : nat_le (c + 3) d ≡ false = grind (arith, nat_tests) in
+    ap (λ w. gap_after w d skipped marks) is ∙ rw (other, narrow) refl
+
+-- before the first shown line stands nothing
+pub gap-first : (was : Option ℕ) (d : ℕ) (skipped marks : List Entry) → ((c : ℕ) → was ≡ Some c → ⊥) → gap_after was d skipped marks ≡ []
+gap-first None d skipped marks first = refl
+gap-first (Some c) d skipped marks first = absurd (first c refl)
+
+-- ---- the walk by places
+
+-- the entries from a place on, without the first ones
+abbrev pub without : ℕ → List Entry → List Entry
+without m xs = take (length xs - m) (drop m xs)
+
+-- so many entries from a place on
+abbrev pub part : List Entry → ℕ → ℕ → List Entry
+part xs at n = take (at + n - at) (drop at xs)
+
+-- all from a place on
+without-drop : (m : ℕ) (xs : List Entry) → without m xs ≡ drop m xs
+without-drop m xs = ap (λ i. take i (drop m xs)) (sym (length-drop m xs)) ∙ take-length (drop m xs)
+
+-- the first of some entries
+get_or-take-first : (n : ℕ) (xs : List Entry) (d : Entry) → 0 < n → get_or (take n xs) 0 d ≡ get_or xs 0 d
+get_or-take-first zero xs d some = absurd (omega arith)
+get_or-take-first (suc n) [] d some = refl
+get_or-take-first (suc n) (x ∷ xs) d some = refl
+
+-- so many entries from a place on are the next group
+pub record IsGroup (xs : List Entry) (at n : ℕ) (d : Entry) : Type 0 where
+  pub len : length (part xs at n) ≡ n
+  pub some : 0 < n
+  pub first : groups (drop at xs) ≡ part xs at n ∷ groups (drop (at + length (part xs at n)) xs)
+  pub line : (get_or (part xs at n) 0 d).line ≡ (get_or xs at d).line
+
+-- those of the line of the entry at a place are
+pub next_group : (xs : List Entry) (at n : ℕ) (d : Entry) → at < length xs
+    → n ≡ prefix_len (is_on_line (get_or xs at d).line) (take (length xs - at) (drop at xs)) → n ≤ length (take (length xs - at) (drop at xs)) → IsGroup xs at n d
+next_group xs at n d inside is' le' =
+    let rest_is : take (length xs - at) (drop at xs) ≡ drop at xs = ap (λ i. take i (drop at xs)) (sym (length-drop at xs)) ∙ take-length (drop at xs) in
+    let is : n ≡ prefix_len (is_on_line (get_or xs at d).line) (drop at xs) = is' ∙ ap (prefix_len (is_on_line (get_or xs at d).line)) rest_is in
+    let le : n ≤ length (drop at xs) = subst (λ (r : List Entry). n ≤ length r) rest_is le' in
+    let cancelled : at + n - at ≡ n = add-sub_cancel_left at n in
+    let at_first : get_or (drop at xs) 0 d ≡ get_or xs at d = get_or-drop at xs 0 d ∙ (let e : at + 0 ≡ at = omega arith in ap (λ i. get_or xs i d) e) in
+    let more : 0 < length (drop at xs) = omega (arith, length-drop at xs) in
+    let line_is : (get_or (drop at xs) 0 d).line ≡ (get_or xs at d).line = ap (λ (e : Entry). e.line) at_first in
+    let some : 0 < n = rw is (prefix_len-some (drop at xs) d (get_or xs at d).line more line_is) in
+    let long : length (part xs at n) ≡ n = rw cancelled (length-take-le n (drop at xs) le) in
+    let front : part xs at n ≡ take n (drop at xs) = ap (λ i. take i (drop at xs)) cancelled in
+    let rest : drop (at + length (part xs at n)) xs ≡ drop n (drop at xs) = ap (λ i. drop (at + i) xs) long ∙ sym (drop-drop n at xs) in
+    record {
+      len = long;
+      some = some;
+      first = subst (λ i. groups (drop at xs) ≡ take i (drop at xs) ∷ groups (drop i (drop at xs))) (sym is) (groups-first (drop at xs) d (get_or xs at d).line more line_is)
+          ∙ ap (λ (g : List Entry). g ∷ groups (drop n (drop at xs))) (sym front) ∙ ap (λ (r : List Entry). part xs at n ∷ groups r) (sym rest);
+      line = ap (λ (g : List Entry). (get_or g 0 d).line) front ∙ ap (λ (e : Entry). e.line) (get_or-take-first n (drop at xs) d some) ∙ line_is;
+    }
+
+-- a line that is shown is next: the steps up to it, and then the others
+pub steps-shown : (xs : List Entry) (at n m : ℕ) (d : Entry) (was : Option ℕ) (skipped : List Entry) → IsGroup xs at n d
+    → m ≡ prefix_len is_shown (part xs at n) → length (without m (part xs at n)) < length (part xs at n)
+    → walk was skipped (groups (drop at xs))
+    ≡ (gap_after was (get_or xs at d).line skipped (without m (part xs at n)) ++ Draw (get_or xs at d).line (without m (part xs at n)) ∷ [])
+    ++ walk (Some (get_or xs at d).line) [] (groups (drop (at + length (part xs at n)) xs))
+steps-shown xs at n m d was skipped next is less =
+    let l = (get_or xs at d).line in
+    let rest = groups (drop (at + length (part xs at n)) xs) in
+    let own : without m (part xs at n) ≡ marks_of (part xs at n) = without-drop m (part xs at n) ∙ ap (λ i. drop i (part xs at n)) is in
+    let gap = gap_after was l skipped (without m (part xs at n)) in
+    let draw = Draw l (without m (part xs at n)) in
+    let after = walk (Some l) [] rest in
+    ap (walk was skipped) next.first
+    ∙ subst (λ (ms : List Entry). walk was skipped (part xs at n ∷ rest) ≡ gap_after was l skipped ms ++ (Draw l ms ∷ after)) (sym own)
+    (walk-shown was skipped (part xs at n) rest d l next.line (subst (λ (ms : List Entry). length ms < length (part xs at n)) own less))
+    ∙ sym (append_assoc gap (draw ∷ []) after)
+
+-- a line that is not shown is next: its entries are skipped
+pub steps-hidden : (xs : List Entry) (at n m : ℕ) (d : Entry) (was : Option ℕ) (skipped joined : List Entry) → IsGroup xs at n d
+    → m ≡ prefix_len is_shown (part xs at n) → length (part xs at n) ≤ length (without m (part xs at n))
+    → joined ≡ skipped ++ part xs at n
+    → walk was skipped (groups (drop at xs)) ≡ walk was joined (groups (drop (at + length (part xs at n)) xs))
+steps-hidden xs at n m d was skipped joined next is more joins =
+    let rest = groups (drop (at + length (part xs at n)) xs) in
+    let some : 0 < length (part xs at n) = omega (arith, next.len, next.some) in
+    let own : without m (part xs at n) ≡ marks_of (part xs at n) = without-drop m (part xs at n) ∙ ap (λ i. drop i (part xs at n)) is in
+    ap (walk was skipped) next.first
+    ∙ walk-hidden was skipped (part xs at n) rest some (subst (λ (ms : List Entry). length (part xs at n) ≤ length ms) own more)
+    ∙ ap (λ (es : List Entry). walk was es rest) (sym joins)
+
+-- the entries between two places and then the next group
+pub slice_range-more : (xs : List Entry) (from at n : ℕ) → from ≤ at → at ≤ length xs → length (part xs at n) ≡ n
+    → slice_range xs from (at + length (part xs at n)) ≡ slice_range xs from at ++ part xs at n
+slice_range-more xs from at n order inside long =
+    let cancelled : at + n - at ≡ n = add-sub_cancel_left at n in
+    let back : from + (at - from) ≡ at = omega arith in
+    let both : at + length (part xs at n) - from ≡ (at - from) + n = omega (arith, long) in
+    ap (λ i. take i (drop from xs)) both
+    ∙ take-add (at - from) n (drop from xs)
+    ∙ ap (λ (r : List Entry). take (at - from) (drop from xs) ++ r)
+    (ap (λ (r : List Entry). take n r) (drop-drop (at - from) from xs ∙ ap (λ i. drop i xs) back) ∙ ap (λ i. take i (drop at xs)) (sym cancelled))
+
+-- between a place and itself stands nothing
+pub slice_range-none : (xs : List Entry) (at : ℕ) → slice_range xs at at ≡ []
+slice_range-none xs at = let none : at - at ≡ 0 = omega arith in ap (λ i. take i (drop at xs)) none

@@ -1,0 +1,274 @@
+-- What the entries of one label say of one line.
+use Rattle.std.proofs.Common.{◌≡◌, ◌≢◌, ℕ, zero, suc, ◌+◌, ◌-◌, ◌<◌, Bool, true, false, cond, ◌==◌, nat_lt, nat_le, ◌&&◌, ◌||◌, List, [], ◌∷◌, ◌++◌, filter, flat_map, Option, Some, None, ⊎_elim, refl, sym, ◌∙◌, ap, arith}
+use Rattle.std.specs.Prelude.{is_some}
+use Rattle.std.specs.List.{list_any, range_with_len, AllByRecursion}
+use Rattle.std.proofs.lemmas.Bool.{cases_Bool, cases_eq, cond_both, eq-eqb, ne_eqb}
+use Rattle.std.proofs.lemmas.Bool.Decides.{nat_tests}
+use Rattle.std.proofs.lemmas.List.{append-nil}
+use Rattle.std.proofs.lemmas.List.Elements.{filter-append}
+use Rattle.codespan_base.specs.declared.term.config.Config.{Config}
+use Rattle.codespan_base.specs.FileModel.{FileModel, line_count, line_start}
+use Rattle.codespan_base.specs.Labels.{Labelled, LaneMark, Part, Top, Left, Bottom, first_line, last_line, is_single, drawn_label, part_on, mark_of}
+use Rattle.codespan_reporting.specs.Entries.{Entry, Says, Shown, Single, Multi, LabelPlace, kind_of, is_shown, is_on_line, entry_on, entry_of_mark, line_entries, entries_of}
+use Rattle.codespan_reporting.specs.GivenPadding.{is_mark}
+use Rattle.codespan_reporting.specs.Lines.{shows}
+use Rattle.codespan_reporting.specs.Lookups.{is_around, is_asked}
+use Rattle.codespan_reporting.specs.Padding.{spans}
+use Rattle.codespan_reporting.proofs.SortedLists.{all-append, filter-whole, filter-nothing, all-weaker}
+
+-- the entry is of this kind
+abbrev pub is_kind : ℕ → Entry → Bool
+is_kind k e = kind_of e.says == k
+
+-- ---- lines of a range
+
+-- the line is among these
+abbrev is_among : ℕ → ℕ → ℕ → Bool
+is_among a n l = nat_le a l && nat_lt l (a + n)
+
+-- it is among none
+among-none : (a l : ℕ) → is_among a 0 l ≡ false
+among-none a l = grind (arith, nat_tests)
+
+-- the first is among them
+among-first : (a n : ℕ) → is_among a (suc n) a ≡ true
+among-first a n = grind (arith, nat_tests)
+
+-- it is not among later ones
+among-later : (a n : ℕ) → is_among (a + 1) n a ≡ false
+among-later a n = grind (arith, nat_tests)
+
+-- another one is among the others
+among-next : (a n l : ℕ) → a ≢ l → is_among (a + 1) n l ≡ is_among a (suc n) l
+among-next a n l ne = let e : a + 1 + n ≡ a + suc n = omega arith in grind (arith, nat_tests)
+
+-- from the first line on
+among-below : (n l : ℕ) → is_among 0 n l ≡ nat_lt l n
+among-below n l = let e : 0 + n ≡ n = omega arith in grind (arith, nat_tests)
+
+-- what lines of a range give holds each
+all-range : (P : Entry → Type 0) (g : ℕ → List Entry) (p : ℕ → Bool) (n a : ℕ) → ((l : ℕ) → l < a + n → AllByRecursion P (g l))
+    → AllByRecursion P (flat_map g (filter p (range_with_len a n)))
+all-range P g p zero a h = tt
+all-range P g p (suc n) a h =
+    let rest = all-range P g p n (a + 1) (λ l k. h l (omega arith)) in
+    cond_both (p a) (a ∷ filter p (range_with_len (a + 1) n)) (filter p (range_with_len (a + 1) n)) (λ ls. AllByRecursion P (flat_map g ls))
+    (λ _. all-append P (g a) (flat_map g (filter p (range_with_len (a + 1) n))) (h a (omega arith)) rest)
+    (λ _. rest)
+
+module _ (g : ℕ → List Entry) (own : (l : ℕ) → AllByRecursion (λ e. e.line ≡ l) (g l)) (p : ℕ → Bool) where
+  -- a line keeps what it gives
+  keeps-own : (l : ℕ) → filter (is_on_line l) (g l) ≡ g l
+  keeps-own l = filter-whole (is_on_line l) (g l) (all-weaker (λ e. e.line ≡ l) (λ e. is_on_line l e ≡ true) (λ e h. eq-eqb e.line l h) (g l) (own l))
+
+  -- it keeps nothing that another one gives
+  keeps-other : (a l : ℕ) → a ≢ l → filter (is_on_line l) (g a) ≡ []
+  keeps-other a l ne =
+      filter-nothing (is_on_line l) (g a) (all-weaker (λ e. e.line ≡ a) (λ e. is_on_line l e ≡ false) (λ e h. ne_eqb e.line l (λ k. ne (sym h ∙ k))) (g a) (own a))
+
+  -- a line has what it gives, where it is one of the lines that give
+  pub on-line : (l n a : ℕ) → filter (is_on_line l) (flat_map g (filter p (range_with_len a n))) ≡ cond (is_among a n l && p l) (g l) []
+  on-line l zero a = sym (ap (λ b. cond (b && p l) (g l) []) (among-none a l))
+  on-line l (suc n) a = ⊎_elim (λ e. first e (on-line l n (a + 1))) (λ ne. later ne (on-line l n (a + 1))) (cases_eq a l)
+    where
+      rest_lines : List ℕ
+      rest_lines = filter p (range_with_len (a + 1) n)
+
+      first : a ≡ l → filter (is_on_line l) (flat_map g rest_lines) ≡ cond (is_among (a + 1) n l && p l) (g l) []
+          → filter (is_on_line l) (flat_map g (filter p (range_with_len a (suc n)))) ≡ cond (is_among a (suc n) l && p l) (g l) []
+      first e rest =
+          let none : filter (is_on_line l) (flat_map g rest_lines) ≡ [] =
+          rest ∙ ap (λ b. cond (b && p l) (g l) []) (ap (is_among (a + 1) n) (sym e) ∙ among-later a n) in
+          let here : is_among a (suc n) l ≡ true = ap (is_among a (suc n)) (sym e) ∙ among-first a n in
+          by_test none (p a) ∙ ap (λ k. cond (p k) (g k) []) e ∙ sym (ap (λ b. cond (b && p l) (g l) []) here)
+        where
+          by_test : filter (is_on_line l) (flat_map g rest_lines) ≡ [] → (b : Bool) → filter (is_on_line l) (flat_map g (cond b (a ∷ rest_lines) rest_lines)) ≡ cond b (g a) []
+          by_test none true =
+              filter-append (is_on_line l) (g a) (flat_map g rest_lines) ∙ ap (λ (r : List Entry). filter (is_on_line l) (g a) ++ r) none ∙ append-nil (filter (is_on_line l) (g a))
+              ∙ ap (λ k. filter (is_on_line k) (g a)) (sym e) ∙ keeps-own a
+          by_test none false = none
+
+      later : a ≢ l → filter (is_on_line l) (flat_map g rest_lines) ≡ cond (is_among (a + 1) n l && p l) (g l) []
+          → filter (is_on_line l) (flat_map g (filter p (range_with_len a (suc n)))) ≡ cond (is_among a (suc n) l && p l) (g l) []
+      later ne rest = by_test (p a) ∙ rest ∙ ap (λ b. cond (b && p l) (g l) []) (among-next a n l ne)
+        where
+          by_test : (b : Bool) → filter (is_on_line l) (flat_map g (cond b (a ∷ rest_lines) rest_lines)) ≡ filter (is_on_line l) (flat_map g rest_lines)
+          by_test true = filter-append (is_on_line l) (g a) (flat_map g rest_lines) ∙ ap (λ (r : List Entry). r ++ filter (is_on_line l) (flat_map g rest_lines)) (keeps-other a l ne)
+          by_test false = refl
+
+-- ---- lines that a label does not ask for
+
+module _ (config : Config) where
+  -- a label from line s to line e asks for line l
+  abbrev asks : ℕ → ℕ → ℕ → Bool
+  asks s e l = ((l == s) || (l == e) || (nat_le s l && nat_le l e)) || is_around config s e l
+
+  -- it shows no other line
+  not_shown : (s e l : ℕ) → asks s e l ≡ false → shows config s e l ≡ false
+  not_shown s e l h = grind (arith, nat_tests)
+
+  -- it does not begin on another one
+  not_first : (s e l : ℕ) → asks s e l ≡ false → (s == l) ≡ false
+  not_first s e l h = grind (arith, nat_tests)
+
+  -- it does not end on another one
+  not_last : (s e l : ℕ) → asks s e l ≡ false → (e == l) ≡ false
+  not_last s e l h = grind (arith, nat_tests)
+
+  -- it does not go through another one
+  not_between : (s e l : ℕ) → asks s e l ≡ false → (nat_lt s l && nat_lt l e) ≡ false
+  not_between s e l h = grind (arith, nat_tests)
+
+-- a label inside a line has carets on it, one over several lines a mark on its ends and between them
+spanned : (s e l : ℕ) → cond (s == e) (s == l) ((s == l) || (e == l) || (nat_lt s l && nat_lt l e)) ≡ ((l == s) || (l == e) || (nat_le s l && nat_le l e))
+spanned s e l = grind (arith, nat_tests)
+
+-- ---- the entries of a label
+
+module _ (config : Config) (f : FileModel) (at : LabelPlace) (x : Labelled) where
+  -- what holds of each entry that it can give of a line
+  each-of_line : (P : Entry → Type 0) (l : ℕ) → ((s : Says) → P (entry_on config f at x l s)) → AllByRecursion P (line_entries config f at x l)
+  each-of_line P l h = by_tests (shows config (first_line f x) (last_line f x) l) (is_single f x) (first_line f x == l) (mark_of at.lane x (part_on f l x))
+    where
+      by_mark : (o : Option LaneMark) → AllByRecursion P (entry_of_mark config f at x l o)
+      by_mark None = tt
+      by_mark (Some m) = (h (Multi m), tt)
+
+      by_kind : (b c : Bool) (o : Option LaneMark)
+          → AllByRecursion P (cond b (cond c (entry_on config f at x l (Single at.place (drawn_label f x)) ∷ []) []) (entry_of_mark config f at x l o))
+      by_kind true true o = (h (Single at.place (drawn_label f x)), tt)
+      by_kind true false o = tt
+      by_kind false c o = by_mark o
+
+      by_tests : (a b c : Bool) (o : Option LaneMark)
+          → AllByRecursion P (cond a (entry_on config f at x l Shown ∷ []) [] ++ cond b (cond c (entry_on config f at x l (Single at.place (drawn_label f x)) ∷ []) []) (entry_of_mark config f at x l o))
+      by_tests true b c o = (h Shown, by_kind b c o)
+      by_tests false b c o = by_kind b c o
+
+  -- its entries are of its file
+  pub all-of_file : AllByRecursion (λ e. e.file ≡ at.file) (entries_of config f at x)
+  all-of_file = all-range (λ e. e.file ≡ at.file) (line_entries config f at x) (is_asked config f x) (line_count f) 0
+      (λ l k. each-of_line (λ e. e.file ≡ at.file) l (λ s. refl))
+
+  -- they are of lines that the file has
+  pub all-below : AllByRecursion (λ e. e.line < line_count f) (entries_of config f at x)
+  all-below = all-range (λ e. e.line < line_count f) (line_entries config f at x) (is_asked config f x) (line_count f) 0
+      (λ l k. each-of_line (λ e. e.line < line_count f) l (λ s. omega arith))
+
+  -- a label has no mark on a line that is none of its own
+  part-none : (l : ℕ) → (first_line f x == l) ≡ false → (last_line f x == l) ≡ false → (nat_lt (first_line f x) l && nat_lt l (last_line f x)) ≡ false
+      → part_on f l x ≡ None
+  part-none l a b c = rw (a, b, c) refl
+
+  -- it says nothing of a line that it does not ask for
+  not_asked : (l : ℕ) → is_asked config f x l ≡ false → line_entries config f at x l ≡ []
+  not_asked l h =
+      let s = first_line f x in
+      let e = last_line f x in
+      let hidden : shows config s e l ≡ false = not_shown config s e l h in
+      let a : (s == l) ≡ false = not_first config s e l h in
+      let b : (e == l) ≡ false = not_last config s e l h in
+      let c : (nat_lt s l && nat_lt l e) ≡ false = not_between config s e l h in
+      ap (λ t. cond t (entry_on config f at x l Shown ∷ []) [] ++ (cond (is_single f x) (cond (s == l) (entry_on config f at x l (Single at.place (drawn_label f x)) ∷ []) []) (entry_of_mark config f at x l (mark_of at.lane x (part_on f l x))))) hidden
+      ∙ ap (λ t. cond (is_single f x) (cond t (entry_on config f at x l (Single at.place (drawn_label f x)) ∷ []) []) (entry_of_mark config f at x l (mark_of at.lane x (part_on f l x)))) a
+      ∙ ap (λ o. cond (is_single f x) [] (entry_of_mark config f at x l (mark_of at.lane x o))) (part-none l a b c)
+      ∙ neither (is_single f x)
+    where
+      neither : (t : Bool) → cond {A = List Entry} t [] [] ≡ []
+      neither true = refl
+      neither false = refl
+
+  -- of a line that the file has its entries are what it says of the line
+  pub entries-of_line : (l : ℕ) → filter (is_on_line l) (entries_of config f at x) ≡ cond (nat_lt l (line_count f)) (line_entries config f at x l) []
+  entries-of_line l =
+      on-line (line_entries config f at x) (λ k. each-of_line (λ e. e.line ≡ k) k (λ s. refl)) (is_asked config f x) l (line_count f) 0
+      ∙ ap (λ b. cond (b && is_asked config f x l) (line_entries config f at x l) []) (among-below (line_count f) l)
+      ∙ ⊎_elim
+      (λ (t : is_asked config f x l ≡ true). ap (λ b. cond (nat_lt l (line_count f) && b) (line_entries config f at x l) []) t ∙ both (nat_lt l (line_count f)))
+      (λ (t : is_asked config f x l ≡ false). ap (λ b. cond (nat_lt l (line_count f) && b) (line_entries config f at x l) []) t
+      ∙ none (nat_lt l (line_count f)) ∙ ap (λ (r : List Entry). cond (nat_lt l (line_count f)) r []) (sym (not_asked l t)))
+      (cases_Bool (is_asked config f x l))
+    where
+      both : (b : Bool) → cond (b && true) (line_entries config f at x l) [] ≡ cond b (line_entries config f at x l) []
+      both true = refl
+      both false = refl
+
+      none : (b : Bool) → cond (b && false) (line_entries config f at x l) [] ≡ cond b [] []
+      none true = refl
+      none false = refl
+
+  -- ---- the kinds of its entries of a line
+
+  -- those of a label inside the line
+  pub singles-of_line : (l : ℕ) → filter (is_kind 1) (line_entries config f at x l)
+      ≡ cond (is_single f x && (first_line f x == l)) (entry_on config f at x l (Single at.place (drawn_label f x)) ∷ []) []
+  singles-of_line l = by_tests (shows config (first_line f x) (last_line f x) l) (is_single f x) (first_line f x == l) (mark_of at.lane x (part_on f l x))
+    where
+      by_tests : (a b c : Bool) (o : Option LaneMark)
+          → filter (is_kind 1) (cond a (entry_on config f at x l Shown ∷ []) [] ++ cond b (cond c (entry_on config f at x l (Single at.place (drawn_label f x)) ∷ []) []) (entry_of_mark config f at x l o))
+          ≡ cond (b && c) (entry_on config f at x l (Single at.place (drawn_label f x)) ∷ []) []
+      by_tests true true true o = refl
+      by_tests true true false o = refl
+      by_tests true false c None = refl
+      by_tests true false c (Some m) = refl
+      by_tests false true true o = refl
+      by_tests false true false o = refl
+      by_tests false false c None = refl
+      by_tests false false c (Some m) = refl
+
+  -- those of a label over several lines
+  pub multis-of_line : (l : ℕ) → filter (is_kind 2) (line_entries config f at x l)
+      ≡ cond (is_single f x) [] (entry_of_mark config f at x l (mark_of at.lane x (part_on f l x)))
+  multis-of_line l = by_tests (shows config (first_line f x) (last_line f x) l) (is_single f x) (first_line f x == l) (mark_of at.lane x (part_on f l x))
+    where
+      by_tests : (a b c : Bool) (o : Option LaneMark)
+          → filter (is_kind 2) (cond a (entry_on config f at x l Shown ∷ []) [] ++ cond b (cond c (entry_on config f at x l (Single at.place (drawn_label f x)) ∷ []) []) (entry_of_mark config f at x l o))
+          ≡ cond b [] (entry_of_mark config f at x l o)
+      by_tests true true true o = refl
+      by_tests true true false o = refl
+      by_tests true false c None = refl
+      by_tests true false c (Some m) = refl
+      by_tests false true true o = refl
+      by_tests false true false o = refl
+      by_tests false false c None = refl
+      by_tests false false c (Some m) = refl
+
+  -- whether one of them says that the line is shown
+  pub shown-of_line : (l : ℕ) → list_any is_shown (line_entries config f at x l) ≡ shows config (first_line f x) (last_line f x) l
+  shown-of_line l = by_tests (shows config (first_line f x) (last_line f x) l) (is_single f x) (first_line f x == l) (mark_of at.lane x (part_on f l x))
+    where
+      by_tests : (a b c : Bool) (o : Option LaneMark)
+          → list_any is_shown (cond a (entry_on config f at x l Shown ∷ []) [] ++ cond b (cond c (entry_on config f at x l (Single at.place (drawn_label f x)) ∷ []) []) (entry_of_mark config f at x l o)) ≡ a
+      by_tests true b c o = refl
+      by_tests false true true o = refl
+      by_tests false true false o = refl
+      by_tests false false c None = refl
+      by_tests false false c (Some m) = refl
+
+  -- whether one of them is a mark
+  pub marked-of_line : (l : ℕ) → list_any is_mark (line_entries config f at x l) ≡ spans f x l
+  marked-of_line l =
+      by_tests (shows config (first_line f x) (last_line f x) l) (is_single f x) (first_line f x == l) (mark_of at.lane x (part_on f l x))
+      ∙ ap (cond (is_single f x) (first_line f x == l)) (by_part (part_on f l x) ∙ by_ends (first_line f x == l) (last_line f x == l) (nat_lt (first_line f x) l && nat_lt l (last_line f x)))
+      ∙ spanned (first_line f x) (last_line f x) l
+    where
+      by_tests : (a b c : Bool) (o : Option LaneMark)
+          → list_any is_mark (cond a (entry_on config f at x l Shown ∷ []) [] ++ cond b (cond c (entry_on config f at x l (Single at.place (drawn_label f x)) ∷ []) []) (entry_of_mark config f at x l o)) ≡ cond b c (is_some o)
+      by_tests true true true o = refl
+      by_tests true true false o = refl
+      by_tests true false c None = refl
+      by_tests true false c (Some m) = refl
+      by_tests false true true o = refl
+      by_tests false true false o = refl
+      by_tests false false c None = refl
+      by_tests false false c (Some m) = refl
+
+      by_part : (o : Option Part) → is_some (mark_of at.lane x o) ≡ is_some o
+      by_part None = refl
+      by_part (Some part) = refl
+
+      by_ends : (a b c : Bool) → is_some (cond a (Some (Top (x.start - line_start f l))) (cond b (Some (Bottom (x.end - line_start f l) x.message)) (cond c (Some Left) None))) ≡ (a || b || c)
+      by_ends true b c = refl
+      by_ends false true c = refl
+      by_ends false false true = refl
+      by_ends false false false = refl

@@ -1,0 +1,193 @@
+-- The least start of a file's labels, and the places at which snippets start.
+use Rattle.std.proofs.Common.{◌≡◌, ℕ, Bool, true, false, cond, ◌&&◌, min, List, [], ◌∷◌, ◌++◌, length, map, filter, flat_map, Option, Some, None, refl, sym, ap, ◌∙◌, subst, arith, length-append, true≢false}
+use Rattle.std.specs.Prelude.{Contains, IfSome, IsSome, fold, string_bytes, unwrap_or}
+use Rattle.std.proofs.lemmas.List.{append-nil, map-append}
+use Rattle.std.proofs.lemmas.List.Concat.{flat_map-append}
+use Rattle.std.proofs.lemmas.List.Elements.{Contains-append_left, Contains-append_right, filter-append}
+use Rattle.codespan_base.specs.declared.files.error.Error.{Error}
+use Rattle.codespan_base.specs.FileModel.{FileModel, Lookup, or_refusal}
+use Rattle.codespan_base.specs.FileModel.Lookup.{LocationAt, Name}
+use Rattle.codespan_base.specs.Labels.{Labelled, is_primary}
+use Rattle.codespan_reporting.specs.declared.term.renderer.Locus.{Locus}
+use Rattle.codespan_reporting.specs.Given.{place_of_given}
+use Rattle.codespan_reporting.specs.Loci.{is_asked_label, least_if_any, starts_in}
+use Rattle.codespan_reporting.specs.Lookups.{Refusals, asked_of, first_refusal, locus_lookups}
+use Rattle.codespan_reporting.specs.Rows.{Place}
+use Rattle.codespan_reporting.specs.Snippets.{InFile, if_any, labelled_file, least, locus_start, place_of}
+use Rattle.codespan_reporting.proofs.Refusals.{first_refusal-some, first_refusal-none}
+
+-- ---- the least start
+
+-- one more number
+abbrev pub lower : Option ℕ → ℕ → Option ℕ
+lower None n = Some n
+lower (Some m) n = Some (min m n)
+
+-- a fold over one more number
+fold-more : (m n : ℕ) (ns : List ℕ) → fold min m (ns ++ n ∷ []) ≡ min (fold min m ns) n
+fold-more m n [] = refl
+fold-more m n (k ∷ ns) = fold-more (min m k) n ns
+
+-- the least of one more number
+least-more : (ns : List ℕ) (n : ℕ) → least_if_any (ns ++ n ∷ []) ≡ lower (least_if_any ns) n
+least-more [] n = refl
+least-more (m ∷ ns) n = ap Some (fold-more m n ns)
+
+-- the least of some numbers is that of those that there are
+least-unwrap : (ns : List ℕ) → unwrap_or (least_if_any ns) 0 ≡ least ns
+least-unwrap [] = refl
+least-unwrap (n ∷ ns) = refl
+
+module _ {Id : Type 0} (same : Id → Id → Bool) (id : Id) (only_primary : Bool) where
+  -- one more label, which is asked for or not
+  pub starts-more : (xs ys : List (InFile Id)) (x : InFile Id) (old new : Option ℕ) → ys ≡ xs ++ x ∷ []
+      → old ≡ least_if_any (starts_in same id only_primary xs)
+      → (is_asked_label same id only_primary x ≡ true → new ≡ lower old x.label.start)
+      → (is_asked_label same id only_primary x ≡ false → new ≡ old)
+      → new ≡ least_if_any (starts_in same id only_primary ys)
+  starts-more xs ys x old new more is lowered kept =
+      by (is_asked_label same id only_primary x) lowered kept
+      ∙ ap least_if_any (sym (map-append (λ (x : InFile Id). x.label.start) own (cond (is_asked_label same id only_primary x) (x ∷ []) []))
+      ∙ ap (map (λ (x : InFile Id). x.label.start)) (sym (filter-append (is_asked_label same id only_primary) xs (x ∷ []))))
+      ∙ ap (λ (zs : List (InFile Id)). least_if_any (starts_in same id only_primary zs)) (sym more)
+    where
+      own : List (InFile Id)
+      own = filter (is_asked_label same id only_primary) xs
+
+      by : (b : Bool) → (b ≡ true → new ≡ lower old x.label.start) → (b ≡ false → new ≡ old)
+          → new ≡ least_if_any (starts_in same id only_primary xs ++ map (λ (x : InFile Id). x.label.start) (cond b (x ∷ []) []))
+      by true low keep = low refl ∙ ap (λ (o : Option ℕ). lower o x.label.start) is ∙ sym (least-more (starts_in same id only_primary xs) x.label.start)
+      by false low keep = keep refl ∙ is ∙ ap least_if_any (sym (append-nil (starts_in same id only_primary xs)))
+
+module _ {Id : Type 0} (same : Id → Id → Bool) (file : Id → FileModel) (id : Id) where
+  -- the starts of the primary labels of the file
+  primary-starts : (xs : List (InFile Id)) → starts_in same id true xs ≡ map (λ (x : Labelled). x.start) (filter is_primary (labelled_file same file xs id).labels)
+  primary-starts [] = refl
+  primary-starts (x ∷ xs) = by (same id x.id) (primary-starts xs)
+    where
+      own : List (InFile Id)
+      own = filter (λ (y : InFile Id). same id y.id) xs
+
+      asked : List (InFile Id)
+      asked = filter (is_asked_label same id true) xs
+
+      kept : (c : Bool) → starts_in same id true xs ≡ map (λ (y : Labelled). y.start) (filter is_primary (labelled_file same file xs id).labels)
+          → map (λ (y : InFile Id). y.label.start) (cond c (x ∷ asked) asked)
+          ≡ map (λ (y : Labelled). y.start) (cond c (x.label ∷ filter is_primary (map (λ (y : InFile Id). y.label) own)) (filter is_primary (map (λ (y : InFile Id). y.label) own)))
+      kept true rest = ap (λ (ns : List ℕ). x.label.start ∷ ns) rest
+      kept false rest = rest
+
+      by : (b : Bool) → starts_in same id true xs ≡ map (λ (y : Labelled). y.start) (filter is_primary (labelled_file same file xs id).labels)
+          → map (λ (y : InFile Id). y.label.start) (cond (b && is_primary x.label) (x ∷ asked) asked)
+          ≡ map (λ (y : Labelled). y.start) (filter is_primary (map (λ (y : InFile Id). y.label) (cond b (x ∷ own) own)))
+      by true rest = kept (is_primary x.label) rest
+      by false rest = rest
+
+  -- the starts of all its labels
+  all-starts : (xs : List (InFile Id)) → starts_in same id false xs ≡ map (λ (x : Labelled). x.start) (labelled_file same file xs id).labels
+  all-starts [] = refl
+  all-starts (x ∷ xs) = by (same id x.id) (all-starts xs)
+    where
+      by : (b : Bool) → starts_in same id false xs ≡ map (λ (x : Labelled). x.start) (labelled_file same file xs id).labels
+          → map (λ (x : InFile Id). x.label.start) (cond (b && true) (x ∷ filter (is_asked_label same id false) xs) (filter (is_asked_label same id false) xs))
+          ≡ map (λ (x : Labelled). x.start) (map (λ (x : InFile Id). x.label) (cond b (x ∷ filter (λ (x : InFile Id). same id x.id) xs) (filter (λ (x : InFile Id). same id x.id) xs)))
+      by true rest = ap (λ (ns : List ℕ). x.label.start ∷ ns) rest
+      by false rest = rest
+
+  -- the least start of a primary label, where there is one
+  pub locus-primary : (xs : List (InFile Id)) (n : ℕ) → least_if_any (starts_in same id true xs) ≡ Some n → n ≡ locus_start (labelled_file same file xs id).labels
+  locus-primary xs n is = by (filter is_primary labels) (ap least_if_any (sym (primary-starts xs)) ∙ is)
+    where
+      labels : List Labelled
+      labels = (labelled_file same file xs id).labels
+
+      by : (ls : List Labelled) → least_if_any (map (λ (x : Labelled). x.start) ls) ≡ Some n → n ≡ least (map (λ (x : Labelled). x.start) (if_any ls labels))
+      by [] h = cc
+      by (l ∷ ls) h = cc
+
+  -- or that of any label
+  pub locus-any : (xs : List (InFile Id)) (n : ℕ) → least_if_any (starts_in same id true xs) ≡ None → n ≡ unwrap_or (least_if_any (starts_in same id false xs)) 0
+      → n ≡ locus_start (labelled_file same file xs id).labels
+  locus-any xs n none is =
+      is ∙ ap (λ (ns : List ℕ). unwrap_or (least_if_any ns) 0) (all-starts xs) ∙ least-unwrap (map (λ (x : Labelled). x.start) labels)
+      ∙ by (filter is_primary labels) (ap least_if_any (sym (primary-starts xs)) ∙ none)
+    where
+      labels : List Labelled
+      labels = (labelled_file same file xs id).labels
+
+      by : (ls : List Labelled) → least_if_any (map (λ (x : Labelled). x.start) ls) ≡ None
+          → least (map (λ (x : Labelled). x.start) labels) ≡ least (map (λ (x : Labelled). x.start) (if_any ls labels))
+      by [] h = refl
+      by (l ∷ ls) h = cc
+
+-- ---- the places of files
+
+-- the places of these files, whose lookups were answered
+pub record IsLocated {Id : Type 0} (same : Id → Id → Bool) (file : Id → FileModel) (refusal : Refusals Id) (xs : List (InFile Id)) (ids : List Id) (loci : List Locus) : Type 0 where
+  pub count : length loci ≡ length ids
+  pub places : ((id : Id) → Contains ids id → IsSome (file id).name) → map place_of_given loci ≡ map (λ id. place_of (labelled_file same file xs id)) ids
+  pub answered : first_refusal refusal (flat_map (λ id. asked_of id (locus_lookups same file xs id)) ids) ≡ None
+
+module _ {Id : Type 0} (same : Id → Id → Bool) (file : Id → FileModel) (refusal : Refusals Id) (xs : List (InFile Id)) where
+  -- the lookups of a file
+  abbrev asked_for : Id → List (Id × Lookup)
+  asked_for id = asked_of id (locus_lookups same file xs id)
+
+  -- the text of a name that is stated
+  named_text : (o : Option (List ℕ)) (text : List ℕ) → IsSome o → IfSome o (λ bytes. text ≡ bytes) → text ≡ unwrap_or o []
+  named_text None text some is = absurd (true≢false (sym some))
+  named_text (Some bytes) text some is = is
+
+  module _ (id : Id) (start : ℕ) (is : start ≡ locus_start (labelled_file same file xs id).labels) where
+    -- the place of a file's start
+    pub located-at : (locus : Locus) → IfSome (file id).name (λ bytes. string_bytes locus.name ≡ bytes) → locus.location ≡ (file id).location start
+        → IsSome (file id).name → place_of_given locus ≡ place_of (labelled_file same file xs id)
+    located-at locus text at some =
+        let name = named_text (file id).name (string_bytes locus.name) some text in
+        let location = at ∙ ap (file id).location is in
+        λ i. record { name = name i; location = location i }
+
+    -- its lookups, one after the other
+    asked-both : first_refusal refusal (asked_for id) ≡ or_refusal (refusal id Name) (or_refusal (refusal id (LocationAt start)) None)
+    asked-both = ap (λ n. or_refusal (refusal id Name) (or_refusal (refusal id (LocationAt n)) None)) (sym is)
+
+    -- both are answered
+    pub located-answered : refusal id Name ≡ None → refusal id (LocationAt start) ≡ None → first_refusal refusal (asked_for id) ≡ None
+    located-answered a b = asked-both ∙ ap (λ o. or_refusal o (or_refusal (refusal id (LocationAt start)) None)) a ∙ ap (λ o. or_refusal o None) b
+
+    -- the second one refuses
+    pub located-second : (e : Error) → refusal id Name ≡ None → refusal id (LocationAt start) ≡ Some e → first_refusal refusal (asked_for id) ≡ Some e
+    located-second e a b = asked-both ∙ ap (λ o. or_refusal o (or_refusal (refusal id (LocationAt start)) None)) a ∙ ap (λ o. or_refusal o None) b
+
+  -- before the first file
+  pub located-none : IsLocated same file refusal xs [] []
+  located-none = record { count = refl; places = λ _. refl; answered = refl }
+
+  -- one more file
+  pub located-more : (ids more : List Id) (id : Id) (loci : List Locus) (locus : Locus) → more ≡ ids ++ id ∷ [] → IsLocated same file refusal xs ids loci
+      → (IsSome (file id).name → place_of_given locus ≡ place_of (labelled_file same file xs id)) → first_refusal refusal (asked_for id) ≡ None
+      → IsLocated same file refusal xs more (loci ++ locus ∷ [])
+  located-more ids more id loci locus is before at answered = record {
+    count = omega (arith, ap length is, length-append ids (id ∷ []), length-append loci (locus ∷ []), before.count);
+    places = λ named.
+        map-append place_of_given loci (locus ∷ [])
+        ∙ ap (λ (ps : List Place). ps ++ place_of_given locus ∷ []) (before.places (λ j c. named j (subst (λ js. Contains js j) (sym is) (Contains-append_left ids (id ∷ []) j c))))
+        ∙ ap (λ (p : Place). map placed ids ++ p ∷ []) (at (named id (subst (λ js. Contains js id) (sym is) (Contains-append_right ids (id ∷ []) id (0, omega arith, refl)))))
+        ∙ sym (map-append placed ids (id ∷ [])) ∙ ap (map placed) (sym is);
+    answered = ap (λ js. first_refusal refusal (flat_map asked_for js)) is
+        ∙ ap (first_refusal refusal) (flat_map-append asked_for ids (id ∷ []) ∙ ap (λ (ls : List (Id × Lookup)). flat_map asked_for ids ++ ls) (append-nil (asked_for id)))
+        ∙ first_refusal-none refusal (flat_map asked_for ids) (asked_for id) before.answered ∙ answered;
+  }
+    where
+      placed : Id → Place
+      placed j = place_of (labelled_file same file xs j)
+
+  -- what a file is refused with refuses all of them
+  pub located-refused : (ids more rest all : List Id) (id : Id) (loci : List Locus) (e : Error) → more ≡ ids ++ id ∷ [] → all ≡ more ++ rest → IsLocated same file refusal xs ids loci
+      → first_refusal refusal (asked_for id) ≡ Some e → first_refusal refusal (flat_map asked_for all) ≡ Some e
+  located-refused ids more rest all id loci e is whole before told =
+      ap (λ js. first_refusal refusal (flat_map asked_for js)) (whole ∙ ap (λ (js : List Id). js ++ rest) is)
+      ∙ ap (first_refusal refusal) (flat_map-append asked_for (ids ++ id ∷ []) rest)
+      ∙ first_refusal-some refusal (flat_map asked_for (ids ++ id ∷ [])) (flat_map asked_for rest) e
+      (ap (first_refusal refusal) (flat_map-append asked_for ids (id ∷ []) ∙ ap (λ (ls : List (Id × Lookup)). flat_map asked_for ids ++ ls) (append-nil (asked_for id)))
+      ∙ first_refusal-none refusal (flat_map asked_for ids) (asked_for id) before.answered ∙ told)

@@ -1,0 +1,69 @@
+-- The rows of notes, one note after another.
+use Rattle.std.proofs.Common.{◌≡◌, ℕ, ◌+◌, ◌<◌, ◌≤◌, List, [], ◌∷◌, ◌++◌, length, take, drop, get_or, map, refl, sym, ap, ◌∙◌}
+use Rattle.std.specs.Str.Lines.{lines}
+use Rattle.std.proofs.lemmas.Grind.{flat_map-append}
+use Rattle.std.proofs.lemmas.List.{append-nil, append_assoc, map-append, take-append-drop, take_all, take_more}
+use Rattle.codespan_base.specs.Streams.{Stream, newline}
+use Rattle.codespan_reporting.specs.Rows.{Look, Row, BlankRow, LaterNoteRow}
+use Rattle.codespan_reporting.specs.RowStreams.{first_note_row, later_note_row, later_notes, note_stream, stream_of, stream_of_rows}
+use Rattle.codespan_reporting.specs.Snippets.{note_rows, piece_rows}
+
+module _ (look : Look) where
+  -- the stream of a row and of its end
+  abbrev ended : Row → Stream
+  ended row = stream_of look row ++ newline
+
+  -- the later rows of a note
+  later-rows : (ps : List (List ℕ)) → stream_of_rows look (map LaterNoteRow ps) ≡ later_notes look.padding ps
+  later-rows [] = refl
+  later-rows (p ∷ ps) = ap (λ (s : Stream). (later_note_row look.padding p ++ newline) ++ s) (later-rows ps)
+
+  -- the rows of a note are its stream
+  pub note-rows : (ps : List (List ℕ)) → stream_of_rows look (piece_rows ps) ≡ note_stream look.chars look.padding ps
+  note-rows [] = refl
+  note-rows (p ∷ ps) = ap (λ (s : Stream). (first_note_row look.chars look.padding p ++ newline) ++ s) (later-rows ps)
+
+-- all that comes of these notes
+abbrev pub whole_of_notes : Look → List (List ℕ) → Stream
+whole_of_notes look notes = stream_of_rows look (note_rows notes ++ BlankRow ∷ [])
+
+module _ {N : Type 0} (text : N → List ℕ) (look : Look) where
+  -- the stream of the rows of notes
+  abbrev pub stream_of_notes : List N → Stream
+  stream_of_notes notes = stream_of_rows look (note_rows (map text notes))
+
+  -- the rows of some notes and of others after them
+  notes-both : (ms ns : List N) → stream_of_notes (ms ++ ns) ≡ stream_of_notes ms ++ stream_of_notes ns
+  notes-both ms ns =
+      ap (λ (texts : List (List ℕ)). stream_of_rows look (note_rows texts)) (map-append text ms ns)
+      ∙ ap (stream_of_rows look) (flat_map-append (λ (n : List ℕ). piece_rows (lines n)) (map text ms) (map text ns))
+      ∙ flat_map-append (ended look) (note_rows (map text ms)) (note_rows (map text ns))
+
+  -- one more note
+  pub notes-next : (notes : List N) (i : ℕ) (note : N) → i < length notes → note ≡ get_or notes i note
+      → stream_of_notes (take (i + 1) notes) ≡ stream_of_notes (take i notes) ++ note_stream look.chars look.padding (lines (text note))
+  notes-next notes i note inside is =
+      ap stream_of_notes (take_more notes i note inside ∙ ap (λ (n : N). take i notes ++ n ∷ []) (sym is))
+      ∙ notes-both (take i notes) (note ∷ [])
+      ∙ ap (λ (s : Stream). stream_of_notes (take i notes) ++ s) (ap (stream_of_rows look) (append-nil (piece_rows (lines (text note)))) ∙ note-rows look (lines (text note)))
+
+  -- all that comes from notes on
+  abbrev pub notes-whole : List N → Stream
+  notes-whole notes = stream_of_rows look (note_rows (map text notes) ++ BlankRow ∷ [])
+
+  -- the rows of the notes, and the empty line
+  notes-blank : (notes : List N) → notes-whole notes ≡ stream_of_notes notes ++ newline
+  notes-blank notes = flat_map-append (ended look) (note_rows (map text notes)) (BlankRow ∷ []) ∙ ap (λ (s : Stream). stream_of_notes notes ++ s) (append-nil newline)
+
+  -- the notes before a place, and those from there on
+  pub notes-split : (notes : List N) (i : ℕ) → notes-whole notes ≡ stream_of_notes (take i notes) ++ notes-whole (drop i notes)
+  notes-split notes i =
+      notes-blank notes
+      ∙ ap (λ (ns : List N). stream_of_notes ns ++ newline) (sym (take-append-drop i notes))
+      ∙ ap (λ (s : Stream). s ++ newline) (notes-both (take i notes) (drop i notes))
+      ∙ append_assoc (stream_of_notes (take i notes)) (stream_of_notes (drop i notes)) newline
+      ∙ ap (λ (s : Stream). stream_of_notes (take i notes) ++ s) (sym (notes-blank (drop i notes)))
+
+  -- all notes, and the empty line
+  pub notes-end : (notes : List N) (i : ℕ) → length notes ≤ i → notes-whole notes ≡ stream_of_notes (take i notes) ++ newline
+  notes-end notes i past = notes-blank notes ∙ ap (λ (ns : List N). stream_of_notes ns ++ newline) (sym (take_all i notes past))

@@ -1,0 +1,107 @@
+-- A rich picture, drawn part by part: its header, its snippets, and its notes.
+use Rattle.std.proofs.Common.{◌≡◌, ℕ, ◌<◌, Bool, true, List, [], ◌∷◌, ◌++◌, length, map, None, Result, Ok, Err, ⊎_elim, refl, sym, subst, ap, ◌∙◌, arith}
+use Rattle.std.specs.Prelude.{IfErr}
+use Rattle.std.proofs.lemmas.Grind.{flat_map-append}
+use Rattle.std.proofs.lemmas.List.{append-nil, append_assoc}
+use Rattle.codespan_base.specs.declared.term.config.Config.{Config}
+use Rattle.codespan_base.specs.declared.diagnostic.Diagnostic.{Diagnostic}
+use Rattle.codespan_base.specs.declared.files.error.Error.{Error}
+use Rattle.codespan_base.specs.FileModel.{FileModel}
+use Rattle.codespan_base.specs.Streams.{Stream, newline}
+use Rattle.codespan_base.specs.WriterLaw.{Sink, Sends, Began, is_told}
+use Rattle.codespan_base.proofs.Sends.{Began-first, Began-last}
+use Rattle.codespan_reporting.specs.declared.term.views.sheet.Sheet.{Sheet}
+use Rattle.codespan_reporting.specs.Asking.{Came, Stopped, EndedAsking, SendsAsking}
+use Rattle.codespan_reporting.specs.Given.{place_of_given}
+use Rattle.codespan_reporting.specs.GivenSheets.{IsPrepared, has_any, placed_snippets}
+use Rattle.codespan_reporting.specs.Headline.{DrawsRich, NamesAreStated, viewed_picture}
+use Rattle.codespan_reporting.specs.Lookups.{Refusals, early_lookups, first_refusal, late_lookups}
+use Rattle.codespan_reporting.specs.Picture.{heading_of, labels_of, look_of, notes_of}
+use Rattle.codespan_reporting.specs.Renderers.{IsIo}
+use Rattle.codespan_reporting.specs.Rows.{Look, Row, BlankRow, EmptyRow, HeaderRow}
+use Rattle.codespan_reporting.specs.RowStreams.{header_row, stream_of, stream_of_rows}
+use Rattle.codespan_reporting.specs.Snippets.{InFile, LabelledFile, bare_lanes, labelled_files, note_rows, place_of, snippet, snippets}
+use Rattle.codespan_reporting.proofs.Chains.{came_both, came_then_stopped, stopped_before, told_after, Began-as}
+use Rattle.codespan_reporting.proofs.Drawing.{finished, refused_by_writer, refused_late}
+use Rattle.codespan_reporting.proofs.NoteRows.{whole_of_notes}
+
+-- snippets that start where their files' snippets start are those of the picture
+placed-are : (config : Config) (notes : List (List ℕ)) (ss : List LabelledFile) → placed_snippets config (has_any notes) (map place_of ss) ss ≡ snippets config notes ss
+placed-are config notes [] = refl
+placed-are config [] (s ∷ []) = append-nil _ ∙ append-nil (snippet config s)
+placed-are config (n ∷ ns) (s ∷ []) = append-nil _
+placed-are config notes (s ∷ t ∷ more) =
+    ap (λ (r : List Row). (snippet config s ++ (EmptyRow (bare_lanes s) ∷ [])) ++ r) (placed-are config notes (t ∷ more))
+
+-- where there is a label there is a lookup before the header
+pub some_early : {Id : Type 0} (config : Config) (same : Id → Id → Bool) (file : Id → FileModel) (refusal : Refusals Id) (xs : List (InFile Id)) → 0 < length xs
+    → 0 < length (early_lookups config same file refusal xs)
+some_early config same file refusal [] some = absurd (omega arith)
+some_early config same file refusal (x ∷ xs) some = omega arith
+
+-- and one after it
+pub some_late : {Id : Type 0} (config : Config) (same : Id → Id → Bool) (file : Id → FileModel) (refusal : Refusals Id) (xs : List (InFile Id)) → 0 < length xs
+    → 0 < length (late_lookups config same file refusal xs)
+some_late config same file refusal [] some = absurd (omega arith)
+some_late config same file refusal (x ∷ xs) some = omega arith
+
+module _ {Id : Type 0} (view renderer : Config) (same : Id → Id → Bool) (file : Id → FileModel) (refusal : Refusals Id) (d : Diagnostic Id) (sheet : Sheet Id)
+    (prepared : IsPrepared same file view (labels_of d) sheet) (early : first_refusal refusal (early_lookups view same file refusal (labels_of d)) ≡ None) where
+  -- what all rows share
+  abbrev look : Look
+  look = look_of renderer d.severity sheet.padding
+
+  -- the header, with the end of its row
+  abbrev header : Stream
+  header = header_row d.severity None (heading_of d) ++ newline
+
+  -- the snippets
+  abbrev middle : Stream
+  middle = stream_of_rows look (placed_snippets view (has_any (notes_of d)) (map place_of_given sheet.loci.items) (labelled_files same file (labels_of d)))
+
+  -- the notes and the empty line
+  abbrev end : Stream
+  end = whole_of_notes look (notes_of d)
+
+  -- the picture is all of these
+  picture-is : NamesAreStated file d → viewed_picture view renderer same file refusal d ≡ (header ++ middle) ++ end
+  picture-is named =
+      let rows = snippets view (notes_of d) (labelled_files same file (labels_of d)) in
+      let ended : Row → Stream = λ row. stream_of look row ++ newline in
+      ap (λ n. stream_of_rows (look_of renderer d.severity n) ((HeaderRow None (heading_of d) ∷ rows) ++ note_rows (notes_of d) ++ (BlankRow ∷ []))) (sym prepared.padding_is)
+      ∙ ap (stream_of_rows look) (append_assoc (HeaderRow None (heading_of d) ∷ rows) (note_rows (notes_of d)) (BlankRow ∷ []))
+      ∙ flat_map-append ended (HeaderRow None (heading_of d) ∷ rows) (note_rows (notes_of d) ++ (BlankRow ∷ []))
+      ∙ ap (λ (r : List Row). (header ++ stream_of_rows look r) ++ end)
+      (sym (placed-are view (notes_of d) (labelled_files same file (labels_of d)))
+      ∙ ap (λ ps. placed_snippets view (has_any (notes_of d)) ps (labelled_files same file (labels_of d))) (sym (prepared.places_are named)))
+
+  -- the header was cut short
+  pub stopped-in_header : (old new : Sink) (e : Error) → Sends old header (Err e) new → IsIo e → DrawsRich view renderer same file refusal d old (Err e) new
+  stopped-in_header old new e sends io =
+      refused_by_writer view renderer same file refusal d old new e early sends.0 io
+      (λ named told. Began-as old new ((header ++ middle) ++ end) _ (picture-is named) ((stopped_before old new (header ++ middle) end (stopped_before old new header middle sends)).1 told))
+
+  -- the snippets were cut short
+  pub stopped-in_snippets : (old mid new : Sink) (e : Error) → 0 < length (labels_of d) → Came old header mid
+      → SendsAsking (first_refusal refusal (late_lookups view same file refusal (labels_of d))) mid middle (Err e) new → DrawsRich view renderer same file refusal d old (Err e) new
+  stopped-in_snippets old mid new e some came part =
+      ⊎_elim
+      (λ (w : IsIo e × Stopped mid middle new). let stopped = stopped_before old new (header ++ middle) end (came_then_stopped old mid new header middle came w.1) in
+      refused_by_writer view renderer same file refusal d old new e early stopped.0 w.0
+      (λ named told. Began-as old new ((header ++ middle) ++ end) _ (picture-is named) (stopped.1 told)))
+      (λ (w : EndedAsking (first_refusal refusal (late_lookups view same file refusal (labels_of d))) mid middle e new).
+      refused_late view renderer same file refusal d old new e early (w.frame ∙ came.0) (some_late view same file refusal (labels_of d) some) w.told
+      (λ named told. Began-as old new ((header ++ middle) ++ end) _ (picture-is named)
+      (cut old mid new came w.begun told)))
+      part
+    where
+      cut : (old mid new : Sink) → Came old header mid → (is_told mid ≡ true → Began mid middle new) → is_told old ≡ true → Began old ((header ++ middle) ++ end) new
+      cut old mid new came begun told =
+          Began-first old (header ++ middle) new end (Began-last old header middle new (subst (λ (x : Sink). Began x middle new) (came.1 told) (begun (told_after old mid header came told))))
+
+  -- header and snippets came, and then the notes were sent
+  pub drawn-whole : (old mid last new : Sink) (r : Result (Unit {0}) Error) → Came old header mid
+      → SendsAsking (first_refusal refusal (late_lookups view same file refusal (labels_of d))) mid middle (Ok tt) last
+      → Sends last end r new → IfErr r IsIo → DrawsRich view renderer same file refusal d old r new
+  drawn-whole old mid last new r came part sends io =
+      finished view renderer same file refusal d old last new (header ++ middle) end r early part.0 (came_both old mid last header middle came part.1) sends io picture-is

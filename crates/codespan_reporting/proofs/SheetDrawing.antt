@@ -1,0 +1,171 @@
+-- The snippets of a sheet, one after another.
+use Rattle.std.proofs.Common.{◌≡◌, ℕ, zero, suc, ◌+◌, ◌<◌, ◌≤◌, Bool, true, false, ◌&&◌, not, List, [], ◌∷◌, ◌++◌, length, drop, get_or, map, take, ◌-◌, Option, None, Ok, Err, refl, sym, subst, ap, ◌∙◌, arith, cond}
+use Rattle.std.specs.Prelude.{filter, flat_map, if◌then◌else◌}
+use Rattle.std.specs.List.{prefix_len}
+use Rattle.std.specs.List.Sorted.{IsSortedBy}
+use Rattle.std.proofs.Math.Seq.{drop-cons}
+use Rattle.std.proofs.lemmas.Grind.{flat_map-append}
+use Rattle.std.proofs.lemmas.List.{append-nil, append_assoc}
+use Rattle.std.proofs.lemmas.List.Sums.{sum_by-cons}
+use Rattle.codespan_base.specs.declared.term.config.Config.{Config}
+use Rattle.codespan_base.specs.declared.files.error.Error.{Error}
+use Rattle.codespan_base.specs.FileModel.{FileModel, Lookup, or_refusal}
+use Rattle.codespan_base.specs.Labels.{Labelled, is_single, multi_labels}
+use Rattle.codespan_base.specs.Streams.{Stream, newline}
+use Rattle.codespan_base.specs.WriterLaw.{Sink}
+use Rattle.codespan_reporting.specs.Asking.{SendsAsking}
+use Rattle.codespan_reporting.specs.declared.term.views.entry.Entry.{Entry as GivenEntry}
+use Rattle.codespan_reporting.specs.Entries.{is_below, is_of_file}
+use Rattle.codespan_reporting.specs.GivenEntries.{entry_of}
+use Rattle.codespan_reporting.specs.GivenSheets.{is_followed, placed_snippet, placed_snippets}
+use Rattle.codespan_reporting.specs.Lookups.{Refusals, first_refusal, snippet_lookups}
+use Rattle.codespan_reporting.specs.PlacedLabels.{lane_after, is_multi_of}
+use Rattle.codespan_reporting.specs.Rows.{Look, Place, Row}
+use Rattle.codespan_reporting.specs.RowStreams.{stream_of, stream_of_rows}
+use Rattle.codespan_reporting.specs.Snippets.{InFile, LabelledFile, labelled_file, lane_count}
+use Rattle.codespan_reporting.proofs.FileParts.{IsFilePart, from_file, next-file}
+use Rattle.codespan_reporting.proofs.Askings.{asking_as, asking_cut, asking_nothing, asking_then, first_refusal-append}
+
+-- the elements from one on: that one, and those after it
+pub drop-one : {X : Type 0} (xs : List X) (k : ℕ) (x : X) → k < length xs → x ≡ get_or xs k x → drop k xs ≡ x ∷ drop (k + 1) xs
+drop-one {X} xs k x inside is =
+    drop-cons xs k x inside ∙ ap (λ (y : X). y ∷ drop (suc k) xs) (sym is) ∙ (let e : suc k ≡ k + 1 = omega arith in ap (λ n. x ∷ drop n xs) e)
+
+-- no element from the end on
+pub drop-end : {X : Type 0} (xs : List X) (k : ℕ) → length xs ≤ k → drop k xs ≡ []
+drop-end [] zero past = refl
+drop-end [] (suc k) past = refl
+drop-end (x ∷ xs) zero past = absurd (omega arith)
+drop-end (x ∷ xs) (suc k) past = drop-end xs k (omega arith)
+
+-- the streams of rows, one after the other
+pub rows-two : (look : Look) (a b : List Row) → stream_of_rows look (a ++ b) ≡ stream_of_rows look a ++ stream_of_rows look b
+rows-two look a b = flat_map-append (λ r. stream_of look r ++ newline) a b
+
+-- the number of lanes of a file is the next lane after all labels
+pub lanes-count : {Id : Type 0} (same : Id → Id → Bool) (file : Id → FileModel) → ((i j : Id) → same i j ≡ true → file i ≡ file j)
+    → (id : Id) (xs : List (InFile Id)) → lane_after same file xs id ≡ lane_count (labelled_file same file xs id)
+lanes-count same file one id [] = refl
+lanes-count {Id} same file one id (x ∷ xs) =
+    sum_by-cons (λ (y : InFile Id). cond {A = ℕ} (is_multi_of same file id y) 1 0) x xs
+    ∙ ap (λ n. cond {A = ℕ} (is_multi_of same file id x) 1 0 + n) (lanes-count same file one id xs)
+    ∙ by (same id x.id) (λ t. one id x.id t)
+  where
+    own : List Labelled
+    own = map (λ (y : InFile Id). y.label) (filter (λ (y : InFile Id). same id y.id) xs)
+
+    by_lines : (b : Bool) → cond {A = ℕ} (not b) 1 0 + length (multi_labels (file id) own) ≡ length (if not b then x.label ∷ multi_labels (file id) own else multi_labels (file id) own)
+    by_lines true = omega arith
+    by_lines false = omega arith
+
+    by : (b : Bool) → (b ≡ true → file id ≡ file x.id)
+        → cond {A = ℕ} (b && not (is_single (file x.id) x.label)) 1 0 + length (multi_labels (file id) own)
+        ≡ length (multi_labels (file id) (map (λ (y : InFile Id). y.label) (if b then x ∷ filter (λ (y : InFile Id). same id y.id) xs else filter (λ (y : InFile Id). same id y.id) xs)))
+    by true same_file =
+        ap (λ (f : FileModel). cond {A = ℕ} (not (is_single f x.label)) 1 0 + length (multi_labels (file id) own)) (sym (same_file refl)) ∙ by_lines (is_single (file id) x.label)
+    by false same_file = omega arith
+
+module _ {Id : Type 0} (same : Id → Id → Bool) (file : Id → FileModel) (refusal : Refusals Id) (config : Config) (xs : List (InFile Id)) (ids : List Id)
+    (has_notes : Bool) (look : Look) (places : List Place) where
+  -- a file with its labels
+  abbrev labelled : Id → LabelledFile
+  labelled = labelled_file same file xs
+
+  -- the lookups with a file's snippet
+  abbrev asked_with : Id → List (Id × Lookup)
+  asked_with = snippet_lookups config same file xs
+
+  -- the rows of the files from a place on
+  abbrev pub rows_left : ℕ → List Row
+  rows_left k = placed_snippets config has_notes (drop k places) (map labelled (drop k ids))
+
+  -- their lookups
+  abbrev pub asked_left : ℕ → List (Id × Lookup)
+  asked_left k = flat_map asked_with (drop k ids)
+
+  -- the files before this place are drawn, and all lookups with them were answered
+  pub record SnippetsLeft (k : ℕ) (old now : Sink) : Type 0 where
+    pub rows : List Row
+    pub drawn : SendsAsking None old (stream_of_rows look rows) (Ok tt) now
+    pub rows_whole : rows ++ rows_left k ≡ rows_left 0
+    pub asked : List (Id × Lookup)
+    pub answered : first_refusal refusal asked ≡ None
+    pub asked_whole : asked ++ asked_left k ≡ asked_left 0
+
+  -- no file is drawn
+  pub left-start : (s : Sink) → SnippetsLeft 0 s s
+  left-start s = record { rows = []; drawn = asking_nothing s; rows_whole = refl; asked = []; answered = refl; asked_whole = refl }
+
+  module _ (k : ℕ) (id : Id) (place : Place) (inside : k < length ids) (at : id ≡ get_or ids k id) (long : k < length places) (there : place ≡ get_or places k place) where
+    -- the rows of the file at the place
+    abbrev pub rows_here : List Row
+    rows_here = placed_snippet config (is_followed has_notes (drop (k + 1) ids)) place (labelled id)
+
+    -- these come first among those that are left
+    rows-next : rows_left k ≡ rows_here ++ rows_left (k + 1)
+    rows-next = ap (λ (ps : List Place). placed_snippets config has_notes ps (map labelled (drop k ids))) (drop-one places k place long there)
+        ∙ ap (λ (js : List Id). placed_snippets config has_notes (place ∷ drop (k + 1) places) (map labelled js)) (drop-one ids k id inside at)
+        ∙ ap (λ (b : Bool). placed_snippet config b place (labelled id) ++ rows_left (k + 1)) (followed-mapped (drop (k + 1) ids))
+      where
+        followed-mapped : (js : List Id) → is_followed has_notes (map labelled js) ≡ is_followed has_notes js
+        followed-mapped [] = refl
+        followed-mapped (j ∷ js) = refl
+
+    -- and so do its lookups
+    asked-next : asked_left k ≡ asked_with id ++ asked_left (k + 1)
+    asked-next = ap (flat_map asked_with) (drop-one ids k id inside at)
+
+    -- the file is drawn
+    pub left-next : (old mid now : Sink) (x : Unit {0}) → SnippetsLeft k old mid → SendsAsking (first_refusal refusal (asked_with id)) mid (stream_of_rows look rows_here) (Ok x) now
+        → SnippetsLeft (k + 1) old now
+    left-next old mid now x left drawn = record {
+      rows = left.rows ++ rows_here;
+      drawn = asking_as (or_refusal None (first_refusal refusal (asked_with id))) None old now _ _ (Ok tt) drawn.0 (sym (rows-two look left.rows rows_here))
+          (asking_then None (first_refusal refusal (asked_with id)) old mid now _ _ tt (Ok tt) left.drawn drawn);
+      rows_whole = append_assoc left.rows rows_here (rows_left (k + 1)) ∙ ap (λ (r : List Row). left.rows ++ r) (sym rows-next) ∙ left.rows_whole;
+      asked = left.asked ++ asked_with id;
+      answered = first_refusal-append refusal left.asked (asked_with id) ∙ ap (λ (o : Option Error). or_refusal o (first_refusal refusal (asked_with id))) left.answered ∙ drawn.0;
+      asked_whole = append_assoc left.asked (asked_with id) (asked_left (k + 1)) ∙ ap (λ (ls : List (Id × Lookup)). left.asked ++ ls) (sym asked-next) ∙ left.asked_whole;
+    }
+
+    -- the file was cut short
+    pub left-cut : (old mid now : Sink) (e : Error) → SnippetsLeft k old mid → SendsAsking (first_refusal refusal (asked_with id)) mid (stream_of_rows look rows_here) (Err e) now
+        → SendsAsking (first_refusal refusal (asked_left 0)) old (stream_of_rows look (rows_left 0)) (Err e) now
+    left-cut old mid now e left cut =
+        let here = first_refusal refusal (asked_with id) in
+        let after = first_refusal refusal (asked_left (k + 1)) in
+        asking_as (or_refusal None (or_refusal here after)) (first_refusal refusal (asked_left 0)) old now _ _ (Err e)
+        (sym (ap (λ (o : Option Error). or_refusal o (or_refusal here after)) left.answered)
+        ∙ ap (or_refusal (first_refusal refusal left.asked)) (sym (first_refusal-append refusal (asked_with id) (asked_left (k + 1))) ∙ ap (first_refusal refusal) (sym asked-next))
+        ∙ sym (first_refusal-append refusal left.asked (asked_left k)) ∙ ap (first_refusal refusal) left.asked_whole)
+        (ap (λ (s : Stream). stream_of_rows look left.rows ++ s) (sym (rows-two look rows_here (rows_left (k + 1))) ∙ ap (stream_of_rows look) (sym rows-next))
+        ∙ sym (rows-two look left.rows (rows_left k)) ∙ ap (stream_of_rows look) left.rows_whole)
+        (asking_then None (or_refusal here after) old mid now _ _ tt (Err e) left.drawn (asking_cut here after mid now (stream_of_rows look rows_here) (stream_of_rows look (rows_left (k + 1))) e cut))
+
+  -- all files are drawn
+  pub left-end : (k : ℕ) (old now : Sink) → length ids ≤ k → SnippetsLeft k old now
+      → SendsAsking (first_refusal refusal (asked_left 0)) old (stream_of_rows look (rows_left 0)) (Ok tt) now
+  left-end k old now past left =
+      let none : drop k ids ≡ [] = drop-end ids k past in
+      asking_as None (first_refusal refusal (asked_left 0)) old now _ _ (Ok tt)
+      (sym left.answered ∙ ap (first_refusal refusal) (sym (append-nil left.asked) ∙ ap (λ (js : List Id). left.asked ++ flat_map asked_with js) (sym none) ∙ left.asked_whole))
+      (ap (stream_of_rows look) (sym (append-nil left.rows) ∙ ap (λ (r : List Row). left.rows ++ r) (sym (no-rows (drop k places)) ∙ ap (λ (js : List Id). placed_snippets config has_notes (drop k places) (map labelled js)) (sym none)) ∙ left.rows_whole))
+      left.drawn
+    where
+      no-rows : (ps : List Place) → placed_snippets config has_notes ps [] ≡ []
+      no-rows [] = refl
+      no-rows (p ∷ ps) = refl
+
+-- there is an element at a place below the length
+pub some-at : {X : Type 0} (xs : List X) (k : ℕ) → k < length xs → (x : X) × (x ≡ get_or xs k x)
+some-at [] k inside = absurd (omega arith)
+some-at (x ∷ xs) zero inside = (x, refl)
+some-at (x ∷ xs) (suc k) inside = some-at xs k (omega arith)
+
+-- the entries of the next file, as a list that is equal has them
+pub next-part : (xs ys : List GivenEntry) → ys ≡ xs → (at n f : ℕ) → IsSortedBy is_below (map entry_of xs) → at ≤ length xs → drop at (map entry_of xs) ≡ from_file f (map entry_of xs)
+    → n ≡ prefix_len (λ e. is_of_file f (entry_of e)) (take (length ys - at) (drop at ys)) → n ≤ length (take (length ys - at) (drop at ys)) → IsFilePart xs at n f
+next-part xs ys same at n f up within rest is le =
+    next-file xs at n f up within rest
+    (subst (λ (es : List GivenEntry). n ≡ prefix_len (λ e. is_of_file f (entry_of e)) (take (length es - at) (drop at es))) same is)
+    (subst (λ (es : List GivenEntry). n ≤ length (take (length es - at) (drop at es))) same le)

@@ -1,0 +1,133 @@
+-- One file of a sheet: what its entries draw and ask for.
+use Rattle.std.proofs.Common.{◌≡◌, ℕ, zero, suc, ◌+◌, ◌-◌, ◌<◌, Bool, true, false, ◌||◌, List, [], ◌∷◌, ◌++◌, length, take, drop, get_or, map, filter, refl, sym, subst, ap, ◌∙◌, arith}
+use Rattle.std.specs.Prelude.{flat_map, nat_lt, if◌then◌else◌}
+use Rattle.std.specs.Cmp.{IsEquivalence}
+use Rattle.std.specs.List.{All, AllByRecursion}
+use Rattle.std.proofs.lemmas.Bool.{eqb-true, lt-ltb}
+use Rattle.std.proofs.lemmas.Grind.{common_steps}
+use Rattle.std.proofs.lemmas.List.{get_or-map, length-drop}
+use Rattle.std.proofs.lemmas.List.Elements.{All-from_recursion, recursion_from_All}
+use Rattle.codespan_base.specs.declared.term.config.Config.{Config}
+use Rattle.codespan_base.specs.FileModel.{FileModel, line_count}
+use Rattle.codespan_reporting.specs.declared.term.views.entry.Entry.{Entry as GivenEntry}
+use Rattle.codespan_reporting.specs.declared.term.views.sheet.Sheet.{Sheet}
+use Rattle.codespan_reporting.specs.Entries.{Entry, is_of_file}
+use Rattle.codespan_reporting.specs.GivenEntries.{IsLineOf, IsOfFiles, entry_of}
+use Rattle.codespan_reporting.specs.GivenSheets.{IsPrepared, is_followed, placed_snippet}
+use Rattle.codespan_reporting.specs.Lookups.{filled_lines, of_line}
+use Rattle.codespan_reporting.specs.PlacedLabels.{IsAt, file_ids, lane_after}
+use Rattle.codespan_reporting.specs.Rows.{Place, Row, StartRow, EmptyRow}
+use Rattle.codespan_reporting.specs.Snippets.{InFile, LabelledFile, bare_lanes, labelled_file, lane_count}
+use Rattle.codespan_reporting.specs.StepDrawing.{DoFit}
+use Rattle.codespan_reporting.specs.Steps.{Step, fills_of, lookups_of_steps, rows_of_steps, steps_of}
+use Rattle.codespan_reporting.proofs.EntryPicture.{snippet-rows, snippet-fills, snippet-fits}
+use Rattle.codespan_reporting.proofs.FilePlaces.{at-get}
+use Rattle.codespan_reporting.proofs.LabelsGathered.{all_both, all_given}
+use Rattle.codespan_reporting.proofs.SheetDrawing.{lanes-count}
+use Rattle.codespan_reporting.proofs.SortedLists.{all-pass}
+
+-- what holds of each element holds of each of some
+all-dropped : {X : Type 0} (P : X → Type 0) (n : ℕ) (xs : List X) → AllByRecursion P xs → AllByRecursion P (drop n xs)
+all-dropped P zero xs h = h
+all-dropped P (suc n) [] h = tt
+all-dropped P (suc n) (x ∷ xs) h = all-dropped P n xs h.1
+
+all-taken : {X : Type 0} (P : X → Type 0) (n : ℕ) (xs : List X) → AllByRecursion P xs → AllByRecursion P (take n xs)
+all-taken P zero xs h = tt
+all-taken P (suc n) [] h = tt
+all-taken P (suc n) (x ∷ xs) h = (h.0, all-taken P n xs h.1)
+
+-- a snippet is followed by another one, or by notes
+followed-is : {X : Type 0} (has_notes : Bool) (ys : List X) → is_followed has_notes ys ≡ (has_notes || nat_lt 0 (length ys))
+followed-is true [] = refl
+followed-is false [] = refl
+followed-is true (y ∷ ys) = refl
+followed-is false (y ∷ ys) = sym (lt-ltb 0 (length (y ∷ ys)) (omega arith))
+
+-- something is left of a difference
+left-over : (a b : ℕ) → nat_lt 0 (b - a) ≡ nat_lt a b
+left-over a b = grind (arith, common_steps)
+
+-- the snippet at a place is followed by that of the next place, or by notes
+pub followed-at : {X : Type 0} (has_notes : Bool) (xs : List X) (k : ℕ) → is_followed has_notes (drop (k + 1) xs) ≡ (has_notes || nat_lt (k + 1) (length xs))
+followed-at has_notes xs k =
+    followed-is has_notes (drop (k + 1) xs)
+    ∙ ap (λ n. has_notes || nat_lt 0 n) (length-drop (k + 1) xs)
+    ∙ ap (λ (b : Bool). has_notes || b) (left-over (k + 1) (length xs))
+
+-- an element at a place that is there does not depend on what stands for one that is not
+pub one-at : {X : Type 0} (xs : List X) (k : ℕ) (x y : X) → k < length xs → x ≡ get_or xs k x → y ≡ get_or xs k y → x ≡ y
+one-at [] k x y h is was = absurd (omega arith)
+one-at (z ∷ zs) zero x y h is was = is ∙ sym was
+one-at (z ∷ zs) (suc k) x y h is was = one-at zs k x y (omega arith) is was
+
+module _ {Id : Type 0} (same : Id → Id → Bool) (file : Id → FileModel) (o : IsEquivalence same) (one_file : (i j : Id) → same i j ≡ true → file i ≡ file j)
+    (some_line : (i : Id) → 0 < line_count (file i)) (config : Config) (xs : List (InFile Id)) (sheet : Sheet Id) (prepared : IsPrepared same file config xs sheet)
+    (k : ℕ) (id : Id) (inside : k < length sheet.ids.items) (at : id ≡ get_or sheet.ids.items k id) where
+  -- the file with its labels
+  abbrev s : LabelledFile
+  s = labelled_file same file xs id
+
+  -- its place
+  place-is : IsAt sheet.ids.items k id
+  place-is = subst (λ i. IsAt sheet.ids.items k i) (sym at) (at-get sheet.ids.items k id inside)
+
+  file-at : IsAt (file_ids same xs) k id
+  file-at = subst (λ (ids : List Id). IsAt ids k id) prepared.ids_are place-is
+
+  -- the number of its lanes
+  pub lanes-at : (d : ℕ) → get_or sheet.lane_counts.items k d ≡ lane_count s
+  lanes-at d =
+      ap (λ (ns : List ℕ). get_or ns k d) prepared.lanes_are
+      ∙ get_or-map (lane_after same file xs) sheet.ids.items k id d inside
+      ∙ ap (lane_after same file xs) (sym at)
+      ∙ lanes-count same file one_file id xs
+
+  module _ (start len : ℕ) (part : List GivenEntry) (is : part ≡ take len (drop start sheet.entries.items))
+      (own : map entry_of part ≡ filter (is_of_file k) (map entry_of sheet.entries.items)) where
+    -- its entries are of its lines
+    pub lines-at : All (λ e. IsLineOf (file id) e.line) part
+    lines-at =
+        let of_files : AllByRecursion (IsOfFiles file sheet.ids.items) part =
+        subst (λ (es : List GivenEntry). AllByRecursion (IsOfFiles file sheet.ids.items) es) (sym is)
+        (all-taken _ len (drop start sheet.entries.items) (all-dropped _ start sheet.entries.items (recursion_from_All (IsOfFiles file sheet.ids.items) sheet.entries.items prepared.lines))) in
+        let here : AllByRecursion (λ (e : GivenEntry). is_of_file k (entry_of e) ≡ true) part =
+        all_given (λ (e : Entry). is_of_file k e ≡ true) entry_of part
+        (subst (λ (es : List Entry). AllByRecursion (λ (e : Entry). is_of_file k e ≡ true) es) (sym own) (all-pass (is_of_file k) (map entry_of sheet.entries.items))) in
+        All-from_recursion (λ e. IsLineOf (file id) e.line) part
+        (all_both (IsOfFiles file sheet.ids.items) (λ e. is_of_file k (entry_of e) ≡ true) (λ e. IsLineOf (file id) e.line)
+        (λ e of_file there. of_file id (subst (λ n. IsAt sheet.ids.items n id) (sym (eqb-true e.file k there)) place-is)) part of_files here)
+
+    -- its steps
+    abbrev steps : List Step
+    steps = steps_of (map entry_of part)
+
+    -- they are those of its part of all entries
+    steps-are : steps ≡ steps_of (filter (is_of_file k) (map entry_of sheet.entries.items))
+    steps-are = ap steps_of own
+
+    -- their marks fit its lanes
+    pub fits-at : (count : ℕ) → count ≡ lane_count s → DoFit count steps
+    fits-at count counted =
+        subst (λ n. DoFit n steps) (sym counted)
+        (subst (λ (ss : List Step). DoFit (lane_count s) ss) (sym steps-are)
+        (snippet-fits same file o one_file some_line config xs (map entry_of sheet.entries.items) prepared.permutation prepared.sorted k id file-at))
+
+    -- its rows, where its snippet starts with this place
+    pub rows-at : (count : ℕ) (start_place : Place) (followed : Bool) → count ≡ lane_count s
+        → (StartRow start_place ∷ EmptyRow (record { count = count; marks = [] }) ∷ []) ++ rows_of_steps (file id) count steps
+        ++ (if followed then EmptyRow (record { count = count; marks = [] }) ∷ [] else [])
+        ≡ placed_snippet config followed start_place s
+    rows-at count start_place followed counted =
+        (λ i. (StartRow start_place ∷ EmptyRow (record { count = counted i; marks = [] }) ∷ []) ++ rows_of_steps (file id) (counted i) steps
+        ++ (if followed then EmptyRow (record { count = counted i; marks = [] }) ∷ [] else []))
+        ∙ ap (λ (r : List Row). (StartRow start_place ∷ EmptyRow (bare_lanes s) ∷ []) ++ r ++ (if followed then EmptyRow (bare_lanes s) ∷ [] else []))
+        (ap (rows_of_steps (file id) (lane_count s)) steps-are
+        ∙ snippet-rows same file o one_file some_line config xs (map entry_of sheet.entries.items) prepared.permutation prepared.sorted k id file-at)
+
+    -- its lookups
+    pub lookups-at : lookups_of_steps steps ≡ flat_map of_line (filled_lines config s)
+    lookups-at =
+        ap (λ (ls : List ℕ). flat_map of_line ls)
+        (ap fills_of steps-are
+        ∙ snippet-fills same file o one_file some_line config xs (map entry_of sheet.entries.items) prepared.permutation prepared.sorted k id file-at)

@@ -1,0 +1,155 @@
+-- A sheet that was prepared is that of the labels, and what refuses one.
+use Rattle.std.proofs.Common.{◌≡◌, ℕ, ◌<◌, Bool, true, not, max, List, [], ◌∷◌, ◌++◌, length, map, flat_map, Some, None, sym, ◌∙◌, ap, subst}
+use Rattle.std.specs.Prelude.{Contains, IsSome, fold}
+use Rattle.std.specs.Cmp.{IsEquivalence}
+use Rattle.std.specs.List.{AllByRecursion}
+use Rattle.std.specs.List.Sorted.{IsPermutation, IsSortedBy}
+use Rattle.std.proofs.lemmas.List.Elements.{All-contains, All-contains_itself, All-from_recursion, All-map, All-weaker, recursion_from_All}
+use Rattle.std.proofs.lemmas.Simd.{map-map}
+use Rattle.codespan_base.specs.declared.files.error.Error.{Error}
+use Rattle.codespan_base.specs.declared.term.config.Config.{Config}
+use Rattle.codespan_base.specs.declared.term.config.Layout.TheVariants.{Classic, Unbroken}
+use Rattle.codespan_base.specs.FileModel.{FileModel, Lookup, line_count}
+use Rattle.codespan_base.specs.Labels.{first_seen}
+use Rattle.codespan_reporting.specs.declared.term.views.entry.Entry.{Entry as GivenEntry}
+use Rattle.codespan_reporting.specs.declared.term.views.sheet.Sheet.{Sheet}
+use Rattle.codespan_reporting.specs.Entries.{is_below}
+use Rattle.codespan_reporting.specs.Given.{place_of_given}
+use Rattle.codespan_reporting.specs.GivenEntries.{Adds, IsOfFiles, entry_of}
+use Rattle.codespan_reporting.specs.GivenPadding.{drawn_digits, filled_numbers, marked_digits}
+use Rattle.codespan_reporting.specs.GivenSheets.{IsPrepared}
+use Rattle.codespan_reporting.specs.Lookups.{Refusals, asked_of, early_lookups, first_refusal, label_lookups, locus_lookups, numbers_for_padding}
+use Rattle.codespan_reporting.specs.Padding.{padding_of}
+use Rattle.codespan_reporting.specs.PlacedLabels.{all_entries, file_ids, lane_after}
+use Rattle.codespan_reporting.specs.Snippets.{InFile, labelled_file, labelled_files, place_of}
+use Rattle.codespan_reporting.proofs.EntryPadding.{drawn_digits-gathered, filled_numbers-gathered, gathered-each, gathered-says, marked_digits-gathered, numbers-classic}
+use Rattle.codespan_reporting.proofs.FileParts.{gathered-sorted}
+use Rattle.codespan_reporting.proofs.Refusals.{first_refusal-none, first_refusal-some}
+use Rattle.codespan_reporting.proofs.SortedLists.{all-filter}
+
+-- what holds of ids holds of those of them that are seen first
+seen-each : {Id : Type 0} (P : Id → Type 0) (same : Id → Id → Bool) (js : List Id) → AllByRecursion P js → AllByRecursion P (first_seen same js)
+seen-each P same [] h = tt
+seen-each P same (j ∷ js) h = (h.0, all-filter P (λ other. not (same j other)) (first_seen same js) (seen-each P same js h.1))
+
+-- what holds of the id of each label holds of each file's
+ids-each : {Id : Type 0} (P : Id → Type 0) (same : Id → Id → Bool) (xs : List (InFile Id)) → ((x : InFile Id) → Contains xs x → P x.id) → (id : Id) → Contains (file_ids same xs) id → P id
+ids-each {Id} P same xs h id c =
+    let given = All-map P (λ (x : InFile Id). x.id) xs (All-weaker (Contains xs) (λ (x : InFile Id). P x.id) h xs (All-contains_itself xs)) in
+    let js = map (λ (x : InFile Id). x.id) xs in
+    All-contains P (file_ids same xs) id (All-from_recursion P (file_ids same xs) (seen-each P same js (recursion_from_All P js given))) c
+
+module _ {Id : Type 0} (same : Id → Id → Bool) (file : Id → FileModel) (config : Config) (xs : List (InFile Id)) where
+  -- the ids of the files
+  abbrev ids : List Id
+  ids = file_ids same xs
+
+  module _ (refusal : Refusals Id) where
+    -- the lookups of the padding
+    abbrev numbers : List (Id × Lookup)
+    numbers = flat_map (λ id. asked_of id (numbers_for_padding config same file refusal xs config.layout id)) ids
+
+    -- the lookups of the places, for these ids
+    abbrev loci : List Id → List (Id × Lookup)
+    loci js = flat_map (λ id. asked_of id (locus_lookups same file xs id)) js
+
+    -- the lookups of the labels
+    abbrev asked : List (Id × Lookup)
+    asked = label_lookups config file refusal xs
+
+    -- the room for line numbers is that of the picture, and its lookups are answered
+    pub record IsPadded (padding : ℕ) : Type 0 where
+      pub padding_is : padding ≡ padding_of config (labelled_files same file xs)
+      pub answered : first_refusal refusal numbers ≡ None
+
+    -- ---- refusals
+
+    -- a lookup of a label refuses
+    pub refused-labels : (e : Error) → first_refusal refusal asked ≡ Some e → first_refusal refusal (early_lookups config same file refusal xs) ≡ Some e
+    refused-labels e h = first_refusal-some refusal (asked ++ numbers) (loci ids) e (first_refusal-some refusal asked numbers e h)
+
+    -- a lookup of a number refuses
+    refused-numbers : (e : Error) → first_refusal refusal asked ≡ None → first_refusal refusal numbers ≡ Some e → first_refusal refusal (early_lookups config same file refusal xs) ≡ Some e
+    refused-numbers e before h = first_refusal-some refusal (asked ++ numbers) (loci ids) e (first_refusal-none refusal asked numbers before ∙ h)
+
+    -- where labels and padding are answered, the lookups of the places tell the rest
+    pub refused-loci : (js ks : List Id) (padding : ℕ) → js ≡ ids → ks ≡ js → first_refusal refusal asked ≡ None → IsPadded padding
+        → first_refusal refusal (early_lookups config same file refusal xs) ≡ first_refusal refusal (loci ks)
+    refused-loci js ks padding are now before padded =
+        first_refusal-none refusal (asked ++ numbers) (loci ids) (first_refusal-none refusal asked numbers before ∙ padded.answered)
+        ∙ ap (λ (ls : List Id). first_refusal refusal (loci ls)) (sym (now ∙ are))
+
+  -- what was gathered
+  abbrev pub Gathers : List Id → List GivenEntry → Type 0
+  Gathers js gathered = Adds (IsOfFiles file js) [] gathered (all_entries same file config xs)
+
+  -- with the ids of the files
+  gathers : (js : List Id) (gathered : List GivenEntry) → js ≡ ids → Gathers js gathered → Gathers ids gathered
+  gathers js gathered are adds = subst (λ (ls : List Id). Gathers ls gathered) are adds
+
+  -- the sorted entries are of lines of their files
+  pub sorted-lines : (js ks : List Id) (gathered entries now : List GivenEntry) → ks ≡ js → now ≡ entries → Gathers js gathered → IsPermutation gathered entries
+      → AllByRecursion (IsOfFiles file ks) now
+  sorted-lines js ks gathered entries now same_ids same_entries adds perm =
+      subst (λ (ls : List Id). AllByRecursion (IsOfFiles file ls) now) (sym same_ids)
+      (subst (AllByRecursion (IsOfFiles file js)) (sym same_entries) (gathered-each (IsOfFiles file js) gathered entries (all_entries same file config xs) adds perm))
+
+  -- the sheet of these labels
+  pub sheet-prepared : (refusal : Refusals Id) (sheet : Sheet Id) (gathered : List GivenEntry) (ks : List Id)
+      → sheet.ids.items ≡ ids
+      → sheet.lane_counts.items ≡ map (lane_after same file xs) sheet.ids.items
+      → Gathers sheet.ids.items gathered
+      → IsPermutation gathered sheet.entries.items
+      → IsSortedBy is_below (map entry_of sheet.entries.items)
+      → ks ≡ sheet.ids.items
+      → length sheet.loci.items ≡ length ks
+      → (((id : Id) → Contains ks id → IsSome (file id).name) → map place_of_given sheet.loci.items ≡ map (λ id. place_of (labelled_file same file xs id)) ks)
+      → IsPadded refusal sheet.padding
+      → IsPrepared same file config xs sheet
+  sheet-prepared refusal sheet gathered ks are lanes adds perm up now count places padded = record {
+    ids_are = are;
+    lanes_are = lanes;
+    sorted = up;
+    permutation = gathered-sorted (all_entries same file config xs) gathered sheet.entries.items (gathered-says (IsOfFiles file sheet.ids.items) gathered (all_entries same file config xs) adds) perm;
+    lines = All-from_recursion (IsOfFiles file sheet.ids.items) sheet.entries.items
+        (gathered-each (IsOfFiles file sheet.ids.items) gathered sheet.entries.items (all_entries same file config xs) adds perm);
+    loci_count = count ∙ ap length now;
+    padding_is = padded.padding_is;
+    places_are = λ named.
+        places (λ id c. ids-each (λ i. IsSome (file i).name) same xs named id (subst (λ (ls : List Id). Contains ls id) (now ∙ are) c))
+        ∙ ap (map (λ id. place_of (labelled_file same file xs id))) (now ∙ are)
+        ∙ sym (map-map place_of (labelled_file same file xs) ids);
+  }
+
+  module _ (o : IsEquivalence same) (one_file : (i j : Id) → same i j ≡ true → file i ≡ file j) (some_line : (i : Id) → 0 < line_count (file i))
+      (refusal : Refusals Id) (js : List Id) (gathered : List GivenEntry) (are : js ≡ ids) (adds : Gathers js gathered) where
+    -- where lines may be broken, the marks tell the padding, and nothing is asked
+    pub padded-classic : (marked : List GivenEntry) (padding : ℕ) → config.layout ≡ Classic → marked ≡ gathered → padding ≡ fold max 0 (marked_digits marked) → IsPadded refusal padding
+    padded-classic marked padding classic now is = record {
+      padding_is = is ∙ ap (λ (es : List GivenEntry). fold max 0 (marked_digits es)) now
+          ∙ marked_digits-gathered same file o one_file some_line config xs gathered (gathers js gathered are adds) classic;
+      answered = ap (first_refusal refusal) (numbers-classic config same file refusal xs ids classic);
+    }
+
+    module _ (entries : List GivenEntry) (perm : IsPermutation gathered entries) (up : IsSortedBy is_below (map entry_of entries)) (unbroken : config.layout ≡ Unbroken)
+        (ks : List Id) (drawn : List GivenEntry) (same_ids : ks ≡ js) (same_entries : drawn ≡ entries) where
+      -- the numbers that the sorted entries ask for are those of the padding
+      numbers-filled : first_refusal refusal (filled_numbers (map entry_of drawn) ks) ≡ first_refusal refusal (numbers refusal)
+      numbers-filled =
+          ap (λ (es : List GivenEntry). first_refusal refusal (filled_numbers (map entry_of es) ks)) same_entries
+          ∙ ap (λ (ls : List Id). first_refusal refusal (filled_numbers (map entry_of entries) ls)) (same_ids ∙ are)
+          ∙ ap (first_refusal refusal) (filled_numbers-gathered same file o one_file some_line config xs gathered (gathers js gathered are adds) entries perm up unbroken refusal)
+
+      -- where nothing is broken, the drawn lines tell the padding
+      pub padded-unbroken : (padding : ℕ) → padding ≡ fold max 0 (drawn_digits file (map entry_of drawn) ks) → first_refusal refusal (filled_numbers (map entry_of drawn) ks) ≡ None → IsPadded refusal padding
+      padded-unbroken padding is answered = record {
+        padding_is = is ∙ ap (λ (es : List GivenEntry). fold max 0 (drawn_digits file (map entry_of es) ks)) same_entries
+            ∙ ap (λ (ls : List Id). fold max 0 (drawn_digits file (map entry_of entries) ls)) (same_ids ∙ are)
+            ∙ drawn_digits-gathered same file o one_file some_line config xs gathered (gathers js gathered are adds) entries perm up unbroken;
+        answered = sym numbers-filled ∙ answered;
+      }
+
+      -- and the first of their numbers that refuses is the first refusal
+      pub refused-padding : (e : Error) → first_refusal refusal (asked refusal) ≡ None → first_refusal refusal (filled_numbers (map entry_of drawn) ks) ≡ Some e
+          → first_refusal refusal (early_lookups config same file refusal xs) ≡ Some e
+      refused-padding e before h = refused-numbers refusal e before (sym numbers-filled ∙ h)

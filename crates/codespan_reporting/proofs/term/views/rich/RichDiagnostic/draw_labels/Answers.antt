@@ -1,0 +1,87 @@
+use Rattle.std.proofs.Common.{◌≡◌, ◌<◌, List, None, Ok, Err, length, map, refl, sym, subst, ap, ◌∙◌, arith}
+use Rattle.std.proofs.lemmas.List.{length-map}
+use Rattle.std.proofs.lemmas.Result.{err_from_is_err_and}
+use Rattle.codespan_base.specs.declared.term.config.Config.{Config}
+use Rattle.codespan_base.specs.declared.diagnostic.Label.{Label}
+use Rattle.codespan_base.specs.Streams.{Stream}
+use Rattle.codespan_reporting.specs.GivenSheets.{IsPrepared, has_any, placed_snippets}
+use Rattle.codespan_reporting.specs.Given.{place_of_given}
+use Rattle.codespan_reporting.specs.Lookups.{early_lookups, first_refusal}
+use Rattle.codespan_reporting.specs.Picture.{label_of, labels_of, look_of, notes_of}
+use Rattle.codespan_reporting.specs.Renderers.{config_of}
+use Rattle.codespan_reporting.specs.RowStreams.{stream_of_rows}
+use Rattle.codespan_reporting.specs.Snippets.{labelled_files}
+use Rattle.codespan_reporting.specs.Views.{diagnostic_of, view_config_of}
+use Rattle.codespan_reporting.proofs.Askings.{asking_at}
+use Rattle.codespan_reporting.proofs.Drawing.{refused_early}
+use Rattle.codespan_reporting.proofs.NoteRows.{whole_of_notes}
+use Rattle.codespan_reporting.proofs.RichParts.{stopped-in_header, stopped-in_snippets, drawn-whole, some_early}
+use Rattle.codespan_reporting.proofs.SnippetParts.{sends_at}
+use Rattle.codespan_reporting.proofs.term.views.rich.RichDiagnostic.draw_labels.Goals as goal
+
+pub returns-in_err-sheet-clause-draws : goal.returns-in_err-sheet-clause-draws
+returns-in_err-sheet-clause-draws g c =
+    let file = g.F.Files.file c.args.files.now in
+    let refusal = g.F.Files.refusal c.args.files.now in
+    let view = view_config_of c.args.self.now in
+    let renderer = config_of c.args.renderer.now in
+    let d = diagnostic_of c.args.self.now in
+    let same = g.FileId.PartialEq.eq in
+    let some : 0 < length (labels_of d) = omega (arith, c.requires, length-map d.labels.items label_of) in
+    let p = err_from_is_err_and c.from_residual.result c.from_residual.ensures.1 in
+    rw (p.1 ∙ ap Err p.2)
+    (refused_early view renderer same file refusal d _ _ _ refl (some_early view same file refusal (labels_of d) some)
+    (λ m f. ap (λ (ls : List (Label g.row.FileId.Denot)). first_refusal refusal (early_lookups view same file refusal (map label_of ls))) (sym c.as_slice.ensures.value) ∙ c.in_err-sheet.ensures.refused m f))
+
+pub returns-in_err-draw_header-clause-draws : goal.returns-in_err-draw_header-clause-draws
+returns-in_err-draw_header-clause-draws g c =
+    let file = g.F.Files.file c.args.files.now in
+    let refusal = g.F.Files.refusal c.args.files.now in
+    let view = view_config_of c.args.self.now in
+    let renderer = config_of c.args.renderer.now in
+    let d = diagnostic_of c.args.self.now in
+    let same = g.FileId.PartialEq.eq in
+    let prepared : IsPrepared same file view (labels_of d) c.in_ok-sheet.sheet = subst (λ (ls : List (Label g.row.FileId.Denot)). IsPrepared same file view (map label_of ls) c.in_ok-sheet.sheet) c.as_slice.ensures.value c.in_ok-sheet.ensures.prepared in
+    let early : first_refusal refusal (early_lookups view same file refusal (labels_of d)) ≡ None =
+    ap (λ (ls : List (Label g.row.FileId.Denot)). first_refusal refusal (early_lookups view same file refusal (map label_of ls))) (sym c.as_slice.ensures.value) ∙ c.in_ok-sheet.ensures.refused in
+    let p = err_from_is_err_and c.from_residual-in_err-draw_header.result c.from_residual-in_err-draw_header.ensures.1 in
+    rw (p.1 ∙ ap Err p.2) (stopped-in_header view renderer same file refusal d c.in_ok-sheet.sheet prepared early _ _ _ c.in_err-draw_header.ensures.sends c.in_err-draw_header.ensures.io)
+
+pub returns-in_err-draw_snippets-clause-draws : goal.returns-in_err-draw_snippets-clause-draws
+returns-in_err-draw_snippets-clause-draws g c =
+    let file = g.F.Files.file c.args.files.now in
+    let refusal = g.F.Files.refusal c.args.files.now in
+    let view = view_config_of c.args.self.now in
+    let renderer = config_of c.args.renderer.now in
+    let d = diagnostic_of c.args.self.now in
+    let same = g.FileId.PartialEq.eq in
+    let some : 0 < length (labels_of d) = omega (arith, c.requires, length-map d.labels.items label_of) in
+    let prepared : IsPrepared same file view (labels_of d) c.in_ok-sheet.sheet = subst (λ (ls : List (Label g.row.FileId.Denot)). IsPrepared same file view (map label_of ls) c.in_ok-sheet.sheet) c.as_slice.ensures.value c.in_ok-sheet.ensures.prepared in
+    let early : first_refusal refusal (early_lookups view same file refusal (labels_of d)) ≡ None =
+    ap (λ (ls : List (Label g.row.FileId.Denot)). first_refusal refusal (early_lookups view same file refusal (map label_of ls))) (sym c.as_slice.ensures.value) ∙ c.in_ok-sheet.ensures.refused in
+    let middle : Config → Stream = λ k. stream_of_rows (look_of k d.severity c.in_ok-sheet.sheet.padding)
+    (placed_snippets view (has_any (notes_of d)) (map place_of_given c.in_ok-sheet.sheet.loci.items) (labelled_files same file (labels_of d))) in
+    let e = c.in_err-draw_snippets.field-0.0 in
+    let p = err_from_is_err_and c.from_residual-in_err-draw_snippets.result c.from_residual-in_err-draw_snippets.ensures.1 in
+    rw (p.1 ∙ ap Err p.2) (stopped-in_snippets view renderer same file refusal d c.in_ok-sheet.sheet prepared early _ _ _ e some c.in_ok-draw_header.ensures.sends
+    (asking_at middle _ _ c.in_ok-draw_header.ensures.same.config _ _ _ (Err e) c.in_err-draw_snippets.ensures.draws))
+
+pub returns-clause-draws : goal.returns-clause-draws
+returns-clause-draws g c =
+    let file = g.F.Files.file c.args.files.now in
+    let refusal = g.F.Files.refusal c.args.files.now in
+    let view = view_config_of c.args.self.now in
+    let renderer = config_of c.args.renderer.now in
+    let d = diagnostic_of c.args.self.now in
+    let same = g.FileId.PartialEq.eq in
+    let prepared : IsPrepared same file view (labels_of d) c.in_ok-sheet.sheet = subst (λ (ls : List (Label g.row.FileId.Denot)). IsPrepared same file view (map label_of ls) c.in_ok-sheet.sheet) c.as_slice.ensures.value c.in_ok-sheet.ensures.prepared in
+    let early : first_refusal refusal (early_lookups view same file refusal (labels_of d)) ≡ None =
+    ap (λ (ls : List (Label g.row.FileId.Denot)). first_refusal refusal (early_lookups view same file refusal (map label_of ls))) (sym c.as_slice.ensures.value) ∙ c.in_ok-sheet.ensures.refused in
+    let middle : Config → Stream = λ k. stream_of_rows (look_of k d.severity c.in_ok-sheet.sheet.padding)
+    (placed_snippets view (has_any (notes_of d)) (map place_of_given c.in_ok-sheet.sheet.loci.items) (labelled_files same file (labels_of d))) in
+    let first = c.in_ok-draw_header.ensures.same.config in
+    let second = c.in_ok-draw_snippets.ensures.same.config in
+    drawn-whole view renderer same file refusal d c.in_ok-sheet.sheet prepared early _ _ _ _ c.draw_notes.result c.in_ok-draw_header.ensures.sends
+    (asking_at middle _ _ first _ _ _ (Ok tt) c.in_ok-draw_snippets.ensures.draws)
+    (sends_at (λ (k : Config). whole_of_notes (look_of k d.severity c.in_ok-sheet.sheet.padding) (notes_of d)) _ _ (second ∙ first) _ _ c.draw_notes.result c.draw_notes.ensures.sends)
+    c.draw_notes.ensures.io

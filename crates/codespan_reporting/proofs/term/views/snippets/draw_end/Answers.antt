@@ -1,0 +1,16 @@
+use Rattle.std.proofs.Common.{Bool, [], ◌∷◌, refl, sym, ap, ◌∙◌}
+use Rattle.std.specs.Prelude.{if◌then◌else◌}
+use Rattle.codespan_base.specs.WriterLaw.{sent}
+use Rattle.codespan_base.proofs.Sends.{sent-nil}
+use Rattle.codespan_reporting.specs.Picture.{look_of}
+use Rattle.codespan_reporting.specs.Renderers.{writer_of, config_of}
+use Rattle.codespan_reporting.specs.Rows.{EmptyRow}
+use Rattle.codespan_reporting.specs.RowStreams.{stream_of_rows}
+use Rattle.codespan_reporting.proofs.term.views.snippets.draw_end.Goals as goal
+
+pub returns-else-is_followed-clause-sends : goal.returns-else-is_followed-clause-sends
+returns-else-is_followed-clause-sends g c =
+    let s = g.W.WriteStyle.sink (writer_of c.args.renderer.now) in
+    let snippet = c.args.snippet.now in
+    let look = look_of (config_of c.args.renderer.now) snippet.severity snippet.padding in
+    (refl, λ told. sym (ap (λ (b : Bool). sent s (stream_of_rows look (if b then EmptyRow (record { count = snippet.lane_count; marks = [] }) ∷ [] else []))) c.if-is_followed.false ∙ sent-nil s))

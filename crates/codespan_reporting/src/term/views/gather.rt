@@ -1,0 +1,291 @@
+//! What labels say of lines, gathered in one vector.
+
+ghost use Rattle.std.specs.Prelude.{◌≡◌, ◌≢◌, ◌+◌, ◌^◌, ◌<◌, ◌≤◌, ◌++◌, [], true, false, None, if◌then◌else◌, map, flat_map, slice_index, slice_set, vec_len, IfErr, IfOk, IfSome, OnOk, OnErr, IsErrOf};
+ghost use Rattle.std.specs.Option.{option_map};
+ghost use Rattle.codespan_base.specs.FileModel.{FileModel, Tells, line_count};
+ghost use Rattle.codespan_base.specs.FileModel.Lookup.{LineRange};
+ghost use Rattle.codespan_base.specs.Labels.{first_line, from_line_start, is_single, last_line, part_at};
+ghost use Rattle.codespan_reporting.specs.Given.{part_of};
+ghost use Rattle.codespan_reporting.specs.Entries.{Single, line_entries, entries_of, mark_entries};
+ghost use Rattle.codespan_reporting.specs.GivenEntries.{Adds, AddsOf, IsLineOf, IsOfFiles, entries_on, label_place, lookups_on, said, says_at, says_of};
+ghost use Rattle.codespan_reporting.specs.Lookups.{asked_lines, asked_of, ends_context, first_refusal, is_asked, label_lookups, line_refusal, of_label, of_line, probe};
+ghost use Rattle.codespan_reporting.specs.Picture.{label_of};
+ghost use Rattle.codespan_reporting.specs.PlacedLabels.{all_entries, file_ids, lane_after};
+
+use crate::term::renderer::MultiLabel;
+use crate::term::views::entry::{Entry, Says, SourceLine};
+use crate::term::views::file_order::{file_ids, file_place};
+use crate::term::views::label_lines::{LabelLines, label_lines};
+use codespan_base::diagnostic::Label;
+use codespan_base::files::{Error, Files};
+use codespan_base::term::Config;
+use std::alloc::Global;
+
+/// Where a label is among those of a diagnostic.
+#[derive(Clone, Copy)]
+pub struct LabelPlace {
+    /// The place of its file among those of the picture, counted from 0.
+    pub file: usize,
+    /// Its own place in the list of labels, counted from 0.
+    pub place: usize,
+    /// The lane that it has where it is over several lines.
+    pub lane: usize,
+}
+
+/// A line that a label asks for. After the label's last line, `None` says that the file ends before it.
+fn find_line<'files, F: Files<'files>>(
+    files: &'files F,
+    id: F::FileId,
+    lines: LabelLines,
+    index: usize,
+) -> Result<Option<SourceLine>, Error>
+    ensures found { IfOk result (λ found. IfSome found (λ line. (line.index ≡ index) × IsLineOf (F.file files.now id) line)) }
+    ensures answered { IfOk result (λ found. IfSome found (λ _. first_refusal (F.refusal files.now) (asked_of id (of_line index)) ≡ None)) }
+    ensures ended { IfOk result (λ found. found ≡ None → (line_count (F.file files.now id) ≤ index) × (ends_context (F.refusal files.now id (LineRange index)) ≡ true)) }
+    ensures refused { Tells (line_refusal (F.file files.now id) (F.refusal files.now id) lines.last index) result }
+{
+    let range = match files.line_range(id, index) {
+        Ok(range) => range,
+        Err(Error::LineTooLarge { .. }) if index > lines.last => return Ok(None),
+        Err(error) => return Err(error),
+    };
+    let number = files.line_number(id, index)?;
+    Ok(Some(SourceLine {
+        index,
+        number,
+        start: range.start,
+        end: range.end,
+    }))
+}
+
+/// What a label over several lines does on a line, if it does anything there.
+fn multi_mark<'d, FileId>(
+    label: &'d Label<FileId>,
+    lines: LabelLines,
+    line: SourceLine,
+) -> Option<MultiLabel<'d>>
+    ensures { option_map part_of result ≡ part_at lines.first lines.last line.index line.start (label_of label.now).label }
+{
+    if line.index == lines.first {
+        Some(MultiLabel::Top(label.range.start.saturating_sub(line.start)))
+    } else if line.index == lines.last {
+        Some(MultiLabel::Bottom(
+            label.range.end.saturating_sub(line.start),
+            label.message.as_str(),
+        ))
+    } else if lines.first < line.index && line.index < lines.last {
+        Some(MultiLabel::Left)
+    } else {
+        None
+    }
+}
+
+/// What a label inside one line says of it.
+fn single_says<FileId>(label: &Label<FileId>, place: usize, line_start: usize) -> Says<'_>
+    ensures { says_of result ≡ Single place (from_line_start line_start (label_of label.now).label) }
+{
+    let start = label.range.start.saturating_sub(line_start);
+    let end = label.range.end.saturating_sub(line_start);
+    Says::Single {
+        place,
+        style: label.style,
+        start,
+        end: end.max(start.saturating_add(1)),
+        message: label.message.as_str(),
+    }
+}
+
+/// What a label has on a line: carets, a mark in its lane, or nothing.
+fn mark_says<'d, FileId>(
+    at: LabelPlace,
+    label: &'d Label<FileId>,
+    lines: LabelLines,
+    line: SourceLine,
+) -> Option<Says<'d>>
+    ensures { option_map says_of result ≡ says_at (label_place at) lines.first lines.last line.index line.start (label_of label.now).label }
+{
+    if !lines.is_single() {
+        return match multi_mark(label, lines, line) {
+            Some(mark) => Some(Says::Multi {
+                lane: at.lane,
+                style: label.style,
+                mark,
+            }),
+            None => None,
+        };
+    }
+    if line.index == lines.first {
+        Some(single_says(label, at.place, line.start))
+    } else {
+        None
+    }
+}
+
+/// Adds an entry where something is said of a line.
+fn push_said<'d>(
+    file: usize,
+    line: SourceLine,
+    says: Option<Says<'d>>,
+    entries: &mut Vec<Entry<'d>>,
+) -> Result<(), Error>
+    ensures added { OnOk result ((f : FileModel) → IsLineOf f line → AddsOf f entries.old.items entries.new.items (said file line.index (option_map says_of says.entry))) }
+    ensures refused { OnErr result (IsErrOf result Error.OutOfMemory) }
+{
+    if let Some(says) = says {
+        entries.push(Entry { file, line, says })?;
+    }
+    Ok(())
+}
+
+/// Adds what a label says of a line: that the line is shown, and what the label has on it.
+fn push_line<'d, FileId>(
+    config: &Config<'_>,
+    at: LabelPlace,
+    label: &'d Label<FileId>,
+    lines: LabelLines,
+    line: SourceLine,
+    entries: &mut Vec<Entry<'d>>,
+) -> Result<(), Error>
+    ensures added { OnOk result ((f : FileModel) → first_line f (label_of label.now).label ≡ lines.first → last_line f (label_of label.now).label ≡ lines.last → IsLineOf f line → AddsOf f entries.old.items entries.new.items (line_entries config.now f (label_place at) (label_of label.now).label line.index)) }
+    ensures refused { OnErr result (IsErrOf result Error.OutOfMemory) }
+{
+    let shown = if lines.shows(config, line.index) {
+        Some(Says::Shown)
+    } else {
+        None
+    };
+    push_said(at.file, line, shown, entries)?;
+    push_said(at.file, line, mark_says(at, label, lines, line), entries)?;
+    Ok(())
+}
+
+/// Asks for a line and adds what the label says of it, where the label asks for that line at all. Gives whether the context goes on:
+/// it ends with the file.
+fn gather_line<'files, 'd, F: Files<'files>>(
+    files: &'files F,
+    config: &Config<'_>,
+    at: LabelPlace,
+    label: &'d Label<F::FileId>,
+    lines: LabelLines,
+    index: usize,
+    entries: &mut Vec<Entry<'d>>,
+) -> Result<bool, Error>
+    requires first { first_line (F.file files.now label.now.file_id) (label_of label.now).label ≡ lines.first }
+    requires last { last_line (F.file files.now label.now.file_id) (label_of label.now).label ≡ lines.last }
+    ensures inside { IfOk result (λ goes_on. goes_on ≡ true → is_asked config.now (F.file files.now label.now.file_id) (label_of label.now).label index ≡ true → index < line_count (F.file files.now label.now.file_id)) }
+    ensures added { IfOk result (λ goes_on. goes_on ≡ true → AddsOf (F.file files.now label.now.file_id) entries.old.items entries.new.items (entries_on config.now (F.file files.now label.now.file_id) (label_of label.now).label (label_place at) index)) }
+    ensures answered { IfOk result (λ goes_on. goes_on ≡ true → first_refusal (F.refusal files.now) (asked_of label.now.file_id (lookups_on config.now (F.file files.now label.now.file_id) (label_of label.now).label index)) ≡ None) }
+    ensures ended { IfOk result (λ goes_on. goes_on ≡ false → (entries.new.items ≡ entries.old.items) × (line_count (F.file files.now label.now.file_id) ≤ index) × (ends_context (F.refusal files.now label.now.file_id (LineRange index)) ≡ true)) }
+    ensures refused { IfErr result (λ e. e ≢ Error.OutOfMemory → (is_asked config.now (F.file files.now label.now.file_id) (label_of label.now).label index ≡ true) × (line_refusal (F.file files.now label.now.file_id) (F.refusal files.now label.now.file_id) lines.last index ≡ Some e)) }
+{
+    if !lines.spans(index) && !lines.is_around(config, index) {
+        return Ok(true);
+    }
+    let Some(line) = find_line(files, label.file_id, lines, index)? else {
+        return Ok(false);
+    };
+    push_line(config, at, label, lines, line, entries)?;
+    Ok(true)
+}
+
+/// Adds what a label says of the lines that it asks for, in their order.
+fn gather_lines<'files, 'd, F: Files<'files>>(
+    files: &'files F,
+    config: &Config<'_>,
+    at: LabelPlace,
+    label: &'d Label<F::FileId>,
+    lines: LabelLines,
+    entries: &mut Vec<Entry<'d>>,
+) -> Result<(), Error>
+    requires first { first_line (F.file files.now label.now.file_id) (label_of label.now).label ≡ lines.first }
+    requires last { last_line (F.file files.now label.now.file_id) (label_of label.now).label ≡ lines.last }
+    ensures added { OnOk result (AddsOf (F.file files.now label.now.file_id) entries.old.items entries.new.items (entries_of config.now (F.file files.now label.now.file_id) (label_place at) (label_of label.now).label)) }
+    ensures refused { Tells (first_refusal (F.refusal files.now) (asked_of label.now.file_id (flat_map of_line (asked_lines config.now (F.file files.now label.now.file_id) (label_of label.now).label) ++ probe config.now (F.file files.now label.now.file_id) (F.refusal files.now label.now.file_id) (label_of label.now).label))) result }
+{
+    let before = lines.first.saturating_sub(config.before_label_lines);
+    let after = lines.last.saturating_add(config.after_label_lines);
+    let end = after.max(lines.first).saturating_add(1);
+    for index in before.min(lines.last)..end {
+        if !gather_line(files, config, at, label, lines, index, entries)? {
+            return Ok(());
+        }
+    }
+    // No file of so many lines fits in memory, and no index goes past them.
+    if end == usize::MAX {
+        return Err(Error::OutOfMemory);
+    }
+    Ok(())
+}
+
+/// Adds what a label says of the lines that it asks for. A label over several lines takes the next lane of its file.
+fn gather_label<'files, 'd, F: Files<'files>>(
+    files: &'files F,
+    config: &Config<'_>,
+    file: usize,
+    place: usize,
+    label: &'d Label<F::FileId>,
+    lane_counts: &mut Vec<usize>,
+    entries: &mut Vec<Entry<'d>>,
+) -> Result<(), Error>
+    requires inside { file < vec_len lane_counts.old }
+    requires room { slice_index lane_counts.old.items file + 1 < 2 ^ 64 }
+    ensures added { OnOk result (AddsOf (F.file files.now label.now.file_id) entries.old.items entries.new.items (entries_of config.now (F.file files.now label.now.file_id) (record { file = file; place = place; lane = slice_index lane_counts.old.items file }) (label_of label.now).label)) }
+    ensures lanes { OnOk result (lane_counts.new.items ≡ slice_set lane_counts.old.items file (slice_index lane_counts.old.items file + (if is_single (F.file files.now label.now.file_id) (label_of label.now).label then 0 else 1))) }
+    ensures refused { Tells (first_refusal (F.refusal files.now) (asked_of label.now.file_id (of_label config.now (F.file files.now label.now.file_id) (F.refusal files.now label.now.file_id) (label_of label.now).label))) result }
+{
+    let lines = label_lines(files, label)?;
+    let lane = lane_counts[file];
+    let at = LabelPlace { file, place, lane };
+    gather_lines(files, config, at, label, lines, entries)?;
+    if !lines.is_single() {
+        lane_counts[file] = lane + 1;
+    }
+    Ok(())
+}
+
+/// What the labels of a diagnostic say of lines.
+#[derive(Drop)]
+pub struct Gathered<'d, FileId> {
+    /// The ids of the labels' files, in the order of their first label.
+    pub ids: Vec<FileId>,
+    /// How many lanes each of these files has.
+    pub lane_counts: Vec<usize>,
+    /// What the labels say, in their order.
+    pub entries: Vec<Entry<'d>>,
+}
+
+/// Asks for the lines of all labels, and gathers what the labels say of them.
+///
+/// Refuses as the first lookup that refuses does, and with `OutOfMemory`.
+pub fn gather<'files, 'd, F: Files<'files>>(
+    alloc: Global,
+    files: &'files F,
+    config: &Config<'_>,
+    labels: &'d [Label<F::FileId>],
+) -> Result<Gathered<'d, F::FileId>, Error>
+    ensures ids { IfOk result (λ gathered. gathered.ids.items ≡ file_ids F.FileId.eq (map label_of labels.now)) }
+    ensures lanes { IfOk result (λ gathered. gathered.lane_counts.items ≡ map (lane_after F.FileId.eq (F.file files.now) (map label_of labels.now)) gathered.ids.items) }
+    ensures entries { IfOk result (λ gathered. Adds (IsOfFiles (F.file files.now) gathered.ids.items) [] gathered.entries.items (all_entries F.FileId.eq (F.file files.now) config.now (map label_of labels.now))) }
+    ensures refused { Tells (first_refusal (F.refusal files.now) (label_lookups config.now (F.file files.now) (F.refusal files.now) (map label_of labels.now))) result }
+{
+    let ids = file_ids(alloc, labels)?;
+    let mut lane_counts = vec![in alloc; 0; ids.len()]?;
+    let mut entries = Vec::new(alloc);
+    for (place, label) in labels.iter().enumerate() {
+        let file = file_place(&ids, label.file_id);
+        gather_label(
+            files,
+            config,
+            file,
+            place,
+            label,
+            &mut lane_counts,
+            &mut entries,
+        )?;
+    }
+    Ok(Gathered {
+        ids,
+        lane_counts,
+        entries,
+    })
+}

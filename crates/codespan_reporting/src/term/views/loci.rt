@@ -1,0 +1,94 @@
+//! Where the snippet of each file starts.
+
+ghost use Rattle.std.specs.Prelude.{◌≡◌, Contains, IfOk, IsSome, flat_map, length, map};
+ghost use Rattle.codespan_base.specs.FileModel.{FileModel};
+ghost use Rattle.codespan_base.specs.Labels.{is_primary};
+ghost use Rattle.codespan_reporting.specs.Given.{place_of_given};
+ghost use Rattle.codespan_reporting.specs.Loci.{least_if_any, starts_in};
+ghost use Rattle.codespan_reporting.specs.Lookups.{TellsNaming, asked_of, first_refusal, locus_lookups};
+ghost use Rattle.codespan_reporting.specs.Picture.{label_of};
+ghost use Rattle.codespan_reporting.specs.Snippets.{labelled_file, locus_start, place_of};
+
+use crate::term::renderer::Locus;
+use codespan_base::diagnostic::text::display_text;
+use codespan_base::diagnostic::{Label, LabelStyle};
+use codespan_base::files::{Error, Files};
+use std::alloc::Global;
+
+/// Whether a label is a cause.
+fn is_primary<FileId>(label: &Label<FileId>) -> bool
+    ensures { result ≡ is_primary (label_of label.now).label }
+{
+    matches!(label.style, LabelStyle::Primary)
+}
+
+/// The least byte at which a label of the file starts, or a primary one where only those are asked for; `None` where there is none.
+fn least_start<FileId: Copy + Eq>(
+    labels: &[Label<FileId>],
+    id: FileId,
+    only_primary: bool,
+) -> Option<usize>
+    ensures { result ≡ least_if_any (starts_in FileId.eq id only_primary (map label_of labels.now)) }
+{
+    let mut least: Option<usize> = None;
+    for label in labels {
+        if id == label.file_id && (!only_primary || is_primary(label)) {
+            let start = label.range.start;
+            least = match least {
+                Some(byte) => Some(byte.min(start)),
+                None => Some(start),
+            };
+        }
+    }
+    least
+}
+
+/// The byte at which a file's snippet starts: the least start of a primary label of the file, or of any of its labels where
+/// none is primary. It is 0 where no label is of the file.
+pub fn locus_start<FileId: Copy + Eq>(labels: &[Label<FileId>], id: FileId) -> usize
+    ensures { (file : FileId → FileModel) → result ≡ locus_start (labelled_file FileId.eq file (map label_of labels.now) id).labels }
+{
+    match least_start(labels, id, true) {
+        Some(start) => start,
+        None => least_start(labels, id, false).unwrap_or(0),
+    }
+}
+
+/// The name of a file, and the location of the byte at which its snippet starts.
+///
+/// Refuses as the first of these lookups that refuses does, with `FormatError` where the `Display` of the name refuses, and with
+/// `OutOfMemory`.
+fn file_locus<'files, F: Files<'files>>(
+    alloc: Global,
+    files: &'files F,
+    id: F::FileId,
+    labels: &[Label<F::FileId>],
+) -> Result<Locus, Error>
+    ensures locus { IfOk result (λ locus. IsSome (F.file files.now id).name → place_of_given locus ≡ place_of (labelled_file F.FileId.eq (F.file files.now) (map label_of labels.now) id)) }
+    ensures refused { TellsNaming (first_refusal (F.refusal files.now) (asked_of id (locus_lookups F.FileId.eq (F.file files.now) (map label_of labels.now) id))) result }
+{
+    let name = display_text(alloc, files.name(id)?)?;
+    let location = files.location(id, locus_start(labels, id))?;
+    Ok(Locus { name, location })
+}
+
+/// Where the snippet of each file starts, in the order of these ids.
+///
+/// Refuses as the first lookup of a name or a location that refuses does, with `FormatError` where the `Display` of a name
+/// refuses, and with `OutOfMemory`.
+pub fn file_loci<'files, F: Files<'files>>(
+    alloc: Global,
+    files: &'files F,
+    ids: &[F::FileId],
+    labels: &[Label<F::FileId>],
+) -> Result<Vec<Locus>, Error>
+    ensures count { IfOk result (λ loci. length loci.items ≡ length ids.now) }
+    ensures loci { IfOk result (λ loci. ((id : F.FileId) → Contains ids.now id → IsSome (F.file files.now id).name) → map place_of_given loci.items ≡ map (λ id. place_of (labelled_file F.FileId.eq (F.file files.now) (map label_of labels.now) id)) ids.now) }
+    ensures refused { TellsNaming (first_refusal (F.refusal files.now) (flat_map (λ id. asked_of id (locus_lookups F.FileId.eq (F.file files.now) (map label_of labels.now) id)) ids.now)) result }
+{
+    let mut loci = Vec::new(alloc);
+    for id in ids {
+        loci.push(file_locus(alloc, files, *id, labels)?)?;
+    }
+    Ok(loci)
+}
