@@ -37,7 +37,7 @@ Sends-one_mark s m (Err e) t p = (p.0, λ told. began_one_mark s m t (p.1 told))
 
 -- ---- bytes that a writer of colours sent
 
-sink-by : (s t : Sink) (f : Frame) (o : Option (List ℕ)) → t.frame ≡ f → t.held ≡ o → t ≡ record { frame = f; held = o }
+pub sink-by : (s t : Sink) (f : Frame) (o : Option (List ℕ)) → t.frame ≡ f → t.held ≡ o → t ≡ record { frame = f; held = o }
 sink-by s t f o e h = rw (sym e, sym h) refl
 
 -- both laws say alike that a writer tells its bytes

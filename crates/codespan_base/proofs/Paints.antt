@@ -1,10 +1,10 @@
 -- Bytes that a writer takes by writes, one after another.
-use Rattle.std.proofs.Common.{◌≡◌, ℕ, true, List, [], ◌++◌, take, drop, Option, None, Some, is_some, append-nil, append_assoc, refl, sym, ap, ◌∙◌}
-use Rattle.std.specs.Io.KnownBytes.{append_known, Appends, Keeps}
+use Rattle.std.proofs.Common.{◌≡◌, ℕ, true, List, [], ◌++◌, take, drop, Option, None, Some, append-nil, append_assoc, refl, sym, ap, ◌∙◌}
+use Rattle.std.specs.Io.KnownBytes.{Appends, Keeps}
 use Rattle.std.proofs.lemmas.Bool.{false≢true}
 use Rattle.std.proofs.lemmas.List.{take-append-drop}
 use Rattle.codespan_base.specs.ColorLaw.{tells, painted, PaintsPartly}
-use Rattle.codespan_base.proofs.Sends.{append_known-append, append_known-nil}
+use Rattle.codespan_base.proofs.Sends.{append_known-append, append_known-nil, is_some-append}
 
 -- bytes came, and then more
 pub painted-append : (o : Option (List ℕ)) (a b : List ℕ) → painted o (a ++ b) ≡ painted (painted o a) b
@@ -15,10 +15,6 @@ painted-append o a b = sym (append_known-append o a b)
 pub painted-nil : (o : Option (List ℕ)) → painted o [] ≡ o
 unfolding painted
 painted-nil o = append_known-nil o
-
-is_some-append : (o : Option (List ℕ)) (bs : List ℕ) → is_some (append_known o bs) ≡ is_some o
-is_some-append None bs = refl
-is_some-append (Some xs) bs = refl
 
 -- a writer that tells its bytes goes on telling them
 pub tells-painted : (o : Option (List ℕ)) (a : List ℕ) → tells (painted o a) ≡ tells o

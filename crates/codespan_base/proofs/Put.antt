@@ -6,6 +6,7 @@ use Rattle.std.proofs.lemmas.Bool.Decides.{nat_tests}
 use Rattle.std.proofs.lemmas.List.{take-append-drop}
 use Rattle.codespan_base.specs.Streams.{bytes}
 use Rattle.codespan_base.specs.WriterLaw.{Frame, Sink, refusing, after_put, sent, is_told, Began}
+use Rattle.codespan_base.proofs.Marks.{sink-by}
 use Rattle.codespan_base.proofs.Sends.{spelled-bytes, append_known-nil, bytes-append}
 
 -- a refusal to take any of some bytes
@@ -17,9 +18,6 @@ pub after_put-some : (f : Frame) (bs : List ℕ) (n : ℕ) → (n ≡ 0 → leng
 after_put-some f [] zero h = refl
 after_put-some f (b ∷ bs) zero h = absurd (omega (arith, h refl))
 after_put-some f bs (suc n) h = rw (ne_eqb (suc n) 0 (λ e. omega (arith, e))) refl
-
-sink-by : (s t : Sink) (f : Frame) (o : Option (List ℕ)) → t.frame ≡ f → t.held ≡ o → t ≡ record { frame = f; held = o }
-sink-by s t f o e h = rw (sym e, sym h) refl
 
 -- what one `put` did, as a stream
 pub put-sent : (s : Sink) (bs : List ℕ) (n : ℕ) (t : Sink) → (n ≡ 0 → ⊥) → (t.frame ≡ after_put s.frame bs n) × (is_told s ≡ true → t.held ≡ append_known s.held (take n bs)) → (t.frame ≡ s.frame) × (is_told s ≡ true → t ≡ sent s (bytes (take n bs)))

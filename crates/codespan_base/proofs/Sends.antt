@@ -62,7 +62,7 @@ pub sent-nil : (s : Sink) → sent s [] ≡ s
 unfolding sent
 sent-nil s = ap (λ (o : Option (List ℕ)). record s { held = o }) (append_known-nil s.held)
 
-is_some-append : (o : Option (List ℕ)) (bs : List ℕ) → is_some (append_known o bs) ≡ is_some o
+pub is_some-append : (o : Option (List ℕ)) (bs : List ℕ) → is_some (append_known o bs) ≡ is_some o
 is_some-append None bs = refl
 is_some-append (Some xs) bs = refl
 

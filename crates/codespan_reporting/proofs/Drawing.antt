@@ -9,7 +9,7 @@ use Rattle.codespan_base.specs.declared.files.error.Error.TheVariants.{FormatErr
 use Rattle.codespan_base.specs.FileModel.{FileModel, Lookup}
 use Rattle.codespan_base.specs.Streams.{Stream}
 use Rattle.codespan_base.specs.WriterLaw.{Sink, sent, is_told, Began, Sends, refusing}
-use Rattle.codespan_base.proofs.Sends.{append_known-nil, Began-last}
+use Rattle.codespan_base.proofs.Sends.{append_known-nil}
 use Rattle.codespan_reporting.specs.Picture.{labels_of}
 use Rattle.codespan_reporting.specs.Renderers.{IsIo}
 use Rattle.codespan_reporting.specs.Lookups.{Refusals, early_lookups, late_lookups, first_refusal}
@@ -21,10 +21,6 @@ use Rattle.codespan_reporting.proofs.Refusals.{first_refusal-some, first_refusal
 -- nothing came, which is a beginning of everything
 pub Began-none : (s : Sink) (items : Stream) (t : Sink) → t ≡ s → Began s items t
 Began-none s items t same = record { begun = []; rest = _; whole = refl; held = ap (λ (x : Sink). x.held) same ∙ sym (append_known-nil s.held) }
-
--- what came is a beginning of it and of what comes after
-pub Began-came : (s t : Sink) (a b : Stream) → is_told s ≡ true → Came s a t → Began s (a ++ b) t
-Began-came s t a b told came = Began-last s a b t (Began-none (sent s a) b t (came.1 told))
 
 -- an error is not both of these
 two_errors : (e : Error) → e ≡ FormatError → e ≡ OutOfMemory → ⊥

@@ -9,7 +9,6 @@ use Rattle.codespan_base.specs.declared.files.error.Error.{Error}
 use Rattle.codespan_base.specs.FileModel.{FileModel}
 use Rattle.codespan_base.specs.FileModel.Lookup.{LineNumber}
 use Rattle.codespan_reporting.specs.declared.term.views.entry.Entry.{Entry as GivenEntry}
-use Rattle.codespan_reporting.specs.declared.term.views.entry.Says.TheVariants.{Shown}
 use Rattle.codespan_reporting.specs.GivenEntries.{entry_of}
 use Rattle.codespan_reporting.specs.Entries.{Entry, is_on_line, is_shown}
 use Rattle.codespan_reporting.specs.GivenPadding.{line_digits}
@@ -18,9 +17,9 @@ use Rattle.codespan_reporting.specs.Lookups.{Refusals, asked_of, first_refusal}
 use Rattle.codespan_reporting.specs.Padding.{digit_count}
 use Rattle.codespan_reporting.specs.Steps.{Step, Draw, Fill, Break, fill_of, fills_of, gap_after, groups, line_of_step, lines_of_steps, marks_of, steps_of, walk}
 use Rattle.codespan_reporting.proofs.EntryGroups.{groups-cons}
-use Rattle.codespan_reporting.proofs.FileParts.{prefix-map}
+use Rattle.codespan_reporting.proofs.FileParts.{no_entry, prefix-map}
 use Rattle.codespan_reporting.proofs.Greatest.{greatest-any, greatest-append}
-use Rattle.codespan_reporting.proofs.Refusals.{first_refusal-none, first_refusal-some}
+use Rattle.codespan_reporting.proofs.Refusals.{first_refusal-none}
 
 -- the entries after the group of one
 abbrev pub after : Entry → List Entry → List Entry
@@ -148,18 +147,7 @@ module _ {Id : Type 0} (refusal : Refusals Id) (id : Id) (f : FileModel) where
         more : new ≡ max (fold max padding (line_digits f (lines_of_steps filled_before))) (digit_count (f.number x.line))
         more = omega (arith, is_new, is_filled, is_digits, greatest-any padding (line_digits f (lines_of_steps filled_before)))
 
-    -- the number of a line that is filled in is refused
-    pub padded-refused : (e : Error) → is_shown x ≡ true → numbers_refusal (fills_of filled_before) ≡ Some e → numbers_refusal (fills_of (steps_of all)) ≡ Some e
-    padded-refused e t told =
-        sym before.asked ∙ ap numbers_refusal (fills-shown t)
-        ∙ ap (first_refusal refusal) (numbers-append (fills_of filled_before) (fills_of (walk (Some x.line) [] (groups (after x xs)))))
-        ∙ first_refusal-some refusal (asked_of id (map LineNumber (fills_of filled_before))) (asked_of id (map LineNumber (fills_of (walk (Some x.line) [] (groups (after x xs)))))) e told
-
 -- ---- the next group, as a loop takes it
-
--- an entry that stands for one past the end
-abbrev pub no_entry : GivenEntry
-no_entry = record { file = 0; line = record { index = 0; number = 0; start = 0; end = 0 }; says = Shown }
 
 module _ (es : List GivenEntry) (at : ℕ) (inside : at < length es) where
   -- the first entry that is left

@@ -9,10 +9,6 @@ use Rattle.codespan_reporting.proofs.SortedLists.{all-weaker, all-filter, filter
 
 -- ---- groups
 
--- an entry is of its line
-own_line : (x : Entry) → is_on_line x.line x ≡ true
-own_line x = eq-eqb x.line x.line refl
-
 -- the first group is the first entry with what follows it on its line
 pub groups-cons : (x : Entry) (xs : List Entry)
     → groups (x ∷ xs) ≡ (x ∷ take (prefix_len (is_on_line x.line) xs) xs) ∷ groups (drop (prefix_len (is_on_line x.line) xs) xs)

@@ -7,6 +7,7 @@ use Rattle.std.proofs.lemmas.Bool.Decides.{nat_tests}
 use Rattle.std.proofs.lemmas.List.Elements.{filter-append}
 use Rattle.std.proofs.lemmas.List.Folds.{list_any-append}
 use Rattle.std.proofs.lemmas.List.Sums.{sum_by-append, sum_by-cons}
+use Rattle.std.proofs.Math.Bool.{and-false}
 use Rattle.codespan_base.specs.declared.term.config.Config.{Config}
 use Rattle.codespan_base.specs.FileModel.{FileModel, line_count}
 use Rattle.codespan_base.specs.Labels.{Labelled, LaneMark, Part, first_line, last_line, is_single, drawn_label, part_on, mark_of, multi_labels}
@@ -184,11 +185,7 @@ module _ {Id : Type 0} (same : Id → Id → Bool) (file : Id → FileModel) (o 
         let low : first_line own_file x < line_count own_file = e.0 in
         let high : line_count own_file ≤ l = ltb-false l (line_count own_file) h in
         let no : (first_line own_file x == l) ≡ false = grind (arith, nat_tests) in
-        ap (λ b. is_single own_file x && b) no ∙ and_nothing (is_single own_file x)
-      where
-        and_nothing : (b : Bool) → (b && false) ≡ false
-        and_nothing true = refl
-        and_nothing false = refl
+        ap (λ b. is_single own_file x && b) no ∙ and-false (is_single own_file x)
 
     -- the entry of a label at this place
     abbrev single_at : ℕ → Labelled → Entry

@@ -11,7 +11,6 @@ use Rattle.std.proofs.lemmas.List.Sorted.{ranks_by}
 use Rattle.codespan_base.specs.Labels.{Labelled, LaneMark, stands_before}
 use Rattle.codespan_reporting.specs.Entries.{Entry, Says, Shown, Single, Multi, kind_of, first_of, second_of, place_of, is_below}
 use Rattle.codespan_reporting.specs.Steps.{single_of, singles_in}
-use Rattle.codespan_reporting.proofs.LaneLineLemmas.{Each}
 use Rattle.codespan_reporting.proofs.OrderSorts.{Ascends}
 use Rattle.codespan_reporting.proofs.SortedLists.{Rises}
 
@@ -95,12 +94,12 @@ singles-ascend f l [] on up = tt
 singles-ascend f l (x ∷ xs) on up = by_says x.says refl (singles-ascend f l xs on.1 up.1)
   where
     later : (p : ℕ) (a : Labelled) → x.says ≡ Single p a → (ys : List Entry) → AllByRecursion (IsOn f l) ys → AllByRecursion (λ y. is_below y x ≡ false) ys
-        → Each (λ b. stands_before b a ≡ false) (singles_in ys)
+        → AllByRecursion (λ b. stands_before b a ≡ false) (singles_in ys)
     later p a e [] k h = tt
     later p a e (y ∷ ys) k h = by_other y.says refl (later p a e ys k.1 h.1)
       where
-        by_other : (s : Says) → y.says ≡ s → Each (λ b. stands_before b a ≡ false) (singles_in ys)
-            → Each (λ b. stands_before b a ≡ false) (cons_option (single_of s) (singles_in ys))
+        by_other : (s : Says) → y.says ≡ s → AllByRecursion (λ b. stands_before b a ≡ false) (singles_in ys)
+            → AllByRecursion (λ b. stands_before b a ≡ false) (cons_option (single_of s) (singles_in ys))
         by_other Shown d rest = rest
         by_other (Single q b) d rest = (range_rises x y p q a b e d (on.0.0 ∙ sym k.0.0) (on.0.1 ∙ sym k.0.1) h.0, rest)
         by_other (Multi m) d rest = rest

@@ -31,8 +31,7 @@ use Rattle.codespan_reporting.proofs.Greatest.{greatest-bounds, greatest-same}
 use Rattle.codespan_reporting.proofs.LabelEntries.{all-of_file, marked-of_line}
 use Rattle.codespan_reporting.proofs.LabelPlaces.{has-place}
 use Rattle.codespan_reporting.proofs.PaddingLemmas.{contains-filter, contains-range, numbered-fits}
-use Rattle.codespan_reporting.proofs.PlacedPadding.{all-mapped}
-use Rattle.codespan_reporting.proofs.SortedLists.{all-append, all-both, all-weaker, any-filtered}
+use Rattle.codespan_reporting.proofs.SortedLists.{all-append, all-both, all-mapped, all-weaker, any-filtered}
 
 -- ---- what was gathered
 

@@ -10,6 +10,7 @@ use Rattle.std.proofs.lemmas.List.{drop-drop, drop-map, take-map, length-map}
 use Rattle.std.proofs.lemmas.List.Elements.{filter_agree}
 use Rattle.std.proofs.lemmas.List.Sorted.{IsPermutation-map}
 use Rattle.codespan_reporting.specs.declared.term.views.entry.Entry.{Entry as GivenEntry}
+use Rattle.codespan_reporting.specs.declared.term.views.entry.Says.TheVariants.{Shown}
 use Rattle.codespan_reporting.specs.Entries.{Entry, is_below, is_of_file}
 use Rattle.codespan_reporting.specs.GivenEntries.{entry_of}
 use Rattle.codespan_reporting.proofs.EntryGroups.{IsRising, rising-filter, split_at}
@@ -78,6 +79,10 @@ own-len xs f =
 pub prefix-map : {X Y : Type 0} (f : X → Y) (p : Y → Bool) (xs : List X) → prefix_len p (map f xs) ≡ prefix_len (λ x. p (f x)) xs
 prefix-map f p [] = refl
 prefix-map f p (x ∷ xs) = ap (λ n. cond (p (f x)) (1 + n) 0) (prefix-map f p xs)
+
+-- the entry that is answered past the end of a list
+abbrev pub no_entry : GivenEntry
+no_entry = record { file = 0; line = record { index = 0; number = 0; start = 0; end = 0 }; says = Shown }
 
 -- the next n entries, as a loop takes them
 abbrev pub next_part : List GivenEntry → ℕ → ℕ → List GivenEntry

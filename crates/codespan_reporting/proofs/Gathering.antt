@@ -3,7 +3,6 @@ use Rattle.std.proofs.Common.{◌≡◌, ℕ, Bool, true, false, List, [], ◌�
 use Rattle.std.specs.Prelude.{map, ◌==◌, if◌then◌else◌}
 use borrow.Author.Tests.{eqb-true}
 use Rattle.std.specs.Option.{option_map}
-use Rattle.std.specs.List.{AllByRecursion}
 use Rattle.std.proofs.lemmas.List.{append-nil, append_assoc, map-append}
 use Rattle.codespan_base.specs.declared.term.config.Config.{Config}
 use Rattle.codespan_base.specs.FileModel.{FileModel, line_start}
@@ -13,11 +12,7 @@ use Rattle.codespan_reporting.specs.declared.term.views.entry.SourceLine.{Source
 use Rattle.codespan_reporting.specs.Entries.{Entry, LabelPlace, Says, Shown, Single, Multi, line_entries, mark_entries, shown_entries, entry_of_mark, entry_on}
 use Rattle.codespan_reporting.specs.GivenEntries.{Adds, IsLineOf, entry_of, said, says_at}
 use Rattle.codespan_reporting.specs.Lines.{shows}
-
--- what holds of two lists holds of one after the other
-pub each_append : {X : Type 0} (P : X → Type 0) (xs ys : List X) → AllByRecursion P xs → AllByRecursion P ys → AllByRecursion P (xs ++ ys)
-each_append P [] ys h k = k
-each_append P (x ∷ xs) ys h k = (h.0, each_append P xs ys h.1 k)
+use Rattle.codespan_reporting.proofs.SortedLists.{all-append}
 
 module _ (P : GivenEntry → Type 0) where
   -- nothing was added
@@ -30,7 +25,7 @@ module _ (P : GivenEntry → Type 0) where
     more = a.more ++ b.more;
     whole = b.whole ∙ ap (λ (l : List GivenEntry). l ++ b.more) a.whole ∙ append_assoc xs a.more b.more;
     say = map-append entry_of a.more b.more ∙ ap (λ (l : List Entry). l ++ map entry_of b.more) a.say ∙ ap (λ (l : List Entry). es ++ l) b.say;
-    each = each_append P a.more b.more a.each b.each;
+    each = all-append P a.more b.more a.each b.each;
   }
 
   -- the same entries in other words

@@ -1,37 +1,21 @@
 -- The walk over entries as a view holds them.
-use Rattle.std.proofs.Common.{◌≡◌, ℕ, zero, suc, ◌+◌, ◌-◌, ◌<◌, ◌≤◌, Bool, List, [], ◌∷◌, ◌++◌, map, length, take, drop, get_or, slice_range, Option, Some, refl, sym, ◌∙◌, ap, arith}
-use Rattle.std.specs.Prelude.{if◌then◌else◌}
+use Rattle.std.proofs.Common.{◌≡◌, ℕ, ◌+◌, ◌-◌, ◌<◌, ◌≤◌, List, [], ◌∷◌, ◌++◌, map, length, take, drop, get_or, slice_range, Option, Some, sym, ◌∙◌, ap, arith}
 use Rattle.std.specs.List.{prefix_len}
-use Rattle.std.proofs.lemmas.List.{take-map, length-map, get_or-map, drop_all}
+use Rattle.std.proofs.lemmas.List.{drop-map, take-map, length-map, get_or-map, drop_all}
 use Rattle.codespan_reporting.specs.declared.term.views.entry.Entry.{Entry as GivenEntry}
-use Rattle.codespan_reporting.specs.declared.term.views.entry.Says.TheVariants.{Shown}
 use Rattle.codespan_reporting.specs.Entries.{Entry, is_shown, is_on_line}
 use Rattle.codespan_reporting.specs.GivenEntries.{entry_of}
 use Rattle.codespan_reporting.specs.Steps.{Step, Draw, groups, walk, gap_after}
+use Rattle.codespan_reporting.proofs.FileParts.{next_part, prefix-map}
 use Rattle.codespan_reporting.proofs.GroupSteps.{IsGroup, part, without, next_group, steps-shown, steps-hidden, slice_range-more, slice_range-none}
-
--- what is mapped and then cut is cut and then mapped
-drop-of_map : {X Y : Type 0} (f : X → Y) (n : ℕ) (xs : List X) → drop n (map f xs) ≡ map f (drop n xs)
-drop-of_map f zero xs = refl
-drop-of_map f (suc n) [] = refl
-drop-of_map f (suc n) (x ∷ xs) = drop-of_map f n xs
-
--- a test of what is mapped
-prefix_len-of_map : {X Y : Type 0} (f : X → Y) (p : Y → Bool) (xs : List X) → prefix_len p (map f xs) ≡ prefix_len (λ x. p (f x)) xs
-prefix_len-of_map f p [] = refl
-prefix_len-of_map f p (x ∷ xs) = ap (λ n. if p (f x) then 1 + n else 0) (prefix_len-of_map f p xs)
 
 -- a part of what is mapped
 cut-of_map : {X Y : Type 0} (f : X → Y) (n k : ℕ) (xs : List X) → take n (drop k (map f xs)) ≡ map f (take n (drop k xs))
-cut-of_map {X} {Y} f n k xs = ap (λ (l : List Y). take n l) (drop-of_map f k xs) ∙ take-map f n (drop k xs)
+cut-of_map {X} {Y} f n k xs = ap (λ (l : List Y). take n l) (drop-map f k xs) ∙ take-map f n (drop k xs)
 
 -- the entries that are held
 abbrev pub given : List GivenEntry → List Entry
 given xs = map entry_of xs
-
--- so many of them from a place on
-abbrev pub given_part : List GivenEntry → ℕ → ℕ → List GivenEntry
-given_part xs at n = take (at + n - at) (drop at xs)
 
 -- those without the first ones
 abbrev pub given_without : ℕ → List GivenEntry → List GivenEntry
@@ -49,8 +33,8 @@ without-given m g = ap (λ n. take (n - m) (drop m (given g))) (length-map g ent
 record IsGivenGroup (xs : List GivenEntry) (at n : ℕ) (d : GivenEntry) : Type 0 where
   next : IsGroup (given xs) at n (entry_of d)
   line : (get_or (given xs) at (entry_of d)).line ≡ index_at xs at d
-  group : part (given xs) at n ≡ given (given_part xs at n)
-  long : length (part (given xs) at n) ≡ length (given_part xs at n)
+  group : part (given xs) at n ≡ given (next_part xs at n)
+  long : length (part (given xs) at n) ≡ length (next_part xs at n)
 
 -- so many entries from a place on are of the line of the entry there
 pub record IsCounted (xs : List GivenEntry) (at n : ℕ) (d : GivenEntry) : Type 0 where
@@ -65,33 +49,29 @@ given_group xs at n d counted =
     let rest : take (length (given xs) - at) (drop at (given xs)) ≡ given (take (length xs - at) (drop at xs)) =
     ap (λ k. take (k - at) (drop at (given xs))) whole ∙ cut-of_map entry_of (length xs - at) at xs in
     let line_is : (get_or (given xs) at (entry_of d)).line ≡ index_at xs at d = ap (λ (e : Entry). e.line) (get_or-map entry_of xs at d (entry_of d) counted.inside) in
-    let group_is : part (given xs) at n ≡ given (given_part xs at n) = cut-of_map entry_of (at + n - at) at xs in
+    let group_is : part (given xs) at n ≡ given (next_part xs at n) = cut-of_map entry_of (at + n - at) at xs in
     record {
       next = next_group (given xs) at n (entry_of d) (omega (arith, whole, counted.inside))
-          (counted.is ∙ sym (prefix_len-of_map entry_of (is_on_line (index_at xs at d)) (take (length xs - at) (drop at xs))) ∙ (λ i. prefix_len (is_on_line (sym line_is i)) (sym rest i)))
+          (counted.is ∙ sym (prefix-map entry_of (is_on_line (index_at xs at d)) (take (length xs - at) (drop at xs))) ∙ (λ i. prefix_len (is_on_line (sym line_is i)) (sym rest i)))
           (omega (arith, counted.within, ap length rest, length-map (take (length xs - at) (drop at xs)) entry_of));
       line = line_is;
       group = group_is;
-      long = ap length group_is ∙ length-map (given_part xs at n) entry_of;
+      long = ap length group_is ∙ length-map (next_part xs at n) entry_of;
     }
 
 -- the group has as many entries as were counted, and it has one
-pub given_group-len : (xs : List GivenEntry) (at n : ℕ) (d : GivenEntry) → IsCounted xs at n d → (length (given_part xs at n) ≡ n) × (0 < n)
+pub given_group-len : (xs : List GivenEntry) (at n : ℕ) (d : GivenEntry) → IsCounted xs at n d → (length (next_part xs at n) ≡ n) × (0 < n)
 given_group-len xs at n d counted = let g = given_group xs at n d counted in (sym g.long ∙ g.next.len, g.next.some)
-
--- the entry that is answered past the end of a list
-abbrev pub no_entry : GivenEntry
-no_entry = record { file = 0; line = record { index = 0; number = 0; start = 0; end = 0 }; says = Shown }
 
 -- the count of those in front that say that their line is shown
 shown-given : (m : ℕ) (g : List GivenEntry) → m ≡ prefix_len (λ e. is_shown (entry_of e)) g → m ≡ prefix_len is_shown (given g)
-shown-given m g is = is ∙ sym (prefix_len-of_map entry_of is_shown g)
+shown-given m g is = is ∙ sym (prefix-map entry_of is_shown g)
 
 -- the steps up to a shown line: what stands before it, and the line itself
 abbrev pub shown_steps : List GivenEntry → ℕ → ℕ → ℕ → ℕ → GivenEntry → Option ℕ → List Step
 shown_steps xs at n m from d was =
-    gap_after was (index_at xs at d) (given (slice_range xs from at)) (given (given_without m (given_part xs at n)))
-    ++ Draw (index_at xs at d) (given (given_without m (given_part xs at n))) ∷ []
+    gap_after was (index_at xs at d) (given (slice_range xs from at)) (given (given_without m (next_part xs at n)))
+    ++ Draw (index_at xs at d) (given (given_without m (next_part xs at n))) ∷ []
 
 -- the steps of the entries that are left, where so many of them were skipped
 abbrev pub steps_left : List GivenEntry → ℕ → ℕ → Option ℕ → List Step
@@ -99,31 +79,31 @@ steps_left xs from at was = walk was (slice_range (given xs) from at) (groups (d
 
 -- a line that is shown is next: the steps up to it, and then the others
 pub given-shown : (xs : List GivenEntry) (at n m from : ℕ) (d : GivenEntry) (was : Option ℕ) → IsCounted xs at n d
-    → m ≡ prefix_len (λ e. is_shown (entry_of e)) (given_part xs at n) → length (given_without m (given_part xs at n)) < length (given_part xs at n)
+    → m ≡ prefix_len (λ e. is_shown (entry_of e)) (next_part xs at n) → length (given_without m (next_part xs at n)) < length (next_part xs at n)
     → steps_left xs from at was
-    ≡ shown_steps xs at n m from d was ++ steps_left xs (at + length (given_part xs at n)) (at + length (given_part xs at n)) (Some (index_at xs at d))
+    ≡ shown_steps xs at n m from d was ++ steps_left xs (at + length (next_part xs at n)) (at + length (next_part xs at n)) (Some (index_at xs at d))
 given-shown xs at n m from d was counted is less =
     let g = given_group xs at n d counted in
-    let own : without m (part (given xs) at n) ≡ given (given_without m (given_part xs at n)) = ap (without m) g.group ∙ without-given m (given_part xs at n) in
-    let own_length : length (without m (part (given xs) at n)) ≡ length (given_without m (given_part xs at n)) = ap length own ∙ length-map (given_without m (given_part xs at n)) entry_of in
+    let own : without m (part (given xs) at n) ≡ given (given_without m (next_part xs at n)) = ap (without m) g.group ∙ without-given m (next_part xs at n) in
+    let own_length : length (without m (part (given xs) at n)) ≡ length (given_without m (next_part xs at n)) = ap length own ∙ length-map (given_without m (next_part xs at n)) entry_of in
     let skipped : slice_range (given xs) from at ≡ given (slice_range xs from at) = cut-of_map entry_of (at - from) from xs in
-    let ends : slice_range (given xs) (at + length (given_part xs at n)) (at + length (given_part xs at n)) ≡ [] = slice_range-none (given xs) (at + length (given_part xs at n)) in
+    let ends : slice_range (given xs) (at + length (next_part xs at n)) (at + length (next_part xs at n)) ≡ [] = slice_range-none (given xs) (at + length (next_part xs at n)) in
     let opened = steps-shown (given xs) at n m (entry_of d) was (slice_range (given xs) from at) g.next
-    (shown-given m (given_part xs at n) is ∙ ap (prefix_len is_shown) (sym g.group)) (omega (arith, own_length, g.long, less)) in
+    (shown-given m (next_part xs at n) is ∙ ap (prefix_len is_shown) (sym g.group)) (omega (arith, own_length, g.long, less)) in
     opened
     ∙ (λ i. (gap_after was (g.line i) (skipped i) (own i) ++ Draw (g.line i) (own i) ∷ [])
     ++ walk (Some (g.line i)) (sym ends i) (groups (drop (at + g.long i) (given xs))))
 
 -- a line that is not shown is next: its entries are skipped
 pub given-hidden : (xs : List GivenEntry) (at n m from : ℕ) (d : GivenEntry) (was : Option ℕ) → IsCounted xs at n d
-    → m ≡ prefix_len (λ e. is_shown (entry_of e)) (given_part xs at n) → length (given_part xs at n) ≤ length (given_without m (given_part xs at n)) → from ≤ at
-    → steps_left xs from at was ≡ steps_left xs from (at + length (given_part xs at n)) was
+    → m ≡ prefix_len (λ e. is_shown (entry_of e)) (next_part xs at n) → length (next_part xs at n) ≤ length (given_without m (next_part xs at n)) → from ≤ at
+    → steps_left xs from at was ≡ steps_left xs from (at + length (next_part xs at n)) was
 given-hidden xs at n m from d was counted is more order =
     let g = given_group xs at n d counted in
-    let own : without m (part (given xs) at n) ≡ given (given_without m (given_part xs at n)) = ap (without m) g.group ∙ without-given m (given_part xs at n) in
-    let own_length : length (without m (part (given xs) at n)) ≡ length (given_without m (given_part xs at n)) = ap length own ∙ length-map (given_without m (given_part xs at n)) entry_of in
+    let own : without m (part (given xs) at n) ≡ given (given_without m (next_part xs at n)) = ap (without m) g.group ∙ without-given m (next_part xs at n) in
+    let own_length : length (without m (part (given xs) at n)) ≡ length (given_without m (next_part xs at n)) = ap length own ∙ length-map (given_without m (next_part xs at n)) entry_of in
     steps-hidden (given xs) at n m (entry_of d) was (slice_range (given xs) from at) _ g.next
-    (shown-given m (given_part xs at n) is ∙ ap (prefix_len is_shown) (sym g.group)) (omega (arith, own_length, g.long, more))
+    (shown-given m (next_part xs at n) is ∙ ap (prefix_len is_shown) (sym g.group)) (omega (arith, own_length, g.long, more))
     (slice_range-more (given xs) from at n order (omega (arith, counted.inside, length-map xs entry_of)) g.next.len)
     ∙ (λ i. walk was (slice_range (given xs) from (at + g.long i)) (groups (drop (at + g.long i) (given xs))))
 

@@ -22,7 +22,7 @@ greatest-any a xs = let e : a ≡ max 0 a = omega arith in ap (λ n. fold max n 
 -- ---- bounds
 
 -- the number that it begins with is not above it
-greatest-low : (a : ℕ) (xs : List ℕ) → a ≤ fold max a xs
+pub greatest-low : (a : ℕ) (xs : List ℕ) → a ≤ fold max a xs
 greatest-low a [] = omega arith
 greatest-low a (x ∷ xs) = omega (arith, greatest-low (max a x) xs)
 

@@ -5,10 +5,11 @@ use Rattle.std.specs.List.{prefix_len}
 use Rattle.std.proofs.Math.Nat.{add-sub_cancel_left}
 use Rattle.std.proofs.Math.Seq.{take-add, take-length}
 use Rattle.std.proofs.lemmas.List.{get_or-drop, length-take-le, append_assoc, drop-drop}
-use Rattle.std.proofs.lemmas.Bool.{cases_Bool, eqb-true, eq-eqb}
+use Rattle.std.proofs.lemmas.Bool.{cases_Bool, eq-eqb}
 use Rattle.std.proofs.lemmas.Bool.Decides.{nat_tests}
 use Rattle.codespan_reporting.specs.Entries.{Entry, is_shown, is_on_line}
-use Rattle.codespan_reporting.specs.Steps.{Draw, Fill, Break, join_group, groups, marks_of, gap_after, walk}
+use Rattle.codespan_reporting.specs.Steps.{Draw, Fill, groups, marks_of, gap_after, walk}
+use Rattle.codespan_reporting.proofs.EntryGroups.{groups-cons}
 
 -- ---- groups
 
@@ -19,24 +20,6 @@ same_line x = eq-eqb x.line x.line refl
 -- the first entry is counted
 prefix_len-first : (x : Entry) (xs : List Entry) → prefix_len (is_on_line x.line) (x ∷ xs) ≡ suc (prefix_len (is_on_line x.line) xs)
 prefix_len-first x xs = rw (same_line x) (omega arith)
-
--- an entry and those of its line that follow it are a group
-groups-cons : (x : Entry) (xs : List Entry)
-    → groups (x ∷ xs) ≡ (x ∷ take (prefix_len (is_on_line x.line) xs) xs) ∷ groups (drop (prefix_len (is_on_line x.line) xs) xs)
-groups-cons x [] = refl
-groups-cons x (y ∷ ys) =
-    ⊎_elim
-    (λ t. let same : y.line ≡ x.line = eqb-true y.line x.line t in
-    let counted = ap (λ n. prefix_len (is_on_line n) ys) same in
-    let plus : 1 + prefix_len (is_on_line x.line) ys ≡ suc (prefix_len (is_on_line x.line) ys) = omega arith in
-    rw (groups-cons y ys, t, counted, plus) refl)
-    (λ f. let none : prefix_len (is_on_line x.line) (y ∷ ys) ≡ 0 = rw f refl in
-    let m = prefix_len (is_on_line y.line) ys in
-    let rest : List (List Entry) = (y ∷ take m ys) ∷ groups (drop m ys) in
-    let apart : join_group x rest ≡ (x ∷ []) ∷ rest = rw f refl in
-    subst (λ n. groups (x ∷ y ∷ ys) ≡ (x ∷ take n (y ∷ ys)) ∷ groups (drop n (y ∷ ys))) (sym none)
-    (ap (join_group x) (groups-cons y ys) ∙ apart ∙ ap (λ (gs : List (List Entry)). (x ∷ []) ∷ gs) (sym (groups-cons y ys))))
-    (cases_Bool (y.line == x.line))
 
 -- the first group of a list that is not empty
 groups-first : (xs : List Entry) (d : Entry) (l : ℕ) → 0 < length xs → (get_or xs 0 d).line ≡ l
@@ -87,13 +70,6 @@ pub gap-one : (was : Option ℕ) (c d : ℕ) (skipped marks : List Entry) → wa
 gap-one was c d skipped marks is far =
     let before : c + 1 ≡ d - 1 = omega arith in
     ap (λ w. gap_after w d skipped marks) is ∙ rw (eq-eqb d (c + 2) far, before) refl
-
--- more than one line
-pub gap-wide : (was : Option ℕ) (c d : ℕ) (skipped marks : List Entry) → was ≡ Some c → c + 3 ≤ d → gap_after was d skipped marks ≡ Break marks ∷ []
-gap-wide was c d skipped marks is far =
-    let other : (d == c + 2) ≡ false = grind (arith, nat_tests) in
-    let wide : nat_le (c + 3) d ≡ true = grind (arith, nat_tests) in
-    ap (λ w. gap_after w d skipped marks) is ∙ rw (other, wide) refl
 
 -- none
 pub gap-close : (was : Option ℕ) (c d : ℕ) (skipped marks : List Entry) → was ≡ Some c → d ≤ c + 1 → gap_after was d skipped marks ≡ []

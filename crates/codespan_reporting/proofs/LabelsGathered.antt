@@ -22,9 +22,10 @@ use Rattle.codespan_reporting.specs.PlacedLabels.{IsAt, entries_after, file_ids,
 use Rattle.codespan_reporting.specs.Snippets.{InFile}
 use Rattle.codespan_reporting.proofs.FileOrder.{file_ids-has, has}
 use Rattle.codespan_reporting.proofs.FilePlaces.{Differ, file_place-at, first_seen-differ}
-use Rattle.codespan_reporting.proofs.Gathering.{Adds-as, Adds-both, each_append}
+use Rattle.codespan_reporting.proofs.Gathering.{Adds-as, Adds-both}
 use Rattle.codespan_reporting.proofs.LabelPlaces.{counted-at, counted-more, entries_after-more, has-place, lane_after-alike, lane_after-more}
 use Rattle.codespan_reporting.proofs.Refusals.{first_refusal-none, first_refusal-some}
+use Rattle.codespan_reporting.proofs.SortedLists.{all-append, all-both, all-mapped, all-weaker}
 
 -- ---- all entries of a label are of its file
 
@@ -52,18 +53,8 @@ module _ (config : Config) (f : FileModel) (at : LabelPlace) (x : Labelled) wher
   own_lines : (ls : List ℕ) → Own (flat_map (line_entries config f at x) ls)
   own_lines [] = tt
   own_lines (l ∷ ls) =
-      each_append (λ (e : Entry). e.file ≡ at.file) (line_entries config f at x l) (flat_map (line_entries config f at x) ls)
-      (each_append (λ (e : Entry). e.file ≡ at.file) (shown_entries config f at x l) (mark_entries config f at x l) (own_shown l) (own_marks l)) (own_lines ls)
-
--- what holds of what a list's elements give holds of these
-pub all_given : {X Y : Type 0} (P : Y → Type 0) (g : X → Y) (xs : List X) → AllByRecursion P (map g xs) → AllByRecursion (λ x. P (g x)) xs
-all_given P g [] h = tt
-all_given P g (x ∷ xs) h = (h.0, all_given P g xs h.1)
-
--- two things that hold of each element give a third
-pub all_both : {X : Type 0} (P Q R : X → Type 0) → ((x : X) → P x → Q x → R x) → (xs : List X) → AllByRecursion P xs → AllByRecursion Q xs → AllByRecursion R xs
-all_both P Q R both [] h k = tt
-all_both P Q R both (x ∷ xs) h k = (both x h.0 k.0, all_both P Q R both xs h.1 k.1)
+      all-append (λ (e : Entry). e.file ≡ at.file) (line_entries config f at x l) (flat_map (line_entries config f at x) ls)
+      (all-append (λ (e : Entry). e.file ≡ at.file) (shown_entries config f at x l) (mark_entries config f at x l) (own_shown l) (own_marks l)) (own_lines ls)
 
 -- two functions that agree
 map-agree : {X Y : Type 0} (g h : X → Y) → ((x : X) → g x ≡ h x) → (xs : List X) → map g xs ≡ map h xs
@@ -149,13 +140,15 @@ module _ {Id : Type 0} (same : Id → Id → Bool) (file : Id → FileModel) (o 
         let f = file label.file_id in
         let x = (label_of label).label in
         let own : AllByRecursion (λ (e : GivenEntry). e.file ≡ file_place same ids label.file_id) adds.more =
-        all_given (λ (e : Entry). e.file ≡ file_place same ids label.file_id) entry_of adds.more
+        all-mapped entry_of (λ (e : Entry). e.file ≡ file_place same ids label.file_id) adds.more
         (subst (λ (es : List Entry). AllByRecursion (λ (e : Entry). e.file ≡ file_place same ids label.file_id) es) (sym adds.say) (own_lines config f (here lanes) x (asked_lines config f x))) in
         let widened : Adds (IsOfFiles file ids) entries more (entries_of config f (here lanes) x) = record {
           more = adds.more;
           whole = adds.whole;
           say = adds.say;
-          each = all_both (λ e. IsLineOf f e.line) (λ e. e.file ≡ file_place same ids label.file_id) (IsOfFiles file ids) of_files adds.more adds.each own;
+          each =
+              all-weaker (λ (e : GivenEntry). IsLineOf f e.line × (e.file ≡ file_place same ids label.file_id)) (IsOfFiles file ids) (λ e h. of_files e h.0 h.1) adds.more
+              (all-both (λ e. IsLineOf f e.line) (λ e. e.file ≡ file_place same ids label.file_id) adds.more adds.each own);
         } in
         Adds-as (IsOfFiles file ids) [] more _ _
         (ap (entries_after same file config ids []) before-more

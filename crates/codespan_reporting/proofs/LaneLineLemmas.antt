@@ -1,5 +1,6 @@
 -- Lists in parts, and a lane that is one line by the parts of its rows.
 use Rattle.std.proofs.Common.{◌≡◌, ℕ, zero, suc, ◌+◌, ◌-◌, ◌<◌, Bool, true, false, cond, ◌⊎◌, inl, inr, List, [], ◌∷◌, ◌++◌, map, filter, length, Option, Some, slice_get, refl, sym, ap, ap₂, ◌∙◌, arith, append_assoc}
+use Rattle.std.specs.List.{AllByRecursion}
 use Rattle.std.specs.Option.{option_map}
 use Rattle.std.proofs.lemmas.List.{length-append}
 use Rattle.codespan_base.specs.declared.term.config.Layout.{Layout}
@@ -10,40 +11,22 @@ use Rattle.codespan_reporting.specs.Lanes.{is_unbroken}
 use Rattle.codespan_reporting.specs.Rows.{Line, Row, SourceRow}
 use Rattle.codespan_reporting.specs.Snippets.{LabelledFile, line_at}
 use Rattle.codespan_reporting.specs.LaneLaws.{shape_in, shape_at, line_below, MayLeaveOut, IsOneLine}
+use Rattle.codespan_reporting.proofs.SortedLists.{all-append, all-weaker}
 
 -- ---- lists
 
--- it holds of each element
-abbrev pub Each : {X : Type 0} → (X → Type 0) → List X → Type 0
-Each P [] = Unit {0}
-Each P (x ∷ xs) = P x × Each P xs
-
-pub each_append : {X : Type 0} (P : X → Type 0) (xs ys : List X) → Each P xs → Each P ys → Each P (xs ++ ys)
-each_append P [] ys a b = b
-each_append P (x ∷ xs) ys a b = (a.0, each_append P xs ys a.1 b)
-
-pub each_all : {X : Type 0} (P : X → Type 0) (xs : List X) → ((x : X) → P x) → Each P xs
+-- what holds of everything holds of each
+pub each_all : {X : Type 0} (P : X → Type 0) (xs : List X) → ((x : X) → P x) → AllByRecursion P xs
 each_all P [] h = tt
 each_all P (x ∷ xs) h = (h x, each_all P xs h)
 
-pub each_weaker : {X : Type 0} (P Q : X → Type 0) (xs : List X) → ((x : X) → P x → Q x) → Each P xs → Each Q xs
-each_weaker P Q [] h a = tt
-each_weaker P Q (x ∷ xs) h a = (h x a.0, each_weaker P Q xs h a.1)
-
-pub each_map : {X Y : Type 0} (P : Y → Type 0) (f : X → Y) (xs : List X) → Each (λ x. P (f x)) xs → Each P (map f xs)
+-- what holds of each holds of what it stands for
+pub each_map : {X Y : Type 0} (P : Y → Type 0) (f : X → Y) (xs : List X) → AllByRecursion (λ x. P (f x)) xs → AllByRecursion P (map f xs)
 each_map P f [] a = tt
 each_map P f (x ∷ xs) a = (a.0, each_map P f xs a.1)
 
-pub each_filter : {X : Type 0} (P : X → Type 0) (p : X → Bool) (xs : List X) → Each P xs → Each P (filter p xs)
-each_filter P p [] a = tt
-each_filter {X} P p (x ∷ xs) a = by_test (each_filter P p xs a.1) (p x)
-  where
-    by_test : Each P (filter p xs) → (b : Bool) → Each P (cond b (x ∷ filter p xs) (filter p xs))
-    by_test rest true = (a.0, rest)
-    by_test rest false = rest
-
 -- an element and its fact
-pub each_at : {X : Type 0} (P : X → Type 0) (xs : List X) (k : ℕ) → Each P xs → k < length xs → (x : X) × ((slice_get xs k ≡ Some x) × P x)
+pub each_at : {X : Type 0} (P : X → Type 0) (xs : List X) (k : ℕ) → AllByRecursion P xs → k < length xs → (x : X) × ((slice_get xs k ≡ Some x) × P x)
 each_at P [] k a h = absurd (omega arith)
 each_at P (x ∷ xs) zero a h = (x, (refl, a.0))
 each_at P (x ∷ xs) (suc k) a h = each_at P xs k a.1 (omega arith)
@@ -105,9 +88,9 @@ pub record Begins (layout : Layout) (lane : ℕ) (line : Line) (rows : List Row)
   pub top : Row
   pub more : List Row
   pub rows_are : rows ≡ before ++ (top ∷ more)
-  pub gaps : Each (Shows layout lane Gap) before
+  pub gaps : AllByRecursion (Shows layout lane Gap) before
   pub turns : Shows layout lane TopCorner top
-  pub goes_on : Each (GoesOn layout lane line top) more
+  pub goes_on : AllByRecursion (GoesOn layout lane line top) more
 
 -- rows in which a lane that came from above ends
 pub record Finishes (layout : Layout) (lane : ℕ) (rows : List Row) : Type 0 where
@@ -115,9 +98,9 @@ pub record Finishes (layout : Layout) (lane : ℕ) (rows : List Row) : Type 0 wh
   pub bottom : Row
   pub after : List Row
   pub rows_are : rows ≡ before ++ (bottom ∷ after)
-  pub bars : Each (Shows layout lane Bar) before
+  pub bars : AllByRecursion (Shows layout lane Bar) before
   pub turns_back : Shows layout lane BottomCorner bottom
-  pub gaps : Each (Shows layout lane Gap) after
+  pub gaps : AllByRecursion (Shows layout lane Gap) after
 
 -- rows with the whole lane
 pub record Whole (layout : Layout) (lane : ℕ) (line : Line) (rows : List Row) : Type 0 where
@@ -127,24 +110,24 @@ pub record Whole (layout : Layout) (lane : ℕ) (line : Line) (rows : List Row) 
   pub bottom : Row
   pub after : List Row
   pub rows_are : rows ≡ before ++ (top ∷ (middle ++ (bottom ∷ after)))
-  pub gaps_before : Each (Shows layout lane Gap) before
+  pub gaps_before : AllByRecursion (Shows layout lane Gap) before
   pub turns : Shows layout lane TopCorner top
-  pub goes_on : Each (GoesOn layout lane line top) middle
+  pub goes_on : AllByRecursion (GoesOn layout lane line top) middle
   pub turns_back : Shows layout lane BottomCorner bottom
-  pub gaps_after : Each (Shows layout lane Gap) after
+  pub gaps_after : AllByRecursion (Shows layout lane Gap) after
 
-pub finishes_later : (layout : Layout) (lane : ℕ) (xs ys : List Row) → Each (Shows layout lane Bar) xs → Finishes layout lane ys → Finishes layout lane (xs ++ ys)
+pub finishes_later : (layout : Layout) (lane : ℕ) (xs ys : List Row) → AllByRecursion (Shows layout lane Bar) xs → Finishes layout lane ys → Finishes layout lane (xs ++ ys)
 finishes_later layout lane xs ys bars r = record {
   before = xs ++ r.before;
   bottom = r.bottom;
   after = r.after;
   rows_are = ap (λ t. xs ++ t) r.rows_are ∙ sym (append_assoc xs r.before (r.bottom ∷ r.after));
-  bars = each_append (Shows layout lane Bar) xs r.before bars r.bars;
+  bars = all-append (Shows layout lane Bar) xs r.before bars r.bars;
   turns_back = r.turns_back;
   gaps = r.gaps;
 }
 
-pub finishes_before : (layout : Layout) (lane : ℕ) (xs ys : List Row) → Finishes layout lane xs → Each (Shows layout lane Gap) ys → Finishes layout lane (xs ++ ys)
+pub finishes_before : (layout : Layout) (lane : ℕ) (xs ys : List Row) → Finishes layout lane xs → AllByRecursion (Shows layout lane Gap) ys → Finishes layout lane (xs ++ ys)
 finishes_before layout lane xs ys r gaps = record {
   before = r.before;
   bottom = r.bottom;
@@ -152,10 +135,10 @@ finishes_before layout lane xs ys r gaps = record {
   rows_are = ap (λ t. t ++ ys) r.rows_are ∙ append_assoc r.before (r.bottom ∷ r.after) ys;
   bars = r.bars;
   turns_back = r.turns_back;
-  gaps = each_append (Shows layout lane Gap) r.after ys r.gaps gaps;
+  gaps = all-append (Shows layout lane Gap) r.after ys r.gaps gaps;
 }
 
-pub whole_later : (layout : Layout) (lane : ℕ) (line : Line) (xs ys : List Row) → Each (Shows layout lane Gap) xs → Whole layout lane line ys → Whole layout lane line (xs ++ ys)
+pub whole_later : (layout : Layout) (lane : ℕ) (line : Line) (xs ys : List Row) → AllByRecursion (Shows layout lane Gap) xs → Whole layout lane line ys → Whole layout lane line (xs ++ ys)
 whole_later layout lane line xs ys gaps r = record {
   before = xs ++ r.before;
   top = r.top;
@@ -163,7 +146,7 @@ whole_later layout lane line xs ys gaps r = record {
   bottom = r.bottom;
   after = r.after;
   rows_are = ap (λ t. xs ++ t) r.rows_are ∙ sym (append_assoc xs r.before (r.top ∷ (r.middle ++ (r.bottom ∷ r.after))));
-  gaps_before = each_append (Shows layout lane Gap) xs r.before gaps r.gaps_before;
+  gaps_before = all-append (Shows layout lane Gap) xs r.before gaps r.gaps_before;
   turns = r.turns;
   goes_on = r.goes_on;
   turns_back = r.turns_back;
@@ -181,8 +164,8 @@ whole_joined layout lane line xs ys b r = record {
       ∙ ap (λ t. b.before ++ (b.top ∷ t)) (sym (append_assoc b.more r.before (r.bottom ∷ r.after)));
   gaps_before = b.gaps;
   turns = b.turns;
-  goes_on = each_append (GoesOn layout lane line b.top) b.more r.before b.goes_on
-      (each_weaker (Shows layout lane Bar) (GoesOn layout lane line b.top) r.before (λ row h. inl h) r.bars);
+  goes_on = all-append (GoesOn layout lane line b.top) b.more r.before b.goes_on
+      (all-weaker (Shows layout lane Bar) (GoesOn layout lane line b.top) (λ row h. inl h) r.before r.bars);
   turns_back = r.turns_back;
   gaps_after = r.gaps;
 }

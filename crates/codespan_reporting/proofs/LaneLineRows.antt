@@ -1,6 +1,8 @@
 -- What a lane shows in the rows of one line.
 use Rattle.std.proofs.Common.{◌≡◌, ℕ, ◌<◌, Bool, true, false, not, cond, ◌&&◌, ◌==◌, nat_lt, inl, inr, List, [], ◌∷◌, ◌++◌, map, filter, reverse, Some, None, refl, sym, ap, ◌∙◌, arith, append_assoc}
 use Rattle.std.proofs.lemmas.Bool.Decides.{nat_tests}
+use Rattle.std.specs.List.{AllByRecursion}
+use Rattle.std.proofs.Math.Bool.{and-false}
 use Rattle.codespan_base.specs.declared.term.config.Layout.{Layout}
 use Rattle.codespan_base.specs.declared.term.config.Layout.TheVariants.{Classic, Unbroken}
 use Rattle.codespan_base.specs.declared.diagnostic.LabelStyle.{LabelStyle}
@@ -12,16 +14,17 @@ use Rattle.codespan_reporting.specs.Lanes.{source_shape, below_shape, underline_
 use Rattle.codespan_reporting.specs.LaneLaws.{shape_of, shape_in}
 use Rattle.codespan_reporting.specs.Rows.{Line, Row, SourceRow, CaretRow, PointerRow, HangingRow, UnderlineRow, caret_rows, hanging_rows, hanging, underline_rows, rows_of, has_underline}
 use Rattle.codespan_reporting.specs.RowParts.{leading_of}
-use Rattle.codespan_reporting.proofs.LaneLineLemmas.{Each, each_append, each_all, each_map, each_filter, each_weaker, split_at, split_off, Shows, GoesOn, Begins, Finishes}
+use Rattle.codespan_reporting.proofs.LaneLineLemmas.{each_all, each_map, split_at, split_off, Shows, GoesOn, Begins, Finishes}
+use Rattle.codespan_reporting.proofs.SortedLists.{all-append, all-filter, all-weaker}
 
 -- ---- the rows of a line
 
-each_caret : (P : Row → Type 0) (line : Line) (labels : List Labelled) → P (CaretRow line) → Each P (caret_rows line labels)
+each_caret : (P : Row → Type 0) (line : Line) (labels : List Labelled) → P (CaretRow line) → AllByRecursion P (caret_rows line labels)
 each_caret P line [] a = tt
 each_caret P line (x ∷ xs) a = (a, tt)
 
 each_hanging : (P : Row → Type 0) (line : Line) (labels : List Labelled) → P (PointerRow line) → ((y : Labelled) → P (HangingRow line y))
-    → Each P (hanging_rows line labels)
+    → AllByRecursion P (hanging_rows line labels)
 each_hanging P line [] a b = tt
 each_hanging P line (x ∷ xs) a b =
     (a, each_map P (HangingRow line) (reverse (x ∷ xs)) (each_all (λ y. P (HangingRow line y)) (reverse (x ∷ xs)) b))
@@ -29,23 +32,23 @@ each_hanging P line (x ∷ xs) a b =
 abbrev below_rows : Line → List Row
 below_rows line = caret_rows line line.labels ++ hanging_rows line (hanging line.labels)
 
-each_below : (P : Row → Type 0) (line : Line) → P (CaretRow line) → P (PointerRow line) → ((y : Labelled) → P (HangingRow line y)) → Each P (below_rows line)
+each_below : (P : Row → Type 0) (line : Line) → P (CaretRow line) → P (PointerRow line) → ((y : Labelled) → P (HangingRow line y)) → AllByRecursion P (below_rows line)
 each_below P line a b d =
-    each_append P (caret_rows line line.labels) (hanging_rows line (hanging line.labels)) (each_caret P line line.labels a)
+    all-append P (caret_rows line line.labels) (hanging_rows line (hanging line.labels)) (each_caret P line line.labels a)
     (each_hanging P line (hanging line.labels) b d)
 
 abbrev is_underlined : Line → LaneMark → Bool
 is_underlined line m = has_underline (leading_of line) m.part
 
-each_under : (P : Row → Type 0) (line : Line) (marks : List LaneMark) → Each (λ m. P (UnderlineRow line m)) marks
-    → Each P (map (UnderlineRow line) (filter (is_underlined line) marks))
+each_under : (P : Row → Type 0) (line : Line) (marks : List LaneMark) → AllByRecursion (λ m. P (UnderlineRow line m)) marks
+    → AllByRecursion P (map (UnderlineRow line) (filter (is_underlined line) marks))
 each_under P line marks a =
-    each_map P (UnderlineRow line) (filter (is_underlined line) marks) (each_filter (λ m. P (UnderlineRow line m)) (is_underlined line) marks a)
+    each_map P (UnderlineRow line) (filter (is_underlined line) marks) (all-filter (λ m. P (UnderlineRow line m)) (is_underlined line) marks a)
 
 each_after_source : (P : Row → Type 0) (line : Line) → P (CaretRow line) → P (PointerRow line) → ((y : Labelled) → P (HangingRow line y))
-    → ((m : LaneMark) → P (UnderlineRow line m)) → Each P (below_rows line ++ underline_rows line)
+    → ((m : LaneMark) → P (UnderlineRow line m)) → AllByRecursion P (below_rows line ++ underline_rows line)
 each_after_source P line a b d e =
-    each_append P (below_rows line) (underline_rows line) (each_below P line a b d)
+    all-append P (below_rows line) (underline_rows line) (each_below P line a b d)
     (each_under P line line.lanes.marks (each_all (λ m. P (UnderlineRow line m)) line.lanes.marks e))
 
 -- ---- a line on which the label neither begins nor ends
@@ -53,7 +56,7 @@ each_after_source P line a b d e =
 abbrev pub mark_with : ℕ → LabelStyle → Part → LaneMark
 mark_with lane style part = record { lane = lane; style = style; part = part }
 
-pub no_mark : (layout : Layout) (lane : ℕ) (line : Line) → mark_in line.lanes.marks lane ≡ None → Each (Shows layout lane Gap) (rows_of line)
+pub no_mark : (layout : Layout) (lane : ℕ) (line : Line) → mark_in line.lanes.marks lane ≡ None → AllByRecursion (Shows layout lane Gap) (rows_of line)
 no_mark layout lane line none = (
   ap (shape_of (source_shape (leading_of line))) none,
   each_after_source (Shows layout lane Gap) line
@@ -64,7 +67,7 @@ no_mark layout lane line none = (
 )
 
 pub left_mark : (layout : Layout) (lane : ℕ) (line : Line) (style : LabelStyle) → mark_in line.lanes.marks lane ≡ Some (mark_with lane style Left)
-    → Each (Shows layout lane Bar) (rows_of line)
+    → AllByRecursion (Shows layout lane Bar) (rows_of line)
 left_mark layout lane line style is = (
   ap (shape_of (source_shape (leading_of line))) is,
   each_after_source (Shows layout lane Bar) line
@@ -81,8 +84,8 @@ pub record Split (lane : ℕ) (m : LaneMark) (marks : List LaneMark) : Type 0 wh
   pub low : List LaneMark
   pub high : List LaneMark
   pub is : marks ≡ low ++ (m ∷ high)
-  pub below : Each (λ (o : LaneMark). o.lane < lane) low
-  pub above : Each (λ (o : LaneMark). lane < o.lane) high
+  pub below : AllByRecursion (λ (o : LaneMark). o.lane < lane) low
+  pub above : AllByRecursion (λ (o : LaneMark). lane < o.lane) high
 
 -- the rows of the line, where the lane has an underline of its own
 rows_split : (lane : ℕ) (line : Line) (m : LaneMark) (r : Split lane m line.lanes.marks) → is_underlined line m ≡ true
@@ -105,19 +108,19 @@ bottom_mark layout lane line style end message is r = record {
   rows_are = rows_split lane line m r refl;
   bars = (
     ap (shape_of (source_shape (leading_of line))) is,
-    each_append (Shows layout lane Bar) (below_rows line) (map (UnderlineRow line) (filter (is_underlined line) r.low))
+    all-append (Shows layout lane Bar) (below_rows line) (map (UnderlineRow line) (filter (is_underlined line) r.low))
         (each_below (Shows layout lane Bar) line
         (ap (shape_of (below_shape layout (leading_of line))) is)
         (ap (shape_of (below_shape layout (leading_of line))) is)
         (λ y. ap (shape_of (below_shape layout (leading_of line))) is))
         (each_under (Shows layout lane Bar) line r.low
-        (each_weaker (λ (o : LaneMark). o.lane < lane) (λ o. Shows layout lane Bar (UnderlineRow line o)) r.low on_low r.below)),
+        (all-weaker (λ (o : LaneMark). o.lane < lane) (λ o. Shows layout lane Bar (UnderlineRow line o)) on_low r.low r.below)),
   );
   turns_back =
       let same : (lane == lane) ≡ true = grind (arith, nat_tests) in
       shown m ∙ ap (λ b. cond b BottomCorner (cond (nat_lt lane lane) Gap Bar)) same;
   gaps = each_under (Shows layout lane Gap) line r.high
-      (each_weaker (λ (o : LaneMark). lane < o.lane) (λ o. Shows layout lane Gap (UnderlineRow line o)) r.high on_high r.above);
+      (all-weaker (λ (o : LaneMark). lane < o.lane) (λ o. Shows layout lane Gap (UnderlineRow line o)) on_high r.high r.above);
 }
   where
     m : LaneMark
@@ -196,18 +199,18 @@ top_early layout lane line style start is r early = record {
     on_high : (o : LaneMark) → lane < o.lane → GoesOn Classic lane line (SourceRow line) (UnderlineRow line o)
     on_high o h = inl (top_high lane o.lane h (shown o))
 
-    by_layout : (layout : Layout) → Each (GoesOn layout lane line (SourceRow line)) (below_rows line ++ underline_rows line)
+    by_layout : (layout : Layout) → AllByRecursion (GoesOn layout lane line (SourceRow line)) (below_rows line ++ underline_rows line)
     by_layout Classic =
-        each_append (GoesOn Classic lane line (SourceRow line)) (below_rows line) (underline_rows line)
+        all-append (GoesOn Classic lane line (SourceRow line)) (below_rows line) (underline_rows line)
         (each_below (GoesOn Classic lane line (SourceRow line)) line
         (inr (record { is_gap = gap; is_classic = refl; turns_early = refl; is_below = refl }))
         (inr (record { is_gap = gap; is_classic = refl; turns_early = refl; is_below = refl }))
         (λ y. inr (record { is_gap = gap; is_classic = refl; turns_early = refl; is_below = refl })))
-        (rw without (each_append (GoesOn Classic lane line (SourceRow line)) (map (UnderlineRow line) (filter (is_underlined line) r.low)) (map (UnderlineRow line) (filter (is_underlined line) r.high))
+        (rw without (all-append (GoesOn Classic lane line (SourceRow line)) (map (UnderlineRow line) (filter (is_underlined line) r.low)) (map (UnderlineRow line) (filter (is_underlined line) r.high))
         (each_under (GoesOn Classic lane line (SourceRow line)) line r.low
-        (each_weaker (λ (o : LaneMark). o.lane < lane) (λ o. GoesOn Classic lane line (SourceRow line) (UnderlineRow line o)) r.low on_low r.below))
+        (all-weaker (λ (o : LaneMark). o.lane < lane) (λ o. GoesOn Classic lane line (SourceRow line) (UnderlineRow line o)) on_low r.low r.below))
         (each_under (GoesOn Classic lane line (SourceRow line)) line r.high
-        (each_weaker (λ (o : LaneMark). lane < o.lane) (λ o. GoesOn Classic lane line (SourceRow line) (UnderlineRow line o)) r.high on_high r.above))))
+        (all-weaker (λ (o : LaneMark). lane < o.lane) (λ o. GoesOn Classic lane line (SourceRow line) (UnderlineRow line o)) on_high r.high r.above))))
     by_layout Unbroken =
         each_after_source (GoesOn Unbroken lane line (SourceRow line)) line
         (inl (ap (shape_of (below_shape Unbroken (leading_of line))) is ∙ ap (λ b. cond b Bar Gap) early))
@@ -216,13 +219,9 @@ top_early layout lane line style start is r early = record {
         (λ m. inl (ap (shape_of (underline_shape Unbroken (leading_of line) m.lane lane)) is
         ∙ ap (λ b. cond b Bar (cond (lane == m.lane) TopCorner (cond (nat_lt lane m.lane) Bar Gap))) early))
 
-and_nothing : (b : Bool) → (b && false) ≡ false
-and_nothing true = refl
-and_nothing false = refl
-
 -- nothing goes on from a corner that the source row does not draw
 late : (layout : Layout) (leading start : ℕ) → turns_early leading start ≡ false → (is_unbroken layout && turns_early leading start) ≡ false
-late layout leading start h = ap (λ b. is_unbroken layout && b) h ∙ and_nothing (is_unbroken layout)
+late layout leading start h = ap (λ b. is_unbroken layout && b) h ∙ and-false (is_unbroken layout)
 
 late_below : (layout : Layout) (leading start : ℕ) → turns_early leading start ≡ false → below_shape layout leading (Top start) ≡ Gap
 late_below layout leading start h = ap (λ b. cond b Bar Gap) (late layout leading start h)
@@ -244,16 +243,16 @@ top_late layout lane line style start is r early = record {
   rows_are = rows_split lane line m r (ap not early);
   gaps = (
     ap (shape_of (source_shape (leading_of line))) is ∙ ap (λ b. cond b TopCorner Gap) early,
-    each_append (Shows layout lane Gap) (below_rows line) (map (UnderlineRow line) (filter (is_underlined line) r.low))
+    all-append (Shows layout lane Gap) (below_rows line) (map (UnderlineRow line) (filter (is_underlined line) r.low))
         (each_below (Shows layout lane Gap) line under under (λ y. under))
         (each_under (Shows layout lane Gap) line r.low
-        (each_weaker (λ (o : LaneMark). o.lane < lane) (λ o. Shows layout lane Gap (UnderlineRow line o)) r.low on_low r.below)),
+        (all-weaker (λ (o : LaneMark). o.lane < lane) (λ o. Shows layout lane Gap (UnderlineRow line o)) on_low r.low r.below)),
   );
   turns =
       let same : (lane == lane) ≡ true = grind (arith, nat_tests) in
       shown m ∙ ap (λ b. cond b TopCorner (cond (nat_lt lane lane) Bar Gap)) same;
   goes_on = each_under (GoesOn layout lane line (UnderlineRow line m)) line r.high
-      (each_weaker (λ (o : LaneMark). lane < o.lane) (λ o. GoesOn layout lane line (UnderlineRow line m) (UnderlineRow line o)) r.high (λ o h. inl (on_high o h)) r.above);
+      (all-weaker (λ (o : LaneMark). lane < o.lane) (λ o. GoesOn layout lane line (UnderlineRow line m) (UnderlineRow line o)) (λ o h. inl (on_high o h)) r.high r.above);
 }
   where
     m : LaneMark

@@ -1,6 +1,6 @@
--- Each lane is one line, by the drawn lines of the file.
+-- AllByRecursion lane is one line, by the drawn lines of the file.
 use Rattle.std.proofs.Common.{◌≡◌, ℕ, zero, suc, ◌+◌, ◌-◌, ◌<◌, ◌≤◌, Bool, true, false, not, cond, ◌||◌, ◌&&◌, ◌==◌, nat_lt, nat_le, ⊎_elim, List, [], ◌∷◌, ◌++◌, filter, length, Option, Some, None, slice_get, refl, sym, ap, ◌∙◌, zero-add, append_assoc, arith, if◌then◌else◌}
-use Rattle.std.specs.List.{range_with_len, cons_option}
+use Rattle.std.specs.List.{range_with_len, cons_option, AllByRecursion}
 use Rattle.std.proofs.lemmas.Bool.{cases_lt}
 use Rattle.std.proofs.lemmas.Bool.Decides.{nat_tests}
 use Rattle.std.proofs.lemmas.List.Sums.{count_by-le-length}
@@ -17,21 +17,22 @@ use Rattle.codespan_reporting.specs.LaneLaws.{shape_of, HasLane, LanesAreLines}
 use Rattle.codespan_reporting.specs.Headline.{StartsBeforeEnds}
 use Rattle.codespan_reporting.proofs.BarLemmas.{marks_from, mark_in-from}
 use Rattle.codespan_reporting.proofs.RangeLemmas.{kept, has_lane-ordered, line_of-below, shown-by, shows-first, shows-last}
-use Rattle.codespan_reporting.proofs.LaneLineLemmas.{Each, each_append, each_weaker, Shows, Begins, Finishes, Whole, finishes_later, finishes_before, whole_later, whole_joined, one_line}
+use Rattle.codespan_reporting.proofs.LaneLineLemmas.{Shows, Begins, Finishes, Whole, finishes_later, finishes_before, whole_later, whole_joined, one_line}
 use Rattle.codespan_reporting.proofs.LaneLineRows.{mark_with, Split, no_mark, left_mark, bottom_mark, top_mark}
+use Rattle.codespan_reporting.proofs.SortedLists.{all-append, all-weaker}
 
 -- ---- the marks of a line in their order
 
 each_mark : (P : LaneMark → Type 0) (n : ℕ) (x : Labelled) (part : Option Part) (marks : List LaneMark)
-    → ((p : Part) → P (mark_with n x.style p)) → Each P marks → Each P (cons_option (mark_of n x part) marks)
+    → ((p : Part) → P (mark_with n x.style p)) → AllByRecursion P marks → AllByRecursion P (cons_option (mark_of n x part) marks)
 each_mark P n x None marks h a = a
 each_mark P n x (Some p) marks h a = (h p, a)
 
-each_from : (f : FileModel) (l n : ℕ) (xs : List Labelled) → Each (λ (o : LaneMark). n ≤ o.lane) (marks_from f l n xs)
+each_from : (f : FileModel) (l n : ℕ) (xs : List Labelled) → AllByRecursion (λ (o : LaneMark). n ≤ o.lane) (marks_from f l n xs)
 each_from f l n [] = tt
 each_from f l n (x ∷ xs) =
     each_mark (λ (o : LaneMark). n ≤ o.lane) n x (part_on f l x) (marks_from f l (n + 1) xs) (λ p. omega arith)
-    (each_weaker (λ (o : LaneMark). n + 1 ≤ o.lane) (λ (o : LaneMark). n ≤ o.lane) (marks_from f l (n + 1) xs) (λ o h. omega arith) (each_from f l (n + 1) xs))
+    (all-weaker (λ (o : LaneMark). n + 1 ≤ o.lane) (λ (o : LaneMark). n ≤ o.lane) (λ o h. omega arith) (marks_from f l (n + 1) xs) (each_from f l (n + 1) xs))
 
 -- one mark more before the others
 split_later : (lane n : ℕ) (m : LaneMark) (x : Labelled) (part : Option Part) (marks : List LaneMark) → n < lane → Split lane m marks
@@ -58,7 +59,7 @@ split_from f l lane n zero (y ∷ ys) x part e h is = record {
       ∙ ap (λ q. cons_option (mark_of n x q) (marks_from f l (n + 1) ys)) is
       ∙ ap (λ v. mark_with v x.style part ∷ marks_from f l (n + 1) ys) here;
   below = tt;
-  above = each_weaker (λ (o : LaneMark). n + 1 ≤ o.lane) (λ (o : LaneMark). lane < o.lane) (marks_from f l (n + 1) ys) (λ o h. omega arith) (each_from f l (n + 1) ys);
+  above = all-weaker (λ (o : LaneMark). n + 1 ≤ o.lane) (λ (o : LaneMark). lane < o.lane) (λ o h. omega arith) (marks_from f l (n + 1) ys) (each_from f l (n + 1) ys);
 }
 split_from f l lane n (suc k) (y ∷ ys) x part e h is =
     split_later lane n (mark_with lane x.style part) y (part_on f l y) (marks_from f l (n + 1) ys) (omega arith)
@@ -103,11 +104,11 @@ part_after a b l top bottom order high =
 
 -- ---- the rows of the drawn lines
 
-each_break : (P : Row → Type 0) (s : LabelledFile) (was : Option ℕ) (l : ℕ) → P (BreakRow (line_at s l).lanes) → Each P (break_rows s was l)
+each_break : (P : Row → Type 0) (s : LabelledFile) (was : Option ℕ) (l : ℕ) → P (BreakRow (line_at s l).lanes) → AllByRecursion P (break_rows s was l)
 each_break P s None l h = tt
 each_break P s (Some c) l h = by_test (is_broken c l)
   where
-    by_test : (b : Bool) → Each P (cond b (BreakRow (line_at s l).lanes ∷ []) [])
+    by_test : (b : Bool) → AllByRecursion P (cond b (BreakRow (line_at s l).lanes ∷ []) [])
     by_test true = (h, tt)
     by_test false = tt
 
@@ -155,18 +156,18 @@ module _ (layout : Layout) (s : LabelledFile) (lane : ℕ) (x : Labelled) (has :
       bottom_mark layout lane (line_at s l) x.style (x.end - line_start s.file l) x.message (mark_at l (Some (bottom_of l)) (bottom_at l h))
       (split_on l (bottom_of l) (bottom_at l h))
 
-  bars_line : (l : ℕ) → first_line s.file x < l → l < last_line s.file x → Each (Shows layout lane Bar) (rows_of (line_at s l))
+  bars_line : (l : ℕ) → first_line s.file x < l → l < last_line s.file x → AllByRecursion (Shows layout lane Bar) (rows_of (line_at s l))
   bars_line l low high = left_mark layout lane (line_at s l) x.style (mark_at l (Some Left) (left_at l low high))
 
-  gaps_with : (was : Option ℕ) (l : ℕ) → NoMark l → Each (Shows layout lane Gap) (break_rows s was l ++ rows_of (line_at s l))
+  gaps_with : (was : Option ℕ) (l : ℕ) → NoMark l → AllByRecursion (Shows layout lane Gap) (break_rows s was l ++ rows_of (line_at s l))
   gaps_with was l none =
-      each_append (Shows layout lane Gap) (break_rows s was l) (rows_of (line_at s l))
+      all-append (Shows layout lane Gap) (break_rows s was l) (rows_of (line_at s l))
       (each_break (Shows layout lane Gap) s was l (ap (shape_of plain_shape) none)) (no_mark layout lane (line_at s l) none)
 
-  gap_break : (was : Option ℕ) (l : ℕ) → first_line s.file x ≡ l → Each (Shows layout lane Gap) (break_rows s was l)
+  gap_break : (was : Option ℕ) (l : ℕ) → first_line s.file x ≡ l → AllByRecursion (Shows layout lane Gap) (break_rows s was l)
   gap_break was l h = each_break (Shows layout lane Gap) s was l (ap (shape_of plain_shape) (mark_at l (Some (top_of l)) (top_at l h)))
 
-  bar_break : (was : Option ℕ) (l : ℕ) (part : Part) → plain_shape part ≡ Bar → part_on s.file l x ≡ Some part → Each (Shows layout lane Bar) (break_rows s was l)
+  bar_break : (was : Option ℕ) (l : ℕ) (part : Part) → plain_shape part ≡ Bar → part_on s.file l x ≡ Some part → AllByRecursion (Shows layout lane Bar) (break_rows s was l)
   bar_break was l part bar is = each_break (Shows layout lane Bar) s was l (ap (shape_of plain_shape) (mark_at l (Some part) is) ∙ bar)
 
   abbrev lines_from : ℕ → ℕ → List ℕ
@@ -183,14 +184,14 @@ module _ (layout : Layout) (s : LabelledFile) (lane : ℕ) (x : Labelled) (has :
   keep was a n h = ap (λ b. rows_after s was (cond b (a ∷ lines_from (a + 1) n) (lines_from (a + 1) n))) h
 
   -- below the label
-  gaps_after : (was : Option ℕ) (a n : ℕ) → last_line s.file x < a → Each (Shows layout lane Gap) (rows_from was a n)
+  gaps_after : (was : Option ℕ) (a n : ℕ) → last_line s.file x < a → AllByRecursion (Shows layout lane Gap) (rows_from was a n)
   gaps_after was a zero past = tt
   gaps_after was a (suc n) past = by_test (λ w. gaps_after w (a + 1) n (omega arith)) (drawn a)
     where
-      by_test : ((w : Option ℕ) → Each (Shows layout lane Gap) (rows_from w (a + 1) n)) → (b : Bool)
-          → Each (Shows layout lane Gap) (rows_after s was (cond b (a ∷ lines_from (a + 1) n) (lines_from (a + 1) n)))
+      by_test : ((w : Option ℕ) → AllByRecursion (Shows layout lane Gap) (rows_from w (a + 1) n)) → (b : Bool)
+          → AllByRecursion (Shows layout lane Gap) (rows_after s was (cond b (a ∷ lines_from (a + 1) n) (lines_from (a + 1) n)))
       by_test rest true =
-          each_append (Shows layout lane Gap) (break_rows s was a ++ rows_of (line_at s a)) (rows_from (Some a) (a + 1) n)
+          all-append (Shows layout lane Gap) (break_rows s was a ++ rows_of (line_at s a)) (rows_from (Some a) (a + 1) n)
           (gaps_with was a (no_mark_after a past)) (rest (Some a))
       by_test rest false = rest was
 
@@ -208,7 +209,7 @@ module _ (layout : Layout) (s : LabelledFile) (lane : ℕ) (x : Labelled) (has :
           further : a < last_line s.file x → Finishes layout lane (rows_from was a (suc n))
           further h =
               rw (keep was a n is) (finishes_later layout lane (break_rows s was a ++ rows_of (line_at s a)) (rows_from (Some a) (a + 1) n)
-              (each_append (Shows layout lane Bar) (break_rows s was a) (rows_of (line_at s a)) (bar_break was a Left refl (left_at a low h)) (bars_line a low h))
+              (all-append (Shows layout lane Bar) (break_rows s was a) (rows_of (line_at s a)) (bar_break was a Left refl (left_at a low h)) (bars_line a low h))
               (rest (Some a) h))
 
           ended : last_line s.file x ≤ a → Finishes layout lane (rows_from was a (suc n))

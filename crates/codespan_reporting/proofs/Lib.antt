@@ -2,6 +2,7 @@ pub mod BarLemmas
 pub mod BreakLemmas
 pub mod CaretLemmas
 pub mod FillLemmas
+pub mod Filling
 pub mod LaneWidths
 pub mod LaneLineLemmas
 pub mod LaneLineRows

@@ -1,9 +1,9 @@
 -- The least start of a file's labels, and the places at which snippets start.
-use Rattle.std.proofs.Common.{◌≡◌, ℕ, Bool, true, false, cond, ◌&&◌, min, List, [], ◌∷◌, ◌++◌, length, map, filter, flat_map, Option, Some, None, refl, sym, ap, ◌∙◌, subst, arith, length-append, true≢false}
-use Rattle.std.specs.Prelude.{Contains, IfSome, IsSome, fold, string_bytes, unwrap_or}
+use Rattle.std.proofs.Common.{◌≡◌, ℕ, Bool, true, false, cond, ◌&&◌, List, [], ◌∷◌, ◌++◌, length, map, filter, flat_map, Option, Some, None, refl, sym, ap, ◌∙◌, subst, arith, length-append, true≢false}
+use Rattle.std.specs.Prelude.{Contains, IfSome, IsSome, string_bytes, unwrap_or}
 use Rattle.std.proofs.lemmas.List.{append-nil, map-append}
 use Rattle.std.proofs.lemmas.List.Concat.{flat_map-append}
-use Rattle.std.proofs.lemmas.List.Elements.{Contains-append_left, Contains-append_right, filter-append}
+use Rattle.std.proofs.lemmas.List.Elements.{Contains-append_left, Contains-append_right}
 use Rattle.codespan_base.specs.declared.files.error.Error.{Error}
 use Rattle.codespan_base.specs.FileModel.{FileModel, Lookup, or_refusal}
 use Rattle.codespan_base.specs.FileModel.Lookup.{LocationAt, Name}
@@ -18,46 +18,10 @@ use Rattle.codespan_reporting.proofs.Refusals.{first_refusal-some, first_refusal
 
 -- ---- the least start
 
--- one more number
-abbrev pub lower : Option ℕ → ℕ → Option ℕ
-lower None n = Some n
-lower (Some m) n = Some (min m n)
-
--- a fold over one more number
-fold-more : (m n : ℕ) (ns : List ℕ) → fold min m (ns ++ n ∷ []) ≡ min (fold min m ns) n
-fold-more m n [] = refl
-fold-more m n (k ∷ ns) = fold-more (min m k) n ns
-
--- the least of one more number
-least-more : (ns : List ℕ) (n : ℕ) → least_if_any (ns ++ n ∷ []) ≡ lower (least_if_any ns) n
-least-more [] n = refl
-least-more (m ∷ ns) n = ap Some (fold-more m n ns)
-
 -- the least of some numbers is that of those that there are
 least-unwrap : (ns : List ℕ) → unwrap_or (least_if_any ns) 0 ≡ least ns
 least-unwrap [] = refl
 least-unwrap (n ∷ ns) = refl
-
-module _ {Id : Type 0} (same : Id → Id → Bool) (id : Id) (only_primary : Bool) where
-  -- one more label, which is asked for or not
-  pub starts-more : (xs ys : List (InFile Id)) (x : InFile Id) (old new : Option ℕ) → ys ≡ xs ++ x ∷ []
-      → old ≡ least_if_any (starts_in same id only_primary xs)
-      → (is_asked_label same id only_primary x ≡ true → new ≡ lower old x.label.start)
-      → (is_asked_label same id only_primary x ≡ false → new ≡ old)
-      → new ≡ least_if_any (starts_in same id only_primary ys)
-  starts-more xs ys x old new more is lowered kept =
-      by (is_asked_label same id only_primary x) lowered kept
-      ∙ ap least_if_any (sym (map-append (λ (x : InFile Id). x.label.start) own (cond (is_asked_label same id only_primary x) (x ∷ []) []))
-      ∙ ap (map (λ (x : InFile Id). x.label.start)) (sym (filter-append (is_asked_label same id only_primary) xs (x ∷ []))))
-      ∙ ap (λ (zs : List (InFile Id)). least_if_any (starts_in same id only_primary zs)) (sym more)
-    where
-      own : List (InFile Id)
-      own = filter (is_asked_label same id only_primary) xs
-
-      by : (b : Bool) → (b ≡ true → new ≡ lower old x.label.start) → (b ≡ false → new ≡ old)
-          → new ≡ least_if_any (starts_in same id only_primary xs ++ map (λ (x : InFile Id). x.label.start) (cond b (x ∷ []) []))
-      by true low keep = low refl ∙ ap (λ (o : Option ℕ). lower o x.label.start) is ∙ sym (least-more (starts_in same id only_primary xs) x.label.start)
-      by false low keep = keep refl ∙ is ∙ ap least_if_any (sym (append-nil (starts_in same id only_primary xs)))
 
 module _ {Id : Type 0} (same : Id → Id → Bool) (file : Id → FileModel) (id : Id) where
   -- the starts of the primary labels of the file
@@ -158,10 +122,6 @@ module _ {Id : Type 0} (same : Id → Id → Bool) (file : Id → FileModel) (re
     -- the second one refuses
     pub located-second : (e : Error) → refusal id Name ≡ None → refusal id (LocationAt start) ≡ Some e → first_refusal refusal (asked_for id) ≡ Some e
     located-second e a b = asked-both ∙ ap (λ o. or_refusal o (or_refusal (refusal id (LocationAt start)) None)) a ∙ ap (λ o. or_refusal o None) b
-
-  -- before the first file
-  pub located-none : IsLocated same file refusal xs [] []
-  located-none = record { count = refl; places = λ _. refl; answered = refl }
 
   -- one more file
   pub located-more : (ids more : List Id) (id : Id) (loci : List Locus) (locus : Locus) → more ≡ ids ++ id ∷ [] → IsLocated same file refusal xs ids loci

@@ -2,8 +2,9 @@
 use Rattle.std.proofs.Common.{◌≡◌, ℕ, Bool, true, false, ◌==◌, ◌&&◌, cond, List, [], ◌∷◌, filter, ⊎_elim, refl, sym, ap, ◌∙◌, arith}
 use Rattle.std.proofs.lemmas.Bool.{both_ways, cases_Bool, cond_both, eq-eqb, false_from_ne_true}
 use Rattle.std.proofs.lemmas.Bool.Decides.{nat_tests}
+use Rattle.std.specs.List.{AllByRecursion}
 use Rattle.codespan_base.specs.Labels.{Labelled, stands_before, put_in, sorted}
-use Rattle.codespan_reporting.proofs.LaneLineLemmas.{Each, each_weaker}
+use Rattle.codespan_reporting.proofs.SortedLists.{Rises, all-weaker, filter-nothing}
 
 -- ---- the order
 
@@ -64,14 +65,13 @@ sorted-keeps start end (x ∷ xs) =
 
 -- no label stands before an earlier one
 abbrev pub Ascends : List Labelled → Type 0
-Ascends [] = Unit {0}
-Ascends (x ∷ xs) = Each (λ y. stands_before y x ≡ false) xs × Ascends xs
+Ascends = Rises stands_before
 
 -- it holds of the label that is put in and of the others
-each-put_in : (P : Labelled → Type 0) (x : Labelled) (ys : List Labelled) → P x → Each P ys → Each P (put_in x ys)
+each-put_in : (P : Labelled → Type 0) (x : Labelled) (ys : List Labelled) → P x → AllByRecursion P ys → AllByRecursion P (put_in x ys)
 each-put_in P x [] h k = (h, tt)
 each-put_in P x (y ∷ ys) h k =
-    cond_both (stands_before y x) (y ∷ put_in x ys) (x ∷ y ∷ ys) (Each P) (λ _. (k.0, each-put_in P x ys h k.1)) (λ _. (h, k))
+    cond_both (stands_before y x) (y ∷ put_in x ys) (x ∷ y ∷ ys) (AllByRecursion P) (λ _. (k.0, each-put_in P x ys h k.1)) (λ _. (h, k))
 
 -- labels in order stay so where one is put in
 put_in-ascends : (x : Labelled) (ys : List Labelled) → Ascends ys → Ascends (put_in x ys)
@@ -79,7 +79,7 @@ put_in-ascends x [] h = (tt, tt)
 put_in-ascends x (y ∷ ys) h =
     cond_both (stands_before y x) (y ∷ put_in x ys) (x ∷ y ∷ ys) Ascends
     (λ t. (each-put_in (λ z. stands_before z y ≡ false) x ys (before_one_way y x t) h.0, put_in-ascends x ys h.1))
-    (λ t. ((t, each_weaker (λ z. stands_before z y ≡ false) (λ z. stands_before z x ≡ false) ys (λ z k. before_chain z y x k t) h.0), h))
+    (λ t. ((t, all-weaker (λ z. stands_before z y ≡ false) (λ z. stands_before z x ≡ false) (λ z k. before_chain z y x k t) ys h.0), h))
 
 -- sorted labels are in order
 pub sorted-ascends : (xs : List Labelled) → Ascends (sorted xs)
@@ -88,26 +88,21 @@ sorted-ascends (x ∷ xs) = put_in-ascends x (sorted xs) (sorted-ascends xs)
 
 -- ---- labels in order are fixed by those of each range
 
--- a filter keeps nothing where nothing passes
-filter-none : {X : Type 0} (p : X → Bool) (xs : List X) → Each (λ x. p x ≡ false) xs → filter p xs ≡ []
-filter-none p [] h = refl
-filter-none p (x ∷ xs) h = rw h.0 (filter-none p xs h.1)
-
 -- a label that stands before the first one has a range that none of them has
-none_of_range : (x y : Labelled) (ys : List Labelled) → stands_before x y ≡ true → Each (λ z. stands_before z y ≡ false) ys
-    → Each (λ z. has_range x.start x.end z ≡ false) ys
-none_of_range x y ys h k = each_weaker (λ z. stands_before z y ≡ false) (λ z. has_range x.start x.end z ≡ false) ys
-    (λ z e. false_from_ne_true (has_range x.start x.end z) (λ t. both_ways (stands_before z y) e (before_alike x z y t h))) k
+none_of_range : (x y : Labelled) (ys : List Labelled) → stands_before x y ≡ true → AllByRecursion (λ z. stands_before z y ≡ false) ys
+    → AllByRecursion (λ z. has_range x.start x.end z ≡ false) ys
+none_of_range x y ys h k = all-weaker (λ z. stands_before z y ≡ false) (λ z. has_range x.start x.end z ≡ false)
+    (λ z e. false_from_ne_true (has_range x.start x.end z) (λ t. both_ways (stands_before z y) e (before_alike x z y t h))) ys k
 
 -- of the labels of a label's range it is the first
 own_first : (x : Labelled) (xs : List Labelled) → filter (has_range x.start x.end) (x ∷ xs) ≡ x ∷ filter (has_range x.start x.end) xs
 own_first x xs = rw (own_range x) refl
 
 -- a label whose range one of the list has does not stand before the first of them
-not_before : (x y : Labelled) (xs ys : List Labelled) → Each (λ z. stands_before z y ≡ false) ys
+not_before : (x y : Labelled) (xs ys : List Labelled) → AllByRecursion (λ z. stands_before z y ≡ false) ys
     → filter (has_range x.start x.end) (x ∷ xs) ≡ filter (has_range x.start x.end) (y ∷ ys) → stands_before x y ≡ false
 not_before x y xs ys h same = false_from_ne_true (stands_before x y)
-    (λ t. some (sym (own_first x xs) ∙ same ∙ filter-none (has_range x.start x.end) (y ∷ ys) (none_of_range x y (y ∷ ys) t (not_before_itself y, h))))
+    (λ t. some (sym (own_first x xs) ∙ same ∙ filter-nothing (has_range x.start x.end) (y ∷ ys) (none_of_range x y (y ∷ ys) t (not_before_itself y, h))))
   where
     some : x ∷ filter (has_range x.start x.end) xs ≡ [] → ⊥
     some e = cc

@@ -6,17 +6,18 @@ use Rattle.std.specs.List.{range_with_len, list_any}
 use Rattle.std.proofs.lemmas.Bool.{cases_lt, and_parts, false≢true}
 use Rattle.std.proofs.lemmas.Bool.Decides.{nat_tests}
 use Rattle.std.proofs.lemmas.List.Folds.{list_any_at}
-use Rattle.std.proofs.lemmas.List.Sums.{count_by-le-length}
 use Rattle.codespan_base.specs.declared.term.config.Config.{Config}
 use Rattle.codespan_base.specs.declared.term.config.Layout.{Layout}
 use Rattle.codespan_base.specs.declared.term.config.Layout.TheVariants.{Classic, Unbroken}
-use Rattle.codespan_base.specs.FileModel.{FileModel, line_of, line_count}
+use Rattle.codespan_base.specs.FileModel.{FileModel, line_count}
 use Rattle.codespan_base.specs.Labels.{Labelled, first_line, last_line}
 use Rattle.codespan_reporting.specs.Lanes.{is_unbroken}
 use Rattle.codespan_reporting.specs.Lines.{shows, is_shown, is_drawn, drawn_lines}
 use Rattle.codespan_reporting.specs.Snippets.{LabelledFile}
 use Rattle.codespan_reporting.specs.Padding.{spans, spanned_lines, digit_count, numbered_lines, digits_of, padding_of}
 use Rattle.codespan_reporting.specs.PaddingLaws.{NumbersAscend, PaddingHasRoom}
+use Rattle.codespan_reporting.proofs.RangeLemmas.{line_of-below}
+use Rattle.codespan_reporting.proofs.Greatest.{greatest-low}
 
 -- ---- a greater number has no fewer digits
 
@@ -102,13 +103,9 @@ filtered p a (suc n) l c = by_test (λ d. filtered p (a + 1) n l d) (p a) refl c
     by_test again true e (suc k, low, same) = let r = again (k, omega arith, same) in (r.0, omega (arith, r.1))
     by_test again false e d = let r = again d in (r.0, omega (arith, r.1))
 
-le-fold_max : (a : ℕ) (xs : List ℕ) → a ≤ fold max a xs
-le-fold_max a [] = omega arith
-le-fold_max a (x ∷ xs) = omega (arith, le-fold_max (max a x) xs)
-
 contained-le : (a x : ℕ) (xs : List ℕ) → Contains xs x → x ≤ fold max a xs
 contained-le a x [] (k, low, same) = absurd (omega arith)
-contained-le a x (y ∷ xs) (zero, low, same) = omega (arith, le-fold_max (max a y) xs, same)
+contained-le a x (y ∷ xs) (zero, low, same) = omega (arith, greatest-low (max a y) xs, same)
 contained-le a x (y ∷ xs) (suc k, low, same) = contained-le (max a y) x xs (k, omega arith, same)
 
 -- a numbered line fits
@@ -135,10 +132,6 @@ ascends f up i j h low =
 abbrev Over : LabelledFile → ℕ → Type 0
 Over s l = (m : ℕ) × (l ≤ m) × (m < line_count s.file) × Contains (spanned_lines s) m
 
-line_of-below : (starts : List ℕ) (b : ℕ) → 0 < length starts → line_of starts b < length starts
-unfolding line_of
-line_of-below starts b some = omega (arith, count_by-le-length (λ s. nat_le s b) starts)
-
 -- a label that shows a line, with no line after its last, spans a line not below it
 shown-over : (s e l before start end : ℕ) → ((l == s) || (l == e) || (nat_lt l s && nat_le s (l + before)) || (nat_lt e l && nat_le l (e + 0)) || (nat_lt s l && nat_lt l e && (nat_le l (s + start) || nat_le e (l + end)))) ≡ true
     → (l ≤ s) ⊎ ((l ≡ e) ⊎ ((s ≤ l) × (l ≤ e)))
@@ -151,9 +144,6 @@ any-found p (y ∷ ys) h = by_test (any-found p ys) (p y) refl h
     by_test : (list_any p ys ≡ true → (x : Labelled) × Contains ys x × (p x ≡ true)) → (b : Bool) → p y ≡ b → (b || list_any p ys) ≡ true → (x : Labelled) × Contains (y ∷ ys) x × (p x ≡ true)
     by_test again true e k = (y, (zero, omega arith, refl), e)
     by_test again false e k = let r = again k in (r.0, there r.0 y ys r.1, r.2)
-
-both : (b d : Bool) → b ≡ true → d ≡ true → (b && d) ≡ true
-both b d h k = simp (h, k)
 
 spanned-over : (s : LabelledFile) (x : Labelled) (l m : ℕ) → Contains s.labels x → l ≤ m → m < line_count s.file → spans s.file x m ≡ true → Over s l
 spanned-over s x l m has h low is = (

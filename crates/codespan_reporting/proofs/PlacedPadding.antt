@@ -1,5 +1,5 @@
 -- The digits of the numbers of the lines that all files draw.
-use Rattle.std.proofs.Common.{◌≡◌, ℕ, zero, suc, ◌+◌, true, max, List, [], ◌∷◌, ◌++◌, length, take, drop, map, filter, Some, None, sym, ap, ◌∙◌, subst, arith}
+use Rattle.std.proofs.Common.{◌≡◌, ℕ, suc, ◌+◌, true, max, List, [], ◌∷◌, ◌++◌, length, take, drop, map, filter, Some, None, sym, ap, ◌∙◌, subst, arith}
 use Rattle.std.specs.Prelude.{fold}
 use Rattle.std.specs.List.{AllByRecursion}
 use Rattle.std.proofs.lemmas.Bool.{eqb-true}
@@ -16,26 +16,7 @@ use Rattle.codespan_reporting.specs.Steps.{fills_of, lines_of_steps}
 use Rattle.codespan_reporting.proofs.DrawnPadding.{numbers_refusal}
 use Rattle.codespan_reporting.proofs.Greatest.{greatest-any, greatest-append}
 use Rattle.codespan_reporting.proofs.Refusals.{first_refusal-none, first_refusal-some}
-use Rattle.codespan_reporting.proofs.SortedLists.{all-both, all-pass, all-weaker}
-
--- ---- parts of lists
-
--- what holds of each holds of those from one on
-all-drop : {X : Type 0} (P : X → Type 0) (n : ℕ) (xs : List X) → AllByRecursion P xs → AllByRecursion P (drop n xs)
-all-drop P zero xs h = h
-all-drop P (suc n) [] h = tt
-all-drop P (suc n) (x ∷ xs) h = all-drop P n xs h.1
-
--- and of the first of them
-all-take : {X : Type 0} (P : X → Type 0) (n : ℕ) (xs : List X) → AllByRecursion P xs → AllByRecursion P (take n xs)
-all-take P zero xs h = tt
-all-take P (suc n) [] h = tt
-all-take P (suc n) (x ∷ xs) h = (h.0, all-take P n xs h.1)
-
--- what holds of what some stand for
-pub all-mapped : {X Y : Type 0} (f : X → Y) (P : Y → Type 0) (xs : List X) → AllByRecursion P (map f xs) → AllByRecursion (λ x. P (f x)) xs
-all-mapped f P [] h = tt
-all-mapped f P (x ∷ xs) h = (h.0, all-mapped f P xs h.1)
+use Rattle.codespan_reporting.proofs.SortedLists.{all-both, all-mapped, all-part, all-pass, all-weaker}
 
 -- ---- ids at their places
 
@@ -64,7 +45,7 @@ module _ {Id : Type 0} (file : Id → FileModel) where
       let of_file = all-mapped entry_of (λ e. is_of_file f e ≡ true) part (subst (AllByRecursion (λ e. is_of_file f e ≡ true)) (sym own) (all-pass (is_of_file f) ys)) in
       all-weaker (λ e. (is_of_file f (entry_of e) ≡ true) × IsOfFiles file ids e) (λ e. IsLineOf (file id) e.line)
       (λ e h. h.1 id (subst (λ k. IsAt ids k id) (sym (eqb-true e.file f h.0)) is_at))
-      part (all-both (λ e. is_of_file f (entry_of e) ≡ true) (IsOfFiles file ids) part of_file (all-take (IsOfFiles file ids) n (drop at xs) (all-drop (IsOfFiles file ids) at xs lines)))
+      part (all-both (λ e. is_of_file f (entry_of e) ≡ true) (IsOfFiles file ids) part of_file (all-part (IsOfFiles file ids) at n xs lines))
 
   module _ (refusal : Refusals Id) (es : List Entry) where
     -- the greatest digit count of the lines of these files, whose lookups were answered

@@ -9,6 +9,7 @@ use Rattle.std.proofs.lemmas.Bool.Decides.{nat_tests}
 use Rattle.std.proofs.lemmas.List.{map-append}
 use Rattle.std.proofs.lemmas.List.Sums.{sum_by-cons}
 use Rattle.std.proofs.lemmas.List.Folds.{list_any-append, list_any_at}
+use Rattle.std.proofs.Math.Bool.{and-false}
 use Rattle.codespan_base.specs.declared.diagnostic.Severity.{Severity}
 use Rattle.codespan_base.specs.declared.diagnostic.LabelStyle.{LabelStyle}
 use Rattle.codespan_base.specs.declared.term.config.chars.Chars.{Chars}
@@ -198,13 +199,9 @@ module _ (chars : Chars) (labels : List Labelled) where
           rw near (map-range_with_len (code_of (c ∷ cs)) (λ _. 32) column c.width
           (λ k low high.
           let later = no_later k high in
-          let none : ((c.column == k) && points c) ≡ false = rw fails (and_none (c.column == k)) in
+          let none : ((c.column == k) && points c) ≡ false = rw fails (and-false (c.column == k)) in
           simp (none, later))
           ∙ map-constant 32 column c.width)
-        where
-          and_none : (b : Bool) → (b && false) ≡ false
-          and_none true = refl
-          and_none false = refl
 
   -- the cells of the characters that begin near enough
   cells-codes : (near : ℕ → Bool) → ((q : ℕ) → near q ≡ true → q ≤ reach) → ((p q : ℕ) → near p ≡ false → p ≤ q → near q ≡ false)

@@ -1,8 +1,8 @@
 -- A label over several lines begins on an earlier line than it ends on, where its range does.
-use Rattle.std.proofs.Common.{◌≡◌, ℕ, zero, suc, ◌+◌, ◌-◌, ◌<◌, ◌≤◌, Bool, true, false, ◌⊎◌, inl, inr, ⊎_elim, cond, not, ◌&&◌, nat_le, nat_lt, List, [], ◌∷◌, filter, length, Some, slice_get, refl, sym, ap, ◌∙◌, arith}
+use Rattle.std.proofs.Common.{◌≡◌, ℕ, zero, suc, ◌+◌, ◌-◌, ◌<◌, ◌≤◌, Bool, true, false, ◌⊎◌, inl, inr, ⊎_elim, cond, not, nat_le, nat_lt, List, [], ◌∷◌, filter, length, Some, slice_get, refl, sym, ap, ◌∙◌, arith}
 use Rattle.std.specs.Prelude.{Contains}
 use Rattle.std.specs.List.{list_any}
-use Rattle.std.proofs.lemmas.Bool.{cases_lt, and_parts, false≢true}
+use Rattle.std.proofs.lemmas.Bool.{cases_lt, and_parts, false≢true, and_from}
 use Rattle.std.proofs.lemmas.Bool.Decides.{nat_tests}
 use Rattle.std.proofs.lemmas.List.Folds.{list_any_at}
 use Rattle.std.proofs.lemmas.List.Sums.{sum_by-le-sum_by, count_by-le-length}
@@ -59,14 +59,11 @@ pub line_of-below : (starts : List ℕ) (b : ℕ) → 0 < length starts → line
 unfolding line_of
 line_of-below starts b some = omega (arith, count_by-le-length (λ s. nat_le s b) starts)
 
-both : (b d : Bool) → b ≡ true → d ≡ true → (b && d) ≡ true
-both b d h k = simp (h, k)
-
 -- a label shows the line
 pub shown-by : (config : Config) (s : LabelledFile) (x : Labelled) (l : ℕ) → Contains s.labels x → l < line_count s.file
     → shows config (first_line s.file x) (last_line s.file x) l ≡ true → is_shown config s.file s.labels l ≡ true
 shown-by config s x l has low h =
-    both (nat_lt l (line_count s.file)) (list_any (λ y. shows config (first_line s.file y) (last_line s.file y) l) s.labels)
+    and_from (nat_lt l (line_count s.file)) (list_any (λ y. shows config (first_line s.file y) (last_line s.file y) l) s.labels)
     (grind (arith, nat_tests))
     (list_any_at (λ y. shows config (first_line s.file y) (last_line s.file y) l) s.labels has.0 x has.1
     (ap (λ y. shows config (first_line s.file y) (last_line s.file y) l) has.2 ∙ h))

@@ -1,20 +1,15 @@
 -- The first lookup that refuses, and what its refusal tells of a writer.
-use Rattle.std.proofs.Common.{◌≡◌, ◌≢◌, zero, suc, ◌<◌, List, [], ◌∷◌, ◌++◌, length, Option, None, Some, inl, inr, ⊎_elim, refl, sym, ap, ◌∙◌, arith}
+use Rattle.std.proofs.Common.{◌≡◌, ◌≢◌, zero, suc, ◌<◌, List, [], ◌∷◌, ◌++◌, length, Option, None, Some, inl, inr, refl, sym, ap, ◌∙◌, arith}
 use Rattle.codespan_base.specs.declared.files.error.Error.{Error}
 use Rattle.codespan_base.specs.declared.files.error.Error.TheVariants.{FileMissing, IndexTooLarge, LineTooLarge, ColumnTooLarge, InvalidCharBoundary, Io, FormatError, OutOfMemory}
 use Rattle.codespan_base.specs.FileModel.{Lookup, or_refusal}
 use Rattle.codespan_base.specs.WriterLaw.{Frame, refusing}
 use Rattle.codespan_reporting.specs.Renderers.{IsIo}
 use Rattle.codespan_reporting.specs.Lookups.{Refusals, first_refusal, AllAnswered, IsSomeRefused}
-use Rattle.codespan_reporting.specs.Headline.{Blames, IsTextRefusal}
+use Rattle.codespan_reporting.specs.Headline.{Blames}
 
 module _ {Id : Type 0} (refusal : Refusals Id) where
   -- ---- runs of lookups
-
-  -- a lookup that refuses, and others after it
-  refused_then : (o p : Option Error) (e : Error) → o ≡ Some e → or_refusal o p ≡ Some e
-  refused_then None p e h = cc
-  refused_then (Some x) p e h = h
 
   -- what refuses some lookups refuses them with more after them
   pub first_refusal-some : (ls ms : List (Id × Lookup)) (e : Error) → first_refusal refusal ls ≡ Some e → first_refusal refusal (ls ++ ms) ≡ Some e
@@ -75,14 +70,3 @@ module _ {Id : Type 0} (refusal : Refusals Id) where
   Blames-writer ls old new (LineTooLarge given max) same io = absurd io
   Blames-writer ls old new (ColumnTooLarge given max) same io = absurd io
   Blames-writer ls old new (InvalidCharBoundary given) same io = absurd io
-
-  -- of a writer that did not refuse, a refusal is one that a string call tells
-  pub IsTextRefusal-kept : (ls : List (Id × Lookup)) (old new : Frame) (e : Error) → (new ≡ refusing old → ⊥) → Blames refusal ls old e new → IsTextRefusal refusal ls e
-  IsTextRefusal-kept ls old new (Io cause) kept blame = ⊎_elim (λ h. absurd (kept h)) (λ h. h.1) blame
-  IsTextRefusal-kept ls old new OutOfMemory kept blame = tt
-  IsTextRefusal-kept ls old new FormatError kept blame = blame.1
-  IsTextRefusal-kept ls old new FileMissing kept blame = blame.1
-  IsTextRefusal-kept ls old new (IndexTooLarge given max) kept blame = blame.1
-  IsTextRefusal-kept ls old new (LineTooLarge given max) kept blame = blame.1
-  IsTextRefusal-kept ls old new (ColumnTooLarge given max) kept blame = blame.1
-  IsTextRefusal-kept ls old new (InvalidCharBoundary given) kept blame = blame.1

@@ -2,8 +2,8 @@
 use Rattle.std.proofs.Common.{◌≡◌, ℕ, zero, suc, ◌+◌, ◌-◌, ◌<◌, Bool, true, false, ◌||◌, List, [], ◌∷◌, ◌++◌, length, take, drop, get_or, map, filter, refl, sym, subst, ap, ◌∙◌, arith}
 use Rattle.std.specs.Prelude.{flat_map, nat_lt, if◌then◌else◌}
 use Rattle.std.specs.Cmp.{IsEquivalence}
-use Rattle.std.specs.List.{All, AllByRecursion}
-use Rattle.std.proofs.lemmas.Bool.{eqb-true, lt-ltb}
+use Rattle.std.specs.List.{All}
+use Rattle.std.proofs.lemmas.Bool.{lt-ltb}
 use Rattle.std.proofs.lemmas.Grind.{common_steps}
 use Rattle.std.proofs.lemmas.List.{get_or-map, length-drop}
 use Rattle.std.proofs.lemmas.List.Elements.{All-from_recursion, recursion_from_All}
@@ -11,7 +11,7 @@ use Rattle.codespan_base.specs.declared.term.config.Config.{Config}
 use Rattle.codespan_base.specs.FileModel.{FileModel, line_count}
 use Rattle.codespan_reporting.specs.declared.term.views.entry.Entry.{Entry as GivenEntry}
 use Rattle.codespan_reporting.specs.declared.term.views.sheet.Sheet.{Sheet}
-use Rattle.codespan_reporting.specs.Entries.{Entry, is_of_file}
+use Rattle.codespan_reporting.specs.Entries.{is_of_file}
 use Rattle.codespan_reporting.specs.GivenEntries.{IsLineOf, IsOfFiles, entry_of}
 use Rattle.codespan_reporting.specs.GivenSheets.{IsPrepared, is_followed, placed_snippet}
 use Rattle.codespan_reporting.specs.Lookups.{filled_lines, of_line}
@@ -22,20 +22,8 @@ use Rattle.codespan_reporting.specs.StepDrawing.{DoFit}
 use Rattle.codespan_reporting.specs.Steps.{Step, fills_of, lookups_of_steps, rows_of_steps, steps_of}
 use Rattle.codespan_reporting.proofs.EntryPicture.{snippet-rows, snippet-fills, snippet-fits}
 use Rattle.codespan_reporting.proofs.FilePlaces.{at-get}
-use Rattle.codespan_reporting.proofs.LabelsGathered.{all_both, all_given}
+use Rattle.codespan_reporting.proofs.PlacedPadding.{part-lines}
 use Rattle.codespan_reporting.proofs.SheetDrawing.{lanes-count}
-use Rattle.codespan_reporting.proofs.SortedLists.{all-pass}
-
--- what holds of each element holds of each of some
-all-dropped : {X : Type 0} (P : X → Type 0) (n : ℕ) (xs : List X) → AllByRecursion P xs → AllByRecursion P (drop n xs)
-all-dropped P zero xs h = h
-all-dropped P (suc n) [] h = tt
-all-dropped P (suc n) (x ∷ xs) h = all-dropped P n xs h.1
-
-all-taken : {X : Type 0} (P : X → Type 0) (n : ℕ) (xs : List X) → AllByRecursion P xs → AllByRecursion P (take n xs)
-all-taken P zero xs h = tt
-all-taken P (suc n) [] h = tt
-all-taken P (suc n) (x ∷ xs) h = (h.0, all-taken P n xs h.1)
 
 -- a snippet is followed by another one, or by notes
 followed-is : {X : Type 0} (has_notes : Bool) (ys : List X) → is_followed has_notes ys ≡ (has_notes || nat_lt 0 (length ys))
@@ -88,15 +76,10 @@ module _ {Id : Type 0} (same : Id → Id → Bool) (file : Id → FileModel) (o 
     -- its entries are of its lines
     pub lines-at : All (λ e. IsLineOf (file id) e.line) part
     lines-at =
-        let of_files : AllByRecursion (IsOfFiles file sheet.ids.items) part =
-        subst (λ (es : List GivenEntry). AllByRecursion (IsOfFiles file sheet.ids.items) es) (sym is)
-        (all-taken _ len (drop start sheet.entries.items) (all-dropped _ start sheet.entries.items (recursion_from_All (IsOfFiles file sheet.ids.items) sheet.entries.items prepared.lines))) in
-        let here : AllByRecursion (λ (e : GivenEntry). is_of_file k (entry_of e) ≡ true) part =
-        all_given (λ (e : Entry). is_of_file k e ≡ true) entry_of part
-        (subst (λ (es : List Entry). AllByRecursion (λ (e : Entry). is_of_file k e ≡ true) es) (sym own) (all-pass (is_of_file k) (map entry_of sheet.entries.items))) in
-        All-from_recursion (λ e. IsLineOf (file id) e.line) part
-        (all_both (IsOfFiles file sheet.ids.items) (λ e. is_of_file k (entry_of e) ≡ true) (λ e. IsLineOf (file id) e.line)
-        (λ e of_file there. of_file id (subst (λ n. IsAt sheet.ids.items n id) (sym (eqb-true e.file k there)) place-is)) part of_files here)
+        subst (λ (es : List GivenEntry). All (λ e. IsLineOf (file id) e.line) es) (sym is)
+        (All-from_recursion (λ e. IsLineOf (file id) e.line) (take len (drop start sheet.entries.items))
+        (part-lines file sheet.ids.items sheet.entries.items start len k id (map entry_of sheet.entries.items) place-is
+        (recursion_from_All (IsOfFiles file sheet.ids.items) sheet.entries.items prepared.lines) (ap (map entry_of) (sym is) ∙ own)))
 
     -- its steps
     abbrev steps : List Step

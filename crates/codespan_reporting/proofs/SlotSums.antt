@@ -360,10 +360,6 @@ rich_sum k config heading ss notes =
 
 -- ---- each label is of one file
 
-not_true : (b : Bool) → (b ≡ true → ⊥) → b ≡ false
-not_true true h = absurd (h refl)
-not_true false h = refl
-
 module _ {Id : Type 0} (same : Id → Id → Bool) (law : IsEquivalence same) where
   once_seen : (v : ℕ) (z : Id) (ids : List Id) → sum_by (λ id. cond (same id z) v 0) (first_seen same ids) ≡ cond (list_any (λ id. same id z) ids) v 0
   once_seen v z [] = refl

@@ -1,5 +1,5 @@
 -- Lists in order: what a filter keeps of a list that was sorted.
-use Rattle.std.proofs.Common.{◌≡◌, ℕ, zero, suc, ◌+◌, Bool, true, false, ◌&&◌, ◌||◌, cond, List, [], ◌∷◌, ◌++◌, length, map, filter, reverse, ◌⊎◌, inl, inr, ⊎_elim, refl, sym, ap, subst, ◌∙◌, arith, true≢false}
+use Rattle.std.proofs.Common.{◌≡◌, ℕ, zero, suc, ◌+◌, Bool, true, false, ◌&&◌, ◌||◌, cond, List, [], ◌∷◌, ◌++◌, length, take, drop, map, filter, reverse, ◌⊎◌, inl, inr, ⊎_elim, refl, sym, ap, subst, ◌∙◌, arith, true≢false}
 use Rattle.std.specs.Cmp.{IsStrictWeakOrder}
 use Rattle.std.specs.List.{AllByRecursion, AllPairs, list_any, sum_by}
 use Rattle.std.specs.List.Sorted.{IsSortedBy, IsPermutation}
@@ -31,6 +31,27 @@ all-append P (x ∷ xs) ys h k = (h.0, all-append P xs ys h.1 k)
 pub all-both : {X : Type 0} (P Q : X → Type 0) (xs : List X) → AllByRecursion P xs → AllByRecursion Q xs → AllByRecursion (λ x. P x × Q x) xs
 all-both P Q [] h k = tt
 all-both P Q (x ∷ xs) h k = ((h.0, k.0), all-both P Q xs h.1 k.1)
+
+-- it holds of those from one on
+all-drop : {X : Type 0} (P : X → Type 0) (n : ℕ) (xs : List X) → AllByRecursion P xs → AllByRecursion P (drop n xs)
+all-drop P zero xs h = h
+all-drop P (suc n) [] h = tt
+all-drop P (suc n) (x ∷ xs) h = all-drop P n xs h.1
+
+-- and of the first of them
+all-take : {X : Type 0} (P : X → Type 0) (n : ℕ) (xs : List X) → AllByRecursion P xs → AllByRecursion P (take n xs)
+all-take P zero xs h = tt
+all-take P (suc n) [] h = tt
+all-take P (suc n) (x ∷ xs) h = (h.0, all-take P n xs h.1)
+
+-- and of a part of them
+pub all-part : {X : Type 0} (P : X → Type 0) (at n : ℕ) (xs : List X) → AllByRecursion P xs → AllByRecursion P (take n (drop at xs))
+all-part P at n xs h = all-take P n (drop at xs) (all-drop P at xs h)
+
+-- what holds of what elements give holds of these by what they give
+pub all-mapped : {X Y : Type 0} (f : X → Y) (P : Y → Type 0) (xs : List X) → AllByRecursion P (map f xs) → AllByRecursion (λ x. P (f x)) xs
+all-mapped f P [] h = tt
+all-mapped f P (x ∷ xs) h = (h.0, all-mapped f P xs h.1)
 
 -- what a filter keeps passes its test
 pub all-pass : {X : Type 0} (p : X → Bool) (xs : List X) → AllByRecursion (λ x. p x ≡ true) (filter p xs)

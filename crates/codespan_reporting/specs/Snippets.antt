@@ -92,10 +92,14 @@ locus_start labels = least (map (λ (x : Labelled). x.start) (if_any (filter is_
 abbrev pub place_of : LabelledFile → Place
 place_of s = record { name = name_text s.file; location = s.file.location (locus_start s.labels) }
 
+-- the rows of a file's snippet that starts with this place
+abbrev pub snippet_at : Config → Place → LabelledFile → List Row
+snippet_at config place s =
+    (StartRow place ∷ EmptyRow (bare_lanes s) ∷ []) ++ rows_after s None (drawn_lines config s.file s.labels)
+
 -- the rows of a file's snippet
 abbrev pub snippet : Config → LabelledFile → List Row
-snippet config s =
-    (StartRow (place_of s) ∷ EmptyRow (bare_lanes s) ∷ []) ++ rows_after s None (drawn_lines config s.file s.labels)
+snippet config s = snippet_at config (place_of s) s
 
 -- ---- the rows of all files
 

@@ -1,14 +1,13 @@
 -- A file whose line numbers are set is lawful.
-use Rattle.std.proofs.Common.{◌≡◌, ℕ, suc, ◌+◌, ◌-◌, ◌<◌, ◌≤◌, ◌⊎◌, ⊎_elim, inl, inr, List, [], ◌∷◌, length, get_or, map, ◌∙◌, arith, Option, None}
+use Rattle.std.proofs.Common.{◌≡◌, ℕ, suc, ◌+◌, ◌-◌, ◌<◌, ◌≤◌, inl, inr, List, [], ◌∷◌, length, get_or, map, ◌∙◌, arith, Option, None}
 use Rattle.std.specs.Str.{IsUtf8, IsCharBoundary}
-use Rattle.std.proofs.lemmas.Bool.{cases_lt}
 use Rattle.std.proofs.lemmas.Str.{IsCharBoundary-before_ascii, IsCharBoundary-end}
 use Rattle.std.proofs.lemmas.List.{get_or_append_left, get_or_push, get_or-map, length-append, length-map}
 use Rattle.codespan_base.specs.Lines.{line_starts_of, starts_after}
 use Rattle.codespan_base.specs.Lemmas.Lines.{cuts}
 use Rattle.codespan_base.specs.FileModel.{IsLawful, RefusesPastEnd}
 use Rattle.codespan_base.specs.FileModel.Lookup.{LineRange}
-use Rattle.codespan_base.specs.Lemmas.Simple.{simple_lawful, simple_past_end}
+use Rattle.codespan_base.specs.Lemmas.Simple.{last_or_not, simple_lawful, simple_past_end}
 use Rattle.codespan_base.specs.MappedModel.{mapped_file, mapped_ends, mapped_refusal}
 
 -- a line before the last ends before the newline that the next one starts after
@@ -36,10 +35,6 @@ newline_before text i h =
     let e : i + 1 ≡ suc i = omega arith in
     let c = cuts 0 text in
     rw e (omega (arith, c.above i (omega arith), c.within i (omega arith)), c.newline i (omega arith))
-
--- a line is the last, or another one comes after it
-last_or_not : (text : List ℕ) (i : ℕ) → i < length (line_starts_of text) → (i + 1 < length (line_starts_of text)) ⊎ (i + 1 ≡ length (line_starts_of text))
-last_or_not text i h = ⊎_elim inl (λ p. inr (omega arith)) (cases_lt (i + 1) (length (line_starts_of text)))
 
 -- a line ends at a character boundary
 end_cut : (text : List ℕ) → IsUtf8 text → (i : ℕ) → i < length (line_starts_of text) → IsCharBoundary text (get_or (mapped_ends text) i 0)

@@ -53,7 +53,7 @@ pub end_of_last : (text : List ℕ) (i : ℕ) → i + 1 ≡ length (line_starts_
 end_of_last text i h = get_or_push (starts_after 0 text) (length text) 0 i (omega arith)
 
 -- a line is the last, or another one comes after it
-last_or_not : (text : List ℕ) (i : ℕ) → i < length (line_starts_of text) → (i + 1 < length (line_starts_of text)) ⊎ (i + 1 ≡ length (line_starts_of text))
+pub last_or_not : (text : List ℕ) (i : ℕ) → i < length (line_starts_of text) → (i + 1 < length (line_starts_of text)) ⊎ (i + 1 ≡ length (line_starts_of text))
 last_or_not text i h = ⊎_elim inl (λ p. inr (omega arith)) (cases_lt (i + 1) (length (line_starts_of text)))
 
 -- a line ends at a character boundary

@@ -11,7 +11,7 @@ mod small_lanes;
 mod small_pictures;
 
 use crate::diagnostic::{Diagnostic, Label, Severity};
-use crate::files::{Error, Files, SimpleFile, SimpleFiles};
+use crate::files::{Error, SimpleFile};
 use crate::term::{Chars, Config, DisplayStyle, emit_into_string};
 use listing::{Listing, Refused};
 use std::alloc::Global;

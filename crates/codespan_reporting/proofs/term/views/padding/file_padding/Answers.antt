@@ -2,7 +2,8 @@ use Rattle.std.proofs.Common.{◌+◌, get_or, max, map, drop, sym, ap, ◌∙�
 use Rattle.std.proofs.lemmas.List.Elements.{All-from_recursion}
 use Rattle.codespan_reporting.specs.GivenEntries.{IsLineOf, entry_of}
 use Rattle.codespan_reporting.specs.Padding.{digit_count}
-use Rattle.codespan_reporting.proofs.DrawnPadding.{IsPaddedUpTo, left-after, left-first, no_entry, padded-hidden, padded-shown, rest_left}
+use Rattle.codespan_reporting.proofs.DrawnPadding.{IsPaddedUpTo, left-after, left-first, padded-hidden, padded-shown, rest_left}
+use Rattle.codespan_reporting.proofs.FileParts.{no_entry}
 use Rattle.codespan_reporting.proofs.term.views.padding.file_padding.Goals.{then-shows+in_ok-filled, else-shows}
 use Rattle.codespan_reporting.proofs.term.views.padding.file_padding.Goals as goal
 
