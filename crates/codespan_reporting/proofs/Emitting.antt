@@ -32,7 +32,7 @@ module _ {Id : Type 0} (config : Config) (same : Id → Id → Bool) (file : Id 
   -- a rich picture that was drawn to a plain writer is what that writer holds
   pub drawn_text : (view renderer : Config) (e : Diagnostic Id) (old new : Sink) (bytes : List ℕ) → view ≡ config → renderer ≡ config → e ≡ d
       → DrawsRich view renderer same file refusal e old (Ok tt) new → old ≡ fresh_sink no_marks (Some []) → new.held ≡ Some bytes
-      → config.display_style ≡ Rich → MeansLabels config same file d → IsDrawn config same file refusal d bytes
+      → config.display_style ≡ Rich → MeansLabels config config same file d → IsDrawn config same file refusal d bytes
   drawn_text view renderer e old new bytes by with of draws fresh held style means =
       let same_draws : DrawsRich config config same file refusal d old (Ok tt) new =
       subst (λ (x : Diagnostic Id). DrawsRich config config same file refusal x old (Ok tt) new) of

@@ -153,6 +153,22 @@ whole_later layout lane line xs ys gaps r = record {
   gaps_after = r.gaps_after;
 }
 
+pub whole_before : (layout : Layout) (lane : ℕ) (line : Line) (xs ys : List Row) → Whole layout lane line xs → AllByRecursion (Shows layout lane Gap) ys → Whole layout lane line (xs ++ ys)
+whole_before layout lane line xs ys r gaps = record {
+  before = r.before;
+  top = r.top;
+  middle = r.middle;
+  bottom = r.bottom;
+  after = r.after ++ ys;
+  rows_are = ap (λ t. t ++ ys) r.rows_are ∙ append_assoc r.before (r.top ∷ (r.middle ++ (r.bottom ∷ r.after))) ys
+      ∙ ap (λ t. r.before ++ (r.top ∷ t)) (append_assoc r.middle (r.bottom ∷ r.after) ys);
+  gaps_before = r.gaps_before;
+  turns = r.turns;
+  goes_on = r.goes_on;
+  turns_back = r.turns_back;
+  gaps_after = all-append (Shows layout lane Gap) r.after ys r.gaps_after gaps;
+}
+
 pub whole_joined : (layout : Layout) (lane : ℕ) (line : Line) (xs ys : List Row) → Begins layout lane line xs → Finishes layout lane ys → Whole layout lane line (xs ++ ys)
 whole_joined layout lane line xs ys b r = record {
   before = b.before;

@@ -13,11 +13,11 @@ use Rattle.codespan_reporting.specs.Lanes.{plain_shape, mark_in}
 use Rattle.codespan_reporting.specs.Lines.{is_shown, is_drawn, drawn_lines, is_broken}
 use Rattle.codespan_reporting.specs.Rows.{Row, BreakRow, StartRow, EmptyRow, rows_of}
 use Rattle.codespan_reporting.specs.Snippets.{LabelledFile, line_at, break_rows, rows_after, snippet, place_of, bare_lanes}
-use Rattle.codespan_reporting.specs.LaneLaws.{shape_of, HasLane, LanesAreLines}
+use Rattle.codespan_reporting.specs.LaneLaws.{shape_of, HasLane, LanesAreLines, rows_with_lanes}
 use Rattle.codespan_reporting.specs.Headline.{StartsBeforeEnds}
 use Rattle.codespan_reporting.proofs.BarLemmas.{marks_from, mark_in-from}
 use Rattle.codespan_reporting.proofs.RangeLemmas.{kept, has_lane-ordered, line_of-below, shown-by, shows-first, shows-last}
-use Rattle.codespan_reporting.proofs.LaneLineLemmas.{Shows, Begins, Finishes, Whole, finishes_later, finishes_before, whole_later, whole_joined, one_line}
+use Rattle.codespan_reporting.proofs.LaneLineLemmas.{Shows, Begins, Finishes, Whole, finishes_later, finishes_before, whole_before, whole_later, whole_joined, one_line}
 use Rattle.codespan_reporting.proofs.LaneLineRows.{mark_with, Split, no_mark, left_mark, bottom_mark, top_mark}
 use Rattle.codespan_reporting.proofs.SortedLists.{all-append, all-weaker}
 
@@ -267,19 +267,28 @@ some_line starts a b h = omega (arith, count_by-le-length (λ s. nat_le s b) sta
 shown_is_drawn : (b d : Bool) → b ≡ true → (b || d) ≡ true
 shown_is_drawn b d h = simp h
 
-pub lanes_are_lines : (config : Config) (s : LabelledFile) → StartsBeforeEnds s.labels → LanesAreLines config s
-lanes_are_lines config s ordered = λ lane x has.
+pub lanes_are_lines : (config : Config) (layout : Layout) (s : LabelledFile) → StartsBeforeEnds s.labels → LanesAreLines config layout s
+lanes_are_lines config layout s ordered = λ is_followed lane x has.
     let several = has_lane-ordered s lane x ordered has in
     let inside = (kept (λ x. not (is_single s.file x)) s.labels lane x has).0 in
     let some : 0 < line_count s.file = some_line s.file.starts x.start x.end several in
     let low = line_of-below s.file.starts x.start some in
     let high = line_of-below s.file.starts x.end some in
-    one_line config.layout s (snippet config s) lane x
-    (whole_later config.layout lane (line_at s (first_line s.file x)) (StartRow (place_of s) ∷ EmptyRow (bare_lanes s) ∷ []) (rows_after s None (drawn_lines config s.file s.labels))
+    one_line layout s (rows_with_lanes config s is_followed) lane x
+    (whole_before layout lane (line_at s (first_line s.file x)) (snippet config s) (end_rows is_followed)
+    (whole_later layout lane (line_at s (first_line s.file x)) (StartRow (place_of s) ∷ EmptyRow (bare_lanes s) ∷ []) (rows_after s None (drawn_lines config s.file s.labels))
     (refl, (refl, tt))
-    (whole_from config.layout s lane x has several (is_drawn config s.file s.labels) None 0 (line_count s.file) (omega arith) (omega arith)
+    (whole_from layout s lane x has several (is_drawn config s.file s.labels) None 0 (line_count s.file) (omega arith) (omega arith)
     (drawn (first_line s.file x) (shown-by config s x (first_line s.file x) inside low (shows-first config (first_line s.file x) (last_line s.file x))))
     (drawn (last_line s.file x) (shown-by config s x (last_line s.file x) inside high (shows-last config (first_line s.file x) (last_line s.file x))))))
+    (ended lane is_followed))
   where
+    end_rows : Bool → List Row
+    end_rows is_followed = if is_followed then EmptyRow (bare_lanes s) ∷ [] else []
+
+    ended : (lane : ℕ) (is_followed : Bool) → AllByRecursion (Shows layout lane Gap) (end_rows is_followed)
+    ended lane true = (refl, tt)
+    ended lane false = tt
+
     drawn : (l : ℕ) → is_shown config s.file s.labels l ≡ true → is_drawn config s.file s.labels l ≡ true
     drawn l h = shown_is_drawn (is_shown config s.file s.labels l) (nat_lt 0 l && is_shown config s.file s.labels (l - 1) && is_shown config s.file s.labels (l + 1)) h

@@ -27,23 +27,23 @@ unfolding caret_row
 carets_are_cells look = λ line. simp (text_of-append, text_of-line_carets)
 
 -- the snippet of a file means the labels of the file
-pub snippet_means_labels : (config : Config) (look : Look) (s : LabelledFile) → SnippetMeansLabels config look s
-snippet_means_labels config look s = record {
-  drawn = drawing_of_shown config s;
-  breaks = breaks.breaks_are_gaps config s (drawing_of_shown config s);
-  few = bounds.source_rows_few config s;
+pub snippet_means_labels : (view : Config) (look : Look) (s : LabelledFile) → SnippetMeansLabels view look s
+snippet_means_labels view look s = record {
+  drawn = drawing_of_shown view s;
+  breaks = breaks.breaks_are_gaps view s (drawing_of_shown view s);
+  few = bounds.source_rows_few view s;
   pointers = λ l wide. pointers.pointers_are_cells look (line_at s l) wide;
-  bars = λ ordered. ranges.bars_are_labels config.layout s ordered;
-  covered = λ ordered. ranges.breaks_are_covered config s ordered;
-  lanes = λ ordered. runs.lanes_are_lines config s ordered;
+  bars = λ ordered. ranges.bars_are_labels look.layout s ordered;
+  covered = λ ordered. ranges.breaks_are_covered view look.layout s ordered;
+  lanes = λ ordered. runs.lanes_are_lines view look.layout s ordered;
 }
 
 -- the picture means the labels of the diagnostic
-pub picture_means_labels : {Id : Type 0} (config : Config) (same : Id → Id → Bool) (file : Id → FileModel) (d : Diagnostic Id)
-    → IsEquivalence same → ((id : Id) → 0 < line_count (file id)) → MeansLabels config same file d
-picture_means_labels config same file d equal some_line = record {
-  each_file = λ s inside. snippet_means_labels config _ s;
+pub picture_means_labels : {Id : Type 0} (renderer view : Config) (same : Id → Id → Bool) (file : Id → FileModel) (d : Diagnostic Id)
+    → IsEquivalence same → ((id : Id) → 0 < line_count (file id)) → MeansLabels renderer view same file d
+picture_means_labels renderer view same file d equal some_line = record {
+  each_file = λ s inside. snippet_means_labels view _ s;
   carets = carets_are_cells;
-  messages = messages.messages_stand_once config same file d equal some_line;
-  room = padding.padding_has_room config (files_of same file d);
+  messages = messages.messages_stand_once renderer view same file d equal some_line;
+  room = padding.padding_has_room view (files_of same file d);
 }

@@ -15,7 +15,7 @@ use Rattle.codespan_reporting.specs.Lines.{drawn_lines}
 use Rattle.codespan_reporting.specs.Rows.{Heading, Look, StartRow, EmptyRow}
 use Rattle.codespan_reporting.specs.RowStreams.{stream_of_rows}
 use Rattle.codespan_reporting.specs.Snippets.{LabelledFile, InFile, labelled_file, labelled_files, bare_lanes, place_of, rows_after, snippet, rich_rows}
-use Rattle.codespan_reporting.specs.Picture.{look_of, rich_picture, label_of, labels_of, heading_of, notes_of}
+use Rattle.codespan_reporting.specs.Picture.{look_of, rich_stream, label_of, labels_of, heading_of, notes_of}
 use Rattle.codespan_reporting.specs.Padding.{padding_of}
 use Rattle.codespan_reporting.specs.MessageLaws.{slotted, all_slotted, message_of, message_text, slotted_picture, MessagesStandOnceWhereLawful}
 use Rattle.codespan_reporting.proofs.Texts.{text_of-bytes}
@@ -135,22 +135,22 @@ refilled {Id = Id} φ k n (x ∷ xs) h =
     ap₂ {C = List (InFile Id)} (λ (s : Stream) ys. record { id = x.id; label = record x.label { message = s } } ∷ ys) (h 0 n x (omega arith) refl)
     (refilled φ k (n + 1) xs (λ j i y e at. h (suc j) i y (omega arith) at))
 
-filled_picture : {Id : Type 0} (config : Config) (same : Id → Id → Bool) (file : Id → FileModel) (severity : Severity) (heading : Heading) (notes : List (List ℕ)) (xs : List (InFile Id))
+filled_picture : {Id : Type 0} (renderer view : Config) (same : Id → Id → Bool) (file : Id → FileModel) (severity : Severity) (heading : Heading) (notes : List (List ℕ)) (xs : List (InFile Id))
     → IsPlain xs
-    → fill (message_text xs) (rich_picture config severity heading (labelled_files same file (all_slotted xs)) notes)
-    ≡ rich_picture config severity heading (labelled_files same file xs) notes
-filled_picture {Id = Id} config same file severity heading notes xs plain =
-    fill_same (message_text xs) (full_text xs) (rich_picture config severity heading ss notes) (λ k some. by_text k (message_text xs k) refl some)
-    ∙ fill-rows (full_text xs) (full xs) look (rich_rows config heading ss notes)
-    ∙ ap (stream_of_rows look) (rich-re φ kept config heading ss notes)
-    ∙ ap (λ n. stream_of_rows (look_of config severity n) (rich_rows config heading (map (re_file φ) ss) notes)) (sym (padding-re φ kept config ss))
-    ∙ ap (λ ts. rich_picture config severity heading ts notes) (sym (files-re φ kept same file (all_slotted xs)) ∙ ap (labelled_files same file) whole)
+    → fill (message_text xs) (rich_stream renderer view severity heading (labelled_files same file (all_slotted xs)) notes)
+    ≡ rich_stream renderer view severity heading (labelled_files same file xs) notes
+filled_picture {Id = Id} renderer view same file severity heading notes xs plain =
+    fill_same (message_text xs) (full_text xs) (rich_stream renderer view severity heading ss notes) (λ k some. by_text k (message_text xs k) refl some)
+    ∙ fill-rows (full_text xs) (full xs) look (rich_rows view heading ss notes)
+    ∙ ap (stream_of_rows look) (rich-re φ kept view heading ss notes)
+    ∙ ap (λ n. stream_of_rows (look_of renderer severity n) (rich_rows view heading (map (re_file φ) ss) notes)) (sym (padding-re φ kept view ss))
+    ∙ ap (λ ts. rich_stream renderer view severity heading ts notes) (sym (files-re φ kept same file (all_slotted xs)) ∙ ap (labelled_files same file) whole)
   where
     ss : List LabelledFile
     ss = labelled_files same file (all_slotted xs)
 
     look : Look
-    look = look_of config severity (padding_of config ss)
+    look = look_of renderer severity (padding_of view ss)
 
     φ : Stream → Stream
     φ = fill (full_text xs)
@@ -167,20 +167,20 @@ filled_picture {Id = Id} config same file severity heading notes xs plain =
         zero_plus : (j : ℕ) → 0 + j ≡ j
         zero_plus j = omega arith
 
-    by_text : (k : ℕ) (t : List ℕ) → message_text xs k ≡ t → 0 < slots k (rich_picture config severity heading ss notes) → message_text xs k ≡ full_text xs k
+    by_text : (k : ℕ) (t : List ℕ) → message_text xs k ≡ t → 0 < slots k (rich_stream renderer view severity heading ss notes) → message_text xs k ≡ full_text xs k
     by_text k [] e some =
         absurd (omega (
           arith,
           some,
-          slots-rows k look (rich_rows config heading ss notes),
-          rich_sum k config heading ss notes,
-          files_zero k config same file (all_slotted xs) (unnamed xs plain k e),
+          slots-rows k look (rich_rows view heading ss notes),
+          rich_sum k view heading ss notes,
+          files_zero k view same file (all_slotted xs) (unnamed xs plain k e),
         ))
     by_text k (b ∷ bs) e some = e ∙ ap nonempty (sym e)
 
-pub messages_stand_once : {Id : Type 0} (config : Config) (same : Id → Id → Bool) (file : Id → FileModel) (d : Diagnostic Id) → MessagesStandOnceWhereLawful config same file d
-messages_stand_once {Id = Id} config same file d equal some_line = record {
-  once = each_once (look_of config d.severity (padding_of config (labelled_files same file (all_slotted (labels_of d))))) config same file (heading_of d) (notes_of d) (labels_of d) equal some_line;
-  text = ap text_of (fill-is (message_text (labels_of d)) (slotted_picture config same file d)
-      ∙ filled_picture config same file d.severity (heading_of d) (notes_of d) (labels_of d) (plain d));
+pub messages_stand_once : {Id : Type 0} (renderer view : Config) (same : Id → Id → Bool) (file : Id → FileModel) (d : Diagnostic Id) → MessagesStandOnceWhereLawful renderer view same file d
+messages_stand_once {Id = Id} renderer view same file d equal some_line = record {
+  once = each_once (look_of renderer d.severity (padding_of view (labelled_files same file (all_slotted (labels_of d))))) view same file (heading_of d) (notes_of d) (labels_of d) equal some_line;
+  whole = fill-is (message_text (labels_of d)) (slotted_picture renderer view same file d)
+      ∙ filled_picture renderer view same file d.severity (heading_of d) (notes_of d) (labels_of d) (plain d);
 }

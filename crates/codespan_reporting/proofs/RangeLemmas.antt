@@ -80,8 +80,8 @@ not_between : (config : Config) (s : LabelledFile) (c d l : ℕ) → ((k : ℕ) 
 not_between config s c d l none here =
     ⊎_elim (λ after. ⊎_elim (λ before. absurd (false≢true (sym (none l after before) ∙ here))) inr (cases_lt l d)) inl (cases_lt c l)
 
-pub breaks_are_covered : (config : Config) (s : LabelledFile) → StartsBeforeEnds s.labels → BreaksAreCovered config s
-breaks_are_covered config s ordered = λ c d lane x shown_c shown_d apart none has.
+pub breaks_are_covered : (config : Config) (layout : Layout) (s : LabelledFile) → StartsBeforeEnds s.labels → BreaksAreCovered config layout s
+breaks_are_covered config layout s ordered = λ c d lane x shown_c shown_d apart none has.
     let inside = (kept (λ x. not (is_single s.file x)) s.labels lane x has).0 in
     let several = has_lane-ordered s lane x ordered has in
     let some : 0 < line_count s.file = (let low = shown-low config s c shown_c in omega arith) in
@@ -89,7 +89,7 @@ breaks_are_covered config s ordered = λ c d lane x shown_c shown_d apart none h
     (shown-by config s x (first_line s.file x) inside (line_of-below s.file.starts x.start some) (shows-first config (first_line s.file x) (last_line s.file x))) in
     let last = not_between config s c d (last_line s.file x) none
     (shown-by config s x (last_line s.file x) inside (line_of-below s.file.starts x.end some) (shows-last config (first_line s.file x) (last_line s.file x))) in
-    let bar = (bars_are_labels config.layout s ordered d lane x has).1 in (
+    let bar = (bars_are_labels layout s ordered d lane x has).1 in (
       λ is l after before.
           let over = bar.0 is in
           let early : first_line s.file x ≤ c = ⊎_elim (λ h. h) (λ h. absurd (omega (arith, over.0))) first in

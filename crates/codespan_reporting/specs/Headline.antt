@@ -27,23 +27,23 @@ use Rattle.codespan_reporting.specs.PaddingLaws.{PaddingHasRoom}
 abbrev pub StartsBeforeEnds : List Labelled → Type 0
 StartsBeforeEnds labels = (x : Labelled) → Contains labels x → x.start ≤ x.end
 
--- what the snippet of one file means
-pub record SnippetMeansLabels (config : Config) (look : Look) (s : LabelledFile) : Type 0 where
-  pub drawn : DrawingOfShown config s
-  pub breaks : BreaksAreGaps config s
-  pub few : SourceRowsAreFew config s
+-- what the snippet of one file means: the view's config chooses its lines, and the look is that of the renderer
+pub record SnippetMeansLabels (view : Config) (look : Look) (s : LabelledFile) : Type 0 where
+  pub drawn : DrawingOfShown view s
+  pub breaks : BreaksAreGaps view s
+  pub few : SourceRowsAreFew view s
   pub pointers : (l : ℕ) → StartsInWide (line_at s l).labels (line_cells look (line_at s l)) → PointersAreCells look (line_at s l)
-  pub bars : StartsBeforeEnds s.labels → BarsAreLabels config.layout s
-  pub covered : StartsBeforeEnds s.labels → BreaksAreCovered config s
-  pub lanes : StartsBeforeEnds s.labels → LanesAreLines config s
+  pub bars : StartsBeforeEnds s.labels → BarsAreLabels look.layout s
+  pub covered : StartsBeforeEnds s.labels → BreaksAreCovered view look.layout s
+  pub lanes : StartsBeforeEnds s.labels → LanesAreLines view look.layout s
 
--- what a rich picture means
-pub record MeansLabels {Id : Type 0} (config : Config) (same : Id → Id → Bool) (file : Id → FileModel) (d : Diagnostic Id) : Type 0 where
+-- what a rich picture means that a view draws to a renderer
+pub record MeansLabels {Id : Type 0} (renderer view : Config) (same : Id → Id → Bool) (file : Id → FileModel) (d : Diagnostic Id) : Type 0 where
   pub each_file : (s : LabelledFile) → Contains (files_of same file d) s
-      → SnippetMeansLabels config (look_of config d.severity (padding_of config (files_of same file d))) s
+      → SnippetMeansLabels view (look_of renderer d.severity (padding_of view (files_of same file d))) s
   pub carets : (look : Look) → CaretsAreCells look
-  pub messages : MessagesStandOnce config same file d
-  pub room : PaddingHasRoom config (files_of same file d)
+  pub messages : MessagesStandOnce renderer view same file d
+  pub room : PaddingHasRoom view (files_of same file d)
 
 -- ---- what a call draws
 
@@ -103,7 +103,7 @@ module _ {Id : Type 0} (config : Config) (same : Id → Id → Bool) (file : Id 
   pub record IsDrawn (text : List ℕ) : Type 0 where
     pub answered : AllAnswered refusal lookups
     pub is : NamesAreStated file d → text ≡ text_of (picture config same file d)
-    pub meaning : config.display_style ≡ Rich → MeansLabels config same file d
+    pub meaning : config.display_style ≡ Rich → MeansLabels config config same file d
 
   -- what the calls that answer a string do
   abbrev pub DrawsText : {T : Type 0} → (T → List ℕ) → Result T Error → Type 0
@@ -118,4 +118,4 @@ module _ {Id : Type 0} (config : Config) (same : Id → Id → Bool) (file : Id 
     pub early : config.display_style ≡ Rich → IsSomeRefused refusal (early_lookups config same file refusal (labels_of d)) → new ≡ old
     pub headers : config.display_style ≢ Rich → NamesAreStated file d → is_told old ≡ true
         → MatchResult r (λ _. Unit {0}) (λ e. IsOfFile e → new ≡ sent old (headers_before_refusal config file refusal d))
-    pub meaning : config.display_style ≡ Rich → MeansLabels config same file d
+    pub meaning : config.display_style ≡ Rich → MeansLabels config config same file d

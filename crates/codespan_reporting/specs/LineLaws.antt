@@ -2,6 +2,7 @@
 use Rattle.std.specs.Prelude.{◌≡◌, ℕ, ◌+◌, ◌<◌, ◌≤◌, ◌↔◌, Bool, false, nat_le, List, ◌∷◌, map, filter, filter_map, Option, Some, None, if◌then◌else◌, IsTrue, ◌*◌, true, sum_by, count_by, []}
 use Rattle.std.specs.List.{range_with_len}
 use Rattle.codespan_base.specs.declared.term.config.Config.{Config}
+use Rattle.codespan_base.specs.declared.term.config.Layout.{Layout}
 use Rattle.codespan_base.specs.FileModel.{line_count}
 use Rattle.codespan_base.specs.Labels.{Labelled}
 use Rattle.codespan_reporting.specs.declared.term.renderer.lanes.Shape.TheVariants.{Bar}
@@ -38,11 +39,11 @@ BreaksAreGaps config s =
     filter_map broken_line (snippet config s) ≡ map (λ l. (line_at s l).lanes) (broken_before (shown_lines config s))
 
 -- the bars of a break row are those of the labels that cover every line that is left out
-abbrev pub BreaksAreCovered : Config → LabelledFile → Type 0
-BreaksAreCovered config s = (c d lane : ℕ) (x : Labelled)
+abbrev pub BreaksAreCovered : Config → Layout → LabelledFile → Type 0
+BreaksAreCovered config layout s = (c d lane : ℕ) (x : Labelled)
     → IsTrue (is_shown config s.file s.labels c) → IsTrue (is_shown config s.file s.labels d)
     → c + 3 ≤ d → ((l : ℕ) → c < l → l < d → is_shown config s.file s.labels l ≡ false) → HasLane s lane x
-    → (shape_in config.layout (BreakRow (line_at s d).lanes) lane ≡ Bar) ↔ ((l : ℕ) → c < l → l < d → IsCovered s.file x l)
+    → (shape_in layout (BreakRow (line_at s d).lanes) lane ≡ Bar) ↔ ((l : ℕ) → c < l → l < d → IsCovered s.file x l)
 
 -- ---- how many rows there are
 

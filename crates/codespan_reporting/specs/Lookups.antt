@@ -37,13 +37,13 @@ abbrev pub ends_context : Option Error → Bool
 ends_context (Some (LineTooLarge given max)) = true
 ends_context _ = false
 
--- what a line is refused with: its range, and, where the file has it, its number; a line too many ends the context after this one
+-- what a line is refused with: its range, and, where the file has it, its number; after the label's last line `LineTooLarge` refuses nothing
 abbrev pub line_refusal : FileModel → (Lookup → Option Error) → ℕ → ℕ → Option Error
 line_refusal f refusal last l =
     if nat_lt last l && ends_context (refusal (LineRange l)) then None
     else or_refusal (refusal (LineRange l)) (if nat_lt l (line_count f) then refusal (LineNumber l) else None)
 
--- the line after the last one, where the context reaches it, is asked for too: of a file that is there this ends the context
+-- the line past the file's last one, where the context reaches it and its range is not refused with `LineTooLarge`
 abbrev pub probe : Config → FileModel → (Lookup → Option Error) → Labelled → List Lookup
 probe config f refusal x =
     if nat_le (line_count f) (last_line f x + config.after_label_lines) && not (ends_context (refusal (LineRange (line_count f))))
@@ -104,7 +104,7 @@ module _ {Id : Type 0} (config : Config) (same : Id → Id → Bool) (file : Id 
       ++ flat_map (λ id. asked_of id (numbers_for_padding config.layout id)) ids
       ++ flat_map (λ id. asked_of id (locus_lookups same file xs id)) ids
 
-  -- the lookups of a rich picture with its lines
+  -- the lookups of a rich picture after its header, file by file
   abbrev pub late_lookups : List (Id × Lookup)
   late_lookups = flat_map (snippet_lookups config same file xs) ids
 

@@ -9,7 +9,7 @@ use Rattle.codespan_base.specs.Labels.{Labelled, has_message, is_blank}
 use Rattle.codespan_base.specs.Streams.{Stream, Item, Slot, text_of, filled}
 use Rattle.codespan_reporting.specs.Rows.{trailing, hanging}
 use Rattle.codespan_reporting.specs.Snippets.{InFile, labelled_files}
-use Rattle.codespan_reporting.specs.Picture.{rich_picture, labels_of, heading_of, notes_of, files_of}
+use Rattle.codespan_reporting.specs.Picture.{rich_stream, labels_of, heading_of, notes_of, files_of}
 
 -- a label with a slot in place of its message
 abbrev pub slotted : {Id : Type 0} → ℕ → InFile Id → InFile Id
@@ -38,21 +38,21 @@ abbrev pub message_text : {Id : Type 0} → List (InFile Id) → ℕ → List �
 message_text xs k = message_of (slice_get xs k)
 
 -- the rich picture with slots in place of the messages
-abbrev pub slotted_picture : {Id : Type 0} → Config → (Id → Id → Bool) → (Id → FileModel) → Diagnostic Id → Stream
-slotted_picture config same file d =
-    rich_picture config d.severity (heading_of d) (labelled_files same file (all_slotted (labels_of d))) (notes_of d)
+abbrev pub slotted_picture : {Id : Type 0} → Config → Config → (Id → Id → Bool) → (Id → FileModel) → Diagnostic Id → Stream
+slotted_picture renderer view same file d =
+    rich_stream renderer view d.severity (heading_of d) (labelled_files same file (all_slotted (labels_of d))) (notes_of d)
 
 -- in rich style each message stands in exactly one slot, and the slots filled give the picture
-pub record MessagesStandOnce {Id : Type 0} (config : Config) (same : Id → Id → Bool) (file : Id → FileModel) (d : Diagnostic Id) : Type 0 where
+pub record MessagesStandOnce {Id : Type 0} (renderer view : Config) (same : Id → Id → Bool) (file : Id → FileModel) (d : Diagnostic Id) : Type 0 where
   pub once : (k : ℕ) (x : InFile Id) → slice_get (labels_of d) k ≡ Some x
-      → slot_count k (slotted_picture config same file d) ≡ (if has_message x.label then 1 else 0)
-  pub text : text_of (filled (message_text (labels_of d)) (slotted_picture config same file d))
-      ≡ text_of (rich_picture config d.severity (heading_of d) (files_of same file d) (notes_of d))
+      → slot_count k (slotted_picture renderer view same file d) ≡ (if has_message x.label then 1 else 0)
+  pub whole : filled (message_text (labels_of d)) (slotted_picture renderer view same file d)
+      ≡ rich_stream renderer view d.severity (heading_of d) (files_of same file d) (notes_of d)
 
 -- the law holds where ids are equal as `Eq` says, and each file has a line
-abbrev pub MessagesStandOnceWhereLawful : {Id : Type 0} → Config → (Id → Id → Bool) → (Id → FileModel) → Diagnostic Id → Type 0
-MessagesStandOnceWhereLawful {Id} config same file d =
-    IsEquivalence same → ((id : Id) → 0 < line_count (file id)) → MessagesStandOnce config same file d
+abbrev pub MessagesStandOnceWhereLawful : {Id : Type 0} → Config → Config → (Id → Id → Bool) → (Id → FileModel) → Diagnostic Id → Type 0
+MessagesStandOnceWhereLawful {Id} renderer view same file d =
+    IsEquivalence same → ((id : Id) → 0 < line_count (file id)) → MessagesStandOnce renderer view same file d
 
 -- ---- on one line
 

@@ -35,7 +35,7 @@ abbrev pub label : LabelStyle → ℕ → ℕ → ℕ → List ℕ → InFile �
 label style id start end message =
     record { id = id; label = record { style = style; start = start; end = end; message = bytes (encode_utf8_all message) } }
 
--- the same with set line numbers
+-- a file of a name and a text, with set line numbers
 abbrev pub mapped_text : List ℕ → List ℕ → List (ℕ × ℕ) → FileModel
 mapped_text name text settings = mapped_file (Some (encode_utf8_all name)) (encode_utf8_all text) settings
 

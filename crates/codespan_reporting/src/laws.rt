@@ -24,8 +24,8 @@ ghost use Rattle.codespan_reporting.specs.Snippets.{LabelledFile};
 
 /// A rich picture means its labels: all the laws of its lines, carets, lanes, breaks, messages and numbers together.
 pub fn pictures_mean_labels<Id>()
-    ensures { (config : Config) (same : Id → Id → Bool) (file : Id → FileModel) (d : Diagnostic Id)
-        → IsEquivalence same → ((id : Id) → 0 < line_count (file id)) → MeansLabels config same file d }
+    ensures { (renderer view : Config) (same : Id → Id → Bool) (file : Id → FileModel) (d : Diagnostic Id)
+        → IsEquivalence same → ((id : Id) → 0 < line_count (file id)) → MeansLabels renderer view same file d }
 {}
 
 // ---- drawn lines and breaks
@@ -42,7 +42,7 @@ pub fn breaks_are_gaps()
 
 /// The bars of a break row are those of the labels that cover every line that is left out.
 pub fn breaks_are_covered()
-    ensures { (config : Config) (s : LabelledFile) → StartsBeforeEnds s.labels → BreaksAreCovered config s }
+    ensures { (config : Config) (layout : Layout) (s : LabelledFile) → StartsBeforeEnds s.labels → BreaksAreCovered config layout s }
 {}
 
 /// The source rows of a file number at most twice what its labels show.
@@ -71,7 +71,7 @@ pub fn bars_are_labels()
 
 /// Each lane of a file is one line: a top corner, bars, and a bottom corner below it.
 pub fn lanes_are_lines()
-    ensures { (config : Config) (s : LabelledFile) → StartsBeforeEnds s.labels → LanesAreLines config s }
+    ensures { (config : Config) (layout : Layout) (s : LabelledFile) → StartsBeforeEnds s.labels → LanesAreLines config layout s }
 {}
 
 /// Each lane takes two characters.
@@ -86,7 +86,7 @@ pub fn lanes_take_two()
 
 /// Each label with a message has it in exactly one place of the rich picture, and no other message stands there.
 pub fn messages_stand_once<Id>()
-    ensures { (config : Config) (same : Id → Id → Bool) (file : Id → FileModel) (d : Diagnostic Id) → MessagesStandOnceWhereLawful config same file d }
+    ensures { (renderer view : Config) (same : Id → Id → Bool) (file : Id → FileModel) (d : Diagnostic Id) → MessagesStandOnceWhereLawful renderer view same file d }
 {}
 
 /// Of a line's labels with a message one trails at most, and each other one hangs.

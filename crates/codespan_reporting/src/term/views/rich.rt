@@ -8,7 +8,7 @@ ghost use Rattle.codespan_reporting.specs.Entries.{is_of_file};
 ghost use Rattle.codespan_reporting.specs.Given.{place_of_given};
 ghost use Rattle.codespan_reporting.specs.GivenEntries.{entry_of};
 ghost use Rattle.codespan_reporting.specs.GivenSheets.{IsPrepared, has_any, is_followed, placed_snippet, placed_snippets};
-ghost use Rattle.codespan_reporting.specs.Headline.{DrawsRich};
+ghost use Rattle.codespan_reporting.specs.Headline.{DrawsRich, MeansLabels};
 ghost use Rattle.codespan_reporting.specs.Lookups.{first_refusal, late_lookups, snippet_lookups};
 ghost use Rattle.codespan_reporting.specs.Picture.{look_of, heading_of, labels_of, notes_of};
 ghost use Rattle.codespan_reporting.specs.Renderers.{writer_of, config_of, SameRenderer, IsIo};
@@ -36,7 +36,8 @@ pub struct RichDiagnostic<'diagnostic, 'config, FileId> {
 impl<'diagnostic, 'config, FileId: Copy + Eq> RichDiagnostic<'diagnostic, 'config, FileId> {
     ghost use Rattle.codespan_reporting.specs.Views.{diagnostic_of, view_config_of};
 
-    /// A view of the diagnostic. The configuration says which lines are shown, and how wide line numbers are.
+    /// A view of the diagnostic. The configuration says which lines are shown and, by its layout, how many characters of room line
+    /// numbers have.
     pub fn new(
         diagnostic: &'diagnostic Diagnostic<FileId>,
         config: &'config Config<'config>,
@@ -52,8 +53,9 @@ impl<'diagnostic, 'config, FileId: Copy + Eq> RichDiagnostic<'diagnostic, 'confi
     /// The renderer's own configuration says which characters it draws with, how wide tabs are, and how lanes look.
     ///
     /// Refuses as the first lookup that refuses does, with `FormatError` where the `Display` of a file's name refuses, with
-    /// `OutOfMemory` where a growth is refused, and with `Io` where the writer refuses. It has written nothing then, unless the
-    /// writer, a growth, or the lookup of a source or of a line between two shown ones refused.
+    /// `OutOfMemory` where a growth is refused, and with `Io` where the writer refuses. Nothing is written then, unless it was the
+    /// writer or a growth that refused, or a lookup after the header: of a file's source, or of the range or, in the classic layout,
+    /// the number of a line between two shown ones. Without labels there is no lookup, no memory is taken, and the one refusal is `Io`.
     pub fn render<'files, F, W>(
         &self,
         files: &'files F,
@@ -65,6 +67,7 @@ impl<'diagnostic, 'config, FileId: Copy + Eq> RichDiagnostic<'diagnostic, 'confi
         FileId: 'files,
         ensures same { SameRenderer renderer.old renderer.new }
         ensures draws { DrawsRich (view_config_of self.now) (config_of renderer.old) FileId.eq (F.file files.now) (F.refusal files.now) (diagnostic_of self.now) (W.sink (writer_of renderer.old)) result (W.sink (writer_of renderer.new)) }
+        ensures meaning { MeansLabels (config_of renderer.old) (view_config_of self.now) FileId.eq (F.file files.now) (diagnostic_of self.now) }
     {
         if self.diagnostic.labels.is_empty() {
             draw_bare(self.diagnostic, renderer)

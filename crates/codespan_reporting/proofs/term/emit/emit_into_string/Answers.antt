@@ -15,4 +15,4 @@ returns-in-Ok-from_utf8 g c =
     let lines : (id : g.row.F-FileId.Denot) → 0 < line_count (file id) = (λ id. search rules) in
     drawn_text config g.F.FileId.PartialEq.eq file (g.F.Files.refusal c.args.files.now) d _ _ _ _ _ (string_bytes c.in-Ok-from_utf8.text)
     c.new-2.ensures.config c.new-renderer.ensures.config c.new-2.ensures.diagnostic c.in-Ok.ensures.draws (ap (plain_sink (λ v. Some (vec_items v))) c.new-renderer.ensures.writer ∙ c.new-plain.ensures.begins ∙ ap (λ xs. fresh_sink no_marks (Some xs)) c.new.ensures.items) (search rules) c.requires
-    (picture_means_labels config _ file d g.met.F.FileId.Eq.laws lines)
+    (picture_means_labels config config _ file d g.met.F.FileId.Eq.laws lines)

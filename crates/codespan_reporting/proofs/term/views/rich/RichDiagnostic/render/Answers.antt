@@ -1,0 +1,20 @@
+use Rattle.std.proofs.Common.{rules, ◌<◌}
+use Rattle.codespan_base.specs.FileModel.{line_count}
+use Rattle.codespan_reporting.specs.Views.{diagnostic_of}
+use Rattle.codespan_reporting.proofs.MeaningLemmas.{picture_means_labels}
+use Rattle.codespan_reporting.proofs.term.views.rich.RichDiagnostic.render.Goals as goal
+
+-- a picture means its labels, whether there are any or not
+pub returns-then-is_empty-clause-meaning : goal.returns-then-is_empty-clause-meaning
+returns-then-is_empty-clause-meaning g c =
+    let claim : g.claim c.lifetimes = search rules in
+    let file = g.F.Files.file c.args.files.now in
+    let some : (i : g.row.FileId.Denot) → 0 < line_count (file i) = λ i. ((g.met.F.Files c.lifetimes claim).lawful c.args.files.now i).some_line in
+    picture_means_labels _ _ g.FileId.PartialEq.eq file (diagnostic_of c.args.self.now) g.met.FileId.Eq.laws some
+
+pub returns-else-is_empty-clause-meaning : goal.returns-else-is_empty-clause-meaning
+returns-else-is_empty-clause-meaning g c =
+    let claim : g.claim c.lifetimes = search rules in
+    let file = g.F.Files.file c.args.files.now in
+    let some : (i : g.row.FileId.Denot) → 0 < line_count (file i) = λ i. ((g.met.F.Files c.lifetimes claim).lawful c.args.files.now i).some_line in
+    picture_means_labels _ _ g.FileId.PartialEq.eq file (diagnostic_of c.args.self.now) g.met.FileId.Eq.laws some
