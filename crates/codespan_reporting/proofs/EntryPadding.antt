@@ -7,7 +7,7 @@ use Rattle.std.specs.List.Sorted.{IsPermutation, IsSortedBy}
 use Rattle.std.proofs.lemmas.Bool.{and_parts, cases_Bool, eq-eqb, eqb-true, lt-ltb, true≢false}
 use Rattle.std.proofs.lemmas.List.Elements.{All-from_recursion, recursion_from_All}
 use Rattle.std.proofs.lemmas.List.Folds.{flat_map-map, list_any_at}
-use Rattle.std.proofs.lemmas.List.Sorted.{All-permutation, IsPermutation-refl, list_any-IsPermutation}
+use Rattle.std.proofs.lemmas.List.Sorted.{All-permutation, list_any-IsPermutation}
 use Rattle.codespan_base.specs.declared.term.config.Config.{Config}
 use Rattle.codespan_base.specs.declared.term.config.Layout.TheVariants.{Classic, Unbroken}
 use Rattle.codespan_base.specs.FileModel.{FileModel, line_count}
@@ -280,11 +280,10 @@ module _ {Id : Type 0} (same : Id → Id → Bool) (file : Id → FileModel) (o 
   -- ---- what was gathered
 
   module _ (gathered : List GivenEntry) (adds : Adds (IsOfFiles file (file_ids same xs)) [] gathered (all_entries same file config xs)) where
-    -- where lines may be broken, the greatest digit count of the marks is the padding
-    pub marked_digits-gathered : config.layout ≡ Classic → fold max 0 (marked_digits gathered) ≡ padding_of config (labelled_files same file xs)
-    marked_digits-gathered classic =
-        let says = gathered-says (IsOfFiles file ids) gathered all adds in
-        spanned-room gathered (gathered-each (IsOfFiles file ids) gathered gathered all adds (IsPermutation-refl gathered)) (gathered-sorted all gathered gathered says (IsPermutation-refl gathered)) classic
+    -- where lines may be broken, the greatest digit count of the marks, in whatever order, is the padding
+    pub marked_digits-gathered : (entries : List GivenEntry) → IsPermutation gathered entries → config.layout ≡ Classic → fold max 0 (marked_digits entries) ≡ padding_of config (labelled_files same file xs)
+    marked_digits-gathered entries perm classic =
+        spanned-room entries (gathered-each (IsOfFiles file ids) gathered entries all adds perm) (gathered-sorted all gathered entries (gathered-says (IsOfFiles file ids) gathered all adds) perm) classic
 
     module _ (entries : List GivenEntry) (perm : IsPermutation gathered entries) (up : IsSortedBy is_below (map entry_of entries)) (unbroken : config.layout ≡ Unbroken) where
       -- where nothing is broken, the greatest digit count of the lines that the sorted entries draw is

@@ -124,10 +124,11 @@ module _ {Id : Type 0} (same : Id → Id → Bool) (file : Id → FileModel) (co
   module _ (o : IsEquivalence same) (one_file : (i j : Id) → same i j ≡ true → file i ≡ file j) (some_line : (i : Id) → 0 < line_count (file i))
       (refusal : Refusals Id) (js : List Id) (gathered : List GivenEntry) (are : js ≡ ids) (adds : Gathers js gathered) where
     -- where lines may be broken, the marks tell the padding, and nothing is asked
-    pub padded-classic : (marked : List GivenEntry) (padding : ℕ) → config.layout ≡ Classic → marked ≡ gathered → padding ≡ fold max 0 (marked_digits marked) → IsPadded refusal padding
-    padded-classic marked padding classic now is = record {
+    pub padded-classic : (entries : List GivenEntry) → IsPermutation gathered entries → (marked : List GivenEntry) (padding : ℕ) → config.layout ≡ Classic → marked ≡ entries
+        → padding ≡ fold max 0 (marked_digits marked) → IsPadded refusal padding
+    padded-classic entries perm marked padding classic now is = record {
       padding_is = is ∙ ap (λ (es : List GivenEntry). fold max 0 (marked_digits es)) now
-          ∙ marked_digits-gathered same file o one_file some_line config xs gathered (gathers js gathered are adds) classic;
+          ∙ marked_digits-gathered same file o one_file some_line config xs gathered (gathers js gathered are adds) entries perm classic;
       answered = ap (first_refusal refusal) (numbers-classic config same file refusal xs ids classic);
     }
 

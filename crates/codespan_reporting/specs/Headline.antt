@@ -56,10 +56,10 @@ NamesAreStated {Id} file d = (x : InFile Id) → Contains (labels_of d) x → Is
 module _ {Id : Type 0} (refusal : Refusals Id) (lookups : List (Id × Lookup)) where
   -- what a string call tells: want of memory, a name whose Display refused, or what the first lookup that refuses is refused with;
   -- memory alone where there is no lookup
-  abbrev pub IsTextRefusal : Error → Type 0
-  IsTextRefusal OutOfMemory = Unit {0}
-  IsTextRefusal FormatError = 0 < length lookups
-  IsTextRefusal e = first_refusal refusal lookups ≡ Some e
+  abbrev pub IsStringRefusal : Error → Type 0
+  IsStringRefusal OutOfMemory = Unit {0}
+  IsStringRefusal FormatError = 0 < length lookups
+  IsStringRefusal e = first_refusal refusal lookups ≡ Some e
 
   -- what an error says of a writer: `Io` that it refused, or that a lookup told it; any other that it refused nothing
   abbrev pub Blames : Frame → Error → Frame → Type 0
@@ -107,7 +107,7 @@ module _ {Id : Type 0} (config : Config) (same : Id → Id → Bool) (file : Id 
 
   -- what the calls that answer a string do
   abbrev pub DrawsText : {T : Type 0} → (T → List ℕ) → Result T Error → Type 0
-  DrawsText text r = MatchResult r (λ t. IsDrawn (text t)) (IsTextRefusal refusal lookups)
+  DrawsText text r = MatchResult r (λ t. IsDrawn (text t)) (IsStringRefusal refusal lookups)
 
   -- what the calls that draw to a writer do to it; in short and medium style a file's refusal leaves the headers before it
   pub record DrawsTo (old : Sink) (r : Result (Unit {0}) Error) (new : Sink) : Type 0 where

@@ -51,3 +51,5 @@ pub mod RowLaws
 pub mod Headline
 -- how worked pictures are written down
 pub mod Worked
+-- tables of files that are made for tests
+mod Listings

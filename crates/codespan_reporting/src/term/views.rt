@@ -3,6 +3,7 @@
 mod entry;
 mod file_order;
 mod gather;
+mod groups;
 mod label_lines;
 mod lines;
 mod loci;

@@ -99,9 +99,33 @@ pub fn assert_drawn(rt: &impl Abort, alloc: Global, drawing: Drawing<'_>) -> Res
     Ok(())
 }
 
+/// These bytes are the picture of the drawing.
+fn assert_text(rt: &impl Abort, text: Vec<u8>, drawing: &Drawing<'_>) {
+    let name = drawing.name;
+    match String::from_utf8(text) {
+        Ok(text) => assert_eq!(rt; text.as_str(), drawing.picture, "{name}"),
+        Err(_) => panic!(rt; "no text: {name}"),
+    }
+}
+
+/// Draws a diagnostic, plain, by a renderer with a configuration of its own.
+pub fn assert_drawn_by(
+    rt: &impl Abort,
+    alloc: Global,
+    drawing: Drawing<'_>,
+    renderer_config: &Config<'_>,
+) -> Result<(), Error> {
+    let files = files_of(alloc, drawing.files)?;
+    let diagnostic = diagnostic_of(alloc, &drawing)?;
+    let mut plain = PlainWriter::new(Vec::new(alloc));
+    let mut renderer = Renderer::new(&mut plain, renderer_config);
+    RichDiagnostic::new(&diagnostic, &drawing.config).render(&files, &mut renderer)?;
+    assert_text(rt, plain.into_inner(), &drawing);
+    Ok(())
+}
+
 /// Draws a diagnostic in colour.
 pub fn assert_coloured(rt: &impl Abort, alloc: Global, drawing: Drawing<'_>) -> Result<(), Error> {
-    let name = drawing.name;
     let files = files_of(alloc, drawing.files)?;
     let diagnostic = diagnostic_of(alloc, &drawing)?;
     let styles = Styles::default();
@@ -109,9 +133,6 @@ pub fn assert_coloured(rt: &impl Abort, alloc: Global, drawing: Drawing<'_>) -> 
     let mut w = StylesWriter::new(Ansi::new(&mut text), &styles);
     let mut renderer = Renderer::new(&mut w, &drawing.config);
     RichDiagnostic::new(&diagnostic, &drawing.config).render(&files, &mut renderer)?;
-    match String::from_utf8(text) {
-        Ok(text) => assert_eq!(rt; text.as_str(), drawing.picture, "{name}"),
-        Err(_) => panic!(rt; "no text: {name}"),
-    }
+    assert_text(rt, text, &drawing);
     Ok(())
 }

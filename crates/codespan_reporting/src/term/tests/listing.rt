@@ -1,18 +1,27 @@
 //! A table of files as users write their own: one text, whose lines are numbered by their indices, and some of whose lookups refuse.
 
-ghost use Rattle.std.specs.Prelude.{◌≡◌, refl, None, Some, Option, if◌then◌else◌};
+ghost use Rattle.std.specs.Prelude.{◌≡◌, refl, None, Some};
+ghost use Rattle.codespan_reporting.specs.Listings.{is_at, is_from};
 
 use crate::files::{Error, Files, Location, SimpleFile};
 use std::alloc::Global;
 use std::ops::Range;
 
-/// Which lookups refuse.
+/// Which lookups refuse. Each refuses with a column of its kind, and with the line or the byte that was asked for.
 #[derive(Clone, Copy, Default)]
 pub struct Refused {
+    /// The name: column 1.
     pub name: bool,
+    /// The source: column 2.
     pub source: bool,
-    pub line_number: bool,
+    /// The location of any byte: column 3.
     pub location: bool,
+    /// The line of this byte, and of those after it: column 4.
+    pub line_index: Option<usize>,
+    /// The number of this line: column 5.
+    pub line_number: Option<usize>,
+    /// The range of this line: column 6. A line past the end is refused as such.
+    pub line_range: Option<usize>,
 }
 
 /// A text whose lines are numbered from 0.
@@ -37,21 +46,44 @@ impl<'text> Listing<'text> {
     }
 }
 
-/// What the lookups refuse with.
-fn refusal() -> Error
-    ensures { result ≡ Error.ColumnTooLarge 7 1 }
+/// What a lookup of this kind refuses with.
+fn refusal(kind: usize, place: usize) -> Error
+    ensures { result ≡ Error.ColumnTooLarge kind place }
 {
-    Error::ColumnTooLarge { given: 7, max: 1 }
+    Error::ColumnTooLarge {
+        given: kind,
+        max: place,
+    }
+}
+
+/// Whether the lookup of this place is the one that refuses.
+fn is_at(refused: Option<usize>, place: usize) -> bool
+    ensures { result ≡ is_at refused place }
+{
+    match refused {
+        Some(refused) => place == refused,
+        None => false,
+    }
+}
+
+/// Whether the lookup of this place is one of those that refuse.
+fn is_from(refused: Option<usize>, place: usize) -> bool
+    ensures { result ≡ is_from refused place }
+{
+    match refused {
+        Some(refused) => refused <= place,
+        None => false,
+    }
 }
 
 impl<'a, 'text: 'a> Files<'a> for Listing<'text> {
-    ghost use Rattle.codespan_base.specs.declared.files.error.Error.TheVariants.{ColumnTooLarge};
     ghost use Rattle.codespan_base.specs.FileTables.{name_of, source_of};
-    ghost use Rattle.codespan_base.specs.FileModel.{line_of};
+    ghost use Rattle.codespan_base.specs.FileModel.{line_of, or_refusal};
     ghost use Rattle.codespan_base.specs.FileModel.Lookup.{Name as NameLookup, Source as SourceLookup, LineIndex, LineNumber, ColumnNumber, LocationAt, LineRange};
     ghost use Rattle.codespan_base.specs.Lines.{line_starts_of};
     ghost use Rattle.codespan_base.specs.SimpleModel.{simple_file, simple_column, past_end};
     ghost use Rattle.codespan_base.specs.Lemmas.Simple.{renumbered_lawful, simple_lawful, simple_past_end, text_is_utf8};
+    ghost use Rattle.codespan_reporting.specs.Listings.{is_at, is_from, refused_if, refused-past_end};
 
     type FileId = ();
 
@@ -66,36 +98,39 @@ impl<'a, 'text: 'a> Files<'a> for Listing<'text> {
     } };
 
     ghost refusal = { λ s _. elim [
-      | NameLookup ↦ if s.refused.name then Some (ColumnTooLarge 7 1) else None
-      | SourceLookup ↦ if s.refused.source then Some (ColumnTooLarge 7 1) else None
-      | LineIndex byte ↦ None
-      | LineNumber i ↦ if s.refused.line_number then Some (ColumnTooLarge 7 1) else None
+      | NameLookup ↦ refused_if s.refused.name 1 0
+      | SourceLookup ↦ refused_if s.refused.source 2 0
+      | LineIndex byte ↦ refused_if (is_from s.refused.line_index byte) 4 byte
+      | LineNumber i ↦ refused_if (is_at s.refused.line_number i) 5 i
       | ColumnNumber i byte ↦ past_end (source_of s.file).now i
-      | LocationAt byte ↦ if s.refused.location then Some (ColumnTooLarge 7 1) else None
-      | LineRange i ↦ past_end (source_of s.file).now i
+      | LocationAt byte ↦ refused_if s.refused.location 3 byte
+      | LineRange i ↦ or_refusal (past_end (source_of s.file).now i) (refused_if (is_at s.refused.line_range i) 6 i)
     ] };
 
     fn name(&'a self, _id: ()) -> Result<&'text str, Error> {
         if self.refused.name {
-            return Err(refusal());
+            return Err(refusal(1, 0));
         }
         Ok(*self.file.name())
     }
 
     fn source(&'a self, _id: ()) -> Result<&'text str, Error> {
         if self.refused.source {
-            return Err(refusal());
+            return Err(refusal(2, 0));
         }
         Ok(*self.file.source())
     }
 
     fn line_index(&'a self, _id: (), byte_index: usize) -> Result<usize, Error> {
+        if is_from(self.refused.line_index, byte_index) {
+            return Err(refusal(4, byte_index));
+        }
         self.file.line_index((), byte_index)
     }
 
     fn line_number(&'a self, _id: (), line_index: usize) -> Result<usize, Error> {
-        if self.refused.line_number {
-            return Err(refusal());
+        if is_at(self.refused.line_number, line_index) {
+            return Err(refusal(5, line_index));
         }
         Ok(line_index)
     }
@@ -113,7 +148,7 @@ impl<'a, 'text: 'a> Files<'a> for Listing<'text> {
     #[tactic(auto, using(codespan_base::specs::Lemmas::Lines::line_of_below))]
     fn location(&'a self, _id: (), byte_index: usize) -> Result<Location, Error> {
         if self.refused.location {
-            return Err(refusal());
+            return Err(refusal(3, byte_index));
         }
         let line_index = self.file.line_index((), byte_index)?;
         Ok(Location {
@@ -123,7 +158,11 @@ impl<'a, 'text: 'a> Files<'a> for Listing<'text> {
     }
 
     fn line_range(&'a self, _id: (), line_index: usize) -> Result<Range<usize>, Error> {
-        self.file.line_range((), line_index)
+        let range = self.file.line_range((), line_index)?;
+        if is_at(self.refused.line_range, line_index) {
+            return Err(refusal(6, line_index));
+        }
+        Ok(range)
     }
 
     // The lines are those of the file of a text, which is lawful; numbers are free.
@@ -134,5 +173,6 @@ impl<'a, 'text: 'a> Files<'a> for Listing<'text> {
     ghost same_file = { λ s i j e. (refl, refl) };
 
     // A line past the last is refused as there.
-    ghost past_end = { λ s _ i. simple_past_end (Some (name_of s.file).now) (source_of s.file).now i };
+    ghost past_end = { λ s _ i. let text = (source_of s.file).now in let name = Some (name_of s.file).now in
+        refused-past_end (simple_file name text) i (past_end text i) (is_at s.refused.line_range i) 6 i (simple_past_end name text i) };
 }

@@ -3,9 +3,12 @@
 use crate::diagnostic::LabelStyle::{Primary, Secondary};
 use crate::diagnostic::{Diagnostic, Label};
 use crate::files::{Error, MappedFile};
-use crate::term::tests::drawing::{Drawing, assert_coloured, assert_drawn, files_of};
-use crate::term::{Config, PlainWriter, Renderer, RichDiagnostic, emit_into_string};
+use crate::term::tests::drawing::{
+    Drawing, assert_coloured, assert_drawn, assert_drawn_by, files_of,
+};
+use crate::term::{Chars, Config, Layout, PlainWriter, Renderer, RichDiagnostic, emit_into_string};
 use std::alloc::Global;
+use std::process::Abort;
 use std::test::Fail;
 
 #[test]
@@ -72,6 +75,7 @@ fn note_pieces(rt: HostRuntime) -> Result<(), Fail> {
     Ok(())
 }
 
+/// Of this row the part in rich style.
 #[test]
 fn medium_and_short(rt: HostRuntime) -> Result<(), Fail> {
     assert_drawn(
@@ -87,6 +91,7 @@ fn medium_and_short(rt: HostRuntime) -> Result<(), Fail> {
     Ok(())
 }
 
+/// Of this row the part in rich style: an empty note has no row.
 #[test]
 fn coloured_header(rt: HostRuntime) -> Result<(), Fail> {
     assert_drawn(
@@ -181,5 +186,69 @@ fn missing_file(rt: HostRuntime) -> Result<(), Fail> {
     let refused = RichDiagnostic::new(&diagnostic, &config).render(&files, &mut renderer);
     assert!(rt; matches!(refused, Err(Error::FileMissing)));
     assert!(rt; plain.into_inner().is_empty());
+    Ok(())
+}
+
+/// Draws lines with a label over several of them, where the configurations of the view and of the renderer differ in all that
+/// shows.
+fn assert_drawn_by_two(
+    rt: &impl Abort,
+    alloc: Global,
+    view_layout: Layout,
+    renderer_layout: Layout,
+    picture: &str,
+) -> Result<(), Error> {
+    let renderer_config = Config {
+        chars: Chars::ascii(),
+        tab_width: 2,
+        layout: renderer_layout,
+        ..Config::default()
+    };
+    let drawing = Drawing {
+        config: Config {
+            start_context_lines: 1,
+            end_context_lines: 0,
+            before_label_lines: 1,
+            after_label_lines: 1,
+            layout: view_layout,
+            ..Config::default()
+        },
+        files: &[("f", "a\nb\nc\nd\n\tgh\ni\nj\nk\n\tl\nm")],
+        labels: &[(Primary, 0, 9..20, "p"), (Secondary, 0, 10..11, "q")],
+        picture,
+        ..Drawing::default()
+    };
+    assert_drawn_by(rt, alloc, drawing, &renderer_config)
+}
+
+/// The view's configuration chooses the lines and the room for their numbers; the renderer's chooses the characters, the tab stops
+/// and whether a lane goes on below its corner.
+#[test]
+fn two_configurations(rt: HostRuntime) -> Result<(), Fail> {
+    let unbroken_numbers = "error: \n\
+                            \x20  --> f:5:2\n\
+                            \x20  |  \n\
+                            \x204 |   d\n\
+                            \x205 | /   gh\n\
+                            \x20  |      - q\n\
+                            \x206 | | i\n\
+                            \x20  . |\n\
+                            \x209 | |   l\n\
+                            \x20  | \\---^ p\n\
+                            10 |   m\n\n";
+    let unbroken_lanes = "error: \n\
+                          \x20 --> f:5:2\n\
+                          \x20 |  \n\
+                          4 |   d\n\
+                          5 | /   gh\n\
+                          \x20 | |    - q\n\
+                          6 | | i\n\
+                          \x20 . |\n\
+                          9 | |   l\n\
+                          \x20 | \\---^ p\n\
+                          10 |   m\n\n";
+    let (classic, unbroken) = (Layout::Classic, Layout::Unbroken);
+    assert_drawn_by_two(&rt, rt.alloc(), unbroken, classic, unbroken_numbers)?;
+    assert_drawn_by_two(&rt, rt.alloc(), classic, unbroken, unbroken_lanes)?;
     Ok(())
 }

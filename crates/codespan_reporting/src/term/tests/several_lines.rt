@@ -261,36 +261,3 @@ fn unbroken_underline(rt: HostRuntime) -> Result<(), Fail> {
     )?;
     Ok(())
 }
-
-/// Context lines end with the file, however many are asked for.
-#[test]
-fn endless_context(rt: HostRuntime) -> Result<(), Fail> {
-    assert_drawn(
-        &rt,
-        rt.alloc(),
-        Drawing {
-            config: Config {
-                start_context_lines: usize::MAX,
-                end_context_lines: usize::MAX,
-                before_label_lines: usize::MAX,
-                after_label_lines: usize::MAX,
-                ..Config::default()
-            },
-            files: &[("f", "a\nbb\nc\nd\ne\n")],
-            labels: &[(Primary, 0, 2..4, "m"), (Secondary, 0, 5..8, "n")],
-            picture: "error: \n\
-                      \x20 ┌─ f:2:1\n\
-                      \x20 │  \n\
-                      1 │   a\n\
-                      2 │   bb\n\
-                      \x20 │   ^^ m\n\
-                      3 │ ╭ c\n\
-                      4 │ │ d\n\
-                      \x20 │ ╰─' n\n\
-                      5 │   e\n\
-                      6 │   \n\n",
-            ..Drawing::default()
-        },
-    )?;
-    Ok(())
-}

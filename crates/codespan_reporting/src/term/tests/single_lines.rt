@@ -3,8 +3,148 @@
 use crate::diagnostic::LabelStyle::{Primary, Secondary};
 use crate::diagnostic::Severity;
 use crate::term::tests::drawing::{Drawing, assert_drawn};
-use crate::term::{Config, Layout};
+use crate::term::{Chars, Config};
 use std::test::Fail;
+
+#[test]
+fn hello_notes(rt: HostRuntime) -> Result<(), Fail> {
+    let files = [("hello", "Hello world!\nBye world!\n   ")];
+    let table = [
+        Drawing {
+            name: "middle",
+            files: &files,
+            severity: Severity::Note,
+            message: "middle",
+            labels: &[(Primary, 0, 6..6, "middle")],
+            picture: "note: middle\n  ┌─ hello:1:7\n  │\n1 │ Hello world!\n  │       ^ middle\n\n",
+            ..Drawing::default()
+        },
+        Drawing {
+            name: "end of file",
+            files: &files,
+            severity: Severity::Note,
+            message: "end of file",
+            labels: &[(Primary, 0, 27..27, "end of file")],
+            picture: "note: end of file\n  ┌─ hello:3:4\n  │\n3 │    \n  │    ^ end of file\n\n",
+            ..Drawing::default()
+        },
+    ];
+    for drawing in table {
+        assert_drawn(&rt, rt.alloc(), drawing)?;
+    }
+    Ok(())
+}
+
+#[test]
+fn reversed_in_line(rt: HostRuntime) -> Result<(), Fail> {
+    let table = [
+        Drawing {
+            name: "box drawing",
+            files: &[("f", "abc")],
+            labels: &[(Primary, 0, 2..1, "r")],
+            picture: "error: \n  ┌─ f:1:3\n  │\n1 │ abc\n  │   ^ r\n\n",
+            ..Drawing::default()
+        },
+        Drawing {
+            name: "ascii",
+            config: Config {
+                chars: Chars::ascii(),
+                ..Config::default()
+            },
+            files: &[("f", "abc")],
+            labels: &[(Primary, 0, 2..1, "r")],
+            picture: "error: \n  --> f:1:3\n  |\n1 | abc\n  |   ^ r\n\n",
+            ..Drawing::default()
+        },
+    ];
+    for drawing in table {
+        assert_drawn(&rt, rt.alloc(), drawing)?;
+    }
+    Ok(())
+}
+
+#[test]
+fn past_the_end(rt: HostRuntime) -> Result<(), Fail> {
+    assert_drawn(
+        &rt,
+        rt.alloc(),
+        Drawing {
+            files: &[("f", "ab")],
+            labels: &[(Primary, 0, 9..12, "x")],
+            picture: "error: \n  ┌─ f:1:3\n  │\n1 │ ab\n  │     x\n\n",
+            ..Drawing::default()
+        },
+    )?;
+    Ok(())
+}
+
+#[test]
+fn tab_stops(rt: HostRuntime) -> Result<(), Fail> {
+    let pictures = [
+        (
+            4,
+            "error: \n  ┌─ tabbed:4:23\n  │\n\
+             4 │         ReloadingCondition: attack-cooldown\n  \
+             │                             ^^^^^^^^^^^^^^^ the condition\n\n",
+        ),
+        (
+            3,
+            "error: \n  ┌─ tabbed:4:23\n  │\n\
+             4 │       ReloadingCondition:  attack-cooldown\n  \
+             │                            ^^^^^^^^^^^^^^^ the condition\n\n",
+        ),
+        (
+            0,
+            "error: \n  ┌─ tabbed:4:23\n  │\n\
+             4 │ ReloadingCondition:attack-cooldown\n  \
+             │                    ^^^^^^^^^^^^^^^ the condition\n\n",
+        ),
+    ];
+    for (tab_width, picture) in pictures {
+        assert_drawn(
+            &rt,
+            rt.alloc(),
+            Drawing {
+                config: Config {
+                    tab_width,
+                    ..Config::default()
+                },
+                files: &[(
+                    "tabbed",
+                    "Entity:\n\tArmament:\n\t\tWeapon: DogJaw\n\t\tReloadingCondition:\tattack-cooldown\n\tFoo: Bar",
+                )],
+                labels: &[(Primary, 0, 58..73, "the condition")],
+                picture,
+                ..Drawing::default()
+            },
+        )?;
+    }
+    Ok(())
+}
+
+#[test]
+fn moon_jump(rt: HostRuntime) -> Result<(), Fail> {
+    assert_drawn(
+        &rt,
+        rt.alloc(),
+        Drawing {
+            files: &[("moon_jump.rs", "🐄🌑🐄🌒🐄🌓🐄🌔🐄🌕🐄🌖🐄🌗🐄🌘🐄")],
+            severity: Severity::Note,
+            message: "invalid unicode range",
+            labels: &[(
+                Secondary,
+                0,
+                1..11,
+                "Cow does not start or end at boundary.",
+            )],
+            picture: "note: invalid unicode range\n  ┌─ moon_jump.rs:1:1\n  │\n\
+                      1 │ 🐄🌑🐄🌒🐄🌓🐄🌔🐄🌕🐄🌖🐄🌗🐄🌘🐄\n  \
+                      │ ------ Cow does not start or end at boundary.\n\n",
+            ..Drawing::default()
+        },
+    )?;
+    Ok(())
+}
 
 #[test]
 fn same_range(rt: HostRuntime) -> Result<(), Fail> {
@@ -160,114 +300,6 @@ fn wide_pointers(rt: HostRuntime) -> Result<(), Fail> {
                       \x20 │ │ │ \n\
                       \x20 │ │ s\n\
                       \x20 │ w\n\n",
-            ..Drawing::default()
-        },
-    )?;
-    Ok(())
-}
-
-#[test]
-fn surrounding_lines(rt: HostRuntime) -> Result<(), Fail> {
-    assert_drawn(
-        &rt,
-        rt.alloc(),
-        Drawing {
-            config: Config {
-                before_label_lines: 2,
-                after_label_lines: 1,
-                ..Config::default()
-            },
-            files: &[(
-                "surroundingLines.fun",
-                "#[foo]\n\
-                 fn main() {\n\
-                 \x20   println!(\n\
-                 \x20       \"{}\",\n\
-                 \x20       Foo\n\
-                 \x20   );\n\
-                 }\n\n\
-                 struct Foo",
-            )],
-            message: "Syntax error",
-            labels: &[(Primary, 0, 79..79, "Missing a semicolon")],
-            picture: "error: Syntax error\n\
-                      \x20 ┌─ surroundingLines.fun:9:11\n\
-                      \x20 │\n\
-                      7 │ }\n\
-                      8 │ \n\
-                      9 │ struct Foo\n\
-                      \x20 │           ^ Missing a semicolon\n\n",
-            ..Drawing::default()
-        },
-    )?;
-    Ok(())
-}
-
-/// One line between two shown ones is filled in; of more there is a break.
-#[test]
-fn fills_and_breaks(rt: HostRuntime) -> Result<(), Fail> {
-    assert_drawn(
-        &rt,
-        rt.alloc(),
-        Drawing {
-            files: &[("f", "a\nb\nc\nd\ne\nf\ng")],
-            labels: &[
-                (Primary, 0, 0..1, "p"),
-                (Secondary, 0, 4..5, "q"),
-                (Secondary, 0, 12..13, "r"),
-            ],
-            picture: "error: \n\
-                      \x20 ┌─ f:1:1\n\
-                      \x20 │\n\
-                      1 │ a\n\
-                      \x20 │ ^ p\n\
-                      2 │ b\n\
-                      3 │ c\n\
-                      \x20 │ - q\n\
-                      \x20 ·\n\
-                      7 │ g\n\
-                      \x20 │ - r\n\n",
-            ..Drawing::default()
-        },
-    )?;
-    Ok(())
-}
-
-/// A number that is longer than those of all labelled lines pushes its row to the right.
-#[test]
-fn long_number_pushes_row(rt: HostRuntime) -> Result<(), Fail> {
-    assert_drawn(
-        &rt,
-        rt.alloc(),
-        Drawing {
-            config: Config {
-                after_label_lines: 1,
-                ..Config::default()
-            },
-            files: &[("f", "x\nx\nx\nx\nx\nx\nx\nx\nx\ny")],
-            labels: &[(Primary, 0, 16..17, "")],
-            picture: "error: \n  ┌─ f:9:1\n  │\n9 │ x\n  │ ^\n10 │ y\n\n",
-            ..Drawing::default()
-        },
-    )?;
-    Ok(())
-}
-
-/// In the unbroken layout there is room for the numbers of all drawn lines.
-#[test]
-fn unbroken_padding(rt: HostRuntime) -> Result<(), Fail> {
-    assert_drawn(
-        &rt,
-        rt.alloc(),
-        Drawing {
-            config: Config {
-                after_label_lines: 1,
-                layout: Layout::Unbroken,
-                ..Config::default()
-            },
-            files: &[("f", "x\nx\nx\nx\nx\nx\nx\nx\nx\ny")],
-            labels: &[(Primary, 0, 16..17, "")],
-            picture: "error: \n   ┌─ f:9:1\n   │\n 9 │ x\n   │ ^\n10 │ y\n\n",
             ..Drawing::default()
         },
     )?;

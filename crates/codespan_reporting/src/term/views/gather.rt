@@ -105,14 +105,11 @@ fn mark_says<'d, FileId>(
     ensures { option_map says_of result ≡ says_at (label_place at) lines.first lines.last line.index line.start (label_of label.now).label }
 {
     if !lines.is_single() {
-        return match multi_mark(label, lines, line) {
-            Some(mark) => Some(Says::Multi {
-                lane: at.lane,
-                style: label.style,
-                mark,
-            }),
-            None => None,
-        };
+        return multi_mark(label, lines, line).map(|mark| Says::Multi {
+            lane: at.lane,
+            style: label.style,
+            mark,
+        });
     }
     if line.index == lines.first {
         Some(single_says(label, at.place, line.start))
@@ -149,11 +146,7 @@ fn push_line<'d, FileId>(
     ensures added { OnOk result ((f : FileModel) → first_line f (label_of label.now).label ≡ lines.first → last_line f (label_of label.now).label ≡ lines.last → IsLineOf f line → AddsOf f entries.old.items entries.new.items (line_entries config.now f (label_place at) (label_of label.now).label line.index)) }
     ensures refused { OnErr result (IsErrOf result Error.OutOfMemory) }
 {
-    let shown = if lines.shows(config, line.index) {
-        Some(Says::Shown)
-    } else {
-        None
-    };
+    let shown = lines.shows(config, line.index).then_some(Says::Shown);
     push_said(at.file, line, shown, entries)?;
     push_said(at.file, line, mark_says(at, label, lines, line), entries)?;
     Ok(())

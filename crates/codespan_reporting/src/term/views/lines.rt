@@ -47,7 +47,7 @@ impl<'files, 'text, F: Files<'files>> FileLines<'files, 'text, F> {
         ensures same { SameRenderer renderer.old renderer.new }
         ensures draws { DrawsStep (F.refusal self.now.files.now) self.now.id (F.file self.now.files.now self.now.id) self.now.lane_count (look_of (config_of renderer.old) self.now.severity self.now.padding) (Draw line.index (map entry_of entries.now)) (W.sink (writer_of renderer.old)) result (W.sink (writer_of renderer.new)) }
     {
-        marks.take(entries)?;
+        marks.refill(entries)?;
         renderer.render_snippet_source(
             self.padding,
             line.number,
@@ -96,7 +96,7 @@ impl<'files, 'text, F: Files<'files>> FileLines<'files, 'text, F> {
         ensures same { SameRenderer renderer.old renderer.new }
         ensures draws { DrawsStep (F.refusal self.now.files.now) self.now.id (F.file self.now.files.now self.now.id) self.now.lane_count (look_of (config_of renderer.old) self.now.severity self.now.padding) (Break (map entry_of entries.now)) (W.sink (writer_of renderer.old)) result (W.sink (writer_of renderer.new)) }
     {
-        marks.take(entries)?;
+        marks.refill(entries)?;
         renderer.render_snippet_break(
             self.padding,
             self.severity,

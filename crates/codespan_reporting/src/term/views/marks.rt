@@ -35,7 +35,7 @@ impl<'d> LineMarks<'d> {
     }
 
     /// Takes the labels and marks of these entries, in their order, in place of those before. Refuses with `OutOfMemory`.
-    pub fn take(&mut self, entries: &[Entry<'d>]) -> Result<(), Error>
+    pub fn refill(&mut self, entries: &[Entry<'d>]) -> Result<(), Error>
         ensures singles { IfOk result (λ _. all_labelled self.new.singles.items ≡ singles_in (map entry_of entries.now)) }
         ensures multis { IfOk result (λ _. map mark_of_given self.new.multis.items ≡ multis_in (map entry_of entries.now)) }
         ensures refused { OnErr result (IsErrOf result Error.OutOfMemory) }

@@ -13,7 +13,7 @@ ghost use Rattle.codespan_reporting.specs.Steps.{fills_of, gap_after, lines_of_s
 
 use crate::term::renderer::parts::count_digits;
 use crate::term::views::entry::Entry;
-use crate::term::views::sort::{file_len, line_len, shows};
+use crate::term::views::groups::{file_len, is_shown, line_len};
 use codespan_base::files::{Error, Files};
 
 /// How many digits the longest number has of the lines with marks of labels; 0 where there is none.
@@ -22,7 +22,7 @@ pub fn spanned_padding(entries: &[Entry<'_>]) -> usize
 {
     let mut padding = 0;
     for entry in entries {
-        if !shows(entry) {
+        if !is_shown(entry) {
             padding = count_digits(entry.line.number).max(padding);
         }
     }
@@ -70,7 +70,7 @@ fn file_padding<'files, F: Files<'files>>(
     let mut start = 0;
     while start < entries.len() {
         let line = entries[start].line;
-        if shows(&entries[start]) {
+        if is_shown(&entries[start]) {
             let filled = fill_digits(files, id, shown, line.index)?;
             padding = filled.max(padding);
             padding = count_digits(line.number).max(padding);
@@ -95,7 +95,7 @@ fn fill_digits<'files, F: Files<'files>>(
     ensures refused { Tells (first_refusal (F.refusal files.now) (asked_of id (map LineNumber (fills_of (gap_after shown index [] []))))) result }
 {
     match shown {
-        Some(shown) if index >= 2 && index - 2 == shown => {
+        Some(shown) if index.saturating_sub(shown) == 2 => {
             Ok(count_digits(files.line_number(id, index - 1)?))
         }
         _ => Ok(0),

@@ -12,9 +12,9 @@ ghost use Rattle.codespan_reporting.specs.Steps.{Draw, gap_after, steps_of, rows
 
 use crate::term::renderer::Renderer;
 use crate::term::views::entry::{Entry, SourceLine};
+use crate::term::views::groups::{line_len, shown_len};
 use crate::term::views::lines::FileLines;
 use crate::term::views::marks::LineMarks;
-use crate::term::views::sort::{line_len, shown_len};
 use codespan_base::files::{Error, Files};
 use codespan_base::term::WriteStyle;
 

@@ -17,10 +17,10 @@ ghost use Rattle.codespan_reporting.specs.RowStreams.{header_row, stream_of_rows
 ghost use Rattle.codespan_reporting.specs.Snippets.{labelled_file, labelled_files, note_rows};
 
 use crate::term::renderer::Renderer;
+use crate::term::views::groups::file_len;
 use crate::term::views::marks::LineMarks;
 use crate::term::views::sheet::{Sheet, prepare};
 use crate::term::views::snippets::{Snippet, draw_snippet};
-use crate::term::views::sort::file_len;
 use codespan_base::diagnostic::Diagnostic;
 use codespan_base::files::{Error, Files};
 use codespan_base::term::{Config, WriteStyle};

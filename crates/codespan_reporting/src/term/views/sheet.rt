@@ -46,10 +46,9 @@ pub fn prepare<'files, 'd, F: Files<'files>>(
     ensures refused { TellsNaming (first_refusal (F.refusal files.now) (early_lookups config.now F.FileId.eq (F.file files.now) (F.refusal files.now) (map label_of labels.now))) result }
 {
     let mut gathered = gather(alloc, files, config, labels)?;
-    let spanned = spanned_padding(&gathered.entries);
     sort(&mut gathered.entries);
     let padding = match config.layout {
-        Layout::Classic => spanned,
+        Layout::Classic => spanned_padding(&gathered.entries),
         Layout::Unbroken => drawn_padding(files, &gathered.ids, &gathered.entries)?,
     };
     let loci = file_loci(alloc, files, &gathered.ids, labels)?;

@@ -60,7 +60,7 @@ returns-in_err-loci-clause-refused g c =
     let padded : IsPadded same file config xs refusal c.match-config.padding =
     elim c.match-config.branch [
       | in-Classic w ↦ padded-classic same file config xs g.met.F.FileId.Eq.laws one some refusal gathered.ids.items gathered.entries.items made.ids made.entries
-          c.deref.result.now c.match-config.padding w.in-Classic.is c.deref.ensures.value (w.padding-is ∙ c.spanned_padding-spanned.ensures)
+          c.sort.new.entries.items c.sort.ensures.permutation w.deref.result.now c.match-config.padding w.in-Classic.is w.deref.ensures.value (w.padding-is ∙ w.spanned_padding-padding.ensures)
       | in-Unbroken+in_ok-padding-in-Unbroken w ↦ padded-unbroken same file config xs g.met.F.FileId.Eq.laws one some refusal gathered.ids.items gathered.entries.items made.ids made.entries
           c.sort.new.entries.items c.sort.ensures.permutation c.sort.ensures.sorted w.in-Unbroken.is
           w.deref-in-Unbroken.result.now w.deref-in-Unbroken-2.result.now w.deref-in-Unbroken.ensures.value w.deref-in-Unbroken-2.ensures.value
@@ -86,7 +86,7 @@ padded g c =
     let made = c.in_ok-gathered.ensures in
     elim c.match-config.branch [
       | in-Classic w ↦ padded-classic same file config xs g.met.F.FileId.Eq.laws one some refusal gathered.ids.items gathered.entries.items made.ids made.entries
-          c.deref.result.now c.match-config.padding w.in-Classic.is c.deref.ensures.value (w.padding-is ∙ c.spanned_padding-spanned.ensures)
+          c.sort.new.entries.items c.sort.ensures.permutation w.deref.result.now c.match-config.padding w.in-Classic.is w.deref.ensures.value (w.padding-is ∙ w.spanned_padding-padding.ensures)
       | in-Unbroken+in_ok-padding-in-Unbroken w ↦ padded-unbroken same file config xs g.met.F.FileId.Eq.laws one some refusal gathered.ids.items gathered.entries.items made.ids made.entries
           c.sort.new.entries.items c.sort.ensures.permutation c.sort.ensures.sorted w.in-Unbroken.is
           w.deref-in-Unbroken.result.now w.deref-in-Unbroken-2.result.now w.deref-in-Unbroken.ensures.value w.deref-in-Unbroken-2.ensures.value

@@ -2,7 +2,7 @@ use Rattle.std.proofs.Common.{◌≡◌, ◌++◌, map, drop}
 use Rattle.codespan_reporting.specs.Given.{all_labelled, mark_of_given}
 use Rattle.codespan_reporting.specs.GivenEntries.{entry_of}
 use Rattle.codespan_reporting.specs.Steps.{singles_in, multis_in}
-use Rattle.codespan_reporting.proofs.term.views.marks.LineMarks.take.Given as goal
+use Rattle.codespan_reporting.proofs.term.views.marks.LineMarks.refill.Given as goal
 
 -- what is taken and what is left make the whole
 abbrev pub invariant-loop-entry : goal.invariant-loop-entry

@@ -1,0 +1,147 @@
+//! Pictures by which lines they show: context, filled lines, breaks, and room for their numbers.
+
+use crate::diagnostic::LabelStyle::{Primary, Secondary};
+use crate::term::tests::drawing::{Drawing, assert_drawn};
+use crate::term::{Config, Layout};
+use std::test::Fail;
+
+#[test]
+fn surrounding_lines(rt: HostRuntime) -> Result<(), Fail> {
+    assert_drawn(
+        &rt,
+        rt.alloc(),
+        Drawing {
+            config: Config {
+                before_label_lines: 2,
+                after_label_lines: 1,
+                ..Config::default()
+            },
+            files: &[(
+                "surroundingLines.fun",
+                "#[foo]\n\
+                 fn main() {\n\
+                 \x20   println!(\n\
+                 \x20       \"{}\",\n\
+                 \x20       Foo\n\
+                 \x20   );\n\
+                 }\n\n\
+                 struct Foo",
+            )],
+            message: "Syntax error",
+            labels: &[(Primary, 0, 79..79, "Missing a semicolon")],
+            picture: "error: Syntax error\n\
+                      \x20 ┌─ surroundingLines.fun:9:11\n\
+                      \x20 │\n\
+                      7 │ }\n\
+                      8 │ \n\
+                      9 │ struct Foo\n\
+                      \x20 │           ^ Missing a semicolon\n\n",
+            ..Drawing::default()
+        },
+    )?;
+    Ok(())
+}
+
+/// One line between two shown ones is filled in; of more there is a break.
+#[test]
+fn fills_and_breaks(rt: HostRuntime) -> Result<(), Fail> {
+    assert_drawn(
+        &rt,
+        rt.alloc(),
+        Drawing {
+            files: &[("f", "a\nb\nc\nd\ne\nf\ng")],
+            labels: &[
+                (Primary, 0, 0..1, "p"),
+                (Secondary, 0, 4..5, "q"),
+                (Secondary, 0, 12..13, "r"),
+            ],
+            picture: "error: \n\
+                      \x20 ┌─ f:1:1\n\
+                      \x20 │\n\
+                      1 │ a\n\
+                      \x20 │ ^ p\n\
+                      2 │ b\n\
+                      3 │ c\n\
+                      \x20 │ - q\n\
+                      \x20 ·\n\
+                      7 │ g\n\
+                      \x20 │ - r\n\n",
+            ..Drawing::default()
+        },
+    )?;
+    Ok(())
+}
+
+/// A number that is longer than those of all labelled lines pushes its row to the right.
+#[test]
+fn long_number_pushes_row(rt: HostRuntime) -> Result<(), Fail> {
+    assert_drawn(
+        &rt,
+        rt.alloc(),
+        Drawing {
+            config: Config {
+                after_label_lines: 1,
+                ..Config::default()
+            },
+            files: &[("f", "x\nx\nx\nx\nx\nx\nx\nx\nx\ny")],
+            labels: &[(Primary, 0, 16..17, "")],
+            picture: "error: \n  ┌─ f:9:1\n  │\n9 │ x\n  │ ^\n10 │ y\n\n",
+            ..Drawing::default()
+        },
+    )?;
+    Ok(())
+}
+
+/// In the unbroken layout there is room for the numbers of all drawn lines.
+#[test]
+fn unbroken_padding(rt: HostRuntime) -> Result<(), Fail> {
+    assert_drawn(
+        &rt,
+        rt.alloc(),
+        Drawing {
+            config: Config {
+                after_label_lines: 1,
+                layout: Layout::Unbroken,
+                ..Config::default()
+            },
+            files: &[("f", "x\nx\nx\nx\nx\nx\nx\nx\nx\ny")],
+            labels: &[(Primary, 0, 16..17, "")],
+            picture: "error: \n   ┌─ f:9:1\n   │\n 9 │ x\n   │ ^\n10 │ y\n\n",
+            ..Drawing::default()
+        },
+    )?;
+    Ok(())
+}
+
+/// Context lines end with the file, however many are asked for.
+#[test]
+fn endless_context(rt: HostRuntime) -> Result<(), Fail> {
+    assert_drawn(
+        &rt,
+        rt.alloc(),
+        Drawing {
+            config: Config {
+                start_context_lines: usize::MAX,
+                end_context_lines: usize::MAX,
+                before_label_lines: usize::MAX,
+                after_label_lines: usize::MAX,
+                ..Config::default()
+            },
+            files: &[("f", "a\nbb\nc\nd\ne\n")],
+            labels: &[(Primary, 0, 2..4, "m"), (Secondary, 0, 5..8, "n")],
+            picture: "error: \n\
+                      \x20 ┌─ f:2:1\n\
+                      \x20 │  \n\
+                      1 │   a\n\
+                      2 │   bb\n\
+                      \x20 │   ^^ m\n\
+                      3 │ ╭ c\n\
+                      4 │ │ d\n\
+                      \x20 │ ╰─' n\n\
+                      5 │   e\n\
+                      6 │   \n\n",
+            ..Drawing::default()
+        },
+    )?;
+    Ok(())
+}
