@@ -8,7 +8,7 @@ use Rattle.std.proofs.lemmas.List.Sums.{sum_by-cons}
 use Rattle.codespan_base.specs.Lines.{line_starts_of, starts_after, is_char_boundary}
 use Rattle.codespan_base.specs.FileModel.{line_text}
 use Rattle.codespan_base.specs.SimpleModel.{simple_file, line_ends}
-use Rattle.codespan_base.specs.Lemmas.Simple.{simple_lawful, end_before_last, end_of_last}
+use Rattle.codespan_base.specs.Lemmas.Simple.{ascending, end_before_last, end_of_last}
 use Rattle.codespan_base.specs.FileLaws.{LinesJoin, ColumnsRise}
 
 -- two ranges that touch
@@ -27,14 +27,13 @@ joined-from name text u zero i h =
     ∙ ap (λ b. slice_range text at b) e
     ∙ take_all (length text - at) (drop at text) (omega (arith, length-drop at text))
 joined-from name text u (suc n) i h =
-    let law = simple_lawful name text u in
     let at : ℕ = get_or (line_starts_of text) i 0 in
     let next : ℕ = get_or (line_starts_of text) (i + 1) 0 in
     let e : get_or (line_ends text) i 0 ≡ next = end_before_last text i (omega arith) in
     let rest = joined-from name text u n (i + 1) (omega arith) in
     ap (λ ys. line_text (simple_file name text) i ++ ys) rest
     ∙ ap (λ b. slice_range text at b ++ drop next text) e
-    ∙ touching at next text (omega (arith, law.ascending i (omega arith)))
+    ∙ touching at next text (omega (arith, ascending text i (omega arith)))
 
 -- the lines of the file of a text join to it
 pub lines_join : (name : Option (List ℕ)) (text : List ℕ) → IsUtf8 text → LinesJoin (simple_file name text)

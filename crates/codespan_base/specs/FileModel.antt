@@ -50,8 +50,9 @@ Tells o r = MatchResult r (λ _. o ≡ None) (λ e. e ≢ OutOfMemory → o ≡ 
 abbrev pub NeedsNoMemory : {T : Type 0} → Result T Error → Type 0
 NeedsNoMemory r = IfErr r (λ e. e ≢ OutOfMemory)
 
--- the text is cut into lines
+-- the text is one that a string can be, and it is cut into lines
 pub record IsLawful (f : FileModel) : Type 0 where
+  pub fits : length f.text < 2 ^ 64
   pub some_line : 0 < length f.starts
   pub first : slice_index f.starts 0 ≡ 0
   pub ascending : (i : ℕ) → i + 1 < length f.starts → slice_index f.starts i < slice_index f.starts (i + 1)

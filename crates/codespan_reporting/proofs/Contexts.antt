@@ -1,6 +1,6 @@
 -- The lines that a label asks for, one after another.
-use Rattle.std.proofs.Common.{◌≡◌, ℕ, zero, suc, ◌+◌, ◌-◌, ◌<◌, ◌≤◌, Bool, true, false, not, ◌&&◌, ◌||◌, List, [], ◌∷◌, ◌++◌, Option, Some, None, refl, sym, ap, ◌∙◌, arith, ⊎_elim, true≢false}
-use Rattle.std.specs.Prelude.{nat_lt, nat_le, if◌then◌else◌, filter, flat_map, max}
+use Rattle.std.proofs.Common.{◌≡◌, ℕ, zero, suc, ◌+◌, ◌-◌, ◌^◌, ◌<◌, ◌≤◌, Bool, true, false, not, ◌&&◌, ◌||◌, List, [], ◌∷◌, ◌++◌, length, Option, Some, None, refl, sym, ap, ◌∙◌, arith, ⊎_elim, true≢false}
+use Rattle.std.specs.Prelude.{nat_lt, nat_le, if◌then◌else◌, filter, flat_map, max, min}
 use Rattle.std.specs.List.{range_with_len}
 use Rattle.std.proofs.lemmas.Bool.{le-leb, lt-leb, lt-ltb, cases_Bool, cases_lt}
 use borrow.Author.Tests.{le-ltb}
@@ -8,9 +8,11 @@ use Rattle.std.proofs.lemmas.Grind.{common_steps, flat_map-append}
 use Rattle.std.proofs.lemmas.List.{append-nil, map-append}
 use Rattle.codespan_base.specs.declared.term.config.Config.{Config}
 use Rattle.codespan_base.specs.declared.files.error.Error.{Error}
-use Rattle.codespan_base.specs.FileModel.{FileModel, Lookup, line_count, or_refusal}
+use Rattle.codespan_base.specs.declared.files.error.Error.TheVariants.{FileMissing, IndexTooLarge, LineTooLarge, ColumnTooLarge, InvalidCharBoundary, Io, FormatError, OutOfMemory}
+use Rattle.codespan_base.specs.FileModel.{FileModel, IsLawful, Lookup, RefusesPastEnd, TellsPastEnd, line_count, or_refusal}
 use Rattle.codespan_base.specs.FileModel.Lookup.{LineRange, LineNumber}
 use Rattle.codespan_base.specs.Labels.{Labelled, first_line, last_line}
+use Rattle.codespan_base.specs.Lemmas.Lines.{lines_have_indices, lines_within_text}
 use Rattle.codespan_reporting.specs.Entries.{Entry, LabelPlace, entries_of, line_entries}
 use Rattle.codespan_reporting.specs.declared.term.views.entry.Entry.{Entry as GivenEntry}
 use Rattle.codespan_reporting.specs.GivenEntries.{Adds, entries_on, lookups_on}
@@ -164,7 +166,7 @@ module _ {Id : Type 0} (refusal : Refusals Id) (id : Id) (config : Config) (f : 
     )
 
     -- the end of the lines that are near enough
-    pub gathered-end : (xs ys : List GivenEntry) (n : ℕ) → IsGathered P at xs ys n → first_line f x < n → last_line f x + config.after_label_lines < n
+    gathered-end : (xs ys : List GivenEntry) (n : ℕ) → IsGathered P at xs ys n → first_line f x < n → last_line f x + config.after_label_lines < n
         → Adds P xs ys (entries_of config f at x) × (refused all_lookups ≡ None)
     gathered-end xs ys n g first far =
         let all = all_said n g.within (λ l low high. above_both (first_line f x) (last_line f x) config.before_label_lines config.after_label_lines l (omega arith) (omega arith)) in
@@ -192,6 +194,39 @@ module _ {Id : Type 0} (refusal : Refusals Id) (id : Id) (config : Config) (f : 
         neither : (b : Bool) → (if b && false then LineRange (line_count f) ∷ [] else []) ≡ []
         neither true = refl
         neither false = refl
+
+    -- the end of all indices
+    gathered-whole : (xs ys : List GivenEntry) (n : ℕ) → IsGathered P at xs ys n → n ≡ 2 ^ 64 → IsLawful f → RefusesPastEnd f n (refusal id (LineRange n))
+        → Adds P xs ys (entries_of config f at x) × (refused all_lookups ≡ None)
+    gathered-whole xs ys n g all law past_end =
+        let past : line_count f ≤ n = omega (arith, all, lines_have_indices f law) in
+        gathered-context xs ys n g past (too_large (refusal id (LineRange n)) ((past_end (is_there f.there refl)).1 past))
+      where
+        too_large : (o : Option Error) → TellsPastEnd o → ends_context o ≡ true
+        too_large (Some (LineTooLarge given last)) h = refl
+        too_large None h = absurd h
+        too_large (Some FileMissing) h = absurd h
+        too_large (Some (IndexTooLarge given last)) h = absurd h
+        too_large (Some (ColumnTooLarge given last)) h = absurd h
+        too_large (Some (InvalidCharBoundary given)) h = absurd h
+        too_large (Some (Io error)) h = absurd h
+        too_large (Some FormatError) h = absurd h
+        too_large (Some OutOfMemory) h = absurd h
+
+        -- a file that is not there has one line
+        is_there : (b : Bool) → f.there ≡ b → f.there ≡ true
+        is_there true there = there
+        is_there false missing =
+            let none : length f.text ≡ 0 = ap length (law.missing_text missing) in
+            absurd (omega (arith, none, all, g.within, lines_within_text f law))
+
+    -- the end of the context, or of all indices
+    pub gathered-reach : (xs ys : List GivenEntry) (n : ℕ) → IsGathered P at xs ys n → first_line f x < n → min (last_line f x + config.after_label_lines + 1) (2 ^ 64) ≤ n → n ≤ 2 ^ 64
+        → IsLawful f → RefusesPastEnd f n (refusal id (LineRange n)) → Adds P xs ys (entries_of config f at x) × (refused all_lookups ≡ None)
+    gathered-reach xs ys n g first far below law past_end =
+        ⊎_elim (λ (h : last_line f x + config.after_label_lines < n). gathered-end xs ys n g first h)
+        (λ (h : n ≤ last_line f x + config.after_label_lines). gathered-whole xs ys n g (omega (arith, h, far, below)) law past_end)
+        (cases_lt (last_line f x + config.after_label_lines) n)
 
     -- a line whose lookups are refused
     pub gathered-refused : (xs ys : List GivenEntry) (n : ℕ) (e : Error) → first_line f x < line_count f → last_line f x < line_count f → IsGathered P at xs ys n → is_asked config f x n ≡ true

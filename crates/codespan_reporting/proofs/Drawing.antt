@@ -26,7 +26,7 @@ Began-none s items t same = record { begun = []; rest = _; whole = refl; held = 
 two_errors : (e : Error) → e ≡ FormatError → e ≡ OutOfMemory → ⊥
 two_errors e h m = cc
 
-module _ {Id : Type 0} (view renderer : Config) (same : Id → Id → Bool) (file : Id → FileModel) (refusal : Refusals Id) (d : Diagnostic Id) where
+module _ {Id : Type 0} (renderer view : Config) (same : Id → Id → Bool) (file : Id → FileModel) (refusal : Refusals Id) (d : Diagnostic Id) where
   -- the lookups before the header
   abbrev pub before_header : List (Id × Lookup)
   before_header = early_lookups view same file refusal (labels_of d)
@@ -37,11 +37,11 @@ module _ {Id : Type 0} (view renderer : Config) (same : Id → Id → Bool) (fil
 
   -- the whole picture, or a beginning of it
   abbrev pub Begins : Sink → Sink → Type 0
-  Begins old new = NamesAreStated file d → is_told old ≡ true → Began old (viewed_picture view renderer same file refusal d) new
+  Begins old new = NamesAreStated file d → is_told old ≡ true → Began old (viewed_picture renderer view same file refusal d) new
 
   -- a lookup before the header refused: nothing is written
   pub refused_early : (old new : Sink) (e : Error) → new ≡ old → 0 < length before_header
-      → (e ≢ OutOfMemory → e ≢ FormatError → first_refusal refusal before_header ≡ Some e) → DrawsRich view renderer same file refusal d old (Err e) new
+      → (e ≢ OutOfMemory → e ≢ FormatError → first_refusal refusal before_header ≡ Some e) → DrawsRich renderer view same file refusal d old (Err e) new
   refused_early old new e unchanged some told = record {
     frame = Blames-lookup refusal (before_header ++ after_header) old.frame new.frame e (ap (λ (s : Sink). s.frame) unchanged)
         (omega (arith, length-append before_header after_header)) (λ p q. first_refusal-some refusal before_header after_header e (told p q));
@@ -53,7 +53,7 @@ module _ {Id : Type 0} (view renderer : Config) (same : Id → Id → Bool) (fil
 
   -- the writer refused
   pub refused_by_writer : (old new : Sink) (e : Error) → first_refusal refusal before_header ≡ None → new.frame ≡ refusing old.frame → IsIo e
-      → Begins old new → DrawsRich view renderer same file refusal d old (Err e) new
+      → Begins old new → DrawsRich renderer view same file refusal d old (Err e) new
   refused_by_writer old new e answered frame io begun = record {
     frame = Blames-writer refusal (before_header ++ after_header) old.frame new.frame e frame io;
     stream = begun;
@@ -64,7 +64,7 @@ module _ {Id : Type 0} (view renderer : Config) (same : Id → Id → Bool) (fil
 
   -- a lookup after the header refused
   pub refused_late : (old new : Sink) (e : Error) → first_refusal refusal before_header ≡ None → new.frame ≡ old.frame → 0 < length after_header
-      → (e ≢ OutOfMemory → first_refusal refusal after_header ≡ Some e) → Begins old new → DrawsRich view renderer same file refusal d old (Err e) new
+      → (e ≢ OutOfMemory → first_refusal refusal after_header ≡ Some e) → Begins old new → DrawsRich renderer view same file refusal d old (Err e) new
   refused_late old new e answered frame some told begun = record {
     frame = Blames-lookup refusal (before_header ++ after_header) old.frame new.frame e frame
         (omega (arith, length-append before_header after_header)) (λ p q. first_refusal-none refusal before_header after_header answered ∙ told p);
@@ -76,7 +76,7 @@ module _ {Id : Type 0} (view renderer : Config) (same : Id → Id → Bool) (fil
 
   -- all was answered and written
   pub drawn : (old new : Sink) → first_refusal refusal before_header ≡ None → first_refusal refusal after_header ≡ None → new.frame ≡ old.frame
-      → (NamesAreStated file d → is_told old ≡ true → new ≡ sent old (viewed_picture view renderer same file refusal d)) → DrawsRich view renderer same file refusal d old (Ok tt) new
+      → (NamesAreStated file d → is_told old ≡ true → new ≡ sent old (viewed_picture renderer view same file refusal d)) → DrawsRich renderer view same file refusal d old (Ok tt) new
   drawn old new answered_early answered_late frame came = record {
     frame = frame;
     stream = came;
@@ -88,7 +88,7 @@ module _ {Id : Type 0} (view renderer : Config) (same : Id → Id → Bool) (fil
   -- after the header, which came, the rest was sent or cut short
   pub finished : (old mid new : Sink) (first rest : Stream) (r : Result (Unit {0}) Error) → first_refusal refusal before_header ≡ None → first_refusal refusal after_header ≡ None
       → Came old first mid → Sends mid rest r new → IfErr r IsIo
-      → (NamesAreStated file d → viewed_picture view renderer same file refusal d ≡ first ++ rest) → DrawsRich view renderer same file refusal d old r new
+      → (NamesAreStated file d → viewed_picture renderer view same file refusal d ≡ first ++ rest) → DrawsRich renderer view same file refusal d old r new
   finished old mid new first rest (Ok x) answered_early answered_late came sends io is =
       let both = came_both old mid new first rest came sends in
       drawn old new answered_early answered_late both.0 (λ named told. both.1 told ∙ ap (sent old) (sym (is named)))

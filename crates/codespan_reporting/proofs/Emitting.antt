@@ -30,14 +30,14 @@ module _ {Id : Type 0} (config : Config) (same : Id → Id → Bool) (file : Id 
   by_style Short rich bytes answered is = cc
 
   -- a rich picture that was drawn to a plain writer is what that writer holds
-  pub drawn_text : (view renderer : Config) (e : Diagnostic Id) (old new : Sink) (bytes : List ℕ) → view ≡ config → renderer ≡ config → e ≡ d
-      → DrawsRich view renderer same file refusal e old (Ok tt) new → old ≡ fresh_sink no_marks (Some []) → new.held ≡ Some bytes
+  pub drawn_text : (renderer view : Config) (e : Diagnostic Id) (old new : Sink) (bytes : List ℕ) → view ≡ config → renderer ≡ config → e ≡ d
+      → DrawsRich renderer view same file refusal e old (Ok tt) new → old ≡ fresh_sink no_marks (Some []) → new.held ≡ Some bytes
       → config.display_style ≡ Rich → MeansLabels config config same file d → IsDrawn config same file refusal d bytes
-  drawn_text view renderer e old new bytes by with of draws fresh held style means =
+  drawn_text renderer view e old new bytes by with of draws fresh held style means =
       let same_draws : DrawsRich config config same file refusal d old (Ok tt) new =
       subst (λ (x : Diagnostic Id). DrawsRich config config same file refusal x old (Ok tt) new) of
-      (subst (λ (r : Config). DrawsRich config r same file refusal e old (Ok tt) new) with
-      (subst (λ (v : Config). DrawsRich v renderer same file refusal e old (Ok tt) new) by draws)) in
+      (subst (λ (r : Config). DrawsRich r config same file refusal e old (Ok tt) new) with
+      (subst (λ (v : Config). DrawsRich renderer v same file refusal e old (Ok tt) new) by draws)) in
       let parts = by_style config.display_style style bytes same_draws.answered
       (λ named. held_text old new bytes _ fresh held (same_draws.stream named)) in
       record { answered = parts.0; is = parts.1; meaning = λ rich. means }

@@ -45,7 +45,7 @@ pub some_late : {Id : Type 0} (config : Config) (same : Id → Id → Bool) (fil
 some_late config same file refusal [] some = absurd (omega arith)
 some_late config same file refusal (x ∷ xs) some = omega arith
 
-module _ {Id : Type 0} (view renderer : Config) (same : Id → Id → Bool) (file : Id → FileModel) (refusal : Refusals Id) (d : Diagnostic Id) (sheet : Sheet Id)
+module _ {Id : Type 0} (renderer view : Config) (same : Id → Id → Bool) (file : Id → FileModel) (refusal : Refusals Id) (d : Diagnostic Id) (sheet : Sheet Id)
     (prepared : IsPrepared same file view (labels_of d) sheet) (early : first_refusal refusal (early_lookups view same file refusal (labels_of d)) ≡ None) where
   -- what all rows share
   abbrev look : Look
@@ -64,7 +64,7 @@ module _ {Id : Type 0} (view renderer : Config) (same : Id → Id → Bool) (fil
   end = whole_of_notes look (notes_of d)
 
   -- the picture is all of these
-  picture-is : NamesAreStated file d → viewed_picture view renderer same file refusal d ≡ (header ++ middle) ++ end
+  picture-is : NamesAreStated file d → viewed_picture renderer view same file refusal d ≡ (header ++ middle) ++ end
   picture-is named =
       let rows = snippets view (notes_of d) (labelled_files same file (labels_of d)) in
       let ended : Row → Stream = λ row. stream_of look row ++ newline in
@@ -76,21 +76,21 @@ module _ {Id : Type 0} (view renderer : Config) (same : Id → Id → Bool) (fil
       ∙ ap (λ ps. placed_snippets view (has_any (notes_of d)) ps (labelled_files same file (labels_of d))) (sym (prepared.places_are named)))
 
   -- the header was cut short
-  pub stopped-in_header : (old new : Sink) (e : Error) → Sends old header (Err e) new → IsIo e → DrawsRich view renderer same file refusal d old (Err e) new
+  pub stopped-in_header : (old new : Sink) (e : Error) → Sends old header (Err e) new → IsIo e → DrawsRich renderer view same file refusal d old (Err e) new
   stopped-in_header old new e sends io =
-      refused_by_writer view renderer same file refusal d old new e early sends.0 io
+      refused_by_writer renderer view same file refusal d old new e early sends.0 io
       (λ named told. Began-as old new ((header ++ middle) ++ end) _ (picture-is named) ((stopped_before old new (header ++ middle) end (stopped_before old new header middle sends)).1 told))
 
   -- the snippets were cut short
   pub stopped-in_snippets : (old mid new : Sink) (e : Error) → 0 < length (labels_of d) → Came old header mid
-      → SendsAsking (first_refusal refusal (late_lookups view same file refusal (labels_of d))) mid middle (Err e) new → DrawsRich view renderer same file refusal d old (Err e) new
+      → SendsAsking (first_refusal refusal (late_lookups view same file refusal (labels_of d))) mid middle (Err e) new → DrawsRich renderer view same file refusal d old (Err e) new
   stopped-in_snippets old mid new e some came part =
       ⊎_elim
       (λ (w : IsIo e × Stopped mid middle new). let stopped = stopped_before old new (header ++ middle) end (came_then_stopped old mid new header middle came w.1) in
-      refused_by_writer view renderer same file refusal d old new e early stopped.0 w.0
+      refused_by_writer renderer view same file refusal d old new e early stopped.0 w.0
       (λ named told. Began-as old new ((header ++ middle) ++ end) _ (picture-is named) (stopped.1 told)))
       (λ (w : EndedAsking (first_refusal refusal (late_lookups view same file refusal (labels_of d))) mid middle e new).
-      refused_late view renderer same file refusal d old new e early (w.frame ∙ came.0) (some_late view same file refusal (labels_of d) some) w.told
+      refused_late renderer view same file refusal d old new e early (w.frame ∙ came.0) (some_late view same file refusal (labels_of d) some) w.told
       (λ named told. Began-as old new ((header ++ middle) ++ end) _ (picture-is named)
       (cut old mid new came w.begun told)))
       part
@@ -102,6 +102,6 @@ module _ {Id : Type 0} (view renderer : Config) (same : Id → Id → Bool) (fil
   -- header and snippets came, and then the notes were sent
   pub drawn-whole : (old mid last new : Sink) (r : Result (Unit {0}) Error) → Came old header mid
       → SendsAsking (first_refusal refusal (late_lookups view same file refusal (labels_of d))) mid middle (Ok tt) last
-      → Sends last end r new → IfErr r IsIo → DrawsRich view renderer same file refusal d old r new
+      → Sends last end r new → IfErr r IsIo → DrawsRich renderer view same file refusal d old r new
   drawn-whole old mid last new r came part sends io =
-      finished view renderer same file refusal d old last new (header ++ middle) end r early part.0 (came_both old mid last header middle came part.1) sends io picture-is
+      finished renderer view same file refusal d old last new (header ++ middle) end r early part.0 (came_both old mid last header middle came part.1) sends io picture-is

@@ -1,5 +1,5 @@
 -- What a view knows before it draws: the files of the labels, and their entries in order.
-use Rattle.std.specs.Prelude.{◌≡◌, Bool, true, false, List, [], ◌∷◌, ◌++◌, All, Contains, IsSome, length, map, if◌then◌else◌}
+use Rattle.std.specs.Prelude.{◌≡◌, Bool, true, false, List, [], ◌∷◌, ◌++◌, All, Contains, IsSome, length, map}
 use Rattle.std.specs.List.Sorted.{IsPermutation, IsSortedBy}
 use Rattle.codespan_base.specs.declared.term.config.Config.{Config}
 use Rattle.codespan_base.specs.FileModel.{FileModel}
@@ -9,8 +9,8 @@ use Rattle.codespan_reporting.specs.Given.{place_of_given}
 use Rattle.codespan_reporting.specs.GivenEntries.{IsOfFiles, entry_of}
 use Rattle.codespan_reporting.specs.Padding.{padding_of}
 use Rattle.codespan_reporting.specs.PlacedLabels.{all_entries, file_ids, lane_after}
-use Rattle.codespan_reporting.specs.Rows.{Place, Row, EmptyRow}
-use Rattle.codespan_reporting.specs.Snippets.{InFile, LabelledFile, bare_lanes, labelled_files, place_of, snippet_at}
+use Rattle.codespan_reporting.specs.Rows.{Place, Row}
+use Rattle.codespan_reporting.specs.Snippets.{InFile, LabelledFile, labelled_files, place_of, row_after, snippet_at}
 
 -- the sheet is that of these labels
 pub record IsPrepared {Id : Type 0} (same : Id → Id → Bool) (file : Id → FileModel) (config : Config) (xs : List (InFile Id)) (sheet : Sheet Id) : Type 0 where
@@ -36,7 +36,7 @@ is_followed has_notes (s ∷ ss) = true
 -- a file's snippet that starts with this place, and the row after it, where something follows
 abbrev pub placed_snippet : Config → Bool → Place → LabelledFile → List Row
 placed_snippet config followed place s =
-    snippet_at config place s ++ (if followed then EmptyRow (bare_lanes s) ∷ [] else [])
+    snippet_at config place s ++ row_after followed s
 
 -- the snippets of files that start with these places
 abbrev pub placed_snippets : Config → Bool → List Place → List LabelledFile → List Row

@@ -77,7 +77,7 @@ IsOfFile e = Unit {0}
 
 -- ---- the views
 
-module _ {Id : Type 0} (view renderer : Config) (same : Id → Id → Bool) (file : Id → FileModel) (refusal : Refusals Id) (d : Diagnostic Id) where
+module _ {Id : Type 0} (renderer view : Config) (same : Id → Id → Bool) (file : Id → FileModel) (refusal : Refusals Id) (d : Diagnostic Id) where
   -- the rich picture: the view's config chooses lines and padding, the renderer's characters, tabs and lanes
   abbrev pub viewed_picture : Stream
   viewed_picture = rich_stream renderer view d.severity (heading_of d) (files_of same file d) (notes_of d)

@@ -1,5 +1,5 @@
 -- The laws of lanes: what a lane shows in each row says where its label goes.
-use Rattle.std.specs.Prelude.{◌≡◌, ℕ, ◌<◌, ◌≤◌, ◌⊎◌, ◌↔◌, Bool, false, if◌then◌else◌, List, [], ◌∷◌, ◌++◌, length, slice_get, Option, Some, None}
+use Rattle.std.specs.Prelude.{◌≡◌, ℕ, ◌<◌, ◌≤◌, ◌⊎◌, ◌↔◌, Bool, false, List, ◌++◌, length, slice_get, Option, Some, None}
 use Rattle.std.specs.Option.{option_map}
 use Rattle.codespan_base.specs.declared.term.config.Config.{Config}
 use Rattle.codespan_base.specs.declared.term.config.Layout.{Layout}
@@ -10,7 +10,7 @@ use Rattle.codespan_reporting.specs.declared.term.renderer.lanes.Shape.TheVarian
 use Rattle.codespan_reporting.specs.Lanes.{source_shape, plain_shape, below_shape, underline_shape, mark_in, is_unbroken}
 use Rattle.codespan_reporting.specs.Rows.{Line, Row, EmptyRow, BreakRow, SourceRow, CaretRow, PointerRow, HangingRow, UnderlineRow}
 use Rattle.codespan_reporting.specs.RowParts.{leading_of}
-use Rattle.codespan_reporting.specs.Snippets.{LabelledFile, bare_lanes, line_at, snippet}
+use Rattle.codespan_reporting.specs.Snippets.{LabelledFile, line_at, row_after, snippet}
 
 -- what a row shows in a lane, from the mark in it
 abbrev pub shape_of : (Part → Shape) → Option LaneMark → Shape
@@ -77,7 +77,7 @@ pub record IsOneLine (layout : Layout) (s : LabelledFile) (rows : List Row) (lan
 
 -- the rows of a file's snippet, and the empty row after it, if it has one
 abbrev pub rows_with_lanes : Config → LabelledFile → Bool → List Row
-rows_with_lanes config s is_followed = snippet config s ++ (if is_followed then EmptyRow (bare_lanes s) ∷ [] else [])
+rows_with_lanes config s is_followed = snippet config s ++ row_after is_followed s
 
 -- each lane of a file is one line
 abbrev pub LanesAreLines : Config → Layout → LabelledFile → Type 0

@@ -53,3 +53,4 @@ pub mod Headline
 pub mod Worked
 -- tables of files that are made for tests
 mod Listings
+pub mod LongestFiles

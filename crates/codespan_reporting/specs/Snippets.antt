@@ -101,6 +101,10 @@ snippet_at config place s =
 abbrev pub snippet : Config → LabelledFile → List Row
 snippet config s = snippet_at config (place_of s) s
 
+-- the row after a file's snippet, where something follows
+abbrev pub row_after : Bool → LabelledFile → List Row
+row_after followed s = if followed then EmptyRow (bare_lanes s) ∷ [] else []
+
 -- ---- the rows of all files
 
 -- an empty row stands after each file, but after the last only where notes follow

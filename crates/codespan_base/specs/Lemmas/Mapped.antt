@@ -1,5 +1,5 @@
 -- A file whose line numbers are set is lawful.
-use Rattle.std.proofs.Common.{◌≡◌, ℕ, suc, ◌+◌, ◌-◌, ◌<◌, ◌≤◌, inl, inr, List, [], ◌∷◌, length, get_or, map, ◌∙◌, arith, Option, None}
+use Rattle.std.proofs.Common.{◌≡◌, ℕ, suc, ◌+◌, ◌-◌, ◌^◌, ◌<◌, ◌≤◌, inl, inr, List, [], ◌∷◌, length, get_or, map, ◌∙◌, arith, Option, None}
 use Rattle.std.specs.Str.{IsUtf8, IsCharBoundary}
 use Rattle.std.proofs.lemmas.Str.{IsCharBoundary-before_ascii, IsCharBoundary-end}
 use Rattle.std.proofs.lemmas.List.{get_or_append_left, get_or_push, get_or-map, length-append, length-map}
@@ -7,7 +7,7 @@ use Rattle.codespan_base.specs.Lines.{line_starts_of, starts_after}
 use Rattle.codespan_base.specs.Lemmas.Lines.{cuts}
 use Rattle.codespan_base.specs.FileModel.{IsLawful, RefusesPastEnd}
 use Rattle.codespan_base.specs.FileModel.Lookup.{LineRange}
-use Rattle.codespan_base.specs.Lemmas.Simple.{last_or_not, simple_lawful, simple_past_end}
+use Rattle.codespan_base.specs.Lemmas.Simple.{ascending, last_or_not, simple_lawful, simple_past_end, start_cut}
 use Rattle.codespan_base.specs.MappedModel.{mapped_file, mapped_ends, mapped_refusal}
 
 -- a line before the last ends before the newline that the next one starts after
@@ -47,17 +47,17 @@ end_cut text u i h =
 -- a line does not end before its start
 end_after : (text : List ℕ) → IsUtf8 text → (i : ℕ) → i < length (line_starts_of text) → get_or (line_starts_of text) i 0 ≤ get_or (mapped_ends text) i 0
 end_after text u i h =
-    let law = simple_lawful None text u in
     elim (last_or_not text i h) [
-      | inl p ↦ omega (arith, mapped_end_before_last text i p, law.ascending i p)
-      | inr p ↦ omega (arith, mapped_end_of_last text i p, (law.starts_cut i h).0)
+      | inl p ↦ omega (arith, mapped_end_before_last text i p, ascending text i p)
+      | inr p ↦ omega (arith, mapped_end_of_last text i p, (start_cut text u i h).0)
     ]
 
 -- the file of a text whose line numbers are set is lawful
-pub mapped_lawful : (name : Option (List ℕ)) (text : List ℕ) (settings : List (ℕ × ℕ)) → IsUtf8 text → IsLawful (mapped_file name text settings)
-mapped_lawful name text settings u =
-    let law = simple_lawful name text u in
+pub mapped_lawful : (name : Option (List ℕ)) (text : List ℕ) (settings : List (ℕ × ℕ)) → IsUtf8 text → length text < 2 ^ 64 → IsLawful (mapped_file name text settings)
+mapped_lawful name text settings u fits =
+    let law = simple_lawful name text u fits in
     record {
+      fits = law.fits;
       some_line = law.some_line;
       first = law.first;
       ascending = law.ascending;

@@ -18,6 +18,7 @@ cut_at_zero (suc i) h = absurd (omega arith)
 -- the file of an id that is not there is lawful
 missing_lawful : IsLawful missing_file
 missing_lawful = record {
+  fits = omega arith;
   some_line = omega arith;
   first = refl;
   ascending = λ i h. absurd (omega arith);

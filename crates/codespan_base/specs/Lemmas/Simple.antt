@@ -1,5 +1,5 @@
 -- The file of a text is lawful.
-use Rattle.std.proofs.Common.{◌≡◌, ℕ, zero, suc, ◌+◌, ◌-◌, ◌<◌, ◌≤◌, List, [], ◌∷◌, length, get_or, refl, arith, Option, ◌⊎◌, ⊎_elim, inl, inr}
+use Rattle.std.proofs.Common.{◌≡◌, ℕ, zero, suc, ◌+◌, ◌-◌, ◌^◌, ◌<◌, ◌≤◌, List, [], ◌∷◌, length, get_or, refl, arith, Option, ◌⊎◌, ⊎_elim, inl, inr}
 use Rattle.std.proofs.lemmas.Bool.{cases_lt}
 use Rattle.std.proofs.lemmas.Bool.Decides.{leb_tells}
 use Rattle.std.proofs.Common.{add-zero, Ok, Err}
@@ -24,7 +24,7 @@ use Rattle.codespan_base.specs.FileModel.Lookup.{LineRange}
 use Rattle.codespan_base.specs.Lemmas.Lines.{cuts, count_split}
 
 -- a line starts at a character boundary
-start_cut : (text : List ℕ) → IsUtf8 text → (i : ℕ) → i < length (line_starts_of text) → IsCharBoundary text (get_or (line_starts_of text) i 0)
+pub start_cut : (text : List ℕ) → IsUtf8 text → (i : ℕ) → i < length (line_starts_of text) → IsCharBoundary text (get_or (line_starts_of text) i 0)
 start_cut text u zero h = IsCharBoundary-start text u
 start_cut text u (suc k) h =
     let c = cuts 0 text in
@@ -36,7 +36,7 @@ start_cut text u (suc k) h =
     rw e (IsCharBoundary-after_ascii text (x - (0 + 1)) u (omega arith) (omega arith))
 
 -- a line starts before the next one
-ascending : (text : List ℕ) (i : ℕ) → i + 1 < length (line_starts_of text) → get_or (line_starts_of text) i 0 < get_or (line_starts_of text) (i + 1) 0
+pub ascending : (text : List ℕ) (i : ℕ) → i + 1 < length (line_starts_of text) → get_or (line_starts_of text) i 0 < get_or (line_starts_of text) (i + 1) 0
 ascending text zero h = (cuts 0 text).above 0 (omega arith)
 ascending text (suc k) h =
     let e : suc k + 1 ≡ suc (k + 1) = omega arith in
@@ -73,8 +73,9 @@ end_after text u i h =
     ]
 
 -- the file of a text is lawful
-pub simple_lawful : (name : Option (List ℕ)) (text : List ℕ) → IsUtf8 text → IsLawful (simple_file name text)
-simple_lawful name text u = record {
+pub simple_lawful : (name : Option (List ℕ)) (text : List ℕ) → IsUtf8 text → length text < 2 ^ 64 → IsLawful (simple_file name text)
+simple_lawful name text u fits = record {
+  fits = fits;
   some_line = omega arith;
   first = refl;
   ascending = ascending text;
@@ -88,7 +89,7 @@ simple_lawful name text u = record {
 }
 
 -- of n lines the refusal past the last is told exactly from n on
-past_end_is : (n i : ℕ) → TellsPastEnd (if nat_lt i n then None else Some (LineTooLarge i (n - 1))) ↔ (n ≤ i)
+pub past_end_is : (n i : ℕ) → TellsPastEnd (if nat_lt i n then None else Some (LineTooLarge i (n - 1))) ↔ (n ≤ i)
 past_end_is n i =
     elim (leb_tells (suc i) n) [
       | inl p ↦ rw p.0 (absurd, λ h. omega (arith, h, p.1))
@@ -137,9 +138,14 @@ line_of_inside text xs byte i e found =
 pub text_is_utf8 : {Name Source : Type 0} {texts : Ghosts Source} (file : SimpleFile Name Source texts) → IsUtf8 (texts.text (source_of file))
 text_is_utf8 file = IsUtf8-had _ file.utf8
 
+-- and is one that a string can be
+pub text_fits : {Name Source : Type 0} {texts : Ghosts Source} (file : SimpleFile Name Source texts) → length (texts.text (source_of file)) < 2 ^ 64
+text_fits file = file.fits
+
 -- the law says nothing of numbers, columns and locations
 pub renumbered_lawful : (f : FileModel) (number : ℕ → ℕ) (column : ℕ → ℕ → ℕ) (location : ℕ → Location) → IsLawful f → IsLawful (record f { number = number; column = column; location = location })
 renumbered_lawful f number column location law = record {
+  fits = law.fits;
   some_line = law.some_line;
   first = law.first;
   ascending = law.ascending;

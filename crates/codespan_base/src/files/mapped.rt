@@ -1,6 +1,6 @@
 //! One text as a file whose line numbers are set, in the manner of `#line`.
 
-ghost use Rattle.std.specs.Prelude.{◌≡◌, ◌≤◌, [], refl, IfOk, IsOk, IfErr, IfSome, OnOk, OnErr, IsErrOf, None};
+ghost use Rattle.std.specs.Prelude.{◌≡◌, ◌^◌, ◌<◌, ◌≤◌, [], length, refl, IfOk, IsOk, IfErr, IfSome, OnOk, OnErr, IsErrOf, None};
 ghost use Rattle.std.specs.Str.{IsUtf8};
 ghost use Rattle.codespan_base.specs.Lines.{line_starts_of};
 ghost use Rattle.codespan_base.specs.Settings.{IsStrictlySorted, IsAt, IsGapFor};
@@ -25,6 +25,7 @@ pub struct MappedFile<Name, Source: AsStr> {
     numbers: Vec<(usize, usize)>,
     ghost starts: { line_starts.items ≡ line_starts_of (Source.text source) },
     ghost utf8: { ∥ IsUtf8 (Source.text source) ∥₁ },
+    ghost fits: { length (Source.text source) < 2 ^ 64 },
     ghost sorted: { IsStrictlySorted numbers.items },
 }
 
@@ -130,7 +131,7 @@ impl<'a, Name: Display + 'a, Source: AsStr + 'a> Files<'a> for MappedFile<Name, 
 
     ghost refusal = { λ s _. mapped_refusal (Source.text (mapped_source_of s)) (settings_of s) };
 
-    ghost lawful = { λ s _. mapped_lawful (Name.output s.name) (Source.text s.source) s.numbers.items (IsUtf8-had _ s.utf8) };
+    ghost lawful = { λ s _. mapped_lawful (Name.output s.name) (Source.text s.source) s.numbers.items (IsUtf8-had _ s.utf8) s.fits };
 
     ghost same_file = { λ s i j e. (refl, refl) };
 

@@ -1,6 +1,6 @@
 //! One text as a file.
 
-ghost use Rattle.std.specs.Prelude.{◌≡◌, ◌-◌, ◌+◌, refl, IfOk, IsOk, OnErr, IsErrOf, None};
+ghost use Rattle.std.specs.Prelude.{◌≡◌, ◌-◌, ◌+◌, ◌^◌, ◌<◌, length, refl, IfOk, IsOk, OnErr, IsErrOf, None};
 ghost use Rattle.std.specs.Str.{IsUtf8};
 ghost use Rattle.codespan_base.specs.Lines.{line_starts_of};
 
@@ -21,6 +21,7 @@ pub struct SimpleFile<Name, Source: AsStr> {
     line_starts: Vec<usize>,
     ghost starts: { line_starts.items ≡ line_starts_of (Source.text source) },
     ghost utf8: { ∥ IsUtf8 (Source.text source) ∥₁ },
+    ghost fits: { length (Source.text source) < 2 ^ 64 },
 }
 
 impl<Name: Drop, Source: AsStr + Drop> SimpleFile<Name, Source> {
@@ -64,7 +65,7 @@ impl<'a, Name: Display + 'a, Source: AsStr + 'a> Files<'a> for SimpleFile<Name, 
     ghost use Rattle.codespan_base.specs.FileTables.{name_of, source_of};
     ghost use Rattle.codespan_base.specs.SimpleModel.{simple_file, simple_refusal, simple_column, simple_location, past_end};
     ghost use Rattle.codespan_base.specs.FileModel.{IsLineRange, NeedsNoMemory, Tells, line_of, line_number_refusal};
-    ghost use Rattle.codespan_base.specs.Lemmas.Simple.{simple_lawful, simple_past_end, text_is_utf8};
+    ghost use Rattle.codespan_base.specs.Lemmas.Simple.{simple_lawful, simple_past_end, text_fits, text_is_utf8};
 
     /// There is one file.
     type FileId = ();
@@ -79,7 +80,7 @@ impl<'a, Name: Display + 'a, Source: AsStr + 'a> Files<'a> for SimpleFile<Name, 
 
     ghost refusal = { λ s _. simple_refusal (Source.text (source_of s)) };
 
-    ghost lawful = { λ s _. simple_lawful (Name.output (name_of s)) (Source.text (source_of s)) (text_is_utf8 s) };
+    ghost lawful = { λ s _. simple_lawful (Name.output (name_of s)) (Source.text (source_of s)) (text_is_utf8 s) (text_fits s) };
 
     ghost same_file = { λ s i j e. (refl, refl) };
 

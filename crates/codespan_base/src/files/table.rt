@@ -67,7 +67,7 @@ impl<'a, Name: Display + 'a, Source: AsStr + 'a> Files<'a> for SimpleFiles<Name,
     ghost use Rattle.codespan_base.specs.SimpleModel.{simple_file, simple_refusal, table_file, table_refusal};
     ghost use Rattle.codespan_base.specs.FileModel.{IsLineRange, NeedsNoMemory, Tells, line_of, line_number_refusal};
     ghost use Rattle.codespan_base.specs.FileModel.Lookup.{Name as NameLookup, Source as SourceLookup, LineIndex, LineNumber, ColumnNumber, LocationAt, LineRange};
-    ghost use Rattle.codespan_base.specs.Lemmas.Simple.{simple_lawful, simple_past_end, text_is_utf8};
+    ghost use Rattle.codespan_base.specs.Lemmas.Simple.{simple_lawful, simple_past_end, text_fits, text_is_utf8};
     ghost use Rattle.codespan_base.specs.Lemmas.Missing.{table_lawful, past_end_or, same_at};
 
     /// A place in the table, from 0.
@@ -83,7 +83,7 @@ impl<'a, Name: Display + 'a, Source: AsStr + 'a> Files<'a> for SimpleFiles<Name,
 
     ghost refusal = { λ s id. table_refusal Source.text (entries s) id };
 
-    ghost lawful = { λ s id. table_lawful (λ f. (name_of f, source_of f)) _ s.files.items id (λ f. simple_lawful (Name.output (name_of f)) (Source.text (source_of f)) (text_is_utf8 f)) };
+    ghost lawful = { λ s id. table_lawful (λ f. (name_of f, source_of f)) _ s.files.items id (λ f. simple_lawful (Name.output (name_of f)) (Source.text (source_of f)) (text_is_utf8 f) (text_fits f)) };
 
     ghost same_file = { λ s i j e. same_at (λ id. table_file Name.output Source.text (entries s) id) (λ id. table_refusal Source.text (entries s) id) i j e };
 

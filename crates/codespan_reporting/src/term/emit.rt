@@ -13,7 +13,7 @@ use codespan_base::term::{Config, PlainWriter};
 /// The picture of a diagnostic, as plain text.
 ///
 /// Refuses as the first lookup that refuses does, with `FormatError` where the `Display` of a file's name refuses, and with
-/// `OutOfMemory` where a growth is refused or a context would pass all line indices; `Io` is told only where a lookup told it. Without labels the one refusal is `OutOfMemory`.
+/// `OutOfMemory` where a growth is refused; `Io` is told only where a lookup told it. Without labels the one refusal is `OutOfMemory`.
 ///
 /// The style has to be [`DisplayStyle::Rich`](codespan_base::term::DisplayStyle::Rich): the others are not drawn yet.
 pub fn emit_into_string<'files, F: Files<'files>>(

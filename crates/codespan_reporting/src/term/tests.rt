@@ -4,6 +4,7 @@ mod chosen_lines;
 mod drawing;
 mod label_orders;
 mod listing;
+mod longest_file;
 mod other_files;
 mod refusals;
 mod several_lines;

@@ -136,3 +136,16 @@ pub fn assert_coloured(rt: &impl Abort, alloc: Global, drawing: Drawing<'_>) -> 
     assert_text(rt, text, &drawing);
     Ok(())
 }
+
+/// What the view writes, and what it answers.
+pub fn draw_to<'files, F: Files<'files>>(
+    alloc: Global,
+    config: &Config<'_>,
+    files: &'files F,
+    diagnostic: &Diagnostic<F::FileId>,
+) -> (Vec<u8>, Result<(), Error>) {
+    let mut plain = PlainWriter::new(Vec::new(alloc));
+    let mut renderer = Renderer::new(&mut plain, config);
+    let answer = RichDiagnostic::new(diagnostic, config).render(files, &mut renderer);
+    (plain.into_inner(), answer)
+}

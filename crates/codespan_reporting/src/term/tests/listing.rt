@@ -82,7 +82,7 @@ impl<'a, 'text: 'a> Files<'a> for Listing<'text> {
     ghost use Rattle.codespan_base.specs.FileModel.Lookup.{Name as NameLookup, Source as SourceLookup, LineIndex, LineNumber, ColumnNumber, LocationAt, LineRange};
     ghost use Rattle.codespan_base.specs.Lines.{line_starts_of};
     ghost use Rattle.codespan_base.specs.SimpleModel.{simple_file, simple_column, past_end};
-    ghost use Rattle.codespan_base.specs.Lemmas.Simple.{renumbered_lawful, simple_lawful, simple_past_end, text_is_utf8};
+    ghost use Rattle.codespan_base.specs.Lemmas.Simple.{renumbered_lawful, simple_lawful, simple_past_end, text_fits, text_is_utf8};
     ghost use Rattle.codespan_reporting.specs.Listings.{is_at, is_from, refused_if, refused-past_end};
 
     type FileId = ();
@@ -167,7 +167,7 @@ impl<'a, 'text: 'a> Files<'a> for Listing<'text> {
 
     // The lines are those of the file of a text, which is lawful; numbers are free.
     ghost lawful = { λ s _. let text = (source_of s.file).now in let name = Some (name_of s.file).now in
-        renumbered_lawful (simple_file name text) _ _ _ (simple_lawful name text (text_is_utf8 s.file)) };
+        renumbered_lawful (simple_file name text) _ _ _ (simple_lawful name text (text_is_utf8 s.file) (text_fits s.file)) };
 
     // There is one id.
     ghost same_file = { λ s i j e. (refl, refl) };

@@ -2,6 +2,7 @@
 
 use crate::diagnostic::{Diagnostic, Label};
 use crate::files::{Error, Files, SimpleFile};
+use crate::term::tests::drawing::draw_to;
 use crate::term::tests::listing::{Listing, Refused};
 use crate::term::{Config, Layout, PlainWriter, Renderer, RichDiagnostic, emit_into_string};
 use std::alloc::Global;
@@ -10,19 +11,6 @@ use std::io::{ErrorKind, Write};
 use std::process::Abort;
 use std::test::Fail;
 use std::{fmt, io};
-
-/// What the view writes, and what it answers.
-fn draw_to<'files, F: Files<'files>>(
-    alloc: Global,
-    config: &Config<'_>,
-    files: &'files F,
-    diagnostic: &Diagnostic<F::FileId>,
-) -> (Vec<u8>, Result<(), Error>) {
-    let mut plain = PlainWriter::new(Vec::new(alloc));
-    let mut renderer = Renderer::new(&mut plain, config);
-    let answer = RichDiagnostic::new(diagnostic, config).render(files, &mut renderer);
-    (plain.into_inner(), answer)
-}
 
 /// A lookup of the table.
 #[derive(Clone, Copy)]

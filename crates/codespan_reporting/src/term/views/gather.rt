@@ -181,7 +181,7 @@ fn gather_line<'files, 'd, F: Files<'files>>(
     Ok(true)
 }
 
-/// Adds what a label says of the lines that it asks for, in their order.
+/// Adds what a label says of the lines that it asks for, in their order, up to the greatest index at most.
 fn gather_lines<'files, 'd, F: Files<'files>>(
     files: &'files F,
     config: &Config<'_>,
@@ -195,17 +195,12 @@ fn gather_lines<'files, 'd, F: Files<'files>>(
     ensures added { OnOk result (AddsOf (F.file files.now label.now.file_id) entries.old.items entries.new.items (entries_of config.now (F.file files.now label.now.file_id) (label_place at) (label_of label.now).label)) }
     ensures refused { Tells (first_refusal (F.refusal files.now) (asked_of label.now.file_id (flat_map of_line (asked_lines config.now (F.file files.now label.now.file_id) (label_of label.now).label) ++ probe config.now (F.file files.now label.now.file_id) (F.refusal files.now label.now.file_id) (label_of label.now).label))) result }
 {
-    let before = lines.first.saturating_sub(config.before_label_lines);
-    let after = lines.last.saturating_add(config.after_label_lines);
-    let end = after.max(lines.first).saturating_add(1);
-    for index in before.min(lines.last)..end {
+    let first = lines.first.saturating_sub(config.before_label_lines);
+    let last = lines.last.saturating_add(config.after_label_lines);
+    for index in first.min(lines.last)..=last.max(lines.first) {
         if !gather_line(files, config, at, label, lines, index, entries)? {
             return Ok(());
         }
-    }
-    // No file of so many lines fits in memory, and no index goes past them.
-    if end == usize::MAX {
-        return Err(Error::OutOfMemory);
     }
     Ok(())
 }

@@ -53,7 +53,7 @@ impl<'diagnostic, 'config, FileId: Copy + Eq> RichDiagnostic<'diagnostic, 'confi
     /// The renderer's own configuration says which characters it draws with, how wide tabs are, and how lanes look.
     ///
     /// Refuses as the first lookup that refuses does, with `FormatError` where the `Display` of a file's name refuses, with
-    /// `OutOfMemory` where a growth is refused or a context would pass all line indices, and with `Io` where the writer refuses.
+    /// `OutOfMemory` where a growth is refused, and with `Io` where the writer refuses.
     /// Nothing is written then, unless it was the writer or a growth that refused, or a lookup after the header: of a file's source, or of the range or,
     /// in the classic layout, the number of a line between two shown ones. Without labels there is no lookup, no memory is taken, and the one refusal is `Io`.
     pub fn render<'files, F, W>(
@@ -66,7 +66,7 @@ impl<'diagnostic, 'config, FileId: Copy + Eq> RichDiagnostic<'diagnostic, 'confi
         W: WriteStyle,
         FileId: 'files,
         ensures same { SameRenderer renderer.old renderer.new }
-        ensures draws { DrawsRich (view_config_of self.now) (config_of renderer.old) FileId.eq (F.file files.now) (F.refusal files.now) (diagnostic_of self.now) (W.sink (writer_of renderer.old)) result (W.sink (writer_of renderer.new)) }
+        ensures draws { DrawsRich (config_of renderer.old) (view_config_of self.now) FileId.eq (F.file files.now) (F.refusal files.now) (diagnostic_of self.now) (W.sink (writer_of renderer.old)) result (W.sink (writer_of renderer.new)) }
         ensures meaning { MeansLabels (config_of renderer.old) (view_config_of self.now) FileId.eq (F.file files.now) (diagnostic_of self.now) }
     {
         if self.diagnostic.labels.is_empty() {
@@ -88,7 +88,7 @@ impl<'diagnostic, 'config, FileId: Copy + Eq> RichDiagnostic<'diagnostic, 'confi
         FileId: 'files,
         requires { 0 < length (diagnostic_of self.now).labels.items }
         ensures same { SameRenderer renderer.old renderer.new }
-        ensures draws { DrawsRich (view_config_of self.now) (config_of renderer.old) FileId.eq (F.file files.now) (F.refusal files.now) (diagnostic_of self.now) (W.sink (writer_of renderer.old)) result (W.sink (writer_of renderer.new)) }
+        ensures draws { DrawsRich (config_of renderer.old) (view_config_of self.now) FileId.eq (F.file files.now) (F.refusal files.now) (diagnostic_of self.now) (W.sink (writer_of renderer.old)) result (W.sink (writer_of renderer.new)) }
     {
         let diagnostic = self.diagnostic;
         let labels = &diagnostic.labels;

@@ -1,12 +1,15 @@
-use Rattle.std.proofs.Common.{rules, ◌≢◌, ◌+◌, ◌-◌, ◌^◌, ◌<◌, ◌≤◌, Err, ap, ◌∙◌, arith}
+use Rattle.std.proofs.Common.{rules, ◌≡◌, None, ◌++◌, flat_map, ◌+◌, ◌-◌, ◌<◌, ◌≤◌, Err, ap, ◌∙◌, arith}
 use Rattle.std.proofs.lemmas.Result.{err_from_is_err_and}
 use Rattle.codespan_base.specs.FileModel.{line_count}
 use Rattle.codespan_base.specs.Labels.{first_line, last_line}
 use Rattle.codespan_base.specs.Lemmas.Lines.{line_of_below}
-use Rattle.codespan_reporting.specs.GivenEntries.{IsLineOf, label_place}
-use Rattle.codespan_reporting.specs.Lookups.{line_refusal}
+use Rattle.codespan_reporting.specs.Entries.{entries_of}
+use Rattle.codespan_reporting.specs.GivenEntries.{AddsOf, IsLineOf, label_place}
+use Rattle.codespan_reporting.specs.Lookups.{asked_lines, asked_of, first_refusal, line_refusal, of_line, probe}
 use Rattle.codespan_reporting.specs.Picture.{label_of}
-use Rattle.codespan_reporting.proofs.Contexts.{gathered-start, gathered-step, gathered-end, gathered-context, gathered-refused}
+use Rattle.codespan_reporting.proofs.Contexts.{IsGathered, gathered-start, gathered-context, gathered-reach, gathered-refused, gathered-step}
+use Rattle.codespan_reporting.proofs.term.views.gather.gather_lines.Given.{Over}
+use Rattle.codespan_reporting.proofs.term.views.gather.gather_lines.Goals.{Else-not-branch}
 use Rattle.codespan_reporting.proofs.term.views.gather.gather_lines.Goals as goal
 
 pub loop-index-init : goal.loop-index-init
@@ -16,7 +19,7 @@ loop-index-init g c =
     let x = (label_of c.args.label.now).label in
     let some : 0 < line_count f = search rules in
     let low : c.min-index.result ≤ last_line f x = omega (arith, c.min-index.ensures, c.requires.last) in
-    let far : c.min-index.result ≤ first_line f x - c.args.config.now.before_label_lines = omega (arith, c.min-index.ensures, c.saturating_sub-before.ensures, c.requires.first) in
+    let far : c.min-index.result ≤ first_line f x - c.args.config.now.before_label_lines = omega (arith, c.min-index.ensures, c.saturating_sub-first.ensures, c.requires.first) in
     gathered-start (g.F.Files.refusal c.args.files.now) id c.args.config.now f x (λ e. IsLineOf f e.line) (label_place c.args.at) _ _
     (line_of_below f.starts x.end some) low far
 
@@ -49,8 +52,11 @@ returns-then-not-branch-clause-refused g c =
     (gathered-context (g.F.Files.refusal c.args.files.now) id c.args.config.now f (label_of c.args.label.now).label (λ e. IsLineOf f e.line) (label_place c.args.at) _ _ _
     c.loop-index.invariant ended.1 ended.2).1
 
-pub loop-index-preserved : goal.loop-index-preserved
-loop-index-preserved g c =
+-- one more line is done with
+one_more : (g : Over) (c : goal.Else-not-branch g)
+    → let f = g.F.Files.file c.args.files.now c.args.label.now.file_id in
+    IsGathered (g.F.Files.refusal c.args.files.now) c.args.label.now.file_id c.args.config.now f (label_of c.args.label.now).label (λ e. IsLineOf f e.line) (label_place c.args.at) c.args.entries.now.items c.gather_line.new.entries.items (c.loop-index.index + 1)
+one_more g c =
     let id = c.args.label.now.file_id in
     let f = g.F.Files.file c.args.files.now id in
     let x = (label_of c.args.label.now).label in
@@ -58,25 +64,34 @@ loop-index-preserved g c =
     let on = c.if-not-branch.false in
     gathered-step (g.F.Files.refusal c.args.files.now) id c.args.config.now f x (λ e. IsLineOf f e.line) (label_place c.args.at) _ _ _ _
     (line_of_below f.starts x.start some) (line_of_below f.starts x.end some)
-    (omega (arith, c.loop-index-test.true, c.saturating_add-end.ensures, c.max.ensures, c.saturating_add-after.ensures, c.requires.first, c.requires.last))
+    (omega (arith, c.loop-index-test.true, c.max-index-end.ensures, c.saturating_add-last.ensures, c.requires.first, c.requires.last))
     c.loop-index.invariant (c.in_ok-gather_line.ensures.inside on) (c.in_ok-gather_line.ensures.added on) (c.in_ok-gather_line.ensures.answered on)
 
-pub returns-clause-added : goal.returns-clause-added
-returns-clause-added g c =
-    let id = c.args.label.now.file_id in
-    let f = g.F.Files.file c.args.files.now id in
-    let x = (label_of c.args.label.now).label in
-    let whole : c.saturating_add-end.result ≢ 2 ^ 64 - 1 = c.if-end.false in
-    let first : first_line f x < c.loop-index.index = omega (arith, whole, c.loop-index-test.false, c.saturating_add-end.ensures, c.max.ensures, c.requires.first) in
-    let far : last_line f x + c.args.config.now.after_label_lines < c.loop-index.index = omega (arith, whole, c.loop-index-test.false, c.saturating_add-end.ensures, c.max.ensures, c.saturating_add-after.ensures, c.requires.last) in
-    (gathered-end (g.F.Files.refusal c.args.files.now) id c.args.config.now f x (λ e. IsLineOf f e.line) (label_place c.args.at) _ _ _ c.loop-index.invariant first far).0
+pub loop-index-preserved : goal.loop-index-preserved
+loop-index-preserved g c = one_more g (goal.at.loop-index-preserved g c).Else-not-branch
 
-pub returns-clause-refused : goal.returns-clause-refused
-returns-clause-refused g c =
-    let id = c.args.label.now.file_id in
+-- the last line is done with
+all_done : (g : Over) (c : goal.Else-not-branch g) → c.max-index-end.result ≤ c.loop-index.index
+    → let id = c.args.label.now.file_id in
     let f = g.F.Files.file c.args.files.now id in
     let x = (label_of c.args.label.now).label in
-    let whole : c.saturating_add-end.result ≢ 2 ^ 64 - 1 = c.if-end.false in
-    let first : first_line f x < c.loop-index.index = omega (arith, whole, c.loop-index-test.false, c.saturating_add-end.ensures, c.max.ensures, c.requires.first) in
-    let far : last_line f x + c.args.config.now.after_label_lines < c.loop-index.index = omega (arith, whole, c.loop-index-test.false, c.saturating_add-end.ensures, c.max.ensures, c.saturating_add-after.ensures, c.requires.last) in
-    (gathered-end (g.F.Files.refusal c.args.files.now) id c.args.config.now f x (λ e. IsLineOf f e.line) (label_place c.args.at) _ _ _ c.loop-index.invariant first far).1
+    let refusal = g.F.Files.refusal c.args.files.now in
+    AddsOf f c.args.entries.now.items c.gather_line.new.entries.items (entries_of c.args.config.now f (label_place c.args.at) x)
+    × (first_refusal refusal (asked_of id (flat_map of_line (asked_lines c.args.config.now f x) ++ probe c.args.config.now f (refusal id) x)) ≡ None)
+all_done g c at_last =
+    let id = c.args.label.now.file_id in
+    let f = g.F.Files.file c.args.files.now id in
+    let claim : g.claim c.lifetimes = search rules in
+    let files = g.met.F.Files c.lifetimes claim in
+    gathered-reach (g.F.Files.refusal c.args.files.now) id c.args.config.now f (label_of c.args.label.now).label (λ e. IsLineOf f e.line) (label_place c.args.at) _ _ _
+    (one_more g c)
+    (omega (arith, at_last, c.max-index-end.ensures, c.requires.first))
+    (omega (arith, at_last, c.max-index-end.ensures, c.saturating_add-last.ensures, c.requires.last))
+    (omega (arith, c.max-index-end.ensures, c.loop-index-test.true))
+    (files.lawful c.args.files.now id) (files.past_end c.args.files.now id _)
+
+pub returns-else-not-branch-clause-added : goal.returns-else-not-branch-clause-added
+returns-else-not-branch-clause-added g c = (all_done g (goal.at.returns-else-not-branch-clause-added g c).Else-not-branch (search rules)).0
+
+pub returns-else-not-branch-clause-refused : goal.returns-else-not-branch-clause-refused
+returns-else-not-branch-clause-refused g c = (all_done g (goal.at.returns-else-not-branch-clause-refused g c).Else-not-branch (search rules)).1

@@ -30,7 +30,7 @@ returns-in_err-sheet-clause-draws g c =
     let some : 0 < length (labels_of d) = omega (arith, c.requires, length-map d.labels.items label_of) in
     let p = err_from_is_err_and c.from_residual.result c.from_residual.ensures.1 in
     rw (p.1 ∙ ap Err p.2)
-    (refused_early view renderer same file refusal d _ _ _ refl (some_early view same file refusal (labels_of d) some)
+    (refused_early renderer view same file refusal d _ _ _ refl (some_early view same file refusal (labels_of d) some)
     (λ m f. ap (λ (ls : List (Label g.row.FileId.Denot)). first_refusal refusal (early_lookups view same file refusal (map label_of ls))) (sym c.as_slice.ensures.value) ∙ c.in_err-sheet.ensures.refused m f))
 
 pub returns-in_err-draw_header-clause-draws : goal.returns-in_err-draw_header-clause-draws
@@ -45,7 +45,7 @@ returns-in_err-draw_header-clause-draws g c =
     let early : first_refusal refusal (early_lookups view same file refusal (labels_of d)) ≡ None =
     ap (λ (ls : List (Label g.row.FileId.Denot)). first_refusal refusal (early_lookups view same file refusal (map label_of ls))) (sym c.as_slice.ensures.value) ∙ c.in_ok-sheet.ensures.refused in
     let p = err_from_is_err_and c.from_residual-in_err-draw_header.result c.from_residual-in_err-draw_header.ensures.1 in
-    rw (p.1 ∙ ap Err p.2) (stopped-in_header view renderer same file refusal d c.in_ok-sheet.sheet prepared early _ _ _ c.in_err-draw_header.ensures.sends c.in_err-draw_header.ensures.io)
+    rw (p.1 ∙ ap Err p.2) (stopped-in_header renderer view same file refusal d c.in_ok-sheet.sheet prepared early _ _ _ c.in_err-draw_header.ensures.sends c.in_err-draw_header.ensures.io)
 
 pub returns-in_err-draw_snippets-clause-draws : goal.returns-in_err-draw_snippets-clause-draws
 returns-in_err-draw_snippets-clause-draws g c =
@@ -63,7 +63,7 @@ returns-in_err-draw_snippets-clause-draws g c =
     (placed_snippets view (has_any (notes_of d)) (map place_of_given c.in_ok-sheet.sheet.loci.items) (labelled_files same file (labels_of d))) in
     let e = c.in_err-draw_snippets.field-0.0 in
     let p = err_from_is_err_and c.from_residual-in_err-draw_snippets.result c.from_residual-in_err-draw_snippets.ensures.1 in
-    rw (p.1 ∙ ap Err p.2) (stopped-in_snippets view renderer same file refusal d c.in_ok-sheet.sheet prepared early _ _ _ e some c.in_ok-draw_header.ensures.sends
+    rw (p.1 ∙ ap Err p.2) (stopped-in_snippets renderer view same file refusal d c.in_ok-sheet.sheet prepared early _ _ _ e some c.in_ok-draw_header.ensures.sends
     (asking_at middle _ _ c.in_ok-draw_header.ensures.same.config _ _ _ (Err e) c.in_err-draw_snippets.ensures.draws))
 
 pub returns-clause-draws : goal.returns-clause-draws
@@ -81,7 +81,7 @@ returns-clause-draws g c =
     (placed_snippets view (has_any (notes_of d)) (map place_of_given c.in_ok-sheet.sheet.loci.items) (labelled_files same file (labels_of d))) in
     let first = c.in_ok-draw_header.ensures.same.config in
     let second = c.in_ok-draw_snippets.ensures.same.config in
-    drawn-whole view renderer same file refusal d c.in_ok-sheet.sheet prepared early _ _ _ _ c.draw_notes.result c.in_ok-draw_header.ensures.sends
+    drawn-whole renderer view same file refusal d c.in_ok-sheet.sheet prepared early _ _ _ _ c.draw_notes.result c.in_ok-draw_header.ensures.sends
     (asking_at middle _ _ first _ _ _ (Ok tt) c.in_ok-draw_snippets.ensures.draws)
     (sends_at (λ (k : Config). whole_of_notes (look_of k d.severity c.in_ok-sheet.sheet.padding) (notes_of d)) _ _ (second ∙ first) _ _ c.draw_notes.result c.draw_notes.ensures.sends)
     c.draw_notes.ensures.io
