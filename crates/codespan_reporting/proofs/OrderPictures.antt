@@ -1,6 +1,8 @@
 -- The order of labels is free: a reordering that keeps the orders that a rich picture shows changes nothing in it.
-use Rattle.std.proofs.Common.{◌≡◌, ℕ, ◌+◌, ◌-◌, max, Bool, ◌&&◌, ◌||◌, nat_lt, List, [], ◌∷◌, ◌++◌, map, filter, fold, flat_map, length, None, refl, sym, ap, ap₂, ◌∙◌}
+use Rattle.std.proofs.Common.{◌≡◌, ℕ, ◌+◌, ◌-◌, max, Bool, true, ◌&&◌, ◌||◌, nat_lt, List, [], ◌∷◌, ◌++◌, map, filter, fold, flat_map, length, None, refl, sym, ap, ap₂, ◌∙◌}
 use mathlib.Core.Path.{fun_ext}
+use Rattle.std.specs.Cmp.{IsEquivalence, first_so, second_so}
+use Rattle.std.specs.Cmp.Lexicographic.{pointwise}
 use Rattle.std.specs.List.{range_with_len, enumerate_from, filter_map}
 use Rattle.codespan_base.specs.declared.diagnostic.Severity.{Severity}
 use Rattle.codespan_base.specs.declared.term.config.Config.{Config}
@@ -111,11 +113,29 @@ module _ {Id : Type 0} (view : Config) (g h : Id → LabelledFile) (gives : (id 
       ap₂ (λ padding rows. stream_of_rows (look_of renderer severity padding) ((HeaderRow None heading ∷ rows) ++ note_rows notes ++ (BlankRow ∷ [])))
       (ap (fold max 0) (digits-same ids)) (snippets-same notes ids)
 
--- a reordering that keeps these orders changes nothing in a rich picture
+-- ---- equal ids
+
+module _ {Id : Type 0} (same : Id → Id → Bool) (file : Id → FileModel) (o : IsEquivalence same)
+    (one_file : (i j : Id) → same i j ≡ true → file i ≡ file j) (xs : List (InFile Id)) where
+  -- equal ids have one file with one list of labels
+  file-alike : (i j : Id) → same i j ≡ true → labelled_file same file xs i ≡ labelled_file same file xs j
+  file-alike i j t = ap₂ {C = LabelledFile}
+      (λ f (named : InFile Id → Bool). record { file = f; labels = map (λ (x : InFile Id). x.label) (filter named xs) })
+      (one_file i j t) (fun_ext (λ (x : InFile Id). o.congr i j x.id t))
+
+  -- ids that are equal one by one have the same files
+  files-alike : (is js : List Id) → pointwise same is js ≡ true → map (labelled_file same file xs) is ≡ map (labelled_file same file xs) js
+  files-alike [] [] h = refl
+  files-alike [] (j ∷ js) h = cc
+  files-alike (i ∷ is) [] h = cc
+  files-alike (i ∷ is) (j ∷ js) h =
+      ap₂ (λ s ss. s ∷ ss) (file-alike i j (first_so (same i j) (pointwise same is js) h)) (files-alike is js (second_so (same i j) (pointwise same is js) h))
+
+-- a reordering that keeps these orders changes nothing in a rich picture, where equal ids have one file
 pub order_is_free : {Id : Type 0} (same : Id → Id → Bool) (file : Id → FileModel) → OrderIsFree same file
-order_is_free {Id} same file xs ys renderer view severity heading notes orders =
+order_is_free {Id} same file xs ys renderer view severity heading notes o one_file orders =
     rich-same view (labelled_file same file xs) (labelled_file same file ys) gives renderer severity heading notes (first_seen same (map (λ (x : InFile Id). x.id) xs))
-    ∙ ap (λ ids. rich_stream renderer view severity heading (map (labelled_file same file ys) ids) notes) orders.files
+    ∙ ap (λ ss. rich_stream renderer view severity heading ss notes) (files-alike same file o one_file ys _ _ orders.files)
   where
     gives : (id : Id) → GiveTheSame view (labelled_file same file xs id) (labelled_file same file ys id)
     gives id = gives-same (file id) (labelled_file same file xs id).labels (labelled_file same file ys id).labels

@@ -1,5 +1,7 @@
 -- The law of the order of labels: which orders a rich picture shows.
-use Rattle.std.specs.Prelude.{◌≡◌, ℕ, Bool, not, ◌&&◌, ◌==◌, List, map, filter}
+use Rattle.std.specs.Prelude.{◌≡◌, ℕ, Bool, true, not, ◌&&◌, ◌==◌, List, map, filter}
+use Rattle.std.specs.Cmp.{IsEquivalence}
+use Rattle.std.specs.Cmp.Lexicographic.{pointwise}
 use Rattle.codespan_base.specs.declared.term.config.Config.{Config}
 use Rattle.codespan_base.specs.FileModel.{FileModel}
 use Rattle.codespan_base.specs.Labels.{Labelled, is_single, first_line, first_seen, drawn_label}
@@ -21,15 +23,15 @@ abbrev pub one_range_of : {Id : Type 0} → (Id → Id → Bool) → (Id → Fil
 one_range_of same file xs id l start end =
     filter (λ x. is_single (file id) x && (first_line (file id) x == l) && is_drawn_at (file id) start end x) (labelled_file same file xs id).labels
 
--- the orders that a rich picture shows
+-- the orders that a rich picture shows; the ids of the files need only be equal, one by one
 pub record SameOrders {Id : Type 0} (same : Id → Id → Bool) (file : Id → FileModel) (xs ys : List (InFile Id)) : Type 0 where
-  pub files : first_seen same (map (λ (x : InFile Id). x.id) xs) ≡ first_seen same (map (λ (x : InFile Id). x.id) ys)
+  pub files : pointwise same (first_seen same (map (λ (x : InFile Id). x.id) xs)) (first_seen same (map (λ (x : InFile Id). x.id) ys)) ≡ true
   pub several_lines : (id : Id) → several_lines_of same file xs id ≡ several_lines_of same file ys id
   pub one_line : (id : Id) (l start end : ℕ) → one_range_of same file xs id l start end ≡ one_range_of same file ys id l start end
 
--- a reordering that keeps these orders changes nothing in a rich picture
+-- where ids are equal as `Eq` says, and equal ids have one file, a reordering that keeps these orders changes nothing in a rich picture
 abbrev pub OrderIsFree : {Id : Type 0} → (Id → Id → Bool) → (Id → FileModel) → Type 0
 OrderIsFree {Id} same file = (xs ys : List (InFile Id)) (renderer view : Config) (severity : Severity) (heading : Heading) (notes : List (List ℕ))
-    → SameOrders same file xs ys
+    → IsEquivalence same → ((i j : Id) → same i j ≡ true → file i ≡ file j) → SameOrders same file xs ys
     → rich_stream renderer view severity heading (labelled_files same file xs) notes
     ≡ rich_stream renderer view severity heading (labelled_files same file ys) notes

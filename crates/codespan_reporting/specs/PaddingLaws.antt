@@ -7,16 +7,16 @@ use Rattle.codespan_reporting.specs.Lines.{drawn_lines}
 use Rattle.codespan_reporting.specs.Snippets.{LabelledFile}
 use Rattle.codespan_reporting.specs.Padding.{padding_of, digit_count}
 
--- the numbers of a file's lines ascend with their index
+-- the numbers of a file's lines never fall as the index rises
 abbrev pub NumbersAscend : FileModel → Type 0
-NumbersAscend f = (i : ℕ) → i + 1 < line_count f → f.number i < f.number (i + 1)
+NumbersAscend f = (i : ℕ) → i + 1 < line_count f → f.number i ≤ f.number (i + 1)
 
 -- every drawn line's number fits the padding
 abbrev pub NumbersFit : Config → List LabelledFile → Type 0
 NumbersFit config ss = (s : LabelledFile) (l : ℕ) → Contains ss s → Contains (drawn_lines config s.file s.labels) l
     → digit_count (s.file.number l) ≤ padding_of config ss
 
--- they fit where nothing is broken, and else where no line after a label's last is drawn and the numbers ascend
+-- they fit where nothing is broken, and else where no line after a label's last is drawn and the numbers never fall
 abbrev pub PaddingHasRoom : Config → List LabelledFile → Type 0
 PaddingHasRoom config ss =
     (is_unbroken config.layout ≡ false → (config.after_label_lines ≡ 0) × ((s : LabelledFile) → Contains ss s → NumbersAscend s.file))

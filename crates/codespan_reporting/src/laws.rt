@@ -97,7 +97,8 @@ pub fn each_message_trails_or_hangs()
 // ---- the order of labels
 
 /// A reordering of the labels that keeps the orders that a rich picture shows changes nothing in it: that of the files by their
-/// first labels, of each file's labels over several lines, and of the labels of one line and one drawn range.
+/// first labels, of each file's labels over several lines, and of the labels of one line and one drawn range. The ids of the files
+/// need only be equal, as equal ids name one file.
 pub fn order_is_free<Id>()
     ensures { (same : Id → Id → Bool) (file : Id → FileModel) → OrderIsFree same file }
 {}
@@ -105,7 +106,7 @@ pub fn order_is_free<Id>()
 // ---- every row
 
 /// The number of each drawn line fits the padding: in the unbroken layout always, and else where no line after a label's
-/// last is drawn and the numbers ascend.
+/// last is drawn and the numbers never fall.
 pub fn padding_has_room()
     ensures { (config : Config) (ss : List LabelledFile) → PaddingHasRoom config ss }
 {}
