@@ -4,6 +4,7 @@ pub mod CaretLemmas
 pub mod FillLemmas
 pub mod Filling
 pub mod LaneWidths
+pub mod LanesShown
 pub mod LaneLineLemmas
 pub mod LaneLineRows
 pub mod LaneLineRuns

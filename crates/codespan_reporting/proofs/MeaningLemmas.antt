@@ -15,6 +15,7 @@ use Rattle.codespan_reporting.proofs.CaretLemmas.{text_of-line_carets}
 use Rattle.codespan_reporting.proofs.BreakLemmas as breaks
 use Rattle.codespan_reporting.proofs.FillLemmas.{drawing_of_shown}
 use Rattle.codespan_reporting.proofs.LaneLineRuns as runs
+use Rattle.codespan_reporting.proofs.LanesShown.{lanes_are_shown}
 use Rattle.codespan_reporting.proofs.MessagesOnce as messages
 use Rattle.codespan_reporting.proofs.PaddingLemmas as padding
 use Rattle.codespan_reporting.proofs.PointerLemmas as pointers
@@ -44,6 +45,7 @@ pub picture_means_labels : {Id : Type 0} (renderer view : Config) (same : Id →
 picture_means_labels renderer view same file d equal some_line = record {
   each_file = λ s inside. snippet_means_labels view _ s;
   carets = carets_are_cells;
+  lanes = lanes_are_shown;
   messages = messages.messages_stand_once renderer view same file d equal some_line;
   room = padding.padding_has_room view (files_of same file d);
 }

@@ -16,7 +16,7 @@ use Rattle.codespan_reporting.specs.Padding.{padding_of}
 use Rattle.codespan_reporting.specs.Picture.{look_of, labels_of, files_of, heading_of, notes_of, picture, rich_stream}
 use Rattle.codespan_reporting.specs.Lookups.{Refusals, lookups_in, early_lookups, late_lookups, first_refusal, IsSomeRefused, AllAnswered, headers_before_refusal}
 use Rattle.codespan_reporting.specs.CaretLaws.{CaretsAreCells, StartsInWide, PointersAreCells}
-use Rattle.codespan_reporting.specs.LaneLaws.{BarsAreLabels, LanesAreLines}
+use Rattle.codespan_reporting.specs.LaneLaws.{BarsAreLabels, LanesAreLines, LanesAreShown}
 use Rattle.codespan_reporting.specs.LineLaws.{BreaksAreGaps, BreaksAreCovered, DrawingOfShown, SourceRowsAreFew}
 use Rattle.codespan_reporting.specs.MessageLaws.{MessagesStandOnce}
 use Rattle.codespan_reporting.specs.PaddingLaws.{PaddingHasRoom}
@@ -42,6 +42,7 @@ pub record MeansLabels {Id : Type 0} (renderer view : Config) (same : Id → Id 
   pub each_file : (s : LabelledFile) → Contains (files_of same file d) s
       → SnippetMeansLabels view (look_of renderer d.severity (padding_of view (files_of same file d))) s
   pub carets : (look : Look) → CaretsAreCells look
+  pub lanes : (look : Look) → LanesAreShown look
   pub messages : MessagesStandOnce renderer view same file d
   pub room : PaddingHasRoom view (files_of same file d)
 

@@ -1,15 +1,20 @@
--- The laws of lanes: what a lane shows in each row says where its label goes.
-use Rattle.std.specs.Prelude.{◌≡◌, ℕ, ◌<◌, ◌≤◌, ◌⊎◌, ◌↔◌, Bool, false, List, ◌++◌, length, slice_get, Option, Some, None}
+-- The laws of lanes: what a lane shows in each row says where its label goes, and is what the row's stream has there.
+use Rattle.std.specs.Prelude.{◌≡◌, ℕ, ◌<◌, ◌≤◌, ◌⊎◌, ◌↔◌, Bool, false, nat_lt, List, ◌++◌, length, slice_get, flat_map, Option, Some, None, if◌then◌else◌}
+use Rattle.std.specs.List.{range_with_len}
 use Rattle.std.specs.Option.{option_map}
+use Rattle.codespan_base.specs.declared.diagnostic.LabelStyle.{LabelStyle}
+use Rattle.codespan_base.specs.declared.diagnostic.LabelStyle.TheVariants.{Primary}
 use Rattle.codespan_base.specs.declared.term.config.Config.{Config}
 use Rattle.codespan_base.specs.declared.term.config.Layout.{Layout}
 use Rattle.codespan_base.specs.FileModel.{FileModel}
 use Rattle.codespan_base.specs.Labels.{Labelled, first_line, last_line, multi_labels, LaneMark, Part}
+use Rattle.codespan_base.specs.Streams.{Stream}
 use Rattle.codespan_reporting.specs.declared.term.renderer.lanes.Shape.{Shape}
 use Rattle.codespan_reporting.specs.declared.term.renderer.lanes.Shape.TheVariants.{Gap, Bar, TopCorner, BottomCorner}
-use Rattle.codespan_reporting.specs.Lanes.{source_shape, plain_shape, below_shape, underline_shape, mark_in, is_unbroken}
-use Rattle.codespan_reporting.specs.Rows.{Line, Row, EmptyRow, BreakRow, SourceRow, CaretRow, PointerRow, HangingRow, UnderlineRow}
-use Rattle.codespan_reporting.specs.RowParts.{leading_of}
+use Rattle.codespan_reporting.specs.Lanes.{source_shape, plain_shape, below_shape, underline_shape, mark_in, is_unbroken, lane_cells}
+use Rattle.codespan_reporting.specs.Rows.{Look, Lanes, Line, Row, EmptyRow, BreakRow, SourceRow, CaretRow, PointerRow, HangingRow, UnderlineRow}
+use Rattle.codespan_reporting.specs.RowParts.{gutter, numbered_gutter, border, break_border, leading_of}
+use Rattle.codespan_reporting.specs.RowStreams.{stream_of}
 use Rattle.codespan_reporting.specs.Snippets.{LabelledFile, line_at, row_after, snippet}
 
 -- what a row shows in a lane, from the mark in it
@@ -83,3 +88,50 @@ rows_with_lanes config s is_followed = snippet config s ++ row_after is_followed
 abbrev pub LanesAreLines : Config → Layout → LabelledFile → Type 0
 LanesAreLines config layout s = (is_followed : Bool) (lane : ℕ) (x : Labelled) → HasLane s lane x
     → IsOneLine layout s (rows_with_lanes config s is_followed) lane x
+
+-- ---- what each lane shows is what the stream of its row has there
+
+-- the lanes of a row that has them
+abbrev pub lanes_of_row : Row → Option Lanes
+lanes_of_row (EmptyRow lanes) = Some lanes
+lanes_of_row (BreakRow lanes) = Some lanes
+lanes_of_row (SourceRow line) = Some line.lanes
+lanes_of_row (CaretRow line) = Some line.lanes
+lanes_of_row (PointerRow line) = Some line.lanes
+lanes_of_row (HangingRow line x) = Some line.lanes
+lanes_of_row (UnderlineRow line m) = Some line.lanes
+lanes_of_row _ = None
+
+-- the mark, in its own underline row, whose corner stands left of the lane
+abbrev pub crossing_in : Row → ℕ → Option LaneMark
+crossing_in (UnderlineRow line m) lane = if nat_lt m.lane lane then Some m else None
+crossing_in _ lane = None
+
+-- the style of a mark, primary where there is none
+abbrev pub style_of_mark : Option LaneMark → LabelStyle
+style_of_mark None = Primary
+style_of_mark (Some m) = m.style
+
+-- the two characters of what a row shows in a lane
+abbrev pub lane_shown : Look → Row → Lanes → ℕ → Stream
+lane_shown look row lanes lane =
+    lane_cells look.severity look.chars (crossing_in row lane) (style_of_mark (mark_in lanes.marks lane)) (shape_in look.layout row lane)
+
+-- those of each lane, from left to right
+abbrev pub lanes_shown : Look → Row → Lanes → Stream
+lanes_shown look row lanes = flat_map (lane_shown look row lanes) (range_with_len 0 lanes.count)
+
+-- what stands left of the lanes: in a source row the line's number, else blanks, and the bar left of the source
+abbrev pub before_lanes : Look → Row → Stream
+before_lanes look (SourceRow line) = numbered_gutter look.padding line.number ++ border look.chars
+before_lanes look (BreakRow lanes) = gutter look.padding ++ break_border look.chars
+before_lanes look _ = gutter look.padding ++ border look.chars
+
+-- after the bar left of the source the stream of a row has what the row shows in each of these lanes
+pub record ShowsLanes (look : Look) (row : Row) (lanes : Lanes) : Type 0 where
+  pub after : Stream
+  pub is : stream_of look row ≡ before_lanes look row ++ lanes_shown look row lanes ++ after
+
+-- the stream of each row that has lanes has in them what the row shows there
+abbrev pub LanesAreShown : Look → Type 0
+LanesAreShown look = (row : Row) (lanes : Lanes) → lanes_of_row row ≡ Some lanes → ShowsLanes look row lanes

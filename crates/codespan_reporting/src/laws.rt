@@ -12,7 +12,7 @@ ghost use Rattle.codespan_base.specs.Labels.{LaneMark};
 ghost use Rattle.codespan_base.specs.Streams.{row_length};
 ghost use Rattle.codespan_reporting.specs.CaretLaws.{CaretsAreCells, PointersAreCells, StartsInWide};
 ghost use Rattle.codespan_reporting.specs.Headline.{MeansLabels, StartsBeforeEnds};
-ghost use Rattle.codespan_reporting.specs.LaneLaws.{BarsAreLabels, LanesAreLines};
+ghost use Rattle.codespan_reporting.specs.LaneLaws.{BarsAreLabels, LanesAreLines, LanesAreShown};
 ghost use Rattle.codespan_reporting.specs.LineLaws.{BreaksAreCovered, BreaksAreGaps, DrawingOfShown, SourceRowsAreFew};
 ghost use Rattle.codespan_reporting.specs.MessageLaws.{EachTrailsOrHangs, MessagesStandOnceWhereLawful};
 ghost use Rattle.codespan_reporting.specs.OrderLaws.{OrderIsFree};
@@ -72,6 +72,11 @@ pub fn bars_are_labels()
 /// Each lane of a file is one line: a top corner, bars, and a bottom corner below it.
 pub fn lanes_are_lines()
     ensures { (config : Config) (layout : Layout) (s : LabelledFile) → StartsBeforeEnds s.labels → LanesAreLines config layout s }
+{}
+
+/// After the bar left of the source the stream of each row that has lanes has what the row shows in each of them.
+pub fn lanes_are_shown()
+    ensures { (look : Look) → LanesAreShown look }
 {}
 
 /// Each lane takes two characters.
