@@ -56,6 +56,3 @@ pub StillToCome-last : {E : Type 0} (s : Sink) (whole rest : Stream) (t : Sink) 
 StillToCome-last s whole rest t (Ok x) u p e =
     StillToCome-end s whole [] u (StillToCome-more s whole rest t u rest [] p e (sym (append-nil rest))) refl
 StillToCome-last s whole rest t (Err x) u p e = StillToCome-refused s whole rest t u rest [] p e (sym (append-nil rest))
-
--- a loop that sends a stream piece by piece
-pub ruleset loops = (StillToCome-start, StillToCome-more, StillToCome-refused, StillToCome-end, StillToCome-last)

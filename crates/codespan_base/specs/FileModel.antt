@@ -50,7 +50,7 @@ Tells o r = MatchResult r (λ _. o ≡ None) (λ e. e ≢ OutOfMemory → o ≡ 
 abbrev pub NeedsNoMemory : {T : Type 0} → Result T Error → Type 0
 NeedsNoMemory r = IfErr r (λ e. e ≢ OutOfMemory)
 
--- the text is one that a string can be, and it is cut into lines
+-- the text is short enough for a string, and it is cut into lines
 pub record IsLawful (f : FileModel) : Type 0 where
   pub fits : length f.text < 2 ^ 64
   pub some_line : 0 < length f.starts

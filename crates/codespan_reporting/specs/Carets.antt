@@ -60,14 +60,3 @@ caret_width labels cs = width_of (filter (λ (c : Cell). nat_lt c.place (greates
 -- the caret cells of a line
 abbrev pub caret_cells : Chars → List Labelled → List Cell → List ℕ
 caret_cells chars labels cs = map (λ k. caret_for chars (style_at labels cs k)) (range_with_len 0 (caret_width labels cs))
-
--- ---- the carets of one character
-
--- the same, character by character
-abbrev pub carets_under : Chars → List Labelled → Cell → List ℕ
-carets_under chars labels c =
-    if nat_lt c.place (greatest_end labels) then replicate c.width (caret_for chars (style_under labels c)) else []
-
--- the carets of a line, character by character
-abbrev pub caret_codes : Chars → List Labelled → List Cell → List ℕ
-caret_codes chars labels cs = flat_map (carets_under chars labels) cs

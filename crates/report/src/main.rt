@@ -6,7 +6,7 @@
 //! | status | what was done | one line on standard error |
 //! |---|---|---|
 //! | 0 | the picture was written to standard output | none |
-//! | 1 | the input could not be read or was not UTF-8; the drawing or the output was refused | which of them |
+//! | 1 | the input could not be read or was not UTF-8; the drawing, the output or memory for the arguments was refused | which of them |
 //! | 2 | nothing: the arguments are wrong | how it is called |
 //!
 //! Nothing is written to standard output unless the whole picture was drawn. Arguments that are not UTF-8 are wrong.

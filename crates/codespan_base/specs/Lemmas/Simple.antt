@@ -96,7 +96,7 @@ past_end_is n i =
       | inr p ↦ rw p.0 (λ _. omega (arith, p.1), λ _. tt)
     ]
 
--- and is refused past its last line
+-- the file of a text is refused past its last line
 pub simple_past_end : (name : Option (List ℕ)) (text : List ℕ) (i : ℕ) → RefusesPastEnd (simple_file name text) i (simple_refusal text (LineRange i))
 simple_past_end name text i there = past_end_is (length (line_starts_of text)) i
 
@@ -138,7 +138,7 @@ line_of_inside text xs byte i e found =
 pub text_is_utf8 : {Name Source : Type 0} {texts : Ghosts Source} (file : SimpleFile Name Source texts) → IsUtf8 (texts.text (source_of file))
 text_is_utf8 file = IsUtf8-had _ file.utf8
 
--- and is one that a string can be
+-- and is short enough for a string
 pub text_fits : {Name Source : Type 0} {texts : Ghosts Source} (file : SimpleFile Name Source texts) → length (texts.text (source_of file)) < 2 ^ 64
 text_fits file = file.fits
 

@@ -38,7 +38,7 @@ pub enum Error {
         /// The byte that was asked for, from 0.
         given: usize,
     },
-    /// A writer refused a write, or took nothing of it.
+    /// A writer refused a write, or took nothing of it; or a table of files was refused its input.
     Io(io::Error),
     /// A `Display` refused, and no growth of the text that it writes to was refused.
     FormatError,

@@ -30,7 +30,7 @@ pub fn emit_into_string<'files, F: Files<'files>>(
     match drawn {
         Ok(()) => match String::from_utf8(plain.into_inner()) {
             Ok(text) => Ok(text),
-            // All parts of a picture are texts, so this is never reached. The contract does not say so yet.
+            // All parts of a picture are texts, so this is never reached. No contract says so.
             Err(_) => Err(Error::OutOfMemory),
         },
         Err(_) if plain.has_refused() => Err(Error::OutOfMemory),

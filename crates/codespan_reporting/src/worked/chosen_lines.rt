@@ -119,7 +119,7 @@ fn note_pieces()
         ∷ [] ∷ []) }
 {}
 
-/// What `report` draws for a script.
+/// One label and a note.
 fn script_run()
     ensures { text_of (rich default_config (with_note (codes "why") (says Error (codes "bad")))
         (text_file (codes "f.txt") (codes "abc\n") ∷ [])

@@ -36,7 +36,7 @@ fn line_number_zero()
         ∷ [] ∷ []) }
 {}
 
-/// In short style the headers before the file that is missing.
+/// In short style one header for the one label: what comes before a file that is missing.
 fn missing_file_short()
     ensures { text_of (short default_config (says Error (codes "m"))
         (text_file (codes "f") (codes "ab") ∷ [])

@@ -39,7 +39,7 @@ fn short_without_code()
         ≡ rows (codes "error: where did my errorcode go?" ∷ []) }
 {}
 
-/// What `report` draws in short style.
+/// One label of one file in short style.
 fn report_short()
     ensures { text_of (short default_config (says Error (codes "bad"))
         (text_file (codes "f.txt") (codes "abc\n") ∷ [])
@@ -47,7 +47,7 @@ fn report_short()
         ≡ rows (codes "f.txt:1:1: error: bad" ∷ []) }
 {}
 
-/// What `report` draws in medium style.
+/// One label of one file in medium style.
 fn report_medium()
     ensures { text_of (medium default_config (says Error (codes "bad"))
         (text_file (codes "f.txt") (codes "abc\n") ∷ [])

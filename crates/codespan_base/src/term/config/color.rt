@@ -6,16 +6,24 @@ ghost use Rattle.codespan_base.specs.ColorLaw.{Paints};
 use std::io;
 use std::io::Write;
 
-/// The colours of a terminal.
+/// The colours of a terminal, by their numbers in its escape sequences.
 #[derive(Clone, Copy, Debug, PartialEq, Eq)]
 pub enum Color {
+    /// Number 0.
     Black,
+    /// Number 1.
     Red,
+    /// Number 2.
     Green,
+    /// Number 3.
     Yellow,
+    /// Number 4.
     Blue,
+    /// Number 5.
     Magenta,
+    /// Number 6.
     Cyan,
+    /// Number 7.
     White,
 }
 
@@ -26,6 +34,7 @@ pub struct ColorSpec {
     pub fg: Option<Color>,
     /// The colour of what is behind the text.
     pub bg: Option<Color>,
+    /// Whether the text is bold.
     pub bold: bool,
     /// Whether its colours are the bright ones.
     pub intense: bool,

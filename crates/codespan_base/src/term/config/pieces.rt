@@ -37,7 +37,7 @@ pub enum Piece<'a> {
     Reset,
 }
 
-/// Sends the pieces in order.
+/// Sends the pieces in order. Refuses where a mark refuses, and as [`send`](super::sending::send) does.
 pub fn send_pieces<W: WriteStyle>(w: &mut W, pieces: &[Piece<'_>]) -> io::Result<()>
     ensures { Sends (W.sink w.old) (pieces_stream pieces.now) result (W.sink w.new) }
 {
@@ -47,7 +47,7 @@ pub fn send_pieces<W: WriteStyle>(w: &mut W, pieces: &[Piece<'_>]) -> io::Result
     Ok(())
 }
 
-/// Sends one piece.
+/// Sends one piece. Refuses as [`send_pieces`] does.
 pub fn send_piece<W: WriteStyle>(w: &mut W, piece: Piece<'_>) -> io::Result<()>
     ensures { Sends (W.sink w.old) (piece_stream piece.entry) result (W.sink w.new) }
 {

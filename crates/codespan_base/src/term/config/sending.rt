@@ -33,7 +33,7 @@ pub fn send<W: WriteStyle>(w: &mut W, text: &[u8]) -> io::Result<()>
     Ok(())
 }
 
-/// Writes one character in UTF-8.
+/// Writes one character in UTF-8. Refuses as [`send`] does.
 pub fn send_char<W: WriteStyle>(w: &mut W, c: char) -> io::Result<()>
     ensures { Sends (W.sink w.old) (glyph c) result (W.sink w.new) }
 {
@@ -42,7 +42,7 @@ pub fn send_char<W: WriteStyle>(w: &mut W, c: char) -> io::Result<()>
     send(w, text.as_bytes())
 }
 
-/// Writes so many blanks.
+/// Writes so many blanks. Refuses as [`send`] does.
 pub fn send_blanks<W: WriteStyle>(w: &mut W, count: usize) -> io::Result<()>
     ensures { Sends (W.sink w.old) (blanks count) result (W.sink w.new) }
 {
@@ -54,7 +54,7 @@ pub fn send_blanks<W: WriteStyle>(w: &mut W, count: usize) -> io::Result<()>
     send(w, &BLANKS[..left])
 }
 
-/// Writes one character so many times.
+/// Writes one character so many times. Refuses as [`send`] does.
 pub fn send_repeated<W: WriteStyle>(w: &mut W, c: char, count: usize) -> io::Result<()>
     ensures { Sends (W.sink w.old) (repeated count c) result (W.sink w.new) }
 {
@@ -83,7 +83,7 @@ fn fill(run: &mut [u8], bytes: &[u8], copies: usize)
     }
 }
 
-/// Writes a number in decimal.
+/// Writes a number in decimal. Refuses as [`send`] does.
 pub fn send_number<W: WriteStyle>(w: &mut W, number: usize) -> io::Result<()>
     ensures { Sends (W.sink w.old) (bytes (decimal number)) result (W.sink w.new) }
 {

@@ -46,7 +46,7 @@ pub trait WriteStyle: Write {
     fn set_label(&mut self, severity: Severity, label_style: LabelStyle) -> io::Result<()>
         ensures { Sends (sink self.old) (one_mark (LabelMark severity label_style)) result (sink self.new) };
 
-    /// After each of these.
+    /// After the text of each mark: its style ends here.
     fn reset(&mut self) -> io::Result<()>
         ensures { Sends (sink self.old) (one_mark Reset) result (sink self.new) };
 

@@ -11,17 +11,24 @@ use codespan_base::term::{Chars, Layout};
 /// What all rows of a picture share.
 #[derive(Clone, Copy)]
 pub struct Look<'config> {
+    /// The characters of borders, carets and lanes.
     pub chars: &'config Chars<'config>,
+    /// The cells from one tab stop to the next.
     pub tab_width: usize,
+    /// How lanes go on below a corner in a source row.
     pub layout: Layout,
+    /// How bad the diagnostic is: the style of what is primary.
     pub severity: Severity,
+    /// The room for line numbers, in characters.
     pub padding: usize,
 }
 
 /// The marks in a row's lanes, in the order of the lanes.
 #[derive(Clone, Copy)]
 pub struct Lanes<'row, 'd> {
+    /// How many lanes there are.
     pub count: usize,
+    /// The lane of each mark, counted from 0, its style, and what it does.
     pub marks: &'row [(usize, LabelStyle, MultiLabel<'d>)],
     ghost in_order: { IsTrue (lanes_in_order count marks.now) },
 }
@@ -29,10 +36,15 @@ pub struct Lanes<'row, 'd> {
 /// A drawn line with what its labels do on it.
 #[derive(Clone, Copy)]
 pub struct Line<'row, 'd> {
+    /// The line's number, as users see it.
     pub number: usize,
+    /// The text that is drawn: without the end of the line.
     pub text: &'row str,
+    /// The bytes of white space that the text begins with.
     pub leading: usize,
+    /// The labels inside the line, their ranges in bytes of the text.
     pub labels: &'row [SingleLabel<'d>],
+    /// What the labels over several lines do on it.
     pub lanes: Lanes<'row, 'd>,
     ghost measured: { leading ≡ leading_whitespace text.now },
 }

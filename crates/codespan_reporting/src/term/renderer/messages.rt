@@ -14,9 +14,9 @@ use crate::term::renderer::carets::{covers_part, greatest_end};
 pub struct Messages<'row, 'd> {
     /// The label whose message trails.
     pub trailing: Option<&'row SingleLabel<'d>>,
-    /// The labels that may hang: those before it, or all.
+    /// The labels that may hang: those before the trailing one, or all where none trails.
     pub before: &'row [SingleLabel<'d>],
-    /// The labels that may hang after these: those after it, or none.
+    /// The labels that may hang after these: those after the trailing one, or none.
     pub after: &'row [SingleLabel<'d>],
 }
 
