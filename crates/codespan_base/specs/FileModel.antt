@@ -9,13 +9,21 @@ use Rattle.codespan_base.specs.Lines.{column_index_of}
 
 -- a file; line i runs from its start to its end, and has a number
 pub record FileModel : Type 0 where
+  -- whether its id names one
   pub there : Bool
+  -- the text that the name's Display states, if it states one
   pub name : Option (List ℕ)
+  -- its bytes
   pub text : List ℕ
+  -- where each line starts, in bytes
   pub starts : List ℕ
+  -- where each line ends
   pub ends : List ℕ
+  -- the number of a line, as users see it
   pub number : ℕ → ℕ
+  -- the column number of a byte on a line
   pub column : ℕ → ℕ → ℕ
+  -- the place of a byte
   pub location : ℕ → Location
 
 -- what is asked of a file

@@ -42,7 +42,7 @@ default_styles = record {
 
 -- ---- the style of each mark
 
--- of a header
+-- the style of a header
 abbrev pub header_style : Styles → Severity → ColorSpec
 header_style styles Bug = styles.header_bug
 header_style styles Error = styles.header_error
@@ -50,7 +50,7 @@ header_style styles Warning = styles.header_warning
 header_style styles Note = styles.header_note
 header_style styles Help = styles.header_help
 
--- of a label
+-- the style of a label
 abbrev pub label_style : Styles → Severity → LabelStyle → ColorSpec
 label_style styles severity Secondary = styles.secondary_label
 label_style styles Bug Primary = styles.primary_label_bug

@@ -11,19 +11,19 @@ use Rattle.codespan_base.specs.StyleTables.{spelling_by}
 
 -- ---- the writer that each of them writes to
 
--- of plain text
+-- what a writer of plain text writes to
 abbrev pub plain_inner : {W : Type 0} → PlainWriter W → W
 plain_inner p = p.inner
 
--- of text with styles
+-- what a writer of styles writes to
 abbrev pub styles_inner : {W : Type 0} → StylesWriter W → W
 styles_inner p = p.inner
 
--- of escape sequences
+-- what a writer of escape sequences writes to
 abbrev pub ansi_inner : {W : Type 0} → Ansi W → W
 ansi_inner p = p.inner
 
--- of no colours
+-- what a writer of no colours writes to
 abbrev pub no_color_inner : {W : Type 0} → NoColor W → W
 no_color_inner p = p.inner
 

@@ -1,12 +1,12 @@
 -- The laws of drawn lines and breaks.
-use Rattle.std.specs.Prelude.{◌≡◌, ℕ, ◌+◌, ◌<◌, ◌≤◌, ◌↔◌, Bool, false, nat_le, List, ◌∷◌, map, filter, filter_map, Option, Some, None, if◌then◌else◌, IsTrue, ◌*◌, true, sum_by, count_by, []}
+use Rattle.std.specs.Prelude.{◌≡◌, ℕ, ◌+◌, ◌<◌, ◌≤◌, ◌↔◌, Bool, false, List, ◌∷◌, map, filter, filter_map, Option, Some, None, if◌then◌else◌, IsTrue, ◌*◌, true, sum_by, count_by, []}
 use Rattle.std.specs.List.{range_with_len}
 use Rattle.codespan_base.specs.declared.term.config.Config.{Config}
 use Rattle.codespan_base.specs.declared.term.config.Layout.{Layout}
 use Rattle.codespan_base.specs.FileModel.{line_count}
 use Rattle.codespan_base.specs.Labels.{Labelled}
 use Rattle.codespan_reporting.specs.declared.term.renderer.lanes.Shape.TheVariants.{Bar}
-use Rattle.codespan_reporting.specs.Lines.{drawn_lines, is_shown}
+use Rattle.codespan_reporting.specs.Lines.{drawn_lines, is_broken, is_shown}
 use Rattle.codespan_reporting.specs.Rows.{Lanes, Row, BreakRow, SourceRow}
 use Rattle.codespan_reporting.specs.Snippets.{LabelledFile, rows_after, drawing, line_at, snippet}
 use Rattle.codespan_reporting.specs.LaneLaws.{shape_in, HasLane, IsCovered}
@@ -26,7 +26,7 @@ DrawingOfShown config s =
 abbrev pub broken_before : List ℕ → List ℕ
 broken_before [] = []
 broken_before (c ∷ []) = []
-broken_before (c ∷ d ∷ more) = if nat_le (c + 3) d then d ∷ broken_before (d ∷ more) else broken_before (d ∷ more)
+broken_before (c ∷ d ∷ more) = if is_broken c d then d ∷ broken_before (d ∷ more) else broken_before (d ∷ more)
 
 -- the lanes of a break row
 abbrev pub broken_line : Row → Option Lanes
