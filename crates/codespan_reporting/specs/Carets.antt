@@ -1,5 +1,5 @@
 -- The carets under a line: which cells they take, and of which style they are.
-use Rattle.std.specs.Prelude.{ℕ, ◌+◌, max, min, Bool, ◌&&◌, nat_lt, nat_le, List, ◌∷◌, map, filter, fold, Option, Some, None, if◌then◌else◌, replicate, flat_map, []}
+use Rattle.std.specs.Prelude.{ℕ, ◌+◌, max, min, Bool, ◌&&◌, nat_lt, nat_le, List, ◌∷◌, map, filter, fold, Option, Some, None, if◌then◌else◌, []}
 use Rattle.std.specs.List.{list_any, range_with_len}
 use Rattle.std.specs.Str.{chars}
 use Rattle.codespan_base.specs.declared.diagnostic.LabelStyle.{LabelStyle}
