@@ -1,6 +1,6 @@
 //! Constructors and builders, each with the fields that it states.
 
-ghost use Rattle.std.specs.Prelude.{◌≡◌, ◌++◌, ◌∷◌, [], IfOk, string_bytes, codes, map};
+ghost use Rattle.std.specs.Prelude.{◌≡◌, ◌∷◌, [], IfOk, string_bytes, codes, map};
 
 use crate::diagnostic::{Diagnostic, Label, LabelStyle, Severity};
 use crate::files::Error;

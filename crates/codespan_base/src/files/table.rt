@@ -64,7 +64,7 @@ impl<Name, Source: AsStr> SimpleFiles<Name, Source> {
 /// `line_number` does not ask for the file.
 impl<'a, Name: Display + 'a, Source: AsStr + 'a> Files<'a> for SimpleFiles<Name, Source> {
     ghost use Rattle.codespan_base.specs.FileTables.{entries, name_of, source_of};
-    ghost use Rattle.codespan_base.specs.SimpleModel.{simple_file, simple_refusal, table_file, table_refusal};
+    ghost use Rattle.codespan_base.specs.SimpleModel.{simple_refusal, table_file, table_refusal};
     ghost use Rattle.codespan_base.specs.FileModel.{IsLineRange, NeedsNoMemory, Tells, line_of, line_number_refusal};
     ghost use Rattle.codespan_base.specs.FileModel.Lookup.{Name as NameLookup, Source as SourceLookup, LineIndex, LineNumber, ColumnNumber, LocationAt, LineRange};
     ghost use Rattle.codespan_base.specs.Lemmas.Simple.{simple_lawful, simple_past_end, text_fits, text_is_utf8};

@@ -2,7 +2,7 @@
 
 ghost use Rattle.std.specs.Prelude.{◌≡◌, ◌∷◌, [], ◌++◌, codes, reverse};
 ghost use Rattle.codespan_base.specs.Defaults.{default_config};
-ghost use Rattle.codespan_base.specs.MappedModel.{mapped_file, with_number};
+ghost use Rattle.codespan_base.specs.MappedModel.{with_number};
 ghost use Rattle.codespan_base.specs.Streams.{text_of};
 ghost use Rattle.codespan_base.specs.declared.diagnostic.Severity.TheVariants.{Error};
 ghost use Rattle.codespan_base.specs.declared.diagnostic.LabelStyle.TheVariants.{Primary};

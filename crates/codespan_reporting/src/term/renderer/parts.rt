@@ -1,7 +1,7 @@
 //! Parts that several kinds of rows have.
 
-ghost use Rattle.std.specs.Prelude.{◌≡◌, ◌++◌, length, decimal};
-ghost use Rattle.codespan_base.specs.Streams.{bytes, space, newline};
+ghost use Rattle.std.specs.Prelude.{◌≡◌, length, decimal};
+ghost use Rattle.codespan_base.specs.Streams.{space, newline};
 ghost use Rattle.codespan_base.specs.WriterLaw.{Sends};
 ghost use Rattle.codespan_reporting.specs.Given.{place_of_given};
 ghost use Rattle.codespan_reporting.specs.GivenLine.{look_of_given, line_of_given};

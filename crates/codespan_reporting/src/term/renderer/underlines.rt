@@ -1,6 +1,6 @@
 //! The underlines of labels over several lines.
 
-ghost use Rattle.std.specs.Prelude.{◌≡◌, ◌++◌, not};
+ghost use Rattle.std.specs.Prelude.{◌≡◌, ◌++◌};
 ghost use Rattle.codespan_base.specs.Streams.{newline, bytes};
 ghost use Rattle.codespan_base.specs.WriterLaw.{Sends};
 ghost use Rattle.codespan_reporting.specs.Cells.{cells, width_of};
