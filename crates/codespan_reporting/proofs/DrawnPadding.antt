@@ -3,7 +3,7 @@ use Rattle.std.proofs.Common.{◌≡◌, ℕ, suc, ◌+◌, ◌-◌, ◌<◌, Bo
 use Rattle.std.specs.Prelude.{fold}
 use Rattle.std.specs.List.{prefix_len}
 use Rattle.std.proofs.lemmas.Bool.{eq-eqb}
-use Rattle.std.proofs.lemmas.List.{drop-drop, drop-map, map-append, take_all}
+use Rattle.std.proofs.lemmas.List.{append_assoc, drop-drop, drop-map, map-append, take_all}
 use Rattle.std.proofs.lemmas.List.Concat.{flat_map-append}
 use Rattle.codespan_base.specs.declared.files.error.Error.{Error}
 use Rattle.codespan_base.specs.FileModel.{FileModel}
@@ -93,9 +93,10 @@ module _ {Id : Type 0} (refusal : Refusals Id) (id : Id) (f : FileModel) where
   abbrev pub numbers_refusal : List ℕ → Option Error
   numbers_refusal ls = first_refusal refusal (asked_of id (map LineNumber ls))
 
-  -- the greatest digit count of the lines before these entries, and no refusal of theirs
-  pub record IsPaddedUpTo (all : List Entry) (padding : ℕ) (shown : Option ℕ) (left : List Entry) : Type 0 where
+  -- the greatest digit count of the lines before these entries, the numbers of those that are filled in after the old ones, and no refusal of theirs
+  pub record IsPaddedUpTo (all : List Entry) (old : List ℕ) (padding : ℕ) (shown : Option ℕ) (now : List ℕ) (left : List Entry) : Type 0 where
     pub value : fold max padding (line_digits f (lines_of_steps (walk shown [] (groups left)))) ≡ fold max 0 (line_digits f (lines_of_steps (steps_of all)))
+    pub kept : now ++ map f.number (fills_of (walk shown [] (groups left))) ≡ old ++ map f.number (fills_of (steps_of all))
     pub asked : numbers_refusal (fills_of (walk shown [] (groups left))) ≡ numbers_refusal (fills_of (steps_of all))
 
   -- numbers of some lines and then of others
@@ -107,7 +108,11 @@ module _ {Id : Type 0} (refusal : Refusals Id) (id : Id) (f : FileModel) where
   digits-append padding ls ms =
       ap (fold max padding) (map-append (λ l. digit_count (f.number l)) ls ms) ∙ greatest-append padding (line_digits f ls) (line_digits f ms)
 
-  module _ (all : List Entry) (padding : ℕ) (shown : Option ℕ) (x : Entry) (xs : List Entry) (before : IsPaddedUpTo all padding shown (x ∷ xs)) where
+  -- known numbers, and then those of some lines and of others
+  kept-append : (now ls ms : List ℕ) → now ++ map f.number (ls ++ ms) ≡ now ++ map f.number ls ++ map f.number ms
+  kept-append now ls ms = ap (λ (ns : List ℕ). now ++ ns) (map-append f.number ls ms) ∙ sym (append_assoc now (map f.number ls) (map f.number ms))
+
+  module _ (all : List Entry) (old : List ℕ) (padding : ℕ) (shown : Option ℕ) (now : List ℕ) (x : Entry) (xs : List Entry) (before : IsPaddedUpTo all old padding shown now (x ∷ xs)) where
     -- the lines that are filled in before the line
     abbrev filled_before : List Step
     filled_before = gap_after shown x.line [] []
@@ -121,28 +126,37 @@ module _ {Id : Type 0} (refusal : Refusals Id) (id : Id) (f : FileModel) where
     fills-shown = gives-shown fill_of (λ l a b. refl) (λ l a b. refl) (λ a b. refl) shown x xs
 
     -- the next group does not show its line
-    pub padded-hidden : is_shown x ≡ false → IsPaddedUpTo all padding shown (after x xs)
+    pub padded-hidden : is_shown x ≡ false → IsPaddedUpTo all old padding shown now (after x xs)
     padded-hidden t = record {
       value = ap (λ ls. fold max padding (line_digits f ls)) (sym (gives-hidden line_of_step (λ l a b. refl) (λ l a b. refl) (λ a b. refl) shown x xs t)) ∙ before.value;
+      kept = ap (λ ls. now ++ map f.number ls) (sym (gives-hidden fill_of (λ l a b. refl) (λ l a b. refl) (λ a b. refl) shown x xs t)) ∙ before.kept;
       asked = ap numbers_refusal (sym (gives-hidden fill_of (λ l a b. refl) (λ l a b. refl) (λ a b. refl) shown x xs t)) ∙ before.asked;
     }
 
     -- it shows its line
-    pub padded-shown : (filled digits new : ℕ) → is_shown x ≡ true → filled ≡ fold max 0 (line_digits f (lines_of_steps filled_before)) → digits ≡ digit_count (f.number x.line)
-        → new ≡ max digits (max filled padding) → numbers_refusal (fills_of filled_before) ≡ None → IsPaddedUpTo all new (Some x.line) (after x xs)
-    padded-shown filled digits new t is_filled is_digits is_new answered = record {
+    pub padded-shown : (filled digits new : ℕ) (later : List ℕ) → is_shown x ≡ true → filled ≡ fold max 0 (line_digits f (lines_of_steps filled_before)) → digits ≡ digit_count (f.number x.line)
+        → new ≡ max digits (max filled padding) → later ≡ now ++ map f.number (fills_of filled_before) → numbers_refusal (fills_of filled_before) ≡ None
+        → IsPaddedUpTo all old new (Some x.line) later (after x xs)
+    padded-shown filled digits new later t is_filled is_digits is_new is_later answered = record {
       value =
           ap (λ n. fold max n (line_digits f rest)) more
           ∙ sym (digits-append padding (lines_of_steps filled_before) (x.line ∷ rest))
           ∙ ap (λ ls. fold max padding (line_digits f ls)) (sym (lines-shown t)) ∙ before.value;
+      kept =
+          ap (λ (ns : List ℕ). ns ++ map f.number fills_left) is_later
+          ∙ sym (kept-append now (fills_of filled_before) fills_left)
+          ∙ ap (λ ls. now ++ map f.number ls) (sym (fills-shown t)) ∙ before.kept;
       asked =
-          sym (first_refusal-none refusal (asked_of id (map LineNumber (fills_of filled_before))) (asked_of id (map LineNumber (fills_of (walk (Some x.line) [] (groups (after x xs)))))) answered)
-          ∙ ap (first_refusal refusal) (sym (numbers-append (fills_of filled_before) (fills_of (walk (Some x.line) [] (groups (after x xs))))))
+          sym (first_refusal-none refusal (asked_of id (map LineNumber (fills_of filled_before))) (asked_of id (map LineNumber fills_left)) answered)
+          ∙ ap (first_refusal refusal) (sym (numbers-append (fills_of filled_before) fills_left))
           ∙ ap numbers_refusal (sym (fills-shown t)) ∙ before.asked;
     }
       where
         rest : List ℕ
         rest = lines_of_steps (walk (Some x.line) [] (groups (after x xs)))
+
+        fills_left : List ℕ
+        fills_left = fills_of (walk (Some x.line) [] (groups (after x xs)))
 
         more : new ≡ max (fold max padding (line_digits f (lines_of_steps filled_before))) (digit_count (f.number x.line))
         more = omega (arith, is_new, is_filled, is_digits, greatest-any padding (line_digits f (lines_of_steps filled_before)))

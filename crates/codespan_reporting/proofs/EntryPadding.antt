@@ -15,7 +15,8 @@ use Rattle.codespan_base.specs.FileModel.Lookup.{LineNumber}
 use Rattle.codespan_reporting.specs.declared.term.views.entry.Entry.{Entry as GivenEntry}
 use Rattle.codespan_reporting.specs.Entries.{Entry, entries_of, is_below, is_of_file, is_on_line}
 use Rattle.codespan_reporting.specs.GivenEntries.{Adds, IsOfFiles, entry_of}
-use Rattle.codespan_reporting.specs.GivenPadding.{by_place, drawn_digits, filled_numbers, is_mark, line_digits, marked_digits, steps_at}
+use Rattle.codespan_reporting.specs.GivenPadding.{by_place, drawn_digits, filled_lookups, is_mark, filled_numbers, line_digits, marked_digits, steps_at}
+use Rattle.codespan_reporting.specs.GivenSheets.{known_numbers, numbers_from}
 use Rattle.codespan_reporting.specs.Lines.{drawn_lines}
 use Rattle.codespan_reporting.specs.Lookups.{Refusals, asked_of, numbers_for_padding}
 use Rattle.codespan_reporting.specs.Padding.{digit_count, digits_of, numbered_lines, padding_of, spanned_lines, spans}
@@ -269,13 +270,23 @@ module _ {Id : Type 0} (same : Id → Id → Bool) (file : Id → FileModel) (o 
         ∙ sym (flat_map-map (λ (s : LabelledFile). digits_of s (numbered_lines config s)) (labelled_file same file xs) ids)
 
     -- the lookups of the lines that the steps fill in are those of the padding
-    fills-are : (refusal : Refusals Id) → filled_numbers entries ids ≡ flat_map (λ id. asked_of id (numbers_for_padding config same file refusal xs config.layout id)) ids
+    fills-are : (refusal : Refusals Id) → filled_lookups entries ids ≡ flat_map (λ id. asked_of id (numbers_for_padding config same file refusal xs config.layout id)) ids
     fills-are refusal =
         by_place-same (λ k id. asked_of id (map LineNumber (fills_of (steps_at entries k)))) (λ id. asked_of id (numbers_for_padding config same file refusal xs config.layout id)) 0 ids
         (λ i id at. let e : 0 + i ≡ i = omega arith in
         ap (λ k. asked_of id (map LineNumber (fills_of (steps_at entries k)))) e
         ∙ ap (λ ls. asked_of id (map LineNumber ls)) (snippet-fills same file o one_file some_line config xs entries perm up i id at)
         ∙ ap (λ v. asked_of id (numbers_for_padding config same file refusal xs v id)) (sym unbroken))
+
+    -- the numbers of the lines that the steps fill in are those that are known before the header
+    kept-are : filled_numbers file entries ids ≡ numbers_from config (labelled_files same file xs) 0
+    kept-are =
+        by_place-same (λ k id. map (file id).number (fills_of (steps_at entries k))) (λ id. known_numbers config.layout config (labelled_file same file xs id)) 0 ids
+        (λ i id at. let e : 0 + i ≡ i = omega arith in
+        ap (λ k. map (file id).number (fills_of (steps_at entries k))) e
+        ∙ ap (map (file id).number) (snippet-fills same file o one_file some_line config xs entries perm up i id at)
+        ∙ ap (λ v. known_numbers v config (labelled_file same file xs id)) (sym unbroken))
+        ∙ sym (flat_map-map (known_numbers config.layout config) (labelled_file same file xs) ids)
 
   -- ---- what was gathered
 
@@ -292,9 +303,13 @@ module _ {Id : Type 0} (same : Id → Id → Bool) (file : Id → FileModel) (o 
           ap (fold max 0) (digits-are (map entry_of entries) (gathered-sorted all gathered entries (gathered-says (IsOfFiles file ids) gathered all adds) perm) up unbroken)
 
       -- and the numbers that they fill in are those of the early lookups
-      pub filled_numbers-gathered : (refusal : Refusals Id)
-          → filled_numbers (map entry_of entries) (file_ids same xs) ≡ flat_map (λ id. asked_of id (numbers_for_padding config same file refusal xs config.layout id)) (file_ids same xs)
-      filled_numbers-gathered = fills-are (map entry_of entries) (gathered-sorted all gathered entries (gathered-says (IsOfFiles file ids) gathered all adds) perm) up unbroken
+      pub filled_lookups-gathered : (refusal : Refusals Id)
+          → filled_lookups (map entry_of entries) (file_ids same xs) ≡ flat_map (λ id. asked_of id (numbers_for_padding config same file refusal xs config.layout id)) (file_ids same xs)
+      filled_lookups-gathered = fills-are (map entry_of entries) (gathered-sorted all gathered entries (gathered-says (IsOfFiles file ids) gathered all adds) perm) up unbroken
+
+      -- and what is answered there is known before the header
+      pub filled_numbers-gathered : filled_numbers file (map entry_of entries) (file_ids same xs) ≡ numbers_from config (labelled_files same file xs) 0
+      filled_numbers-gathered = kept-are (map entry_of entries) (gathered-sorted all gathered entries (gathered-says (IsOfFiles file ids) gathered all adds) perm) up unbroken
 
 -- where lines may be broken, no numbers are asked for
 pub numbers-classic : {Id : Type 0} (config : Config) (same : Id → Id → Bool) (file : Id → FileModel) (refusal : Refusals Id) (xs : List (InFile Id)) (js : List Id)
@@ -305,3 +320,12 @@ numbers-classic {Id} config same file refusal xs js classic =
     nothing : (ks : List Id) → flat_map (λ id. asked_of id (numbers_for_padding config same file refusal xs Classic id)) ks ≡ []
     nothing [] = refl
     nothing (k ∷ ks) = nothing ks
+
+-- and none are known before the header
+pub known-nothing : (config : Config) (ss : List LabelledFile) → flat_map (known_numbers Classic config) ss ≡ []
+known-nothing config [] = refl
+known-nothing config (s ∷ ss) = known-nothing config ss
+
+-- the same of all files
+pub known-classic : (config : Config) (ss : List LabelledFile) → config.layout ≡ Classic → numbers_from config ss 0 ≡ []
+known-classic config ss classic = ap (λ v. flat_map (known_numbers v config) ss) classic ∙ known-nothing config ss

@@ -9,7 +9,7 @@ use Rattle.codespan_base.specs.FileModel.{FileModel}
 use Rattle.codespan_reporting.specs.declared.term.views.entry.Entry.{Entry as GivenEntry}
 use Rattle.codespan_reporting.specs.Entries.{Entry, is_of_file}
 use Rattle.codespan_reporting.specs.GivenEntries.{IsLineOf, IsOfFiles, entry_of}
-use Rattle.codespan_reporting.specs.GivenPadding.{by_place, drawn_digits, filled_numbers, line_digits, steps_at}
+use Rattle.codespan_reporting.specs.GivenPadding.{by_place, drawn_digits, filled_lookups, filled_numbers, line_digits, steps_at}
 use Rattle.codespan_reporting.specs.Lookups.{Refusals, first_refusal}
 use Rattle.codespan_reporting.specs.PlacedLabels.{IsAt}
 use Rattle.codespan_reporting.specs.Steps.{fills_of, lines_of_steps}
@@ -48,32 +48,37 @@ module _ {Id : Type 0} (file : Id → FileModel) where
       part (all-both (λ e. is_of_file f (entry_of e) ≡ true) (IsOfFiles file ids) part of_file (all-part (IsOfFiles file ids) at n xs lines))
 
   module _ (refusal : Refusals Id) (es : List Entry) where
-    -- the greatest digit count of the lines of these files, whose lookups were answered
-    pub record ArePadded (ids : List Id) (padding : ℕ) : Type 0 where
+    -- the greatest digit count of the lines of these files, and the numbers of those that are filled in after the old ones, whose lookups were answered
+    pub record ArePadded (ids : List Id) (old : List ℕ) (padding : ℕ) (now : List ℕ) : Type 0 where
       pub value : padding ≡ fold max 0 (drawn_digits file es ids)
-      pub answered : first_refusal refusal (filled_numbers es ids) ≡ None
+      pub kept : now ≡ old ++ filled_numbers file es ids
+      pub answered : first_refusal refusal (filled_lookups es ids) ≡ None
 
-    module _ (f : ℕ) (ids more : List Id) (id : Id) (padding : ℕ) (len : length ids ≡ f) (is : more ≡ ids ++ id ∷ []) (before : ArePadded ids padding) where
+    module _ (f : ℕ) (ids more : List Id) (id : Id) (old : List ℕ) (padding : ℕ) (now : List ℕ) (len : length ids ≡ f) (is : more ≡ ids ++ id ∷ []) (before : ArePadded ids old padding now) where
       -- the lookups of one more file
-      filled-more : first_refusal refusal (filled_numbers es more) ≡ numbers_refusal refusal id (file id) (fills_of (steps_at es f))
-      filled-more = ap (first_refusal refusal) (by_place-more _ f ids more id len is) ∙ first_refusal-none refusal (filled_numbers es ids) _ before.answered
+      filled-more : first_refusal refusal (filled_lookups es more) ≡ numbers_refusal refusal id (file id) (fills_of (steps_at es f))
+      filled-more = ap (first_refusal refusal) (by_place-more _ f ids more id len is) ∙ first_refusal-none refusal (filled_lookups es ids) _ before.answered
 
       -- one more file
-      pub padded-more : (own new : ℕ) → own ≡ fold max 0 (line_digits (file id) (lines_of_steps (steps_at es f))) → new ≡ max own padding
-          → numbers_refusal refusal id (file id) (fills_of (steps_at es f)) ≡ None → ArePadded more new
-      padded-more own new is_own is_new answered = record {
+      pub padded-more : (own new : ℕ) (later : List ℕ) → own ≡ fold max 0 (line_digits (file id) (lines_of_steps (steps_at es f))) → new ≡ max own padding
+          → later ≡ now ++ map (file id).number (fills_of (steps_at es f)) → numbers_refusal refusal id (file id) (fills_of (steps_at es f)) ≡ None → ArePadded more old new later
+      padded-more own new later is_own is_new is_later answered = record {
         value =
             let digits = line_digits (file id) (lines_of_steps (steps_at es f)) in
             let whole : fold max 0 (drawn_digits file es more) ≡ fold max (fold max 0 (drawn_digits file es ids)) digits =
             ap (fold max 0) (by_place-more (λ k id. line_digits (file id) (lines_of_steps (steps_at es k))) f ids more id len is) ∙ greatest-append 0 (drawn_digits file es ids) digits in
             omega (arith, whole, is_own, is_new, before.value, greatest-any (fold max 0 (drawn_digits file es ids)) digits);
+        kept =
+            let numbers = map (file id).number (fills_of (steps_at es f)) in
+            is_later ∙ ap (λ (ns : List ℕ). ns ++ numbers) before.kept ∙ append_assoc old (filled_numbers file es ids) numbers
+            ∙ ap (λ (ns : List ℕ). old ++ ns) (sym (by_place-more (λ k id. map (file id).number (fills_of (steps_at es k))) f ids more id len is));
         answered = filled-more ∙ answered;
       }
 
       -- what it is refused with refuses all
       pub padded-refuses : (rest all : List Id) (e : Error) → all ≡ more ++ rest → numbers_refusal refusal id (file id) (fills_of (steps_at es f)) ≡ Some e
-          → first_refusal refusal (filled_numbers es all) ≡ Some e
+          → first_refusal refusal (filled_lookups es all) ≡ Some e
       padded-refuses rest all e whole told =
-          ap (λ js. first_refusal refusal (filled_numbers es js)) whole
+          ap (λ js. first_refusal refusal (filled_lookups es js)) whole
           ∙ ap (first_refusal refusal) (by_place-append _ 0 more rest)
-          ∙ first_refusal-some refusal (filled_numbers es more) _ e (filled-more ∙ told)
+          ∙ first_refusal-some refusal (filled_lookups es more) _ e (filled-more ∙ told)

@@ -5,25 +5,28 @@ use Rattle.std.specs.Cmp.{IsEquivalence}
 use Rattle.std.specs.List.{All}
 use Rattle.std.proofs.lemmas.Bool.{lt-ltb}
 use Rattle.std.proofs.lemmas.Grind.{common_steps}
-use Rattle.std.proofs.lemmas.List.{get_or-map, length-drop}
+use Rattle.std.proofs.lemmas.List.{get_or-map, length-drop, length-map}
 use Rattle.std.proofs.lemmas.List.Elements.{All-from_recursion, recursion_from_All}
 use Rattle.codespan_base.specs.declared.term.config.Config.{Config}
+use Rattle.codespan_base.specs.declared.term.config.Layout.{Layout}
+use Rattle.codespan_base.specs.declared.term.config.Layout.TheVariants.{Classic, Unbroken}
 use Rattle.codespan_base.specs.FileModel.{FileModel, line_count}
 use Rattle.codespan_reporting.specs.declared.term.views.entry.Entry.{Entry as GivenEntry}
 use Rattle.codespan_reporting.specs.declared.term.views.sheet.Sheet.{Sheet}
 use Rattle.codespan_reporting.specs.Entries.{is_of_file}
 use Rattle.codespan_reporting.specs.GivenEntries.{IsLineOf, IsOfFiles, entry_of}
-use Rattle.codespan_reporting.specs.GivenSheets.{IsPrepared, is_followed, placed_snippet}
-use Rattle.codespan_reporting.specs.Lookups.{filled_lines, of_line}
+use Rattle.codespan_reporting.specs.GivenSheets.{IsPrepared, is_followed, known_numbers, numbers_from, placed_snippet}
+use Rattle.codespan_reporting.specs.Lookups.{filled_lines, of_filled}
 use Rattle.codespan_reporting.specs.PlacedLabels.{IsAt, file_ids, lane_after}
 use Rattle.codespan_reporting.specs.Rows.{Place, Row, StartRow, EmptyRow}
-use Rattle.codespan_reporting.specs.Snippets.{InFile, LabelledFile, bare_lanes, labelled_file, lane_count}
+use Rattle.codespan_reporting.specs.Snippets.{InFile, LabelledFile, bare_lanes, labelled_file, labelled_files, lane_count}
 use Rattle.codespan_reporting.specs.StepDrawing.{DoFit}
-use Rattle.codespan_reporting.specs.Steps.{Step, fills_of, lookups_of_steps, rows_of_steps, steps_of}
+use Rattle.codespan_reporting.specs.Steps.{AreKnown, Step, fills_of, lookups_of_steps, rows_of_steps, steps_of}
+use Rattle.codespan_reporting.proofs.EntryPadding.{known-nothing}
 use Rattle.codespan_reporting.proofs.EntryPicture.{snippet-rows, snippet-fills, snippet-fits}
 use Rattle.codespan_reporting.proofs.FilePlaces.{at-get}
 use Rattle.codespan_reporting.proofs.PlacedPadding.{part-lines}
-use Rattle.codespan_reporting.proofs.SheetDrawing.{lanes-count}
+use Rattle.codespan_reporting.proofs.SheetDrawing.{drop-one, lanes-count}
 
 -- a snippet is followed by another one, or by notes
 followed-is : {X : Type 0} (has_notes : Bool) (ys : List X) → is_followed has_notes ys ≡ (has_notes || nat_lt 0 (length ys))
@@ -49,6 +52,19 @@ one-at [] k x y h is was = absurd (omega arith)
 one-at (z ∷ zs) zero x y h is was = is ∙ sym was
 one-at (z ∷ zs) (suc k) x y h is was = one-at zs k x y (omega arith) is was
 
+module _ (config : Config) where
+  -- the known numbers of one file, and then of others
+  known-first : (layout : Layout) (s : LabelledFile) (ss : List LabelledFile) (numbers : List ℕ) → numbers ≡ flat_map (known_numbers layout config) (s ∷ ss)
+      → AreKnown layout s.file (filled_lines config s) numbers (flat_map (known_numbers layout config) ss)
+  known-first Classic s ss numbers are = (are ∙ known-nothing config ss, known-nothing config ss)
+  known-first Unbroken s ss numbers are = are
+
+  -- those from one file on
+  numbers-next : (ss : List LabelledFile) (k : ℕ) (s : LabelledFile) → k < length ss → s ≡ get_or ss k s → (numbers : List ℕ) → numbers ≡ numbers_from config ss k
+      → AreKnown config.layout s.file (filled_lines config s) numbers (numbers_from config ss (k + 1))
+  numbers-next ss k s inside at numbers are =
+      known-first config.layout s (drop (k + 1) ss) numbers (are ∙ ap (flat_map (known_numbers config.layout config)) (drop-one ss k s inside at))
+
 module _ {Id : Type 0} (same : Id → Id → Bool) (file : Id → FileModel) (o : IsEquivalence same) (one_file : (i j : Id) → same i j ≡ true → file i ≡ file j)
     (some_line : (i : Id) → 0 < line_count (file i)) (config : Config) (xs : List (InFile Id)) (sheet : Sheet Id) (prepared : IsPrepared same file config xs sheet)
     (k : ℕ) (id : Id) (inside : k < length sheet.ids.items) (at : id ≡ get_or sheet.ids.items k id) where
@@ -70,6 +86,16 @@ module _ {Id : Type 0} (same : Id → Id → Bool) (file : Id → FileModel) (o 
       ∙ get_or-map (lane_after same file xs) sheet.ids.items k id d inside
       ∙ ap (lane_after same file xs) (sym at)
       ∙ lanes-count same file one_file id xs
+
+  -- the file with its labels stands at this place
+  labelled-inside : k < length (labelled_files same file xs)
+  labelled-inside = omega (arith, inside, ap length prepared.ids_are, length-map (file_ids same xs) (labelled_file same file xs))
+
+  labelled-at : s ≡ get_or (labelled_files same file xs) k s
+  labelled-at =
+      ap (labelled_file same file xs) at
+      ∙ sym (get_or-map (labelled_file same file xs) sheet.ids.items k id s inside)
+      ∙ ap (λ (ids : List Id). get_or (map (labelled_file same file xs) ids) k s) prepared.ids_are
 
   module _ (start len : ℕ) (part : List GivenEntry) (is : part ≡ take len (drop start sheet.entries.items))
       (own : map entry_of part ≡ filter (is_of_file k) (map entry_of sheet.entries.items)) where
@@ -108,9 +134,19 @@ module _ {Id : Type 0} (same : Id → Id → Bool) (file : Id → FileModel) (o 
         (ap (rows_of_steps (file id) (lane_count s)) steps-are
         ∙ snippet-rows same file o one_file some_line config xs (map entry_of sheet.entries.items) prepared.permutation prepared.sorted k id file-at)
 
+    -- the lines that they fill in
+    fills-at : fills_of steps ≡ filled_lines config s
+    fills-at =
+        ap fills_of steps-are
+        ∙ snippet-fills same file o one_file some_line config xs (map entry_of sheet.entries.items) prepared.permutation prepared.sorted k id file-at
+
     -- its lookups
-    pub lookups-at : lookups_of_steps steps ≡ flat_map of_line (filled_lines config s)
-    lookups-at =
-        ap (λ (ls : List ℕ). flat_map of_line ls)
-        (ap fills_of steps-are
-        ∙ snippet-fills same file o one_file some_line config xs (map entry_of sheet.entries.items) prepared.permutation prepared.sorted k id file-at)
+    pub lookups-at : (layout : Layout) → lookups_of_steps layout steps ≡ flat_map (of_filled layout) (filled_lines config s)
+    lookups-at layout = ap (λ (ls : List ℕ). flat_map (of_filled layout) ls) fills-at
+
+    -- the known numbers of the lines that they fill in stand before those of later files
+    pub known-at : (numbers : List ℕ) → numbers ≡ numbers_from config (labelled_files same file xs) k
+        → AreKnown config.layout (file id) (fills_of steps) numbers (numbers_from config (labelled_files same file xs) (k + 1))
+    known-at numbers are =
+        subst (λ (ls : List ℕ). AreKnown config.layout (file id) ls numbers (numbers_from config (labelled_files same file xs) (k + 1))) (sym fills-at)
+        (numbers-next config (labelled_files same file xs) k s labelled-inside labelled-at numbers are)

@@ -16,13 +16,13 @@ use Rattle.codespan_reporting.specs.declared.term.views.sheet.Sheet.{Sheet}
 use Rattle.codespan_reporting.specs.Entries.{is_below}
 use Rattle.codespan_reporting.specs.Given.{place_of_given}
 use Rattle.codespan_reporting.specs.GivenEntries.{Adds, IsOfFiles, entry_of}
-use Rattle.codespan_reporting.specs.GivenPadding.{drawn_digits, filled_numbers, marked_digits}
-use Rattle.codespan_reporting.specs.GivenSheets.{IsPrepared}
+use Rattle.codespan_reporting.specs.GivenPadding.{drawn_digits, filled_lookups, filled_numbers, marked_digits}
+use Rattle.codespan_reporting.specs.GivenSheets.{IsPrepared, numbers_from}
 use Rattle.codespan_reporting.specs.Lookups.{Refusals, asked_of, early_lookups, first_refusal, label_lookups, locus_lookups, numbers_for_padding}
 use Rattle.codespan_reporting.specs.Padding.{padding_of}
 use Rattle.codespan_reporting.specs.PlacedLabels.{all_entries, file_ids, lane_after}
 use Rattle.codespan_reporting.specs.Snippets.{InFile, labelled_file, labelled_files, place_of}
-use Rattle.codespan_reporting.proofs.EntryPadding.{drawn_digits-gathered, filled_numbers-gathered, gathered-each, gathered-says, marked_digits-gathered, numbers-classic}
+use Rattle.codespan_reporting.proofs.EntryPadding.{drawn_digits-gathered, filled_lookups-gathered, gathered-each, gathered-says, filled_numbers-gathered, known-classic, marked_digits-gathered, numbers-classic}
 use Rattle.codespan_reporting.proofs.FileParts.{gathered-sorted}
 use Rattle.codespan_reporting.proofs.Refusals.{first_refusal-none, first_refusal-some}
 use Rattle.codespan_reporting.proofs.SortedLists.{all-filter}
@@ -57,9 +57,10 @@ module _ {Id : Type 0} (same : Id → Id → Bool) (file : Id → FileModel) (co
     abbrev asked : List (Id × Lookup)
     asked = label_lookups config file refusal xs
 
-    -- the room for line numbers is that of the picture, and its lookups are answered
-    pub record IsPadded (padding : ℕ) : Type 0 where
+    -- the room for line numbers is that of the picture, the numbers that are known are those of the lines that are filled in, and its lookups are answered
+    pub record IsPadded (padding : ℕ) (filled : List ℕ) : Type 0 where
       pub padding_is : padding ≡ padding_of config (labelled_files same file xs)
+      pub numbers_are : filled ≡ numbers_from config (labelled_files same file xs) 0
       pub answered : first_refusal refusal numbers ≡ None
 
     -- ---- refusals
@@ -73,9 +74,9 @@ module _ {Id : Type 0} (same : Id → Id → Bool) (file : Id → FileModel) (co
     refused-numbers e before h = first_refusal-some refusal (asked ++ numbers) (loci ids) e (first_refusal-none refusal asked numbers before ∙ h)
 
     -- where labels and padding are answered, the lookups of the places tell the rest
-    pub refused-loci : (js ks : List Id) (padding : ℕ) → js ≡ ids → ks ≡ js → first_refusal refusal asked ≡ None → IsPadded padding
+    pub refused-loci : (js ks : List Id) (padding : ℕ) (filled : List ℕ) → js ≡ ids → ks ≡ js → first_refusal refusal asked ≡ None → IsPadded padding filled
         → first_refusal refusal (early_lookups config same file refusal xs) ≡ first_refusal refusal (loci ks)
-    refused-loci js ks padding are now before padded =
+    refused-loci js ks padding filled are now before padded =
         first_refusal-none refusal (asked ++ numbers) (loci ids) (first_refusal-none refusal asked numbers before ∙ padded.answered)
         ∙ ap (λ (ls : List Id). first_refusal refusal (loci ls)) (sym (now ∙ are))
 
@@ -104,7 +105,7 @@ module _ {Id : Type 0} (same : Id → Id → Bool) (file : Id → FileModel) (co
       → ks ≡ sheet.ids.items
       → length sheet.loci.items ≡ length ks
       → (((id : Id) → Contains ks id → IsSome (file id).name) → map place_of_given sheet.loci.items ≡ map (λ id. place_of (labelled_file same file xs id)) ks)
-      → IsPadded refusal sheet.padding
+      → IsPadded refusal sheet.padding sheet.filled_numbers.items
       → IsPrepared same file config xs sheet
   sheet-prepared refusal sheet gathered ks are lanes adds perm up now count places padded = record {
     ids_are = are;
@@ -115,6 +116,7 @@ module _ {Id : Type 0} (same : Id → Id → Bool) (file : Id → FileModel) (co
         (gathered-each (IsOfFiles file sheet.ids.items) gathered sheet.entries.items (all_entries same file config xs) adds perm);
     loci_count = count ∙ ap length now;
     padding_is = padded.padding_is;
+    numbers_are = padded.numbers_are;
     places_are = λ named.
         places (λ id c. ids-each (λ i. IsSome (file i).name) same xs named id (subst (λ (ls : List Id). Contains ls id) (now ∙ are) c))
         ∙ ap (map (λ id. place_of (labelled_file same file xs id))) (now ∙ are)
@@ -123,34 +125,41 @@ module _ {Id : Type 0} (same : Id → Id → Bool) (file : Id → FileModel) (co
 
   module _ (o : IsEquivalence same) (one_file : (i j : Id) → same i j ≡ true → file i ≡ file j) (some_line : (i : Id) → 0 < line_count (file i))
       (refusal : Refusals Id) (js : List Id) (gathered : List GivenEntry) (are : js ≡ ids) (adds : Gathers js gathered) where
-    -- where lines may be broken, the marks tell the padding, and nothing is asked
-    pub padded-classic : (entries : List GivenEntry) → IsPermutation gathered entries → (marked : List GivenEntry) (padding : ℕ) → config.layout ≡ Classic → marked ≡ entries
-        → padding ≡ fold max 0 (marked_digits marked) → IsPadded refusal padding
-    padded-classic entries perm marked padding classic now is = record {
+    -- where lines may be broken, the marks tell the padding, and nothing is asked or known
+    pub padded-classic : (entries : List GivenEntry) → IsPermutation gathered entries → (marked : List GivenEntry) (padding : ℕ) (filled : List ℕ) → config.layout ≡ Classic → marked ≡ entries
+        → padding ≡ fold max 0 (marked_digits marked) → filled ≡ [] → IsPadded refusal padding filled
+    padded-classic entries perm marked padding filled classic now is none = record {
       padding_is = is ∙ ap (λ (es : List GivenEntry). fold max 0 (marked_digits es)) now
           ∙ marked_digits-gathered same file o one_file some_line config xs gathered (gathers js gathered are adds) entries perm classic;
+      numbers_are = none ∙ sym (known-classic config (labelled_files same file xs) classic);
       answered = ap (first_refusal refusal) (numbers-classic config same file refusal xs ids classic);
     }
 
     module _ (entries : List GivenEntry) (perm : IsPermutation gathered entries) (up : IsSortedBy is_below (map entry_of entries)) (unbroken : config.layout ≡ Unbroken)
         (ks : List Id) (drawn : List GivenEntry) (same_ids : ks ≡ js) (same_entries : drawn ≡ entries) where
       -- the numbers that the sorted entries ask for are those of the padding
-      numbers-filled : first_refusal refusal (filled_numbers (map entry_of drawn) ks) ≡ first_refusal refusal (numbers refusal)
+      numbers-filled : first_refusal refusal (filled_lookups (map entry_of drawn) ks) ≡ first_refusal refusal (numbers refusal)
       numbers-filled =
-          ap (λ (es : List GivenEntry). first_refusal refusal (filled_numbers (map entry_of es) ks)) same_entries
-          ∙ ap (λ (ls : List Id). first_refusal refusal (filled_numbers (map entry_of entries) ls)) (same_ids ∙ are)
-          ∙ ap (first_refusal refusal) (filled_numbers-gathered same file o one_file some_line config xs gathered (gathers js gathered are adds) entries perm up unbroken refusal)
+          ap (λ (es : List GivenEntry). first_refusal refusal (filled_lookups (map entry_of es) ks)) same_entries
+          ∙ ap (λ (ls : List Id). first_refusal refusal (filled_lookups (map entry_of entries) ls)) (same_ids ∙ are)
+          ∙ ap (first_refusal refusal) (filled_lookups-gathered same file o one_file some_line config xs gathered (gathers js gathered are adds) entries perm up unbroken refusal)
 
-      -- where nothing is broken, the drawn lines tell the padding
-      pub padded-unbroken : (padding : ℕ) → padding ≡ fold max 0 (drawn_digits file (map entry_of drawn) ks) → first_refusal refusal (filled_numbers (map entry_of drawn) ks) ≡ None → IsPadded refusal padding
-      padded-unbroken padding is answered = record {
+      -- where nothing is broken, the drawn lines tell the padding and the numbers
+      pub padded-unbroken : (padding : ℕ) (old filled : List ℕ) → padding ≡ fold max 0 (drawn_digits file (map entry_of drawn) ks)
+          → old ≡ [] → filled ≡ old ++ filled_numbers file (map entry_of drawn) ks
+          → first_refusal refusal (filled_lookups (map entry_of drawn) ks) ≡ None → IsPadded refusal padding filled
+      padded-unbroken padding old filled is none kept answered = record {
         padding_is = is ∙ ap (λ (es : List GivenEntry). fold max 0 (drawn_digits file (map entry_of es) ks)) same_entries
             ∙ ap (λ (ls : List Id). fold max 0 (drawn_digits file (map entry_of entries) ls)) (same_ids ∙ are)
             ∙ drawn_digits-gathered same file o one_file some_line config xs gathered (gathers js gathered are adds) entries perm up unbroken;
+        numbers_are = kept ∙ ap (λ (ns : List ℕ). ns ++ filled_numbers file (map entry_of drawn) ks) none
+            ∙ ap (λ (es : List GivenEntry). filled_numbers file (map entry_of es) ks) same_entries
+            ∙ ap (λ (ls : List Id). filled_numbers file (map entry_of entries) ls) (same_ids ∙ are)
+            ∙ filled_numbers-gathered same file o one_file some_line config xs gathered (gathers js gathered are adds) entries perm up unbroken;
         answered = sym numbers-filled ∙ answered;
       }
 
       -- and the first of their numbers that refuses is the first refusal
-      pub refused-padding : (e : Error) → first_refusal refusal (asked refusal) ≡ None → first_refusal refusal (filled_numbers (map entry_of drawn) ks) ≡ Some e
+      pub refused-padding : (e : Error) → first_refusal refusal (asked refusal) ≡ None → first_refusal refusal (filled_lookups (map entry_of drawn) ks) ≡ Some e
           → first_refusal refusal (early_lookups config same file refusal xs) ≡ Some e
       refused-padding e before h = refused-numbers refusal e before (sym numbers-filled ∙ h)

@@ -35,5 +35,9 @@ abbrev pub drawn_digits : {Id : Type 0} → (Id → FileModel) → List Entry �
 drawn_digits file es ids = by_place (λ k id. line_digits (file id) (lines_of_steps (steps_at es k))) 0 ids
 
 -- the lookups of the numbers of the lines that are filled in
-abbrev pub filled_numbers : {Id : Type 0} → List Entry → List Id → List (Id × Lookup)
-filled_numbers es ids = by_place (λ k id. asked_of id (map LineNumber (fills_of (steps_at es k)))) 0 ids
+abbrev pub filled_lookups : {Id : Type 0} → List Entry → List Id → List (Id × Lookup)
+filled_lookups es ids = by_place (λ k id. asked_of id (map LineNumber (fills_of (steps_at es k)))) 0 ids
+
+-- the numbers of the lines that are filled in, in the order of the picture
+abbrev pub filled_numbers : {Id : Type 0} → (Id → FileModel) → List Entry → List Id → List ℕ
+filled_numbers file es ids = by_place (λ k id. map (file id).number (fills_of (steps_at es k))) 0 ids

@@ -1,16 +1,28 @@
 -- What a view knows before it draws: the files of the labels, and their entries in order.
-use Rattle.std.specs.Prelude.{◌≡◌, Bool, true, false, List, [], ◌∷◌, ◌++◌, All, Contains, IsSome, length, map}
+use Rattle.std.specs.Prelude.{◌≡◌, ℕ, Bool, true, false, List, [], ◌∷◌, ◌++◌, All, Contains, IsSome, drop, flat_map, length, map}
 use Rattle.std.specs.List.Sorted.{IsPermutation, IsSortedBy}
 use Rattle.codespan_base.specs.declared.term.config.Config.{Config}
+use Rattle.codespan_base.specs.declared.term.config.Layout.{Layout}
+use Rattle.codespan_base.specs.declared.term.config.Layout.TheVariants.{Classic, Unbroken}
 use Rattle.codespan_base.specs.FileModel.{FileModel}
 use Rattle.codespan_reporting.specs.declared.term.views.sheet.Sheet.{Sheet}
 use Rattle.codespan_reporting.specs.Entries.{is_below}
 use Rattle.codespan_reporting.specs.Given.{place_of_given}
 use Rattle.codespan_reporting.specs.GivenEntries.{IsOfFiles, entry_of}
+use Rattle.codespan_reporting.specs.Lookups.{filled_lines}
 use Rattle.codespan_reporting.specs.Padding.{padding_of}
 use Rattle.codespan_reporting.specs.PlacedLabels.{all_entries, file_ids, lane_after}
 use Rattle.codespan_reporting.specs.Rows.{Place, Row}
 use Rattle.codespan_reporting.specs.Snippets.{InFile, LabelledFile, labelled_files, place_of, row_after, snippet_at}
+
+-- the numbers of a file's lines that are known before the header: where nothing is broken those of the lines that are filled in
+abbrev pub known_numbers : Layout → Config → LabelledFile → List ℕ
+known_numbers Classic config s = []
+known_numbers Unbroken config s = map s.file.number (filled_lines config s)
+
+-- those of the files from the place k on
+abbrev pub numbers_from : Config → List LabelledFile → ℕ → List ℕ
+numbers_from config ss k = flat_map (known_numbers config.layout config) (drop k ss)
 
 -- the sheet is that of these labels
 pub record IsPrepared {Id : Type 0} (same : Id → Id → Bool) (file : Id → FileModel) (config : Config) (xs : List (InFile Id)) (sheet : Sheet Id) : Type 0 where
@@ -21,6 +33,7 @@ pub record IsPrepared {Id : Type 0} (same : Id → Id → Bool) (file : Id → F
   pub lines : All (IsOfFiles file sheet.ids.items) sheet.entries.items
   pub loci_count : length sheet.loci.items ≡ length sheet.ids.items
   pub padding_is : sheet.padding ≡ padding_of config (labelled_files same file xs)
+  pub numbers_are : sheet.filled_numbers.items ≡ numbers_from config (labelled_files same file xs) 0
   pub places_are : ((x : InFile Id) → Contains xs x → IsSome (file x.id).name) → map place_of_given sheet.loci.items ≡ map place_of (labelled_files same file xs)
 
 -- the list has an element

@@ -1,5 +1,6 @@
 -- Snippets as a view holds them.
 use Rattle.std.specs.Prelude.{Bool, List, [], ◌∷◌, ◌++◌, map, if◌then◌else◌}
+use Rattle.codespan_base.specs.declared.term.config.Layout.{Layout}
 use Rattle.codespan_base.specs.FileModel.{FileModel, Lookup}
 use Rattle.codespan_base.specs.FileModel.Lookup.{Source}
 use Rattle.codespan_reporting.specs.declared.term.views.snippets.Snippet.{Snippet}
@@ -26,5 +27,5 @@ module _ {Id : Type 0} (snippet : Snippet Id) where
   rows_in f is_followed = start_rows ++ rows_of_steps f snippet.lane_count steps_in ++ end_rows is_followed
 
   -- its lookups
-  abbrev pub lookups_in : List Lookup
-  lookups_in = Source ∷ lookups_of_steps steps_in
+  abbrev pub lookups_in : Layout → List Lookup
+  lookups_in layout = Source ∷ lookups_of_steps layout steps_in

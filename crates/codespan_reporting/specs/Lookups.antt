@@ -32,6 +32,11 @@ abbrev pub is_around : Config → ℕ → ℕ → ℕ → Bool
 is_around config s e l =
     (nat_lt l s && nat_le s (l + config.before_label_lines)) || (nat_lt e l && nat_le l (e + config.after_label_lines))
 
+-- what is asked for with a file's snippet of a line that is filled in: its range, and its number where that is not known before the header
+abbrev pub of_filled : Layout → ℕ → List Lookup
+of_filled Classic l = of_line l
+of_filled Unbroken l = LineRange l ∷ []
+
 -- the refusal ends the context of a label, and is no refusal of the picture
 abbrev pub ends_context : Option Error → Bool
 ends_context (Some (LineTooLarge given max)) = true
@@ -83,9 +88,9 @@ label_lookups config file refusal xs = flat_map (label_asked config file refusal
 abbrev pub locus_lookups : {Id : Type 0} → (Id → Id → Bool) → (Id → FileModel) → List (InFile Id) → Id → List Lookup
 locus_lookups same file xs id = Name ∷ LocationAt (locus_start (labelled_file same file xs id).labels) ∷ []
 
--- those with a file's snippet: its source, and the ranges and the numbers of the lines that are filled in
+-- those with a file's snippet: its source, and what is asked for of the lines that are filled in
 abbrev pub snippet_lookups : {Id : Type 0} → Config → (Id → Id → Bool) → (Id → FileModel) → List (InFile Id) → Id → List (Id × Lookup)
-snippet_lookups config same file xs id = asked_of id (Source ∷ flat_map of_line (filled_lines config (labelled_file same file xs id)))
+snippet_lookups config same file xs id = asked_of id (Source ∷ flat_map (of_filled config.layout) (filled_lines config (labelled_file same file xs id)))
 
 module _ {Id : Type 0} (config : Config) (same : Id → Id → Bool) (file : Id → FileModel) (refusal : Refusals Id) (xs : List (InFile Id)) where
   -- the ids of the files

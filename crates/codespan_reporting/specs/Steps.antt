@@ -1,11 +1,13 @@
 -- The steps that entries in order make: lines that are drawn, lines that are filled in, and breaks.
-use Rattle.std.specs.Prelude.{ℕ, ◌+◌, Bool, true, ◌&&◌, ◌==◌, nat_lt, nat_le, List, [], ◌∷◌, ◌++◌, flat_map, drop, Option, Some, None, if◌then◌else◌}
+use Rattle.std.specs.Prelude.{◌≡◌, ℕ, ◌+◌, Bool, true, ◌&&◌, ◌==◌, nat_lt, nat_le, List, [], ◌∷◌, ◌++◌, map, flat_map, drop, Option, Some, None, if◌then◌else◌}
 use Rattle.std.specs.List.{prefix_len, filter_map}
+use Rattle.codespan_base.specs.declared.term.config.Layout.{Layout}
+use Rattle.codespan_base.specs.declared.term.config.Layout.TheVariants.{Classic, Unbroken}
 use Rattle.codespan_base.specs.FileModel.{FileModel, Lookup, line_text}
 use Rattle.codespan_base.specs.Labels.{Labelled, LaneMark}
 use Rattle.codespan_reporting.specs.Cells.{drawn_text}
 use Rattle.codespan_reporting.specs.Lines.{is_broken}
-use Rattle.codespan_reporting.specs.Lookups.{of_line}
+use Rattle.codespan_reporting.specs.Lookups.{of_filled}
 use Rattle.codespan_reporting.specs.Rows.{Line, Row, BreakRow, rows_of}
 use Rattle.codespan_reporting.specs.Entries.{Entry, Says, Shown, Single, Multi, is_shown}
 
@@ -108,9 +110,14 @@ fill_of (Break es) = []
 abbrev pub fills_of : List Step → List ℕ
 fills_of steps = flat_map fill_of steps
 
--- the lookups with the steps: the range and the number of each line that is filled in
-abbrev pub lookups_of_steps : List Step → List Lookup
-lookups_of_steps steps = flat_map of_line (fills_of steps)
+-- the lookups with the steps: what is asked for of each line that is filled in
+abbrev pub lookups_of_steps : Layout → List Step → List Lookup
+lookups_of_steps layout steps = flat_map (of_filled layout) (fills_of steps)
+
+-- these are the numbers, known before the header, of lines that are filled in, and then later ones; where lines may be broken none is known
+abbrev pub AreKnown : Layout → FileModel → List ℕ → List ℕ → List ℕ → Type 0
+AreKnown Classic f ls numbers later = (numbers ≡ []) × (later ≡ [])
+AreKnown Unbroken f ls numbers later = numbers ≡ map f.number ls ++ later
 
 -- the line of a step that draws one
 abbrev pub line_of_step : Step → List ℕ

@@ -72,6 +72,52 @@ fn fills_and_breaks(rt: HostRuntime) -> Result<(), Fail> {
     Ok(())
 }
 
+/// The lines that are filled in have the numbers of their own file, in both layouts.
+#[test]
+fn fills_of_two_files(rt: HostRuntime) -> Result<(), Fail> {
+    for layout in [Layout::Classic, Layout::Unbroken] {
+        assert_drawn(
+            &rt,
+            rt.alloc(),
+            Drawing {
+                config: Config {
+                    layout,
+                    ..Config::default()
+                },
+                files: &[("f", "a\nb\nc\nd"), ("g", "e\nf\ng\nh\ni")],
+                labels: &[
+                    (Primary, 0, 2..3, "p"),
+                    (Secondary, 0, 6..7, "q"),
+                    (Secondary, 1, 0..1, "r"),
+                    (Secondary, 1, 4..5, "s"),
+                    (Secondary, 1, 8..9, "t"),
+                ],
+                picture: "error: \n\
+                          \x20 ┌─ f:2:1\n\
+                          \x20 │\n\
+                          2 │ b\n\
+                          \x20 │ ^ p\n\
+                          3 │ c\n\
+                          4 │ d\n\
+                          \x20 │ - q\n\
+                          \x20 │\n\
+                          \x20 ┌─ g:1:1\n\
+                          \x20 │\n\
+                          1 │ e\n\
+                          \x20 │ - r\n\
+                          2 │ f\n\
+                          3 │ g\n\
+                          \x20 │ - s\n\
+                          4 │ h\n\
+                          5 │ i\n\
+                          \x20 │ - t\n\n",
+                ..Drawing::default()
+            },
+        )?;
+    }
+    Ok(())
+}
+
 /// A number that is longer than those of all labelled lines pushes its row to the right.
 #[test]
 fn long_number_pushes_row(rt: HostRuntime) -> Result<(), Fail> {

@@ -1,10 +1,10 @@
 //! The lines of one file, drawn with what labels do on them.
 
-ghost use Rattle.std.specs.Prelude.{◌≡◌, IsTrue, map};
+ghost use Rattle.std.specs.Prelude.{◌≡◌, [], IfSome, IsTrue, map};
 ghost use Rattle.codespan_reporting.specs.GivenEntries.{IsLineOf, entry_of};
 ghost use Rattle.codespan_reporting.specs.Picture.{look_of};
 ghost use Rattle.codespan_reporting.specs.Renderers.{writer_of, config_of, SameRenderer};
-ghost use Rattle.codespan_reporting.specs.StepDrawing.{DrawsStep};
+ghost use Rattle.codespan_reporting.specs.StepDrawing.{DrawsStep, asked_with};
 ghost use Rattle.codespan_reporting.specs.Steps.{Draw, Fill, Break, do_fit};
 
 use crate::term::renderer::Renderer;
@@ -45,7 +45,7 @@ impl<'files, 'text, F: Files<'files>> FileLines<'files, 'text, F> {
         requires line { IsLineOf (F.file self.now.files.now self.now.id) line }
         requires fits { IsTrue (do_fit self.now.lane_count (map entry_of entries.now)) }
         ensures same { SameRenderer renderer.old renderer.new }
-        ensures draws { DrawsStep (F.refusal self.now.files.now) self.now.id (F.file self.now.files.now self.now.id) self.now.lane_count (look_of (config_of renderer.old) self.now.severity self.now.padding) (Draw line.index (map entry_of entries.now)) (W.sink (writer_of renderer.old)) result (W.sink (writer_of renderer.new)) }
+        ensures draws { DrawsStep (F.refusal self.now.files.now) self.now.id (F.file self.now.files.now self.now.id) self.now.lane_count (look_of (config_of renderer.old) self.now.severity self.now.padding) [] (Draw line.index (map entry_of entries.now)) (W.sink (writer_of renderer.old)) result (W.sink (writer_of renderer.new)) }
     {
         marks.refill(entries)?;
         renderer.render_snippet_source(
@@ -59,22 +59,29 @@ impl<'files, 'text, F: Files<'files>> FileLines<'files, 'text, F> {
         )
     }
 
-    /// Draws a line between two that are shown, with the labels and marks of these entries. Refuses as the lookup of its range does,
-    /// and then as that of its number, before anything is written, and then as [`draw_line`](FileLines::draw_line) does.
+    /// Draws a line between two that are shown, with the labels and marks of these entries, and its number where that is known.
+    ///
+    /// Refuses as the lookup of its range does, and then, where the number is not known, as that of its number, before anything is
+    /// written, and then as [`draw_line`](FileLines::draw_line) does.
     pub fn fill_line<'d, W: WriteStyle>(
         &self,
         renderer: &mut Renderer<'_, '_, W>,
         marks: &mut LineMarks<'d>,
         index: usize,
+        number: Option<usize>,
         entries: &[Entry<'d>],
     ) -> Result<(), Error>
         requires text { self.now.text.now ≡ (F.file self.now.files.now self.now.id).text }
+        requires number { IfSome number (λ known. known ≡ (F.file self.now.files.now self.now.id).number index) }
         requires fits { IsTrue (do_fit self.now.lane_count (map entry_of entries.now)) }
         ensures same { SameRenderer renderer.old renderer.new }
-        ensures draws { DrawsStep (F.refusal self.now.files.now) self.now.id (F.file self.now.files.now self.now.id) self.now.lane_count (look_of (config_of renderer.old) self.now.severity self.now.padding) (Fill index (map entry_of entries.now)) (W.sink (writer_of renderer.old)) result (W.sink (writer_of renderer.new)) }
+        ensures draws { DrawsStep (F.refusal self.now.files.now) self.now.id (F.file self.now.files.now self.now.id) self.now.lane_count (look_of (config_of renderer.old) self.now.severity self.now.padding) (asked_with number index) (Fill index (map entry_of entries.now)) (W.sink (writer_of renderer.old)) result (W.sink (writer_of renderer.new)) }
     {
         let range = self.files.line_range(self.id, index)?;
-        let number = self.files.line_number(self.id, index)?;
+        let number = match number {
+            Some(number) => number,
+            None => self.files.line_number(self.id, index)?,
+        };
         let line = SourceLine {
             index,
             number,
@@ -94,7 +101,7 @@ impl<'files, 'text, F: Files<'files>> FileLines<'files, 'text, F> {
     ) -> Result<(), Error>
         requires fits { IsTrue (do_fit self.now.lane_count (map entry_of entries.now)) }
         ensures same { SameRenderer renderer.old renderer.new }
-        ensures draws { DrawsStep (F.refusal self.now.files.now) self.now.id (F.file self.now.files.now self.now.id) self.now.lane_count (look_of (config_of renderer.old) self.now.severity self.now.padding) (Break (map entry_of entries.now)) (W.sink (writer_of renderer.old)) result (W.sink (writer_of renderer.new)) }
+        ensures draws { DrawsStep (F.refusal self.now.files.now) self.now.id (F.file self.now.files.now self.now.id) self.now.lane_count (look_of (config_of renderer.old) self.now.severity self.now.padding) [] (Break (map entry_of entries.now)) (W.sink (writer_of renderer.old)) result (W.sink (writer_of renderer.new)) }
     {
         marks.refill(entries)?;
         renderer.render_snippet_break(

@@ -1,13 +1,14 @@
 //! Rich style: a diagnostic over the lines that its labels speak of.
 
-ghost use Rattle.std.specs.Prelude.{◌≡◌, ◌+◌, ◌<◌, ◌≤◌, ◌++◌, ◌∷◌, [], IfErr, None, drop, filter, length, map, slice_index_or, slice_range};
+ghost use Rattle.std.specs.Prelude.{◌≡◌, ◌+◌, ◌<◌, ◌≤◌, ◌++◌, ◌∷◌, [], IfErr, None, OnOk, drop, filter, length, map, slice_index_or, slice_range};
+ghost use Rattle.std.specs.Slice.Iter.{iter_rest};
 ghost use Rattle.codespan_base.specs.Streams.{newline};
 ghost use Rattle.codespan_base.specs.WriterLaw.{Sends};
 ghost use Rattle.codespan_reporting.specs.Asking.{SendsAsking};
 ghost use Rattle.codespan_reporting.specs.Entries.{is_of_file};
 ghost use Rattle.codespan_reporting.specs.Given.{place_of_given};
 ghost use Rattle.codespan_reporting.specs.GivenEntries.{entry_of};
-ghost use Rattle.codespan_reporting.specs.GivenSheets.{IsPrepared, has_any, is_followed, placed_snippet, placed_snippets};
+ghost use Rattle.codespan_reporting.specs.GivenSheets.{IsPrepared, has_any, is_followed, numbers_from, placed_snippet, placed_snippets};
 ghost use Rattle.codespan_reporting.specs.Headline.{DrawsRich, MeansLabels};
 ghost use Rattle.codespan_reporting.specs.Lookups.{first_refusal, late_lookups, snippet_lookups};
 ghost use Rattle.codespan_reporting.specs.Picture.{look_of, heading_of, labels_of, notes_of};
@@ -25,6 +26,7 @@ use codespan_base::diagnostic::Diagnostic;
 use codespan_base::files::{Error, Files};
 use codespan_base::term::{Config, WriteStyle};
 use std::ops::Range;
+use std::slice;
 
 /// Draws a diagnostic over the lines of the source that its labels speak of.
 #[derive(Clone, Copy)]
@@ -115,6 +117,7 @@ impl<'diagnostic, 'config, FileId: Copy + Eq> RichDiagnostic<'diagnostic, 'confi
         ensures draws { SendsAsking (first_refusal (F.refusal files.now) (late_lookups (view_config_of self.now) FileId.eq (F.file files.now) (F.refusal files.now) (labels_of (diagnostic_of self.now)))) (W.sink (writer_of renderer.old)) (stream_of_rows (look_of (config_of renderer.old) (diagnostic_of self.now).severity sheet.now.padding) (placed_snippets (view_config_of self.now) (has_any (notes_of (diagnostic_of self.now))) (map place_of_given sheet.now.loci.items) (labelled_files FileId.eq (F.file files.now) (labels_of (diagnostic_of self.now))))) result (W.sink (writer_of renderer.new)) }
     {
         let mut marks = LineMarks::new(*self.diagnostic.labels.allocator());
+        let mut numbers = sheet.filled_numbers.iter();
         let mut start = 0;
         for place in 0..sheet.ids.len() {
             let len = file_len(&sheet.entries[start..], place);
@@ -123,6 +126,7 @@ impl<'diagnostic, 'config, FileId: Copy + Eq> RichDiagnostic<'diagnostic, 'confi
                 renderer,
                 sheet,
                 &mut marks,
+                &mut numbers,
                 place,
                 start..start + len,
             )?;
@@ -131,13 +135,15 @@ impl<'diagnostic, 'config, FileId: Copy + Eq> RichDiagnostic<'diagnostic, 'confi
         Ok(())
     }
 
-    /// The snippet of the file at a place, whose entries are those of the range, and the row after it where something follows.
+    /// The snippet of the file at a place, whose entries are those of the range, and the row after it where something follows. The
+    /// numbers of the lines that are filled in, where they are known, are the next of `numbers`.
     fn draw_file<'files, 'd, F, W>(
         &self,
         files: &'files F,
         renderer: &mut Renderer<'_, '_, W>,
         sheet: &Sheet<'d, FileId>,
         marks: &mut LineMarks<'d>,
+        numbers: &mut slice::Iter<'_, usize>,
         place: usize,
         range: Range<usize>,
     ) -> Result<(), Error>
@@ -149,9 +155,11 @@ impl<'diagnostic, 'config, FileId: Copy + Eq> RichDiagnostic<'diagnostic, 'confi
         requires inside { place < length sheet.now.ids.items }
         requires order { range.start ≤ range.end }
         requires end { range.end ≤ length sheet.now.entries.items }
+        requires known { iter_rest numbers.old ≡ numbers_from (view_config_of self.now) (labelled_files FileId.eq (F.file files.now) (labels_of (diagnostic_of self.now))) place }
         requires own { map entry_of (slice_range sheet.now.entries.items range.start range.end) ≡ filter (is_of_file place) (map entry_of sheet.now.entries.items) }
         ensures same { SameRenderer renderer.old renderer.new }
         ensures draws { (id : FileId) (start : Place) → id ≡ slice_index_or sheet.now.ids.items place id → start ≡ slice_index_or (map place_of_given sheet.now.loci.items) place start → SendsAsking (first_refusal (F.refusal files.now) (snippet_lookups (view_config_of self.now) FileId.eq (F.file files.now) (labels_of (diagnostic_of self.now)) id)) (W.sink (writer_of renderer.old)) (stream_of_rows (look_of (config_of renderer.old) (diagnostic_of self.now).severity sheet.now.padding) (placed_snippet (view_config_of self.now) (is_followed (has_any (notes_of (diagnostic_of self.now))) (drop (place + 1) sheet.now.ids.items)) start (labelled_file FileId.eq (F.file files.now) (labels_of (diagnostic_of self.now)) id))) result (W.sink (writer_of renderer.new)) }
+        ensures left { OnOk result (iter_rest numbers.new ≡ numbers_from (view_config_of self.now) (labelled_files FileId.eq (F.file files.now) (labels_of (diagnostic_of self.now))) (place + 1)) }
     {
         let diagnostic = self.diagnostic;
         let snippet = Snippet {
@@ -163,7 +171,7 @@ impl<'diagnostic, 'config, FileId: Copy + Eq> RichDiagnostic<'diagnostic, 'confi
             severity: diagnostic.severity,
         };
         let is_followed = has_notes(diagnostic) || place + 1 < sheet.ids.len();
-        draw_snippet(renderer, files, &snippet, marks, is_followed)
+        draw_snippet(renderer, files, &snippet, marks, numbers, is_followed)
     }
 }
 

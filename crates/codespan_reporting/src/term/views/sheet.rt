@@ -29,6 +29,9 @@ pub struct Sheet<'d, FileId> {
     pub entries: Vec<Entry<'d>>,
     /// The room for line numbers, in characters.
     pub padding: usize,
+    /// The numbers of the lines that are filled in, in the order of the picture, where the room for line numbers depends on them;
+    /// in the classic layout there are none here, and they are asked for when the lines are drawn.
+    pub filled_numbers: Vec<usize>,
 }
 
 /// Asks for the lines of all labels, for the numbers of lines that are filled in where the room for line numbers depends on them, and
@@ -47,9 +50,15 @@ pub fn prepare<'files, 'd, F: Files<'files>>(
 {
     let mut gathered = gather(alloc, files, config, labels)?;
     sort(&mut gathered.entries);
+    let mut filled_numbers = Vec::new(alloc);
     let padding = match config.layout {
         Layout::Classic => spanned_padding(&gathered.entries),
-        Layout::Unbroken => drawn_padding(files, &gathered.ids, &gathered.entries)?,
+        Layout::Unbroken => drawn_padding(
+            files,
+            &gathered.ids,
+            &gathered.entries,
+            &mut filled_numbers,
+        )?,
     };
     let loci = file_loci(alloc, files, &gathered.ids, labels)?;
     Ok(Sheet {
@@ -58,5 +67,6 @@ pub fn prepare<'files, 'd, F: Files<'files>>(
         lane_counts: gathered.lane_counts,
         entries: gathered.entries,
         padding,
+        filled_numbers,
     })
 }

@@ -1,6 +1,8 @@
 //! The snippets of a picture, one for each file.
 
-ghost use Rattle.std.specs.Prelude.{◌≡◌, All, IfErr};
+ghost use Rattle.std.specs.Prelude.{◌≡◌, ℕ, List, All, IfErr, OnOk};
+ghost use Rattle.std.specs.Slice.Iter.{iter_rest};
+ghost use Rattle.codespan_base.specs.declared.term.config.Layout.{Layout};
 ghost use Rattle.codespan_base.specs.WriterLaw.{Sends};
 ghost use Rattle.codespan_reporting.specs.Asking.{SendsAsking};
 ghost use Rattle.codespan_reporting.specs.GivenEntries.{IsLineOf};
@@ -9,7 +11,8 @@ ghost use Rattle.codespan_reporting.specs.Lookups.{asked_of, first_refusal};
 ghost use Rattle.codespan_reporting.specs.Picture.{look_of};
 ghost use Rattle.codespan_reporting.specs.Renderers.{writer_of, config_of, SameRenderer, IsIo};
 ghost use Rattle.codespan_reporting.specs.RowStreams.{stream_of_rows};
-ghost use Rattle.codespan_reporting.specs.StepDrawing.{DoFit};
+ghost use Rattle.codespan_reporting.specs.StepDrawing.{DoFit, Knows};
+ghost use Rattle.codespan_reporting.specs.Steps.{AreKnown, fills_of};
 
 use crate::term::renderer::{Locus, Renderer};
 use crate::term::views::entry::Entry;
@@ -20,6 +23,7 @@ use codespan_base::diagnostic::Severity;
 use codespan_base::files::{Error, Files};
 use codespan_base::term::WriteStyle;
 use std::convert::AsStr;
+use std::slice;
 
 /// The snippet of one file.
 #[derive(Drop)]
@@ -69,7 +73,8 @@ fn draw_end<FileId, W: WriteStyle>(
     }
 }
 
-/// Asks for the source of a file and draws its snippet, with a row after it where something follows.
+/// Asks for the source of a file and draws its snippet, with a row after it where something follows. The numbers of the lines that
+/// are filled in are the next of `numbers`, or are asked for where there are none.
 ///
 /// Refuses as the first lookup that refuses does, with `OutOfMemory` where a growth is refused, and with `Io` where the writer
 /// refuses. What is written then is a beginning.
@@ -78,12 +83,14 @@ pub fn draw_snippet<'files, 'd, F: Files<'files>, W: WriteStyle>(
     files: &'files F,
     snippet: &Snippet<'_, 'd, F::FileId>,
     marks: &mut LineMarks<'d>,
+    numbers: &mut slice::Iter<'_, usize>,
     is_followed: bool,
 ) -> Result<(), Error>
     requires lines { All (λ e. IsLineOf (F.file files.now snippet.now.id) e.line) snippet.now.entries.now }
     requires fits { DoFit snippet.now.lane_count (steps_in snippet.now) }
+    requires known { Knows (F.file files.now snippet.now.id) (fills_of (steps_in snippet.now)) (iter_rest numbers.old) }
     ensures same { SameRenderer renderer.old renderer.new }
-    ensures draws { SendsAsking (first_refusal (F.refusal files.now) (asked_of snippet.now.id (lookups_in snippet.now))) (W.sink (writer_of renderer.old)) (stream_of_rows (look_of (config_of renderer.old) snippet.now.severity snippet.now.padding) (rows_in snippet.now (F.file files.now snippet.now.id) is_followed)) result (W.sink (writer_of renderer.new)) }
+    ensures draws { (layout : Layout) (later : List ℕ) → AreKnown layout (F.file files.now snippet.now.id) (fills_of (steps_in snippet.now)) (iter_rest numbers.old) later → SendsAsking (first_refusal (F.refusal files.now) (asked_of snippet.now.id (lookups_in snippet.now layout))) (W.sink (writer_of renderer.old)) (stream_of_rows (look_of (config_of renderer.old) snippet.now.severity snippet.now.padding) (rows_in snippet.now (F.file files.now snippet.now.id) is_followed)) result (W.sink (writer_of renderer.new)) × OnOk result (iter_rest numbers.new ≡ later) }
 {
     let source = files.source(snippet.id)?;
     draw_start(renderer, snippet)?;
@@ -95,6 +102,6 @@ pub fn draw_snippet<'files, 'd, F: Files<'files>, W: WriteStyle>(
         severity: snippet.severity,
         lane_count: snippet.lane_count,
     };
-    draw_lines(renderer, &lines, marks, snippet.entries)?;
+    draw_lines(renderer, &lines, marks, snippet.entries, numbers)?;
     draw_end(renderer, snippet, is_followed)
 }

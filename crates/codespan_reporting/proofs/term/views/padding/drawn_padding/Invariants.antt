@@ -9,5 +9,5 @@ abbrev pub invariant-loop-place : goal.invariant-loop-place
 invariant-loop-place g l = record {
   inside : l.start ≤ length l.entries;
   left : drop l.start (map entry_of l.entries) ≡ from_file l.place (map entry_of l.entries);
-  padded : ArePadded (g.F.Files.file l.files) (g.F.Files.refusal l.files) (map entry_of l.entries) (take l.place l.ids) l.padding;
+  padded : ArePadded (g.F.Files.file l.files) (g.F.Files.refusal l.files) (map entry_of l.entries) (take l.place l.ids) l.initial.filled.items l.padding l.filled.items;
 }

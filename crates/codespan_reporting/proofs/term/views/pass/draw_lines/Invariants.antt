@@ -1,4 +1,5 @@
 use Rattle.std.proofs.Common.{◌-◌, ◌≤◌, length, map}
+use Rattle.std.specs.Slice.Iter.{iter_rest}
 use Rattle.codespan_reporting.specs.GivenEntries.{entry_of}
 use Rattle.codespan_reporting.specs.Picture.{look_of}
 use Rattle.codespan_reporting.specs.Renderers.{writer_of, config_of, SameRenderer}
@@ -15,7 +16,7 @@ invariant-loop-at g l = record {
   same : SameRenderer l.fn.renderer l.renderer;
   left : StepsLeft (g.F.Files.refusal l.file.files.now) l.file.id (g.F.Files.file l.file.files.now l.file.id) l.file.lane_count
       (look_of (config_of l.fn.renderer) l.file.severity l.file.padding) (steps_of (map entry_of l.entries)) (steps_left l.entries l.from l.at l.last)
-      (g.W.WriteStyle.sink (writer_of l.fn.renderer)) (g.W.WriteStyle.sink (writer_of l.renderer));
+      (g.W.WriteStyle.sink (writer_of l.fn.renderer)) (g.W.WriteStyle.sink (writer_of l.renderer)) (iter_rest l.fn.numbers) (iter_rest l.numbers);
 }
 
 abbrev pub decreases-loop-at : goal.decreases-loop-at

@@ -57,22 +57,24 @@ returns-in_err-loci-clause-refused g c =
     let xs = map label_of c.args.labels.now in
     let gathered = c.in_ok-gathered.gathered in
     let made = c.in_ok-gathered.ensures in
-    let padded : IsPadded same file config xs refusal c.match-config.padding =
+    let padded : IsPadded same file config xs refusal c.match-config.padding c.match-config.filled_numbers.items =
     elim c.match-config.branch [
       | in-Classic w ↦ padded-classic same file config xs g.met.F.FileId.Eq.laws one some refusal gathered.ids.items gathered.entries.items made.ids made.entries
-          c.sort.new.entries.items c.sort.ensures.permutation w.deref.result.now c.match-config.padding w.in-Classic.is w.deref.ensures.value (w.padding-is ∙ w.spanned_padding-padding.ensures)
+          c.sort.new.entries.items c.sort.ensures.permutation w.deref.result.now c.match-config.padding c.match-config.filled_numbers.items w.in-Classic.is w.deref.ensures.value (w.padding-is ∙ w.spanned_padding-padding.ensures)
+          (rw w.filled_numbers-is c.new-filled_numbers.ensures.items)
       | in-Unbroken+in_ok-padding-in-Unbroken w ↦ padded-unbroken same file config xs g.met.F.FileId.Eq.laws one some refusal gathered.ids.items gathered.entries.items made.ids made.entries
           c.sort.new.entries.items c.sort.ensures.permutation c.sort.ensures.sorted w.in-Unbroken.is
           w.deref-in-Unbroken.result.now w.deref-in-Unbroken-2.result.now w.deref-in-Unbroken.ensures.value w.deref-in-Unbroken-2.ensures.value
-          c.match-config.padding (w.padding-is ∙ w.in_ok-padding-in-Unbroken.ensures.value) w.in_ok-padding-in-Unbroken.ensures.refused
+          c.match-config.padding c.new-filled_numbers.result.items c.match-config.filled_numbers.items (w.padding-is ∙ w.in_ok-padding-in-Unbroken.ensures.value)
+          c.new-filled_numbers.ensures.items (rw w.filled_numbers-is w.in_ok-padding-in-Unbroken.ensures.kept) w.in_ok-padding-in-Unbroken.ensures.refused
     ] in
     let p = err_from_is_err_and c.from_residual-in_err-loci.result c.from_residual-in_err-loci.ensures.1 in
-    rw (p.1 ∙ ap Err p.2) (λ told named. refused-loci same file config xs refusal gathered.ids.items c.deref-2.result.now c.match-config.padding
+    rw (p.1 ∙ ap Err p.2) (λ told named. refused-loci same file config xs refusal gathered.ids.items c.deref-2.result.now c.match-config.padding c.match-config.filled_numbers.items
     c.in_ok-gathered.ensures.ids c.deref-2.ensures.value c.in_ok-gathered.ensures.refused padded ∙ c.in_err-loci.ensures.refused told named)
 
 -- the room for line numbers, in both layouts
 padded : (g : Over) (c : goal.In_ok-loci g)
-    → IsPadded g.F.FileId.PartialEq.eq (g.F.Files.file c.args.files.now) c.args.config.now (map label_of c.args.labels.now) (g.F.Files.refusal c.args.files.now) c.match-config.padding
+    → IsPadded g.F.FileId.PartialEq.eq (g.F.Files.file c.args.files.now) c.args.config.now (map label_of c.args.labels.now) (g.F.Files.refusal c.args.files.now) c.match-config.padding c.match-config.filled_numbers.items
 padded g c =
     let same = g.F.FileId.PartialEq.eq in
     let file = g.F.Files.file c.args.files.now in
@@ -86,11 +88,13 @@ padded g c =
     let made = c.in_ok-gathered.ensures in
     elim c.match-config.branch [
       | in-Classic w ↦ padded-classic same file config xs g.met.F.FileId.Eq.laws one some refusal gathered.ids.items gathered.entries.items made.ids made.entries
-          c.sort.new.entries.items c.sort.ensures.permutation w.deref.result.now c.match-config.padding w.in-Classic.is w.deref.ensures.value (w.padding-is ∙ w.spanned_padding-padding.ensures)
+          c.sort.new.entries.items c.sort.ensures.permutation w.deref.result.now c.match-config.padding c.match-config.filled_numbers.items w.in-Classic.is w.deref.ensures.value (w.padding-is ∙ w.spanned_padding-padding.ensures)
+          (rw w.filled_numbers-is c.new-filled_numbers.ensures.items)
       | in-Unbroken+in_ok-padding-in-Unbroken w ↦ padded-unbroken same file config xs g.met.F.FileId.Eq.laws one some refusal gathered.ids.items gathered.entries.items made.ids made.entries
           c.sort.new.entries.items c.sort.ensures.permutation c.sort.ensures.sorted w.in-Unbroken.is
           w.deref-in-Unbroken.result.now w.deref-in-Unbroken-2.result.now w.deref-in-Unbroken.ensures.value w.deref-in-Unbroken-2.ensures.value
-          c.match-config.padding (w.padding-is ∙ w.in_ok-padding-in-Unbroken.ensures.value) w.in_ok-padding-in-Unbroken.ensures.refused
+          c.match-config.padding c.new-filled_numbers.result.items c.match-config.filled_numbers.items (w.padding-is ∙ w.in_ok-padding-in-Unbroken.ensures.value)
+          c.new-filled_numbers.ensures.items (rw w.filled_numbers-is w.in_ok-padding-in-Unbroken.ensures.kept) w.in_ok-padding-in-Unbroken.ensures.refused
     ]
 
 pub returns-clause-prepared : goal.returns-clause-prepared
@@ -104,4 +108,4 @@ pub returns-clause-refused : goal.returns-clause-refused
 returns-clause-refused g c =
     let made = c.in_ok-gathered.ensures in
     refused-loci g.F.FileId.PartialEq.eq (g.F.Files.file c.args.files.now) c.args.config.now (map label_of c.args.labels.now) (g.F.Files.refusal c.args.files.now)
-    c.in_ok-gathered.gathered.ids.items c.deref-2.result.now c.match-config.padding made.ids c.deref-2.ensures.value made.refused (padded g c) ∙ c.in_ok-loci.ensures.refused
+    c.in_ok-gathered.gathered.ids.items c.deref-2.result.now c.match-config.padding c.match-config.filled_numbers.items made.ids c.deref-2.ensures.value made.refused (padded g c) ∙ c.in_ok-loci.ensures.refused

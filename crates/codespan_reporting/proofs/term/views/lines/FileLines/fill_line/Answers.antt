@@ -8,7 +8,7 @@ returns-in_err-range-clause-draws g c =
     let p = err_from_is_err_and c.from_residual.result c.from_residual.ensures.1 in
     rw p.1 (asking_refused_before _ _ _ _ _ (same_error _ _ _ p.2 c.in_err-range.ensures.refused))
 
-pub returns-in_err-number-clause-draws : goal.returns-in_err-number-clause-draws
-returns-in_err-number-clause-draws g c =
-    let p = err_from_is_err_and c.from_residual-in_err-number.result c.from_residual-in_err-number.ensures.1 in
-    rw p.1 (asking_after _ _ _ _ _ (Err p.0) c.in_ok-range.ensures.refused (asking_refused_before _ None _ _ _ (same_error _ _ _ p.2 c.in_err-number.ensures.refused)))
+pub returns-in_err-number-in-None-clause-draws : goal.returns-in_err-number-in-None-clause-draws
+returns-in_err-number-in-None-clause-draws g c =
+    let p = err_from_is_err_and c.from_residual-in_err-number-in-None.result c.from_residual-in_err-number-in-None.ensures.1 in
+    rw (p.1, c.in-None.is) (asking_after _ _ _ _ _ (Err p.0) c.in_ok-range.ensures.refused (asking_refused_before _ None _ _ _ (same_error _ _ _ p.2 c.in_err-number-in-None.ensures.refused)))

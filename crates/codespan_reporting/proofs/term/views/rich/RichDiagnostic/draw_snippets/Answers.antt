@@ -19,16 +19,16 @@ use Rattle.codespan_reporting.proofs.term.views.rich.RichDiagnostic.draw_snippet
 
 pub loop-place-init : goal.loop-place-init
 loop-place-init g c =
-    record { within = omega arith; rest = from_file-first (map entry_of c.args.sheet.now.entries.items); same = record { reference = refl; config = refl }; left = left-start _ _ _ _ _ _ _ _ _ _ }
+    record { within = omega arith; rest = from_file-first (map entry_of c.args.sheet.now.entries.items); same = record { reference = refl; config = refl }; numbers = c.iter-numbers.ensures.rest ∙ c.deref.ensures.value ∙ c.requires.numbers_are; left = left-start _ _ _ _ _ _ _ _ _ _ }
 
 pub draw_file-requires : goal.draw_file-requires
 draw_file-requires g c κs =
     let sheet = c.args.sheet.now in
     let inside : c.loop-place.place < length sheet.ids.items = omega (arith, c.loop-place-test.true, c.len-place-end.ensures, sheet.ids.ok.0) in
     let inv = c.loop-place.invariant in
-    let part = next-part sheet.entries.items c.deref.result.now c.deref.ensures.value c.loop-place.start c.file_len-len.result c.loop-place.place c.requires.sorted inv.within inv.rest
+    let part = next-part sheet.entries.items c.deref-in-loop-place.result.now c.deref-in-loop-place.ensures.value c.loop-place.start c.file_len-len.result c.loop-place.place c.requires.sorted inv.within inv.rest
     c.file_len-len.ensures.value c.file_len-len.ensures.within in
-    ((refl, (refl, (refl, tt))), (c.requires, (inside, (omega arith, (omega (arith, part.within, part.len), part.own)))))
+    ((refl, (refl, (refl, tt))), (c.requires, (inside, (omega arith, (omega (arith, part.within, part.len), (inv.numbers, part.own))))))
 
 pub returns-in_err-draw_file-clause-draws : goal.returns-in_err-draw_file-clause-draws
 returns-in_err-draw_file-clause-draws g c =
@@ -71,13 +71,14 @@ loop-place-preserved g c =
     let start = some-at places place long in
     let rows = placed_snippet config (is_followed (has_any (notes_of d)) (drop (place + 1) sheet.ids.items)) start.0 (labelled_file g.FileId.PartialEq.eq file xs one.0) in
     let inv = c.loop-place.invariant in
-    let part = next-part sheet.entries.items c.deref.result.now c.deref.ensures.value c.loop-place.start c.file_len-len.result place c.requires.sorted inv.within inv.rest
+    let part = next-part sheet.entries.items c.deref-in-loop-place.result.now c.deref-in-loop-place.ensures.value c.loop-place.start c.file_len-len.result place c.requires.sorted inv.within inv.rest
     c.file_len-len.ensures.value c.file_len-len.ensures.within in
     let same = c.in_ok-draw_file.ensures.same in
     record {
       within = omega (arith, part.within, part.len);
       rest = ap (λ n. drop (c.loop-place.start + n) (map entry_of sheet.entries.items)) (sym part.len) ∙ part.rest;
       same = record { reference = same.reference ∙ inv.same.reference; config = same.config ∙ inv.same.config };
+      numbers = c.in_ok-draw_file.ensures.left;
       left = left-next g.FileId.PartialEq.eq file refusal config xs sheet.ids.items (has_any (notes_of d)) look places place one.0 start.0 inside one.1 long start.1 _ _ _ tt inv.left
           (asking_at (λ (k : Config). stream_of_rows (look_of k d.severity sheet.padding) rows) _ _ inv.same.config _ _ _ (Ok tt) (c.in_ok-draw_file.ensures.draws one.0 start.0 one.1 start.1));
     }
