@@ -191,7 +191,7 @@ module _ {Id : Type 0} (same : Id → Id → Bool) (file : Id → FileModel) (o 
         (contains-range 0 (line_count (file id)) e.line (omega arith) (omega (arith, low)))
 
   module _ (entries : List GivenEntry) (lines : AllByRecursion (IsOfFiles file ids) entries) (perm : IsPermutation all (map entry_of entries)) (classic : config.layout ≡ Classic) where
-    -- where lines may be broken the numbers of spanned lines count
+    -- in the classic layout the numbers of spanned lines count
     numbered-spanned : (id : Id) → numbered_lines config (labelled_file same file xs id) ≡ spanned_lines (labelled_file same file xs id)
     numbered-spanned id = ap (λ v. numbered_lines (record config { layout = v }) (labelled_file same file xs id)) classic
 
@@ -256,7 +256,7 @@ module _ {Id : Type 0} (same : Id → Id → Bool) (file : Id → FileModel) (o 
   -- ---- lines that are drawn
 
   module _ (entries : List Entry) (perm : IsPermutation (all_entries same file config xs) entries) (up : IsSortedBy is_below entries) (unbroken : config.layout ≡ Unbroken) where
-    -- where nothing is broken the numbers of drawn lines count
+    -- in the unbroken layout the numbers of drawn lines count
     numbered : (id : Id) → numbered_lines config (labelled_file same file xs id) ≡ drawn_lines config (file id) (labelled_file same file xs id).labels
     numbered id = ap (λ v. numbered_lines (record config { layout = v }) (labelled_file same file xs id)) unbroken
 
@@ -291,13 +291,13 @@ module _ {Id : Type 0} (same : Id → Id → Bool) (file : Id → FileModel) (o 
   -- ---- what was gathered
 
   module _ (gathered : List GivenEntry) (adds : Adds (IsOfFiles file (file_ids same xs)) [] gathered (all_entries same file config xs)) where
-    -- where lines may be broken, the greatest digit count of the marks, in whatever order, is the padding
+    -- in the classic layout the greatest digit count of the marks, in whatever order, is the padding
     pub marked_digits-gathered : (entries : List GivenEntry) → IsPermutation gathered entries → config.layout ≡ Classic → fold max 0 (marked_digits entries) ≡ padding_of config (labelled_files same file xs)
     marked_digits-gathered entries perm classic =
         spanned-room entries (gathered-each (IsOfFiles file ids) gathered entries all adds perm) (gathered-sorted all gathered entries (gathered-says (IsOfFiles file ids) gathered all adds) perm) classic
 
     module _ (entries : List GivenEntry) (perm : IsPermutation gathered entries) (up : IsSortedBy is_below (map entry_of entries)) (unbroken : config.layout ≡ Unbroken) where
-      -- where nothing is broken, the greatest digit count of the lines that the sorted entries draw is
+      -- in the unbroken layout the greatest digit count of the lines that the sorted entries draw is
       pub drawn_digits-gathered : fold max 0 (drawn_digits file (map entry_of entries) (file_ids same xs)) ≡ padding_of config (labelled_files same file xs)
       drawn_digits-gathered =
           ap (fold max 0) (digits-are (map entry_of entries) (gathered-sorted all gathered entries (gathered-says (IsOfFiles file ids) gathered all adds) perm) up unbroken)
@@ -311,7 +311,7 @@ module _ {Id : Type 0} (same : Id → Id → Bool) (file : Id → FileModel) (o 
       pub filled_numbers-gathered : filled_numbers file (map entry_of entries) (file_ids same xs) ≡ numbers_from config (labelled_files same file xs) 0
       filled_numbers-gathered = kept-are (map entry_of entries) (gathered-sorted all gathered entries (gathered-says (IsOfFiles file ids) gathered all adds) perm) up unbroken
 
--- where lines may be broken, no numbers are asked for
+-- in the classic layout no numbers are asked for
 pub numbers-classic : {Id : Type 0} (config : Config) (same : Id → Id → Bool) (file : Id → FileModel) (refusal : Refusals Id) (xs : List (InFile Id)) (js : List Id)
     → config.layout ≡ Classic → flat_map (λ id. asked_of id (numbers_for_padding config same file refusal xs config.layout id)) js ≡ []
 numbers-classic {Id} config same file refusal xs js classic =

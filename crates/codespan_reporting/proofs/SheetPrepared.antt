@@ -125,7 +125,7 @@ module _ {Id : Type 0} (same : Id → Id → Bool) (file : Id → FileModel) (co
 
   module _ (o : IsEquivalence same) (one_file : (i j : Id) → same i j ≡ true → file i ≡ file j) (some_line : (i : Id) → 0 < line_count (file i))
       (refusal : Refusals Id) (js : List Id) (gathered : List GivenEntry) (are : js ≡ ids) (adds : Gathers js gathered) where
-    -- where lines may be broken, the marks tell the padding, and nothing is asked or known
+    -- in the classic layout the marks tell the padding, and nothing is asked or known
     pub padded-classic : (entries : List GivenEntry) → IsPermutation gathered entries → (marked : List GivenEntry) (padding : ℕ) (filled : List ℕ) → config.layout ≡ Classic → marked ≡ entries
         → padding ≡ fold max 0 (marked_digits marked) → filled ≡ [] → IsPadded refusal padding filled
     padded-classic entries perm marked padding filled classic now is none = record {
@@ -144,7 +144,7 @@ module _ {Id : Type 0} (same : Id → Id → Bool) (file : Id → FileModel) (co
           ∙ ap (λ (ls : List Id). first_refusal refusal (filled_lookups (map entry_of entries) ls)) (same_ids ∙ are)
           ∙ ap (first_refusal refusal) (filled_lookups-gathered same file o one_file some_line config xs gathered (gathers js gathered are adds) entries perm up unbroken refusal)
 
-      -- where nothing is broken, the drawn lines tell the padding and the numbers
+      -- in the unbroken layout the drawn lines tell the padding and the numbers
       pub padded-unbroken : (padding : ℕ) (old filled : List ℕ) → padding ≡ fold max 0 (drawn_digits file (map entry_of drawn) ks)
           → old ≡ [] → filled ≡ old ++ filled_numbers file (map entry_of drawn) ks
           → first_refusal refusal (filled_lookups (map entry_of drawn) ks) ≡ None → IsPadded refusal padding filled

@@ -1,4 +1,4 @@
--- What a view knows before it draws: the files of the labels, and their entries in order.
+-- What a view knows before it draws: the files of the labels, their entries in order, and the numbers that are known.
 use Rattle.std.specs.Prelude.{◌≡◌, ℕ, Bool, true, false, List, [], ◌∷◌, ◌++◌, All, Contains, IsSome, drop, flat_map, length, map}
 use Rattle.std.specs.List.Sorted.{IsPermutation, IsSortedBy}
 use Rattle.codespan_base.specs.declared.term.config.Config.{Config}
@@ -15,7 +15,7 @@ use Rattle.codespan_reporting.specs.PlacedLabels.{all_entries, file_ids, lane_af
 use Rattle.codespan_reporting.specs.Rows.{Place, Row}
 use Rattle.codespan_reporting.specs.Snippets.{InFile, LabelledFile, labelled_files, place_of, row_after, snippet_at}
 
--- the numbers of a file's lines that are known before the header: where nothing is broken those of the lines that are filled in
+-- the numbers of a file's lines that are known before the header: in the unbroken layout those of the lines that are filled in, in the classic one none
 abbrev pub known_numbers : Layout → Config → LabelledFile → List ℕ
 known_numbers Classic config s = []
 known_numbers Unbroken config s = map s.file.number (filled_lines config s)

@@ -62,7 +62,7 @@ line_below _ = None
 abbrev pub shape_at : Layout → List Row → ℕ → ℕ → Option Shape
 shape_at layout rows k lane = option_map (λ row. shape_in layout row lane) (slice_get rows k)
 
--- below a top corner in a source row the other rows of its line may leave the lane out, unless nothing is broken
+-- below a top corner in a source row the other rows of its line may leave the lane out, but not in the unbroken layout
 pub record MayLeaveOut (layout : Layout) (s : LabelledFile) (rows : List Row) (lane : ℕ) (x : Labelled) (top k : ℕ) : Type 0 where
   pub is_classic : is_unbroken layout ≡ false
   pub turns_early : slice_get rows top ≡ Some (SourceRow (line_at s (first_line s.file x)))

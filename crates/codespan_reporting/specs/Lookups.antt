@@ -97,7 +97,7 @@ module _ {Id : Type 0} (config : Config) (same : Id → Id → Bool) (file : Id 
   abbrev pub ids : List Id
   ids = first_seen same (map (λ (x : InFile Id). x.id) xs)
 
-  -- the numbers of filled lines that the padding needs
+  -- the lookups of the numbers of filled lines that the padding needs
   abbrev pub numbers_for_padding : Layout → Id → List Lookup
   numbers_for_padding Classic id = []
   numbers_for_padding Unbroken id = map LineNumber (filled_lines config (labelled_file same file xs id))

@@ -25,7 +25,7 @@ spans f x l = spans_line (first_line f x) (last_line f x) l
 abbrev pub spanned_lines : LabelledFile → List ℕ
 spanned_lines s = filter (λ l. list_any (λ x. spans s.file x l) s.labels) (range_with_len 0 (line_count s.file))
 
--- the lines whose numbers the padding has room for: those of the labels, or, where nothing is broken, those that are drawn
+-- the lines whose numbers the padding has room for: those of the labels, or, in the unbroken layout, those that are drawn
 abbrev pub numbered_lines : Config → LabelledFile → List ℕ
 numbered_lines config s = by_layout config.layout
   where

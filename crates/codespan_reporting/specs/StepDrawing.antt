@@ -21,7 +21,7 @@ abbrev pub number_asked : Option ℕ → ℕ → List Lookup
 number_asked None l = LineNumber l ∷ []
 number_asked (Some number) l = []
 
--- what is asked for of a line that is filled in, with its number where that is known
+-- what is asked for of a line that is filled in: its range, and its number where none is given
 abbrev pub asked_with : Option ℕ → ℕ → List Lookup
 asked_with number l = LineRange l ∷ number_asked number l
 
@@ -37,7 +37,7 @@ module _ {Id : Type 0} (refusal : Refusals Id) (id : Id) (f : FileModel) (count 
   DrawsStep lookups step old r new =
       SendsAsking (first_refusal refusal (asked_of id lookups)) old (stream_of_rows look (rows_of_step f count step)) r new
 
-  -- the call draws the rows of these steps, makes their lookups, and takes from these numbers those of the lines that it fills in, so that these are left
+  -- the call draws the rows of these steps, makes their lookups, and takes from these numbers those of the lines that it fills in, so that, where it succeeds, the last ones are left
   abbrev pub DrawsSteps : List Step → Sink → List ℕ → Result (Unit {0}) Error → Sink → List ℕ → Type 0
   DrawsSteps steps old numbers r new left =
       (layout : Layout) (later : List ℕ) → AreKnown layout f (fills_of steps) numbers later

@@ -114,7 +114,7 @@ fills_of steps = flat_map fill_of steps
 abbrev pub lookups_of_steps : Layout → List Step → List Lookup
 lookups_of_steps layout steps = flat_map (of_filled layout) (fills_of steps)
 
--- these are the numbers, known before the header, of lines that are filled in, and then later ones; where lines may be broken none is known
+-- these are the numbers, known before the header, of lines that are filled in, and then later ones; in the classic layout none is known
 abbrev pub AreKnown : Layout → FileModel → List ℕ → List ℕ → List ℕ → Type 0
 AreKnown Classic f ls numbers later = (numbers ≡ []) × (later ≡ [])
 AreKnown Unbroken f ls numbers later = numbers ≡ map f.number ls ++ later

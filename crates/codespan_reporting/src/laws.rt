@@ -110,8 +110,8 @@ pub fn order_is_free<Id>()
 
 // ---- every row
 
-/// The number of each drawn line fits the padding: in the unbroken layout always, and else where no line after a label's
-/// last is drawn and the numbers never fall.
+/// The number of each drawn line fits the padding: in the unbroken layout always, and in the classic one where the configuration
+/// shows no lines after labels and the numbers never fall.
 pub fn padding_has_room()
     ensures { (config : Config) (ss : List LabelledFile) → PaddingHasRoom config ss }
 {}

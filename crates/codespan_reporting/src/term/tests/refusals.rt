@@ -170,7 +170,7 @@ fn first_refusal(rt: HostRuntime) -> Result<(), Fail> {
     Ok(())
 }
 
-/// The number of a line that is filled in is asked for with the line, and in the unbroken layout before the header.
+/// In the classic layout the number of a line that is filled in is asked for with the line, in the unbroken one before the header.
 #[test]
 fn refused_number_of_filled_line(rt: HostRuntime) -> Result<(), Fail> {
     let alloc = rt.alloc();

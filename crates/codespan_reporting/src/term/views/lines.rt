@@ -59,7 +59,7 @@ impl<'files, 'text, F: Files<'files>> FileLines<'files, 'text, F> {
         )
     }
 
-    /// Draws a line between two that are shown, with the labels and marks of these entries, and its number where that is known.
+    /// Draws a line between two that are shown, with the labels and marks of these entries. `number` is its number, where that is known.
     ///
     /// Refuses as the lookup of its range does, and then, where the number is not known, as that of its number, before anything is
     /// written, and then as [`draw_line`](FileLines::draw_line) does.

@@ -56,8 +56,9 @@ impl<'diagnostic, 'config, FileId: Copy + Eq> RichDiagnostic<'diagnostic, 'confi
     ///
     /// Refuses as the first lookup that refuses does, with `FormatError` where the `Display` of a file's name refuses, with
     /// `OutOfMemory` where a growth is refused, and with `Io` where the writer refuses.
-    /// Nothing is written then, unless it was the writer or a growth that refused, or a lookup after the header: of a file's source, or of the range or,
-    /// in the classic layout, the number of a line between two shown ones. Without labels there is no lookup, no memory is taken, and the one refusal is `Io`.
+    /// Nothing is written then, unless it was the writer or a growth that refused, or a lookup after the header: of a file's source, or
+    /// of the range or, in the classic layout, the number of a line between two shown ones. Without labels there is no lookup, no memory
+    /// is taken, and the one refusal is `Io`.
     pub fn render<'files, F, W>(
         &self,
         files: &'files F,
