@@ -12,7 +12,6 @@ pub mod Sends
 pub mod Put
 pub mod Loops
 pub mod Repeats
-pub mod PieceList
 pub mod Marks
 pub mod Paints
 pub mod AnsiLemmas

@@ -8,6 +8,7 @@ pub mod SimpleModel
 pub mod MappedModel
 pub mod Settings
 pub mod ErrorText
+pub mod Errors
 pub mod FileLaws
 pub mod FileTables
 pub mod Lemmas
@@ -15,11 +16,9 @@ pub mod Lemmas
 pub mod Labels
 -- writers
 pub mod Streams
-pub mod Pieces
 pub mod WriterLaw
 pub mod ColorLaw
 pub mod Writers
-pub mod Tags
 -- tables
 pub mod Characters
 pub mod StyleTables

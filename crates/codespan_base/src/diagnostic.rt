@@ -1,7 +1,7 @@
 //! Diagnostics as data: what is reported, how bad it is, and the places that it speaks of.
 //!
 //! Each type is built by a constructor and then by calls that begin with `with_`, which take the value and give it
-//! back. Constructors take no memory. A call that is refused drops the value that it was given.
+//! back. Constructors answer no refusal. A call that is refused drops the value that it was given.
 
 ghost use Rattle.std.specs.Prelude.{◌≡◌, ◌++◌, ◌∷◌, [], IfOk, IfSome, IfErr, OnErr, IsErrOf, IsSome, String, string_bytes, map, Some, None};
 ghost use Rattle.std.specs.Global.{Global};
@@ -10,8 +10,6 @@ ghost use Rattle.std.specs.Iterator.{IsFinite};
 ghost use Rattle.std.specs.Iterator.Runs.{WholeRun};
 
 mod clones;
-#[cfg(test)]
-mod tests;
 pub mod text;
 
 use crate::diagnostic::clones::{clone_labels, clone_notes};
@@ -62,7 +60,7 @@ pub struct Label<FileId> {
 }
 
 impl<FileId> Label<FileId> {
-    /// A label of this style on these bytes of the file, with no message. Takes no memory.
+    /// A label of this style on these bytes of the file, with no message.
     pub fn new(alloc: Global, style: LabelStyle, file_id: FileId, range: Range<usize>) -> Self
         ensures style { result.style ≡ style }
         ensures file_id { result.file_id ≡ file_id }
@@ -77,7 +75,7 @@ impl<FileId> Label<FileId> {
         }
     }
 
-    /// A label of the style [`LabelStyle::Primary`], with no message. Takes no memory.
+    /// A label of the style [`LabelStyle::Primary`], with no message.
     pub fn primary(alloc: Global, file_id: FileId, range: Range<usize>) -> Self
         ensures style { result.style ≡ LabelStyle.Primary }
         ensures file_id { result.file_id ≡ file_id }
@@ -87,7 +85,7 @@ impl<FileId> Label<FileId> {
         Label::new(alloc, LabelStyle::Primary, file_id, range)
     }
 
-    /// A label of the style [`LabelStyle::Secondary`], with no message. Takes no memory.
+    /// A label of the style [`LabelStyle::Secondary`], with no message.
     pub fn secondary(alloc: Global, file_id: FileId, range: Range<usize>) -> Self
         ensures style { result.style ≡ LabelStyle.Secondary }
         ensures file_id { result.file_id ≡ file_id }
@@ -151,7 +149,7 @@ pub struct Diagnostic<FileId> {
 }
 
 impl<FileId> Diagnostic<FileId> {
-    /// A diagnostic of this severity, with empty texts and lists and no code. Takes no memory.
+    /// A diagnostic of this severity, with empty texts and lists and no code.
     pub fn new(alloc: Global, severity: Severity) -> Self
         ensures severity { result.severity ≡ severity }
         ensures code { result.code ≡ None }
@@ -168,7 +166,7 @@ impl<FileId> Diagnostic<FileId> {
         }
     }
 
-    /// A diagnostic of the severity [`Severity::Bug`], with empty texts and lists and no code. Takes no memory.
+    /// A diagnostic of the severity [`Severity::Bug`], with empty texts and lists and no code.
     pub fn bug(alloc: Global) -> Self
         ensures severity { result.severity ≡ Severity.Bug }
         ensures code { result.code ≡ None }
@@ -179,7 +177,7 @@ impl<FileId> Diagnostic<FileId> {
         Diagnostic::new(alloc, Severity::Bug)
     }
 
-    /// A diagnostic of the severity [`Severity::Error`], with empty texts and lists and no code. Takes no memory.
+    /// A diagnostic of the severity [`Severity::Error`], with empty texts and lists and no code.
     pub fn error(alloc: Global) -> Self
         ensures severity { result.severity ≡ Severity.Error }
         ensures code { result.code ≡ None }
@@ -190,7 +188,7 @@ impl<FileId> Diagnostic<FileId> {
         Diagnostic::new(alloc, Severity::Error)
     }
 
-    /// A diagnostic of the severity [`Severity::Warning`], with empty texts and lists and no code. Takes no memory.
+    /// A diagnostic of the severity [`Severity::Warning`], with empty texts and lists and no code.
     pub fn warning(alloc: Global) -> Self
         ensures severity { result.severity ≡ Severity.Warning }
         ensures code { result.code ≡ None }
@@ -201,7 +199,7 @@ impl<FileId> Diagnostic<FileId> {
         Diagnostic::new(alloc, Severity::Warning)
     }
 
-    /// A diagnostic of the severity [`Severity::Note`], with empty texts and lists and no code. Takes no memory.
+    /// A diagnostic of the severity [`Severity::Note`], with empty texts and lists and no code.
     pub fn note(alloc: Global) -> Self
         ensures severity { result.severity ≡ Severity.Note }
         ensures code { result.code ≡ None }
@@ -212,7 +210,7 @@ impl<FileId> Diagnostic<FileId> {
         Diagnostic::new(alloc, Severity::Note)
     }
 
-    /// A diagnostic of the severity [`Severity::Help`], with empty texts and lists and no code. Takes no memory.
+    /// A diagnostic of the severity [`Severity::Help`], with empty texts and lists and no code.
     pub fn help(alloc: Global) -> Self
         ensures severity { result.severity ≡ Severity.Help }
         ensures code { result.code ≡ None }

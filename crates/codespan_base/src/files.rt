@@ -9,15 +9,11 @@ ghost use Rattle.codespan_base.specs.FileModel.{Tells};
 
 mod defaults;
 mod error;
-#[cfg(test)]
-mod example;
 mod lines;
 mod mapped;
 mod simple;
 mod starts;
 mod table;
-#[cfg(test)]
-mod tests;
 
 pub use defaults::{default_column_number, default_line_number, default_location};
 pub use error::Error;

@@ -5,13 +5,13 @@ use Rattle.std.specs.Result.{IsErrOf}
 use Rattle.std.proofs.lemmas.List.{map-append}
 use Rattle.codespan_base.specs.declared.files.error.Error.{Error}
 use Rattle.codespan_base.specs.declared.files.error.Error.TheVariants.{OutOfMemory}
+use Rattle.codespan_base.specs.Errors.{IsIo}
 use Rattle.codespan_base.specs.FileModel.{Lookup, or_refusal}
 use Rattle.codespan_base.specs.Streams.{Stream}
 use Rattle.codespan_base.specs.WriterLaw.{Sink, Sends, Began}
 use Rattle.codespan_base.proofs.Sends.{sent-nil, Began-first, Began-last}
-use Rattle.codespan_reporting.specs.Asking.{Stopped, EndedAsking, SendsAsking}
-use Rattle.codespan_reporting.specs.Lookups.{Refusals, asked_of, first_refusal}
-use Rattle.codespan_reporting.specs.Renderers.{IsIo}
+use Rattle.codespan_reporting.specs.Inner.Asking.{Stopped, EndedAsking, SendsAsking}
+use Rattle.codespan_picture.specs.Lookups.{Refusals, asked_of, first_refusal}
 use Rattle.codespan_reporting.proofs.Chains.{told_after, came_both, came_then_stopped, stopped_before}
 use Rattle.codespan_reporting.proofs.Drawing.{Began-none}
 

@@ -2,7 +2,7 @@
 use Rattle.std.proofs.Common.{◌≡◌, true, ◌++◌, sym, subst, ap, ◌∙◌}
 use Rattle.codespan_base.specs.Streams.{Stream}
 use Rattle.codespan_base.specs.WriterLaw.{Sink, sent, is_told, Began, refusing}
-use Rattle.codespan_reporting.specs.Asking.{Came, Stopped}
+use Rattle.codespan_reporting.specs.Inner.Asking.{Came, Stopped}
 use Rattle.codespan_base.proofs.Sends.{is_told-sent, sent-append, Began-first, Began-last}
 
 -- a writer that tells its bytes goes on telling them

@@ -13,12 +13,12 @@ use Rattle.codespan_base.specs.FileModel.{FileModel, IsLawful, Lookup, RefusesPa
 use Rattle.codespan_base.specs.FileModel.Lookup.{LineRange, LineNumber}
 use Rattle.codespan_base.specs.Labels.{Labelled, first_line, last_line}
 use Rattle.codespan_base.specs.Lemmas.Lines.{lines_have_indices, lines_within_text}
-use Rattle.codespan_reporting.specs.Entries.{Entry, LabelPlace, entries_of, line_entries}
+use Rattle.codespan_reporting.specs.Inner.Entries.{Entry, LabelPlace, entries_of, line_entries}
 use Rattle.codespan_reporting.specs.declared.term.views.entry.Entry.{Entry as GivenEntry}
-use Rattle.codespan_reporting.specs.GivenEntries.{Adds, entries_on, lookups_on}
-use Rattle.codespan_reporting.specs.Lookups.{Refusals, asked_lines, asked_of, ends_context, first_refusal, is_asked, line_refusal, of_line, probe}
-use Rattle.codespan_reporting.specs.Padding.{spans_line}
-use Rattle.codespan_reporting.proofs.CaretLemmas.{range_with_len-append}
+use Rattle.codespan_reporting.specs.Inner.GivenEntries.{Adds, entries_on, lookups_on}
+use Rattle.codespan_picture.specs.Lookups.{Refusals, asked_lines, asked_of, ends_context, first_refusal, is_asked, line_refusal, of_line, probe}
+use Rattle.codespan_picture.specs.Padding.{spans_line}
+use Rattle.codespan_laws.proofs.CaretLemmas.{range_with_len-append}
 use Rattle.codespan_reporting.proofs.Gathering.{Adds-as, Adds-both, Adds-none}
 use Rattle.codespan_reporting.proofs.Refusals.{first_refusal-none, first_refusal-some}
 

@@ -6,15 +6,15 @@ use Rattle.codespan_base.specs.declared.term.config.Config.{Config}
 use Rattle.codespan_base.specs.declared.diagnostic.Diagnostic.{Diagnostic}
 use Rattle.codespan_base.specs.declared.files.error.Error.{Error}
 use Rattle.codespan_base.specs.declared.files.error.Error.TheVariants.{FormatError, OutOfMemory}
+use Rattle.codespan_base.specs.Errors.{IsIo}
 use Rattle.codespan_base.specs.FileModel.{FileModel, Lookup}
 use Rattle.codespan_base.specs.Streams.{Stream}
 use Rattle.codespan_base.specs.WriterLaw.{Sink, sent, is_told, Began, Sends, refusing}
 use Rattle.codespan_base.proofs.Sends.{append_known-nil}
-use Rattle.codespan_reporting.specs.Picture.{labels_of}
-use Rattle.codespan_reporting.specs.Renderers.{IsIo}
-use Rattle.codespan_reporting.specs.Lookups.{Refusals, early_lookups, late_lookups, first_refusal}
+use Rattle.codespan_picture.specs.Picture.{labels_of}
+use Rattle.codespan_picture.specs.Lookups.{Refusals, early_lookups, late_lookups, first_refusal}
 use Rattle.codespan_reporting.specs.Headline.{DrawsRich, viewed_picture, NamesAreStated}
-use Rattle.codespan_reporting.specs.Asking.{Came}
+use Rattle.codespan_reporting.specs.Inner.Asking.{Came}
 use Rattle.codespan_reporting.proofs.Chains.{came_both, came_then_stopped}
 use Rattle.codespan_reporting.proofs.Refusals.{first_refusal-some, first_refusal-none, all_answered, some_refused, Blames-lookup, Blames-writer}
 

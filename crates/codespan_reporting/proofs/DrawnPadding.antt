@@ -9,16 +9,16 @@ use Rattle.codespan_base.specs.declared.files.error.Error.{Error}
 use Rattle.codespan_base.specs.FileModel.{FileModel}
 use Rattle.codespan_base.specs.FileModel.Lookup.{LineNumber}
 use Rattle.codespan_reporting.specs.declared.term.views.entry.Entry.{Entry as GivenEntry}
-use Rattle.codespan_reporting.specs.GivenEntries.{entry_of}
-use Rattle.codespan_reporting.specs.Entries.{Entry, is_on_line, is_shown}
-use Rattle.codespan_reporting.specs.GivenPadding.{line_digits}
-use Rattle.codespan_reporting.specs.Lines.{is_broken}
-use Rattle.codespan_reporting.specs.Lookups.{Refusals, asked_of, first_refusal}
-use Rattle.codespan_reporting.specs.Padding.{digit_count}
-use Rattle.codespan_reporting.specs.Steps.{Step, Draw, Fill, Break, fill_of, fills_of, gap_after, groups, line_of_step, lines_of_steps, marks_of, steps_of, walk}
+use Rattle.codespan_reporting.specs.Inner.GivenEntries.{entry_of}
+use Rattle.codespan_reporting.specs.Inner.Entries.{Entry, is_on_line, is_shown}
+use Rattle.codespan_reporting.specs.Inner.GivenPadding.{line_digits}
+use Rattle.codespan_picture.specs.Lines.{is_broken}
+use Rattle.codespan_picture.specs.Lookups.{Refusals, asked_of, first_refusal}
+use Rattle.codespan_picture.specs.Padding.{digit_count}
+use Rattle.codespan_reporting.specs.Inner.Steps.{Step, Draw, Fill, Break, fill_of, fills_of, gap_after, groups, line_of_step, lines_of_steps, marks_of, steps_of, walk}
 use Rattle.codespan_reporting.proofs.EntryGroups.{groups-cons}
 use Rattle.codespan_reporting.proofs.FileParts.{no_entry, prefix-map}
-use Rattle.codespan_reporting.proofs.Greatest.{greatest-any, greatest-append}
+use Rattle.codespan_laws.proofs.Greatest.{greatest-any, greatest-append}
 use Rattle.codespan_reporting.proofs.Refusals.{first_refusal-none}
 
 -- the entries after the group of one

@@ -8,9 +8,10 @@ use Rattle.codespan_base.specs.FileModel.{FileModel}
 use Rattle.codespan_base.specs.Streams.{Stream, text_of, no_marks}
 use Rattle.codespan_base.specs.WriterLaw.{Sink, sent, is_told}
 use Rattle.codespan_base.specs.Writers.{fresh_sink}
-use Rattle.codespan_reporting.specs.Lookups.{Refusals, lookups_in, AllAnswered}
-use Rattle.codespan_reporting.specs.Picture.{picture_in}
-use Rattle.codespan_reporting.specs.Headline.{NamesAreStated, viewed_picture, DrawsRich, IsDrawn, MeansLabels}
+use Rattle.codespan_picture.specs.Lookups.{Refusals, lookups_in, AllAnswered}
+use Rattle.codespan_picture.specs.Picture.{picture_in}
+use Rattle.codespan_laws.specs.Meanings.{MeansLabels}
+use Rattle.codespan_reporting.specs.Headline.{NamesAreStated, viewed_picture, DrawsRich, IsDrawn}
 
 -- a plain writer that held nothing and was sent a stream holds its text
 held_text : (old new : Sink) (bytes : List ℕ) (s : Stream) → old ≡ fresh_sink no_marks (Some []) → new.held ≡ Some bytes

@@ -3,9 +3,9 @@ use Rattle.std.proofs.Common.{◌≡◌, ℕ, zero, suc, ◌+◌, ◌<◌, ◌�
 use Rattle.std.specs.List.{prefix_len, range_with_len, AllByRecursion}
 use Rattle.std.proofs.lemmas.Bool.{cases_Bool, eqb-true, eqb-false, eq-eqb, ltb-true, ltb-false, lt-ltb, le-ltb}
 use Rattle.std.proofs.lemmas.List.{append-nil}
-use Rattle.codespan_reporting.specs.Entries.{Entry, is_shown, is_on_line}
-use Rattle.codespan_reporting.specs.Steps.{Step, Draw, join_group, groups, marks_of, gap, gap_after, walk, steps_of}
-use Rattle.codespan_reporting.proofs.SortedLists.{all-weaker, all-filter, filter-whole, filter-nothing}
+use Rattle.codespan_reporting.specs.Inner.Entries.{Entry, is_shown, is_on_line}
+use Rattle.codespan_reporting.specs.Inner.Steps.{Step, Draw, join_group, groups, marks_of, gap, gap_after, walk, steps_of}
+use Rattle.codespan_laws.proofs.SortedLists.{all-weaker, all-filter, filter-whole, filter-nothing}
 
 -- ---- groups
 

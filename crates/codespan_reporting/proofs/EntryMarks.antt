@@ -11,16 +11,17 @@ use Rattle.std.proofs.Math.Bool.{and-false}
 use Rattle.codespan_base.specs.declared.term.config.Config.{Config}
 use Rattle.codespan_base.specs.FileModel.{FileModel, line_count}
 use Rattle.codespan_base.specs.Labels.{Labelled, LaneMark, Part, first_line, last_line, is_single, drawn_label, part_on, mark_of, multi_labels}
-use Rattle.codespan_reporting.specs.Entries.{Entry, Single, Multi, LabelPlace, is_below, is_shown, is_on_line, is_of_file, entry_of_mark, line_entries, entries_of}
-use Rattle.codespan_reporting.specs.Lines.{shows}
-use Rattle.codespan_reporting.specs.PlacedLabels.{file_place, is_multi_of, lane_after, place_after, entries_after}
-use Rattle.codespan_reporting.specs.Snippets.{InFile}
-use Rattle.codespan_reporting.specs.Steps.{single_of, singles_in, ascend_from}
+use Rattle.codespan_reporting.specs.Inner.Entries.{Entry, Single, Multi, LabelPlace, is_below, is_shown, is_on_line, is_of_file, entry_of_mark, line_entries, entries_of}
+use Rattle.codespan_picture.specs.Lines.{shows}
+use Rattle.codespan_reporting.specs.Inner.PlacedLabels.{file_place, is_multi_of, lane_after, place_after, entries_after}
+use Rattle.codespan_picture.specs.Snippets.{InFile}
+use Rattle.codespan_reporting.specs.Inner.Steps.{single_of, singles_in}
+use Rattle.codespan_picture.specs.Lanes.{ascend_from}
 use Rattle.codespan_reporting.proofs.EntryOrder.{place_below, lane_below}
 use Rattle.codespan_reporting.proofs.LabelEntries.{is_kind, all-of_file, all-below, entries-of_line, singles-of_line, multis-of_line, shown-of_line}
-use Rattle.codespan_reporting.proofs.OrderSorts.{has_range}
-use Rattle.codespan_reporting.proofs.RangeLemmas.{line_of-below}
-use Rattle.codespan_reporting.proofs.SortedLists.{Climbs, Falls, all-append, all-weaker, filter-whole, filter-nothing}
+use Rattle.codespan_laws.proofs.OrderSorts.{has_range}
+use Rattle.codespan_laws.proofs.RangeLemmas.{line_of-below}
+use Rattle.codespan_laws.proofs.SortedLists.{Climbs, Falls, all-append, all-weaker, filter-whole, filter-nothing}
 
 -- ---- ranges
 

@@ -9,10 +9,10 @@ use Rattle.std.proofs.lemmas.Bool.Decides.{nat_tests}
 use Rattle.std.proofs.lemmas.Cmp.{nat_cmp_total, on_total, then_total, back_total}
 use Rattle.std.proofs.lemmas.List.Sorted.{ranks_by}
 use Rattle.codespan_base.specs.Labels.{Labelled, LaneMark, stands_before}
-use Rattle.codespan_reporting.specs.Entries.{Entry, Says, Shown, Single, Multi, kind_of, first_of, second_of, place_of, is_below}
-use Rattle.codespan_reporting.specs.Steps.{single_of, singles_in}
-use Rattle.codespan_reporting.proofs.OrderSorts.{Ascends}
-use Rattle.codespan_reporting.proofs.SortedLists.{Rises}
+use Rattle.codespan_reporting.specs.Inner.Entries.{Entry, Says, Shown, Single, Multi, kind_of, first_of, second_of, place_of, is_below}
+use Rattle.codespan_reporting.specs.Inner.Steps.{single_of, singles_in}
+use Rattle.codespan_laws.proofs.OrderSorts.{Ascends}
+use Rattle.codespan_laws.proofs.SortedLists.{Rises}
 
 -- it is an order
 pub below_order : IsStrictWeakOrder is_below

@@ -13,26 +13,26 @@ use Rattle.codespan_base.specs.declared.term.config.Layout.TheVariants.{Classic,
 use Rattle.codespan_base.specs.FileModel.{FileModel, line_count}
 use Rattle.codespan_base.specs.FileModel.Lookup.{LineNumber}
 use Rattle.codespan_reporting.specs.declared.term.views.entry.Entry.{Entry as GivenEntry}
-use Rattle.codespan_reporting.specs.Entries.{Entry, entries_of, is_below, is_of_file, is_on_line}
-use Rattle.codespan_reporting.specs.GivenEntries.{Adds, IsOfFiles, entry_of}
-use Rattle.codespan_reporting.specs.GivenPadding.{by_place, drawn_digits, filled_lookups, is_mark, filled_numbers, line_digits, marked_digits, steps_at}
-use Rattle.codespan_reporting.specs.GivenSheets.{known_numbers, numbers_from}
-use Rattle.codespan_reporting.specs.Lines.{drawn_lines}
-use Rattle.codespan_reporting.specs.Lookups.{Refusals, asked_of, numbers_for_padding}
-use Rattle.codespan_reporting.specs.Padding.{digit_count, digits_of, numbered_lines, padding_of, spanned_lines, spans}
-use Rattle.codespan_reporting.specs.PlacedLabels.{IsAt, all_entries, entries_after, file_ids, file_place, place_after}
-use Rattle.codespan_reporting.specs.Snippets.{InFile, LabelledFile, labelled_file, labelled_files}
-use Rattle.codespan_reporting.specs.Steps.{fills_of, lines_of_steps}
+use Rattle.codespan_reporting.specs.Inner.Entries.{Entry, entries_of, is_below, is_of_file, is_on_line}
+use Rattle.codespan_reporting.specs.Inner.GivenEntries.{Adds, IsOfFiles, entry_of}
+use Rattle.codespan_reporting.specs.Inner.GivenPadding.{by_place, drawn_digits, filled_lookups, is_mark, filled_numbers, line_digits, marked_digits, steps_at}
+use Rattle.codespan_reporting.specs.Inner.GivenSheets.{known_numbers, numbers_from}
+use Rattle.codespan_picture.specs.Lines.{drawn_lines}
+use Rattle.codespan_picture.specs.Lookups.{Refusals, asked_of, numbers_for_padding}
+use Rattle.codespan_picture.specs.Padding.{digit_count, digits_of, numbered_lines, padding_of, spanned_lines, spans}
+use Rattle.codespan_reporting.specs.Inner.PlacedLabels.{IsAt, all_entries, entries_after, file_ids, file_place, place_after}
+use Rattle.codespan_picture.specs.Snippets.{InFile, LabelledFile, labelled_file, labelled_files}
+use Rattle.codespan_reporting.specs.Inner.Steps.{fills_of, lines_of_steps}
 use Rattle.codespan_reporting.proofs.EntryMarks as marks
 use Rattle.codespan_reporting.proofs.EntryPicture.{snippet-fills, snippet-lines}
 use Rattle.codespan_reporting.proofs.FileOrder.{file_ids-has, has}
 use Rattle.codespan_reporting.proofs.FileParts.{gathered-sorted}
 use Rattle.codespan_reporting.proofs.FilePlaces.{at-get, file_place-at}
-use Rattle.codespan_reporting.proofs.Greatest.{greatest-bounds, greatest-same}
+use Rattle.codespan_laws.proofs.Greatest.{greatest-bounds, greatest-same}
 use Rattle.codespan_reporting.proofs.LabelEntries.{all-of_file, marked-of_line}
 use Rattle.codespan_reporting.proofs.LabelPlaces.{has-place}
-use Rattle.codespan_reporting.proofs.PaddingLemmas.{contains-filter, contains-range, numbered-fits}
-use Rattle.codespan_reporting.proofs.SortedLists.{all-append, all-both, all-mapped, all-weaker, any-filtered}
+use Rattle.codespan_laws.proofs.PaddingLemmas.{contains-filter, contains-range, numbered-fits}
+use Rattle.codespan_laws.proofs.SortedLists.{all-append, all-both, all-mapped, all-weaker, any-filtered}
 
 -- ---- what was gathered
 

@@ -9,22 +9,23 @@ use Rattle.std.proofs.lemmas.List.Sorted.{All-permutation, list_any-IsPermutatio
 use Rattle.codespan_base.specs.declared.term.config.Config.{Config}
 use Rattle.codespan_base.specs.FileModel.{FileModel, line_count}
 use Rattle.codespan_base.specs.Labels.{Labelled, LaneMark, is_single, first_line, last_line, drawn_label, single_labels, multi_labels, marks_on, sorted}
-use Rattle.codespan_reporting.specs.Entries.{Entry, Says, Shown, Single, Multi, kind_of, is_below, is_shown, is_on_line, is_of_file}
-use Rattle.codespan_reporting.specs.Lines as lines
-use Rattle.codespan_reporting.specs.Lines.{drawn_lines}
-use Rattle.codespan_reporting.specs.Lookups.{filled_lines}
-use Rattle.codespan_reporting.specs.PlacedLabels.{IsAt, file_ids, file_place, all_entries}
-use Rattle.codespan_reporting.specs.Snippets.{InFile, LabelledFile, labelled_file, lane_count, line_at, drawing, rows_after}
-use Rattle.codespan_reporting.specs.Steps.{marks_of, steps_of, single_of, multi_of, singles_in, multis_in, line_of_group, rows_of_steps, fills_of, lines_of_steps, ascend_from, do_fit, does_step_fit}
+use Rattle.codespan_reporting.specs.Inner.Entries.{Entry, Says, Shown, Single, Multi, kind_of, is_below, is_shown, is_on_line, is_of_file}
+use Rattle.codespan_picture.specs.Lines as lines
+use Rattle.codespan_picture.specs.Lines.{drawn_lines}
+use Rattle.codespan_picture.specs.Lookups.{filled_lines}
+use Rattle.codespan_reporting.specs.Inner.PlacedLabels.{IsAt, file_ids, file_place, all_entries}
+use Rattle.codespan_picture.specs.Snippets.{InFile, LabelledFile, labelled_file, lane_count, line_at, drawing, rows_after}
+use Rattle.codespan_reporting.specs.Inner.Steps.{marks_of, steps_of, single_of, multi_of, singles_in, multis_in, line_of_group, rows_of_steps, fills_of, lines_of_steps, do_fit, does_step_fit}
+use Rattle.codespan_picture.specs.Lanes.{ascend_from}
 use Rattle.codespan_reporting.proofs.EntryGroups.{IsRising, starts_shown, steps_after, steps-by_line, all-on_line}
 use Rattle.codespan_reporting.proofs.EntryMarks as marks
 use Rattle.codespan_reporting.proofs.EntryMarks.{entry_with, marks_from, marks-ascend, marks-climb, says_range, is_of_range}
 use Rattle.codespan_reporting.proofs.EntryOrder.{below_order, line_rises, kind_rises, IsOn, singles-ascend}
 use Rattle.codespan_reporting.proofs.FilePlaces.{file_place-at}
-use Rattle.codespan_reporting.proofs.FillLemmas.{drawing_of_shown, none_past}
+use Rattle.codespan_laws.proofs.FillLemmas.{drawing_of_shown, none_past}
 use Rattle.codespan_reporting.proofs.LabelEntries.{is_kind}
-use Rattle.codespan_reporting.proofs.OrderSorts.{has_range, ascending-same, sorted-ascends, sorted-keeps}
-use Rattle.codespan_reporting.proofs.SortedLists.{Rises, Falls, Climbs, all-weaker, all-filter, all-both, all-pass, any-nothing, filter-filter, filter-reverse, any-filtered, reverse-cons, rises-filter, rises-from_sorted, filter-sorted_climbs, filter-sorted_falls}
+use Rattle.codespan_laws.proofs.OrderSorts.{has_range, ascending-same, sorted-ascends, sorted-keeps}
+use Rattle.codespan_laws.proofs.SortedLists.{Rises, Falls, Climbs, all-weaker, all-filter, all-both, all-pass, any-nothing, filter-filter, filter-reverse, any-filtered, reverse-cons, rises-filter, rises-from_sorted, filter-sorted_climbs, filter-sorted_falls}
 use Rattle.codespan_reporting.proofs.StepLines.{steps-drawing, steps-fit, steps-lines, steps-fills}
 
 -- ---- what a group says

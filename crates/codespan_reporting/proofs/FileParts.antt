@@ -11,11 +11,11 @@ use Rattle.std.proofs.lemmas.List.Elements.{filter_agree}
 use Rattle.std.proofs.lemmas.List.Sorted.{IsPermutation-map}
 use Rattle.codespan_reporting.specs.declared.term.views.entry.Entry.{Entry as GivenEntry}
 use Rattle.codespan_reporting.specs.declared.term.views.entry.Says.TheVariants.{Shown}
-use Rattle.codespan_reporting.specs.Entries.{Entry, is_below, is_of_file}
-use Rattle.codespan_reporting.specs.GivenEntries.{entry_of}
+use Rattle.codespan_reporting.specs.Inner.Entries.{Entry, is_below, is_of_file}
+use Rattle.codespan_reporting.specs.Inner.GivenEntries.{entry_of}
 use Rattle.codespan_reporting.proofs.EntryGroups.{IsRising, rising-filter, split_at}
 use Rattle.codespan_reporting.proofs.EntryOrder.{below_order, file_rises}
-use Rattle.codespan_reporting.proofs.SortedLists.{Rises, rises-from_sorted, all-weaker, all-pass, filter-whole, filter-filter}
+use Rattle.codespan_laws.proofs.SortedLists.{Rises, rises-from_sorted, all-weaker, all-pass, filter-whole, filter-filter}
 
 -- ---- entries
 

@@ -4,9 +4,9 @@ use Rattle.std.specs.Cmp.{IsEquivalence, both_ways}
 use Rattle.std.specs.List.{AllByRecursion}
 use Rattle.std.proofs.lemmas.Bool.{cases_Bool, eqb-true, eq-eqb, ne_eqb}
 use Rattle.codespan_base.specs.Labels.{first_seen}
-use Rattle.codespan_reporting.specs.Snippets.{InFile}
-use Rattle.codespan_reporting.specs.PlacedLabels.{IsAt, file_ids, file_place}
-use Rattle.codespan_reporting.proofs.SortedLists.{all-weaker, all-filter, all-pass}
+use Rattle.codespan_picture.specs.Snippets.{InFile}
+use Rattle.codespan_reporting.specs.Inner.PlacedLabels.{IsAt, file_ids, file_place}
+use Rattle.codespan_laws.proofs.SortedLists.{all-weaker, all-filter, all-pass}
 
 module _ {Id : Type 0} (same : Id → Id → Bool) (o : IsEquivalence same) where
   -- the ids differ

@@ -9,10 +9,10 @@ use Rattle.codespan_base.specs.FileModel.{FileModel, line_start}
 use Rattle.codespan_base.specs.Labels.{Labelled, LaneMark, drawn_label, first_line, from_line_start, last_line, mark_of, part_on}
 use Rattle.codespan_reporting.specs.declared.term.views.entry.Entry.{Entry as GivenEntry}
 use Rattle.codespan_reporting.specs.declared.term.views.entry.SourceLine.{SourceLine}
-use Rattle.codespan_reporting.specs.Entries.{Entry, LabelPlace, Says, Shown, Single, Multi, line_entries, mark_entries, shown_entries, entry_of_mark, entry_on}
-use Rattle.codespan_reporting.specs.GivenEntries.{Adds, IsLineOf, entry_of, said, says_at}
-use Rattle.codespan_reporting.specs.Lines.{shows}
-use Rattle.codespan_reporting.proofs.SortedLists.{all-append}
+use Rattle.codespan_reporting.specs.Inner.Entries.{Entry, LabelPlace, Says, Shown, Single, Multi, line_entries, mark_entries, shown_entries, entry_of_mark, entry_on}
+use Rattle.codespan_reporting.specs.Inner.GivenEntries.{Adds, IsLineOf, entry_of, said, says_at}
+use Rattle.codespan_picture.specs.Lines.{shows}
+use Rattle.codespan_laws.proofs.SortedLists.{all-append}
 
 module _ (P : GivenEntry → Type 0) where
   -- nothing was added

@@ -3,9 +3,9 @@ use Rattle.std.proofs.Common.{◌≡◌, ℕ, ◌+◌, ◌-◌, ◌<◌, ◌≤�
 use Rattle.std.specs.List.{prefix_len}
 use Rattle.std.proofs.lemmas.List.{drop-map, take-map, length-map, get_or-map, drop_all}
 use Rattle.codespan_reporting.specs.declared.term.views.entry.Entry.{Entry as GivenEntry}
-use Rattle.codespan_reporting.specs.Entries.{Entry, is_shown, is_on_line}
-use Rattle.codespan_reporting.specs.GivenEntries.{entry_of}
-use Rattle.codespan_reporting.specs.Steps.{Step, Draw, groups, walk, gap_after}
+use Rattle.codespan_reporting.specs.Inner.Entries.{Entry, is_shown, is_on_line}
+use Rattle.codespan_reporting.specs.Inner.GivenEntries.{entry_of}
+use Rattle.codespan_reporting.specs.Inner.Steps.{Step, Draw, groups, walk, gap_after}
 use Rattle.codespan_reporting.proofs.FileParts.{next_part, prefix-map}
 use Rattle.codespan_reporting.proofs.GroupSteps.{IsGroup, part, without, next_group, steps-shown, steps-hidden, slice_range-more, slice_range-none}
 

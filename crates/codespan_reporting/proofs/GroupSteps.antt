@@ -7,8 +7,8 @@ use Rattle.std.proofs.Math.Seq.{take-add, take-length}
 use Rattle.std.proofs.lemmas.List.{get_or-drop, length-take-le, append_assoc, drop-drop}
 use Rattle.std.proofs.lemmas.Bool.{cases_Bool, eq-eqb}
 use Rattle.std.proofs.lemmas.Bool.Decides.{nat_tests}
-use Rattle.codespan_reporting.specs.Entries.{Entry, is_shown, is_on_line}
-use Rattle.codespan_reporting.specs.Steps.{Draw, Fill, groups, marks_of, gap_after, walk}
+use Rattle.codespan_reporting.specs.Inner.Entries.{Entry, is_shown, is_on_line}
+use Rattle.codespan_reporting.specs.Inner.Steps.{Draw, Fill, groups, marks_of, gap_after, walk}
 use Rattle.codespan_reporting.proofs.EntryGroups.{groups-cons}
 
 -- ---- groups

@@ -9,12 +9,12 @@ use Rattle.std.proofs.lemmas.List.Elements.{filter-append}
 use Rattle.codespan_base.specs.declared.term.config.Config.{Config}
 use Rattle.codespan_base.specs.FileModel.{FileModel, line_count, line_start}
 use Rattle.codespan_base.specs.Labels.{Labelled, LaneMark, Part, Top, Left, Bottom, first_line, last_line, is_single, drawn_label, part_on, mark_of}
-use Rattle.codespan_reporting.specs.Entries.{Entry, Says, Shown, Single, Multi, LabelPlace, kind_of, is_shown, is_on_line, entry_on, entry_of_mark, line_entries, entries_of}
-use Rattle.codespan_reporting.specs.GivenPadding.{is_mark}
-use Rattle.codespan_reporting.specs.Lines.{shows}
-use Rattle.codespan_reporting.specs.Lookups.{is_around, is_asked}
-use Rattle.codespan_reporting.specs.Padding.{spans}
-use Rattle.codespan_reporting.proofs.SortedLists.{all-append, filter-whole, filter-nothing, all-weaker}
+use Rattle.codespan_reporting.specs.Inner.Entries.{Entry, Says, Shown, Single, Multi, LabelPlace, kind_of, is_shown, is_on_line, entry_on, entry_of_mark, line_entries, entries_of}
+use Rattle.codespan_reporting.specs.Inner.GivenPadding.{is_mark}
+use Rattle.codespan_picture.specs.Lines.{shows}
+use Rattle.codespan_picture.specs.Lookups.{is_around, is_asked}
+use Rattle.codespan_picture.specs.Padding.{spans}
+use Rattle.codespan_laws.proofs.SortedLists.{all-append, filter-whole, filter-nothing, all-weaker}
 
 -- the entry is of this kind
 abbrev pub is_kind : ℕ → Entry → Bool

@@ -9,9 +9,9 @@ use Rattle.std.proofs.lemmas.List.Sums.{sum_by-append, sum_by-cons}
 use Rattle.codespan_base.specs.declared.term.config.Config.{Config}
 use Rattle.codespan_base.specs.FileModel.{FileModel}
 use Rattle.codespan_base.specs.Labels.{is_single}
-use Rattle.codespan_reporting.specs.Entries.{Entry, entries_of}
-use Rattle.codespan_reporting.specs.PlacedLabels.{file_place, is_multi_of, lane_after, place_after, entries_after}
-use Rattle.codespan_reporting.specs.Snippets.{InFile}
+use Rattle.codespan_reporting.specs.Inner.Entries.{Entry, entries_of}
+use Rattle.codespan_reporting.specs.Inner.PlacedLabels.{file_place, is_multi_of, lane_after, place_after, entries_after}
+use Rattle.codespan_picture.specs.Snippets.{InFile}
 use Rattle.codespan_reporting.proofs.FileOrder.{has}
 use Rattle.codespan_reporting.proofs.FilePlaces.{Differ, place-here, place-later}
 

@@ -13,19 +13,19 @@ use Rattle.codespan_base.specs.declared.files.error.Error.{Error}
 use Rattle.codespan_base.specs.FileModel.{FileModel}
 use Rattle.codespan_base.specs.Labels.{Labelled, LaneMark, is_single, mark_of, part_on, first_line, last_line, drawn_label}
 use Rattle.codespan_reporting.specs.declared.term.views.entry.Entry.{Entry as GivenEntry}
-use Rattle.codespan_reporting.specs.Entries.{Entry, LabelPlace, Shown, Single, entries_of, entry_of_mark, entry_on, line_entries, mark_entries, shown_entries}
-use Rattle.codespan_reporting.specs.GivenEntries.{Adds, AddsOf, IsLineOf, IsOfFiles, entry_of}
-use Rattle.codespan_reporting.specs.Lines.{shows}
-use Rattle.codespan_reporting.specs.Lookups.{Refusals, asked_lines, asked_of, first_refusal, label_asked, label_lookups, of_label}
-use Rattle.codespan_reporting.specs.Picture.{label_of}
-use Rattle.codespan_reporting.specs.PlacedLabels.{IsAt, entries_after, file_ids, file_place, is_multi_of, lane_after, place_after}
-use Rattle.codespan_reporting.specs.Snippets.{InFile}
+use Rattle.codespan_reporting.specs.Inner.Entries.{Entry, LabelPlace, Shown, Single, entries_of, entry_of_mark, entry_on, line_entries, mark_entries, shown_entries}
+use Rattle.codespan_reporting.specs.Inner.GivenEntries.{Adds, AddsOf, IsLineOf, IsOfFiles, entry_of}
+use Rattle.codespan_picture.specs.Lines.{shows}
+use Rattle.codespan_picture.specs.Lookups.{Refusals, asked_lines, asked_of, first_refusal, label_asked, label_lookups, of_label}
+use Rattle.codespan_picture.specs.Picture.{label_of}
+use Rattle.codespan_reporting.specs.Inner.PlacedLabels.{IsAt, entries_after, file_ids, file_place, is_multi_of, lane_after, place_after}
+use Rattle.codespan_picture.specs.Snippets.{InFile}
 use Rattle.codespan_reporting.proofs.FileOrder.{file_ids-has, has}
 use Rattle.codespan_reporting.proofs.FilePlaces.{Differ, file_place-at, first_seen-differ}
 use Rattle.codespan_reporting.proofs.Gathering.{Adds-as, Adds-both}
 use Rattle.codespan_reporting.proofs.LabelPlaces.{counted-at, counted-more, entries_after-more, has-place, lane_after-alike, lane_after-more}
 use Rattle.codespan_reporting.proofs.Refusals.{first_refusal-none, first_refusal-some}
-use Rattle.codespan_reporting.proofs.SortedLists.{all-append, all-both, all-mapped, all-weaker}
+use Rattle.codespan_laws.proofs.SortedLists.{all-append, all-both, all-mapped, all-weaker}
 
 -- ---- all entries of a label are of its file
 

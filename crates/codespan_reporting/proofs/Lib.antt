@@ -1,49 +1,7 @@
-pub mod BarLemmas
-pub mod BreakLemmas
-pub mod CaretLemmas
-pub mod FillLemmas
-pub mod Filling
-pub mod LaneWidths
-pub mod LanesShown
-pub mod LaneLineLemmas
-pub mod LaneLineRows
-pub mod LaneLineRuns
-pub mod MessageLemmas
-pub mod MessagesOnce
-pub mod PaddingLemmas
-pub mod PointerLemmas
-pub mod RangeLemmas
-pub mod RefillLemmas
-pub mod RefillPicture
-pub mod RefillRows
-pub mod ResetLemmas
-pub mod RowBoundLemmas
-pub mod SlotLemmas
-pub mod SlotSums
-pub mod CharacterLemmas
-pub mod CellSteps
-pub mod LaneWalk
-pub mod RowWords
-pub mod Passing
-pub mod Best
-pub mod CaretRuns
-pub mod Hanging
-pub mod Laying
-pub mod TextRuns
-pub mod Texts
-pub mod Underlines
-pub mod MeaningLemmas
-pub mod Alike
--- refusals, and ways to end a drawing
 pub mod Chains
 pub mod Refusals
 pub mod Drawing
 pub mod Emitting
-pub mod OrderMembers
-pub mod OrderPictures
-pub mod OrderSorts
--- entries in order
-pub mod SortedLists
 pub mod EntryGroups
 pub mod StepLines
 pub mod EntryOrder
@@ -52,13 +10,11 @@ pub mod FilePlaces
 pub mod EntryMarks
 pub mod EntryPicture
 pub mod FileParts
--- from labels to entries in order
 pub mod Gathering
 pub mod Contexts
 pub mod FileOrder
 pub mod LabelPlaces
 pub mod LabelsGathered
--- from entries in order to rows
 pub mod Askings
 pub mod MarkOrder
 pub mod StepStreams
@@ -67,13 +23,10 @@ pub mod GivenSteps
 pub mod SnippetParts
 pub mod SheetDrawing
 pub mod SheetFiles
--- room for line numbers, and where snippets start
 pub mod LocusStarts
-pub mod Greatest
 pub mod DrawnPadding
 pub mod PlacedPadding
 pub mod EntryPadding
 pub mod NoteRows
--- before the header
 pub mod SheetPrepared
 pub mod RichParts

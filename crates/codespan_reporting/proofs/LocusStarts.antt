@@ -8,12 +8,12 @@ use Rattle.codespan_base.specs.declared.files.error.Error.{Error}
 use Rattle.codespan_base.specs.FileModel.{FileModel, Lookup, or_refusal}
 use Rattle.codespan_base.specs.FileModel.Lookup.{LocationAt, Name}
 use Rattle.codespan_base.specs.Labels.{Labelled, is_primary}
-use Rattle.codespan_reporting.specs.declared.term.renderer.Locus.{Locus}
-use Rattle.codespan_reporting.specs.Given.{place_of_given}
-use Rattle.codespan_reporting.specs.Loci.{is_asked_label, least_if_any, starts_in}
-use Rattle.codespan_reporting.specs.Lookups.{Refusals, asked_of, first_refusal, locus_lookups}
-use Rattle.codespan_reporting.specs.Rows.{Place}
-use Rattle.codespan_reporting.specs.Snippets.{InFile, if_any, labelled_file, least, locus_start, place_of}
+use Rattle.codespan_picture.specs.declared.given.Locus.{Locus}
+use Rattle.codespan_picture.specs.Given.{place_of_given}
+use Rattle.codespan_reporting.specs.Inner.Loci.{is_asked_label, least_if_any, starts_in}
+use Rattle.codespan_picture.specs.Lookups.{Refusals, asked_of, first_refusal, locus_lookups}
+use Rattle.codespan_picture.specs.Rows.{Place}
+use Rattle.codespan_picture.specs.Snippets.{InFile, if_any, labelled_file, least, locus_start, place_of}
 use Rattle.codespan_reporting.proofs.Refusals.{first_refusal-some, first_refusal-none}
 
 -- ---- the least start

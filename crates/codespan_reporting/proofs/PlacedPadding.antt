@@ -7,16 +7,16 @@ use Rattle.std.proofs.lemmas.List.{append-nil, append_assoc}
 use Rattle.codespan_base.specs.declared.files.error.Error.{Error}
 use Rattle.codespan_base.specs.FileModel.{FileModel}
 use Rattle.codespan_reporting.specs.declared.term.views.entry.Entry.{Entry as GivenEntry}
-use Rattle.codespan_reporting.specs.Entries.{Entry, is_of_file}
-use Rattle.codespan_reporting.specs.GivenEntries.{IsLineOf, IsOfFiles, entry_of}
-use Rattle.codespan_reporting.specs.GivenPadding.{by_place, drawn_digits, filled_lookups, filled_numbers, line_digits, steps_at}
-use Rattle.codespan_reporting.specs.Lookups.{Refusals, first_refusal}
-use Rattle.codespan_reporting.specs.PlacedLabels.{IsAt}
-use Rattle.codespan_reporting.specs.Steps.{fills_of, lines_of_steps}
+use Rattle.codespan_reporting.specs.Inner.Entries.{Entry, is_of_file}
+use Rattle.codespan_reporting.specs.Inner.GivenEntries.{IsLineOf, IsOfFiles, entry_of}
+use Rattle.codespan_reporting.specs.Inner.GivenPadding.{by_place, drawn_digits, filled_lookups, filled_numbers, line_digits, steps_at}
+use Rattle.codespan_picture.specs.Lookups.{Refusals, first_refusal}
+use Rattle.codespan_reporting.specs.Inner.PlacedLabels.{IsAt}
+use Rattle.codespan_reporting.specs.Inner.Steps.{fills_of, lines_of_steps}
 use Rattle.codespan_reporting.proofs.DrawnPadding.{numbers_refusal}
-use Rattle.codespan_reporting.proofs.Greatest.{greatest-any, greatest-append}
+use Rattle.codespan_laws.proofs.Greatest.{greatest-any, greatest-append}
 use Rattle.codespan_reporting.proofs.Refusals.{first_refusal-none, first_refusal-some}
-use Rattle.codespan_reporting.proofs.SortedLists.{all-both, all-mapped, all-part, all-pass, all-weaker}
+use Rattle.codespan_laws.proofs.SortedLists.{all-both, all-mapped, all-part, all-pass, all-weaker}
 
 -- ---- ids at their places
 

@@ -2,10 +2,10 @@
 use Rattle.std.proofs.Common.{◌≡◌, ◌≢◌, zero, suc, ◌<◌, List, [], ◌∷◌, ◌++◌, length, Option, None, Some, inl, inr, refl, sym, ap, ◌∙◌, arith}
 use Rattle.codespan_base.specs.declared.files.error.Error.{Error}
 use Rattle.codespan_base.specs.declared.files.error.Error.TheVariants.{FileMissing, IndexTooLarge, LineTooLarge, ColumnTooLarge, InvalidCharBoundary, Io, FormatError, OutOfMemory}
+use Rattle.codespan_base.specs.Errors.{IsIo}
 use Rattle.codespan_base.specs.FileModel.{Lookup, or_refusal}
 use Rattle.codespan_base.specs.WriterLaw.{Frame, refusing}
-use Rattle.codespan_reporting.specs.Renderers.{IsIo}
-use Rattle.codespan_reporting.specs.Lookups.{Refusals, first_refusal, AllAnswered, IsSomeRefused}
+use Rattle.codespan_picture.specs.Lookups.{Refusals, first_refusal, AllAnswered, IsSomeRefused}
 use Rattle.codespan_reporting.specs.Headline.{Blames}
 
 module _ {Id : Type 0} (refusal : Refusals Id) where

@@ -6,21 +6,21 @@ use Rattle.std.proofs.lemmas.List.{append-nil, append_assoc}
 use Rattle.codespan_base.specs.declared.term.config.Config.{Config}
 use Rattle.codespan_base.specs.declared.diagnostic.Diagnostic.{Diagnostic}
 use Rattle.codespan_base.specs.declared.files.error.Error.{Error}
+use Rattle.codespan_base.specs.Errors.{IsIo}
 use Rattle.codespan_base.specs.FileModel.{FileModel}
 use Rattle.codespan_base.specs.Streams.{Stream, newline}
 use Rattle.codespan_base.specs.WriterLaw.{Sink, Sends, Began, is_told}
 use Rattle.codespan_base.proofs.Sends.{Began-first, Began-last}
 use Rattle.codespan_reporting.specs.declared.term.views.sheet.Sheet.{Sheet}
-use Rattle.codespan_reporting.specs.Asking.{Came, Stopped, EndedAsking, SendsAsking}
-use Rattle.codespan_reporting.specs.Given.{place_of_given}
-use Rattle.codespan_reporting.specs.GivenSheets.{IsPrepared, has_any, placed_snippets}
+use Rattle.codespan_reporting.specs.Inner.Asking.{Came, Stopped, EndedAsking, SendsAsking}
+use Rattle.codespan_picture.specs.Given.{place_of_given}
+use Rattle.codespan_reporting.specs.Inner.GivenSheets.{IsPrepared, placed_snippets}
 use Rattle.codespan_reporting.specs.Headline.{DrawsRich, NamesAreStated, viewed_picture}
-use Rattle.codespan_reporting.specs.Lookups.{Refusals, early_lookups, first_refusal, late_lookups}
-use Rattle.codespan_reporting.specs.Picture.{heading_of, labels_of, look_of, notes_of}
-use Rattle.codespan_reporting.specs.Renderers.{IsIo}
-use Rattle.codespan_reporting.specs.Rows.{Look, Row, BlankRow, EmptyRow, HeaderRow}
-use Rattle.codespan_reporting.specs.RowStreams.{header_row, stream_of, stream_of_rows}
-use Rattle.codespan_reporting.specs.Snippets.{InFile, LabelledFile, bare_lanes, labelled_files, note_rows, place_of, snippet, snippets}
+use Rattle.codespan_picture.specs.Lookups.{Refusals, early_lookups, first_refusal, late_lookups}
+use Rattle.codespan_picture.specs.Picture.{heading_of, labels_of, look_of, notes_of}
+use Rattle.codespan_picture.specs.Rows.{Look, Row, BlankRow, EmptyRow, HeaderRow}
+use Rattle.codespan_picture.specs.RowStreams.{header_row, stream_of, stream_of_rows}
+use Rattle.codespan_picture.specs.Snippets.{InFile, LabelledFile, has_any, is_followed, labelled_files, note_rows, place_of, row_after, snippet, snippets}
 use Rattle.codespan_reporting.proofs.Chains.{came_both, came_then_stopped, stopped_before, told_after, Began-as}
 use Rattle.codespan_reporting.proofs.Drawing.{finished, refused_by_writer, refused_late}
 use Rattle.codespan_reporting.proofs.NoteRows.{whole_of_notes}
@@ -28,10 +28,8 @@ use Rattle.codespan_reporting.proofs.NoteRows.{whole_of_notes}
 -- snippets that start where their files' snippets start are those of the picture
 placed-are : (config : Config) (notes : List (List ℕ)) (ss : List LabelledFile) → placed_snippets config (has_any notes) (map place_of ss) ss ≡ snippets config notes ss
 placed-are config notes [] = refl
-placed-are config [] (s ∷ []) = append-nil _ ∙ append-nil (snippet config s)
-placed-are config (n ∷ ns) (s ∷ []) = append-nil _
-placed-are config notes (s ∷ t ∷ more) =
-    ap (λ (r : List Row). (snippet config s ++ (EmptyRow (bare_lanes s) ∷ [])) ++ r) (placed-are config notes (t ∷ more))
+placed-are config notes (s ∷ ss) =
+    ap (λ (r : List Row). (snippet config s ++ row_after (is_followed (has_any notes) ss) s) ++ r) (placed-are config notes ss)
 
 -- where there is a label there is a lookup before the header
 pub some_early : {Id : Type 0} (config : Config) (same : Id → Id → Bool) (file : Id → FileModel) (refusal : Refusals Id) (xs : List (InFile Id)) → 0 < length xs

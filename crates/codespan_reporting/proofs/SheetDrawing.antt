@@ -13,16 +13,16 @@ use Rattle.codespan_base.specs.FileModel.{FileModel, Lookup, or_refusal}
 use Rattle.codespan_base.specs.Labels.{Labelled, is_single, multi_labels}
 use Rattle.codespan_base.specs.Streams.{Stream, newline}
 use Rattle.codespan_base.specs.WriterLaw.{Sink}
-use Rattle.codespan_reporting.specs.Asking.{SendsAsking}
+use Rattle.codespan_reporting.specs.Inner.Asking.{SendsAsking}
 use Rattle.codespan_reporting.specs.declared.term.views.entry.Entry.{Entry as GivenEntry}
-use Rattle.codespan_reporting.specs.Entries.{is_below, is_of_file}
-use Rattle.codespan_reporting.specs.GivenEntries.{entry_of}
-use Rattle.codespan_reporting.specs.GivenSheets.{is_followed, placed_snippet, placed_snippets}
-use Rattle.codespan_reporting.specs.Lookups.{Refusals, first_refusal, snippet_lookups}
-use Rattle.codespan_reporting.specs.PlacedLabels.{lane_after, is_multi_of}
-use Rattle.codespan_reporting.specs.Rows.{Look, Place, Row}
-use Rattle.codespan_reporting.specs.RowStreams.{stream_of, stream_of_rows}
-use Rattle.codespan_reporting.specs.Snippets.{InFile, LabelledFile, labelled_file, lane_count}
+use Rattle.codespan_reporting.specs.Inner.Entries.{is_below, is_of_file}
+use Rattle.codespan_reporting.specs.Inner.GivenEntries.{entry_of}
+use Rattle.codespan_reporting.specs.Inner.GivenSheets.{placed_snippet, placed_snippets}
+use Rattle.codespan_picture.specs.Lookups.{Refusals, first_refusal, snippet_lookups}
+use Rattle.codespan_reporting.specs.Inner.PlacedLabels.{lane_after, is_multi_of}
+use Rattle.codespan_picture.specs.Rows.{Look, Place, Row}
+use Rattle.codespan_picture.specs.RowStreams.{stream_of, stream_of_rows}
+use Rattle.codespan_picture.specs.Snippets.{InFile, LabelledFile, is_followed, labelled_file, lane_count}
 use Rattle.codespan_reporting.proofs.FileParts.{IsFilePart, from_file, next-file}
 use Rattle.codespan_reporting.proofs.Askings.{asking_as, asking_cut, asking_nothing, asking_then, first_refusal-append}
 

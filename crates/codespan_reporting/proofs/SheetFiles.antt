@@ -13,15 +13,15 @@ use Rattle.codespan_base.specs.declared.term.config.Layout.TheVariants.{Classic,
 use Rattle.codespan_base.specs.FileModel.{FileModel, line_count}
 use Rattle.codespan_reporting.specs.declared.term.views.entry.Entry.{Entry as GivenEntry}
 use Rattle.codespan_reporting.specs.declared.term.views.sheet.Sheet.{Sheet}
-use Rattle.codespan_reporting.specs.Entries.{is_of_file}
-use Rattle.codespan_reporting.specs.GivenEntries.{IsLineOf, IsOfFiles, entry_of}
-use Rattle.codespan_reporting.specs.GivenSheets.{IsPrepared, is_followed, known_numbers, numbers_from, placed_snippet}
-use Rattle.codespan_reporting.specs.Lookups.{filled_lines, of_filled}
-use Rattle.codespan_reporting.specs.PlacedLabels.{IsAt, file_ids, lane_after}
-use Rattle.codespan_reporting.specs.Rows.{Place, Row, StartRow, EmptyRow}
-use Rattle.codespan_reporting.specs.Snippets.{InFile, LabelledFile, bare_lanes, labelled_file, labelled_files, lane_count}
-use Rattle.codespan_reporting.specs.StepDrawing.{DoFit}
-use Rattle.codespan_reporting.specs.Steps.{AreKnown, Step, fills_of, lookups_of_steps, rows_of_steps, steps_of}
+use Rattle.codespan_reporting.specs.Inner.Entries.{is_of_file}
+use Rattle.codespan_reporting.specs.Inner.GivenEntries.{IsLineOf, IsOfFiles, entry_of}
+use Rattle.codespan_reporting.specs.Inner.GivenSheets.{IsPrepared, known_numbers, numbers_from, placed_snippet}
+use Rattle.codespan_picture.specs.Lookups.{filled_lines, of_filled}
+use Rattle.codespan_reporting.specs.Inner.PlacedLabels.{IsAt, file_ids, lane_after}
+use Rattle.codespan_picture.specs.Rows.{Place, Row, StartRow, EmptyRow}
+use Rattle.codespan_picture.specs.Snippets.{InFile, LabelledFile, bare_lanes, is_followed, labelled_file, labelled_files, lane_count}
+use Rattle.codespan_reporting.specs.Inner.StepDrawing.{DoFit}
+use Rattle.codespan_reporting.specs.Inner.Steps.{AreKnown, Step, fills_of, lookups_of_steps, rows_of_steps, steps_of}
 use Rattle.codespan_reporting.proofs.EntryPadding.{known-nothing}
 use Rattle.codespan_reporting.proofs.EntryPicture.{snippet-rows, snippet-fills, snippet-fits}
 use Rattle.codespan_reporting.proofs.FilePlaces.{at-get}

@@ -13,19 +13,19 @@ use Rattle.codespan_base.specs.FileModel.{FileModel, Lookup, line_count}
 use Rattle.codespan_base.specs.Labels.{first_seen}
 use Rattle.codespan_reporting.specs.declared.term.views.entry.Entry.{Entry as GivenEntry}
 use Rattle.codespan_reporting.specs.declared.term.views.sheet.Sheet.{Sheet}
-use Rattle.codespan_reporting.specs.Entries.{is_below}
-use Rattle.codespan_reporting.specs.Given.{place_of_given}
-use Rattle.codespan_reporting.specs.GivenEntries.{Adds, IsOfFiles, entry_of}
-use Rattle.codespan_reporting.specs.GivenPadding.{drawn_digits, filled_lookups, filled_numbers, marked_digits}
-use Rattle.codespan_reporting.specs.GivenSheets.{IsPrepared, numbers_from}
-use Rattle.codespan_reporting.specs.Lookups.{Refusals, asked_of, early_lookups, first_refusal, label_lookups, locus_lookups, numbers_for_padding}
-use Rattle.codespan_reporting.specs.Padding.{padding_of}
-use Rattle.codespan_reporting.specs.PlacedLabels.{all_entries, file_ids, lane_after}
-use Rattle.codespan_reporting.specs.Snippets.{InFile, labelled_file, labelled_files, place_of}
+use Rattle.codespan_reporting.specs.Inner.Entries.{is_below}
+use Rattle.codespan_picture.specs.Given.{place_of_given}
+use Rattle.codespan_reporting.specs.Inner.GivenEntries.{Adds, IsOfFiles, entry_of}
+use Rattle.codespan_reporting.specs.Inner.GivenPadding.{drawn_digits, filled_lookups, filled_numbers, marked_digits}
+use Rattle.codespan_reporting.specs.Inner.GivenSheets.{IsPrepared, numbers_from}
+use Rattle.codespan_picture.specs.Lookups.{Refusals, asked_of, early_lookups, first_refusal, label_lookups, locus_lookups, numbers_for_padding}
+use Rattle.codespan_picture.specs.Padding.{padding_of}
+use Rattle.codespan_reporting.specs.Inner.PlacedLabels.{all_entries, file_ids, lane_after}
+use Rattle.codespan_picture.specs.Snippets.{InFile, labelled_file, labelled_files, place_of}
 use Rattle.codespan_reporting.proofs.EntryPadding.{drawn_digits-gathered, filled_lookups-gathered, gathered-each, gathered-says, filled_numbers-gathered, known-classic, marked_digits-gathered, numbers-classic}
 use Rattle.codespan_reporting.proofs.FileParts.{gathered-sorted}
 use Rattle.codespan_reporting.proofs.Refusals.{first_refusal-none, first_refusal-some}
-use Rattle.codespan_reporting.proofs.SortedLists.{all-filter}
+use Rattle.codespan_laws.proofs.SortedLists.{all-filter}
 
 -- what holds of ids holds of those of them that are seen first
 seen-each : {Id : Type 0} (P : Id → Type 0) (same : Id → Id → Bool) (js : List Id) → AllByRecursion P js → AllByRecursion P (first_seen same js)

@@ -3,13 +3,13 @@ use Rattle.std.proofs.Common.{◌≡◌, List, ◌++◌, Option, None, Result, O
 use Rattle.std.specs.Prelude.{IfErr}
 use Rattle.std.proofs.lemmas.Grind.{flat_map-append}
 use Rattle.codespan_base.specs.declared.files.error.Error.{Error}
+use Rattle.codespan_base.specs.Errors.{IsIo}
 use Rattle.codespan_base.specs.FileModel.{or_refusal}
 use Rattle.codespan_base.specs.Streams.{Stream, newline}
 use Rattle.codespan_base.specs.WriterLaw.{Sink, Sends}
-use Rattle.codespan_reporting.specs.Asking.{Came, SendsAsking}
-use Rattle.codespan_reporting.specs.Renderers.{IsIo}
-use Rattle.codespan_reporting.specs.Rows.{Look, Row}
-use Rattle.codespan_reporting.specs.RowStreams.{stream_of, stream_of_rows}
+use Rattle.codespan_reporting.specs.Inner.Asking.{Came, SendsAsking}
+use Rattle.codespan_picture.specs.Rows.{Look, Row}
+use Rattle.codespan_picture.specs.RowStreams.{stream_of, stream_of_rows}
 use Rattle.codespan_reporting.proofs.Chains.{came_both, came_then_stopped}
 use Rattle.codespan_reporting.proofs.Askings.{asking_after, asking_as_refusal, asking_cut, asking_of_sends, asking_then, or_refusal-none}
 

@@ -4,14 +4,14 @@ use Rattle.std.specs.List.{range_with_len, AllByRecursion}
 use Rattle.std.proofs.lemmas.List.{append-nil, append_assoc}
 use Rattle.std.proofs.lemmas.List.Concat.{flat_map-append}
 use Rattle.codespan_base.specs.FileModel.{FileModel}
-use Rattle.codespan_reporting.specs.Entries.{Entry}
-use Rattle.codespan_reporting.specs.Lines.{is_broken}
-use Rattle.codespan_reporting.specs.Rows.{Line, Row, BreakRow, rows_of}
-use Rattle.codespan_reporting.specs.Snippets.{drawing, between}
-use Rattle.codespan_reporting.specs.Steps.{Step, Draw, Fill, Break, gap, gap_after, line_of_group, rows_of_step, rows_of_steps, fill_of, fills_of, line_of_step, lines_of_steps, do_fit, does_step_fit}
+use Rattle.codespan_reporting.specs.Inner.Entries.{Entry}
+use Rattle.codespan_picture.specs.Lines.{is_broken}
+use Rattle.codespan_picture.specs.Rows.{Line, Row, BreakRow, rows_of}
+use Rattle.codespan_picture.specs.Snippets.{drawing, between}
+use Rattle.codespan_reporting.specs.Inner.Steps.{Step, Draw, Fill, Break, gap, gap_after, line_of_group, rows_of_step, rows_of_steps, fill_of, fills_of, line_of_step, lines_of_steps, do_fit, does_step_fit}
 use Rattle.codespan_reporting.proofs.EntryGroups.{marks_next, steps_after}
-use Rattle.codespan_reporting.proofs.Filling.{gap_gives, given, is_filled, lines-flat, lines-shown, shown_give}
-use Rattle.codespan_reporting.proofs.SortedLists.{all-append}
+use Rattle.codespan_laws.proofs.Filling.{gap_gives, given, is_filled, lines-flat, lines-shown, shown_give}
+use Rattle.codespan_laws.proofs.SortedLists.{all-append}
 
 -- ---- rows
 

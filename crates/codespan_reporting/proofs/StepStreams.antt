@@ -14,14 +14,14 @@ use Rattle.codespan_base.specs.declared.term.config.Layout.TheVariants.{Classic,
 use Rattle.codespan_base.specs.FileModel.{FileModel, Lookup, or_refusal}
 use Rattle.codespan_base.specs.Streams.{newline}
 use Rattle.codespan_base.specs.WriterLaw.{Sink}
-use Rattle.codespan_reporting.specs.Asking.{SendsAsking}
-use Rattle.codespan_reporting.specs.Entries.{Entry}
-use Rattle.codespan_reporting.specs.Lookups.{Refusals, asked_of, first_refusal, of_filled}
-use Rattle.codespan_reporting.specs.Picture.{look_of}
-use Rattle.codespan_reporting.specs.Rows.{Look, Row}
-use Rattle.codespan_reporting.specs.RowStreams.{stream_of, stream_of_rows}
-use Rattle.codespan_reporting.specs.StepDrawing.{DoFit, DrawsStep, DrawsSteps, Knows, asked_with}
-use Rattle.codespan_reporting.specs.Steps.{AreKnown, Step, Fill, fill_of, fills_of, rows_of_step, rows_of_steps, lookups_of_steps}
+use Rattle.codespan_reporting.specs.Inner.Asking.{SendsAsking}
+use Rattle.codespan_reporting.specs.Inner.Entries.{Entry}
+use Rattle.codespan_picture.specs.Lookups.{Refusals, asked_of, first_refusal, of_filled}
+use Rattle.codespan_picture.specs.Picture.{look_of}
+use Rattle.codespan_picture.specs.Rows.{Look, Row}
+use Rattle.codespan_picture.specs.RowStreams.{stream_of, stream_of_rows}
+use Rattle.codespan_reporting.specs.Inner.StepDrawing.{DoFit, DrawsStep, DrawsSteps, Knows, asked_with}
+use Rattle.codespan_reporting.specs.Inner.Steps.{AreKnown, Step, Fill, fill_of, fills_of, rows_of_step, rows_of_steps, lookups_of_steps}
 use Rattle.codespan_reporting.proofs.Askings.{asking_nothing, asking_as, asking_then, asking_cut, first_refusal-asked}
 
 -- ---- steps whose marks fit

@@ -5,52 +5,38 @@ pub use Rattle.codespan_base.specs.MappedModel
 pub use Rattle.codespan_base.specs.Labels
 pub use Rattle.codespan_base.specs.Streams
 pub use Rattle.codespan_base.specs.WriterLaw
+pub use Rattle.codespan_base.specs.Errors
 pub use Rattle.codespan_base.specs.Characters
 pub use Rattle.codespan_base.specs.Defaults
 pub use Rattle.codespan_base.specs.StyleTables
 pub use Rattle.codespan_base.specs.Ansi
--- a line: its characters, carets and lanes
-pub mod Widths
-pub mod Cells
-pub mod CellsLeft
-pub mod Carets
-pub mod Lanes
--- rows and their streams
-pub mod Rows
-pub mod RowParts
-pub mod RowStreams
-pub mod Given
-pub mod GivenLine
-pub mod Runs
-pub mod Renderers
 -- the picture
-pub mod Lines
-pub mod Snippets
-pub mod Padding
-pub mod Picture
-pub mod Loci
-pub mod Lookups
-pub mod Asking
-pub mod Entries
-pub mod GivenEntries
-pub mod PlacedLabels
-pub mod Steps
-pub mod GivenSnippets
-pub mod GivenSheets
-pub mod GivenPadding
-pub mod StepDrawing
-pub mod Views
+pub use Rattle.codespan_picture.specs.Widths
+pub use Rattle.codespan_picture.specs.Cells
+pub use Rattle.codespan_picture.specs.Carets
+pub use Rattle.codespan_picture.specs.Lanes
+pub use Rattle.codespan_picture.specs.Rows
+pub use Rattle.codespan_picture.specs.RowParts
+pub use Rattle.codespan_picture.specs.RowStreams
+pub use Rattle.codespan_picture.specs.Lines
+pub use Rattle.codespan_picture.specs.Snippets
+pub use Rattle.codespan_picture.specs.Padding
+pub use Rattle.codespan_picture.specs.Picture
+pub use Rattle.codespan_picture.specs.Lookups
+pub use Rattle.codespan_picture.specs.Given
 -- what a picture means
-pub mod CaretLaws
-pub mod LaneLaws
-pub mod LineLaws
-pub mod MessageLaws
-pub mod OrderLaws
-pub mod PaddingLaws
-pub mod RowLaws
+pub use Rattle.codespan_laws.specs.CaretLaws
+pub use Rattle.codespan_laws.specs.LaneLaws
+pub use Rattle.codespan_laws.specs.LineLaws
+pub use Rattle.codespan_laws.specs.MessageLaws
+pub use Rattle.codespan_laws.specs.OrderLaws
+pub use Rattle.codespan_laws.specs.PaddingLaws
+pub use Rattle.codespan_laws.specs.RowLaws
+pub use Rattle.codespan_laws.specs.Meanings
+-- a renderer, as its contracts see it
+pub use Rattle.codespan_renderer.specs.Renderers
+-- the calls that draw a diagnostic
 pub mod Headline
--- how worked pictures are written down
-pub mod Worked
--- tables of files that are made for tests
-mod Listings
-pub mod LongestFiles
+pub mod Views
+-- words that private calls and proofs use
+pub mod Inner

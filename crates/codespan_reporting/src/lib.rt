@@ -3,10 +3,7 @@
 //! [`diagnostic`] has diagnostics as data, [`files`] the texts, and [`term`] the calls that draw.
 #![tactic(auto)]
 
-pub mod laws;
-#[cfg(test)]
-mod quick_start;
 pub mod term;
-mod worked;
 
 pub use codespan_base::{diagnostic, files};
+pub use codespan_laws::laws;

@@ -2,8 +2,6 @@
 
 mod emit;
 pub mod renderer;
-#[cfg(test)]
-mod tests;
 pub mod views;
 
 pub use codespan_base::term::{

@@ -12,7 +12,7 @@ use Rattle.codespan_reporting.specs.Headline.{IsDrawn}
 use Rattle.codespan_reporting.specs.Lookups.{Refusals}
 use Rattle.codespan_reporting.specs.Picture.{heading_of, notes_of, files_of, picture, picture_in, rich_picture}
 use Rattle.codespan_reporting.specs.Snippets.{LabelledFile, labelled_files}
-use Rattle.codespan_reporting.proofs.Alike.{pictures_alike}
+use Rattle.codespan_picture.proofs.Alike.{pictures_alike}
 use Rattle.report.specs.Drawings.{IsAsked, heading_of_request, label_of, picture_text}
 use Rattle.report.specs.Requests.{RequestView}
 

@@ -8,7 +8,7 @@ use std::convert::AsStr;
 
 /// The line number that most files have: the index plus 1.
 ///
-/// Refuses at `usize::MAX` alone, with `LineTooLarge { given: usize::MAX, max: usize::MAX - 1 }`. Takes no memory.
+/// Refuses at `usize::MAX` alone, with `LineTooLarge { given: usize::MAX, max: usize::MAX - 1 }`.
 pub fn default_line_number(line_index: usize) -> Result<usize, Error>
     ensures value { IfOk result (λ n. n ≡ line_index + 1) }
     ensures refused { Tells (line_number_refusal line_index) result }

@@ -6,7 +6,7 @@ ghost use Rattle.codespan_base.specs.LineStarts.{starts_left};
 use crate::files::LineStarts;
 use std::ops::Range;
 
-/// The bytes at which the lines of a text start: 0 and then, for each newline, its place plus 1. Takes no memory.
+/// The bytes at which the lines of a text start: 0 and then, for each newline, its place plus 1.
 ///
 /// Tables of files keep these and search them for a byte's line: [`Files::line_index`](crate::files::Files::line_index).
 pub fn line_starts(source: &str) -> LineStarts<'_>
@@ -19,7 +19,7 @@ pub fn line_starts(source: &str) -> LineStarts<'_>
 /// the byte, the line's end or the text's end, whichever comes first.
 ///
 /// Before the line's start it is 0, and inside a character that of the character. Past the line's end it is that of the
-/// end. Any range and byte will do. Takes no memory.
+/// end. Any range and byte will do.
 #[tactic(auto, using(crate::proofs::ColumnLemmas::column_steps))]
 pub fn column_index(source: &str, line_range: Range<usize>, byte_index: usize) -> usize
     ensures value { result ≡ column_index_of source.now line_range.start line_range.end byte_index }

@@ -108,7 +108,7 @@ impl<Name, Source: AsStr> MappedFile<Name, Source> {
     }
 }
 
-/// No call takes memory. A name is lent, since a copy of it need not print the same.
+/// No call is refused for want of memory. A name is lent, since a copy of it need not print the same.
 impl<'a, Name: Display + 'a, Source: AsStr + 'a> Files<'a> for MappedFile<Name, Source> {
     ghost use Rattle.codespan_base.specs.FileTables.{mapped_name_of, mapped_source_of, settings_of};
     ghost use Rattle.codespan_base.specs.SimpleModel.{past_end};

@@ -60,7 +60,7 @@ impl<Name, Source: AsStr> SimpleFile<Name, Source> {
     }
 }
 
-/// No call takes memory. A name is lent, since a copy of it need not print the same.
+/// No call is refused for want of memory. A name is lent, since a copy of it need not print the same.
 impl<'a, Name: Display + 'a, Source: AsStr + 'a> Files<'a> for SimpleFile<Name, Source> {
     ghost use Rattle.codespan_base.specs.FileTables.{name_of, source_of};
     ghost use Rattle.codespan_base.specs.SimpleModel.{simple_file, simple_refusal, simple_column, simple_location, past_end};

@@ -18,7 +18,7 @@ pub struct SimpleFiles<Name, Source: AsStr> {
 impl<Name: Drop, Source: AsStr + Drop> SimpleFiles<Name, Source> {
     ghost use Rattle.codespan_base.specs.FileTables.{entries};
 
-    /// A table with no file. Takes no memory.
+    /// A table with no file.
     pub fn new(alloc: Global) -> Self
         ensures { entries result ≡ [] }
     {
@@ -60,7 +60,7 @@ impl<Name, Source: AsStr> SimpleFiles<Name, Source> {
     }
 }
 
-/// No call takes memory. Every call but `line_number` refuses with `FileMissing` exactly where the id is not there;
+/// No call is refused for want of memory. Every call but `line_number` refuses with `FileMissing` exactly where the id is not there;
 /// `line_number` does not ask for the file.
 impl<'a, Name: Display + 'a, Source: AsStr + 'a> Files<'a> for SimpleFiles<Name, Source> {
     ghost use Rattle.codespan_base.specs.FileTables.{entries, name_of, source_of};

@@ -8,18 +8,13 @@ ghost use Rattle.codespan_base.specs.Defaults.{default_config};
 pub mod ansi;
 pub mod chars;
 pub mod color;
-#[cfg(test)]
-mod example;
 pub mod no_color;
-pub mod pieces;
 pub mod plain;
 pub mod pouring;
 pub mod putting;
 pub mod sending;
 pub mod styles;
 pub mod styles_writer;
-#[cfg(test)]
-mod tests;
 pub mod write_style;
 
 use crate::files::Error;

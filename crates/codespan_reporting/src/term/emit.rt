@@ -12,8 +12,9 @@ use codespan_base::term::{Config, PlainWriter};
 
 /// The picture of a diagnostic, as plain text.
 ///
-/// Refuses as the first lookup that refuses does, with `FormatError` where the `Display` of a file's name refuses, and with
-/// `OutOfMemory` where a growth is refused; `Io` is told only where a lookup told it. Without labels the one refusal is `OutOfMemory`.
+/// Refuses as the first lookup that refuses does; besides, with `OutOfMemory`, which stands for a growth that was refused, and, where
+/// there is a lookup, with `FormatError`, which stands for a file's name whose `Display` refuses. The contract leaves open when these two
+/// come. `Io` is told only where a lookup told it. Without labels the one refusal is `OutOfMemory`.
 ///
 /// The style has to be [`DisplayStyle::Rich`](codespan_base::term::DisplayStyle::Rich): the others are not drawn yet.
 pub fn emit_into_string<'files, F: Files<'files>>(

@@ -1,8 +1,8 @@
 //! The files of a diagnostic, in the order of their first label.
 
 ghost use Rattle.std.specs.Prelude.{◌≡◌, map, IfOk, OnErr, IsErrOf};
-ghost use Rattle.codespan_reporting.specs.Picture.{label_of};
-ghost use Rattle.codespan_reporting.specs.PlacedLabels.{file_ids, file_place};
+ghost use Rattle.codespan_picture.specs.Picture.{label_of};
+ghost use Rattle.codespan_reporting.specs.Inner.PlacedLabels.{file_ids, file_place};
 
 use codespan_base::diagnostic::Label;
 use codespan_base::files::Error;

@@ -5,12 +5,12 @@ ghost use Rattle.std.specs.Option.{option_map};
 ghost use Rattle.codespan_base.specs.FileModel.{FileModel, Tells, line_count};
 ghost use Rattle.codespan_base.specs.FileModel.Lookup.{LineRange};
 ghost use Rattle.codespan_base.specs.Labels.{first_line, from_line_start, is_single, last_line, part_at};
-ghost use Rattle.codespan_reporting.specs.Given.{part_of};
-ghost use Rattle.codespan_reporting.specs.Entries.{Single, line_entries, entries_of};
-ghost use Rattle.codespan_reporting.specs.GivenEntries.{Adds, AddsOf, IsLineOf, IsOfFiles, entries_on, label_place, lookups_on, said, says_at, says_of};
-ghost use Rattle.codespan_reporting.specs.Lookups.{asked_lines, asked_of, ends_context, first_refusal, is_asked, label_lookups, line_refusal, of_label, of_line, probe};
-ghost use Rattle.codespan_reporting.specs.Picture.{label_of};
-ghost use Rattle.codespan_reporting.specs.PlacedLabels.{all_entries, file_ids, lane_after};
+ghost use Rattle.codespan_picture.specs.Given.{part_of};
+ghost use Rattle.codespan_reporting.specs.Inner.Entries.{Single, line_entries, entries_of};
+ghost use Rattle.codespan_reporting.specs.Inner.GivenEntries.{Adds, AddsOf, IsLineOf, IsOfFiles, entries_on, label_place, lookups_on, said, says_at, says_of};
+ghost use Rattle.codespan_picture.specs.Lookups.{asked_lines, asked_of, ends_context, first_refusal, is_asked, label_lookups, line_refusal, of_label, of_line, probe};
+ghost use Rattle.codespan_picture.specs.Picture.{label_of};
+ghost use Rattle.codespan_reporting.specs.Inner.PlacedLabels.{all_entries, file_ids, lane_after};
 
 use crate::term::renderer::MultiLabel;
 use crate::term::views::entry::{Entry, Says, SourceLine};

@@ -2,8 +2,8 @@
 
 ghost use Rattle.std.specs.Prelude.{◌≡◌, ◌≤◌, length};
 ghost use Rattle.std.specs.List.{prefix_len};
-ghost use Rattle.codespan_reporting.specs.Entries.{is_shown, is_on_line, is_of_file};
-ghost use Rattle.codespan_reporting.specs.GivenEntries.{entry_of};
+ghost use Rattle.codespan_reporting.specs.Inner.Entries.{is_shown, is_on_line, is_of_file};
+ghost use Rattle.codespan_reporting.specs.Inner.GivenEntries.{entry_of};
 
 use crate::term::views::entry::{Entry, Says};
 

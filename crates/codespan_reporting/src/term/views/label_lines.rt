@@ -4,10 +4,10 @@ ghost use Rattle.std.specs.Prelude.{◌≡◌, ◌∷◌, [], ◌+◌, ◌==◌,
 ghost use Rattle.codespan_base.specs.FileModel.{Tells};
 ghost use Rattle.codespan_base.specs.FileModel.Lookup.{LineIndex};
 ghost use Rattle.codespan_base.specs.Labels.{first_line, last_line};
-ghost use Rattle.codespan_reporting.specs.Lines.{shows};
-ghost use Rattle.codespan_reporting.specs.Lookups.{asked_of, first_refusal, is_around};
-ghost use Rattle.codespan_reporting.specs.Padding.{spans_line};
-ghost use Rattle.codespan_reporting.specs.Picture.{label_of};
+ghost use Rattle.codespan_picture.specs.Lines.{shows};
+ghost use Rattle.codespan_picture.specs.Lookups.{asked_of, first_refusal, is_around};
+ghost use Rattle.codespan_picture.specs.Padding.{spans_line};
+ghost use Rattle.codespan_picture.specs.Picture.{label_of};
 
 use codespan_base::diagnostic::Label;
 use codespan_base::files::{Error, Files};

@@ -1,11 +1,11 @@
 //! The lines of one file, drawn with what labels do on them.
 
 ghost use Rattle.std.specs.Prelude.{◌≡◌, [], IfSome, IsTrue, map};
-ghost use Rattle.codespan_reporting.specs.GivenEntries.{IsLineOf, entry_of};
-ghost use Rattle.codespan_reporting.specs.Picture.{look_of};
-ghost use Rattle.codespan_reporting.specs.Renderers.{writer_of, config_of, SameRenderer};
-ghost use Rattle.codespan_reporting.specs.StepDrawing.{DrawsStep, asked_with};
-ghost use Rattle.codespan_reporting.specs.Steps.{Draw, Fill, Break, do_fit};
+ghost use Rattle.codespan_reporting.specs.Inner.GivenEntries.{IsLineOf, entry_of};
+ghost use Rattle.codespan_picture.specs.Picture.{look_of};
+ghost use Rattle.codespan_renderer.specs.Renderers.{writer_of, config_of, SameRenderer};
+ghost use Rattle.codespan_reporting.specs.Inner.StepDrawing.{DrawsStep, asked_with};
+ghost use Rattle.codespan_reporting.specs.Inner.Steps.{Draw, Fill, Break, do_fit};
 
 use crate::term::renderer::Renderer;
 use crate::term::views::entry::{Entry, SourceLine};

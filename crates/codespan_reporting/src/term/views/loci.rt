@@ -3,11 +3,11 @@
 ghost use Rattle.std.specs.Prelude.{◌≡◌, Contains, IfOk, IsSome, flat_map, length, map};
 ghost use Rattle.codespan_base.specs.FileModel.{FileModel};
 ghost use Rattle.codespan_base.specs.Labels.{is_primary};
-ghost use Rattle.codespan_reporting.specs.Given.{place_of_given};
-ghost use Rattle.codespan_reporting.specs.Loci.{least_if_any, starts_in};
-ghost use Rattle.codespan_reporting.specs.Lookups.{TellsNaming, asked_of, first_refusal, locus_lookups};
-ghost use Rattle.codespan_reporting.specs.Picture.{label_of};
-ghost use Rattle.codespan_reporting.specs.Snippets.{labelled_file, locus_start, place_of};
+ghost use Rattle.codespan_picture.specs.Given.{place_of_given};
+ghost use Rattle.codespan_reporting.specs.Inner.Loci.{least_if_any, starts_in};
+ghost use Rattle.codespan_picture.specs.Lookups.{TellsNaming, asked_of, first_refusal, locus_lookups};
+ghost use Rattle.codespan_picture.specs.Picture.{label_of};
+ghost use Rattle.codespan_picture.specs.Snippets.{labelled_file, locus_start, place_of};
 
 use crate::term::renderer::Locus;
 use codespan_base::diagnostic::text::display_text;

@@ -1,9 +1,9 @@
 //! What the entries of a line are to a renderer: labels inside the line, and marks of the others.
 
 ghost use Rattle.std.specs.Prelude.{◌≡◌, [], IfOk, OnErr, IsErrOf, map};
-ghost use Rattle.codespan_reporting.specs.Given.{all_labelled, mark_of_given};
-ghost use Rattle.codespan_reporting.specs.GivenEntries.{entry_of};
-ghost use Rattle.codespan_reporting.specs.Steps.{singles_in, multis_in};
+ghost use Rattle.codespan_picture.specs.Given.{all_labelled, mark_of_given};
+ghost use Rattle.codespan_reporting.specs.Inner.GivenEntries.{entry_of};
+ghost use Rattle.codespan_reporting.specs.Inner.Steps.{singles_in, multis_in};
 
 use crate::term::renderer::{MultiLabel, SingleLabel};
 use crate::term::views::entry::{Entry, Says};

@@ -5,16 +5,16 @@ ghost use Rattle.std.specs.List.{AllByRecursion};
 ghost use Rattle.std.specs.List.Sorted.{IsSortedBy};
 ghost use Rattle.codespan_base.specs.FileModel.{Tells};
 ghost use Rattle.codespan_base.specs.FileModel.Lookup.{LineNumber};
-ghost use Rattle.codespan_reporting.specs.Entries.{is_below};
-ghost use Rattle.codespan_reporting.specs.GivenEntries.{IsLineOf, IsOfFiles, entry_of};
-ghost use Rattle.codespan_reporting.specs.GivenPadding.{drawn_digits, filled_lookups, filled_numbers, line_digits, marked_digits};
-ghost use Rattle.codespan_reporting.specs.Lookups.{asked_of, first_refusal};
-ghost use Rattle.codespan_reporting.specs.Steps.{fills_of, gap_after, lines_of_steps, steps_of};
+ghost use Rattle.codespan_reporting.specs.Inner.Entries.{is_below};
+ghost use Rattle.codespan_reporting.specs.Inner.GivenEntries.{IsLineOf, IsOfFiles, entry_of};
+ghost use Rattle.codespan_reporting.specs.Inner.GivenPadding.{drawn_digits, filled_lookups, filled_numbers, line_digits, marked_digits};
+ghost use Rattle.codespan_picture.specs.Lookups.{asked_of, first_refusal};
+ghost use Rattle.codespan_reporting.specs.Inner.Steps.{fills_of, gap_after, lines_of_steps, steps_of};
 
-use crate::term::renderer::parts::count_digits;
 use crate::term::views::entry::Entry;
 use crate::term::views::groups::{file_len, is_shown, line_len};
 use codespan_base::files::{Error, Files};
+use codespan_renderer::term::renderer::count_digits;
 
 /// How many digits the longest number has of the lines with marks of labels; 0 where there is none.
 pub fn spanned_padding(entries: &[Entry<'_>]) -> usize

@@ -2,11 +2,11 @@
 
 ghost use Rattle.std.specs.Prelude.{◌≡◌, ◌++◌, ◌∷◌, [], All, map};
 ghost use Rattle.std.specs.Slice.Iter.{iter_rest};
-ghost use Rattle.codespan_reporting.specs.GivenEntries.{IsLineOf, entry_of};
-ghost use Rattle.codespan_reporting.specs.Picture.{look_of};
-ghost use Rattle.codespan_reporting.specs.Renderers.{writer_of, config_of, SameRenderer};
-ghost use Rattle.codespan_reporting.specs.StepDrawing.{DoFit, DrawsSteps, Knows};
-ghost use Rattle.codespan_reporting.specs.Steps.{Draw, fills_of, gap_after, steps_of};
+ghost use Rattle.codespan_reporting.specs.Inner.GivenEntries.{IsLineOf, entry_of};
+ghost use Rattle.codespan_picture.specs.Picture.{look_of};
+ghost use Rattle.codespan_renderer.specs.Renderers.{writer_of, config_of, SameRenderer};
+ghost use Rattle.codespan_reporting.specs.Inner.StepDrawing.{DoFit, DrawsSteps, Knows};
+ghost use Rattle.codespan_reporting.specs.Inner.Steps.{Draw, fills_of, gap_after, steps_of};
 
 use crate::term::renderer::Renderer;
 use crate::term::views::entry::{Entry, SourceLine};

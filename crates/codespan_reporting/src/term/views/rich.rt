@@ -2,20 +2,22 @@
 
 ghost use Rattle.std.specs.Prelude.{◌≡◌, ◌+◌, ◌<◌, ◌≤◌, ◌++◌, ◌∷◌, [], IfErr, None, OnOk, drop, filter, length, map, slice_index_or, slice_range};
 ghost use Rattle.std.specs.Slice.Iter.{iter_rest};
+ghost use Rattle.codespan_base.specs.Errors.{IsIo};
 ghost use Rattle.codespan_base.specs.Streams.{newline};
 ghost use Rattle.codespan_base.specs.WriterLaw.{Sends};
-ghost use Rattle.codespan_reporting.specs.Asking.{SendsAsking};
-ghost use Rattle.codespan_reporting.specs.Entries.{is_of_file};
-ghost use Rattle.codespan_reporting.specs.Given.{place_of_given};
-ghost use Rattle.codespan_reporting.specs.GivenEntries.{entry_of};
-ghost use Rattle.codespan_reporting.specs.GivenSheets.{IsPrepared, has_any, is_followed, numbers_from, placed_snippet, placed_snippets};
-ghost use Rattle.codespan_reporting.specs.Headline.{DrawsRich, MeansLabels};
-ghost use Rattle.codespan_reporting.specs.Lookups.{first_refusal, late_lookups, snippet_lookups};
-ghost use Rattle.codespan_reporting.specs.Picture.{look_of, heading_of, labels_of, notes_of};
-ghost use Rattle.codespan_reporting.specs.Renderers.{writer_of, config_of, SameRenderer, IsIo};
-ghost use Rattle.codespan_reporting.specs.Rows.{BlankRow, Place};
-ghost use Rattle.codespan_reporting.specs.RowStreams.{header_row, stream_of_rows};
-ghost use Rattle.codespan_reporting.specs.Snippets.{labelled_file, labelled_files, note_rows};
+ghost use Rattle.codespan_reporting.specs.Inner.Asking.{SendsAsking};
+ghost use Rattle.codespan_reporting.specs.Inner.Entries.{is_of_file};
+ghost use Rattle.codespan_picture.specs.Given.{place_of_given};
+ghost use Rattle.codespan_reporting.specs.Inner.GivenEntries.{entry_of};
+ghost use Rattle.codespan_reporting.specs.Inner.GivenSheets.{IsPrepared, numbers_from, placed_snippet, placed_snippets};
+ghost use Rattle.codespan_laws.specs.Meanings.{MeansLabels};
+ghost use Rattle.codespan_reporting.specs.Headline.{DrawsRich};
+ghost use Rattle.codespan_picture.specs.Lookups.{first_refusal, late_lookups, snippet_lookups};
+ghost use Rattle.codespan_picture.specs.Picture.{look_of, heading_of, labels_of, notes_of};
+ghost use Rattle.codespan_renderer.specs.Renderers.{writer_of, config_of, SameRenderer};
+ghost use Rattle.codespan_picture.specs.Rows.{BlankRow, Place};
+ghost use Rattle.codespan_picture.specs.RowStreams.{header_row, stream_of_rows};
+ghost use Rattle.codespan_picture.specs.Snippets.{has_any, is_followed, labelled_file, labelled_files, note_rows};
 
 use crate::term::renderer::Renderer;
 use crate::term::views::groups::file_len;
@@ -54,11 +56,12 @@ impl<'diagnostic, 'config, FileId: Copy + Eq> RichDiagnostic<'diagnostic, 'confi
     ///
     /// The renderer's own configuration says which characters it draws with, how wide tabs are, and how lanes look.
     ///
-    /// Refuses as the first lookup that refuses does, with `FormatError` where the `Display` of a file's name refuses, with
-    /// `OutOfMemory` where a growth is refused, and with `Io` where the writer refuses.
+    /// Refuses as the first lookup that refuses does, and with `Io` where the writer refuses; besides, where there is a lookup, with
+    /// `OutOfMemory`, which stands for a growth that was refused, and with `FormatError`, which stands for a file's name whose `Display`
+    /// refuses. The contract leaves open when these two come.
     /// Nothing is written then, unless it was the writer or a growth that refused, or a lookup after the header: of a file's source, or
-    /// of the range or, in the classic layout, the number of a line between two shown ones. Without labels there is no lookup, no memory
-    /// is taken, and the one refusal is `Io`.
+    /// of the range or, in the classic layout, the number of a line between two shown ones. Without labels there is no lookup, and the one
+    /// refusal is `Io`.
     pub fn render<'files, F, W>(
         &self,
         files: &'files F,
@@ -216,7 +219,7 @@ fn draw_notes<FileId, W: WriteStyle>(
     renderer.render_empty()
 }
 
-/// A diagnostic without labels: its header and its notes. It asks for nothing and takes no memory.
+/// A diagnostic without labels: its header and its notes. It asks for nothing.
 fn draw_bare<FileId, W: WriteStyle>(
     diagnostic: &Diagnostic<FileId>,
     renderer: &mut Renderer<'_, '_, W>,

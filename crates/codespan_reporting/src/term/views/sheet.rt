@@ -1,9 +1,9 @@
 //! All that is looked up before the header of a picture.
 
 ghost use Rattle.std.specs.Prelude.{IfOk, map};
-ghost use Rattle.codespan_reporting.specs.GivenSheets.{IsPrepared};
-ghost use Rattle.codespan_reporting.specs.Lookups.{TellsNaming, early_lookups, first_refusal};
-ghost use Rattle.codespan_reporting.specs.Picture.{label_of};
+ghost use Rattle.codespan_reporting.specs.Inner.GivenSheets.{IsPrepared};
+ghost use Rattle.codespan_picture.specs.Lookups.{TellsNaming, early_lookups, first_refusal};
+ghost use Rattle.codespan_picture.specs.Picture.{label_of};
 
 use crate::term::renderer::Locus;
 use crate::term::views::entry::Entry;

@@ -3,16 +3,17 @@
 ghost use Rattle.std.specs.Prelude.{◌≡◌, ℕ, List, All, IfErr, OnOk};
 ghost use Rattle.std.specs.Slice.Iter.{iter_rest};
 ghost use Rattle.codespan_base.specs.declared.term.config.Layout.{Layout};
+ghost use Rattle.codespan_base.specs.Errors.{IsIo};
 ghost use Rattle.codespan_base.specs.WriterLaw.{Sends};
-ghost use Rattle.codespan_reporting.specs.Asking.{SendsAsking};
-ghost use Rattle.codespan_reporting.specs.GivenEntries.{IsLineOf};
-ghost use Rattle.codespan_reporting.specs.GivenSnippets.{end_rows, lookups_in, rows_in, start_rows, steps_in};
-ghost use Rattle.codespan_reporting.specs.Lookups.{asked_of, first_refusal};
-ghost use Rattle.codespan_reporting.specs.Picture.{look_of};
-ghost use Rattle.codespan_reporting.specs.Renderers.{writer_of, config_of, SameRenderer, IsIo};
-ghost use Rattle.codespan_reporting.specs.RowStreams.{stream_of_rows};
-ghost use Rattle.codespan_reporting.specs.StepDrawing.{DoFit, Knows};
-ghost use Rattle.codespan_reporting.specs.Steps.{AreKnown, fills_of};
+ghost use Rattle.codespan_reporting.specs.Inner.Asking.{SendsAsking};
+ghost use Rattle.codespan_reporting.specs.Inner.GivenEntries.{IsLineOf};
+ghost use Rattle.codespan_reporting.specs.Inner.GivenSnippets.{end_rows, lookups_in, rows_in, start_rows, steps_in};
+ghost use Rattle.codespan_picture.specs.Lookups.{asked_of, first_refusal};
+ghost use Rattle.codespan_picture.specs.Picture.{look_of};
+ghost use Rattle.codespan_renderer.specs.Renderers.{writer_of, config_of, SameRenderer};
+ghost use Rattle.codespan_picture.specs.RowStreams.{stream_of_rows};
+ghost use Rattle.codespan_reporting.specs.Inner.StepDrawing.{DoFit, Knows};
+ghost use Rattle.codespan_reporting.specs.Inner.Steps.{AreKnown, fills_of};
 
 use crate::term::renderer::{Locus, Renderer};
 use crate::term::views::entry::Entry;

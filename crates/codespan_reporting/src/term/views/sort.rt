@@ -2,8 +2,8 @@
 
 ghost use Rattle.std.specs.Prelude.{◌≡◌, map};
 ghost use Rattle.std.specs.List.Sorted.{IsPermutation, IsSortedBy};
-ghost use Rattle.codespan_reporting.specs.Entries.{is_below};
-ghost use Rattle.codespan_reporting.specs.GivenEntries.{entry_of, key_of};
+ghost use Rattle.codespan_reporting.specs.Inner.Entries.{is_below};
+ghost use Rattle.codespan_reporting.specs.Inner.GivenEntries.{entry_of, key_of};
 
 use crate::term::views::entry::{Entry, Key, Says};
 use std::cmp::Reverse;

@@ -4,7 +4,7 @@ use Rattle.codespan_base.specs.FileModel.{line_count}
 use Rattle.codespan_base.specs.Streams.{no_marks}
 use Rattle.codespan_base.specs.Writers.{plain_sink, fresh_sink}
 use Rattle.codespan_reporting.proofs.Emitting.{drawn_text}
-use Rattle.codespan_reporting.proofs.MeaningLemmas.{picture_means_labels}
+use Rattle.codespan_laws.proofs.MeaningLemmas.{picture_means_labels}
 use Rattle.codespan_reporting.proofs.term.emit.emit_into_string.Goals as goal
 
 pub returns-in-Ok-from_utf8 : goal.returns-in-Ok-from_utf8

@@ -1,6 +1,6 @@
 use Rattle.std.proofs.Common.{◌≡◌, ◌+◌, ◌∷◌, [], ◌++◌, true, false, map, take, sym, ap, ◌∙◌}
 use Rattle.std.proofs.lemmas.List.{map-append, take_more}
-use Rattle.codespan_reporting.specs.Picture.{label_of}
+use Rattle.codespan_picture.specs.Picture.{label_of}
 use Rattle.codespan_reporting.proofs.FileOrder.{file_ids-more, has}
 use Rattle.codespan_reporting.proofs.term.views.file_order.file_ids.Goals.{then-not-contains+in_ok-push, else-not-contains}
 use Rattle.codespan_reporting.proofs.term.views.file_order.file_ids.Goals as goal

@@ -1,6 +1,6 @@
 use Rattle.std.proofs.Common.{◌≡◌, map, take}
-use Rattle.codespan_reporting.specs.Picture.{label_of}
-use Rattle.codespan_reporting.specs.PlacedLabels.{file_ids}
+use Rattle.codespan_picture.specs.Picture.{label_of}
+use Rattle.codespan_reporting.specs.Inner.PlacedLabels.{file_ids}
 use Rattle.codespan_reporting.proofs.term.views.file_order.file_ids.Given as goal
 
 -- the ids of the labels before this one

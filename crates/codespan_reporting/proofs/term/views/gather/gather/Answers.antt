@@ -3,10 +3,10 @@ use Rattle.std.specs.Prelude.{replicate, if◌then◌else◌}
 use Rattle.std.proofs.lemmas.List.{length-map}
 use Rattle.std.proofs.lemmas.Result.{err_from_is_err_and}
 use Rattle.codespan_base.specs.Labels.{is_single}
-use Rattle.codespan_reporting.specs.Entries.{entries_of}
-use Rattle.codespan_reporting.specs.GivenEntries.{Adds, AddsOf, IsOfFiles}
-use Rattle.codespan_reporting.specs.Picture.{label_of}
-use Rattle.codespan_reporting.specs.PlacedLabels.{entries_after, file_place}
+use Rattle.codespan_reporting.specs.Inner.Entries.{entries_of}
+use Rattle.codespan_reporting.specs.Inner.GivenEntries.{Adds, AddsOf, IsOfFiles}
+use Rattle.codespan_picture.specs.Picture.{label_of}
+use Rattle.codespan_reporting.specs.Inner.PlacedLabels.{entries_after, file_place}
 use Rattle.codespan_reporting.proofs.LabelsGathered.{gathered-none, gathered-all, gathered-more, gathered-refused, file-inside, lane-room}
 use Rattle.codespan_reporting.proofs.term.views.gather.gather.Goals as goal
 

@@ -1,9 +1,9 @@
 use Rattle.std.proofs.Common.{rules, ◌≡◌, ap, false, [], Bool}
 use Rattle.std.specs.Prelude.{if◌then◌else◌}
-use Rattle.codespan_reporting.specs.Entries.{line_entries}
-use Rattle.codespan_reporting.specs.GivenEntries.{IsLineOf, label_place}
-use Rattle.codespan_reporting.specs.Lookups.{is_asked}
-use Rattle.codespan_reporting.specs.Picture.{label_of}
+use Rattle.codespan_reporting.specs.Inner.Entries.{line_entries}
+use Rattle.codespan_reporting.specs.Inner.GivenEntries.{IsLineOf, label_place}
+use Rattle.codespan_picture.specs.Lookups.{is_asked}
+use Rattle.codespan_picture.specs.Picture.{label_of}
 use Rattle.codespan_reporting.proofs.Gathering.{Adds-none, Adds-as}
 use Rattle.codespan_reporting.proofs.term.views.gather.gather_line.Goals as goal
 

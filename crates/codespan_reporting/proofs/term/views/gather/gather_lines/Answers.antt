@@ -3,10 +3,10 @@ use Rattle.std.proofs.lemmas.Result.{err_from_is_err_and}
 use Rattle.codespan_base.specs.FileModel.{line_count}
 use Rattle.codespan_base.specs.Labels.{first_line, last_line}
 use Rattle.codespan_base.specs.Lemmas.Lines.{line_of_below}
-use Rattle.codespan_reporting.specs.Entries.{entries_of}
-use Rattle.codespan_reporting.specs.GivenEntries.{AddsOf, IsLineOf, label_place}
-use Rattle.codespan_reporting.specs.Lookups.{asked_lines, asked_of, first_refusal, line_refusal, of_line, probe}
-use Rattle.codespan_reporting.specs.Picture.{label_of}
+use Rattle.codespan_reporting.specs.Inner.Entries.{entries_of}
+use Rattle.codespan_reporting.specs.Inner.GivenEntries.{AddsOf, IsLineOf, label_place}
+use Rattle.codespan_picture.specs.Lookups.{asked_lines, asked_of, first_refusal, line_refusal, of_line, probe}
+use Rattle.codespan_picture.specs.Picture.{label_of}
 use Rattle.codespan_reporting.proofs.Contexts.{IsGathered, gathered-start, gathered-context, gathered-reach, gathered-refused, gathered-step}
 use Rattle.codespan_reporting.proofs.term.views.gather.gather_lines.Given.{Over}
 use Rattle.codespan_reporting.proofs.term.views.gather.gather_lines.Goals.{Else-not-branch}

@@ -1,5 +1,5 @@
-use Rattle.codespan_reporting.specs.GivenEntries.{IsLineOf, label_place}
-use Rattle.codespan_reporting.specs.Picture.{label_of}
+use Rattle.codespan_reporting.specs.Inner.GivenEntries.{IsLineOf, label_place}
+use Rattle.codespan_picture.specs.Picture.{label_of}
 use Rattle.codespan_reporting.proofs.Contexts.{IsGathered}
 use Rattle.codespan_reporting.proofs.term.views.gather.gather_lines.Given as goal
 

@@ -3,10 +3,10 @@ use Rattle.std.specs.Bool.{then_some}
 use Rattle.std.specs.Prelude.{if◌then◌else◌}
 use Rattle.std.specs.Option.{option_map}
 use Rattle.codespan_reporting.specs.declared.term.views.entry.Says.TheVariants.{Shown as GivenShown}
-use Rattle.codespan_reporting.specs.Entries.{Says, Shown}
-use Rattle.codespan_reporting.specs.GivenEntries.{IsLineOf, label_place, says_of}
-use Rattle.codespan_reporting.specs.Lines.{shows}
-use Rattle.codespan_reporting.specs.Picture.{label_of}
+use Rattle.codespan_reporting.specs.Inner.Entries.{Says, Shown}
+use Rattle.codespan_reporting.specs.Inner.GivenEntries.{IsLineOf, label_place, says_of}
+use Rattle.codespan_picture.specs.Lines.{shows}
+use Rattle.codespan_picture.specs.Picture.{label_of}
 use Rattle.codespan_reporting.proofs.Gathering.{Adds-line}
 use Rattle.codespan_reporting.proofs.term.views.gather.push_line.Goals as goal
 

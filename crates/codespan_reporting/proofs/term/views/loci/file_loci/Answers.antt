@@ -1,7 +1,7 @@
 use Rattle.std.proofs.Common.{◌≡◌, ◌+◌, ◌∷◌, [], ◌++◌, Err, map, take, drop, sym, ap, ◌∙◌, subst}
 use Rattle.std.proofs.lemmas.List.{take-append-drop, take_all, take_more}
 use Rattle.std.proofs.lemmas.Result.{err_from_is_err_and}
-use Rattle.codespan_reporting.specs.Picture.{label_of}
+use Rattle.codespan_picture.specs.Picture.{label_of}
 use Rattle.codespan_reporting.proofs.LocusStarts.{IsLocated, located-more, located-refused}
 use Rattle.codespan_reporting.proofs.term.views.loci.file_loci.Goals as goal
 

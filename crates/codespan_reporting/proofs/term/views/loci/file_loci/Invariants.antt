@@ -1,5 +1,5 @@
 use Rattle.std.proofs.Common.{map, take}
-use Rattle.codespan_reporting.specs.Picture.{label_of}
+use Rattle.codespan_picture.specs.Picture.{label_of}
 use Rattle.codespan_reporting.proofs.LocusStarts.{IsLocated}
 use Rattle.codespan_reporting.proofs.term.views.loci.file_loci.Given as goal
 

@@ -1,7 +1,7 @@
 use Rattle.std.proofs.Common.{◌≡◌, Err, sym, ap, ◌∙◌, map}
 use Rattle.std.specs.Prelude.{IfSome, string_bytes}
 use Rattle.std.proofs.lemmas.Result.{err_from_is_err_and}
-use Rattle.codespan_reporting.specs.Picture.{label_of}
+use Rattle.codespan_picture.specs.Picture.{label_of}
 use Rattle.codespan_reporting.proofs.LocusStarts.{located-answered, located-at, located-second}
 use Rattle.codespan_reporting.proofs.term.views.loci.file_locus.Goals as goal
 

@@ -1,6 +1,6 @@
 use Rattle.std.proofs.Common.{◌≡◌, map, take}
-use Rattle.codespan_reporting.specs.Loci.{least_if_any, starts_in}
-use Rattle.codespan_reporting.specs.Picture.{label_of}
+use Rattle.codespan_reporting.specs.Inner.Loci.{least_if_any, starts_in}
+use Rattle.codespan_picture.specs.Picture.{label_of}
 use Rattle.codespan_reporting.proofs.term.views.loci.least_start.Given as goal
 
 -- the least start of the labels before this one

@@ -2,10 +2,10 @@ use Rattle.std.proofs.Common.{◌≡◌, ◌+◌, ◌-◌, ◌∷◌, [], ◌++�
 use Rattle.std.specs.Prelude.{fold}
 use Rattle.std.proofs.lemmas.List.{length-take-le, take-append-drop, take_more}
 use Rattle.std.proofs.lemmas.Result.{err_from_is_err_and}
-use Rattle.codespan_reporting.specs.GivenEntries.{entry_of}
-use Rattle.codespan_reporting.specs.GivenPadding.{line_digits}
-use Rattle.codespan_reporting.specs.PlacedLabels.{IsAt}
-use Rattle.codespan_reporting.specs.Steps.{fills_of, lines_of_steps, steps_of}
+use Rattle.codespan_reporting.specs.Inner.GivenEntries.{entry_of}
+use Rattle.codespan_reporting.specs.Inner.GivenPadding.{line_digits}
+use Rattle.codespan_reporting.specs.Inner.PlacedLabels.{IsAt}
+use Rattle.codespan_reporting.specs.Inner.Steps.{fills_of, lines_of_steps, steps_of}
 use Rattle.codespan_reporting.proofs.DrawnPadding.{numbers_refusal}
 use Rattle.codespan_reporting.proofs.FileParts.{from_file-first, next-file}
 use Rattle.codespan_reporting.proofs.FilePlaces.{at-get}

@@ -1,5 +1,5 @@
 use Rattle.std.proofs.Common.{◌≡◌, ◌≤◌, length, map, take, drop}
-use Rattle.codespan_reporting.specs.GivenEntries.{entry_of}
+use Rattle.codespan_reporting.specs.Inner.GivenEntries.{entry_of}
 use Rattle.codespan_reporting.proofs.FileParts.{from_file}
 use Rattle.codespan_reporting.proofs.PlacedPadding.{ArePadded}
 use Rattle.codespan_reporting.proofs.term.views.padding.drawn_padding.Given as goal

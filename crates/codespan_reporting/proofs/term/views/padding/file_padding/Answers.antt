@@ -1,7 +1,7 @@
 use Rattle.std.proofs.Common.{◌+◌, get_or, max, map, drop, sym, ap, ◌∙◌, subst, arith}
 use Rattle.std.proofs.lemmas.List.Elements.{All-from_recursion}
-use Rattle.codespan_reporting.specs.GivenEntries.{IsLineOf, entry_of}
-use Rattle.codespan_reporting.specs.Padding.{digit_count}
+use Rattle.codespan_reporting.specs.Inner.GivenEntries.{IsLineOf, entry_of}
+use Rattle.codespan_picture.specs.Padding.{digit_count}
 use Rattle.codespan_reporting.proofs.DrawnPadding.{IsPaddedUpTo, left-after, left-first, padded-hidden, padded-shown, rest_left}
 use Rattle.codespan_reporting.proofs.FileParts.{no_entry}
 use Rattle.codespan_reporting.proofs.term.views.padding.file_padding.Goals.{then-is_shown+in_ok-fill_digits, else-is_shown}

@@ -1,5 +1,5 @@
 use Rattle.std.proofs.Common.{◌≤◌, ◌-◌, length, map, drop}
-use Rattle.codespan_reporting.specs.GivenEntries.{entry_of}
+use Rattle.codespan_reporting.specs.Inner.GivenEntries.{entry_of}
 use Rattle.codespan_reporting.proofs.DrawnPadding.{IsPaddedUpTo}
 use Rattle.codespan_reporting.proofs.term.views.padding.file_padding.Given as goal
 

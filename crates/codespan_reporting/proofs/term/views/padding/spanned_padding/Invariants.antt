@@ -1,6 +1,6 @@
 use Rattle.std.proofs.Common.{◌≡◌, max, take}
 use Rattle.std.specs.Prelude.{fold}
-use Rattle.codespan_reporting.specs.GivenPadding.{marked_digits}
+use Rattle.codespan_reporting.specs.Inner.GivenPadding.{marked_digits}
 use Rattle.codespan_reporting.proofs.term.views.padding.spanned_padding.Given as goal
 
 -- the greatest digit count of the entries before this one

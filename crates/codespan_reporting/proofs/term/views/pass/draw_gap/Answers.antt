@@ -1,10 +1,10 @@
 use Rattle.std.proofs.Common.{◌-◌, [], ◌∷◌, map, Ok, refl, subst, arith}
 use Rattle.std.specs.Slice.Iter.{iter_rest}
-use Rattle.codespan_reporting.specs.GivenEntries.{entry_of}
-use Rattle.codespan_reporting.specs.Picture.{look_of}
-use Rattle.codespan_reporting.specs.Renderers.{writer_of, config_of}
-use Rattle.codespan_reporting.specs.StepDrawing.{DoFit, Knows}
-use Rattle.codespan_reporting.specs.Steps.{Fill, fills_of}
+use Rattle.codespan_reporting.specs.Inner.GivenEntries.{entry_of}
+use Rattle.codespan_picture.specs.Picture.{look_of}
+use Rattle.codespan_renderer.specs.Renderers.{writer_of, config_of}
+use Rattle.codespan_reporting.specs.Inner.StepDrawing.{DoFit, Knows}
+use Rattle.codespan_reporting.specs.Inner.Steps.{Fill, fills_of}
 use Rattle.codespan_reporting.proofs.GroupSteps.{gap-one, gap-close, gap-first}
 use Rattle.codespan_reporting.proofs.StepStreams.{Takes, draws_nothing, draws_fill, draws_as, takes-next, takes-number}
 use Rattle.codespan_reporting.proofs.term.views.pass.draw_gap.Goals as goal

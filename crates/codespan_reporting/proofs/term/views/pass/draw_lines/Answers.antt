@@ -1,7 +1,7 @@
 use Rattle.std.proofs.Common.{Ok, Err, refl, ap, ◌∙◌, arith, length-drop}
 use Rattle.std.specs.Slice.Iter.{iter_rest}
 use Rattle.std.proofs.lemmas.Result.{err_from_is_err_and}
-use Rattle.codespan_reporting.specs.Renderers.{writer_of, config_of}
+use Rattle.codespan_renderer.specs.Renderers.{writer_of, config_of}
 use Rattle.codespan_reporting.proofs.FileParts.{no_entry}
 use Rattle.codespan_reporting.proofs.GivenSteps.{IsCounted, shown_steps, given-shown, given-hidden, given_group-len, steps_left-none}
 use Rattle.codespan_reporting.proofs.StepStreams.{left_all, left_as, left_fit, left_known, left_more, left_refused, left_none, draws_at}

@@ -1,9 +1,9 @@
 use Rattle.std.proofs.Common.{◌-◌, ◌≤◌, length, map}
 use Rattle.std.specs.Slice.Iter.{iter_rest}
-use Rattle.codespan_reporting.specs.GivenEntries.{entry_of}
-use Rattle.codespan_reporting.specs.Picture.{look_of}
-use Rattle.codespan_reporting.specs.Renderers.{writer_of, config_of, SameRenderer}
-use Rattle.codespan_reporting.specs.Steps.{steps_of}
+use Rattle.codespan_reporting.specs.Inner.GivenEntries.{entry_of}
+use Rattle.codespan_picture.specs.Picture.{look_of}
+use Rattle.codespan_renderer.specs.Renderers.{writer_of, config_of, SameRenderer}
+use Rattle.codespan_reporting.specs.Inner.Steps.{steps_of}
 use Rattle.codespan_reporting.proofs.GivenSteps.{steps_left}
 use Rattle.codespan_reporting.proofs.StepStreams.{StepsLeft}
 use Rattle.codespan_reporting.proofs.term.views.pass.draw_lines.Given as goal

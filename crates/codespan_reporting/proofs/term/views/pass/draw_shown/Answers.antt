@@ -1,10 +1,10 @@
 use Rattle.std.proofs.Common.{map, [], ◌∷◌, Err, refl, ap, ◌∙◌}
 use Rattle.std.specs.Slice.Iter.{iter_rest}
 use Rattle.std.proofs.lemmas.Result.{err_from_is_err_and}
-use Rattle.codespan_reporting.specs.GivenEntries.{entry_of}
-use Rattle.codespan_reporting.specs.Picture.{look_of}
-use Rattle.codespan_reporting.specs.Renderers.{writer_of, config_of}
-use Rattle.codespan_reporting.specs.Steps.{Draw, gap_after}
+use Rattle.codespan_reporting.specs.Inner.GivenEntries.{entry_of}
+use Rattle.codespan_picture.specs.Picture.{look_of}
+use Rattle.codespan_renderer.specs.Renderers.{writer_of, config_of}
+use Rattle.codespan_reporting.specs.Inner.Steps.{Draw, gap_after}
 use Rattle.codespan_reporting.proofs.StepStreams.{draws_one, draws_then, draws_cut, draws_at, fit_front, knows-front}
 use Rattle.codespan_reporting.proofs.term.views.pass.draw_shown.Goals as goal
 

@@ -1,7 +1,7 @@
 use Rattle.std.proofs.Common.{Err, ap, ◌∙◌}
 use Rattle.std.proofs.lemmas.Result.{err_from_is_err_and}
 use Rattle.codespan_base.specs.declared.term.config.Config.{Config}
-use Rattle.codespan_reporting.specs.Picture.{look_of, notes_of}
+use Rattle.codespan_picture.specs.Picture.{look_of, notes_of}
 use Rattle.codespan_reporting.proofs.Chains.{stopped_before}
 use Rattle.codespan_reporting.proofs.NoteRows.{whole_of_notes}
 use Rattle.codespan_reporting.proofs.SnippetParts.{sends_after, sends_at}

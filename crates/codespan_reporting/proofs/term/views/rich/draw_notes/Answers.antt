@@ -6,10 +6,10 @@ use Rattle.codespan_base.specs.declared.term.config.Config.{Config}
 use Rattle.codespan_base.specs.Streams.{Stream}
 use Rattle.codespan_base.specs.WriterLaw.{Sends}
 use Rattle.codespan_base.proofs.Sends.{sent-nil}
-use Rattle.codespan_reporting.specs.Asking.{Came, Stopped}
-use Rattle.codespan_reporting.specs.Picture.{look_of}
-use Rattle.codespan_reporting.specs.Renderers.{config_of, writer_of}
-use Rattle.codespan_reporting.specs.RowStreams.{note_stream}
+use Rattle.codespan_reporting.specs.Inner.Asking.{Came, Stopped}
+use Rattle.codespan_picture.specs.Picture.{look_of}
+use Rattle.codespan_renderer.specs.Renderers.{config_of, writer_of}
+use Rattle.codespan_picture.specs.RowStreams.{note_stream}
 use Rattle.codespan_reporting.proofs.Chains.{came_at, came_both, came_then_stopped, stopped_at, stopped_before}
 use Rattle.codespan_reporting.proofs.NoteRows.{notes-end, notes-next, notes-split, notes-whole}
 use Rattle.codespan_reporting.proofs.SnippetParts.{sends_after}

@@ -1,8 +1,8 @@
 use Rattle.std.proofs.Common.{take}
 use Rattle.std.specs.Prelude.{string_bytes}
-use Rattle.codespan_reporting.specs.Asking.{Came}
-use Rattle.codespan_reporting.specs.Picture.{look_of}
-use Rattle.codespan_reporting.specs.Renderers.{SameRenderer, config_of, writer_of}
+use Rattle.codespan_reporting.specs.Inner.Asking.{Came}
+use Rattle.codespan_picture.specs.Picture.{look_of}
+use Rattle.codespan_renderer.specs.Renderers.{SameRenderer, config_of, writer_of}
 use Rattle.codespan_reporting.proofs.NoteRows.{stream_of_notes}
 use Rattle.codespan_reporting.proofs.term.views.rich.draw_notes.Given as goal
 

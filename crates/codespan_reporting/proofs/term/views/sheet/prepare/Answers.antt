@@ -3,9 +3,9 @@ use Rattle.std.specs.List.Sorted.{IsSortedBy}
 use Rattle.std.proofs.lemmas.Result.{err_from_is_err_and}
 use Rattle.codespan_base.specs.FileModel.{line_count}
 use Rattle.codespan_reporting.specs.declared.term.views.entry.Entry.{Entry}
-use Rattle.codespan_reporting.specs.Entries.{is_below}
-use Rattle.codespan_reporting.specs.GivenEntries.{entry_of}
-use Rattle.codespan_reporting.specs.Picture.{label_of}
+use Rattle.codespan_reporting.specs.Inner.Entries.{is_below}
+use Rattle.codespan_reporting.specs.Inner.GivenEntries.{entry_of}
+use Rattle.codespan_picture.specs.Picture.{label_of}
 use Rattle.codespan_reporting.proofs.SheetPrepared.{IsPadded, padded-classic, padded-unbroken, refused-labels, refused-loci, refused-padding, sheet-prepared, sorted-lines}
 use Rattle.codespan_reporting.proofs.term.views.sheet.prepare.Goals.{in-Classic, in-Unbroken+in_ok-padding-in-Unbroken}
 use Rattle.codespan_reporting.proofs.term.views.sheet.prepare.Given.{Over}

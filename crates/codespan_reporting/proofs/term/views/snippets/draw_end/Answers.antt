@@ -2,10 +2,10 @@ use Rattle.std.proofs.Common.{Bool, [], ◌∷◌, refl, sym, ap, ◌∙◌}
 use Rattle.std.specs.Prelude.{if◌then◌else◌}
 use Rattle.codespan_base.specs.WriterLaw.{sent}
 use Rattle.codespan_base.proofs.Sends.{sent-nil}
-use Rattle.codespan_reporting.specs.Picture.{look_of}
-use Rattle.codespan_reporting.specs.Renderers.{writer_of, config_of}
-use Rattle.codespan_reporting.specs.Rows.{EmptyRow}
-use Rattle.codespan_reporting.specs.RowStreams.{stream_of_rows}
+use Rattle.codespan_picture.specs.Picture.{look_of}
+use Rattle.codespan_renderer.specs.Renderers.{writer_of, config_of}
+use Rattle.codespan_picture.specs.Rows.{EmptyRow}
+use Rattle.codespan_picture.specs.RowStreams.{stream_of_rows}
 use Rattle.codespan_reporting.proofs.term.views.snippets.draw_end.Goals as goal
 
 pub returns-else-is_followed-clause-sends : goal.returns-else-is_followed-clause-sends

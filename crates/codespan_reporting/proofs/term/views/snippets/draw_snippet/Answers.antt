@@ -3,13 +3,13 @@ use Rattle.std.specs.Prelude.{MatchResult}
 use Rattle.std.proofs.lemmas.Result.{err_from_is_err_and}
 use Rattle.codespan_base.specs.declared.term.config.Config.{Config}
 use Rattle.codespan_base.specs.FileModel.Lookup.{Source}
-use Rattle.codespan_reporting.specs.GivenSnippets.{end_rows, start_rows, steps_in}
-use Rattle.codespan_reporting.specs.Lookups.{asked_of, first_refusal}
-use Rattle.codespan_reporting.specs.Picture.{look_of}
-use Rattle.codespan_reporting.specs.Renderers.{config_of}
-use Rattle.codespan_reporting.specs.Rows.{Row}
-use Rattle.codespan_reporting.specs.RowStreams.{stream_of_rows}
-use Rattle.codespan_reporting.specs.Steps.{lookups_of_steps, rows_of_steps}
+use Rattle.codespan_reporting.specs.Inner.GivenSnippets.{end_rows, start_rows, steps_in}
+use Rattle.codespan_picture.specs.Lookups.{asked_of, first_refusal}
+use Rattle.codespan_picture.specs.Picture.{look_of}
+use Rattle.codespan_renderer.specs.Renderers.{config_of}
+use Rattle.codespan_picture.specs.Rows.{Row}
+use Rattle.codespan_picture.specs.RowStreams.{stream_of_rows}
+use Rattle.codespan_reporting.specs.Inner.Steps.{lookups_of_steps, rows_of_steps}
 use Rattle.codespan_reporting.proofs.Askings.{asking_as_stream, asking_at, asking_refused_before}
 use Rattle.codespan_reporting.proofs.SnippetParts.{rows-three, sends_at, stopped-at_start, stopped-in_lines, drawn-to_end}
 use Rattle.codespan_reporting.proofs.term.views.snippets.draw_snippet.Goals as goal

@@ -1,8 +1,8 @@
 use Rattle.std.proofs.Common.{rules, ◌≡◌}
 use Rattle.std.proofs.lemmas.List.Sorted.{answers_always}
-use Rattle.codespan_reporting.specs.Entries.{is_below}
-use Rattle.codespan_reporting.specs.GivenEntries.{entry_of, key_of}
-use Rattle.codespan_reporting.proofs.SortedLists.{sorted-map}
+use Rattle.codespan_reporting.specs.Inner.Entries.{is_below}
+use Rattle.codespan_reporting.specs.Inner.GivenEntries.{entry_of, key_of}
+use Rattle.codespan_laws.proofs.SortedLists.{sorted-map}
 use Rattle.codespan_reporting.proofs.term.views.sort.sort.Goals as goal
 
 pub returns-clause-sorted : goal.returns-clause-sorted

@@ -1,7 +1,7 @@
 use Rattle.std.proofs.Common.{map, None, ap, ◌∙◌}
 use Rattle.std.proofs.lemmas.Result.{err_from_is_err_and}
-use Rattle.codespan_reporting.specs.Given.{mark_of_given}
-use Rattle.codespan_reporting.specs.GivenEntries.{entry_of}
+use Rattle.codespan_picture.specs.Given.{mark_of_given}
+use Rattle.codespan_reporting.specs.Inner.GivenEntries.{entry_of}
 use Rattle.codespan_reporting.proofs.Askings.{asking_no_memory, out_of_memory}
 use Rattle.codespan_reporting.proofs.MarkOrder.{lanes_fit}
 use Rattle.codespan_reporting.proofs.term.views.lines.FileLines.draw_line.Goals as goal

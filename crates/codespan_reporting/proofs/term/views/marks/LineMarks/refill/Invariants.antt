@@ -1,7 +1,7 @@
 use Rattle.std.proofs.Common.{◌≡◌, ◌++◌, map, drop}
-use Rattle.codespan_reporting.specs.Given.{all_labelled, mark_of_given}
-use Rattle.codespan_reporting.specs.GivenEntries.{entry_of}
-use Rattle.codespan_reporting.specs.Steps.{singles_in, multis_in}
+use Rattle.codespan_picture.specs.Given.{all_labelled, mark_of_given}
+use Rattle.codespan_reporting.specs.Inner.GivenEntries.{entry_of}
+use Rattle.codespan_reporting.specs.Inner.Steps.{singles_in, multis_in}
 use Rattle.codespan_reporting.proofs.term.views.marks.LineMarks.refill.Given as goal
 
 -- what is taken and what is left make the whole

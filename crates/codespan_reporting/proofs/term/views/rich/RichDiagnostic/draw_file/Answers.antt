@@ -4,17 +4,17 @@ use Rattle.std.specs.Slice.Iter.{iter_rest}
 use Rattle.std.proofs.lemmas.List.{get_or-map, length-map}
 use Rattle.codespan_base.specs.FileModel.{line_count}
 use Rattle.codespan_base.specs.FileModel.Lookup.{Source}
-use Rattle.codespan_reporting.specs.Asking.{SendsAsking}
+use Rattle.codespan_reporting.specs.Inner.Asking.{SendsAsking}
 use Rattle.codespan_reporting.specs.declared.term.views.entry.Entry.{Entry}
-use Rattle.codespan_reporting.specs.Entries.{is_of_file}
-use Rattle.codespan_reporting.specs.Given.{place_of_given}
-use Rattle.codespan_reporting.specs.GivenEntries.{entry_of}
-use Rattle.codespan_reporting.specs.GivenSheets.{has_any, is_followed, numbers_from, placed_snippet}
-use Rattle.codespan_reporting.specs.Lookups.{asked_of, first_refusal, snippet_lookups}
-use Rattle.codespan_reporting.specs.Renderers.{config_of, writer_of}
-use Rattle.codespan_reporting.specs.RowStreams.{stream_of_rows}
-use Rattle.codespan_reporting.specs.Picture.{labels_of, look_of, notes_of}
-use Rattle.codespan_reporting.specs.Snippets.{labelled_file, labelled_files}
+use Rattle.codespan_reporting.specs.Inner.Entries.{is_of_file}
+use Rattle.codespan_picture.specs.Given.{place_of_given}
+use Rattle.codespan_reporting.specs.Inner.GivenEntries.{entry_of}
+use Rattle.codespan_reporting.specs.Inner.GivenSheets.{numbers_from, placed_snippet}
+use Rattle.codespan_picture.specs.Lookups.{asked_of, first_refusal, snippet_lookups}
+use Rattle.codespan_renderer.specs.Renderers.{config_of, writer_of}
+use Rattle.codespan_picture.specs.RowStreams.{stream_of_rows}
+use Rattle.codespan_picture.specs.Picture.{labels_of, look_of, notes_of}
+use Rattle.codespan_picture.specs.Snippets.{has_any, is_followed, labelled_file, labelled_files}
 use Rattle.codespan_reporting.specs.Views.{diagnostic_of, view_config_of}
 use Rattle.codespan_reporting.proofs.Askings.{asking_as}
 use Rattle.codespan_reporting.proofs.SheetFiles.{fits-at, followed-at, known-at, lanes-at, lines-at, lookups-at, one-at, rows-at}

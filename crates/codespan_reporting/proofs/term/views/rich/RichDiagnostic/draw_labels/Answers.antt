@@ -4,13 +4,13 @@ use Rattle.std.proofs.lemmas.Result.{err_from_is_err_and}
 use Rattle.codespan_base.specs.declared.term.config.Config.{Config}
 use Rattle.codespan_base.specs.declared.diagnostic.Label.{Label}
 use Rattle.codespan_base.specs.Streams.{Stream}
-use Rattle.codespan_reporting.specs.GivenSheets.{IsPrepared, has_any, placed_snippets}
-use Rattle.codespan_reporting.specs.Given.{place_of_given}
-use Rattle.codespan_reporting.specs.Lookups.{early_lookups, first_refusal}
-use Rattle.codespan_reporting.specs.Picture.{label_of, labels_of, look_of, notes_of}
-use Rattle.codespan_reporting.specs.Renderers.{config_of}
-use Rattle.codespan_reporting.specs.RowStreams.{stream_of_rows}
-use Rattle.codespan_reporting.specs.Snippets.{labelled_files}
+use Rattle.codespan_reporting.specs.Inner.GivenSheets.{IsPrepared, placed_snippets}
+use Rattle.codespan_picture.specs.Given.{place_of_given}
+use Rattle.codespan_picture.specs.Lookups.{early_lookups, first_refusal}
+use Rattle.codespan_picture.specs.Picture.{label_of, labels_of, look_of, notes_of}
+use Rattle.codespan_renderer.specs.Renderers.{config_of}
+use Rattle.codespan_picture.specs.RowStreams.{stream_of_rows}
+use Rattle.codespan_picture.specs.Snippets.{has_any, labelled_files}
 use Rattle.codespan_reporting.specs.Views.{diagnostic_of, view_config_of}
 use Rattle.codespan_reporting.proofs.Askings.{asking_at}
 use Rattle.codespan_reporting.proofs.Drawing.{refused_early}

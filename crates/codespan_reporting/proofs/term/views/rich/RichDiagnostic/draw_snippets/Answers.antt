@@ -3,14 +3,14 @@ use Rattle.std.specs.Prelude.{flat_map}
 use Rattle.std.proofs.lemmas.List.{length-map}
 use Rattle.std.proofs.lemmas.Result.{err_from_is_err_and}
 use Rattle.codespan_base.specs.declared.term.config.Config.{Config}
-use Rattle.codespan_reporting.specs.Given.{place_of_given}
-use Rattle.codespan_reporting.specs.GivenEntries.{entry_of}
-use Rattle.codespan_reporting.specs.GivenSheets.{has_any, is_followed, placed_snippet, placed_snippets}
-use Rattle.codespan_reporting.specs.Lookups.{first_refusal, snippet_lookups}
-use Rattle.codespan_reporting.specs.Picture.{labels_of, look_of, notes_of}
-use Rattle.codespan_reporting.specs.Renderers.{config_of}
-use Rattle.codespan_reporting.specs.RowStreams.{stream_of_rows}
-use Rattle.codespan_reporting.specs.Snippets.{labelled_file}
+use Rattle.codespan_picture.specs.Given.{place_of_given}
+use Rattle.codespan_reporting.specs.Inner.GivenEntries.{entry_of}
+use Rattle.codespan_reporting.specs.Inner.GivenSheets.{placed_snippet, placed_snippets}
+use Rattle.codespan_picture.specs.Lookups.{first_refusal, snippet_lookups}
+use Rattle.codespan_picture.specs.Picture.{labels_of, look_of, notes_of}
+use Rattle.codespan_renderer.specs.Renderers.{config_of}
+use Rattle.codespan_picture.specs.RowStreams.{stream_of_rows}
+use Rattle.codespan_picture.specs.Snippets.{has_any, is_followed, labelled_file}
 use Rattle.codespan_reporting.specs.Views.{diagnostic_of, view_config_of}
 use Rattle.codespan_reporting.proofs.Askings.{asking_as, asking_at}
 use Rattle.codespan_reporting.proofs.FileParts.{from_file-first}

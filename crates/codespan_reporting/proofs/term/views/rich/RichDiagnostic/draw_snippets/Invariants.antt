@@ -1,11 +1,11 @@
 use Rattle.std.proofs.Common.{◌≡◌, ◌≤◌, length, drop, map}
 use Rattle.std.specs.Slice.Iter.{iter_rest}
-use Rattle.codespan_reporting.specs.Given.{place_of_given}
-use Rattle.codespan_reporting.specs.GivenEntries.{entry_of}
-use Rattle.codespan_reporting.specs.GivenSheets.{has_any, numbers_from}
-use Rattle.codespan_reporting.specs.Picture.{labels_of, look_of, notes_of}
-use Rattle.codespan_reporting.specs.Renderers.{SameRenderer, config_of, writer_of}
-use Rattle.codespan_reporting.specs.Snippets.{labelled_files}
+use Rattle.codespan_picture.specs.Given.{place_of_given}
+use Rattle.codespan_reporting.specs.Inner.GivenEntries.{entry_of}
+use Rattle.codespan_reporting.specs.Inner.GivenSheets.{numbers_from}
+use Rattle.codespan_picture.specs.Picture.{labels_of, look_of, notes_of}
+use Rattle.codespan_renderer.specs.Renderers.{SameRenderer, config_of, writer_of}
+use Rattle.codespan_picture.specs.Snippets.{has_any, labelled_files}
 use Rattle.codespan_reporting.specs.Views.{diagnostic_of, view_config_of}
 use Rattle.codespan_reporting.proofs.FileParts.{from_file}
 use Rattle.codespan_reporting.proofs.SheetDrawing.{SnippetsLeft}

@@ -1,7 +1,7 @@
 use Rattle.std.proofs.Common.{rules, ◌<◌}
 use Rattle.codespan_base.specs.FileModel.{line_count}
 use Rattle.codespan_reporting.specs.Views.{diagnostic_of}
-use Rattle.codespan_reporting.proofs.MeaningLemmas.{picture_means_labels}
+use Rattle.codespan_laws.proofs.MeaningLemmas.{picture_means_labels}
 use Rattle.codespan_reporting.proofs.term.views.rich.RichDiagnostic.render.Goals as goal
 
 -- a picture means its labels, whether there are any or not

@@ -1,0 +1,200 @@
+-- The text of a caret row is its caret cells.
+use Rattle.std.proofs.Common.{◌≡◌, ℕ, zero, suc, suc-add, zero-add, ap₂, chars, ◌+◌, ◌<◌, ◌≤◌, max, min, Bool, true, false, ◌&&◌, cond, nat_lt, List, [], ◌∷◌, ◌++◌, map, filter, flat_map, fold, replicate, Option, Some, None, encode_utf8_all, refl, sym, ap, ◌∙◌, arith, add-zero, ltb-true, lt-ltb, ⊎_elim}
+use Rattle.std.specs.List.{range_with_len, list_any}
+use Rattle.std.specs.Char.{len_utf8}
+use Rattle.std.proofs.lemmas.Bool.{and_parts, or_cases}
+use Rattle.std.proofs.lemmas.Bool.Decides.{nat_tests}
+use Rattle.std.proofs.lemmas.List.{map-append}
+use Rattle.std.proofs.lemmas.List.Sums.{sum_by-cons}
+use Rattle.codespan_base.specs.declared.diagnostic.Severity.{Severity}
+use Rattle.codespan_base.specs.declared.diagnostic.LabelStyle.{LabelStyle}
+use Rattle.codespan_base.specs.declared.diagnostic.LabelStyle.TheVariants.{Primary, Secondary}
+use Rattle.codespan_base.specs.declared.term.config.chars.Chars.{Chars}
+use Rattle.codespan_base.specs.Labels.{Labelled, is_primary}
+use Rattle.codespan_base.specs.Streams.{Stream, blanks, text_of}
+use Rattle.codespan_picture.specs.declared.cells.Cell.{Cell}
+use Rattle.codespan_picture.specs.Widths.{width_at}
+use Rattle.codespan_picture.specs.Cells.{cells_then, placeholder, width_of}
+use Rattle.codespan_picture.specs.Carets.{covers, style_under, caret_for, greatest_end, caret_width, owns, style_at, caret_cells}
+use Rattle.codespan_laws.proofs.Texts.{text_of-append, encode_utf8_all-append, encode_utf8_all-blanks, text_of-blanks, text_of-one_mark, text_of-repeated}
+use Rattle.codespan_picture.specs.Rows.{Look, Line}
+use Rattle.codespan_picture.specs.RowParts.{line_cells_to_end, change, styled, caret_glyphs, carets}
+
+pub text_of-change : (severity : Severity) (was now : Option LabelStyle) → text_of (change severity was now) ≡ []
+unfolding change
+text_of-change severity None None = refl
+text_of-change severity None (Some style) = text_of-one_mark _
+text_of-change severity (Some style) None = text_of-one_mark _
+text_of-change severity (Some Primary) (Some Primary) = refl
+text_of-change severity (Some Primary) (Some Secondary) = text_of-one_mark _
+text_of-change severity (Some Secondary) (Some Primary) = text_of-one_mark _
+text_of-change severity (Some Secondary) (Some Secondary) = refl
+
+-- the styles leave the text alone
+pub text_of-styled : (severity : Severity) (style : Cell → Option LabelStyle) (shown : Cell → Stream) (was : Option LabelStyle) (cs : List Cell)
+    → text_of (styled severity style shown was cs) ≡ flat_map (λ c. text_of (shown c)) cs
+text_of-styled severity style shown was [] = text_of-change severity was None
+text_of-styled severity style shown was (c ∷ cs) =
+    simp (text_of-append, text_of-change) (ap (λ s. text_of (shown c) ++ s) (text_of-styled severity style shown (style c) cs))
+
+-- ---- numbers in a row
+
+pub range_with_len-append : (a m n : ℕ) → range_with_len a (m + n) ≡ range_with_len a m ++ range_with_len (a + m) n
+range_with_len-append a zero n = simp (zero-add, add-zero)
+range_with_len-append a (suc m) n =
+    rw suc-add (ap (λ ks. a ∷ ks) (range_with_len-append (a + 1) m n ∙ ap (λ k. range_with_len (a + 1) m ++ range_with_len k n) (omega arith)))
+
+pub map-range_with_len : {X : Type 0} (f g : ℕ → X) (a n : ℕ) → ((k : ℕ) → a ≤ k → k < a + n → f k ≡ g k)
+    → map f (range_with_len a n) ≡ map g (range_with_len a n)
+map-range_with_len f g a zero same = refl
+map-range_with_len f g a (suc n) same =
+    ap₂ (λ x xs. x ∷ xs) (same a (omega arith) (omega arith))
+    (map-range_with_len f g (a + 1) n (λ k low high. same k (omega arith) (omega arith)))
+
+pub map-constant : {X : Type 0} (x : X) (a n : ℕ) → map (λ _. x) (range_with_len a n) ≡ replicate n x
+map-constant x a zero = refl
+map-constant x a (suc n) = ap (λ xs. x ∷ xs) (map-constant x (a + 1) n)
+
+-- ---- cells in a row
+
+-- the cells begin at this place and this column, and each follows the one before
+abbrev pub AreLaid : ℕ → ℕ → List Cell → Type 0
+AreLaid place column [] = Unit {0}
+AreLaid place column (c ∷ cs) =
+    (c.place ≡ place) × (c.column ≡ column) × AreLaid (place + c.bytes) (column + c.width) cs
+
+pub cells_to_end-laid : (tab place column : ℕ) (codes : List ℕ) → AreLaid place column (cells_then placeholder tab place column codes)
+cells_to_end-laid tab place column [] = (refl, refl, tt)
+cells_to_end-laid tab place column (c ∷ cs) = (refl, refl, cells_to_end-laid tab (place + len_utf8 c) (column + width_at tab column c) cs)
+
+-- ---- what one character shows
+
+-- a label over a character reaches past its place
+covers-below : (x : Labelled) (c : Cell) → covers x c ≡ true → c.place < x.end
+covers-below x c h = let below = ltb-true (max x.start c.place) (min x.end (c.place + c.bytes)) h in omega arith
+
+fold_max-le : (m : ℕ) (xs : List Labelled) → m ≤ fold (λ n (x : Labelled). max n x.end) m xs
+fold_max-le m [] = omega arith
+fold_max-le m (x ∷ xs) = let more = fold_max-le (max m x.end) xs in omega arith
+
+list_any-below : (m : ℕ) (p : Labelled → Bool) (c : Cell) (xs : List Labelled) → ((x : Labelled) → p x ≡ true → c.place < x.end)
+    → list_any p xs ≡ true → c.place < fold (λ n (x : Labelled). max n x.end) m xs
+list_any-below m p c [] below h = cc
+list_any-below m p c (x ∷ xs) below h =
+    ⊎_elim
+    (λ here. let low = below x here in let more = fold_max-le (max m x.end) xs in omega arith)
+    (λ later. list_any-below (max m x.end) p c xs below later)
+    (or_cases (p x) (list_any p xs) h)
+
+-- a character with a style begins before the greatest end
+style_under-below : (labels : List Labelled) (c : Cell) (style : LabelStyle) → style_under labels c ≡ Some style → c.place < greatest_end labels
+style_under-below labels c style h = by_primary (list_any (λ x. is_primary x && covers x c) labels) refl
+  where
+    by_any : (b : Bool) → list_any (λ x. covers x c) labels ≡ b → list_any (λ x. is_primary x && covers x c) labels ≡ false
+        → c.place < greatest_end labels
+    by_any true any none = list_any-below 0 (λ x. covers x c) c labels (λ x. covers-below x c) any
+    by_any false any none = cc
+
+    by_primary : (b : Bool) → list_any (λ x. is_primary x && covers x c) labels ≡ b → c.place < greatest_end labels
+    by_primary true any =
+        list_any-below 0 (λ x. is_primary x && covers x c) c labels
+        (λ x both. covers-below x c (and_parts (is_primary x) (covers x c) both).1) any
+    by_primary false none = by_any (list_any (λ x. covers x c) labels) refl none
+
+-- the codes that a character shows: as many carets as it has cells, if it begins before the end
+abbrev pub codes_of : Chars → ℕ → Option LabelStyle → Cell → List ℕ
+codes_of chars end style c = cond (nat_lt c.place end) (replicate c.width (caret_for chars style)) []
+
+text_of-caret_glyphs : (chars : Chars) (end : ℕ) (style : Option LabelStyle) (c : Cell)
+    → ((s : LabelStyle) → style ≡ Some s → c.place < end)
+    → text_of (caret_glyphs chars end style c) ≡ encode_utf8_all (codes_of chars end style c)
+unfolding caret_glyphs
+text_of-caret_glyphs chars end None c below = by_test (nat_lt c.place end)
+  where
+    by_test : (b : Bool) → text_of (cond b (blanks c.width) []) ≡ encode_utf8_all (cond b (replicate c.width 32) [])
+    by_test true = text_of-blanks c.width ∙ sym (encode_utf8_all-blanks c.width)
+    by_test false = refl
+text_of-caret_glyphs chars end (Some style) c below =
+    let low : c.place < end = below style refl in
+    rw lt-ltb (text_of-repeated c.width (caret_for chars (Some style)))
+
+-- ---- the caret cells, from the characters
+
+encode_utf8_all-flat_map : (f : Cell → List ℕ) (cs : List Cell) → encode_utf8_all (flat_map f cs) ≡ flat_map (λ c. encode_utf8_all (f c)) cs
+encode_utf8_all-flat_map f [] = refl
+encode_utf8_all-flat_map f (c ∷ cs) =
+    encode_utf8_all-append (f c) (flat_map f cs) ∙ ap (λ s. encode_utf8_all (f c) ++ s) (encode_utf8_all-flat_map f cs)
+
+owns-inside : (k : ℕ) (c : Cell) → c.column ≤ k → k < c.column + c.width → owns k c ≡ true
+owns-inside k c low high = grind (arith, nat_tests)
+
+owns-after : (k : ℕ) (c : Cell) → c.column + c.width ≤ k → owns k c ≡ false
+owns-after k c high = grind (arith, nat_tests)
+
+-- from the greatest end on nothing is shown
+none-after : (chars : Chars) (labels : List Labelled) (end place column : ℕ) (cs : List Cell) → AreLaid place column cs → end ≤ place
+    → (width_of (filter (λ (c : Cell). nat_lt c.place end) cs) ≡ 0) × (flat_map (λ c. codes_of chars end (style_under labels c) c) cs ≡ [])
+none-after chars labels end place column [] laid after = (refl, refl)
+none-after chars labels end place column (c ∷ cs) laid after =
+    let past : nat_lt c.place end ≡ false = (let same = laid.0 in grind (arith, nat_tests)) in
+    let rest = none-after chars labels end (place + c.bytes) (column + c.width) cs laid.2 (omega arith) in
+    (simp past rest.0, simp past rest.1)
+
+caret_codes : (chars : Chars) (labels : List Labelled) (place column : ℕ) (cs : List Cell) → AreLaid place column cs
+    → map (λ k. caret_for chars (style_at labels cs k)) (range_with_len column (caret_width labels cs))
+    ≡ flat_map (λ c. codes_of chars (greatest_end labels) (style_under labels c) c) cs
+caret_codes chars labels place column [] laid = refl
+caret_codes chars labels place column (c ∷ cs) laid =
+    by_test (caret_codes chars labels (place + c.bytes) (column + c.width) cs laid.2) (nat_lt c.place (greatest_end labels)) refl
+  where
+    at_cell : ℕ → ℕ
+    at_cell k = caret_for chars (style_at labels (c ∷ cs) k)
+
+    later : List Cell
+    later = filter (λ (d : Cell). nat_lt d.place (greatest_end labels)) cs
+
+    by_test : map (λ k. caret_for chars (style_at labels cs k)) (range_with_len (column + c.width) (width_of later))
+        ≡ flat_map (λ d. codes_of chars (greatest_end labels) (style_under labels d) d) cs
+        → (b : Bool) → nat_lt c.place (greatest_end labels) ≡ b
+        → map at_cell (range_with_len column (width_of (cond b (c ∷ later) later)))
+        ≡ cond b (replicate c.width (caret_for chars (style_under labels c))) []
+        ++ flat_map (λ d. codes_of chars (greatest_end labels) (style_under labels d) d) cs
+    by_test rest true before =
+        ap (λ n. map at_cell (range_with_len column n)) (sum_by-cons (λ (d : Cell). d.width) c later)
+        ∙ ap (map at_cell) (range_with_len-append column c.width (width_of later))
+        ∙ map-append at_cell (range_with_len column c.width) (range_with_len (column + c.width) (width_of later))
+        ∙ ap₂ (λ xs ys. xs ++ ys)
+        (map-range_with_len at_cell (λ _. caret_for chars (style_under labels c)) column c.width
+        (λ k low high. let same = laid.1 in simp (owns-inside k c (omega arith) (omega arith)))
+        ∙ map-constant (caret_for chars (style_under labels c)) column c.width)
+        (map-range_with_len at_cell (λ k. caret_for chars (style_at labels cs k)) (column + c.width) (width_of later)
+        (λ k low high. let same = laid.1 in simp (owns-after k c (omega arith)))
+        ∙ rest)
+    by_test rest false after =
+        let none = none-after chars labels (greatest_end labels) place column (c ∷ cs) laid (let same = laid.0 in grind (arith, nat_tests)) in
+        let gone : width_of later ≡ 0 = simp after at none.0 in
+        rw gone (sym (simp after at none.1))
+
+-- the text of the carets is the line's caret cells
+pub text_of-carets : (look : Look) (labels : List Labelled) (cs : List Cell) → AreLaid 0 0 cs
+    → text_of (carets look labels cs) ≡ encode_utf8_all (caret_cells look.chars labels cs)
+unfolding carets
+text_of-carets look labels cs laid =
+    text_of-styled look.severity (style_under labels) (λ c. caret_glyphs look.chars (greatest_end labels) (style_under labels c) c) None cs
+    ∙ same_text cs
+    ∙ sym (encode_utf8_all-flat_map (λ c. codes_of look.chars (greatest_end labels) (style_under labels c) c) cs)
+    ∙ ap encode_utf8_all (sym (caret_codes look.chars labels 0 0 cs laid))
+  where
+    same_text : (ds : List Cell) → flat_map (λ c. text_of (caret_glyphs look.chars (greatest_end labels) (style_under labels c) c)) ds
+        ≡ flat_map (λ c. encode_utf8_all (codes_of look.chars (greatest_end labels) (style_under labels c) c)) ds
+    same_text [] = refl
+    same_text (d ∷ ds) =
+        ap₂ (λ s t. s ++ t)
+        (text_of-caret_glyphs look.chars (greatest_end labels) (style_under labels d) d (style_under-below labels d)) (same_text ds)
+
+-- of a line, to the cell of the placeholder
+pub text_of-line_carets : (look : Look) (line : Line)
+    → text_of (carets look line.labels (line_cells_to_end look line))
+    ≡ encode_utf8_all (caret_cells look.chars line.labels (line_cells_to_end look line))
+text_of-line_carets look line =
+    text_of-carets look line.labels (line_cells_to_end look line) (cells_to_end-laid look.tab_width 0 0 (chars line.text))

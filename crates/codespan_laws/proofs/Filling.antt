@@ -1,0 +1,222 @@
+-- Lines of which some are shown: the drawn ones in order give what the shown ones give, with what stands between two of them.
+use Rattle.std.proofs.Common.{◌≡◌, ℕ, zero, suc, ◌+◌, ◌-◌, ◌≤◌, Bool, true, false, cond, ◌==◌, nat_lt, nat_le, ◌&&◌, ◌||◌, if◌then◌else◌, List, [], ◌∷◌, ◌++◌, filter, flat_map, Option, Some, None, refl, sym, ap, ◌∙◌, arith}
+use Rattle.std.specs.List.{range_with_len}
+use Rattle.std.proofs.Math.Bool.{and-false}
+use Rattle.std.proofs.lemmas.Bool.Decides.{nat_tests}
+use Rattle.codespan_picture.specs.Lines.{is_broken}
+
+-- ---- one line
+
+-- the line is shown, or filled in between two that are
+abbrev pub is_filled : (ℕ → Bool) → ℕ → Bool
+is_filled shown l = shown l || (nat_lt 0 l && shown (l - 1) && shown (l + 1))
+
+-- a line between two shown ones is drawn
+filled-between : (shown : ℕ → Bool) (c : ℕ) → shown c ≡ true → shown (c + 1 + 1) ≡ true → is_filled shown (c + 1) ≡ true
+filled-between shown c before after = by_test (shown (c + 1))
+  where
+    some : nat_lt 0 (c + 1) ≡ true
+    some = grind (arith, nat_tests)
+
+    back : c + 1 - 1 ≡ c
+    back = omega arith
+
+    by_test : (b : Bool) → (b || (nat_lt 0 (c + 1) && shown (c + 1 - 1) && shown (c + 1 + 1))) ≡ true
+    by_test true = refl
+    by_test false = rw (some, back) (simp (before, after))
+
+-- a shown line is drawn
+filled-shown : (shown : ℕ → Bool) (a : ℕ) → shown a ≡ true → is_filled shown a ≡ true
+filled-shown shown a h = simp h
+
+-- a line that is not shown, after one that is not, is not drawn
+not_filled-after : (shown : ℕ → Bool) (a : ℕ) → shown a ≡ false → (nat_lt 0 a && shown (a - 1)) ≡ false → is_filled shown a ≡ false
+not_filled-after shown a here before = simp (here, before)
+
+-- a line that is not shown, before one that is not, is not drawn
+not_filled-before : (shown : ℕ → Bool) (a : ℕ) → shown a ≡ false → shown (a + 1) ≡ false → is_filled shown a ≡ false
+not_filled-before shown a here after = simp (here, after) (and_last (nat_lt 0 a) (shown (a - 1)))
+  where
+    and_last : (b d : Bool) → (b && d && false) ≡ false
+    and_last true d = and-false d
+    and_last false d = refl
+
+-- a test after a line that fails it
+after-hidden : (shown : ℕ → Bool) (a : ℕ) → shown a ≡ false → (nat_lt 0 (a + 1) && shown (a + 1 - 1)) ≡ false
+after-hidden shown a h = let back : a + 1 - 1 ≡ a = omega arith in rw back (simp h (and-false (nat_lt 0 (a + 1))))
+
+-- ---- all of them
+
+-- what a shown line, a filled one and a break before a line give
+module _ {X : Type 0} (drawn filled broken : ℕ → List X) where
+  -- a break, where lines are left out before this one
+  abbrev pub break_gives : Option ℕ → ℕ → List X
+  break_gives None d = []
+  break_gives (Some c) d = if is_broken c d then broken d else []
+
+  -- what stands between two shown lines
+  abbrev pub gap_gives : Option ℕ → ℕ → List X
+  gap_gives None d = []
+  gap_gives (Some c) d = if d == c + 2 then filled (c + 1) else if is_broken c d then broken d else []
+
+  -- shown lines, with what stands between them
+  abbrev pub shown_give : Option ℕ → List ℕ → List X
+  shown_give was [] = []
+  shown_give was (d ∷ ds) = gap_gives was d ++ (drawn d ++ shown_give (Some d) ds)
+
+  -- where no line is filled in, a break stands between two shown lines or nothing
+  gap-break : (c d : ℕ) → (d == c + 2) ≡ false → gap_gives (Some c) d ≡ break_gives (Some c) d
+  gap-break c d h = ap (λ b. cond b (filled (c + 1)) (break_gives (Some c) d)) h
+
+  -- no break stands between two lines that follow each other
+  break-next : (c : ℕ) → break_gives (Some c) (c + 1) ≡ []
+  break-next c = let near : nat_le (c + 3) (c + 1) ≡ false = grind (arith, nat_tests) in ap (λ b. cond b (broken (c + 1)) []) near
+
+  module _ (shown : ℕ → Bool) where
+    -- what a drawn line gives
+    abbrev pub given : ℕ → List X
+    given l = if shown l then drawn l else filled l
+
+    -- drawn lines, with the breaks between them
+    abbrev pub lines_give : Option ℕ → List ℕ → List X
+    lines_give was [] = []
+    lines_give was (l ∷ ls) = break_gives was l ++ (given l ++ lines_give (Some l) ls)
+
+    -- so many lines from one on, by those of them that are drawn
+    abbrev lines_from : Option ℕ → ℕ → ℕ → List X
+    lines_from was a n = lines_give was (filter (is_filled shown) (range_with_len a n))
+
+    -- and by those that are shown
+    abbrev shown_from : Option ℕ → ℕ → ℕ → List X
+    shown_from was a n = shown_give was (filter shown (range_with_len a n))
+
+    -- no line is shown from here on
+    abbrev NoneFrom : ℕ → Type 0
+    NoneFrom a = (l : ℕ) → a ≤ l → shown l ≡ false
+
+    -- a line that is not drawn gives nothing
+    lines-skip : (was : Option ℕ) (a n : ℕ) → is_filled shown a ≡ false → lines_from was a (suc n) ≡ lines_from was (a + 1) n
+    lines-skip was a n h =
+        ap (λ b. lines_give was (cond b (a ∷ filter (is_filled shown) (range_with_len (a + 1) n)) (filter (is_filled shown) (range_with_len (a + 1) n)))) h
+
+    -- a drawn line gives what it gives
+    lines-keep : (was : Option ℕ) (a n : ℕ) (b : Bool) → is_filled shown a ≡ true → shown a ≡ b
+        → lines_from was a (suc n) ≡ break_gives was a ++ (cond b (drawn a) (filled a) ++ lines_from (Some a) (a + 1) n)
+    lines-keep was a n b h k =
+        ap (λ t. lines_give was (cond t (a ∷ filter (is_filled shown) (range_with_len (a + 1) n)) (filter (is_filled shown) (range_with_len (a + 1) n)))) h
+        ∙ ap (λ t. break_gives was a ++ (cond t (drawn a) (filled a) ++ lines_from (Some a) (a + 1) n)) k
+
+    -- a line that is not shown is passed over
+    shown-skip : (was : Option ℕ) (a n : ℕ) → shown a ≡ false → shown_from was a (suc n) ≡ shown_from was (a + 1) n
+    shown-skip was a n h = ap (λ b. shown_give was (cond b (a ∷ filter shown (range_with_len (a + 1) n)) (filter shown (range_with_len (a + 1) n)))) h
+
+    -- a shown line is taken
+    shown-keep : (was : Option ℕ) (a n : ℕ) → shown a ≡ true → shown_from was a (suc n) ≡ gap_gives was a ++ (drawn a ++ shown_from (Some a) (a + 1) n)
+    shown-keep was a n h = ap (λ b. shown_give was (cond b (a ∷ filter shown (range_with_len (a + 1) n)) (filter shown (range_with_len (a + 1) n)))) h
+
+    -- right after a shown line
+    abbrev Next : ℕ → Type 0
+    Next n = (c : ℕ) → shown c ≡ true → NoneFrom (c + 1 + n) → lines_from (Some c) (c + 1) n ≡ shown_from (Some c) (c + 1) n
+
+    -- one line that is not shown after a shown line
+    abbrev Second : ℕ → Type 0
+    Second n = (c : ℕ) → shown c ≡ true → shown (c + 1) ≡ false → NoneFrom (c + 1 + 1 + n) → lines_from (Some c) (c + 1) (suc n) ≡ shown_from (Some c) (c + 1 + 1) n
+
+    -- further on
+    abbrev Far : ℕ → Type 0
+    Far n = (c a : ℕ) → c + 3 ≤ a → (nat_lt 0 a && shown (a - 1)) ≡ false → NoneFrom (a + n) → lines_from (Some c) a n ≡ shown_from (Some c) a n
+
+    -- a shown line comes after one, with no line filled in between
+    take-shown : (n : ℕ) → Next n → (c a : ℕ) → (a == c + 2) ≡ false → shown a ≡ true → NoneFrom (a + 1 + n) → lines_from (Some c) a (suc n) ≡ shown_from (Some c) a (suc n)
+    take-shown n next c a other here none =
+        lines-keep (Some c) a n true (filled-shown shown a here) here
+        ∙ ap (λ rest. break_gives (Some c) a ++ (drawn a ++ rest)) (next a here none)
+        ∙ ap (λ first. first ++ (drawn a ++ shown_from (Some a) (a + 1) n)) (sym (gap-break c a other))
+        ∙ sym (shown-keep (Some c) a n here)
+
+    -- a shown line comes right after one
+    next_step : (n : ℕ) → Next n → Second n → Next (suc n)
+    next_step n next second c is none = by_test (shown (c + 1)) refl
+      where
+        by_test : (b : Bool) → shown (c + 1) ≡ b → lines_from (Some c) (c + 1) (suc n) ≡ shown_from (Some c) (c + 1) (suc n)
+        by_test true here =
+            let near : (c + 1 == c + 2) ≡ false = grind (arith, nat_tests) in take-shown n next c (c + 1) near here (λ l h. none l (omega arith))
+        by_test false here = second c is here (λ l h. none l (omega arith)) ∙ sym (shown-skip (Some c) (c + 1) n here)
+
+    -- a shown line comes after one that is filled in
+    second_step : (n : ℕ) → Next n → Far n → Second (suc n)
+    second_step n next far c is hidden none = by_test (shown (c + 1 + 1)) refl
+      where
+        by_test : (b : Bool) → shown (c + 1 + 1) ≡ b → lines_from (Some c) (c + 1) (suc (suc n)) ≡ shown_from (Some c) (c + 1 + 1) (suc n)
+        by_test true here =
+            let two : (c + 1 + 1 == c + 2) ≡ true = grind (arith, nat_tests) in
+            let rest : List X = shown_from (Some (c + 1 + 1)) (c + 1 + 1 + 1) n in
+            lines-keep (Some c) (c + 1) (suc n) false (filled-between shown c is here) hidden
+            ∙ ap (λ (first : List X). first ++ (filled (c + 1) ++ lines_from (Some (c + 1)) (c + 1 + 1) (suc n))) (break-next c)
+            ∙ ap (λ (more : List X). filled (c + 1) ++ more)
+            (lines-keep (Some (c + 1)) (c + 1 + 1) n true (filled-shown shown (c + 1 + 1) here) here
+            ∙ ap (λ (first : List X). first ++ (drawn (c + 1 + 1) ++ lines_from (Some (c + 1 + 1)) (c + 1 + 1 + 1) n)) (break-next (c + 1))
+            ∙ ap (λ (more : List X). drawn (c + 1 + 1) ++ more) (next (c + 1 + 1) here (λ l h. none l (omega arith))))
+            ∙ sym (shown-keep (Some c) (c + 1 + 1) n here
+            ∙ ap (λ b. cond b (filled (c + 1)) (break_gives (Some c) (c + 1 + 1)) ++ (drawn (c + 1 + 1) ++ rest)) two)
+        by_test false here =
+            lines-skip (Some c) (c + 1) (suc n) (not_filled-before shown (c + 1) hidden here)
+            ∙ lines-skip (Some c) (c + 1 + 1) n (not_filled-after shown (c + 1 + 1) here (after-hidden shown (c + 1) hidden))
+            ∙ far c (c + 1 + 1 + 1) (omega arith) (after-hidden shown (c + 1 + 1) here) (λ l h. none l (omega arith))
+            ∙ sym (shown-skip (Some c) (c + 1 + 1) n here)
+
+    -- a shown line comes far after one
+    far_step : (n : ℕ) → Next n → Far n → Far (suc n)
+    far_step n next far c a apart was none = by_test (shown a) refl
+      where
+        by_test : (b : Bool) → shown a ≡ b → lines_from (Some c) a (suc n) ≡ shown_from (Some c) a (suc n)
+        by_test true here =
+            let other : (a == c + 2) ≡ false = grind (arith, nat_tests) in take-shown n next c a other here (λ l h. none l (omega arith))
+        by_test false here =
+            lines-skip (Some c) a n (not_filled-after shown a here was)
+            ∙ far c (a + 1) (omega arith) (after-hidden shown a here) (λ l h. none l (omega arith))
+            ∙ sym (shown-skip (Some c) a n here)
+
+    -- after a shown line, at any distance
+    all_steps : (n : ℕ) → Next n × Second n × Far n
+    all_steps zero = (
+      λ c is none. refl,
+      λ c is hidden none. lines-skip (Some c) (c + 1) 0 (not_filled-before shown (c + 1) hidden (none (c + 1 + 1) (omega arith))),
+      λ c a apart was none. refl,
+    )
+    all_steps (suc n) =
+        let before = all_steps n in
+        (next_step n before.0 before.1, second_step n before.0 before.2, far_step n before.0 before.2)
+
+    -- before the first shown line
+    from_start : (a n : ℕ) → (nat_lt 0 a && shown (a - 1)) ≡ false → NoneFrom (a + n) → lines_from None a n ≡ shown_from None a n
+    from_start a zero was none = refl
+    from_start a (suc n) was none = by_test (λ here. from_start (a + 1) n (after-hidden shown a here) (λ l h. none l (omega arith))) (shown a) refl
+      where
+        by_test : (shown a ≡ false → lines_from None (a + 1) n ≡ shown_from None (a + 1) n) → (b : Bool) → shown a ≡ b → lines_from None a (suc n) ≡ shown_from None a (suc n)
+        by_test later true here =
+            lines-keep None a n true (filled-shown shown a here) here
+            ∙ ap (λ rest. drawn a ++ rest) ((all_steps n).0 a here (λ l h. none l (omega arith)))
+            ∙ sym (shown-keep None a n here)
+        by_test later false here =
+            lines-skip None a n (not_filled-after shown a here was) ∙ later here ∙ sym (shown-skip None a n here)
+
+    -- the drawn lines give what the shown lines give with what stands between them
+    pub lines-shown : (n : ℕ) → NoneFrom n → lines_from None 0 n ≡ shown_from None 0 n
+    lines-shown n none = from_start 0 n refl (λ l h. none l (omega arith))
+
+-- where breaks give nothing, lines give one after the other
+pub lines-flat : {X : Type 0} (drawn filled : ℕ → List X) (shown : ℕ → Bool) (was : Option ℕ) (ls : List ℕ)
+    → lines_give drawn filled (λ _. []) shown was ls ≡ flat_map (given drawn filled (λ _. []) shown) ls
+lines-flat drawn filled shown was [] = refl
+lines-flat {X} drawn filled shown was (l ∷ ls) =
+    ap (λ (first : List X). first ++ (given drawn filled (λ _. []) shown l ++ lines_give drawn filled (λ _. []) shown (Some l) ls)) (nothing was)
+    ∙ ap (λ (rest : List X). given drawn filled (λ _. []) shown l ++ rest) (lines-flat drawn filled shown (Some l) ls)
+  where
+    by_test : (b : Bool) → cond {A = List X} b [] [] ≡ []
+    by_test true = refl
+    by_test false = refl
+
+    nothing : (before : Option ℕ) → break_gives drawn filled (λ _. []) before l ≡ []
+    nothing None = refl
+    nothing (Some c) = by_test (is_broken c l)

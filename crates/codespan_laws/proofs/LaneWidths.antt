@@ -1,0 +1,65 @@
+-- Each lane takes two characters.
+use Rattle.std.proofs.Common.{◌≡◌, ℕ, zero, suc, ◌+◌, ◌*◌, ◌++◌, flat_map, Option, Some, None, refl, ◌∙◌, arith}
+use Rattle.codespan_base.specs.declared.diagnostic.Severity.{Severity}
+use Rattle.codespan_base.specs.declared.diagnostic.LabelStyle.{LabelStyle}
+use Rattle.codespan_base.specs.declared.term.config.chars.Chars.{Chars}
+use Rattle.codespan_base.specs.declared.diagnostic.LabelStyle.TheVariants.{Primary}
+use Rattle.codespan_base.specs.Labels.{LaneMark, Part}
+use Rattle.std.specs.List.{range_with_len}
+use Rattle.codespan_base.specs.Streams.{Stream, StyleMark, LabelMark, Reset, one_mark, glyph, repeated, row_length}
+use Rattle.codespan_picture.specs.declared.lanes.Shape.{Shape}
+use Rattle.codespan_picture.specs.declared.lanes.Shape.TheVariants.{Gap, Bar, TopCorner, BottomCorner}
+use Rattle.codespan_picture.specs.Lanes.{corner_line, filling, label_glyph, mark_in, lane_cells}
+use Rattle.codespan_picture.specs.Rows.{Look, Lanes}
+use Rattle.codespan_picture.specs.RowParts.{lane_of, lanes_in}
+use Rattle.codespan_laws.proofs.Texts.{row_length-append, row_length-glyph, row_length-one_mark, row_length-repeated, row_length-blanks}
+
+-- a stream between two marks is as long as it is alone
+between_marks : (m : StyleMark) (s : Stream) → row_length (one_mark m ++ s ++ one_mark Reset) ≡ row_length s
+between_marks m s =
+    row_length-append (one_mark m ++ s) (one_mark Reset)
+    ∙ omega (arith, row_length-append (one_mark m) s, row_length-one_mark m, row_length-one_mark Reset)
+
+row_length-filling : (severity : Severity) (chars : Chars) (crossing : Option LaneMark) (n : ℕ)
+    → row_length (filling severity chars crossing n) ≡ n
+unfolding filling
+row_length-filling severity chars None n = row_length-blanks n
+row_length-filling severity chars (Some m) n =
+    between_marks (LabelMark severity m.style) (repeated n (corner_line chars m.part)) ∙ row_length-repeated n (corner_line chars m.part)
+
+pub row_length-label_glyph : (severity : Severity) (style : LabelStyle) (c : ℕ) → row_length (label_glyph severity style c) ≡ 1
+unfolding label_glyph
+row_length-label_glyph severity style c = between_marks (LabelMark severity style) (glyph c) ∙ row_length-glyph c
+
+-- a filled cell and the lane's own character
+filled_and_own : (severity : Severity) (chars : Chars) (crossing : Option LaneMark) (style : LabelStyle) (own : ℕ)
+    → row_length (filling severity chars crossing 1 ++ label_glyph severity style own) ≡ 2
+filled_and_own severity chars crossing style own =
+    row_length-append (filling severity chars crossing 1) (label_glyph severity style own)
+    ∙ omega (arith, row_length-filling severity chars crossing 1, row_length-label_glyph severity style own)
+
+pub row_length-lane_cells : (severity : Severity) (chars : Chars) (crossing : Option LaneMark) (style : LabelStyle) (shape : Shape)
+    → row_length (lane_cells severity chars crossing style shape) ≡ 2
+unfolding lane_cells
+row_length-lane_cells severity chars crossing style Gap = row_length-filling severity chars crossing 2
+row_length-lane_cells severity chars crossing style Bar = filled_and_own severity chars crossing style chars.multi_left
+row_length-lane_cells severity chars crossing style TopCorner = filled_and_own severity chars crossing style chars.multi_top_left
+row_length-lane_cells severity chars crossing style BottomCorner = filled_and_own severity chars crossing style chars.multi_bottom_left
+
+pub row_length-lane_of : (look : Look) (crossing : Option LaneMark) (shape : Part → Shape) (mark : Option LaneMark)
+    → row_length (lane_of look crossing shape mark) ≡ 2
+unfolding lane_of
+row_length-lane_of look crossing shape None = row_length-lane_cells look.severity look.chars crossing Primary Gap
+row_length-lane_of look crossing shape (Some m) = row_length-lane_cells look.severity look.chars crossing m.style (shape m.part)
+
+twice : (f : ℕ → Stream) → ((k : ℕ) → row_length (f k) ≡ 2) → (a n : ℕ) → row_length (flat_map f (range_with_len a n)) ≡ 2 * n
+twice f two a zero = refl
+twice f two a (suc n) =
+    row_length-append (f a) (flat_map f (range_with_len (a + 1) n)) ∙ omega (arith, two a, twice f two (a + 1) n)
+
+-- the lanes of any row
+pub row_length-lanes_in : (look : Look) (crossing : ℕ → Option LaneMark) (shape : ℕ → Part → Shape) (lanes : Lanes)
+    → row_length (lanes_in look crossing shape lanes) ≡ 2 * lanes.count
+row_length-lanes_in look crossing shape lanes =
+    twice (λ lane. lane_of look (crossing lane) (shape lane) (mark_in lanes.marks lane))
+    (λ lane. row_length-lane_of look (crossing lane) (shape lane) (mark_in lanes.marks lane)) 0 lanes.count

@@ -1,0 +1,51 @@
+-- A rich picture means its labels: the laws of its parts, together.
+use Rattle.std.proofs.Common.{◌<◌, Bool}
+use Rattle.std.specs.Cmp.{IsEquivalence}
+use Rattle.codespan_base.specs.declared.term.config.Config.{Config}
+use Rattle.codespan_base.specs.declared.diagnostic.Diagnostic.{Diagnostic}
+use Rattle.codespan_base.specs.FileModel.{FileModel, line_count}
+use Rattle.codespan_picture.specs.Rows.{Look}
+use Rattle.codespan_picture.specs.Snippets.{LabelledFile, line_at}
+use Rattle.codespan_picture.specs.RowStreams.{caret_row}
+use Rattle.codespan_picture.specs.Picture.{files_of}
+use Rattle.codespan_laws.specs.CaretLaws.{CaretsAreCells}
+use Rattle.codespan_laws.specs.Meanings.{SnippetMeansLabels, MeansLabels}
+use Rattle.codespan_laws.proofs.Texts.{text_of-append}
+use Rattle.codespan_laws.proofs.CaretLemmas.{text_of-line_carets}
+use Rattle.codespan_laws.proofs.BreakLemmas as breaks
+use Rattle.codespan_laws.proofs.FillLemmas.{drawing_of_shown}
+use Rattle.codespan_laws.proofs.LaneLineRuns as runs
+use Rattle.codespan_laws.proofs.LanesShown.{lanes_are_shown}
+use Rattle.codespan_laws.proofs.MessagesOnce as messages
+use Rattle.codespan_laws.proofs.PaddingLemmas as padding
+use Rattle.codespan_laws.proofs.PointerLemmas as pointers
+use Rattle.codespan_laws.proofs.RangeLemmas as ranges
+use Rattle.codespan_laws.proofs.RowBoundLemmas as bounds
+
+-- the text of a caret row is its caret cells
+pub carets_are_cells : (look : Look) → CaretsAreCells look
+unfolding caret_row
+carets_are_cells look = λ line. simp (text_of-append, text_of-line_carets)
+
+-- the snippet of a file means the labels of the file
+pub snippet_means_labels : (view : Config) (look : Look) (s : LabelledFile) → SnippetMeansLabels view look s
+snippet_means_labels view look s = record {
+  drawn = drawing_of_shown view s;
+  breaks = breaks.breaks_are_gaps view s (drawing_of_shown view s);
+  few = bounds.source_rows_few view s;
+  pointers = λ l wide. pointers.pointers_are_cells look (line_at s l) wide;
+  bars = λ ordered. ranges.bars_are_labels look.layout s ordered;
+  covered = λ ordered. ranges.breaks_are_covered view look.layout s ordered;
+  lanes = λ ordered. runs.lanes_are_lines view look.layout s ordered;
+}
+
+-- the picture means the labels of the diagnostic
+pub picture_means_labels : {Id : Type 0} (renderer view : Config) (same : Id → Id → Bool) (file : Id → FileModel) (d : Diagnostic Id)
+    → IsEquivalence same → ((id : Id) → 0 < line_count (file id)) → MeansLabels renderer view same file d
+picture_means_labels renderer view same file d equal some_line = record {
+  each_file = λ s inside. snippet_means_labels view _ s;
+  carets = carets_are_cells;
+  lanes = lanes_are_shown;
+  messages = messages.messages_stand_once renderer view same file d equal some_line;
+  room = padding.padding_has_room view (files_of same file d);
+}

@@ -1,0 +1,44 @@
+-- Each label with a message trails or hangs, and none does both.
+use Rattle.std.proofs.Common.{◌≡◌, ℕ, ◌+◌, Bool, true, false, cond, List, [], ◌∷◌, ◌++◌, filter, sum_by, Option, Some, None, if◌then◌else◌, refl, ap, arith}
+use Rattle.std.proofs.lemmas.List.Sums.{sum_by-cons, sum_by-append}
+use Rattle.codespan_base.specs.Labels.{Labelled, has_message}
+use Rattle.codespan_picture.specs.Carets.{greatest_end}
+use Rattle.codespan_laws.specs.MessageLaws.{weight_of}
+use Rattle.codespan_picture.specs.Rows.{Around, others, does_trail, rightmost, trailing_of, hanging_of, trailing, hanging}
+use Rattle.codespan_picture.proofs.Rightmost.{around_is, some_rightmost}
+
+-- ---- sums over labels
+
+module _ (weight : Labelled → ℕ) (only_messages : (x : Labelled) → has_message x ≡ false → weight x ≡ 0) where
+  sum_of-filter : (xs : List Labelled) → sum_by weight (filter has_message xs) ≡ sum_by weight xs
+  sum_of-filter [] = refl
+  sum_of-filter (x ∷ xs) = by_test (sum_of-filter xs) (has_message x) refl
+    where
+      by_test : sum_by weight (filter has_message xs) ≡ sum_by weight xs → (b : Bool) → has_message x ≡ b
+          → sum_by weight (cond b (x ∷ filter has_message xs) (filter has_message xs)) ≡ sum_by weight (x ∷ xs)
+      by_test rest true is = omega (arith, rest, sum_by-cons weight x (filter has_message xs), sum_by-cons weight x xs)
+      by_test rest false is = omega (arith, rest, only_messages x is, sum_by-cons weight x xs)
+
+  -- what each label weighs by its message, trailing and hanging labels weigh together
+  pub trailing_and_hanging : (labels : List Labelled) → weight_of weight (trailing labels) + sum_by weight (hanging labels) ≡ sum_by weight labels
+  trailing_and_hanging [] = refl
+  trailing_and_hanging (x ∷ xs) = by_rightmost (rightmost (x ∷ xs)) refl
+    where
+      by_test : (a : Around) → a.before ++ (a.here ∷ a.after) ≡ x ∷ xs → (b : Bool)
+          → weight_of weight (if b then Some a.here else None) + sum_by weight (filter has_message (if b then others a else x ∷ xs)) ≡ sum_by weight (x ∷ xs)
+      by_test a whole true =
+          let all = ap (sum_by weight) whole in
+          omega (
+            arith,
+            all,
+            sum_of-filter (others a),
+            sum_by-append weight a.before a.after,
+            sum_by-append weight a.before (a.here ∷ a.after),
+            sum_by-cons weight a.here a.after,
+          )
+      by_test a whole false = omega (arith, sum_of-filter (x ∷ xs))
+
+      by_rightmost : (r : Option Around) → rightmost (x ∷ xs) ≡ r
+          → weight_of weight (trailing_of r) + sum_by weight (hanging_of (x ∷ xs) r) ≡ sum_by weight (x ∷ xs)
+      by_rightmost None none = absurd (some_rightmost x xs none)
+      by_rightmost (Some a) is = by_test a (around_is (greatest_end (x ∷ xs)) (x ∷ xs) a is) (does_trail a)

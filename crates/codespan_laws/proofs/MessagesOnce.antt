@@ -1,0 +1,186 @@
+-- Each label's message stands in one slot, and the slots filled give the picture.
+use Rattle.std.proofs.Common.{◌≡◌, ℕ, zero, suc, ◌+◌, ◌<◌, ◌≤◌, Bool, true, false, not, cond, ◌==◌, List, [], ◌∷◌, map, filter, Option, Some, None, option_map, slice_get, if◌then◌else◌, refl, sym, ap, ap₂, ◌∙◌, append-nil, arith}
+use Rattle.std.specs.Prelude.{sum_by, string_bytes}
+use Rattle.std.proofs.lemmas.Bool.Decides.{nat_tests}
+use Rattle.std.proofs.lemmas.Option.{slice_get-map}
+use Rattle.std.proofs.lemmas.List.Sums.{sum_by-cons, sum_by-append, sum_by-le-sum_by}
+use Rattle.codespan_base.specs.declared.term.config.Config.{Config}
+use Rattle.codespan_base.specs.declared.diagnostic.Diagnostic.{Diagnostic}
+use Rattle.codespan_base.specs.declared.diagnostic.Label.{Label}
+use Rattle.codespan_base.specs.declared.diagnostic.Severity.{Severity}
+use Rattle.codespan_base.specs.FileModel.{FileModel}
+use Rattle.codespan_base.specs.Streams.{Stream, Byte, Slot, bytes, text_of, filled}
+use Rattle.codespan_base.specs.Labels.{Labelled, has_message, is_blank, last_line, first_seen}
+use Rattle.codespan_picture.specs.Lines.{drawn_lines}
+use Rattle.codespan_picture.specs.Rows.{Heading, Look, StartRow, EmptyRow}
+use Rattle.codespan_picture.specs.RowStreams.{stream_of_rows}
+use Rattle.codespan_picture.specs.Snippets.{LabelledFile, InFile, labelled_file, labelled_files, bare_lanes, place_of, rows_after, snippet, rich_rows}
+use Rattle.codespan_picture.specs.Picture.{look_of, rich_stream, label_of, labels_of, heading_of, notes_of}
+use Rattle.codespan_picture.specs.Padding.{padding_of}
+use Rattle.codespan_laws.specs.MessageLaws.{slotted, all_slotted, message_of, message_text, slotted_picture, MessagesStandOnceWhereLawful}
+use Rattle.codespan_laws.proofs.Texts.{text_of-bytes}
+use Rattle.codespan_laws.proofs.SlotLemmas.{slots, row_slots, slots-rows}
+use Rattle.codespan_laws.proofs.SlotSums.{sum-zero, sum-map, sum-filter, lines_sum, rich_sum, label_slots, on_line, slotted_slots, slotted_from, slotted_sum, one_here, each_once}
+use Rattle.codespan_laws.proofs.RefillRows.{fill, fill-is, fill_same, keeps, fill-rows}
+use Rattle.codespan_laws.proofs.RefillPicture.{re_file, re_in, rich-re, padding-re, files-re}
+
+-- ---- what no label of the list names, no row names
+
+at_most : (b : Bool) (n : ℕ) → cond b n 0 ≤ n
+at_most true n = omega arith
+at_most false n = omega arith
+
+snippet_zero : (k : ℕ) (config : Config) (s : LabelledFile) → sum_by (label_slots k) s.labels ≡ 0 → sum_by (row_slots k) (snippet config s) ≡ 0
+snippet_zero k config s none =
+    let ls = drawn_lines config s.file s.labels in
+    omega (
+      arith,
+      sum_by-append (row_slots k) (StartRow (place_of s) ∷ EmptyRow (bare_lanes s) ∷ []) (rows_after s None ls),
+      sum_by-cons (row_slots k) (StartRow (place_of s)) (EmptyRow (bare_lanes s) ∷ []),
+      sum_by-cons (row_slots k) (EmptyRow (bare_lanes s)) [],
+      lines_sum k s None ls,
+      sum-zero (λ l. sum_by (on_line k s.file l) s.labels)
+          (λ l. omega (arith, none, sum_by-le-sum_by (on_line k s.file l) (label_slots k) s.labels (λ x. at_most (last_line s.file x == l) (label_slots k x)))) ls,
+    )
+
+files_zero : {Id : Type 0} (k : ℕ) (config : Config) (same : Id → Id → Bool) (file : Id → FileModel) (xs : List (InFile Id))
+    → sum_by (λ (x : InFile Id). label_slots k x.label) xs ≡ 0
+    → sum_by (λ s. sum_by (row_slots k) (snippet config s)) (labelled_files same file xs) ≡ 0
+files_zero {Id = Id} k config same file xs none =
+    let ids = first_seen same (map (λ (x : InFile Id). x.id) xs) in
+    sum-map (λ s. sum_by (row_slots k) (snippet config s)) (labelled_file same file xs) ids
+    ∙ sum-zero (λ id. sum_by (row_slots k) (snippet config (labelled_file same file xs id))) (λ id. snippet_zero k config (labelled_file same file xs id) (one id)) ids
+  where
+    one : (id : Id) → sum_by (label_slots k) (labelled_file same file xs id).labels ≡ 0
+    one id =
+        omega (
+          arith,
+          none,
+          sum-map (label_slots k) (λ (x : InFile Id). x.label) (filter (λ (x : InFile Id). same id x.id) xs),
+          sum-filter (λ (x : InFile Id). label_slots k x.label) (λ (x : InFile Id). same id x.id) xs,
+          sum_by-le-sum_by (λ (x : InFile Id). cond (same id x.id) (label_slots k x.label) 0) (λ (x : InFile Id). label_slots k x.label) xs
+              (λ x. at_most (same id x.id) (label_slots k x.label)),
+        )
+
+none_here : {Id : Type 0} (k n j : ℕ) (xs : List (InFile Id)) → n + j ≡ k → slice_get xs j ≡ None → slotted_sum k (slotted_from k n xs) ≡ 0
+none_here k n j [] at h = refl
+none_here k n zero (y ∷ ys) at h = cc
+none_here {Id = Id} k n (suc j) (y ∷ ys) at h =
+    let other : (n == k) ≡ false = grind (arith, nat_tests) in
+    let e = ap {B = ℕ} (λ b. cond b (if has_message y.label then 1 else 0) 0) other in
+    omega (
+      arith,
+      e,
+      slotted_slots k n y,
+      none_here k (n + 1) j ys (omega arith) h,
+      sum_by-cons (λ (y : InFile Id). label_slots k y.label) (slotted n y) (slotted_from k (n + 1) ys),
+    )
+
+-- ---- messages that are texts
+
+abbrev pub IsPlain : {Id : Type 0} → List (InFile Id) → Type 0
+IsPlain {Id} xs = (j : ℕ) (x : InFile Id) → slice_get xs j ≡ Some x → x.label.message ≡ bytes (text_of x.label.message)
+
+plain : {Id : Type 0} (d : Diagnostic Id) → IsPlain (labels_of d)
+plain {Id = Id} d j x h = by_label (slice_get d.labels.items j) (sym (slice_get-map label_of d.labels.items j) ∙ h)
+  where
+    by_label : (o : Option (Label Id)) → option_map label_of o ≡ Some x → x.label.message ≡ bytes (text_of x.label.message)
+    by_label None e = cc
+    by_label (Some y) e =
+        let is : label_of y ≡ x = cc in
+        sym (ap (λ (z : InFile Id). z.label.message) is)
+        ∙ ap bytes (sym (text_of-bytes (string_bytes y.message)) ∙ ap (λ (z : InFile Id). text_of z.label.message) is)
+
+-- a text, or another in place of an empty one
+abbrev pub nonempty : List ℕ → List ℕ
+nonempty [] = 32 ∷ []
+nonempty (b ∷ bs) = b ∷ bs
+
+abbrev pub full_text : {Id : Type 0} → List (InFile Id) → ℕ → List ℕ
+full_text xs k = nonempty (message_text xs k)
+
+full : {Id : Type 0} (xs : List (InFile Id)) (k : ℕ) → is_blank (map Byte (full_text xs k)) ≡ false
+full xs k = by_text (message_text xs k)
+  where
+    by_text : (t : List ℕ) → is_blank (map Byte (nonempty t)) ≡ false
+    by_text [] = refl
+    by_text (b ∷ bs) = refl
+
+no_text : (x : Labelled) → x.message ≡ bytes (text_of x.message) → text_of x.message ≡ [] → ◌≡◌ {A = ℕ} (if has_message x then 1 else 0) 0
+unfolding bytes
+no_text x is none =
+    let e : x.message ≡ [] = is ∙ ap bytes none in
+    ap {B = ℕ} (λ s. if not (is_blank s) then 1 else 0) e
+
+unnamed : {Id : Type 0} (xs : List (InFile Id)) → IsPlain xs → (k : ℕ) → message_text xs k ≡ [] → slotted_sum k (slotted_from k 0 xs) ≡ 0
+unnamed {Id = Id} xs plain k none = by_label (slice_get xs k) refl none
+  where
+    by_label : (o : Option (InFile Id)) → slice_get xs k ≡ o → message_of o ≡ [] → slotted_sum k (slotted_from k 0 xs) ≡ 0
+    by_label None at e = none_here k 0 k xs (omega arith) at
+    by_label (Some x) at e = one_here k 0 k xs x (omega arith) at ∙ no_text x.label (plain k x at) e
+
+refill_one : (m : ℕ → List ℕ) (k : ℕ) (t : List ℕ) (message : Stream) → message ≡ bytes t → m k ≡ nonempty t
+    → fill m (if is_blank message then [] else Slot k ∷ []) ≡ message
+unfolding fill bytes
+refill_one m k [] message is at = ap (λ (s : Stream). filled m (if is_blank s then [] else Slot k ∷ [])) is ∙ sym is
+refill_one m k (b ∷ bs) message is at =
+    ap (λ (s : Stream). filled m (if is_blank s then [] else Slot k ∷ [])) is
+    ∙ append-nil (map Byte (m k)) ∙ ap (map Byte) at ∙ sym is
+
+refilled : {Id : Type 0} (φ : Stream → Stream) (k n : ℕ) (xs : List (InFile Id))
+    → ((j i : ℕ) (x : InFile Id) → n + j ≡ i → slice_get xs j ≡ Some x → φ (if is_blank x.label.message then [] else Slot i ∷ []) ≡ x.label.message)
+    → map (re_in φ) (slotted_from k n xs) ≡ xs
+refilled φ k n [] h = refl
+refilled {Id = Id} φ k n (x ∷ xs) h =
+    ap₂ {C = List (InFile Id)} (λ (s : Stream) ys. record { id = x.id; label = record x.label { message = s } } ∷ ys) (h 0 n x (omega arith) refl)
+    (refilled φ k (n + 1) xs (λ j i y e at. h (suc j) i y (omega arith) at))
+
+filled_picture : {Id : Type 0} (renderer view : Config) (same : Id → Id → Bool) (file : Id → FileModel) (severity : Severity) (heading : Heading) (notes : List (List ℕ)) (xs : List (InFile Id))
+    → IsPlain xs
+    → fill (message_text xs) (rich_stream renderer view severity heading (labelled_files same file (all_slotted xs)) notes)
+    ≡ rich_stream renderer view severity heading (labelled_files same file xs) notes
+filled_picture {Id = Id} renderer view same file severity heading notes xs plain =
+    fill_same (message_text xs) (full_text xs) (rich_stream renderer view severity heading ss notes) (λ k some. by_text k (message_text xs k) refl some)
+    ∙ fill-rows (full_text xs) (full xs) look (rich_rows view heading ss notes)
+    ∙ ap (stream_of_rows look) (rich-re φ kept view heading ss notes)
+    ∙ ap (λ n. stream_of_rows (look_of renderer severity n) (rich_rows view heading (map (re_file φ) ss) notes)) (sym (padding-re φ kept view ss))
+    ∙ ap (λ ts. rich_stream renderer view severity heading ts notes) (sym (files-re φ kept same file (all_slotted xs)) ∙ ap (labelled_files same file) whole)
+  where
+    ss : List LabelledFile
+    ss = labelled_files same file (all_slotted xs)
+
+    look : Look
+    look = look_of renderer severity (padding_of view ss)
+
+    φ : Stream → Stream
+    φ = fill (full_text xs)
+
+    kept : (s : Stream) → is_blank (φ s) ≡ is_blank s
+    kept = keeps (full_text xs) (full xs)
+
+    whole : map (re_in φ) (all_slotted xs) ≡ xs
+    whole =
+        refilled φ 0 0 xs
+        (λ j i x e at. refill_one (full_text xs) i (text_of x.label.message) x.label.message (plain j x at)
+        (ap (λ n. full_text xs n) (sym e ∙ zero_plus j) ∙ ap (λ o. nonempty (message_of o)) at))
+      where
+        zero_plus : (j : ℕ) → 0 + j ≡ j
+        zero_plus j = omega arith
+
+    by_text : (k : ℕ) (t : List ℕ) → message_text xs k ≡ t → 0 < slots k (rich_stream renderer view severity heading ss notes) → message_text xs k ≡ full_text xs k
+    by_text k [] e some =
+        absurd (omega (
+          arith,
+          some,
+          slots-rows k look (rich_rows view heading ss notes),
+          rich_sum k view heading ss notes,
+          files_zero k view same file (all_slotted xs) (unnamed xs plain k e),
+        ))
+    by_text k (b ∷ bs) e some = e ∙ ap nonempty (sym e)
+
+pub messages_stand_once : {Id : Type 0} (renderer view : Config) (same : Id → Id → Bool) (file : Id → FileModel) (d : Diagnostic Id) → MessagesStandOnceWhereLawful renderer view same file d
+messages_stand_once {Id = Id} renderer view same file d equal some_line = record {
+  once = each_once (look_of renderer d.severity (padding_of view (labelled_files same file (all_slotted (labels_of d))))) view same file (heading_of d) (notes_of d) (labels_of d) equal some_line;
+  whole = fill-is (message_text (labels_of d)) (slotted_picture renderer view same file d)
+      ∙ filled_picture renderer view same file d.severity (heading_of d) (notes_of d) (labels_of d) (plain d);
+}

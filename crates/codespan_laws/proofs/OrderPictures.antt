@@ -1,0 +1,150 @@
+-- The order of labels is free: a reordering that keeps the orders that a rich picture shows changes nothing in it.
+use Rattle.std.proofs.Common.{◌≡◌, ℕ, ◌+◌, ◌-◌, max, Bool, true, ◌&&◌, ◌||◌, nat_lt, List, [], ◌∷◌, ◌++◌, map, filter, fold, flat_map, length, None, refl, sym, ap, ap₂, ◌∙◌, true, false}
+use mathlib.Core.Path.{fun_ext}
+use Rattle.std.specs.Cmp.{IsEquivalence, first_so, second_so}
+use Rattle.std.specs.Cmp.Lexicographic.{pointwise}
+use Rattle.std.specs.List.{range_with_len, enumerate_from, filter_map}
+use Rattle.codespan_base.specs.declared.diagnostic.Severity.{Severity}
+use Rattle.codespan_base.specs.declared.term.config.Config.{Config}
+use Rattle.codespan_base.specs.declared.term.config.Layout.{Layout}
+use Rattle.codespan_base.specs.declared.term.config.Layout.TheVariants.{Classic, Unbroken}
+use Rattle.codespan_base.specs.FileModel.{FileModel, line_count, line_text}
+use Rattle.codespan_base.specs.Labels.{Labelled, first_line, last_line, first_seen, part_on, mark_of}
+use Rattle.codespan_picture.specs.Cells.{drawn_text}
+use Rattle.codespan_laws.specs.LineLaws.{shown_lines}
+use Rattle.codespan_picture.specs.Lines.{shows, is_shown, drawn_lines}
+use Rattle.codespan_laws.specs.OrderLaws.{OrderIsFree}
+use Rattle.codespan_picture.specs.Padding.{spans, spanned_lines, numbered_lines, digits_of}
+use Rattle.codespan_picture.specs.Picture.{look_of, rich_stream}
+use Rattle.codespan_picture.specs.RowStreams.{stream_of_rows}
+use Rattle.codespan_picture.specs.Rows.{Place, Heading, Lanes, Line, HeaderRow, StartRow, EmptyRow, BlankRow}
+use Rattle.codespan_picture.specs.Snippets.{LabelledFile, InFile, labelled_file, bare_lanes, line_at, rows_after, drawing, place_of, snippet, has_any, is_followed, row_after, snippets, note_rows}
+use Rattle.codespan_laws.proofs.FillLemmas.{drawing_of_shown}
+use Rattle.codespan_laws.proofs.OrderMembers.{AreAlike, SameTests, same-tests, locus-same, singles-same}
+
+-- ---- one file
+
+-- what two files with labels give to a picture is the same
+record GiveTheSame (view : Config) (s t : LabelledFile) : Type 0 where
+  rows : snippet view s ≡ snippet view t
+  bare : bare_lanes s ≡ bare_lanes t
+  digits : digits_of s (numbered_lines view s) ≡ digits_of t (numbered_lines view t)
+
+module _ (f : FileModel) (xs ys : List Labelled) (alike : AreAlike f xs ys) where
+  abbrev s : LabelledFile
+  s = record { file = f; labels = xs }
+
+  abbrev t : LabelledFile
+  t = record { file = f; labels = ys }
+
+  tests : SameTests xs ys
+  tests = same-tests f xs ys alike
+
+  -- the marks of a line go by the labels over several lines
+  lanes-same : (l : ℕ) → (line_at s l).lanes ≡ (line_at t l).lanes
+  lanes-same l = ap {B = Lanes}
+      (λ zs. record { count = length zs; marks = filter_map (λ (entry : ℕ × Labelled). mark_of entry.0 entry.1 (part_on f l entry.1)) (enumerate_from 0 zs) })
+      alike.several_lines
+
+  bare-same : bare_lanes s ≡ bare_lanes t
+  bare-same = ap {B = Lanes} (λ (zs : List Labelled). record { count = length zs; marks = [] }) alike.several_lines
+
+  line-same : (l : ℕ) → line_at s l ≡ line_at t l
+  line-same l = ap₂ {C = Line} (λ zs lanes. record { number = f.number l; text = drawn_text (line_text f l); labels = zs; lanes = lanes })
+      (singles-same f xs ys alike l) (lanes-same l)
+
+  -- which lines are shown goes by tests of the labels
+  shown-same : (view : Config) (l : ℕ) → is_shown view f xs l ≡ is_shown view f ys l
+  shown-same view l = ap (λ b. nat_lt l (line_count f) && b) (tests (λ x. shows view (first_line f x) (last_line f x) l))
+
+  shown_lines-same : (view : Config) → shown_lines view s ≡ shown_lines view t
+  shown_lines-same view = ap (λ (shown : ℕ → Bool). filter shown (range_with_len 0 (line_count f))) (fun_ext (shown-same view))
+
+  drawn-same : (view : Config) → drawn_lines view f xs ≡ drawn_lines view f ys
+  drawn-same view =
+      ap (λ (shown : ℕ → Bool). filter (λ l. shown l || (nat_lt 0 l && shown (l - 1) && shown (l + 1))) (range_with_len 0 (line_count f))) (fun_ext (shown-same view))
+
+  place-same : place_of s ≡ place_of t
+  place-same = ap {B = Place} (λ n. record (place_of s) { location = f.location n }) (locus-same xs ys tests)
+
+  -- the rows are the drawing of the shown lines
+  after-same : (view : Config) → rows_after s None (drawn_lines view f xs) ≡ rows_after t None (drawn_lines view f ys)
+  after-same view =
+      drawing_of_shown view s ∙ ap₂ (λ line ls. drawing line None ls) (fun_ext line-same) (shown_lines-same view) ∙ sym (drawing_of_shown view t)
+
+  snippet-same : (view : Config) → snippet view s ≡ snippet view t
+  snippet-same view =
+      ap₂ (λ a b. a ++ b) (ap₂ (λ place lanes. StartRow place ∷ EmptyRow lanes ∷ []) place-same bare-same) (after-same view)
+
+  spanned-same : spanned_lines s ≡ spanned_lines t
+  spanned-same = ap (λ (spanned : ℕ → Bool). filter spanned (range_with_len 0 (line_count f))) (fun_ext (λ (l : ℕ). tests (λ x. spans f x l)))
+
+  numbered-same : (view : Config) → numbered_lines view s ≡ numbered_lines view t
+  numbered-same view = by_layout view.layout
+    where
+      by_layout : (layout : Layout) → numbered_lines (record view { layout = layout }) s ≡ numbered_lines (record view { layout = layout }) t
+      by_layout Classic = spanned-same
+      by_layout Unbroken = drawn-same view
+
+  gives-same : (view : Config) → GiveTheSame view s t
+  gives-same view = record { rows = snippet-same view; bare = bare-same; digits = ap (digits_of s) (numbered-same view) }
+
+-- ---- all files
+
+module _ {Id : Type 0} (view : Config) (g h : Id → LabelledFile) (gives : (id : Id) → GiveTheSame view (g id) (h id)) where
+  -- a snippet and the row after it
+  followed-same : (followed : Bool) (id : Id) → snippet view (g id) ++ row_after followed (g id) ≡ snippet view (h id) ++ row_after followed (h id)
+  followed-same true id = ap₂ (λ rows lanes. rows ++ (EmptyRow lanes ∷ [])) (gives id).rows (gives id).bare
+  followed-same false id = ap (λ rows. rows ++ []) (gives id).rows
+
+  is_followed-same : (b : Bool) (ids : List Id) → is_followed b (map g ids) ≡ is_followed b (map h ids)
+  is_followed-same b [] = refl
+  is_followed-same b (i ∷ ids) = refl
+
+  snippets-same : (notes : List (List ℕ)) (ids : List Id) → snippets view notes (map g ids) ≡ snippets view notes (map h ids)
+  snippets-same notes [] = refl
+  snippets-same notes (i ∷ ids) =
+      ap₂ (λ a b. a ++ b)
+      (followed-same (is_followed (has_any notes) (map g ids)) i
+      ∙ ap (λ b. snippet view (h i) ++ row_after b (h i)) (is_followed-same (has_any notes) ids))
+      (snippets-same notes ids)
+
+  digits-same : (ids : List Id)
+      → flat_map (λ (s : LabelledFile). digits_of s (numbered_lines view s)) (map g ids)
+      ≡ flat_map (λ (s : LabelledFile). digits_of s (numbered_lines view s)) (map h ids)
+  digits-same [] = refl
+  digits-same (i ∷ ids) = ap₂ (λ a b. a ++ b) (gives i).digits (digits-same ids)
+
+  rich-same : (renderer : Config) (severity : Severity) (heading : Heading) (notes : List (List ℕ)) (ids : List Id)
+      → rich_stream renderer view severity heading (map g ids) notes ≡ rich_stream renderer view severity heading (map h ids) notes
+  rich-same renderer severity heading notes ids =
+      ap₂ (λ padding rows. stream_of_rows (look_of renderer severity padding) ((HeaderRow None heading ∷ rows) ++ note_rows notes ++ (BlankRow ∷ [])))
+      (ap (fold max 0) (digits-same ids)) (snippets-same notes ids)
+
+-- ---- equal ids
+
+module _ {Id : Type 0} (same : Id → Id → Bool) (file : Id → FileModel) (o : IsEquivalence same)
+    (one_file : (i j : Id) → same i j ≡ true → file i ≡ file j) (xs : List (InFile Id)) where
+  -- equal ids have one file with one list of labels
+  file-alike : (i j : Id) → same i j ≡ true → labelled_file same file xs i ≡ labelled_file same file xs j
+  file-alike i j t = ap₂ {C = LabelledFile}
+      (λ f (named : InFile Id → Bool). record { file = f; labels = map (λ (x : InFile Id). x.label) (filter named xs) })
+      (one_file i j t) (fun_ext (λ (x : InFile Id). o.congr i j x.id t))
+
+  -- ids that are equal one by one have the same files
+  files-alike : (is js : List Id) → pointwise same is js ≡ true → map (labelled_file same file xs) is ≡ map (labelled_file same file xs) js
+  files-alike [] [] h = refl
+  files-alike [] (j ∷ js) h = cc
+  files-alike (i ∷ is) [] h = cc
+  files-alike (i ∷ is) (j ∷ js) h =
+      ap₂ (λ s ss. s ∷ ss) (file-alike i j (first_so (same i j) (pointwise same is js) h)) (files-alike is js (second_so (same i j) (pointwise same is js) h))
+
+-- a reordering that keeps these orders changes nothing in a rich picture, where equal ids have one file
+pub order_is_free : {Id : Type 0} (same : Id → Id → Bool) (file : Id → FileModel) → OrderIsFree same file
+order_is_free {Id} same file xs ys renderer view severity heading notes o one_file orders =
+    rich-same view (labelled_file same file xs) (labelled_file same file ys) gives renderer severity heading notes (first_seen same (map (λ (x : InFile Id). x.id) xs))
+    ∙ ap (λ ss. rich_stream renderer view severity heading ss notes) (files-alike same file o one_file ys _ _ orders.files)
+  where
+    gives : (id : Id) → GiveTheSame view (labelled_file same file xs id) (labelled_file same file ys id)
+    gives id = gives-same (file id) (labelled_file same file xs id).labels (labelled_file same file ys id).labels
+        (record { several_lines = orders.several_lines id; one_line = orders.one_line id }) view

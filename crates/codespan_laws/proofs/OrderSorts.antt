@@ -1,0 +1,142 @@
+-- The order of a line's labels: the labels of each range keep their order, and nothing else of the order given counts.
+use Rattle.std.proofs.Common.{◌≡◌, ℕ, Bool, true, false, ◌==◌, ◌&&◌, cond, List, [], ◌∷◌, filter, ⊎_elim, refl, sym, ap, ◌∙◌, arith}
+use Rattle.std.proofs.lemmas.Bool.{both_ways, cases_Bool, cond_both, eq-eqb, false_from_ne_true}
+use Rattle.std.proofs.lemmas.Bool.Decides.{nat_tests}
+use Rattle.std.specs.List.{AllByRecursion}
+use Rattle.codespan_base.specs.Labels.{Labelled, stands_before, put_in, sorted}
+use Rattle.codespan_laws.proofs.SortedLists.{Rises, all-weaker, filter-nothing}
+
+-- ---- the order
+
+-- the label has this range
+abbrev pub has_range : ℕ → ℕ → Labelled → Bool
+has_range start end x = (x.start == start) && (x.end == end)
+
+-- of two labels one stands before the other at most
+before_one_way : (x y : Labelled) → stands_before x y ≡ true → stands_before y x ≡ false
+before_one_way x y h = grind (arith, nat_tests)
+
+-- no label stands before itself
+not_before_itself : (x : Labelled) → stands_before x x ≡ false
+not_before_itself x = false_from_ne_true (stands_before x x) (λ t. both_ways (stands_before x x) (before_one_way x x t) t)
+
+-- what does not stand before the second does not stand before a third that the second does not stand before
+before_chain : (x y z : Labelled) → stands_before x y ≡ false → stands_before y z ≡ false → stands_before x z ≡ false
+before_chain x y z h k = grind (arith, nat_tests)
+
+-- labels have one range where neither stands before the other
+one_range : (x y : Labelled) → stands_before x y ≡ false → stands_before y x ≡ false → has_range x.start x.end y ≡ true
+one_range x y h k = grind (arith, nat_tests)
+
+-- a label has its own range
+own_range : (x : Labelled) → has_range x.start x.end x ≡ true
+own_range x = rw (eq-eqb x.start x.start refl, eq-eqb x.end x.end refl) refl
+
+-- a label that stands before another has not its range
+apart : (start end : ℕ) (x y : Labelled) → stands_before x y ≡ true → has_range start end x ≡ true → has_range start end y ≡ false
+apart start end x y h k = grind (arith, nat_tests)
+
+-- labels of one range stand before the same labels
+before_alike : (x y z : Labelled) → has_range x.start x.end y ≡ true → stands_before x z ≡ true → stands_before y z ≡ true
+before_alike x y z h k = grind (arith, nat_tests)
+
+-- ---- a label put in its place
+
+-- of the labels of one range the one that is put in stands first
+put_in-keeps : (start end : ℕ) (x : Labelled) (ys : List Labelled) → filter (has_range start end) (put_in x ys) ≡ filter (has_range start end) (x ∷ ys)
+put_in-keeps start end x [] = refl
+put_in-keeps start end x (y ∷ ys) =
+    ⊎_elim
+    (λ (t : stands_before y x ≡ true). ⊎_elim
+    (λ (u : has_range start end y ≡ true). let v : has_range start end x ≡ false = apart start end y x t u in
+    rw (t, put_in-keeps start end x ys, u, v) refl)
+    (λ (u : has_range start end y ≡ false). rw (t, put_in-keeps start end x ys, u) refl)
+    (cases_Bool (has_range start end y)))
+    (λ (t : stands_before y x ≡ false). rw t refl)
+    (cases_Bool (stands_before y x))
+
+-- the labels of one range stay in order
+pub sorted-keeps : (start end : ℕ) (xs : List Labelled) → filter (has_range start end) (sorted xs) ≡ filter (has_range start end) xs
+sorted-keeps start end [] = refl
+sorted-keeps start end (x ∷ xs) =
+    put_in-keeps start end x (sorted xs) ∙ ap (λ (ys : List Labelled). cond (has_range start end x) (x ∷ ys) ys) (sorted-keeps start end xs)
+
+-- ---- labels in order
+
+-- no label stands before an earlier one
+abbrev pub Ascends : List Labelled → Type 0
+Ascends = Rises stands_before
+
+-- it holds of the label that is put in and of the others
+each-put_in : (P : Labelled → Type 0) (x : Labelled) (ys : List Labelled) → P x → AllByRecursion P ys → AllByRecursion P (put_in x ys)
+each-put_in P x [] h k = (h, tt)
+each-put_in P x (y ∷ ys) h k =
+    cond_both (stands_before y x) (y ∷ put_in x ys) (x ∷ y ∷ ys) (AllByRecursion P) (λ _. (k.0, each-put_in P x ys h k.1)) (λ _. (h, k))
+
+-- labels in order stay so where one is put in
+put_in-ascends : (x : Labelled) (ys : List Labelled) → Ascends ys → Ascends (put_in x ys)
+put_in-ascends x [] h = (tt, tt)
+put_in-ascends x (y ∷ ys) h =
+    cond_both (stands_before y x) (y ∷ put_in x ys) (x ∷ y ∷ ys) Ascends
+    (λ t. (each-put_in (λ z. stands_before z y ≡ false) x ys (before_one_way y x t) h.0, put_in-ascends x ys h.1))
+    (λ t. ((t, all-weaker (λ z. stands_before z y ≡ false) (λ z. stands_before z x ≡ false) (λ z k. before_chain z y x k t) ys h.0), h))
+
+-- sorted labels are in order
+pub sorted-ascends : (xs : List Labelled) → Ascends (sorted xs)
+sorted-ascends [] = tt
+sorted-ascends (x ∷ xs) = put_in-ascends x (sorted xs) (sorted-ascends xs)
+
+-- ---- labels in order are fixed by those of each range
+
+-- a label that stands before the first one has a range that none of them has
+none_of_range : (x y : Labelled) (ys : List Labelled) → stands_before x y ≡ true → AllByRecursion (λ z. stands_before z y ≡ false) ys
+    → AllByRecursion (λ z. has_range x.start x.end z ≡ false) ys
+none_of_range x y ys h k = all-weaker (λ z. stands_before z y ≡ false) (λ z. has_range x.start x.end z ≡ false)
+    (λ z e. false_from_ne_true (has_range x.start x.end z) (λ t. both_ways (stands_before z y) e (before_alike x z y t h))) ys k
+
+-- of the labels of a label's range it is the first
+own_first : (x : Labelled) (xs : List Labelled) → filter (has_range x.start x.end) (x ∷ xs) ≡ x ∷ filter (has_range x.start x.end) xs
+own_first x xs = rw (own_range x) refl
+
+-- a label whose range one of the list has does not stand before the first of them
+not_before : (x y : Labelled) (xs ys : List Labelled) → AllByRecursion (λ z. stands_before z y ≡ false) ys
+    → filter (has_range x.start x.end) (x ∷ xs) ≡ filter (has_range x.start x.end) (y ∷ ys) → stands_before x y ≡ false
+not_before x y xs ys h same = false_from_ne_true (stands_before x y)
+    (λ t. some (sym (own_first x xs) ∙ same ∙ filter-nothing (has_range x.start x.end) (y ∷ ys) (none_of_range x y (y ∷ ys) t (not_before_itself y, h))))
+  where
+    some : x ∷ filter (has_range x.start x.end) xs ≡ [] → ⊥
+    some e = cc
+
+-- the same labels of each range, in order
+abbrev pub SameRanges : List Labelled → List Labelled → Type 0
+SameRanges xs ys = (start end : ℕ) → filter (has_range start end) xs ≡ filter (has_range start end) ys
+
+-- what is left after the first label
+same-rest : (x : Labelled) (xs ys : List Labelled) → SameRanges (x ∷ xs) (x ∷ ys) → SameRanges xs ys
+same-rest x xs ys same start end = by_test (has_range start end x) (same start end)
+  where
+    by_test : (b : Bool) → cond b (x ∷ filter (has_range start end) xs) (filter (has_range start end) xs)
+        ≡ cond b (x ∷ filter (has_range start end) ys) (filter (has_range start end) ys)
+        → filter (has_range start end) xs ≡ filter (has_range start end) ys
+    by_test true e = cc
+    by_test false e = e
+
+-- labels in order are one list where those of each range are
+pub ascending-same : (xs ys : List Labelled) → Ascends xs → Ascends ys → SameRanges xs ys → xs ≡ ys
+ascending-same [] [] a b same = refl
+ascending-same [] (y ∷ ys) a b same = let e = same y.start y.end ∙ own_first y ys in cc
+ascending-same (x ∷ xs) [] a b same = let e = sym (own_first x xs) ∙ same x.start x.end in cc
+ascending-same (x ∷ xs) (y ∷ ys) a b same =
+    let xy : stands_before x y ≡ false = not_before x y xs ys b.0 (same x.start x.end) in
+    let yx : stands_before y x ≡ false = not_before y x ys xs a.0 (sym (same y.start y.end)) in
+    let other : filter (has_range x.start x.end) (y ∷ ys) ≡ y ∷ filter (has_range x.start x.end) ys = rw (one_range x y xy yx) refl in
+    let both : x ∷ filter (has_range x.start x.end) xs ≡ y ∷ filter (has_range x.start x.end) ys = sym (own_first x xs) ∙ same x.start x.end ∙ other in
+    let head : x ≡ y = cc in
+    let rest : SameRanges (x ∷ xs) (x ∷ ys) = λ start end. same start end ∙ ap (λ z. filter (has_range start end) (z ∷ ys)) (sym head) in
+    let tail : xs ≡ ys = ascending-same xs ys a.1 b.1 (same-rest x xs ys rest) in
+    cc
+
+-- the order of labels by their ranges rests on the order of those of each range alone
+pub sorted-same : (xs ys : List Labelled) → SameRanges xs ys → sorted xs ≡ sorted ys
+sorted-same xs ys same = ascending-same (sorted xs) (sorted ys) (sorted-ascends xs) (sorted-ascends ys)
+    (λ start end. sorted-keeps start end xs ∙ same start end ∙ sym (sorted-keeps start end ys))

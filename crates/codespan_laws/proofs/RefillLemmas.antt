@@ -1,0 +1,254 @@
+-- Other messages in the labels change only the messages in a row.
+use Rattle.std.proofs.Common.{◌≡◌, ℕ, max, Bool, true, false, not, cond, ◌&&◌, ◌||◌, ◌==◌, nat_lt, List, [], ◌∷◌, ◌++◌, map, filter, fold, find, flat_map, Option, Some, None, option_map, if◌then◌else◌, refl, sym, ap, ap₂, ◌∙◌}
+use mathlib.Core.Path.{fun_ext}
+use Rattle.std.specs.List.{list_any, range_with_len}
+use Rattle.codespan_base.specs.declared.diagnostic.LabelStyle.{LabelStyle}
+use Rattle.codespan_base.specs.declared.diagnostic.LabelStyle.TheVariants.{Primary, Secondary}
+use Rattle.codespan_base.specs.Streams.{Stream}
+use Rattle.codespan_base.specs.Labels.{Labelled, has_message, is_blank, is_primary, is_primary_style, LaneMark, Part, Top, Left, Bottom}
+use Rattle.codespan_picture.specs.declared.cells.Cell.{Cell}
+use Rattle.codespan_picture.specs.Carets.{style_under, covers, greatest_end, do_overlap}
+use Rattle.codespan_picture.specs.declared.lanes.Shape.{Shape}
+use Rattle.codespan_picture.specs.declared.lanes.Shape.TheVariants.{Gap, Bar, TopCorner, BottomCorner}
+use Rattle.codespan_picture.specs.Lanes.{source_shape, plain_shape, below_shape, underline_shape, mark_in, corner_line, filling, lane_cells}
+use Rattle.codespan_picture.specs.Rows.{Look, Lanes, Line, Around, others, behind, last_with_end, does_trail, rightmost, trailing_of, hanging_of, trailing, hanging}
+use Rattle.codespan_picture.specs.RowParts.{styled, lane_of, lanes_in, source_lanes, plain_lanes, below_lanes, underline_lanes, line_cells, takes_in, source_style, source_glyph, coloured_text, caret_glyphs, carets, pointer_style, pointer_at, pointers, starts_in, greatest_start}
+
+-- ---- lists
+
+pub any-map : {X Y : Type 0} (p : Y → Bool) (f : X → Y) (xs : List X) → list_any p (map f xs) ≡ list_any (λ x. p (f x)) xs
+any-map p f [] = refl
+any-map p f (x ∷ xs) = ap (λ b. p (f x) || b) (any-map p f xs)
+
+pub fold-map : {A X Y : Type 0} (g : A → Y → A) (f : X → Y) (a : A) (xs : List X) → fold g a (map f xs) ≡ fold (λ b x. g b (f x)) a xs
+fold-map g f a [] = refl
+fold-map g f a (x ∷ xs) = fold-map g f (g a (f x)) xs
+
+pub filter-map : {X Y : Type 0} (p : Y → Bool) (f : X → Y) (xs : List X) → filter p (map f xs) ≡ map f (filter (λ x. p (f x)) xs)
+filter-map p f [] = refl
+filter-map p f (x ∷ xs) = by_test (filter-map p f xs) (p (f x))
+  where
+    by_test : filter p (map f xs) ≡ map f (filter (λ x. p (f x)) xs) → (b : Bool)
+        → cond b (f x ∷ filter p (map f xs)) (filter p (map f xs)) ≡ map f (cond b (x ∷ filter (λ x. p (f x)) xs) (filter (λ x. p (f x)) xs))
+    by_test rest true = ap (λ ys. f x ∷ ys) rest
+    by_test rest false = rest
+
+pub find-map : {X Y : Type 0} (p : Y → Bool) (f : X → Y) (xs : List X) → find p (map f xs) ≡ option_map f (find (λ x. p (f x)) xs)
+find-map p f [] = refl
+find-map p f (x ∷ xs) = by_test (find-map p f xs) (p (f x))
+  where
+    by_test : find p (map f xs) ≡ option_map f (find (λ x. p (f x)) xs) → (b : Bool)
+        → cond b (Some (f x)) (find p (map f xs)) ≡ option_map f (cond b (Some x) (find (λ x. p (f x)) xs))
+    by_test rest true = refl
+    by_test rest false = rest
+
+pub map-append' : {X Y : Type 0} (f : X → Y) (xs ys : List X) → map f (xs ++ ys) ≡ map f xs ++ map f ys
+map-append' f [] ys = refl
+map-append' f (x ∷ xs) ys = ap (λ zs. f x ∷ zs) (map-append' f xs ys)
+
+-- ---- other messages
+
+abbrev pub re_part : (Stream → Stream) → Part → Part
+re_part φ (Top start) = Top start
+re_part φ Left = Left
+re_part φ (Bottom end message) = Bottom end (φ message)
+
+abbrev pub re : (Stream → Stream) → Labelled → Labelled
+re φ x = record x { message = φ x.message }
+
+abbrev pub re_mark : (Stream → Stream) → LaneMark → LaneMark
+re_mark φ m = record m { part = re_part φ m.part }
+
+abbrev pub re_lanes : (Stream → Stream) → Lanes → Lanes
+re_lanes φ lanes = record lanes { marks = map (re_mark φ) lanes.marks }
+
+abbrev pub re_line : (Stream → Stream) → Line → Line
+re_line φ line = record line { labels = map (re φ) line.labels; lanes = re_lanes φ line.lanes }
+
+abbrev pub re_around : (Stream → Stream) → Around → Around
+re_around φ a = record { before = map (re φ) a.before; here = re φ a.here; after = map (re φ) a.after }
+
+module _ (φ : Stream → Stream) (keeps : (s : Stream) → is_blank (φ s) ≡ is_blank s) where
+  -- ---- trailing and hanging
+
+  pub kept_message : (x : Labelled) → has_message (re φ x) ≡ has_message x
+  kept_message x = ap not (keeps x.message)
+
+  greatest : (labels : List Labelled) → greatest_end (map (re φ) labels) ≡ greatest_end labels
+  greatest labels = fold-map (λ m (x : Labelled). max m x.end) (re φ) 0 labels
+
+  around : (end : ℕ) (xs : List Labelled) → last_with_end end (map (re φ) xs) ≡ option_map (re_around φ) (last_with_end end xs)
+  around end [] = refl
+  around end (x ∷ xs) = by_rest (last_with_end end xs) (x.end == end) (around end xs)
+    where
+      by_rest : (rest : Option Around) (b : Bool) → last_with_end end (map (re φ) xs) ≡ option_map (re_around φ) rest
+          → behind (re φ x) (last_with_end end (map (re φ) xs)) (if b then Some (record { before = []; here = re φ x; after = map (re φ) xs }) else None)
+          ≡ option_map (re_around φ) (behind x rest (if b then Some (record { before = []; here = x; after = xs }) else None))
+      by_rest None true e = rw e refl
+      by_rest None false e = rw e refl
+      by_rest (Some a) b e = rw e refl
+
+  others-re : (a : Around) → others (re_around φ a) ≡ map (re φ) (others a)
+  others-re a = sym (map-append' (re φ) a.before a.after)
+
+  trails : (a : Around) → does_trail (re_around φ a) ≡ does_trail a
+  trails a =
+      ap₂ (λ b c. b && not c) (kept_message a.here)
+      (ap (list_any (λ (x : Labelled). do_overlap a.here.start a.here.end x.start x.end)) (others-re a)
+      ∙ any-map (λ (x : Labelled). do_overlap a.here.start a.here.end x.start x.end) (re φ) (others a))
+
+  rightmost-re : (labels : List Labelled) → rightmost (map (re φ) labels) ≡ option_map (re_around φ) (rightmost labels)
+  rightmost-re labels = ap (λ e. last_with_end e (map (re φ) labels)) (greatest labels) ∙ around (greatest_end labels) labels
+
+  pub trailing-re : (labels : List Labelled) → trailing (map (re φ) labels) ≡ option_map (re φ) (trailing labels)
+  trailing-re labels = ap trailing_of (rightmost-re labels) ∙ by_around (rightmost labels)
+    where
+      by_around : (r : Option Around) → trailing_of (option_map (re_around φ) r) ≡ option_map (re φ) (trailing_of r)
+      by_around None = refl
+      by_around (Some a) = ap (λ b. if b then Some (re φ a.here) else None) (trails a) ∙ by_test (does_trail a)
+        where
+          by_test : (b : Bool) → (if b then Some (re φ a.here) else None) ≡ option_map (re φ) (if b then Some a.here else None)
+          by_test true = refl
+          by_test false = refl
+
+  with_message : (xs : List Labelled) → filter has_message (map (re φ) xs) ≡ map (re φ) (filter has_message xs)
+  with_message xs = filter-map has_message (re φ) xs ∙ ap (λ p. map (re φ) (filter p xs)) (fun_ext kept_message)
+
+  pub hanging-re : (labels : List Labelled) → hanging (map (re φ) labels) ≡ map (re φ) (hanging labels)
+  hanging-re labels = ap (hanging_of (map (re φ) labels)) (rightmost-re labels) ∙ by_around (rightmost labels)
+    where
+      by_around : (r : Option Around) → hanging_of (map (re φ) labels) (option_map (re_around φ) r) ≡ map (re φ) (hanging_of labels r)
+      by_around None = refl
+      by_around (Some a) =
+          ap₂ (λ b xs. filter has_message (if b then xs else map (re φ) labels)) (trails a) (others-re a) ∙ by_test (does_trail a)
+        where
+          by_test : (b : Bool) → filter has_message (if b then map (re φ) (others a) else map (re φ) labels) ≡ map (re φ) (filter has_message (if b then others a else labels))
+          by_test true = with_message (others a)
+          by_test false = with_message labels
+
+  -- ---- lanes
+
+  corner : (chars : _) (part : Part) → corner_line chars (re_part φ part) ≡ corner_line chars part
+  corner chars (Top start) = refl
+  corner chars Left = refl
+  corner chars (Bottom end message) = refl
+
+  pub filling-re : (severity : _) (chars : _) (m : Option LaneMark) (n : ℕ) → filling severity chars (option_map (re_mark φ) m) n ≡ filling severity chars m n
+  unfolding filling
+  filling-re severity chars None n = refl
+  filling-re severity chars (Some m) n = simp (corner chars m.part)
+
+  cells-re : (severity : _) (chars : _) (m : Option LaneMark) (style : LabelStyle) (shape : Shape)
+      → lane_cells severity chars (option_map (re_mark φ) m) style shape ≡ lane_cells severity chars m style shape
+  unfolding lane_cells
+  cells-re severity chars m style Gap = filling-re severity chars m 2
+  cells-re severity chars m style Bar = simp (filling-re severity chars m 1)
+  cells-re severity chars m style TopCorner = simp (filling-re severity chars m 1)
+  cells-re severity chars m style BottomCorner = simp (filling-re severity chars m 1)
+
+  lane-re : (look : Look) (c m : Option LaneMark) (shape : Part → Shape) → ((part : Part) → shape (re_part φ part) ≡ shape part)
+      → lane_of look (option_map (re_mark φ) c) shape (option_map (re_mark φ) m) ≡ lane_of look c shape m
+  unfolding lane_of
+  lane-re look c None shape h = cells-re look.severity look.chars c Primary _
+  lane-re look c (Some m) shape h = simp (h m.part) (cells-re look.severity look.chars c m.style (shape m.part))
+
+  lanes-re : (look : Look) (crossing crossing' : ℕ → Option LaneMark) (shape : ℕ → Part → Shape) (lanes : Lanes)
+      → ((lane : ℕ) → crossing' lane ≡ option_map (re_mark φ) (crossing lane))
+      → ((lane : ℕ) (part : Part) → shape lane (re_part φ part) ≡ shape lane part)
+      → lanes_in look crossing' shape (re_lanes φ lanes) ≡ lanes_in look crossing shape lanes
+  lanes-re look crossing crossing' shape lanes h same =
+      ap (λ f. flat_map f (range_with_len 0 lanes.count)) (fun_ext each)
+    where
+      each : (lane : ℕ) → lane_of look (crossing' lane) (shape lane) (mark_in (map (re_mark φ) lanes.marks) lane) ≡ lane_of look (crossing lane) (shape lane) (mark_in lanes.marks lane)
+      each lane =
+          ap₂ (λ c m. lane_of look c (shape lane) m) (h lane) (find-map (λ (m : LaneMark). m.lane == lane) (re_mark φ) lanes.marks)
+          ∙ lane-re look (crossing lane) (mark_in lanes.marks lane) (shape lane) (same lane)
+
+  source_shape-re : (leading : ℕ) (part : Part) → source_shape leading (re_part φ part) ≡ source_shape leading part
+  source_shape-re leading (Top start) = refl
+  source_shape-re leading Left = refl
+  source_shape-re leading (Bottom end message) = refl
+
+  plain_shape-re : (part : Part) → plain_shape (re_part φ part) ≡ plain_shape part
+  plain_shape-re (Top start) = refl
+  plain_shape-re Left = refl
+  plain_shape-re (Bottom end message) = refl
+
+  below_shape-re : (layout : _) (leading : ℕ) (part : Part) → below_shape layout leading (re_part φ part) ≡ below_shape layout leading part
+  below_shape-re layout leading (Top start) = refl
+  below_shape-re layout leading Left = refl
+  below_shape-re layout leading (Bottom end message) = refl
+
+  underline_shape-re : (layout : _) (leading turning lane : ℕ) (part : Part)
+      → underline_shape layout leading turning lane (re_part φ part) ≡ underline_shape layout leading turning lane part
+  underline_shape-re layout leading turning lane (Top start) = refl
+  underline_shape-re layout leading turning lane Left = refl
+  underline_shape-re layout leading turning lane (Bottom end message) = refl
+
+  pub source_lanes-re : (look : Look) (leading : ℕ) (lanes : Lanes) → source_lanes look leading (re_lanes φ lanes) ≡ source_lanes look leading lanes
+  unfolding source_lanes
+  source_lanes-re look leading lanes = lanes-re look (λ _. None) (λ _. None) (λ _. source_shape leading) lanes (λ _. refl) (λ _. source_shape-re leading)
+
+  pub plain_lanes-re : (look : Look) (lanes : Lanes) → plain_lanes look (re_lanes φ lanes) ≡ plain_lanes look lanes
+  unfolding plain_lanes
+  plain_lanes-re look lanes = lanes-re look (λ _. None) (λ _. None) (λ _. plain_shape) lanes (λ _. refl) (λ _. plain_shape-re)
+
+  pub below_lanes-re : (look : Look) (leading : ℕ) (lanes : Lanes) → below_lanes look leading (re_lanes φ lanes) ≡ below_lanes look leading lanes
+  unfolding below_lanes
+  below_lanes-re look leading lanes = lanes-re look (λ _. None) (λ _. None) (λ _. below_shape look.layout leading) lanes (λ _. refl) (λ _. below_shape-re look.layout leading)
+
+  pub underline_lanes-re : (look : Look) (leading : ℕ) (m : LaneMark) (lanes : Lanes)
+      → underline_lanes look leading (re_mark φ m) (re_lanes φ lanes) ≡ underline_lanes look leading m lanes
+  unfolding underline_lanes
+  underline_lanes-re look leading m lanes =
+      lanes-re look (λ lane. if nat_lt m.lane lane then Some m else None) (λ lane. if nat_lt m.lane lane then Some (re_mark φ m) else None)
+      (underline_shape look.layout leading m.lane) lanes (λ lane. by_test (nat_lt m.lane lane)) (underline_shape-re look.layout leading m.lane)
+    where
+      by_test : (b : Bool) → (if b then Some (re_mark φ m) else None) ≡ option_map (re_mark φ) (if b then Some m else None)
+      by_test true = refl
+      by_test false = refl
+
+  -- ---- text, carets and pointers
+
+  takes_in-re : (c : Cell) (part : Part) → takes_in c (re_part φ part) ≡ takes_in c part
+  takes_in-re c (Top start) = refl
+  takes_in-re c Left = refl
+  takes_in-re c (Bottom end message) = refl
+
+  source_style-re : (line : Line) (c : Cell) → source_style (re_line φ line) c ≡ source_style line c
+  source_style-re line c =
+      ap₂ (λ a b. if a || b then Some Primary else None)
+      (any-map (λ x. is_primary x && covers x c) (re φ) line.labels)
+      (any-map (λ (m : LaneMark). is_primary_style m.style && takes_in c m.part) (re_mark φ) line.lanes.marks
+      ∙ ap (λ p. list_any p line.lanes.marks) (fun_ext (λ (m : LaneMark). ap (λ b. is_primary_style m.style && b) (takes_in-re c m.part))))
+
+  pub coloured_text-re : (look : Look) (line : Line) → coloured_text look (re_line φ line) ≡ coloured_text look line
+  unfolding coloured_text
+  coloured_text-re look line = ap (λ style. styled look.severity style source_glyph None (line_cells look line)) (fun_ext (source_style-re line))
+
+  style_under-re : (labels : List Labelled) (c : Cell) → style_under (map (re φ) labels) c ≡ style_under labels c
+  style_under-re labels c =
+      ap₂ (λ a b. if a then Some Primary else if b then Some Secondary else None)
+      (any-map (λ x. is_primary x && covers x c) (re φ) labels)
+      (any-map (λ x. covers x c) (re φ) labels)
+
+  pub carets-re : (look : Look) (labels : List Labelled) (cs : List Cell) → carets look (map (re φ) labels) cs ≡ carets look labels cs
+  unfolding carets
+  carets-re look labels cs =
+      ap₂ (λ style end. styled look.severity style (λ c. caret_glyphs look.chars end (style c) c) None cs) (fun_ext (style_under-re labels)) (greatest labels)
+
+  greatest_start-re : (labels : List Labelled) → greatest_start (map (re φ) labels) ≡ greatest_start labels
+  greatest_start-re labels = fold-map (λ m (x : Labelled). max m x.start) (re φ) 0 labels
+
+  pointer_style-re : (labels : List Labelled) (c : Cell) → pointer_style (map (re φ) labels) c ≡ pointer_style labels c
+  pointer_style-re labels c = ap (λ b. if b then Primary else Secondary) (any-map (λ x. is_primary x && starts_in c x) (re φ) labels)
+
+  pointer_at-re : (look : Look) (labels hangs : List Labelled) (c : Cell) → pointer_at look (map (re φ) labels) (map (re φ) hangs) c ≡ pointer_at look labels hangs c
+  unfolding pointer_at
+  pointer_at-re look labels hangs c = rw (any-map (starts_in c) (re φ) hangs, pointer_style-re hangs c, greatest_start-re labels)
+
+  pub pointers-re : (look : Look) (labels : List Labelled) (cs : List Cell) → pointers look (map (re φ) labels) cs ≡ pointers look labels cs
+  unfolding pointers
+  pointers-re look labels cs =
+      ap (λ hangs. flat_map (pointer_at look (map (re φ) labels) hangs) cs) (hanging-re labels)
+      ∙ ap (λ f. flat_map f cs) (fun_ext (pointer_at-re look labels (hanging labels)))

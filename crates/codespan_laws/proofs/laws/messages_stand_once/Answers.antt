@@ -1,0 +1,5 @@
+use Rattle.codespan_laws.proofs.MessagesOnce as messages
+use Rattle.codespan_laws.proofs.laws.messages_stand_once.Goals as goal
+
+pub returns : goal.returns
+returns g c = λ renderer view same file d. messages.messages_stand_once renderer view same file d

@@ -1,0 +1,35 @@
+-- what stands below: files, labels, streams, writers, tables
+pub use Rattle.codespan_base.specs.FileModel
+pub use Rattle.codespan_base.specs.SimpleModel
+pub use Rattle.codespan_base.specs.MappedModel
+pub use Rattle.codespan_base.specs.Labels
+pub use Rattle.codespan_base.specs.Streams
+pub use Rattle.codespan_base.specs.WriterLaw
+pub use Rattle.codespan_base.specs.Errors
+pub use Rattle.codespan_base.specs.Characters
+pub use Rattle.codespan_base.specs.Defaults
+pub use Rattle.codespan_base.specs.StyleTables
+pub use Rattle.codespan_base.specs.Ansi
+-- the picture
+pub use Rattle.codespan_picture.specs.Widths
+pub use Rattle.codespan_picture.specs.Cells
+pub use Rattle.codespan_picture.specs.Carets
+pub use Rattle.codespan_picture.specs.Lanes
+pub use Rattle.codespan_picture.specs.Rows
+pub use Rattle.codespan_picture.specs.RowParts
+pub use Rattle.codespan_picture.specs.RowStreams
+pub use Rattle.codespan_picture.specs.Lines
+pub use Rattle.codespan_picture.specs.Snippets
+pub use Rattle.codespan_picture.specs.Padding
+pub use Rattle.codespan_picture.specs.Picture
+pub use Rattle.codespan_picture.specs.Lookups
+pub use Rattle.codespan_picture.specs.Given
+-- what a picture means
+pub mod CaretLaws
+pub mod LaneLaws
+pub mod LineLaws
+pub mod MessageLaws
+pub mod OrderLaws
+pub mod PaddingLaws
+pub mod RowLaws
+pub mod Meanings

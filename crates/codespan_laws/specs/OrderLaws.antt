@@ -1,0 +1,37 @@
+-- The law of the order of labels: which orders a rich picture shows.
+use Rattle.std.specs.Prelude.{◌≡◌, ℕ, Bool, true, not, ◌&&◌, ◌==◌, List, map, filter}
+use Rattle.std.specs.Cmp.{IsEquivalence}
+use Rattle.std.specs.Cmp.Lexicographic.{pointwise}
+use Rattle.codespan_base.specs.declared.term.config.Config.{Config}
+use Rattle.codespan_base.specs.FileModel.{FileModel}
+use Rattle.codespan_base.specs.Labels.{Labelled, is_single, first_line, first_seen, drawn_label}
+use Rattle.codespan_picture.specs.Rows.{Heading}
+use Rattle.codespan_base.specs.declared.diagnostic.Severity.{Severity}
+use Rattle.codespan_picture.specs.Snippets.{InFile, labelled_file, labelled_files}
+use Rattle.codespan_picture.specs.Picture.{rich_stream}
+
+-- the label has this drawn range
+abbrev pub is_drawn_at : FileModel → ℕ → ℕ → Labelled → Bool
+is_drawn_at f start end x = let drawn = drawn_label f x in (drawn.start == start) && (drawn.end == end)
+
+-- the labels of a file that end on another line, in the order given
+abbrev pub several_lines_of : {Id : Type 0} → (Id → Id → Bool) → (Id → FileModel) → List (InFile Id) → Id → List Labelled
+several_lines_of same file xs id = filter (λ x. not (is_single (file id) x)) (labelled_file same file xs id).labels
+
+-- the labels of one line that have this drawn range, in the order given
+abbrev pub one_range_of : {Id : Type 0} → (Id → Id → Bool) → (Id → FileModel) → List (InFile Id) → Id → ℕ → ℕ → ℕ → List Labelled
+one_range_of same file xs id l start end =
+    filter (λ x. is_single (file id) x && (first_line (file id) x == l) && is_drawn_at (file id) start end x) (labelled_file same file xs id).labels
+
+-- the orders that a rich picture shows; the ids of the files need only be equal, one by one
+pub record SameOrders {Id : Type 0} (same : Id → Id → Bool) (file : Id → FileModel) (xs ys : List (InFile Id)) : Type 0 where
+  pub files : pointwise same (first_seen same (map (λ (x : InFile Id). x.id) xs)) (first_seen same (map (λ (x : InFile Id). x.id) ys)) ≡ true
+  pub several_lines : (id : Id) → several_lines_of same file xs id ≡ several_lines_of same file ys id
+  pub one_line : (id : Id) (l start end : ℕ) → one_range_of same file xs id l start end ≡ one_range_of same file ys id l start end
+
+-- where ids are equal as `Eq` says, and equal ids have one file, a reordering that keeps these orders changes nothing in a rich picture
+abbrev pub OrderIsFree : {Id : Type 0} → (Id → Id → Bool) → (Id → FileModel) → Type 0
+OrderIsFree {Id} same file = (xs ys : List (InFile Id)) (renderer view : Config) (severity : Severity) (heading : Heading) (notes : List (List ℕ))
+    → IsEquivalence same → ((i j : Id) → same i j ≡ true → file i ≡ file j) → SameOrders same file xs ys
+    → rich_stream renderer view severity heading (labelled_files same file xs) notes
+    ≡ rich_stream renderer view severity heading (labelled_files same file ys) notes

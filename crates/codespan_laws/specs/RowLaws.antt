@@ -1,0 +1,29 @@
+-- The laws of every row.
+use Rattle.std.specs.Prelude.{◌≡◌, Bool, true, false, [], ◌∷◌, IsTrue}
+use Rattle.codespan_base.specs.declared.term.config.chars.Chars.{Chars}
+use Rattle.codespan_base.specs.Streams.{Stream, StyleMark, Byte, Mark, Slot, Reset, row_length, character_count}
+use Rattle.codespan_base.specs.Characters.{start_text}
+use Rattle.codespan_picture.specs.Rows.{Look, Row}
+use Rattle.codespan_picture.specs.RowStreams.{stream_of}
+
+-- other characters, with a text before the locus of as many characters, change no row's number of characters
+abbrev pub CharactersAreFree : Type 0
+CharactersAreFree = (look : Look) (chars : Chars) (row : Row)
+    → character_count (start_text chars.snippet_start) ≡ character_count (start_text look.chars.snippet_start)
+    → row_length (stream_of (record look { chars = chars }) row) ≡ row_length (stream_of look row)
+
+-- the mark is a reset
+abbrev pub is_reset : StyleMark → Bool
+is_reset Reset = true
+is_reset _ = false
+
+-- the last mark of a stream, if it has one, is a reset; `closed` is what is told of one that has none
+abbrev pub ends_reset : Bool → Stream → Bool
+ends_reset closed [] = closed
+ends_reset closed (Mark m ∷ s) = ends_reset (is_reset m) s
+ends_reset closed (Byte b ∷ s) = ends_reset closed s
+ends_reset closed (Slot k ∷ s) = ends_reset closed s
+
+-- the last mark of a row, if it has one, is a reset
+abbrev pub RowsEndReset : Type 0
+RowsEndReset = (look : Look) (row : Row) → IsTrue (ends_reset true (stream_of look row))

@@ -1,0 +1,4 @@
+//! Laws of pictures.
+#![tactic(auto)]
+
+pub mod laws;

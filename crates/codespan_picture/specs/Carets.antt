@@ -1,0 +1,62 @@
+-- The carets under a line: which cells they take, and of which style they are.
+use Rattle.std.specs.Prelude.{ℕ, ◌+◌, max, min, Bool, ◌&&◌, nat_lt, nat_le, List, ◌∷◌, map, filter, fold, Option, Some, None, if◌then◌else◌, []}
+use Rattle.std.specs.List.{list_any, range_with_len}
+use Rattle.std.specs.Str.{chars}
+use Rattle.codespan_base.specs.declared.diagnostic.LabelStyle.{LabelStyle}
+use Rattle.codespan_base.specs.declared.diagnostic.LabelStyle.TheVariants.{Primary, Secondary}
+use Rattle.codespan_base.specs.declared.term.config.chars.Chars.{Chars}
+use Rattle.codespan_base.specs.Labels.{Labelled, is_primary}
+use Rattle.codespan_picture.specs.declared.cells.Cell.{Cell}
+use Rattle.codespan_picture.specs.Cells.{width_of}
+
+-- two ranges share a byte
+abbrev pub do_overlap : ℕ → ℕ → ℕ → ℕ → Bool
+do_overlap a b c d = nat_lt (max a c) (min b d)
+
+-- the label has a byte from `start` to `end`
+abbrev pub covers_part : Labelled → ℕ → ℕ → Bool
+covers_part x start end = do_overlap x.start x.end start end
+
+-- the label has a byte of the character
+abbrev pub covers : Labelled → Cell → Bool
+covers x c = covers_part x c.place (c.place + c.bytes)
+
+-- of the labels over some bytes a primary one goes first
+abbrev pub style_over : List Labelled → ℕ → ℕ → Option LabelStyle
+style_over labels start end =
+    if list_any (λ x. is_primary x && covers_part x start end) labels then Some Primary
+    else if list_any (λ x. covers_part x start end) labels then Some Secondary
+    else None
+
+-- the style under a character
+abbrev pub style_under : List Labelled → Cell → Option LabelStyle
+style_under labels c = style_over labels c.place (c.place + c.bytes)
+
+-- the greatest end of the labels, 0 where there is none
+abbrev pub greatest_end : List Labelled → ℕ
+greatest_end labels = fold (λ m (x : Labelled). max m x.end) 0 labels
+
+-- ---- the carets of cells
+
+-- the cell is one of the character
+abbrev pub owns : ℕ → Cell → Bool
+owns k c = nat_le c.column k && nat_lt k (c.column + c.width)
+
+-- the style of a cell is that of the labels over its owner
+abbrev pub style_at : List Labelled → List Cell → ℕ → Option LabelStyle
+style_at labels [] k = None
+style_at labels (c ∷ cs) k = if owns k c then style_under labels c else style_at labels cs k
+
+-- the caret of a style, and a blank for none
+abbrev pub caret_for : Chars → Option LabelStyle → ℕ
+caret_for chars None = 32
+caret_for chars (Some Primary) = chars.single_primary_caret
+caret_for chars (Some Secondary) = chars.single_secondary_caret
+
+-- the caret cells reach as far as the characters that begin before the greatest end
+abbrev pub caret_width : List Labelled → List Cell → ℕ
+caret_width labels cs = width_of (filter (λ (c : Cell). nat_lt c.place (greatest_end labels)) cs)
+
+-- the caret cells of a line
+abbrev pub caret_cells : Chars → List Labelled → List Cell → List ℕ
+caret_cells chars labels cs = map (λ k. caret_for chars (style_at labels cs k)) (range_with_len 0 (caret_width labels cs))

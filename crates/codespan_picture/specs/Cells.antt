@@ -1,0 +1,42 @@
+-- The characters of a drawn line and the cells that they own.
+use Rattle.std.specs.Prelude.{ℕ, ◌+◌, ◌-◌, Bool, ◌||◌, ◌==◌, List, ◌∷◌, length, sum_by, take, take_while, []}
+use Rattle.std.specs.List.{suffix_len}
+use Rattle.std.specs.Str.{chars}
+use Rattle.std.specs.Char.{len_utf8, is_whitespace}
+use Rattle.codespan_picture.specs.declared.cells.Cell.{Cell}
+use Rattle.codespan_picture.specs.Widths.{width_at}
+
+-- line feeds, carriage returns and NULs are not drawn at a line's end
+abbrev pub is_line_end : ℕ → Bool
+is_line_end b = (b == 10) || (b == 13) || (b == 0)
+
+-- the text of a line as it is drawn
+abbrev pub drawn_text : List ℕ → List ℕ
+drawn_text text = take (length text - suffix_len is_line_end text) text
+
+-- the cells of these characters from a place and a column on, and then those that `after` gives where they end
+abbrev pub cells_then : (ℕ → ℕ → List Cell) → ℕ → ℕ → ℕ → List ℕ → List Cell
+cells_then after tab place column [] = after place column
+cells_then after tab place column (c ∷ cs) =
+    record { code = c; place = place; bytes = len_utf8 c; column = column; width = width_at tab column c }
+    ∷ cells_then after tab (place + len_utf8 c) (column + width_at tab column c) cs
+
+-- the characters of a line with their cells
+abbrev pub cells : ℕ → List ℕ → List Cell
+cells tab line = cells_then (λ _ _. []) tab 0 0 (chars line)
+
+-- the place after the last character counts as one more, of one byte and one cell
+abbrev pub placeholder : ℕ → ℕ → List Cell
+placeholder place column = record { code = 32; place = place; bytes = 1; column = column; width = 1 } ∷ []
+
+-- the same, and the placeholder after the last one
+abbrev pub cells_to_end : ℕ → List ℕ → List Cell
+cells_to_end tab line = cells_then placeholder tab 0 0 (chars line)
+
+-- the widths of these characters together
+abbrev pub width_of : List Cell → ℕ
+width_of cs = sum_by (λ (c : Cell). c.width) cs
+
+-- the bytes of the white space that the line begins with
+abbrev pub leading_whitespace : List ℕ → ℕ
+leading_whitespace line = sum_by len_utf8 (take_while is_whitespace (chars line))

@@ -1,0 +1,112 @@
+-- What each lane shows in each kind of row.
+use Rattle.std.specs.Prelude.{ℕ, ◌+◌, Bool, true, false, ◌&&◌, ◌==◌, nat_lt, nat_le, List, [], ◌∷◌, ◌++◌, find, Option, Some, None, if◌then◌else◌}
+use Rattle.codespan_base.specs.declared.diagnostic.Severity.{Severity}
+use Rattle.codespan_base.specs.declared.diagnostic.LabelStyle.{LabelStyle}
+use Rattle.codespan_base.specs.declared.diagnostic.LabelStyle.TheVariants.{Primary}
+use Rattle.codespan_base.specs.declared.term.config.chars.Chars.{Chars}
+use Rattle.codespan_base.specs.declared.term.config.Layout.{Layout}
+use Rattle.codespan_base.specs.declared.term.config.Layout.TheVariants.{Classic, Unbroken}
+use Rattle.codespan_base.specs.Streams.{Stream, LabelMark, Reset, one_mark, glyph, blanks, repeated}
+use Rattle.codespan_picture.specs.declared.lanes.Shape.{Shape}
+use Rattle.codespan_picture.specs.declared.lanes.Shape.TheVariants.{Gap, Bar, TopCorner, BottomCorner}
+use Rattle.codespan_base.specs.Labels.{LaneMark, Part, Top, Left, Bottom}
+
+-- the lane begins, on a line whose text begins with so many bytes of white space, in the source row
+abbrev pub turns_early : ℕ → ℕ → Bool
+turns_early leading start = nat_le start leading
+
+-- what a mark shows in the source row
+abbrev pub source_shape : ℕ → Part → Shape
+source_shape leading (Top start) = if turns_early leading start then TopCorner else Gap
+source_shape leading _ = Bar
+
+-- what it shows in an empty row, and in a break row, which has the marks of the line after it
+abbrev pub plain_shape : Part → Shape
+plain_shape (Top start) = Gap
+plain_shape _ = Bar
+
+-- whether a lane goes on below its corner in a source row
+abbrev pub is_unbroken : Layout → Bool
+is_unbroken Classic = false
+is_unbroken Unbroken = true
+
+-- what it shows in the caret, pointer and hanging rows
+abbrev pub below_shape : Layout → ℕ → Part → Shape
+below_shape layout leading (Top start) = if is_unbroken layout && turns_early leading start then Bar else Gap
+below_shape layout leading _ = Bar
+
+-- what it shows in the underline row of the lane `turning`
+abbrev pub underline_shape : Layout → ℕ → ℕ → ℕ → Part → Shape
+underline_shape layout leading turning lane (Top start) =
+    if is_unbroken layout && turns_early leading start then Bar
+    else if lane == turning then TopCorner else if nat_lt lane turning then Bar else Gap
+underline_shape layout leading turning lane Left = Bar
+underline_shape layout leading turning lane (Bottom end message) =
+    if lane == turning then BottomCorner else if nat_lt lane turning then Gap else Bar
+
+-- a kind of row, as far as its lanes go: a source row; an empty or a break row; a caret, pointer or hanging row; the underline row of a mark
+pub data LaneRow : Type 0 where
+  Source : LaneRow
+  Plain : LaneRow
+  Below : LaneRow
+  Underline : LaneMark → LaneRow
+
+-- the table of lanes: what a mark shows in a kind of row
+abbrev pub row_shape : Layout → ℕ → LaneRow → ℕ → Part → Shape
+row_shape layout leading Source lane = source_shape leading
+row_shape layout leading Plain lane = plain_shape
+row_shape layout leading Below lane = below_shape layout leading
+row_shape layout leading (Underline m) lane = underline_shape layout leading m.lane lane
+
+-- the mark, in its own underline row, whose corner stands left of the lane
+abbrev pub row_crossing : LaneRow → ℕ → Option LaneMark
+row_crossing (Underline m) lane = if nat_lt m.lane lane then Some m else None
+row_crossing _ lane = None
+
+-- ---- the marks of a row
+
+-- the mark that the line has in a lane
+abbrev pub mark_in : List LaneMark → ℕ → Option LaneMark
+mark_in marks lane = find (λ (m : LaneMark). m.lane == lane) marks
+
+-- what a row shows in a lane, from the mark in it
+abbrev pub shape_of : (Part → Shape) → Option LaneMark → Shape
+shape_of shape None = Gap
+shape_of shape (Some m) = shape m.part
+
+-- the style of a mark, primary where there is none
+abbrev pub style_of_mark : Option LaneMark → LabelStyle
+style_of_mark None = Primary
+style_of_mark (Some m) = m.style
+
+-- the lanes ascend strictly from `least` on and stay below their number
+abbrev pub ascend_from : ℕ → ℕ → List LaneMark → Bool
+ascend_from count least [] = true
+ascend_from count least (m ∷ ms) = nat_le least m.lane && nat_lt m.lane count && ascend_from count (m.lane + 1) ms
+
+-- ---- their characters
+
+-- the line that runs right from a corner
+abbrev pub corner_line : Chars → Part → ℕ
+corner_line chars (Top start) = chars.multi_top
+corner_line chars _ = chars.multi_bottom
+
+-- one character in a label's style
+unfoldable pub label_glyph : Severity → LabelStyle → ℕ → Stream
+label_glyph severity style c = one_mark (LabelMark severity style) ++ glyph c ++ one_mark Reset
+
+-- a lane's part before its own character: blanks, or the line of a corner that stands to the left
+unfoldable pub filling : Severity → Chars → Option LaneMark → ℕ → Stream
+filling severity chars None n = blanks n
+filling severity chars (Some m) n =
+    one_mark (LabelMark severity m.style) ++ repeated n (corner_line chars m.part) ++ one_mark Reset
+
+-- the two characters of a lane; `crossing` is the mark, in its own underline row, whose corner stands left of the lane
+unfoldable pub lane_cells : Severity → Chars → Option LaneMark → LabelStyle → Shape → Stream
+lane_cells severity chars crossing style Gap = filling severity chars crossing 2
+lane_cells severity chars crossing style Bar =
+    filling severity chars crossing 1 ++ label_glyph severity style chars.multi_left
+lane_cells severity chars crossing style TopCorner =
+    filling severity chars crossing 1 ++ label_glyph severity style chars.multi_top_left
+lane_cells severity chars crossing style BottomCorner =
+    filling severity chars crossing 1 ++ label_glyph severity style chars.multi_bottom_left

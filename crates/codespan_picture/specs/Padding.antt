@@ -1,0 +1,42 @@
+-- How much room the line numbers of a picture have.
+use Rattle.std.specs.Prelude.{ℕ, Bool, ◌&&◌, ◌||◌, ◌==◌, nat_le, max, List, map, filter, fold, flat_map, length, decimal}
+use Rattle.std.specs.List.{list_any, range_with_len}
+use Rattle.codespan_base.specs.declared.term.config.Config.{Config}
+use Rattle.codespan_base.specs.FileModel.{FileModel, line_count}
+use Rattle.codespan_base.specs.Labels.{Labelled, first_line, last_line}
+use Rattle.codespan_picture.specs.Lines.{drawn_lines}
+use Rattle.codespan_base.specs.declared.term.config.Layout.{Layout}
+use Rattle.codespan_base.specs.declared.term.config.Layout.TheVariants.{Classic, Unbroken}
+use Rattle.codespan_picture.specs.Snippets.{LabelledFile}
+
+-- how many digits a number has; 0 has one
+abbrev pub digit_count : ℕ → ℕ
+digit_count n = length (decimal n)
+
+-- the line is one of these two, or stands between them
+abbrev pub spans_line : ℕ → ℕ → ℕ → Bool
+spans_line s e l = (l == s) || (l == e) || (nat_le s l && nat_le l e)
+
+-- the line is an end of the label or stands between its ends
+abbrev pub spans : FileModel → Labelled → ℕ → Bool
+spans f x l = spans_line (first_line f x) (last_line f x) l
+
+-- the lines of the labels
+abbrev pub spanned_lines : LabelledFile → List ℕ
+spanned_lines s = filter (λ l. list_any (λ x. spans s.file x l) s.labels) (range_with_len 0 (line_count s.file))
+
+-- the lines whose numbers the padding has room for: those of the labels, or, in the unbroken layout, those that are drawn
+abbrev pub numbered_lines : Config → LabelledFile → List ℕ
+numbered_lines config s = by_layout config.layout
+  where
+    by_layout : Layout → List ℕ
+    by_layout Classic = spanned_lines s
+    by_layout Unbroken = drawn_lines config s.file s.labels
+
+-- the digits of these lines' numbers
+abbrev pub digits_of : LabelledFile → List ℕ → List ℕ
+digits_of s ls = map (λ l. digit_count (s.file.number l)) ls
+
+-- the greatest digit count among them, 0 where there is none
+abbrev pub padding_of : Config → List LabelledFile → ℕ
+padding_of config ss = fold max 0 (flat_map (λ (s : LabelledFile). digits_of s (numbered_lines config s)) ss)

@@ -1,0 +1,211 @@
+-- The parts of rows as streams. Each word is shut: a chain of calls matches its parts from left to right.
+use Rattle.std.specs.Prelude.{ℕ, ◌+◌, ◌-◌, Bool, true, ◌||◌, ◌&&◌, ◌==◌, nat_lt, nat_le, max, List, [], ◌∷◌, ◌++◌, filter, length, fold, flat_map, Option, Some, None, if◌then◌else◌, codes, decimal}
+use Rattle.std.specs.List.{list_any, range_with_len}
+use Rattle.codespan_base.specs.declared.diagnostic.Severity.{Severity}
+use Rattle.codespan_base.specs.declared.diagnostic.Severity.TheVariants.{Bug, Error, Warning, Note, Help}
+use Rattle.codespan_base.specs.declared.diagnostic.LabelStyle.{LabelStyle}
+use Rattle.codespan_base.specs.declared.diagnostic.LabelStyle.TheVariants.{Primary, Secondary}
+use Rattle.codespan_base.specs.declared.term.config.chars.Chars.{Chars}
+use Rattle.codespan_base.specs.Streams.{Stream, LineNumber, SourceBorder, LabelMark, Reset, one_mark, glyph, bytes, blanks, space, repeated}
+use Rattle.codespan_base.specs.Labels.{Labelled, is_primary, is_primary_style, LaneMark, Part, Top, Left, Bottom}
+use Rattle.codespan_picture.specs.declared.cells.Cell.{Cell}
+use Rattle.codespan_picture.specs.Cells.{cells, cells_to_end, width_of, leading_whitespace}
+use Rattle.codespan_picture.specs.Carets.{covers, style_under, caret_for, greatest_end}
+use Rattle.codespan_picture.specs.declared.lanes.Shape.{Shape}
+use Rattle.codespan_picture.specs.Lanes.{LaneRow, Source, Plain, Below, Underline, row_shape, row_crossing, mark_in, shape_of, style_of_mark, lane_cells, label_glyph}
+use Rattle.codespan_picture.specs.Rows.{Place, Look, Lanes, Line, hanging}
+
+-- ---- parts of rows
+
+-- the word for a severity
+abbrev pub severity_name : Severity → List ℕ
+severity_name Bug = codes "bug"
+severity_name Error = codes "error"
+severity_name Warning = codes "warning"
+severity_name Note = codes "note"
+severity_name Help = codes "help"
+
+-- name, line and column
+unfoldable pub locus : Place → Stream
+locus p =
+    bytes p.name ++ bytes (codes ":") ++ bytes (decimal p.location.line_number) ++ bytes (codes ":")
+    ++ bytes (decimal p.location.column_number)
+
+-- blanks in place of a number
+unfoldable pub gutter : ℕ → Stream
+gutter padding = blanks (padding + 1)
+
+-- a number, right in its places
+unfoldable pub numbered_gutter : ℕ → ℕ → Stream
+numbered_gutter padding n =
+    one_mark LineNumber ++ blanks (padding - length (decimal n)) ++ bytes (decimal n) ++ one_mark Reset ++ space
+
+-- the bar left of the source
+unfoldable pub border : Chars → Stream
+border chars = one_mark SourceBorder ++ glyph chars.source_border_left ++ one_mark Reset
+
+-- the bar where lines are left out
+unfoldable pub break_border : Chars → Stream
+break_border chars = one_mark SourceBorder ++ glyph chars.source_border_left_break ++ one_mark Reset
+
+-- where the style changes a mark stands, and a reset where it ends
+unfoldable pub change : Severity → Option LabelStyle → Option LabelStyle → Stream
+change severity None None = []
+change severity None (Some style) = one_mark (LabelMark severity style)
+change severity (Some style) None = one_mark Reset
+change severity (Some Primary) (Some Primary) = []
+change severity (Some Secondary) (Some Secondary) = []
+change severity (Some _) (Some style) = one_mark (LabelMark severity style)
+
+-- each character as it is shown, in its style; `was` is the style before them
+abbrev pub styled : Severity → (Cell → Option LabelStyle) → (Cell → Stream) → Option LabelStyle → List Cell → Stream
+styled severity style shown was [] = change severity was None
+styled severity style shown was (c ∷ cs) =
+    change severity was (style c) ++ shown c ++ styled severity style shown (style c) cs
+
+-- a label's message in its style
+unfoldable pub label_message : Severity → LabelStyle → Stream → Stream
+label_message severity style message = one_mark (LabelMark severity style) ++ message ++ one_mark Reset
+
+-- ---- the lanes of a row
+
+-- one lane, from the mark in it
+unfoldable pub lane_of : Look → Option LaneMark → (Part → Shape) → Option LaneMark → Stream
+lane_of look crossing shape mark = lane_cells look.severity look.chars crossing (style_of_mark mark) (shape_of shape mark)
+
+-- the lanes from left to right
+abbrev pub lanes_in : Look → (ℕ → Option LaneMark) → (ℕ → Part → Shape) → Lanes → Stream
+lanes_in look crossing shape lanes =
+    flat_map (λ lane. lane_of look (crossing lane) (shape lane) (mark_in lanes.marks lane)) (range_with_len 0 lanes.count)
+
+-- the lanes of a kind of row
+abbrev pub row_lanes : Look → ℕ → LaneRow → Lanes → Stream
+row_lanes look leading row lanes = lanes_in look (row_crossing row) (row_shape look.layout leading row) lanes
+
+-- the lanes of a source row
+unfoldable pub source_lanes : Look → ℕ → Lanes → Stream
+source_lanes look leading lanes = row_lanes look leading Source lanes
+
+-- the lanes of an empty row or a break row
+unfoldable pub plain_lanes : Look → Lanes → Stream
+plain_lanes look lanes = row_lanes look 0 Plain lanes
+
+-- the lanes of a caret, pointer or hanging row
+unfoldable pub below_lanes : Look → ℕ → Lanes → Stream
+below_lanes look leading lanes = row_lanes look leading Below lanes
+
+-- the lanes of an underline row: right of the corner its line runs through them
+unfoldable pub underline_lanes : Look → ℕ → LaneMark → Lanes → Stream
+underline_lanes look leading m lanes = row_lanes look leading (Underline m) lanes
+
+-- ---- the source text and the carets under it
+
+-- the characters of a line
+abbrev pub line_cells : Look → Line → List Cell
+line_cells look line = cells look.tab_width line.text
+
+-- the same, and the placeholder
+abbrev pub line_cells_to_end : Look → Line → List Cell
+line_cells_to_end look line = cells_to_end look.tab_width line.text
+
+-- the bytes of white space that a line begins with
+abbrev pub leading_of : Line → ℕ
+leading_of line = leading_whitespace line.text
+
+-- a multi-line label takes in the character on this line
+abbrev pub takes_in : Cell → Part → Bool
+takes_in c (Top start) = nat_le start c.place
+takes_in c Left = true
+takes_in c (Bottom end message) = nat_le (c.place + c.bytes) end
+
+-- a character is primary where a primary label has it
+abbrev pub source_style : Line → Cell → Option LabelStyle
+source_style line c =
+    if list_any (λ x. is_primary x && covers x c) line.labels
+    || list_any (λ (m : LaneMark). is_primary_style m.style && takes_in c m.part) line.lanes.marks
+    then Some Primary else None
+
+-- a tab is written as blanks
+unfoldable pub source_glyph : Cell → Stream
+source_glyph c = if c.code == 9 then blanks c.width else glyph c.code
+
+-- the text of a source row
+unfoldable pub coloured_text : Look → Line → Stream
+coloured_text look line = styled look.severity (source_style line) source_glyph None (line_cells look line)
+
+-- one character's carets, or its blanks up to the greatest end
+unfoldable pub caret_glyphs : Chars → ℕ → Option LabelStyle → Cell → Stream
+caret_glyphs chars end None c = if nat_lt c.place end then blanks c.width else []
+caret_glyphs chars end (Some style) c = repeated c.width (caret_for chars (Some style))
+
+-- the carets under these characters
+unfoldable pub carets : Look → List Labelled → List Cell → Stream
+carets look labels cs =
+    styled look.severity (style_under labels) (λ c. caret_glyphs look.chars (greatest_end labels) (style_under labels c) c) None cs
+
+-- after the carets one blank and the trailing message, if there is one
+unfoldable pub trailing_message : Severity → Option Labelled → Stream
+trailing_message severity None = []
+trailing_message severity (Some x) = space ++ label_message severity x.style x.message
+
+-- ---- pointers
+
+-- a label starts in the character
+abbrev pub starts_in : Cell → Labelled → Bool
+starts_in c x = nat_le c.place x.start && nat_lt x.start (c.place + c.bytes)
+
+-- the greatest start of the labels, 0 where there is none
+abbrev pub greatest_start : List Labelled → ℕ
+greatest_start labels = fold (λ m (x : Labelled). max m x.start) 0 labels
+
+-- the blanks of a pointer row reach as far as the greatest start of the line's labels
+unfoldable pub blanks_up_to : ℕ → Cell → ℕ → Stream
+blanks_up_to place c n = if nat_le c.place place then blanks n else []
+
+-- of the labels that start in a character a primary one goes first
+abbrev pub pointer_style : List Labelled → Cell → LabelStyle
+pointer_style labels c = if list_any (λ x. is_primary x && starts_in c x) labels then Primary else Secondary
+
+-- one character's pointer or blanks
+unfoldable pub pointer_at : Look → List Labelled → List Labelled → Cell → Stream
+pointer_at look labels hanging c =
+    if list_any (starts_in c) hanging then
+    label_glyph look.severity (pointer_style hanging c) look.chars.pointer_left ++ blanks_up_to (greatest_start labels) c (c.width - 1)
+    else blanks_up_to (greatest_start labels) c c.width
+
+-- the pointers of these characters
+unfoldable pub pointers : Look → List Labelled → List Cell → Stream
+pointers look labels cs = flat_map (pointer_at look labels (hanging labels)) cs
+
+-- the characters of a line before a place
+abbrev pub cells_before : ℕ → List Cell → List Cell
+cells_before place cs = filter (λ (c : Cell). nat_lt c.place place) cs
+
+-- the characters of a line that begin at a place or before it
+abbrev pub cells_up_to : ℕ → List Cell → List Cell
+cells_up_to place cs = filter (λ (c : Cell). nat_le c.place place) cs
+
+-- ---- underlines
+
+-- the caret under a multi-line label's start
+abbrev pub start_caret : Chars → LabelStyle → ℕ
+start_caret chars Primary = chars.multi_primary_caret_start
+start_caret chars Secondary = chars.multi_secondary_caret_start
+
+-- the caret under its end
+abbrev pub end_caret : Chars → LabelStyle → ℕ
+end_caret chars Primary = chars.multi_primary_caret_end
+end_caret chars Secondary = chars.multi_secondary_caret_end
+
+-- one blank and the message, where there is one
+unfoldable pub underline_message : Stream → Stream
+underline_message [] = []
+underline_message (p ∷ ps) = space ++ (p ∷ ps)
+
+-- the line runs from the corner to the last character that begins at or before the start, or before the end
+unfoldable pub underline : Chars → LabelStyle → List Cell → Part → Stream
+underline chars style cs (Top start) =
+    repeated (width_of (cells_up_to start cs)) chars.multi_top ++ glyph (start_caret chars style)
+underline chars style cs Left = []
+underline chars style cs (Bottom end message) =
+    repeated (width_of (cells_before end cs)) chars.multi_bottom ++ glyph (end_caret chars style) ++ underline_message message

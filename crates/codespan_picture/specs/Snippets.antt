@@ -1,0 +1,157 @@
+-- The rows of a picture: of each line, of each file, and of all.
+use Rattle.std.specs.Prelude.{ℕ, ◌+◌, Bool, true, false, ◌==◌, min, List, [], ◌∷◌, ◌++◌, map, filter, fold, flat_map, Option, Some, None, if◌then◌else◌, length}
+use Rattle.std.specs.Str.Lines.{lines}
+use Rattle.codespan_base.specs.declared.term.config.Config.{Config}
+use Rattle.codespan_base.specs.FileModel.{FileModel, line_text, name_text}
+use Rattle.codespan_base.specs.Labels.{Labelled, is_primary, first_seen, multi_labels, single_labels, marks_on}
+use Rattle.codespan_picture.specs.Cells.{drawn_text}
+use Rattle.codespan_picture.specs.Lines.{drawn_lines, is_broken}
+use Rattle.codespan_picture.specs.Rows.{Place, Heading, Lanes, Line, Row, HeaderRow, StartRow, EmptyRow, BreakRow, FirstNoteRow, LaterNoteRow, BlankRow, rows_of}
+
+-- a file with its labels, in the order given
+pub record LabelledFile : Type 0 where
+  pub file : FileModel
+  pub labels : List Labelled
+
+-- a label of the diagnostic, in a file
+pub record InFile (Id : Type 0) : Type 0 where
+  pub id : Id
+  pub label : Labelled
+
+-- the labels of one file
+abbrev pub labelled_file : {Id : Type 0} → (Id → Id → Bool) → (Id → FileModel) → List (InFile Id) → Id → LabelledFile
+labelled_file {Id} same file labels id = record {
+  file = file id;
+  labels = map (λ (x : InFile Id). x.label) (filter (λ (x : InFile Id). same id x.id) labels);
+}
+
+-- the files in the order of their first label
+abbrev pub labelled_files : {Id : Type 0} → (Id → Id → Bool) → (Id → FileModel) → List (InFile Id) → List LabelledFile
+labelled_files {Id} same file labels =
+    map (labelled_file same file labels) (first_seen same (map (λ (x : InFile Id). x.id) labels))
+
+-- ---- the rows of one file
+
+-- how many lanes a file has
+abbrev pub lane_count : LabelledFile → ℕ
+lane_count s = length (multi_labels s.file s.labels)
+
+-- lanes with nothing in them
+abbrev pub bare_lanes : LabelledFile → Lanes
+bare_lanes s = record { count = lane_count s; marks = [] }
+
+-- a line of the file, with what its labels do on it
+abbrev pub line_at : LabelledFile → ℕ → Line
+line_at s l = record {
+  number = s.file.number l;
+  text = drawn_text (line_text s.file l);
+  labels = single_labels s.file s.labels l;
+  lanes = record { count = lane_count s; marks = marks_on s.file s.labels l };
+}
+
+-- a break, where lines are left out before this one
+abbrev pub break_rows : LabelledFile → Option ℕ → ℕ → List Row
+break_rows s None d = []
+break_rows s (Some c) d = if is_broken c d then BreakRow (line_at s d).lanes ∷ [] else []
+
+-- the rows of these lines, where `was` is drawn before them
+abbrev pub rows_after : LabelledFile → Option ℕ → List ℕ → List Row
+rows_after s was [] = []
+rows_after s was (l ∷ ls) = break_rows s was l ++ rows_of (line_at s l) ++ rows_after s (Some l) ls
+
+-- ---- the same, from the shown lines alone
+
+-- between two shown lines that follow each other stands nothing, the one line between them, or a break
+abbrev pub between : (ℕ → Line) → Option ℕ → ℕ → List Row
+between line None d = []
+between line (Some c) d =
+    if d == c + 2 then rows_of (line (c + 1)) else if is_broken c d then BreakRow (line d).lanes ∷ [] else []
+
+-- the drawing of an ascending list of lines
+abbrev pub drawing : (ℕ → Line) → Option ℕ → List ℕ → List Row
+drawing line was [] = []
+drawing line was (l ∷ ls) = between line was l ++ rows_of (line l) ++ drawing line (Some l) ls
+
+-- ---- where a snippet starts
+
+-- the least of some numbers
+abbrev pub least : List ℕ → ℕ
+least [] = 0
+least (n ∷ ns) = fold min n ns
+
+-- a list, or another in place of an empty one
+abbrev pub if_any : {A : Type 0} → List A → List A → List A
+if_any [] others = others
+if_any (x ∷ xs) others = x ∷ xs
+
+-- the least start of a primary label, or of any label where none is primary
+abbrev pub locus_start : List Labelled → ℕ
+locus_start labels = least (map (λ (x : Labelled). x.start) (if_any (filter is_primary labels) labels))
+
+-- where a file's snippet starts
+abbrev pub place_of : LabelledFile → Place
+place_of s = record { name = name_text s.file; location = s.file.location (locus_start s.labels) }
+
+-- the rows of a file's snippet that starts with this place
+abbrev pub snippet_at : Config → Place → LabelledFile → List Row
+snippet_at config place s =
+    (StartRow place ∷ EmptyRow (bare_lanes s) ∷ []) ++ rows_after s None (drawn_lines config s.file s.labels)
+
+-- the rows of a file's snippet
+abbrev pub snippet : Config → LabelledFile → List Row
+snippet config s = snippet_at config (place_of s) s
+
+-- the row after a file's snippet, where something follows
+abbrev pub row_after : Bool → LabelledFile → List Row
+row_after followed s = if followed then EmptyRow (bare_lanes s) ∷ [] else []
+
+-- ---- the rows of all files
+
+-- the list has an element
+abbrev pub has_any : {A : Type 0} → List A → Bool
+has_any [] = false
+has_any (x ∷ xs) = true
+
+-- something stands after a snippet: another one, or notes
+abbrev pub is_followed : {A : Type 0} → Bool → List A → Bool
+is_followed has_notes [] = has_notes
+is_followed has_notes (s ∷ ss) = true
+
+-- an empty row stands after each file, but after the last only where notes follow
+abbrev pub snippets : Config → List (List ℕ) → List LabelledFile → List Row
+snippets config notes [] = []
+snippets config notes (s ∷ ss) = snippet config s ++ row_after (is_followed (has_any notes) ss) s ++ snippets config notes ss
+
+-- the rows of a note's pieces
+abbrev pub piece_rows : List (List ℕ) → List Row
+piece_rows [] = []
+piece_rows (p ∷ ps) = FirstNoteRow p ∷ map LaterNoteRow ps
+
+-- the rows of the notes
+abbrev pub note_rows : List (List ℕ) → List Row
+note_rows notes = flat_map (λ note. piece_rows (lines note)) notes
+
+-- the rows of a rich picture
+abbrev pub rich_rows : Config → Heading → List LabelledFile → List (List ℕ) → List Row
+rich_rows config heading ss notes =
+    (HeaderRow None heading ∷ snippets config notes ss) ++ note_rows notes ++ (BlankRow ∷ [])
+
+-- ---- short and medium style
+
+-- a header with the place of a label's start
+abbrev pub header_at : {Id : Type 0} → (Id → FileModel) → Heading → InFile Id → Row
+header_at file heading x =
+    HeaderRow (Some (record { name = name_text (file x.id); location = (file x.id).location x.label.start })) heading
+
+-- a header for each of these labels, or one where there is none
+abbrev pub header_rows_of : {Id : Type 0} → (Id → FileModel) → Heading → List (InFile Id) → List Row
+header_rows_of file heading [] = HeaderRow None heading ∷ []
+header_rows_of file heading (x ∷ xs) = map (header_at file heading) (x ∷ xs)
+
+-- a header for each primary label
+abbrev pub short_rows : {Id : Type 0} → (Id → FileModel) → Heading → List (InFile Id) → List Row
+short_rows {Id} file heading labels = header_rows_of file heading (filter (λ (x : InFile Id). is_primary x.label) labels)
+
+-- a header for each primary label, and then the notes
+abbrev pub medium_rows : {Id : Type 0} → (Id → FileModel) → Heading → List (InFile Id) → List (List ℕ) → List Row
+medium_rows file heading labels notes = short_rows file heading labels ++ note_rows notes

@@ -1,0 +1,127 @@
+-- How worked pictures are written down: texts by their characters, pictures row by row.
+use Rattle.std.specs.Prelude.{ℕ, ◌+◌, ◌*◌, ◌/◌, ◌%◌, ◌==◌, if◌then◌else◌, List, [], ◌∷◌, ◌++◌, map, flat_map, codes, decimal, encode_utf8_all, slice_get, Option, Some, None}
+use Rattle.std.specs.List.{range_with_len}
+use Rattle.std.specs.Fmt.{digits}
+use Rattle.std.specs.Option.{option_map_or}
+use Rattle.unicode_width.proofs.Computing.{unicode_width}
+use Rattle.codespan_base.specs.declared.term.config.Config.{Config}
+use Rattle.codespan_base.specs.declared.diagnostic.Severity.{Severity}
+use Rattle.codespan_base.specs.declared.diagnostic.LabelStyle.{LabelStyle}
+use Rattle.codespan_base.specs.declared.diagnostic.LabelStyle.TheVariants.{Primary, Secondary}
+use Rattle.codespan_base.specs.FileModel.{FileModel, line_of}
+use Rattle.codespan_base.specs.SimpleModel.{simple_file, missing_file}
+use Rattle.codespan_base.specs.MappedModel.{mapped_file}
+use Rattle.codespan_base.specs.Streams.{Stream, Spelling, bytes}
+use Rattle.codespan_base.specs.StyleTables.{default_styles, spelling_by}
+use Rattle.codespan_base.specs.Ansi.{ansi_style, ansi_reset, escape, ansi_bold, ansi_color}
+use Rattle.codespan_picture.specs.declared.given.MultiLabel.TheVariants as given
+use Rattle.codespan_picture.specs.Given.{GivenMark}
+use Rattle.codespan_picture.specs.Rows.{Line}
+use Rattle.codespan_picture.specs.RowStreams.{row_words, stream_of_rows}
+use Rattle.codespan_picture.specs.Snippets.{InFile, labelled_files, short_rows, medium_rows}
+use Rattle.codespan_picture.specs.Picture.{rich_picture, look_of}
+
+-- opens all words of a picture, so that it computes
+unfoldable pub worked_words : Unit {0}
+unfolding unicode_width digits line_of row_words escape ansi_reset ansi_bold ansi_color ansi_style
+worked_words = tt
+
+-- a file of a name and a text
+abbrev pub text_file : List ℕ → List ℕ → FileModel
+text_file name text = simple_file (Some (encode_utf8_all name)) (encode_utf8_all text)
+
+-- a label of these bytes in the file of a number
+abbrev pub label : LabelStyle → ℕ → ℕ → ℕ → List ℕ → InFile ℕ
+label style id start end message =
+    record { id = id; label = record { style = style; start = start; end = end; message = bytes (encode_utf8_all message) } }
+
+-- a file of a name and a text, with set line numbers
+abbrev pub mapped_text : List ℕ → List ℕ → List (ℕ × ℕ) → FileModel
+mapped_text name text settings = mapped_file (Some (encode_utf8_all name)) (encode_utf8_all text) settings
+
+-- the file with lines that are numbered by their indices
+abbrev pub from_zero : FileModel → FileModel
+from_zero f = record f { number = λ i. i; location = λ byte. record { line_number = line_of f.starts byte; column_number = f.column (line_of f.starts byte) byte } }
+
+-- what a diagnostic says besides its labels
+pub record Said : Type 0 where
+  pub severity : Severity
+  pub code : Option (List ℕ)
+  pub message : List ℕ
+  pub notes : List (List ℕ)
+
+-- a message alone
+abbrev pub says : Severity → List ℕ → Said
+says severity message = record { severity = severity; code = None; message = encode_utf8_all message; notes = [] }
+
+-- the same with a code
+abbrev pub with_code : List ℕ → Said → Said
+with_code code said = record said { code = Some (encode_utf8_all code) }
+
+-- the same with one note
+abbrev pub with_note : List ℕ → Said → Said
+with_note note said = record said { notes = encode_utf8_all note ∷ [] }
+
+-- the file of a number
+abbrev pub numbered : List FileModel → ℕ → FileModel
+numbered files id = option_map_or (λ f. f) (slice_get files id) missing_file
+
+-- the picture in rich style
+abbrev pub rich : Config → Said → List FileModel → List (InFile ℕ) → Stream
+rich config said files labels =
+    rich_picture config said.severity (record { code = said.code; message = said.message }) (labelled_files ◌==◌ (numbered files) labels) said.notes
+
+-- the picture in medium style
+abbrev pub medium : Config → Said → List FileModel → List (InFile ℕ) → Stream
+medium config said files labels =
+    stream_of_rows (look_of config said.severity 0) (medium_rows (numbered files) (record { code = said.code; message = said.message }) labels said.notes)
+
+-- the picture in short style
+abbrev pub short : Config → Said → List FileModel → List (InFile ℕ) → Stream
+short config said files labels =
+    stream_of_rows (look_of config said.severity 0) (short_rows (numbered files) (record { code = said.code; message = said.message }) labels)
+
+-- ---- rows that are handed in
+
+-- a line with labels inside it alone
+abbrev pub line_of_labels : ℕ → List ℕ → List (InFile ℕ) → Line
+line_of_labels number text labels =
+    record { number = number; text = encode_utf8_all text; labels = map (λ (x : InFile ℕ). x.label) labels; lanes = record { count = 0; marks = [] } }
+
+-- a bar in each of these lanes
+abbrev pub bars_in : List ℕ → List GivenMark
+bars_in lanes = map (λ lane. (lane, Primary, given.Left)) lanes
+
+-- ---- many labels
+
+-- fifty lines of eight characters
+abbrev pub many_lines : FileModel
+many_lines = text_file (codes "f") (flat_map (λ _. codes "abcdefgh\n") (range_with_len 0 50))
+
+-- a label on one of them, two bytes long; its place in the list is the number
+abbrev pub one_of_many : ℕ → InFile ℕ
+one_of_many i =
+    let start = 9 * (i % 50) + i / 50 in
+    label (if i % 2 == 0 then Primary else Secondary) 0 start (start + 2) (codes "m" ++ decimal i)
+
+-- two hundred of them
+abbrev pub many_labels : List (InFile ℕ)
+many_labels = map one_of_many (range_with_len 0 200)
+
+-- those of even numbers
+abbrev pub evens : List (InFile ℕ)
+evens = map (λ k. one_of_many (2 * k)) (range_with_len 0 100)
+
+-- those of odd numbers
+abbrev pub odds : List (InFile ℕ)
+odds = map (λ k. one_of_many (2 * k + 1)) (range_with_len 0 100)
+
+-- ---- texts
+
+-- rows of characters, each with its newline
+abbrev pub rows : List (List ℕ) → List ℕ
+rows rs = flat_map (λ r. encode_utf8_all r ++ 10 ∷ []) rs
+
+-- how a writer of escape sequences in the default styles spells the marks
+abbrev pub ansi : Spelling
+ansi = spelling_by default_styles ansi_style ansi_reset

@@ -1,0 +1,16 @@
+//! The characters of a drawn line.
+
+/// A character of a drawn line, or the place after the last one.
+#[derive(Clone, Copy, Debug)]
+pub struct Cell {
+    /// The character.
+    pub code: char,
+    /// The byte of the line at which it begins.
+    pub place: usize,
+    /// How many bytes it has in UTF-8.
+    pub bytes: usize,
+    /// The first cell that it owns, counted from the line's start.
+    pub column: u128,
+    /// How many cells it owns.
+    pub width: usize,
+}

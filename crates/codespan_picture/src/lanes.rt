@@ -1,0 +1,14 @@
+//! The lanes of a row.
+
+/// What a lane shows in a row.
+#[derive(Clone, Copy, Debug)]
+pub enum Shape {
+    /// Blanks, or the line that runs right from another lane's corner.
+    Gap,
+    /// The label goes on.
+    Bar,
+    /// The label begins.
+    TopCorner,
+    /// The label ends.
+    BottomCorner,
+}

@@ -1,0 +1,53 @@
+//! Worked pictures over files whose lines have numbers of their own, and of many labels in several orders.
+
+ghost use Rattle.std.specs.Prelude.{◌≡◌, ◌∷◌, [], ◌++◌, codes, reverse};
+ghost use Rattle.codespan_base.specs.Defaults.{default_config};
+ghost use Rattle.codespan_base.specs.MappedModel.{with_number};
+ghost use Rattle.codespan_base.specs.Streams.{text_of};
+ghost use Rattle.codespan_base.specs.declared.diagnostic.Severity.TheVariants.{Error};
+ghost use Rattle.codespan_base.specs.declared.diagnostic.LabelStyle.TheVariants.{Primary};
+ghost use Rattle.codespan_picture.specs.Worked.{text_file, mapped_text, from_zero, label, says, rich, short, rows, many_lines, many_labels, evens, odds};
+
+/// A line whose number is set, and those after it.
+fn mapped_numbers()
+    ensures { text_of (rich default_config (says Error [])
+        (mapped_text (codes "m") (codes "a\nb\nc\nd") (with_number 2 100 []) ∷ [])
+        (label Primary 0 2 7 (codes "x") ∷ []))
+        ≡ rows (codes "error: "
+        ∷ codes "    ┌─ m:2:1"
+        ∷ codes "    │  "
+        ∷ codes "  2 │ ╭ b"
+        ∷ codes "100 │ │ c"
+        ∷ codes "101 │ │ d"
+        ∷ codes "    │ ╰─^ x"
+        ∷ [] ∷ []) }
+{}
+
+/// Lines that are numbered by their indices: 0 has one digit.
+fn line_number_zero()
+    ensures { text_of (rich default_config (says Error [])
+        (from_zero (text_file (codes "f") (codes "ab")) ∷ [])
+        (label Primary 0 0 1 (codes "z") ∷ []))
+        ≡ rows (codes "error: "
+        ∷ codes "  ┌─ f:0:1"
+        ∷ codes "  │"
+        ∷ codes "0 │ ab"
+        ∷ codes "  │ ^ z"
+        ∷ [] ∷ []) }
+{}
+
+/// In short style one header for the one label: what comes before a file that is missing.
+fn missing_file_short()
+    ensures { text_of (short default_config (says Error (codes "m"))
+        (text_file (codes "f") (codes "ab") ∷ [])
+        (label Primary 0 0 1 [] ∷ []))
+        ≡ rows (codes "f:1:1: error: m" ∷ []) }
+{}
+
+/// Two hundred labels of fifty lines: neither the reverse order nor the odd ones first change the picture.
+fn label_orders()
+    ensures reversed { text_of (rich default_config (says Error []) (many_lines ∷ []) (reverse many_labels))
+        ≡ text_of (rich default_config (says Error []) (many_lines ∷ []) many_labels) }
+    ensures odd_first { text_of (rich default_config (says Error []) (many_lines ∷ []) (odds ++ evens))
+        ≡ text_of (rich default_config (says Error []) (many_lines ∷ []) many_labels) }
+{}

@@ -1,0 +1,10 @@
+pub mod CellSteps
+pub mod LaneWalk
+pub mod RowWords
+pub mod Passing
+pub mod Best
+pub mod CaretRuns
+pub mod Hanging
+pub mod Laying
+pub mod TextRuns
+pub mod Underlines

@@ -1,0 +1,123 @@
+-- Words of rows, as the calls that send them put them together.
+use Rattle.std.proofs.Common.{◌≡◌, ℕ, ◌+◌, ◌-◌, ◌/◌, ◌%◌, ◌^◌, ◌<◌, ◌≤◌, List, [], ◌∷◌, ◌++◌, true, nat_lt, lt-ltb, Option, None, Some, append_assoc, append-nil, length, replicate, decimal, refl, ap, sym, ◌∙◌, arith}
+use Rattle.std.proofs.lemmas.Fmt.{decimal_digit, decimal_step, length-decimal-le}
+use Rattle.std.proofs.lemmas.List.{length_push, replicate-append-replicate}
+use Rattle.codespan_base.specs.declared.diagnostic.LabelStyle.{LabelStyle}
+use Rattle.codespan_base.specs.declared.diagnostic.LabelStyle.TheVariants.{Primary, Secondary}
+use Rattle.codespan_base.specs.declared.diagnostic.Severity.{Severity}
+use Rattle.codespan_base.specs.Streams.{Stream, bytes, blanks, repeated, glyph, newline, space}
+use Rattle.codespan_base.proofs.Sends.{bytes-append}
+use Rattle.std.proofs.lemmas.Grind.{flat_map-append}
+use Rattle.codespan_base.proofs.Repeats.{repeat-add}
+use Rattle.codespan_renderer.specs.declared.term.renderer.lanes.LaneRow.TheVariants.{Source, Plain, Below}
+use Rattle.codespan_picture.specs.Given.{GivenLabel, all_labelled}
+use Rattle.codespan_renderer.specs.Inner.GivenLine.{given_lanes}
+use Rattle.codespan_picture.specs.Rows.{Look, Lanes, Line, Row, SourceRow, caret_rows, hanging, hanging_rows, underline_rows, rows_of}
+use Rattle.codespan_picture.specs.RowStreams.{caret_row, source_row, stream_of, stream_of_rows}
+use Rattle.std.specs.Str.{IsUtf8}
+use Rattle.codespan_picture.specs.declared.cells.Cell.{Cell}
+use Rattle.codespan_picture.specs.Cells.{cells}
+use Rattle.codespan_renderer.proofs.Laying.{Lays, laying-cells}
+use Rattle.codespan_picture.specs.RowParts.{cells_before, change, gutter, source_lanes, plain_lanes, below_lanes}
+
+-- a gutter is the padding's blanks and one more
+pub gutter_is : (n : ℕ) → gutter n ≡ blanks n ++ space
+unfolding gutter blanks
+gutter_is n = ap bytes (sym (replicate-append-replicate n 1 32)) ∙ bytes-append (replicate n 32) (replicate 1 32)
+
+-- the lanes of each kind of row are those of that kind
+pub source_lanes_are : (look : Look) (leading : ℕ) (lanes : Lanes) → given_lanes look leading Source lanes ≡ source_lanes look leading lanes
+unfolding given_lanes source_lanes
+source_lanes_are look leading lanes = refl
+
+pub plain_lanes_are : (look : Look) (leading : ℕ) (lanes : Lanes) → given_lanes look leading Plain lanes ≡ plain_lanes look lanes
+unfolding given_lanes plain_lanes
+plain_lanes_are look leading lanes = refl
+
+pub below_lanes_are : (look : Look) (leading : ℕ) (lanes : Lanes) → given_lanes look leading Below lanes ≡ below_lanes look leading lanes
+unfolding given_lanes below_lanes
+below_lanes_are look leading lanes = refl
+
+pub ruleset lanes_are = (source_lanes_are, plain_lanes_are, below_lanes_are)
+
+-- ---- digits
+
+pub digits_step : (n : ℕ) → 10 ≤ n → n < 2 ^ 64 → length (decimal n) ≡ length (decimal (n / 10)) + 1
+digits_step n h k = ap length (decimal_step n h k) ∙ length_push (decimal (n / 10)) (48 + n % 10)
+
+pub digits_last : (n : ℕ) → n < 10 → length (decimal n) ≡ 1
+digits_last n h = ap length (decimal_digit n h)
+
+pub digits_few : (n : ℕ) → n < 2 ^ 64 → length (decimal n) ≤ 20
+digits_few n h = length-decimal-le 20 n (omega arith) (omega arith) h
+
+pub ruleset counting = (digits_step, digits_last, digits_few)
+
+-- ---- runs
+
+-- so many blanks are some and then the others
+pub blanks-add : (k n : ℕ) → blanks (k + n) ≡ blanks k ++ blanks n
+unfolding blanks
+blanks-add k n = ap bytes (sym (replicate-append-replicate k n 32)) ∙ bytes-append (replicate k 32) (replicate n 32)
+
+pub blanks-past : (k n : ℕ) → k ≤ n → blanks n ≡ blanks k ++ blanks (n - k)
+blanks-past k n h = let e : n ≡ k + (n - k) = omega arith in ap blanks e ∙ blanks-add k (n - k)
+
+-- so many of one character are some and then the others
+pub repeated-add : (k n c : ℕ) → repeated (k + n) c ≡ repeated k c ++ repeated n c
+unfolding repeated
+repeated-add k n c = repeat-add k n (glyph c)
+
+pub repeated-past : (k n c : ℕ) → k ≤ n → repeated n c ≡ repeated k c ++ repeated (n - k) c
+repeated-past k n c h = let e : n ≡ k + (n - k) = omega arith in ap (λ m. repeated m c) e ∙ repeated-add k (n - k) c
+
+-- ---- styles
+
+-- where the style stays, nothing is said
+pub change-same : (severity : Severity) (style : Option LabelStyle) → change severity style style ≡ []
+unfolding change
+change-same severity None = refl
+change-same severity (Some Primary) = refl
+change-same severity (Some Secondary) = refl
+
+-- a run, the change after it, what a character shows, and the rest
+pub regroup : (run ended shown rest : Stream) → run ++ (ended ++ shown ++ rest) ≡ run ++ ended ++ (shown ++ rest)
+regroup run ended shown rest = ap (λ (l : Stream). run ++ l) (append_assoc ended shown rest) ∙ sym (append_assoc run ended (shown ++ rest))
+
+-- ---- the rows of a line
+
+abbrev row_and_end : Look → Row → Stream
+row_and_end look row = stream_of look row ++ newline
+
+-- one part after another
+pub line_rows : (look : Look) (line : Line) → stream_of_rows look (rows_of line)
+    ≡ source_row look line ++ newline ++ stream_of_rows look (caret_rows line line.labels) ++ stream_of_rows look (hanging_rows line (hanging line.labels)) ++ stream_of_rows look (underline_rows line)
+line_rows look line =
+    flat_map-append (row_and_end look) ((SourceRow line ∷ caret_rows line line.labels) ++ hanging_rows line (hanging line.labels)) (underline_rows line)
+    ∙ ap (λ (l : Stream). l ++ stream_of_rows look (underline_rows line))
+    (flat_map-append (row_and_end look) (SourceRow line ∷ caret_rows line line.labels) (hanging_rows line (hanging line.labels)))
+
+-- the carets of a line that has none
+pub caret_rows_none : (look : Look) (line : Line) (labels : List GivenLabel) → length labels ≤ 0 → stream_of_rows look (caret_rows line (all_labelled labels)) ≡ []
+caret_rows_none look line [] h = refl
+caret_rows_none look line (x ∷ xs) h = absurd (omega arith)
+
+-- the carets of a line that has labels
+pub caret_rows_some : (look : Look) (line : Line) (labels : List GivenLabel) → 1 ≤ length labels → stream_of_rows look (caret_rows line (all_labelled labels)) ≡ caret_row look line ++ newline
+caret_rows_some look line [] h = absurd (omega arith)
+caret_rows_some look line (x ∷ xs) h = append-nil (caret_row look line ++ newline)
+
+-- ---- cells before a place
+
+-- all cells begin before the greatest place
+all_below : (top limit place column : ℕ) (cs : List Cell) → top ≤ limit → Lays top place column cs → cells_before limit cs ≡ cs
+all_below top limit place column [] h l = refl
+all_below top limit place column (x ∷ cs) h l =
+    let here = l.0 in
+    let before : nat_lt x.place limit ≡ true = lt-ltb x.place limit (omega (arith, here.here, here.room, here.some)) in
+    rw before (ap (λ (ys : List Cell). x ∷ ys) (all_below top limit (place + x.bytes) (column + x.width) cs h l.1))
+
+pub all_before : (tab : ℕ) (text : List ℕ) → IsUtf8 text → length text < 2 ^ 64 → cells_before (2 ^ 64 - 1) (cells tab text) ≡ cells tab text
+all_before tab text u h =
+    let l = laying-cells tab text u in
+    all_below (length text) (2 ^ 64 - 1) l.place l.column (cells tab text) (omega arith) l.lays

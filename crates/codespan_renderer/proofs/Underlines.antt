@@ -1,0 +1,130 @@
+-- The underlines of labels over several lines, and the rows of a note.
+use Rattle.std.proofs.Common.{◌≡◌, ℕ, ◌+◌, ◌≤◌, ◌<◌, Bool, true, false, cond, List, [], ◌∷◌, ◌++◌, length, drop, None, Some, refl, sym, ap, ◌∙◌, arith, get_or, add-one, drop-cons}
+use Rattle.std.specs.Prelude.{nat_lt, nat_le, filter, map}
+use Rattle.std.specs.Borrow.{Bor}
+use Rattle.codespan_base.specs.declared.diagnostic.LabelStyle.{LabelStyle}
+use Rattle.std.specs.declared.str.Lines.{Lines as TextLines}
+use Rattle.std.specs.Str.Iter.{lines_steps}
+use Rattle.std.proofs.lemmas.Bool.{le-leb, lt-leb, le-ltb}
+use Rattle.std.proofs.lemmas.Bool.Decides.{nat_tests}
+use Rattle.std.proofs.lemmas.Iterator.{YieldsList}
+use Rattle.std.proofs.lemmas.List.Sums.{sum_by-cons}
+use Rattle.codespan_base.specs.Labels.{LaneMark}
+use Rattle.codespan_base.specs.Streams.{Stream, bytes, newline, space}
+use Rattle.codespan_base.specs.WriterLaw.{Sink}
+use Rattle.codespan_base.proofs.Loops.{StillToCome}
+use Rattle.codespan_picture.specs.declared.cells.Cell.{Cell}
+use Rattle.codespan_picture.specs.declared.given.MultiLabel.{MultiLabel}
+use Rattle.codespan_renderer.specs.declared.term.renderer.lanes.LaneRow.TheVariants.{Underline}
+use Rattle.codespan_picture.specs.Cells.{width_of, leading_whitespace}
+use Rattle.codespan_picture.specs.Given.{GivenMark, mark_of_given, part_of}
+use Rattle.codespan_renderer.specs.Inner.GivenLine.{given_lanes}
+use Rattle.codespan_picture.specs.Rows.{Look, Lanes, Line, UnderlineRow, has_underline}
+use Rattle.codespan_picture.specs.RowParts.{underline_lanes, underline_message, cells_before, cells_up_to}
+use Rattle.codespan_picture.specs.RowStreams.{underline_row, stream_of_rows, later_notes}
+
+-- ---- the lanes of an underline row
+
+-- the lanes of the row of a mark are those of that kind of row
+pub underline_lanes_are : (look : Look) (leading : ℕ) (lane : ℕ) (style : LabelStyle) (part : MultiLabel) (lanes : Lanes)
+    → given_lanes look leading (Underline lane style part) lanes ≡ underline_lanes look leading (mark_of_given (lane, style, part)) lanes
+unfolding given_lanes underline_lanes
+underline_lanes_are look leading lane style part lanes = refl
+
+-- ---- the message of an underline
+
+-- no message
+pub underline_message-none : (bs : List ℕ) → length bs ≡ 0 → underline_message (bytes bs) ≡ []
+unfolding underline_message bytes
+underline_message-none [] e = refl
+underline_message-none (b ∷ bs) e = absurd (omega arith)
+
+-- one blank and the message
+pub underline_message-some : (bs : List ℕ) → 0 < length bs → underline_message (bytes bs) ≡ space ++ bytes bs
+unfolding underline_message bytes
+underline_message-some [] e = absurd (omega arith)
+underline_message-some (b ∷ bs) e = refl
+
+pub ruleset underline_messages = (underline_message-none, underline_message-some)
+
+-- ---- the width up to a place
+
+-- a cell that begins at the place or before it is counted
+pub width-in : (place : ℕ) (x : Cell) (cs : List Cell) → x.place ≤ place → width_of (cells_up_to place (x ∷ cs)) ≡ x.width + width_of (cells_up_to place cs)
+width-in place x cs h = let e : nat_le x.place place ≡ true = le-leb x.place place h in rw e (sum_by-cons (λ (c : Cell). c.width) x (cells_up_to place cs))
+
+-- a later one is not
+pub width-out : (place : ℕ) (x : Cell) (cs : List Cell) → place < x.place → width_of (cells_up_to place (x ∷ cs)) ≡ width_of (cells_up_to place cs)
+width-out place x cs h = let e : nat_le x.place place ≡ false = lt-leb x.place place h in rw e refl
+
+-- no cell begins before the line
+pub width-before-first : (place : ℕ) (cs : List Cell) → place ≡ 0 → 0 ≡ width_of (cells_before place cs)
+width-before-first place [] e = refl
+width-before-first place (x ∷ cs) e =
+    let k : nat_lt x.place place ≡ false = le-ltb x.place place (omega (arith, e)) in
+    rw k (width-before-first place cs e)
+
+-- a place is at most the last one where it is before the next
+same-test : (last place k : ℕ) → place ≡ last + 1 → nat_le k last ≡ nat_lt k place
+same-test last place k e = grind (arith, nat_tests)
+
+-- the cells up to a place are those before the next one
+pub before-next : (last place : ℕ) (cs : List Cell) → place ≡ last + 1 → cells_up_to last cs ≡ cells_before place cs
+before-next last place [] e = refl
+before-next last place (x ∷ cs) e = ap (λ (b : Bool). cond b (x ∷ cells_up_to last cs) (cells_up_to last cs)) (same-test last place x.place e)
+    ∙ ap (λ (ys : List Cell). cond (nat_lt x.place place) (x ∷ ys) ys) (before-next last place cs e)
+
+-- and are as wide
+pub width-before-next : (last place : ℕ) (cs : List Cell) → place ≡ last + 1 → width_of (cells_up_to last cs) ≡ width_of (cells_before place cs)
+width-before-next last place cs e = ap width_of (before-next last place cs e)
+
+pub ruleset widths_before = (width-before-first, width-before-next)
+
+-- ---- the underlines of a line
+
+-- the rows of the marks that are left
+abbrev pub underlines_of : Look → Line → List GivenMark → Stream
+underlines_of look line marks = stream_of_rows look (map (UnderlineRow line) (filter (λ (m : LaneMark). has_underline (leading_whitespace line.text) m.part) (map mark_of_given marks)))
+
+-- the mark at a place has a row
+pub underlines-in : (look : Look) (line : Line) (leading : ℕ) (marks : List GivenMark) (i : ℕ) (d : GivenMark) → i < length marks
+    → leading ≡ leading_whitespace line.text → has_underline leading (part_of (get_or marks i d).2) ≡ true
+    → underlines_of look line (drop i marks) ≡ underline_row look line (mark_of_given (get_or marks i d)) ++ newline ++ underlines_of look line (drop (i + 1) marks)
+underlines-in look line leading marks i d h e t =
+    let k : has_underline (leading_whitespace line.text) (part_of (get_or marks i d).2) ≡ true = rw e at t in
+    rw (drop-cons marks i d h, k, add-one) refl
+
+-- it has none
+pub underlines-out : (look : Look) (line : Line) (leading : ℕ) (marks : List GivenMark) (i : ℕ) (d : GivenMark) → i < length marks
+    → leading ≡ leading_whitespace line.text → has_underline leading (part_of (get_or marks i d).2) ≡ false
+    → underlines_of look line (drop i marks) ≡ underlines_of look line (drop (i + 1) marks)
+underlines-out look line leading marks i d h e t =
+    let k : has_underline (leading_whitespace line.text) (part_of (get_or marks i d).2) ≡ false = rw e at t in
+    rw (drop-cons marks i d h, k, add-one) refl
+
+-- ---- the rows of a note
+
+-- a text still has these lines
+abbrev pub HasLines : TextLines → List (List ℕ) → Type 0
+HasLines s pieces = YieldsList lines_steps (λ (x : Bor (List ℕ)). x.now) s pieces
+
+-- the rows of the lines that are left are still to come
+pub record NotesToCome (s : Sink) (whole : Stream) (padding : ℕ) (left : TextLines) (t : Sink) : Type 0 where
+  pub pieces : List (List ℕ)
+  pub yields : HasLines left pieces
+  pub coming : StillToCome s whole (later_notes padding pieces) t
+
+-- one line is the next
+pub record Next (x : List ℕ) (t : TextLines) (pieces : List (List ℕ)) : Type 0 where
+  pub after : List (List ℕ)
+  pub is : pieces ≡ x ∷ after
+  pub yields : HasLines t after
+
+pub lines-next : (s : TextLines) (x : Bor (List ℕ)) (t : TextLines) (pieces : List (List ℕ)) → HasLines s pieces → lines_steps s (Some x) t → Next x.now t pieces
+lines-next s x t [] p k = absurd (p.runs x t k)
+lines-next s x t (y ∷ ys) p k = let n = p.runs.1 x t k in record { after = ys; is = ap (λ v. v ∷ ys) (sym n.0); yields = record { runs = n.1 } }
+
+-- no line is left
+pub lines-none : (s t : TextLines) (pieces : List (List ℕ)) → HasLines s pieces → lines_steps s None t → pieces ≡ []
+lines-none s t [] p k = refl
+lines-none s t (y ∷ ys) p k = absurd (p.runs.0 t k)

@@ -1,0 +1,12 @@
+use Rattle.std.proofs.Common.{Some, None, refl, sym, ◌∙◌}
+use Rattle.codespan_renderer.proofs.Hanging.{none_trails}
+use Rattle.codespan_renderer.proofs.term.renderer.messages.Messages.of.Goals.{in_default-via-in-Some+else-does_trail, in_default-via-in_default}
+use Rattle.codespan_renderer.proofs.term.renderer.messages.Messages.of.Goals as goal
+
+pub returns-in_default-clause-hanging : goal.returns-in_default-clause-hanging
+returns-in_default-clause-hanging c =
+    elim c.in_default.branch [
+      | in_default-via-in-Some+else-does_trail w ↦
+          none_trails c.args.labels.now (Some w.in-Some.place) _ c.greatest_end.ensures w.in-Some.ensures.value (sym w.does_trail.ensures ∙ w.if-does_trail.false)
+      | in_default-via-in_default w ↦ none_trails c.args.labels.now None _ c.greatest_end.ensures w.in_default.ensures.value refl
+    ]

@@ -1,0 +1,5 @@
+-- Words that private calls and proofs use: a reader of the public contracts needs none of them.
+pub mod CellsLeft
+pub mod GivenLine
+pub mod MarksLeft
+pub mod Runs

@@ -1,0 +1,59 @@
+-- Words of the loops that send rows: runs of one character, and the best style found so far.
+use Rattle.std.specs.Prelude.{◌≡◌, ℕ, ◌+◌, Bool, nat_lt, List, ◌++◌, map, filter, fold, reverse, take, drop, slice_get, Option, Some, None, if◌then◌else◌}
+use Rattle.std.specs.List.{list_any}
+use Rattle.std.specs.Option.{option_map}
+use Rattle.std.specs.Borrow.{Bor}
+use Rattle.codespan_base.specs.declared.diagnostic.LabelStyle.{LabelStyle}
+use Rattle.codespan_base.specs.declared.diagnostic.LabelStyle.TheVariants.{Primary}
+use Rattle.codespan_base.specs.declared.term.config.chars.Chars.{Chars}
+use Rattle.codespan_base.specs.Labels.{Labelled, has_message}
+use Rattle.codespan_base.specs.Streams.{Stream, blanks, repeated}
+use Rattle.codespan_picture.specs.declared.cells.Cell.{Cell}
+use Rattle.codespan_picture.specs.Carets.{caret_for}
+use Rattle.codespan_picture.specs.Given.{GivenLabel, labelled, all_labelled}
+use Rattle.codespan_picture.specs.Rows.{Look, Line, Around, HangingRow, hanging}
+use Rattle.codespan_picture.specs.RowParts.{starts_in, pointer_style}
+use Rattle.codespan_picture.specs.RowStreams.{stream_of_rows}
+
+-- so many carets of a style, or blanks
+unfoldable pub caret_run : Chars → Option LabelStyle → ℕ → Stream
+caret_run chars None count = blanks count
+caret_run chars (Some style) count = repeated count (caret_for chars (Some style))
+
+-- how many cells of carets or blanks a character has under it, where they reach to this end
+abbrev pub caret_count : ℕ → Option LabelStyle → Cell → ℕ
+caret_count end None c = if nat_lt c.place end then c.width else 0
+caret_count end (Some style) c = c.width
+
+-- of two styles a primary one goes first
+abbrev pub better : Option LabelStyle → LabelStyle → Option LabelStyle
+better (Some Primary) style = Some Primary
+better _ style = Some style
+
+-- the best style among what was found and the labels that pass
+abbrev pub best_from : (Labelled → Bool) → Option LabelStyle → List Labelled → Option LabelStyle
+best_from passes found xs = fold (λ best (x : Labelled). better best x.style) found (filter passes xs)
+
+-- the style of the pointer under a character, where a label hangs from it
+abbrev pub pointer_found : List Labelled → Cell → Option LabelStyle
+pointer_found hanging c = if list_any (starts_in c) hanging then Some (pointer_style hanging c) else None
+
+-- a label that may be there
+abbrev pub given_label : Option (Bor GivenLabel) → Option Labelled
+given_label x = option_map (λ (l : Bor GivenLabel). labelled l.now) x
+
+-- ---- messages
+
+-- the label at a place of the list, with those around it
+abbrev pub around_given : List GivenLabel → Option ℕ → Option Around
+around_given xs None = None
+around_given xs (Some place) =
+    option_map (λ x. record { before = all_labelled (take place xs); here = labelled x; after = all_labelled (drop (place + 1) xs) }) (slice_get xs place)
+
+-- the labels that hang are those of the two lists that have a message
+pub record AreHanging (labels before after : List GivenLabel) : Type 0 where
+  pub are : filter has_message (all_labelled (before ++ after)) ≡ hanging (all_labelled labels)
+
+-- the rows of messages that hang, the last one first
+abbrev pub hanging_stream : Look → Line → List Labelled → Stream
+hanging_stream look line xs = stream_of_rows look (map (HangingRow line) (reverse xs))

@@ -1,0 +1,3 @@
+//! The calls that draw rows.
+
+pub mod renderer;

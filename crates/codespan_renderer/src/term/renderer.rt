@@ -1,0 +1,311 @@
+//! The rows of a picture.
+
+ghost use Rattle.std.specs.Prelude.{◌≡◌};
+ghost use Rattle.codespan_picture.specs.Given.{lanes_in_order};
+
+mod carets;
+mod cells;
+mod header;
+mod lanes;
+mod line;
+mod messages;
+mod notes;
+mod parts;
+mod pointers;
+mod runs;
+mod source;
+mod underlines;
+
+use codespan_base::diagnostic::{LabelStyle, Severity};
+use codespan_base::files::Error;
+use codespan_base::term::{Config, WriteStyle};
+pub use codespan_picture::given::{Locus, MultiLabel, SingleLabel};
+use header::{send_header, send_start};
+use line::{Lanes, Line, Look, drawn_text, leading_whitespace};
+use notes::{send_break, send_empty, send_note};
+pub use parts::count_digits;
+use parts::send_newline;
+use source::send_line;
+use std::io;
+use std::io::Write;
+
+/// Whether the lanes ascend strictly and stay below their number: the one condition of the calls that are given lanes.
+pub fn lanes_in_order(
+    num_multi_labels: usize,
+    multi_labels: &[(usize, LabelStyle, MultiLabel<'_>)],
+) -> bool
+    ensures { result ≡ lanes_in_order num_multi_labels multi_labels.now }
+{
+    let mut least = 0;
+    for (lane, _, _) in multi_labels {
+        if *lane < least || *lane >= num_multi_labels {
+            return false;
+        }
+        least = *lane + 1;
+    }
+    true
+}
+
+/// Draws the rows of a picture to a writer.
+///
+/// Each call sends the stream of its rows, marks of style included. It refuses with [`Error::Io`] alone, where the writer refuses
+/// or takes nothing, and has then sent a beginning of the stream. No call is refused for want of memory.
+#[derive(Drop)]
+pub struct Renderer<'writer, 'config, W> {
+    writer: &'writer mut W,
+    config: &'config Config<'config>,
+}
+
+impl<'writer, 'config, W: WriteStyle> Renderer<'writer, 'config, W> {
+    ghost use Rattle.std.specs.Prelude.{◌≡◌, ◌++◌, IfErr, IsTrue};
+    ghost use Rattle.std.specs.Option.{option_map};
+    ghost use Rattle.std.specs.Str.Lines.{lines};
+    ghost use Rattle.codespan_base.specs.Errors.{IsIo};
+    ghost use Rattle.codespan_base.specs.Streams.{newline};
+    ghost use Rattle.codespan_base.specs.WriterLaw.{Sends};
+    ghost use Rattle.codespan_picture.specs.Cells.{drawn_text};
+    ghost use Rattle.codespan_picture.specs.Given.{all_labelled, lanes_of, place_of_given, text_now};
+    ghost use Rattle.codespan_renderer.specs.Inner.GivenLine.{look_of_given};
+    ghost use Rattle.codespan_picture.specs.Picture.{look_of};
+    ghost use Rattle.codespan_renderer.specs.Renderers.{writer_of, reference_of, config_of, SameRenderer};
+    ghost use Rattle.codespan_picture.specs.Rows.{rows_of};
+    ghost use Rattle.codespan_picture.specs.RowStreams.{header_row, start_row, empty_row, break_row, note_stream, stream_of_rows};
+
+    /// A renderer to the writer, by the configuration's characters, tab width and layout.
+    pub fn new(
+        writer: &'writer mut W,
+        config: &'config Config<'config>,
+    ) -> Renderer<'writer, 'config, W>
+        ensures reference { reference_of result ≡ writer.entry.ghost_name }
+        ensures writer { writer_of result ≡ writer.old }
+        ensures config { config_of result ≡ config.now }
+    {
+        Renderer { writer, config }
+    }
+
+    /// What all rows of one call share.
+    fn look(&self, severity: Severity, padding: usize) -> Look<'config>
+        ensures { look_of_given result ≡ look_of (config_of self.now) severity padding }
+    {
+        let config = self.config;
+        Look {
+            chars: &config.chars,
+            tab_width: config.tab_width,
+            layout: config.layout,
+            severity,
+            padding,
+        }
+    }
+
+    /// The header of a diagnostic: where it is, how bad it is, its code and its message. An empty code is not written.
+    ///
+    /// ```text
+    /// error[E0001]: unexpected type in `+` application
+    /// ```
+    pub fn render_header(
+        &mut self,
+        locus: Option<&Locus>,
+        severity: Severity,
+        code: Option<&str>,
+        message: &str,
+    ) -> Result<(), Error>
+        ensures same { SameRenderer self.old self.new }
+        ensures sends { Sends (W.sink (writer_of self.old)) (header_row severity (option_map (λ at. place_of_given at.now) locus.entry) (record { code = option_map text_now code.entry; message = message.now }) ++ newline) result (W.sink (writer_of self.new)) }
+        ensures io { IfErr result IsIo }
+    {
+        send_header(self.writer, locus, severity, code, message)?;
+        Ok(())
+    }
+
+    /// An empty line.
+    pub fn render_empty(&mut self) -> Result<(), Error>
+        ensures same { SameRenderer self.old self.new }
+        ensures sends { Sends (W.sink (writer_of self.old)) newline result (W.sink (writer_of self.new)) }
+        ensures io { IfErr result IsIo }
+    {
+        send_newline(self.writer)?;
+        Ok(())
+    }
+
+    /// The start of a file's snippet. `outer_padding` is the room for line numbers, in characters.
+    ///
+    /// ```text
+    /// ┌─ test:2:9
+    /// ```
+    pub fn render_snippet_start(&mut self, outer_padding: usize, locus: &Locus) -> Result<(), Error>
+        ensures same { SameRenderer self.old self.new }
+        ensures sends { Sends (W.sink (writer_of self.old)) (start_row (config_of self.old).chars outer_padding (place_of_given locus.now) ++ newline) result (W.sink (writer_of self.new)) }
+        ensures io { IfErr result IsIo }
+    {
+        let config = self.config;
+        send_start(self.writer, &config.chars, outer_padding, locus)?;
+        Ok(())
+    }
+
+    /// A line of the source with its carets, its messages and its underlines.
+    ///
+    /// `outer_padding` is the room for line numbers, in characters, and `num_multi_labels` the number of the file's lanes. Line feeds,
+    /// carriage returns and NULs at the end of `source` are not drawn, and a tab is drawn as the blanks up to its stop. Ranges are in bytes
+    /// of `source`.
+    ///
+    /// The labels may stand in any order, and their ranges may be reversed, past the end, or off character boundaries. The lanes of
+    /// `multi_labels` have to ascend strictly and stay below `num_multi_labels`; [`lanes_in_order`] tests this.
+    ///
+    /// ```text
+    /// 10 │   │ muffin. Halvah croissant candy canes bonbon candy. Apple pie jelly
+    ///    │ ╭─│─────────^
+    /// ```
+    pub fn render_snippet_source<'row, 'd>(
+        &mut self,
+        outer_padding: usize,
+        line_number: usize,
+        source: &'row str,
+        severity: Severity,
+        single_labels: &'row [SingleLabel<'d>],
+        num_multi_labels: usize,
+        multi_labels: &'row [(usize, LabelStyle, MultiLabel<'d>)],
+    ) -> Result<(), Error>
+        requires { IsTrue (lanes_in_order num_multi_labels multi_labels.now) }
+        ensures same { SameRenderer self.old self.new }
+        ensures sends { Sends (W.sink (writer_of self.old)) (stream_of_rows (look_of (config_of self.old) severity outer_padding) (rows_of (record { number = line_number; text = drawn_text source.now; labels = all_labelled single_labels.now; lanes = lanes_of num_multi_labels multi_labels.now }))) result (W.sink (writer_of self.new)) }
+        ensures io { IfErr result IsIo }
+    {
+        let text = drawn_text(source);
+        let line = Line {
+            number: line_number,
+            text,
+            leading: leading_whitespace(text),
+            labels: single_labels,
+            lanes: Lanes {
+                count: num_multi_labels,
+                marks: multi_labels,
+            },
+        };
+        let look = self.look(severity, outer_padding);
+        send_line(self.writer, look, line)?;
+        Ok(())
+    }
+
+    /// A row of a snippet without text.
+    ///
+    /// ```text
+    /// │ │ │
+    /// ```
+    pub fn render_snippet_empty(
+        &mut self,
+        outer_padding: usize,
+        severity: Severity,
+        num_multi_labels: usize,
+        multi_labels: &[(usize, LabelStyle, MultiLabel<'_>)],
+    ) -> Result<(), Error>
+        requires { IsTrue (lanes_in_order num_multi_labels multi_labels.now) }
+        ensures same { SameRenderer self.old self.new }
+        ensures sends { Sends (W.sink (writer_of self.old)) (empty_row (look_of (config_of self.old) severity outer_padding) (lanes_of num_multi_labels multi_labels.now) ++ newline) result (W.sink (writer_of self.new)) }
+        ensures io { IfErr result IsIo }
+    {
+        let look = self.look(severity, outer_padding);
+        let lanes = Lanes {
+            count: num_multi_labels,
+            marks: multi_labels,
+        };
+        send_empty(self.writer, look, lanes)?;
+        Ok(())
+    }
+
+    /// The row of a break: lines are left out here. Its marks are those of the next line.
+    ///
+    /// ```text
+    /// · │ │
+    /// ```
+    pub fn render_snippet_break(
+        &mut self,
+        outer_padding: usize,
+        severity: Severity,
+        num_multi_labels: usize,
+        multi_labels: &[(usize, LabelStyle, MultiLabel<'_>)],
+    ) -> Result<(), Error>
+        requires { IsTrue (lanes_in_order num_multi_labels multi_labels.now) }
+        ensures same { SameRenderer self.old self.new }
+        ensures sends { Sends (W.sink (writer_of self.old)) (break_row (look_of (config_of self.old) severity outer_padding) (lanes_of num_multi_labels multi_labels.now) ++ newline) result (W.sink (writer_of self.new)) }
+        ensures io { IfErr result IsIo }
+    {
+        let look = self.look(severity, outer_padding);
+        let lanes = Lanes {
+            count: num_multi_labels,
+            marks: multi_labels,
+        };
+        send_break(self.writer, look, lanes)?;
+        Ok(())
+    }
+
+    /// A note: a row for each of its lines, the first one after the bullet. A message without a line draws nothing.
+    ///
+    /// ```text
+    /// = expected type `Int`
+    ///      found type `String`
+    /// ```
+    pub fn render_snippet_note(&mut self, outer_padding: usize, message: &str) -> Result<(), Error>
+        ensures same { SameRenderer self.old self.new }
+        ensures sends { Sends (W.sink (writer_of self.old)) (note_stream (config_of self.old).chars outer_padding (lines message.now)) result (W.sink (writer_of self.new)) }
+        ensures io { IfErr result IsIo }
+    {
+        let config = self.config;
+        send_note(self.writer, &config.chars, outer_padding, message)?;
+        Ok(())
+    }
+}
+
+impl<W: WriteStyle> Write for Renderer<'_, '_, W> {
+    ghost use Rattle.codespan_renderer.specs.Renderers.{writer_of};
+
+    ghost contents = { λ r. W.contents (writer_of r) };
+
+    fn write(&mut self, buf: &[u8]) -> io::Result<usize> {
+        self.writer.write(buf)
+    }
+
+    fn flush(&mut self) -> io::Result<()> {
+        self.writer.flush()
+    }
+}
+
+#[tactic(auto, using(crate::proofs::Passing::passing))]
+impl<W: WriteStyle> WriteStyle for Renderer<'_, '_, W> {
+    ghost use Rattle.codespan_renderer.specs.Renderers.{writer_of, renderer_sink};
+
+    ghost sink = { λ r. renderer_sink W.sink r };
+
+    fn set_header(&mut self, severity: Severity) -> io::Result<()> {
+        self.writer.set_header(severity)
+    }
+
+    fn set_header_message(&mut self) -> io::Result<()> {
+        self.writer.set_header_message()
+    }
+
+    fn set_line_number(&mut self) -> io::Result<()> {
+        self.writer.set_line_number()
+    }
+
+    fn set_note_bullet(&mut self) -> io::Result<()> {
+        self.writer.set_note_bullet()
+    }
+
+    fn set_source_border(&mut self) -> io::Result<()> {
+        self.writer.set_source_border()
+    }
+
+    fn set_label(&mut self, severity: Severity, label_style: LabelStyle) -> io::Result<()> {
+        self.writer.set_label(severity, label_style)
+    }
+
+    fn reset(&mut self) -> io::Result<()> {
+        self.writer.reset()
+    }
+
+    fn put(&mut self, bytes: &[u8]) -> io::Result<usize> {
+        self.writer.put(bytes)
+    }
+
+    ghost tells = { λ r. W.tells (writer_of r) };
+}

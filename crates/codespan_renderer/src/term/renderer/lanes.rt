@@ -1,0 +1,219 @@
+//! The lanes of a row, left of the text.
+
+ghost use Rattle.std.specs.Prelude.{◌≡◌, ◌&&◌, ◌++◌, drop};
+ghost use Rattle.std.specs.Option.{option_map};
+ghost use Rattle.codespan_base.specs.WriterLaw.{Sends};
+ghost use Rattle.codespan_picture.specs.Given.{mark_of_given, part_of};
+ghost use Rattle.codespan_renderer.specs.Inner.GivenLine.{look_of_given, lanes_of_given, row_of_given, given_lane, given_lanes};
+ghost use Rattle.codespan_renderer.specs.Inner.MarksLeft.{mark_here, marks_after};
+ghost use Rattle.codespan_picture.specs.Lanes.{filling, lane_cells, corner_line, label_glyph, is_unbroken, turns_early, row_crossing, row_shape, underline_shape};
+
+use crate::term::renderer::MultiLabel;
+use crate::term::renderer::line::{Lanes, Look};
+use crate::term::renderer::parts::send_label_glyph;
+use codespan_base::diagnostic::LabelStyle;
+use codespan_base::term::config::sending::{send_blanks, send_repeated};
+use codespan_base::term::{Chars, Layout, WriteStyle};
+pub use codespan_picture::lanes::Shape;
+use std::io;
+
+/// The kind of a row, as far as its lanes go.
+#[derive(Clone, Copy)]
+pub enum LaneRow<'d> {
+    /// A source row.
+    Source,
+    /// An empty row or a break row.
+    Plain,
+    /// A caret, pointer or hanging row.
+    Below,
+    /// The underline row of a mark: its lane, its style, and its part.
+    Underline(usize, LabelStyle, MultiLabel<'d>),
+}
+
+/// What a mark shows in a row of the kind.
+fn shape_in(
+    layout: Layout,
+    leading: usize,
+    row: LaneRow<'_>,
+    lane: usize,
+    part: MultiLabel<'_>,
+) -> Shape
+    ensures { result ≡ row_shape layout leading (row_of_given row.entry) lane (part_of part.entry) }
+{
+    match (row, part) {
+        (LaneRow::Source, MultiLabel::Top(start)) if start <= leading => Shape::TopCorner,
+        (LaneRow::Source | LaneRow::Plain, MultiLabel::Top(_)) => Shape::Gap,
+        (LaneRow::Below, MultiLabel::Top(start)) if goes_on(layout, leading, start) => Shape::Bar,
+        (LaneRow::Below, MultiLabel::Top(_)) => Shape::Gap,
+        (LaneRow::Underline(turning, _, _), part) => {
+            underline_shape(layout, leading, turning, lane, part)
+        }
+        (_, _) => Shape::Bar,
+    }
+}
+
+/// Whether the lane of a label with its corner in the source row goes on below it.
+fn goes_on(layout: Layout, leading: usize, start: usize) -> bool
+    ensures { result ≡ is_unbroken layout && turns_early leading start }
+{
+    match layout {
+        Layout::Classic => false,
+        Layout::Unbroken => start <= leading,
+    }
+}
+
+/// What a mark shows in the underline row of the lane `turning`.
+fn underline_shape(
+    layout: Layout,
+    leading: usize,
+    turning: usize,
+    lane: usize,
+    part: MultiLabel<'_>,
+) -> Shape
+    ensures { result ≡ underline_shape layout leading turning lane (part_of part.entry) }
+{
+    match part {
+        MultiLabel::Top(start) if goes_on(layout, leading, start) => Shape::Bar,
+        MultiLabel::Top(_) if lane == turning => Shape::TopCorner,
+        MultiLabel::Top(_) if lane < turning => Shape::Bar,
+        MultiLabel::Top(_) => Shape::Gap,
+        MultiLabel::Left => Shape::Bar,
+        MultiLabel::Bottom(_, _) if lane == turning => Shape::BottomCorner,
+        MultiLabel::Bottom(_, _) if lane < turning => Shape::Gap,
+        MultiLabel::Bottom(_, _) => Shape::Bar,
+    }
+}
+
+/// The mark whose corner stands left of the lane in its own underline row.
+fn crossing<'d>(row: LaneRow<'d>, lane: usize) -> Option<(usize, LabelStyle, MultiLabel<'d>)>
+    ensures { option_map mark_of_given result ≡ row_crossing (row_of_given row.entry) lane }
+{
+    match row {
+        LaneRow::Underline(turning, style, part) if turning < lane => Some((turning, style, part)),
+        _ => None,
+    }
+}
+
+/// The character of the line that runs right from a corner.
+fn corner_line(chars: &Chars<'_>, part: MultiLabel<'_>) -> char
+    ensures { result ≡ corner_line chars.now (part_of part.entry) }
+{
+    match part {
+        MultiLabel::Top(_) => chars.multi_top,
+        _ => chars.multi_bottom,
+    }
+}
+
+/// A lane's part before its own character: blanks, or the line of a corner that stands to the left.
+#[tactic(auto, using(codespan_base::proofs::Sends::sendings), unfolding(codespan_picture::specs::Lanes::filling))]
+fn send_filling<W: WriteStyle>(
+    w: &mut W,
+    look: Look<'_>,
+    crossing: Option<(usize, LabelStyle, MultiLabel<'_>)>,
+    count: usize,
+) -> io::Result<()>
+    ensures { Sends (W.sink w.old) (filling look.entry.severity look.entry.chars.now (option_map mark_of_given crossing.entry) count) result (W.sink w.new) }
+{
+    match crossing {
+        None => send_blanks(w, count),
+        Some((_, style, part)) => {
+            w.set_label(look.severity, style)?;
+            send_repeated(w, corner_line(look.chars, part), count)?;
+            w.reset()
+        }
+    }
+}
+
+/// The two characters of a lane that is no gap: what fills it, and its own character.
+#[tactic(auto, using(codespan_base::proofs::Sends::sendings))]
+fn send_filled<W: WriteStyle>(
+    w: &mut W,
+    look: Look<'_>,
+    crossing: Option<(usize, LabelStyle, MultiLabel<'_>)>,
+    style: LabelStyle,
+    own: char,
+) -> io::Result<()>
+    ensures { Sends (W.sink w.old) (filling look.entry.severity look.entry.chars.now (option_map mark_of_given crossing.entry) 1 ++ label_glyph look.entry.severity style own) result (W.sink w.new) }
+{
+    send_filling(w, look, crossing, 1)?;
+    send_label_glyph(w, look.severity, style, own)
+}
+
+/// The two characters of a lane.
+#[tactic(auto, unfolding(codespan_picture::specs::Lanes::lane_cells))]
+fn send_lane_cells<W: WriteStyle>(
+    w: &mut W,
+    look: Look<'_>,
+    crossing: Option<(usize, LabelStyle, MultiLabel<'_>)>,
+    style: LabelStyle,
+    shape: Shape,
+) -> io::Result<()>
+    ensures { Sends (W.sink w.old) (lane_cells look.entry.severity look.entry.chars.now (option_map mark_of_given crossing.entry) style shape) result (W.sink w.new) }
+{
+    match shape {
+        Shape::Gap => send_filling(w, look, crossing, 2),
+        Shape::Bar => send_filled(w, look, crossing, style, look.chars.multi_left),
+        Shape::TopCorner => send_filled(w, look, crossing, style, look.chars.multi_top_left),
+        Shape::BottomCorner => send_filled(w, look, crossing, style, look.chars.multi_bottom_left),
+    }
+}
+
+/// One lane, from the mark in it.
+#[tactic(auto, unfolding(codespan_picture::specs::RowParts::lane_of, crate::specs::Inner::GivenLine::given_lane))]
+fn send_lane<W: WriteStyle>(
+    w: &mut W,
+    look: Look<'_>,
+    leading: usize,
+    row: LaneRow<'_>,
+    lane: usize,
+    mark: Option<(usize, LabelStyle, MultiLabel<'_>)>,
+) -> io::Result<()>
+    ensures { Sends (W.sink w.old) (given_lane (look_of_given look.entry) leading row.entry lane mark.entry) result (W.sink w.new) }
+{
+    let crossing = crossing(row, lane);
+    match mark {
+        None => send_lane_cells(w, look, crossing, LabelStyle::Primary, Shape::Gap),
+        Some((_, style, part)) => {
+            let shape = shape_in(look.layout, leading, row, lane, part);
+            send_lane_cells(w, look, crossing, style, shape)
+        }
+    }
+}
+
+/// The mark in the lane, if the next one is in it, and the place of the one after.
+#[tactic(auto, using(crate::proofs::LaneWalk::taking))]
+fn take_mark<'d>(
+    marks: &[(usize, LabelStyle, MultiLabel<'d>)],
+    next: usize,
+    lane: usize,
+) -> (Option<(usize, LabelStyle, MultiLabel<'d>)>, usize)
+    ensures mark { result.0 ≡ mark_here (drop next marks.now) lane }
+    ensures after { drop result.1 marks.now ≡ marks_after (drop next marks.now) lane }
+{
+    if next < marks.len() {
+        let mark = marks[next];
+        if mark.0 == lane {
+            return (Some(mark), next + 1);
+        }
+    }
+    (None, next)
+}
+
+/// The lanes of a row, from left to right.
+pub fn send_lanes<W: WriteStyle>(
+    w: &mut W,
+    look: Look<'_>,
+    leading: usize,
+    row: LaneRow<'_>,
+    lanes: Lanes<'_, '_>,
+) -> io::Result<()>
+    ensures { Sends (W.sink w.old) (given_lanes (look_of_given look.entry) leading row.entry (lanes_of_given lanes.entry)) result (W.sink w.new) }
+{
+    let mut next = 0;
+    for lane in 0..lanes.count {
+        let (mark, after) = take_mark(lanes.marks, next, lane);
+        send_lane(w, look, leading, row, lane, mark)?;
+        next = after;
+    }
+    Ok(())
+}

@@ -1,0 +1,79 @@
+//! Which message trails the carets of a line, and which hang below them.
+
+ghost use Rattle.std.specs.Prelude.{◌≡◌, ◌<◌, length, false, IfSome};
+ghost use Rattle.std.specs.Option.{option_map_or};
+ghost use Rattle.codespan_picture.specs.Given.{labelled, all_labelled};
+ghost use Rattle.codespan_renderer.specs.Inner.Runs.{given_label, around_given, AreHanging};
+ghost use Rattle.codespan_picture.specs.Rows.{trailing, last_with_end, is_overlapped, does_trail};
+
+use crate::term::renderer::SingleLabel;
+use crate::term::renderer::carets::{covers_part, greatest_end};
+
+/// The messages of the labels of a line.
+#[derive(Clone, Copy)]
+pub struct Messages<'row, 'd> {
+    /// The label whose message trails.
+    pub trailing: Option<&'row SingleLabel<'d>>,
+    /// The labels that may hang: those before the trailing one, or all where none trails.
+    pub before: &'row [SingleLabel<'d>],
+    /// The labels that may hang after these: those after the trailing one, or none.
+    pub after: &'row [SingleLabel<'d>],
+}
+
+impl<'row, 'd> Messages<'row, 'd> {
+    /// The last of the labels with the greatest end trails, where it has a message and overlaps no other; each other one that has
+    /// a message hangs.
+    pub fn of(labels: &'row [SingleLabel<'d>]) -> Messages<'row, 'd>
+        ensures trailing { given_label result.trailing ≡ trailing (all_labelled labels.now) }
+        ensures hanging { AreHanging labels.now result.before.now result.after.now }
+    {
+        match last_with_end(labels, greatest_end(labels)) {
+            Some(place) if does_trail(labels, place) => Messages {
+                trailing: Some(&labels[place]),
+                before: &labels[..place],
+                after: &labels[place + 1..],
+            },
+            _ => Messages {
+                trailing: None,
+                before: labels,
+                after: &[],
+            },
+        }
+    }
+}
+
+/// The place of the last label that ends there.
+fn last_with_end(labels: &[SingleLabel<'_>], end: usize) -> Option<usize>
+    ensures value { last_with_end end (all_labelled labels.now) ≡ around_given labels.now result }
+    ensures within { IfSome result (λ place. place < length labels.now) }
+{
+    for place in (0..labels.len()).rev() {
+        if labels[place].1.end == end {
+            return Some(place);
+        }
+    }
+    None
+}
+
+/// Whether the message of the label at this place trails: it has one, and overlaps no other label of the line.
+fn does_trail(labels: &[SingleLabel<'_>], place: usize) -> bool
+    requires { place < length labels.now }
+    ensures { result ≡ option_map_or does_trail (around_given labels.now (Some place)) false }
+{
+    let label = &labels[place];
+    !label.2.is_empty()
+        && !is_overlapped(label, &labels[..place])
+        && !is_overlapped(label, &labels[place + 1..])
+}
+
+/// Whether one of the others overlaps the label.
+fn is_overlapped(label: &SingleLabel<'_>, others: &[SingleLabel<'_>]) -> bool
+    ensures { result ≡ is_overlapped (labelled label.now) (all_labelled others.now) }
+{
+    for other in others {
+        if covers_part(label, other.1.start, other.1.end) {
+            return true;
+        }
+    }
+    false
+}

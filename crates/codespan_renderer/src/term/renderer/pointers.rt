@@ -1,0 +1,221 @@
+//! The pointers under the carets of a line, and the messages that hang from them.
+
+ghost use Rattle.std.specs.Prelude.{◌≡◌, ◌++◌, filter};
+ghost use Rattle.std.specs.List.{list_any};
+ghost use Rattle.codespan_base.specs.Labels.{has_message};
+ghost use Rattle.codespan_base.specs.Streams.{newline, blanks};
+ghost use Rattle.codespan_base.specs.WriterLaw.{Sends};
+ghost use Rattle.codespan_picture.specs.Cells.{cells};
+ghost use Rattle.codespan_picture.specs.Given.{labelled, all_labelled};
+ghost use Rattle.codespan_renderer.specs.Inner.GivenLine.{look_of_given, line_of_given};
+ghost use Rattle.codespan_picture.specs.Lanes.{label_glyph};
+ghost use Rattle.codespan_picture.specs.Rows.{hanging, hanging_rows};
+ghost use Rattle.codespan_picture.specs.RowParts.{cells_before, greatest_start, pointers, starts_in};
+ghost use Rattle.codespan_picture.specs.RowStreams.{pointer_row, hanging_row, stream_of_rows};
+ghost use Rattle.codespan_renderer.specs.Inner.Runs.{best_from, pointer_found, hanging_stream, AreHanging};
+
+use crate::term::renderer::SingleLabel;
+use crate::term::renderer::carets::{better, send_message};
+use crate::term::renderer::cells::{Cell, Cells};
+use crate::term::renderer::line::{Line, Look};
+use crate::term::renderer::messages::Messages;
+use crate::term::renderer::parts::{send_label_glyph, send_newline, send_opening};
+use crate::term::renderer::runs::send_blank_run;
+use codespan_base::diagnostic::LabelStyle;
+use codespan_base::term::WriteStyle;
+use std::io;
+
+/// The greatest start of the labels, 0 where there is none.
+fn greatest_start(labels: &[SingleLabel<'_>]) -> usize
+    ensures { result ≡ greatest_start (all_labelled labels.now) }
+{
+    let mut greatest = 0;
+    for label in labels {
+        greatest = label.1.start.max(greatest);
+    }
+    greatest
+}
+
+/// Whether the label starts in the character.
+fn starts_in(cell: Cell, label: &SingleLabel<'_>) -> bool
+    ensures { result ≡ starts_in cell (labelled label.now) }
+{
+    match label.1.start.checked_sub(cell.place) {
+        Some(inside) => inside < cell.bytes,
+        None => false,
+    }
+}
+
+/// The best style of what was found and of the labels with a message that start in the character.
+fn best_start(
+    found: Option<LabelStyle>,
+    labels: &[SingleLabel<'_>],
+    cell: Cell,
+) -> Option<LabelStyle>
+    ensures { result ≡ best_from (starts_in cell) found (filter has_message (all_labelled labels.now)) }
+{
+    let mut best = found;
+    for label in labels {
+        if !label.2.is_empty() && starts_in(cell, label) {
+            best = better(best, label.0);
+        }
+    }
+    best
+}
+
+/// The style of the pointer under a character, where a label hangs from it: a primary one goes first.
+fn pointer_in(
+    labels: &[SingleLabel<'_>],
+    messages: Messages<'_, '_>,
+    cell: Cell,
+) -> Option<LabelStyle>
+    requires { AreHanging labels.now messages.before.now messages.after.now }
+    ensures { result ≡ pointer_found (hanging (all_labelled labels.now)) cell }
+{
+    best_start(
+        best_start(None, messages.before, cell),
+        messages.after,
+        cell,
+    )
+}
+
+/// The blanks before a pointer, and the pointer.
+#[tactic(auto, using(codespan_base::proofs::Sends::sendings))]
+fn send_pointer<W: WriteStyle>(
+    w: &mut W,
+    look: Look<'_>,
+    blank: u128,
+    style: LabelStyle,
+) -> io::Result<()>
+    ensures { Sends (W.sink w.old) (blanks blank ++ label_glyph look.entry.severity style look.entry.chars.now.pointer_left) result (W.sink w.new) }
+{
+    send_blank_run(w, blank)?;
+    send_label_glyph(w, look.severity, style, look.chars.pointer_left)
+}
+
+/// The pointers of the characters of a line that begin before a place.
+fn send_pointers<W: WriteStyle>(
+    w: &mut W,
+    look: Look<'_>,
+    line: Line<'_, '_>,
+    messages: Messages<'_, '_>,
+    before: usize,
+) -> io::Result<()>
+    requires { AreHanging line.labels.now messages.before.now messages.after.now }
+    ensures { Sends (W.sink w.old) (pointers (look_of_given look.entry) (all_labelled line.entry.labels.now) (cells_before before (cells look.entry.tab_width line.entry.text.now))) result (W.sink w.new) }
+{
+    let reach = greatest_start(line.labels);
+    let mut blank = 0u128;
+    for cell in Cells::new(line.text, look.tab_width) {
+        if cell.place >= before {
+            continue;
+        }
+        let mut width = cell.width;
+        if let Some(style) = pointer_in(line.labels, messages, cell) {
+            send_pointer(w, look, blank, style)?;
+            blank = 0;
+            width = width.saturating_sub(1);
+        }
+        if cell.place <= reach {
+            blank += width as u128;
+        }
+    }
+    send_blank_run(w, blank)
+}
+
+/// The pointers under a line.
+#[tactic(auto, using(codespan_base::proofs::Sends::sendings, crate::proofs::RowWords::all_before), unfolding(codespan_picture::specs::RowStreams::pointer_row))]
+fn send_pointer_row<W: WriteStyle>(
+    w: &mut W,
+    look: Look<'_>,
+    line: Line<'_, '_>,
+    messages: Messages<'_, '_>,
+) -> io::Result<()>
+    requires { AreHanging line.labels.now messages.before.now messages.after.now }
+    ensures { Sends (W.sink w.old) (pointer_row (look_of_given look.entry) (line_of_given line.entry) ++ newline) result (W.sink w.new) }
+{
+    send_opening(w, look, line)?;
+    send_pointers(w, look, line, messages, usize::MAX)?;
+    send_newline(w)
+}
+
+/// A message under its pointer.
+#[tactic(auto, using(codespan_base::proofs::Sends::sendings), unfolding(codespan_picture::specs::RowStreams::hanging_row))]
+fn send_hanging_row<W: WriteStyle>(
+    w: &mut W,
+    look: Look<'_>,
+    line: Line<'_, '_>,
+    messages: Messages<'_, '_>,
+    label: &SingleLabel<'_>,
+) -> io::Result<()>
+    requires { AreHanging line.labels.now messages.before.now messages.after.now }
+    ensures { Sends (W.sink w.old) (hanging_row (look_of_given look.entry) (line_of_given line.entry) (labelled label.now) ++ newline) result (W.sink w.new) }
+{
+    send_opening(w, look, line)?;
+    send_pointers(w, look, line, messages, label.1.start)?;
+    send_message(w, look.severity, label)?;
+    send_newline(w)
+}
+
+/// The rows of the messages that hang among these labels, the last one first.
+fn send_hanging_rows<W: WriteStyle>(
+    w: &mut W,
+    look: Look<'_>,
+    line: Line<'_, '_>,
+    messages: Messages<'_, '_>,
+    labels: &[SingleLabel<'_>],
+) -> io::Result<()>
+    requires { AreHanging line.labels.now messages.before.now messages.after.now }
+    ensures { Sends (W.sink w.old) (hanging_stream (look_of_given look.entry) (line_of_given line.entry) (filter has_message (all_labelled labels.now))) result (W.sink w.new) }
+{
+    for label in labels.iter().rev() {
+        if label.2.is_empty() {
+            continue;
+        }
+        send_hanging_row(w, look, line, messages, label)?;
+    }
+    Ok(())
+}
+
+/// The pointers, and a row for each message that hangs.
+#[tactic(auto, using(codespan_base::proofs::Sends::sendings))]
+fn send_pointers_and_messages<W: WriteStyle>(
+    w: &mut W,
+    look: Look<'_>,
+    line: Line<'_, '_>,
+    messages: Messages<'_, '_>,
+) -> io::Result<()>
+    requires { AreHanging line.labels.now messages.before.now messages.after.now }
+    ensures { Sends (W.sink w.old) (pointer_row (look_of_given look.entry) (line_of_given line.entry) ++ newline ++ hanging_stream (look_of_given look.entry) (line_of_given line.entry) (filter has_message (all_labelled messages.entry.after.now)) ++ hanging_stream (look_of_given look.entry) (line_of_given line.entry) (filter has_message (all_labelled messages.entry.before.now))) result (W.sink w.new) }
+{
+    send_pointer_row(w, look, line, messages)?;
+    send_hanging_rows(w, look, line, messages, messages.after)?;
+    send_hanging_rows(w, look, line, messages, messages.before)
+}
+
+/// Whether one of the labels has a message.
+fn has_any_message(labels: &[SingleLabel<'_>]) -> bool
+    ensures { result ≡ list_any has_message (all_labelled labels.now) }
+{
+    for label in labels {
+        if !label.2.is_empty() {
+            return true;
+        }
+    }
+    false
+}
+
+/// The pointers, and a row for each message that hangs, where one does.
+pub fn send_all_hanging<W: WriteStyle>(
+    w: &mut W,
+    look: Look<'_>,
+    line: Line<'_, '_>,
+) -> io::Result<()>
+    ensures { Sends (W.sink w.old) (stream_of_rows (look_of_given look.entry) (hanging_rows (line_of_given line.entry) (hanging (all_labelled line.entry.labels.now)))) result (W.sink w.new) }
+{
+    let messages = Messages::of(line.labels);
+    if !has_any_message(messages.before) && !has_any_message(messages.after) {
+        return Ok(());
+    }
+    send_pointers_and_messages(w, look, line, messages)
+}

@@ -1,0 +1,178 @@
+//! The row of a line's source, and all rows of a line.
+
+ghost use Rattle.std.specs.Prelude.{◌≡◌, ◌++◌, ◌&&◌, map};
+ghost use Rattle.std.specs.List.{list_any};
+ghost use Rattle.codespan_base.specs.Labels.{LaneMark, is_primary, is_primary_style};
+ghost use Rattle.codespan_base.specs.Streams.{blanks, bytes, space, newline};
+ghost use Rattle.codespan_base.specs.WriterLaw.{Sends};
+ghost use Rattle.codespan_picture.specs.Carets.{covers};
+ghost use Rattle.codespan_picture.specs.Given.{all_labelled, mark_of_given, part_of};
+ghost use Rattle.codespan_renderer.specs.Inner.GivenLine.{look_of_given, line_of_given, lanes_of_given};
+ghost use Rattle.codespan_picture.specs.Rows.{caret_rows, rows_of};
+ghost use Rattle.codespan_picture.specs.RowParts.{border, change, coloured_text, leading_of, numbered_gutter, source_lanes, source_style, takes_in};
+ghost use Rattle.codespan_picture.specs.RowStreams.{source_row, stream_of_rows};
+
+use crate::term::renderer::carets::{covers, send_caret_row};
+use crate::term::renderer::cells::{Cell, Cells};
+use crate::term::renderer::lanes::{LaneRow, send_lanes};
+use crate::term::renderer::line::{Line, Look};
+use crate::term::renderer::parts::{
+    send_border, send_change, send_newline, send_numbered_gutter, send_space,
+};
+use crate::term::renderer::pointers::send_all_hanging;
+use crate::term::renderer::underlines::send_underlines;
+use crate::term::renderer::{MultiLabel, SingleLabel};
+use codespan_base::diagnostic::LabelStyle;
+use codespan_base::term::WriteStyle;
+use codespan_base::term::config::sending::{send, send_blanks};
+use std::io;
+
+/// Whether a label over several lines takes in the character.
+fn takes_in(cell: Cell, part: MultiLabel<'_>) -> bool
+    ensures { result ≡ takes_in cell (part_of part.entry) }
+{
+    match part {
+        MultiLabel::Top(start) => start <= cell.place,
+        MultiLabel::Left => true,
+        MultiLabel::Bottom(end, _) => match end.checked_sub(cell.place) {
+            Some(room) => cell.bytes <= room,
+            None => false,
+        },
+    }
+}
+
+/// Whether a primary label has a byte of the character.
+fn has_primary_label(labels: &[SingleLabel<'_>], cell: Cell) -> bool
+    ensures { result ≡ list_any (λ x. is_primary x && covers x cell) (all_labelled labels.now) }
+{
+    for label in labels {
+        if label.0 == LabelStyle::Primary && covers(label, cell) {
+            return true;
+        }
+    }
+    false
+}
+
+/// Whether a primary label over several lines takes in the character.
+fn has_primary_mark(marks: &[(usize, LabelStyle, MultiLabel<'_>)], cell: Cell) -> bool
+    ensures { result ≡ list_any (λ (m : LaneMark). is_primary_style m.style && takes_in cell m.part) (map mark_of_given marks.now) }
+{
+    for mark in marks {
+        if mark.1 == LabelStyle::Primary && takes_in(cell, mark.2) {
+            return true;
+        }
+    }
+    false
+}
+
+/// The style of a character of the source: primary where a primary label takes it in.
+fn text_style(line: Line<'_, '_>, cell: Cell) -> Option<LabelStyle>
+    ensures { result ≡ source_style (line_of_given line.entry) cell }
+{
+    if has_primary_label(line.labels, cell) || has_primary_mark(line.lanes.marks, cell) {
+        Some(LabelStyle::Primary)
+    } else {
+        None
+    }
+}
+
+/// The text of a line with a tab as blanks, and with marks where its style changes.
+fn send_coloured_text<W: WriteStyle>(
+    w: &mut W,
+    look: Look<'_>,
+    line: Line<'_, '_>,
+) -> io::Result<()>
+    ensures { Sends (W.sink w.old) (coloured_text (look_of_given look.entry) (line_of_given line.entry)) result (W.sink w.new) }
+{
+    let text = line.text.as_bytes();
+    let mut was = None;
+    let mut start = 0;
+    let mut end = 0;
+    for cell in Cells::new(line.text, look.tab_width) {
+        let style = text_style(line, cell);
+        let next = end + cell.bytes;
+        if cell.code == '\t' {
+            send_tab(w, look, &text[start..end], was, style, cell.width)?;
+            start = next;
+            was = style;
+        } else if style != was {
+            end_text_run(w, look, &text[start..end], was, style)?;
+            start = end;
+            was = style;
+        }
+        end = next;
+    }
+    end_text_run(w, look, &text[start..end], was, None)
+}
+
+/// The end of a run of text of one style, and the mark of the next.
+#[tactic(auto, using(codespan_base::proofs::Sends::sendings))]
+fn end_text_run<W: WriteStyle>(
+    w: &mut W,
+    look: Look<'_>,
+    text: &[u8],
+    was: Option<LabelStyle>,
+    style: Option<LabelStyle>,
+) -> io::Result<()>
+    ensures { Sends (W.sink w.old) (bytes text.now ++ change look.entry.severity was style) result (W.sink w.new) }
+{
+    send(w, text)?;
+    send_change(w, look.severity, was, style)
+}
+
+/// The end of a run of text before a tab, and the tab's blanks.
+#[tactic(auto, using(codespan_base::proofs::Sends::sendings))]
+fn send_tab<W: WriteStyle>(
+    w: &mut W,
+    look: Look<'_>,
+    text: &[u8],
+    was: Option<LabelStyle>,
+    style: Option<LabelStyle>,
+    width: usize,
+) -> io::Result<()>
+    ensures { Sends (W.sink w.old) (bytes text.now ++ change look.entry.severity was style ++ blanks width) result (W.sink w.new) }
+{
+    end_text_run(w, look, text, was, style)?;
+    send_blanks(w, width)
+}
+
+/// The number of a line, its border, its lanes, and one blank.
+#[tactic(auto, using(codespan_base::proofs::Sends::sendings, crate::proofs::RowWords::lanes_are))]
+fn send_source_lanes<W: WriteStyle>(w: &mut W, look: Look<'_>, line: Line<'_, '_>) -> io::Result<()>
+    ensures { Sends (W.sink w.old) (numbered_gutter look.entry.padding line.entry.number ++ border look.entry.chars.now ++ source_lanes (look_of_given look.entry) (leading_of (line_of_given line.entry)) (lanes_of_given line.entry.lanes) ++ space) result (W.sink w.new) }
+{
+    send_numbered_gutter(w, look.padding, line.number)?;
+    send_border(w, look.chars)?;
+    send_lanes(w, look, line.leading, LaneRow::Source, line.lanes)?;
+    send_space(w)
+}
+
+/// A line of the source.
+#[tactic(auto, using(codespan_base::proofs::Sends::sendings), unfolding(codespan_picture::specs::RowStreams::source_row))]
+fn send_source_row<W: WriteStyle>(w: &mut W, look: Look<'_>, line: Line<'_, '_>) -> io::Result<()>
+    ensures { Sends (W.sink w.old) (source_row (look_of_given look.entry) (line_of_given line.entry) ++ newline) result (W.sink w.new) }
+{
+    send_source_lanes(w, look, line)?;
+    send_coloured_text(w, look, line)?;
+    send_newline(w)
+}
+
+/// The carets under a line that has labels.
+fn send_caret_rows<W: WriteStyle>(w: &mut W, look: Look<'_>, line: Line<'_, '_>) -> io::Result<()>
+    ensures { Sends (W.sink w.old) (stream_of_rows (look_of_given look.entry) (caret_rows (line_of_given line.entry) (all_labelled line.entry.labels.now))) result (W.sink w.new) }
+{
+    if line.labels.is_empty() {
+        return Ok(());
+    }
+    send_caret_row(w, look, line)
+}
+
+/// All rows of a line: its source, its carets, what hangs from them, and its underlines.
+pub fn send_line<W: WriteStyle>(w: &mut W, look: Look<'_>, line: Line<'_, '_>) -> io::Result<()>
+    ensures { Sends (W.sink w.old) (stream_of_rows (look_of_given look.entry) (rows_of (line_of_given line.entry))) result (W.sink w.new) }
+{
+    send_source_row(w, look, line)?;
+    send_caret_rows(w, look, line)?;
+    send_all_hanging(w, look, line)?;
+    send_underlines(w, look, line)
+}

@@ -1,0 +1,178 @@
+//! The underlines of labels over several lines.
+
+ghost use Rattle.std.specs.Prelude.{◌≡◌, ◌++◌};
+ghost use Rattle.codespan_base.specs.Streams.{newline, bytes};
+ghost use Rattle.codespan_base.specs.WriterLaw.{Sends};
+ghost use Rattle.codespan_picture.specs.Cells.{cells, width_of};
+ghost use Rattle.codespan_picture.specs.Given.{mark_of_given, part_of};
+ghost use Rattle.codespan_renderer.specs.Inner.GivenLine.{look_of_given, line_of_given, lanes_of_given};
+ghost use Rattle.codespan_picture.specs.Rows.{has_underline, underline_rows};
+ghost use Rattle.codespan_picture.specs.RowParts.{border, gutter, leading_of, underline, underline_lanes, underline_message, start_caret, end_caret, cells_before, cells_up_to};
+ghost use Rattle.codespan_picture.specs.RowStreams.{underline_row, stream_of_rows};
+
+use crate::term::renderer::MultiLabel;
+use crate::term::renderer::cells::Cells;
+use crate::term::renderer::lanes::{LaneRow, send_lanes};
+use crate::term::renderer::line::{Line, Look};
+use crate::term::renderer::parts::{send_border, send_gutter, send_newline, send_space};
+use crate::term::renderer::runs::send_run;
+use codespan_base::diagnostic::LabelStyle;
+use codespan_base::term::config::sending::{send, send_char};
+use codespan_base::term::{Chars, WriteStyle};
+use std::io;
+
+/// How many cells the characters take that begin at a place or before it.
+fn width_up_to(text: &str, tab_width: usize, place: usize) -> u128
+    ensures { result ≡ width_of (cells_up_to place (cells tab_width text.now)) }
+{
+    let mut width = 0u128;
+    for cell in Cells::new(text, tab_width) {
+        if cell.place <= place {
+            width += cell.width as u128;
+        }
+    }
+    width
+}
+
+/// How many cells the characters take that begin before a place.
+#[tactic(auto, using(crate::proofs::Underlines::widths_before))]
+fn width_before(text: &str, tab_width: usize, place: usize) -> u128
+    ensures { result ≡ width_of (cells_before place (cells tab_width text.now)) }
+{
+    match place.checked_sub(1) {
+        Some(last) => width_up_to(text, tab_width, last),
+        None => 0,
+    }
+}
+
+/// The caret under the start of a label.
+fn start_caret(chars: &Chars<'_>, style: LabelStyle) -> char
+    ensures { result ≡ start_caret chars.now style }
+{
+    match style {
+        LabelStyle::Primary => chars.multi_primary_caret_start,
+        LabelStyle::Secondary => chars.multi_secondary_caret_start,
+    }
+}
+
+/// The caret under the end of a label.
+fn end_caret(chars: &Chars<'_>, style: LabelStyle) -> char
+    ensures { result ≡ end_caret chars.now style }
+{
+    match style {
+        LabelStyle::Primary => chars.multi_primary_caret_end,
+        LabelStyle::Secondary => chars.multi_secondary_caret_end,
+    }
+}
+
+/// One blank and the message, where there is one.
+#[tactic(auto, using(codespan_base::proofs::Sends::sendings, crate::proofs::Underlines::underline_messages))]
+fn send_underline_message<W: WriteStyle>(w: &mut W, message: &str) -> io::Result<()>
+    ensures { Sends (W.sink w.old) (underline_message (bytes message.now)) result (W.sink w.new) }
+{
+    if message.is_empty() {
+        return Ok(());
+    }
+    send_space(w)?;
+    send(w, message.as_bytes())
+}
+
+/// The line from the corner of a mark to its caret, the caret, and what the label says.
+#[tactic(auto, using(codespan_base::proofs::Sends::sendings), unfolding(codespan_picture::specs::RowParts::underline))]
+fn send_underline<W: WriteStyle>(
+    w: &mut W,
+    look: Look<'_>,
+    text: &str,
+    style: LabelStyle,
+    part: MultiLabel<'_>,
+) -> io::Result<()>
+    ensures { Sends (W.sink w.old) (underline look.entry.chars.now style (cells look.entry.tab_width text.now) (part_of part.entry)) result (W.sink w.new) }
+{
+    match part {
+        MultiLabel::Top(start) => {
+            send_run(
+                w,
+                look.chars.multi_top,
+                width_up_to(text, look.tab_width, start),
+            )?;
+            send_char(w, start_caret(look.chars, style))
+        }
+        MultiLabel::Left => Ok(()),
+        MultiLabel::Bottom(end, message) => {
+            send_run(
+                w,
+                look.chars.multi_bottom,
+                width_before(text, look.tab_width, end),
+            )?;
+            send_char(w, end_caret(look.chars, style))?;
+            send_underline_message(w, message)
+        }
+    }
+}
+
+/// The beginning of an underline row: up to its lanes.
+#[tactic(auto, using(codespan_base::proofs::Sends::sendings, crate::proofs::Underlines::underline_lanes_are))]
+fn send_underline_lanes<W: WriteStyle>(
+    w: &mut W,
+    look: Look<'_>,
+    line: Line<'_, '_>,
+    mark: (usize, LabelStyle, MultiLabel<'_>),
+) -> io::Result<()>
+    ensures { Sends (W.sink w.old) (gutter look.entry.padding ++ border look.entry.chars.now ++ underline_lanes (look_of_given look.entry) (leading_of (line_of_given line.entry)) (mark_of_given mark.entry) (lanes_of_given line.entry.lanes)) result (W.sink w.new) }
+{
+    let (lane, style, part) = mark;
+    send_gutter(w, look.padding)?;
+    send_border(w, look.chars)?;
+    send_lanes(
+        w,
+        look,
+        line.leading,
+        LaneRow::Underline(lane, style, part),
+        line.lanes,
+    )
+}
+
+/// The underline of a mark.
+#[tactic(auto, using(codespan_base::proofs::Sends::sendings), unfolding(codespan_picture::specs::RowStreams::underline_row))]
+fn send_underline_row<W: WriteStyle>(
+    w: &mut W,
+    look: Look<'_>,
+    line: Line<'_, '_>,
+    mark: (usize, LabelStyle, MultiLabel<'_>),
+) -> io::Result<()>
+    ensures { Sends (W.sink w.old) (underline_row (look_of_given look.entry) (line_of_given line.entry) (mark_of_given mark.entry) ++ newline) result (W.sink w.new) }
+{
+    let (_, style, part) = mark;
+    send_underline_lanes(w, look, line, mark)?;
+    w.set_label(look.severity, style)?;
+    send_underline(w, look, line.text, style, part)?;
+    w.reset()?;
+    send_newline(w)
+}
+
+/// Whether a mark has an underline row: a top corner that the source row draws has none.
+fn has_underline(leading: usize, part: MultiLabel<'_>) -> bool
+    ensures { result ≡ has_underline leading (part_of part.entry) }
+{
+    match part {
+        MultiLabel::Top(start) => start > leading,
+        MultiLabel::Left => false,
+        MultiLabel::Bottom(_, _) => true,
+    }
+}
+
+/// The underline rows of a line, in the order of the lanes.
+pub fn send_underlines<W: WriteStyle>(
+    w: &mut W,
+    look: Look<'_>,
+    line: Line<'_, '_>,
+) -> io::Result<()>
+    ensures { Sends (W.sink w.old) (stream_of_rows (look_of_given look.entry) (underline_rows (line_of_given line.entry))) result (W.sink w.new) }
+{
+    for mark in line.lanes.marks {
+        if has_underline(line.leading, mark.2) {
+            send_underline_row(w, look, line, *mark)?;
+        }
+    }
+    Ok(())
+}

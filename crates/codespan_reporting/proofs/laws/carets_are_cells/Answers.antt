@@ -1,5 +1,0 @@
-use Rattle.codespan_reporting.proofs.MeaningLemmas as meaning
-use Rattle.codespan_reporting.proofs.laws.carets_are_cells.Goals as goal
-
-pub returns : goal.returns
-returns c = meaning.carets_are_cells

@@ -1,5 +1,0 @@
-use Rattle.codespan_reporting.proofs.MessageLemmas.{trailing_and_hanging}
-use Rattle.codespan_reporting.proofs.laws.each_message_trails_or_hangs.Goals as goal
-
-pub returns : goal.returns
-returns c = λ weight labels only. trailing_and_hanging weight only labels

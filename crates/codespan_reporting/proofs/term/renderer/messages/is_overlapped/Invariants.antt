@@ -1,9 +1,0 @@
-use Rattle.std.proofs.Common.{◌≡◌, drop}
-use Rattle.codespan_reporting.specs.Given.{labelled, all_labelled}
-use Rattle.codespan_reporting.specs.Rows.{is_overlapped}
-use Rattle.codespan_reporting.proofs.term.renderer.messages.is_overlapped.Given as goal
-
--- the others that are left decide
-abbrev pub invariant-loop-other : goal.invariant-loop-other
-invariant-loop-other l =
-    is_overlapped (labelled l.label) (all_labelled (drop l.other-index l.others)) ≡ is_overlapped (labelled l.label) (all_labelled l.others)

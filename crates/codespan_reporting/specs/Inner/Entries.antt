@@ -1,0 +1,112 @@
+-- What labels say of lines, and the order in which a picture takes it.
+use Rattle.std.specs.Prelude.{ℕ, Bool, ◌==◌, List, [], ◌∷◌, ◌++◌, flat_map, Option, Some, None, if◌then◌else◌}
+use Rattle.std.specs.Ordering.{is_lt, nat_cmp, ordering_then}
+use Rattle.std.specs.declared.cmp.Ordering.{Ordering}
+use Rattle.codespan_base.specs.declared.term.config.Config.{Config}
+use Rattle.codespan_base.specs.FileModel.{FileModel}
+use Rattle.codespan_base.specs.Labels.{Labelled, LaneMark, first_line, last_line, is_single, drawn_label, mark_of, part_on}
+use Rattle.codespan_picture.specs.Lines.{shows}
+use Rattle.codespan_picture.specs.Lookups.{asked_lines}
+
+-- a line is shown, a label inside it has carets on it, or a label over several lines has a mark on it
+pub data Says : Type 0 where
+  Shown : Says
+  Single : (place : ℕ) (label : Labelled) → Says
+  Multi : (mark : LaneMark) → Says
+
+-- what is said of a line of a file; the file by its place among those of the picture
+pub record Entry : Type 0 where
+  pub file : ℕ
+  pub line : ℕ
+  pub says : Says
+
+-- ---- the order of entries
+
+-- what is shown comes first, then the labels inside the line, then those over several lines
+abbrev pub kind_of : Says → ℕ
+kind_of Shown = 0
+kind_of (Single place label) = 1
+kind_of (Multi mark) = 2
+
+-- the start of a label inside the line, or the lane of another
+abbrev pub first_of : Says → ℕ
+first_of Shown = 0
+first_of (Single place label) = label.start
+first_of (Multi mark) = mark.lane
+
+-- the end of a label inside the line
+abbrev pub second_of : Says → ℕ
+second_of Shown = 0
+second_of (Single place label) = label.end
+second_of (Multi mark) = 0
+
+-- the place of a label inside the line
+abbrev pub place_of : Says → ℕ
+place_of Shown = 0
+place_of (Single place label) = place
+place_of (Multi mark) = 0
+
+-- by file, line and kind; labels inside a line by their ranges, of equal ranges the one given last first; the others by lane
+abbrev pub entry_cmp : Entry → Entry → Ordering
+entry_cmp x y =
+    ordering_then (nat_cmp x.file y.file)
+    (ordering_then (nat_cmp x.line y.line)
+    (ordering_then (nat_cmp (kind_of x.says) (kind_of y.says))
+    (ordering_then (nat_cmp (first_of x.says) (first_of y.says))
+    (ordering_then (nat_cmp (second_of x.says) (second_of y.says))
+    (nat_cmp (place_of y.says) (place_of x.says))))))
+
+-- one entry stands before another
+abbrev pub is_below : Entry → Entry → Bool
+is_below x y = is_lt (entry_cmp x y)
+
+-- ---- tests on entries
+
+-- the entry says that its line is shown
+abbrev pub is_shown : Entry → Bool
+is_shown e = kind_of e.says == 0
+
+-- the entry is of this line
+abbrev pub is_on_line : ℕ → Entry → Bool
+is_on_line l e = e.line == l
+
+-- the entry is of this file
+abbrev pub is_of_file : ℕ → Entry → Bool
+is_of_file f e = e.file == f
+
+-- ---- what a label says of the lines of its file
+
+-- where a label is among those of a diagnostic: the place of its file, its own place, and the lane that it has where it is over several lines
+pub record LabelPlace : Type 0 where
+  pub file : ℕ
+  pub place : ℕ
+  pub lane : ℕ
+
+module _ (config : Config) (f : FileModel) (at : LabelPlace) (x : Labelled) where
+  -- an entry of its file
+  abbrev pub entry_on : ℕ → Says → Entry
+  entry_on l says = record { file = at.file; line = l; says = says }
+
+  -- that the line is shown
+  abbrev pub shown_entries : ℕ → List Entry
+  shown_entries l = if shows config (first_line f x) (last_line f x) l then entry_on l Shown ∷ [] else []
+
+  -- the mark of a label over several lines
+  abbrev pub entry_of_mark : ℕ → Option LaneMark → List Entry
+  entry_of_mark l None = []
+  entry_of_mark l (Some m) = entry_on l (Multi m) ∷ []
+
+  -- the carets of a label inside the line, or the mark of another
+  abbrev pub mark_entries : ℕ → List Entry
+  mark_entries l =
+      if is_single f x
+      then (if first_line f x == l then entry_on l (Single at.place (drawn_label f x)) ∷ [] else [])
+      else entry_of_mark l (mark_of at.lane x (part_on f l x))
+
+  -- what it says of a line
+  abbrev pub line_entries : ℕ → List Entry
+  line_entries l = shown_entries l ++ mark_entries l
+
+  -- what it says of all lines that it has looked up
+  abbrev pub entries_of : List Entry
+  entries_of = flat_map line_entries (asked_lines config f x)

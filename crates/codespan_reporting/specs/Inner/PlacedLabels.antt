@@ -1,0 +1,46 @@
+-- The labels of a diagnostic among each other: their files, their places and their lanes.
+use Rattle.std.specs.Prelude.{◌≡◌, ℕ, zero, suc, Bool, not, ◌&&◌, List, [], ◌∷◌, ◌++◌, length, count_by, map}
+use Rattle.std.specs.List.{position_or_len}
+use Rattle.codespan_base.specs.declared.term.config.Config.{Config}
+use Rattle.codespan_base.specs.FileModel.{FileModel}
+use Rattle.codespan_base.specs.Labels.{is_single, first_seen}
+use Rattle.codespan_reporting.specs.Inner.Entries.{Entry, LabelPlace, entries_of}
+use Rattle.codespan_picture.specs.Snippets.{InFile}
+
+-- id is the one at place f
+abbrev pub IsAt : {Id : Type 0} → List Id → ℕ → Id → Type 0
+IsAt [] f id = ⊥
+IsAt (j ∷ js) zero id = j ≡ id
+IsAt (j ∷ js) (suc f) id = IsAt js f id
+
+module _ {Id : Type 0} (same : Id → Id → Bool) where
+  -- the ids of the labels' files, in the order of their first label
+  abbrev pub file_ids : List (InFile Id) → List Id
+  file_ids xs = first_seen same (map (λ (x : InFile Id). x.id) xs)
+
+  -- the place of an id among those
+  abbrev pub file_place : List Id → Id → ℕ
+  file_place ids id = position_or_len (λ j. same j id) ids
+
+  module _ (file : Id → FileModel) where
+    -- the label is of this file and over several lines
+    abbrev pub is_multi_of : Id → InFile Id → Bool
+    is_multi_of id y = same id y.id && not (is_single (file y.id) y.label)
+
+    -- the lane of the next such label after these
+    abbrev pub lane_after : List (InFile Id) → Id → ℕ
+    lane_after before id = count_by (is_multi_of id) before
+
+    -- where a label is that comes after these
+    abbrev pub place_after : List Id → List (InFile Id) → InFile Id → LabelPlace
+    place_after ids before x = record { file = file_place ids x.id; place = length before; lane = lane_after before x.id }
+
+    -- what these labels say, after those before them
+    abbrev pub entries_after : Config → List Id → List (InFile Id) → List (InFile Id) → List Entry
+    entries_after config ids before [] = []
+    entries_after config ids before (x ∷ xs) =
+        entries_of config (file x.id) (place_after ids before x) x.label ++ entries_after config ids (before ++ x ∷ []) xs
+
+    -- what all labels of a diagnostic say
+    abbrev pub all_entries : Config → List (InFile Id) → List Entry
+    all_entries config xs = entries_after config (file_ids xs) [] xs

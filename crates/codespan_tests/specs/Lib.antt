@@ -1,0 +1,5 @@
+-- the writers of docs/WRITERS.md
+pub mod Tags
+-- tables of files that are made for tests
+mod Listings
+pub mod LongestFiles

@@ -1,0 +1,74 @@
+//! A picture of many labels, given in three orders.
+
+use codespan_reporting::diagnostic::{Diagnostic, Label, LabelStyle};
+use codespan_reporting::files::{Error, SimpleFile};
+use codespan_reporting::term::{Config, emit_into_string};
+use std::alloc::Global;
+use std::test::Fail;
+
+/// The text: fifty equal lines.
+fn source_of(alloc: Global) -> Result<String, Error> {
+    let mut source = String::new(alloc);
+    for _ in 0..50 {
+        source.push_str("abcdefgh\n")?;
+    }
+    Ok(source)
+}
+
+/// A label on the line that its place says, with its place as its message. Those of a line have ranges that overlap.
+fn label_of(alloc: Global, place: usize) -> Result<Label<()>, Error> {
+    let style = if place % 2 == 0 {
+        LabelStyle::Primary
+    } else {
+        LabelStyle::Secondary
+    };
+    let start = place % 50 * 9 + place / 50;
+    Label::new(alloc, style, (), start..start + 2).with_message(format_args!("m{place}"))
+}
+
+/// The picture: on each line its labels hang from the last to the first.
+fn picture(alloc: Global) -> Result<String, Error> {
+    let mut text = String::new(alloc);
+    text.push_str("error: \n   ┌─ f:1:1\n   │\n")?;
+    for line in 0..50_usize {
+        let carets = if line % 2 == 0 { "^^^^^" } else { "-----" };
+        let rows = format!(in alloc;
+            "{:>2} │ abcdefgh\n   │ {carets}\n   │ ││││\n   │ │││m{}\n   │ ││m{}\n   │ │m{}\n   │ m{}\n",
+            line + 1,
+            line + 150,
+            line + 100,
+            line + 50,
+            line,
+        )?;
+        text.push_str(rows.as_str())?;
+    }
+    text.push('\n')?;
+    Ok(text)
+}
+
+/// In the order of their places, in reverse order, and odd ones before even ones.
+fn place_at(order: usize, index: usize) -> usize {
+    match order {
+        0 => index,
+        1 => 199_usize.saturating_sub(index),
+        _ => index % 100 * 2 + (index < 100) as usize,
+    }
+}
+
+#[test]
+fn label_orders(rt: HostRuntime) -> Result<(), Fail> {
+    let alloc = rt.alloc();
+    let source = source_of(alloc)?;
+    let files = SimpleFile::new(alloc, "f", source.as_str())?;
+    let want = picture(alloc)?;
+    for order in 0..3 {
+        let mut diagnostic = Diagnostic::error(alloc);
+        for index in 0..200 {
+            let label = label_of(alloc, place_at(order, index))?;
+            diagnostic = diagnostic.with_label(label)?;
+        }
+        let text = emit_into_string(&Config::default(), &files, &diagnostic)?;
+        assert_eq!(rt; text.as_str(), want.as_str(), "order {order}");
+    }
+    Ok(())
+}

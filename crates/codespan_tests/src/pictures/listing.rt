@@ -1,0 +1,178 @@
+//! A table of files as users write their own: one text, whose lines are numbered by their indices, and some of whose lookups refuse.
+
+ghost use Rattle.std.specs.Prelude.{◌≡◌, refl, None, Some};
+ghost use Rattle.codespan_tests.specs.Listings.{is_at, is_from};
+
+use codespan_reporting::files::{Error, Files, Location, SimpleFile};
+use std::alloc::Global;
+use std::ops::Range;
+
+/// Which lookups refuse. Each refuses with a column of its kind, and with the line or the byte that was asked for.
+#[derive(Clone, Copy, Default)]
+pub struct Refused {
+    /// The name: column 1.
+    pub name: bool,
+    /// The source: column 2.
+    pub source: bool,
+    /// The location of any byte: column 3.
+    pub location: bool,
+    /// The line of this byte, and of those after it: column 4.
+    pub line_index: Option<usize>,
+    /// The number of this line: column 5.
+    pub line_number: Option<usize>,
+    /// The range of this line: column 6. A line past the end is refused as such.
+    pub line_range: Option<usize>,
+}
+
+/// A text whose lines are numbered from 0.
+#[derive(Drop)]
+pub struct Listing<'text> {
+    file: SimpleFile<&'text str, &'text str>,
+    refused: Refused,
+}
+
+impl<'text> Listing<'text> {
+    /// The text of this name, which refuses these lookups. Refuses with `OutOfMemory`.
+    pub fn new(
+        alloc: Global,
+        name: &'text str,
+        text: &'text str,
+        refused: Refused,
+    ) -> Result<Self, Error> {
+        Ok(Listing {
+            file: SimpleFile::new(alloc, name, text)?,
+            refused,
+        })
+    }
+}
+
+/// What a lookup of this kind refuses with.
+fn refusal(kind: usize, place: usize) -> Error
+    ensures { result ≡ Error.ColumnTooLarge kind place }
+{
+    Error::ColumnTooLarge {
+        given: kind,
+        max: place,
+    }
+}
+
+/// Whether the lookup of this place is the one that refuses.
+fn is_at(refused: Option<usize>, place: usize) -> bool
+    ensures { result ≡ is_at refused place }
+{
+    match refused {
+        Some(refused) => place == refused,
+        None => false,
+    }
+}
+
+/// Whether the lookup of this place is one of those that refuse.
+fn is_from(refused: Option<usize>, place: usize) -> bool
+    ensures { result ≡ is_from refused place }
+{
+    match refused {
+        Some(refused) => refused <= place,
+        None => false,
+    }
+}
+
+impl<'a, 'text: 'a> Files<'a> for Listing<'text> {
+    ghost use Rattle.codespan_base.specs.FileTables.{name_of, source_of};
+    ghost use Rattle.codespan_base.specs.FileModel.{line_of, or_refusal};
+    ghost use Rattle.codespan_base.specs.FileModel.Lookup.{Name as NameLookup, Source as SourceLookup, LineIndex, LineNumber, ColumnNumber, LocationAt, LineRange};
+    ghost use Rattle.codespan_base.specs.Lines.{line_starts_of};
+    ghost use Rattle.codespan_base.specs.SimpleModel.{simple_file, simple_column, past_end};
+    ghost use Rattle.codespan_base.specs.Lemmas.Simple.{renumbered_lawful, simple_lawful, simple_past_end, text_fits, text_is_utf8};
+    ghost use Rattle.codespan_tests.specs.Listings.{is_at, is_from, refused_if, refused-past_end};
+
+    type FileId = ();
+
+    type Name = &'text str;
+
+    type Source = &'text str;
+
+    // The file of the text, with other numbers.
+    ghost file = { λ s _. let text = (source_of s.file).now in record (simple_file (Some (name_of s.file).now) text) {
+      number = λ i. i;
+      location = λ byte. let i = line_of (line_starts_of text) byte in record { line_number = i; column_number = simple_column text i byte };
+    } };
+
+    ghost refusal = { λ s _. elim [
+      | NameLookup ↦ refused_if s.refused.name 1 0
+      | SourceLookup ↦ refused_if s.refused.source 2 0
+      | LineIndex byte ↦ refused_if (is_from s.refused.line_index byte) 4 byte
+      | LineNumber i ↦ refused_if (is_at s.refused.line_number i) 5 i
+      | ColumnNumber i byte ↦ past_end (source_of s.file).now i
+      | LocationAt byte ↦ refused_if s.refused.location 3 byte
+      | LineRange i ↦ or_refusal (past_end (source_of s.file).now i) (refused_if (is_at s.refused.line_range i) 6 i)
+    ] };
+
+    fn name(&'a self, _id: ()) -> Result<&'text str, Error> {
+        if self.refused.name {
+            return Err(refusal(1, 0));
+        }
+        Ok(*self.file.name())
+    }
+
+    fn source(&'a self, _id: ()) -> Result<&'text str, Error> {
+        if self.refused.source {
+            return Err(refusal(2, 0));
+        }
+        Ok(*self.file.source())
+    }
+
+    fn line_index(&'a self, _id: (), byte_index: usize) -> Result<usize, Error> {
+        if is_from(self.refused.line_index, byte_index) {
+            return Err(refusal(4, byte_index));
+        }
+        self.file.line_index((), byte_index)
+    }
+
+    fn line_number(&'a self, _id: (), line_index: usize) -> Result<usize, Error> {
+        if is_at(self.refused.line_number, line_index) {
+            return Err(refusal(5, line_index));
+        }
+        Ok(line_index)
+    }
+
+    fn column_number(
+        &'a self,
+        _id: (),
+        line_index: usize,
+        byte_index: usize,
+    ) -> Result<usize, Error> {
+        self.file.column_number((), line_index, byte_index)
+    }
+
+    // The byte's line is a line, so its column is told.
+    #[tactic(auto, using(codespan_base::specs::Lemmas::Lines::line_of_below))]
+    fn location(&'a self, _id: (), byte_index: usize) -> Result<Location, Error> {
+        if self.refused.location {
+            return Err(refusal(3, byte_index));
+        }
+        let line_index = self.file.line_index((), byte_index)?;
+        Ok(Location {
+            line_number: line_index,
+            column_number: self.file.column_number((), line_index, byte_index)?,
+        })
+    }
+
+    fn line_range(&'a self, _id: (), line_index: usize) -> Result<Range<usize>, Error> {
+        let range = self.file.line_range((), line_index)?;
+        if is_at(self.refused.line_range, line_index) {
+            return Err(refusal(6, line_index));
+        }
+        Ok(range)
+    }
+
+    // The lines are those of the file of a text, which is lawful; numbers are free.
+    ghost lawful = { λ s _. let text = (source_of s.file).now in let name = Some (name_of s.file).now in
+        renumbered_lawful (simple_file name text) _ _ _ (simple_lawful name text (text_is_utf8 s.file) (text_fits s.file)) };
+
+    // There is one id.
+    ghost same_file = { λ s i j e. (refl, refl) };
+
+    // A line past the last is refused as there.
+    ghost past_end = { λ s _ i. let text = (source_of s.file).now in let name = Some (name_of s.file).now in
+        refused-past_end (simple_file name text) i (past_end text i) (is_at s.refused.line_range i) 6 i (simple_past_end name text i) };
+}

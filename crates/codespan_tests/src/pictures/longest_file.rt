@@ -1,0 +1,99 @@
+//! A file that has a line for each index, so that contexts meet the greatest one.
+
+ghost use Rattle.std.specs.Prelude.{refl};
+
+use crate::pictures::drawing::draw_to;
+use codespan_reporting::diagnostic::{Diagnostic, Label};
+use codespan_reporting::files::{Error, Files, Location};
+use codespan_reporting::term::{Config, Layout};
+use std::ops::Range;
+use std::test::Fail;
+
+/// A text of newlines that is as long as a text can be. Its lines are empty and numbered by their indices, and its
+/// source refuses.
+#[derive(Drop)]
+struct LongestFile<'text> {
+    name: &'text str,
+}
+
+impl<'a, 'text: 'a> Files<'a> for LongestFile<'text> {
+    ghost use Rattle.codespan_tests.specs.LongestFiles.{longest_file, longest_refusal, longest_lawful, longest_past_end};
+
+    type FileId = ();
+
+    type Name = &'text str;
+
+    type Source = &'text str;
+
+    ghost file = { λ s _. longest_file s.name.now };
+
+    ghost refusal = { λ s _. longest_refusal };
+
+    fn name(&'a self, _id: ()) -> Result<&'text str, Error> {
+        Ok(self.name)
+    }
+
+    fn source(&'a self, _id: ()) -> Result<&'text str, Error> {
+        Err(Error::FileMissing)
+    }
+
+    #[tactic(auto, using(crate::specs::LongestFiles::longest_lines))]
+    fn line_index(&'a self, _id: (), byte_index: usize) -> Result<usize, Error> {
+        Ok(byte_index)
+    }
+
+    fn line_number(&'a self, _id: (), line_index: usize) -> Result<usize, Error> {
+        Ok(line_index)
+    }
+
+    fn column_number(
+        &'a self,
+        _id: (),
+        _line_index: usize,
+        _byte_index: usize,
+    ) -> Result<usize, Error> {
+        Ok(1)
+    }
+
+    fn location(&'a self, _id: (), byte_index: usize) -> Result<Location, Error> {
+        Ok(Location {
+            line_number: byte_index,
+            column_number: 1,
+        })
+    }
+
+    #[tactic(auto, using(crate::specs::LongestFiles::longest_lines))]
+    fn line_range(&'a self, _id: (), line_index: usize) -> Result<Range<usize>, Error> {
+        Ok(line_index..line_index)
+    }
+
+    ghost lawful = { λ s _. longest_lawful s.name.now };
+
+    ghost same_file = { λ s i j e. (refl, refl) };
+
+    ghost past_end = { λ s _ i. longest_past_end s.name.now i };
+}
+
+/// A context ends with the greatest index, and the picture goes on: its header comes, and then its source is asked for.
+#[test]
+fn context_past_all_indices(rt: HostRuntime) -> Result<(), Fail> {
+    let alloc = rt.alloc();
+    let files = LongestFile { name: "f" };
+    let (place, last) = (usize::MAX - 3, usize::MAX);
+    let diagnostic = Diagnostic::error(alloc)
+        .with_label(Label::primary(alloc, (), place..place))?
+        .with_label(Label::secondary(alloc, (), last..last))?;
+    for layout in [Layout::Classic, Layout::Unbroken] {
+        for after_label_lines in [0, 3, 4, 5, usize::MAX] {
+            let config = Config {
+                after_label_lines,
+                layout,
+                ..Config::default()
+            };
+            let (text, answer) = draw_to(alloc, &config, &files, &diagnostic);
+            assert!(rt; matches!(answer, Err(Error::FileMissing)));
+            assert_eq!(rt; text.as_slice(), "error: \n".as_bytes());
+        }
+    }
+    Ok(())
+}

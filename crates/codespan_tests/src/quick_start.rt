@@ -1,0 +1,67 @@
+//! The quick start of README.md.
+
+use codespan_reporting::diagnostic::{Diagnostic, Label, LabelStyle, Severity};
+use codespan_reporting::files::{Error, SimpleFiles};
+use codespan_reporting::term::{Config, PlainWriter, Renderer, emit_into_string};
+use std::alloc::Global;
+use std::test::Fail;
+
+/// The picture of a fault in a file of settings.
+fn picture(alloc: Global) -> Result<String, Error> {
+    let mut files = SimpleFiles::new(alloc);
+    let id = files.add("settings.toml", "retries = many\n")?;
+    let label = Label::primary(alloc, id, 10..14).with_message("expected a number")?;
+    let diagnostic = Diagnostic::error(alloc)
+        .with_code("E0001")?
+        .with_message("a value of the wrong type")?
+        .with_label(label)?;
+
+    emit_into_string(&Config::default(), &files, &diagnostic)
+}
+
+/// The rows of a line with three labels.
+fn rows(alloc: Global) -> Result<Vec<u8>, Error> {
+    let config = Config::default();
+    let mut plain = PlainWriter::new(Vec::new(alloc));
+    let mut renderer = Renderer::new(&mut plain, &config);
+    let labels = [
+        (
+            LabelStyle::Primary,
+            11..12,
+            "second mutable borrow occurs here",
+        ),
+        (
+            LabelStyle::Secondary,
+            4..5,
+            "first borrow later used by call",
+        ),
+        (
+            LabelStyle::Secondary,
+            6..10,
+            "first mutable borrow occurs here",
+        ),
+    ];
+    let line = "    v.push(v.pop().unwrap());";
+    renderer.render_snippet_source(1, 3, line, Severity::Error, &labels, 0, &[])?;
+    Ok(plain.into_inner())
+}
+
+#[test]
+fn quick_start(rt: HostRuntime) -> Result<(), Fail> {
+    let picture = picture(rt.alloc())?;
+    let want = "error[E0001]: a value of the wrong type\n  \
+                ┌─ settings.toml:1:11\n  \
+                │\n\
+                1 │ retries = many\n  \
+                │           ^^^^ expected a number\n\n";
+    assert_eq!(rt; picture.as_str(), want);
+
+    let rows = rows(rt.alloc())?;
+    let want = "3 │     v.push(v.pop().unwrap());\n\
+                \x20 │     - ---- ^ second mutable borrow occurs here\n\
+                \x20 │     │ │     \n\
+                \x20 │     │ first mutable borrow occurs here\n\
+                \x20 │     first borrow later used by call\n";
+    assert_eq!(rt; rows.as_slice(), want.as_bytes());
+    Ok(())
+}

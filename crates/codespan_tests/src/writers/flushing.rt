@@ -1,0 +1,47 @@
+//! Which calls flush.
+
+use crate::writers::send_every_mark;
+use codespan_reporting::term::config::sending::{send, send_blanks};
+use codespan_reporting::term::{Ansi, NoColor, PlainWriter, Styles, StylesWriter, WriteStyle};
+use std::io;
+use std::io::Write;
+use std::test::Fail;
+
+/// A writer that counts how often it is flushed.
+#[derive(Drop)]
+struct Counting {
+    flushes: usize,
+}
+
+impl Write for Counting {
+    fn write(&mut self, buf: &[u8]) -> io::Result<usize> {
+        Ok(buf.len())
+    }
+
+    fn flush(&mut self) -> io::Result<()> {
+        self.flushes = self.flushes.saturating_add(1);
+        Ok(())
+    }
+}
+
+/// Every mark, some text, and then one flush.
+fn send_and_flush<W: WriteStyle>(w: &mut W) -> io::Result<()> {
+    send_every_mark(w)?;
+    send(w, b"text")?;
+    send_blanks(w, 70)?;
+    w.flush()
+}
+
+/// A flush comes through each writer, and nothing else flushes.
+#[test]
+fn only_flush_flushes(rt: HostRuntime) -> Result<(), Fail> {
+    let styles = Styles::default();
+    let mut inner = Counting { flushes: 0 };
+    send_and_flush(&mut PlainWriter::new(&mut inner))?;
+    assert_eq!(rt; inner.flushes, 1);
+    send_and_flush(&mut StylesWriter::new(Ansi::new(&mut inner), &styles))?;
+    assert_eq!(rt; inner.flushes, 2);
+    send_and_flush(&mut StylesWriter::new(NoColor::new(&mut inner), &styles))?;
+    assert_eq!(rt; inner.flushes, 3);
+    Ok(())
+}
