@@ -5,6 +5,7 @@ pub mod ColumnLemmas
 pub mod Settings
 pub mod SetNumbers
 pub mod LineCuts
+pub mod HeldBytes
 pub mod LineCounts
 pub mod LineRuns
 -- writers

@@ -5,9 +5,10 @@ use Rattle.std.proofs.lemmas.Bool.{ne_eqb, false≢true}
 use Rattle.std.proofs.lemmas.Bool.Decides.{nat_tests}
 use Rattle.std.proofs.lemmas.List.{take-append-drop}
 use Rattle.codespan_base.specs.Streams.{bytes}
-use Rattle.codespan_base.specs.WriterLaw.{Frame, Sink, refusing, after_put, sent, is_told, Began}
+use Rattle.codespan_base.specs.WriterLaw.{Frame, Sink, refusing, after_put, sent, is_told, tells, gained, Began}
 use Rattle.codespan_base.proofs.Marks.{sink-by}
-use Rattle.codespan_base.proofs.Sends.{spelled-bytes, append_known-nil, bytes-append}
+use Rattle.codespan_base.proofs.HeldBytes.{append_known-nil}
+use Rattle.codespan_base.proofs.Sends.{spelled-bytes, bytes-append}
 
 -- a refusal to take any of some bytes
 pub after_put-none : (f : Frame) (bs : List ℕ) (n : ℕ) → n ≡ 0 → 0 < length bs → after_put f bs n ≡ refusing f
@@ -21,19 +22,21 @@ after_put-some f bs (suc n) h = rw (ne_eqb (suc n) 0 (λ e. omega (arith, e))) r
 
 -- what one `put` did, as a stream
 pub put-sent : (s : Sink) (bs : List ℕ) (n : ℕ) (t : Sink) → (n ≡ 0 → ⊥) → (t.frame ≡ after_put s.frame bs n) × (is_told s ≡ true → t.held ≡ append_known s.held (take n bs)) → (t.frame ≡ s.frame) × (is_told s ≡ true → t ≡ sent s (bytes (take n bs)))
-unfolding sent
+unfolding sent gained
 put-sent s bs n t h p = let f : t.frame ≡ s.frame = p.0 ∙ after_put-some s.frame bs n (λ e. absurd (h e)) in
     (f, λ told. sink-by s t _ _ f (p.1 told ∙ ap (append_known s.held) (sym (spelled-bytes s.frame.spelling (take n bs)))))
 
 -- a `put` that took none of some bytes, as a refused stream
 pub put-none : (s : Sink) (bs : List ℕ) (n : ℕ) (t : Sink) → n ≡ 0 → 0 < length bs → (t.frame ≡ after_put s.frame bs n) × (is_told s ≡ true → t.held ≡ append_known s.held (take n bs)) → (t.frame ≡ refusing s.frame) × (is_told s ≡ true → Began s (bytes bs) t)
+unfolding gained
 put-none s bs n t e h p = let f : t.frame ≡ refusing s.frame = p.0 ∙ after_put-none s.frame bs n e h in
-    (f, λ told. record { begun = []; rest = bs; whole = sym (spelled-bytes s.frame.spelling bs); held = p.1 told ∙ ap (λ (k : ℕ). append_known s.held (take k bs)) e })
+    (f, λ told. record { bytes = record { begun = []; rest = bs; whole = sym (spelled-bytes s.frame.spelling bs); held = p.1 told ∙ ap (λ (k : ℕ). append_known s.held (take k bs)) e } })
 
 -- a `put` that was refused, as a refused stream
 pub put-refused : (s : Sink) (bs : List ℕ) (t : Sink) → (t.frame ≡ refusing s.frame) × (is_told s ≡ true → t.held ≡ s.held) → (t.frame ≡ refusing s.frame) × (is_told s ≡ true → Began s (bytes bs) t)
+unfolding gained
 put-refused s bs t p =
-    (p.0, λ told. record { begun = []; rest = bs; whole = sym (spelled-bytes s.frame.spelling bs); held = p.1 told ∙ sym (append_known-nil s.held) })
+    (p.0, λ told. record { bytes = record { begun = []; rest = bs; whole = sym (spelled-bytes s.frame.spelling bs); held = p.1 told ∙ sym (append_known-nil s.held) } })
 
 -- the bytes that were taken, and those that are left
 pub bytes-take : (n : ℕ) (bs : List ℕ) → bytes bs ≡ bytes (take n bs) ++ bytes (drop n bs)
@@ -53,12 +56,12 @@ Keeps-some (Some xs) (Some ys) h a = ap (λ (l : List ℕ). Some l) a
 
 -- a write to the writer inside
 pub told-appends : (s : Sink) (m : Option (List ℕ)) (bs : List ℕ) → is_told s ≡ true → Appends s.held m bs → m ≡ append_known s.held bs
-unfolding is_told
+unfolding is_told tells
 told-appends s m bs h a = Appends-some s.held m bs h a
 
 -- a write to the writer inside that was refused
 pub told-keeps : (s : Sink) (m : Option (List ℕ)) → is_told s ≡ true → Keeps s.held m → m ≡ s.held
-unfolding is_told
+unfolding is_told tells
 told-keeps s m h a = Keeps-some s.held m h a
 
 -- one `put`

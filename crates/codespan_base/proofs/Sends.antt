@@ -1,8 +1,8 @@
 -- Calls that send, one after another.
-use Rattle.std.proofs.Common.{◌≡◌, ℕ, List, [], ◌∷◌, ◌++◌, refl, sym, ap, ◌∙◌, append_assoc, append-nil, Option, None, Some, is_some}
-use Rattle.std.specs.Io.KnownBytes.{append_known}
+use Rattle.std.proofs.Common.{◌≡◌, ℕ, List, [], ◌∷◌, ◌++◌, refl, sym, ap, subst, ◌∙◌, append_assoc, append-nil, Option, None, Some, is_some}
 use Rattle.codespan_base.specs.Streams.{Stream, Byte, Mark, Slot, Spelling, spelled, bytes}
-use Rattle.codespan_base.specs.WriterLaw.{Sink, sent, is_told, Began}
+use Rattle.codespan_base.specs.WriterLaw.{Sink, sent, is_told, gained, GainedPartly, Began}
+use Rattle.codespan_base.proofs.HeldBytes.{gained-append, gained-nil, tells-gained, GainedPartly-first, GainedPartly-last}
 
 -- what two streams spell, one after the other
 pub spelled-append : (f : Spelling) (a b : Stream) → spelled f (a ++ b) ≡ spelled f a ++ spelled f b
@@ -10,16 +10,6 @@ spelled-append f [] b = refl
 spelled-append f (Slot k ∷ a) b = spelled-append f a b
 spelled-append f (Byte x ∷ a) b = ap (λ (l : List ℕ). x ∷ l) (spelled-append f a b)
 spelled-append f (Mark m ∷ a) b = ap (λ (l : List ℕ). f m ++ l) (spelled-append f a b) ∙ sym (append_assoc (f m) (spelled f a) (spelled f b))
-
--- bytes come to known bytes, and then more
-pub append_known-append : (o : Option (List ℕ)) (a b : List ℕ) → append_known (append_known o a) b ≡ append_known o (a ++ b)
-append_known-append None a b = refl
-append_known-append (Some xs) a b = ap (λ (l : List ℕ). Some l) (append_assoc xs a b)
-
--- no bytes come
-pub append_known-nil : (o : Option (List ℕ)) → append_known o [] ≡ o
-append_known-nil None = refl
-append_known-nil (Some xs) = ap (λ (l : List ℕ). Some l) (append-nil xs)
 
 -- bytes are spelled as themselves
 pub spelled-bytes : (f : Spelling) (bs : List ℕ) → spelled f (bytes bs) ≡ bs
@@ -36,40 +26,32 @@ bytes-append (x ∷ a) b = ap (λ (l : Stream). Byte x ∷ l) (bytes-append a b)
 -- a stream came, and then another
 pub sent-append : (s : Sink) (a b : Stream) → sent s (a ++ b) ≡ sent (sent s a) b
 unfolding sent
-sent-append s a b = rw (append_known-append, spelled-append)
+sent-append s a b =
+    ap (λ (o : Option (List ℕ)). record s { held = o })
+    (ap (gained s.held) (spelled-append s.frame.spelling a b) ∙ gained-append s.held (spelled s.frame.spelling a) (spelled s.frame.spelling b))
 
 -- a beginning of the first part is one of the whole
 pub Began-first : (s : Sink) (a : Stream) (t : Sink) (b : Stream) → Began s a t → Began s (a ++ b) t
-Began-first s a t b p = record {
-  begun = p.begun;
-  rest = p.rest ++ spelled s.frame.spelling b;
-  whole = sym (append_assoc p.begun p.rest (spelled s.frame.spelling b)) ∙ ap (λ (l : List ℕ). l ++ spelled s.frame.spelling b) p.whole ∙ sym (spelled-append s.frame.spelling a b);
-  held = p.held;
-}
+Began-first s a t b p =
+    let f = s.frame.spelling in
+    record { bytes = subst (λ (l : List ℕ). GainedPartly s.held l t.held) (sym (spelled-append f a b)) (GainedPartly-first s.held (spelled f a) t.held (spelled f b) p.bytes) }
 
 -- a beginning of the last part, after the first part came
 pub Began-last : (s : Sink) (a b : Stream) (u : Sink) → Began (sent s a) b u → Began s (a ++ b) u
 unfolding sent
-Began-last s a b u q = record {
-  begun = spelled s.frame.spelling a ++ q.begun;
-  rest = q.rest;
-  whole = append_assoc (spelled s.frame.spelling a) q.begun q.rest ∙ ap (λ (l : List ℕ). spelled s.frame.spelling a ++ l) q.whole ∙ sym (spelled-append s.frame.spelling a b);
-  held = q.held ∙ append_known-append s.held (spelled s.frame.spelling a) q.begun;
-}
+Began-last s a b u q =
+    let f = s.frame.spelling in
+    record { bytes = subst (λ (l : List ℕ). GainedPartly s.held l u.held) (sym (spelled-append f a b)) (GainedPartly-last s.held (spelled f a) (spelled f b) u.held q.bytes) }
 
 -- nothing came
 pub sent-nil : (s : Sink) → sent s [] ≡ s
 unfolding sent
-sent-nil s = ap (λ (o : Option (List ℕ)). record s { held = o }) (append_known-nil s.held)
-
-pub is_some-append : (o : Option (List ℕ)) (bs : List ℕ) → is_some (append_known o bs) ≡ is_some o
-is_some-append None bs = refl
-is_some-append (Some xs) bs = refl
+sent-nil s = ap (λ (o : Option (List ℕ)). record s { held = o }) (gained-nil s.held)
 
 -- a writer that tells its bytes goes on telling them
 pub is_told-sent : (s : Sink) (a : Stream) → is_told (sent s a) ≡ is_told s
 unfolding sent is_told
-is_told-sent s a = is_some-append s.held (spelled s.frame.spelling a)
+is_told-sent s a = tells-gained s.held (spelled s.frame.spelling a)
 
 -- a beginning of the first part is one of the whole, however many parts follow
 pub Began_first_2 : (s : Sink) (a : Stream) (t : Sink) (b1 b2 : Stream) → Began s a t → Began s (a ++ b1 ++ b2) t

@@ -4,6 +4,25 @@ use Rattle.std.specs.Io.KnownBytes.{append_known}
 use Rattle.std.specs.Borrow.{GName}
 use Rattle.codespan_base.specs.Streams.{Stream, Spelling, spelled}
 
+-- ---- the bytes that a writer holds, where it tells them
+
+-- they are told
+unfoldable pub tells : Option (List ℕ) → Bool
+tells held = is_some held
+
+-- told bytes, and then these
+unfoldable pub gained : Option (List ℕ) → List ℕ → Option (List ℕ)
+gained held bs = append_known held bs
+
+-- told bytes, and then a beginning of these
+pub record GainedPartly (old : Option (List ℕ)) (bs : List ℕ) (new : Option (List ℕ)) : Type 0 where
+  pub begun : List ℕ
+  pub rest : List ℕ
+  pub whole : begun ++ rest ≡ bs
+  pub held : new ≡ gained old begun
+
+-- ---- a writer
+
 -- all of a writer but its bytes
 pub record Frame : Type 0 where
   -- the bytes of each mark, which no call changes
@@ -20,11 +39,7 @@ pub record Sink : Type 0 where
 
 -- the writer tells its bytes
 unfoldable pub is_told : Sink → Bool
-is_told s = is_some s.held
-
--- the writer after these bytes came
-abbrev pub with_bytes : Sink → List ℕ → Sink
-with_bytes s bs = record s { held = append_known s.held bs }
+is_told s = tells s.held
 
 -- the frame once the writer has refused
 abbrev pub refusing : Frame → Frame
@@ -32,14 +47,11 @@ refusing f = record f { refused = true }
 
 -- the writer after the stream came, with its marks spelled
 unfoldable pub sent : Sink → Stream → Sink
-sent s items = with_bytes s (spelled s.frame.spelling items)
+sent s items = record s { held = gained s.held (spelled s.frame.spelling items) }
 
 -- the writer has gained a beginning of the stream
 pub record Began (s : Sink) (items : Stream) (t : Sink) : Type 0 where
-  pub begun : List ℕ
-  pub rest : List ℕ
-  pub whole : begun ++ rest ≡ spelled s.frame.spelling items
-  pub held : t.held ≡ append_known s.held begun
+  pub bytes : GainedPartly s.held (spelled s.frame.spelling items) t.held
 
 -- a call that is refused sets the flag, and nothing else of the frame changes
 abbrev pub KeepsFrame : {T E : Type 0} → Frame → Result T E → Frame → Type 0

@@ -10,7 +10,7 @@ use Rattle.codespan_base.specs.Errors.{IsIo}
 use Rattle.codespan_base.specs.FileModel.{FileModel, Lookup}
 use Rattle.codespan_base.specs.Streams.{Stream}
 use Rattle.codespan_base.specs.WriterLaw.{Sink, sent, is_told, Began, Sends, refusing}
-use Rattle.codespan_base.proofs.Sends.{append_known-nil}
+use Rattle.codespan_base.proofs.HeldBytes.{gained-nil}
 use Rattle.codespan_picture.specs.Picture.{labels_of}
 use Rattle.codespan_picture.specs.Lookups.{Refusals, early_lookups, late_lookups, first_refusal}
 use Rattle.codespan_reporting.specs.Headline.{DrawsRich, viewed_picture, NamesAreStated}
@@ -20,7 +20,7 @@ use Rattle.codespan_reporting.proofs.Refusals.{first_refusal-some, first_refusal
 
 -- nothing came, which is a beginning of everything
 pub Began-none : (s : Sink) (items : Stream) (t : Sink) → t ≡ s → Began s items t
-Began-none s items t same = record { begun = []; rest = _; whole = refl; held = ap (λ (x : Sink). x.held) same ∙ sym (append_known-nil s.held) }
+Began-none s items t same = record { bytes = record { begun = []; rest = _; whole = refl; held = ap (λ (x : Sink). x.held) same ∙ sym (gained-nil s.held) } }
 
 -- an error is not both of these
 two_errors : (e : Error) → e ≡ FormatError → e ≡ OutOfMemory → ⊥

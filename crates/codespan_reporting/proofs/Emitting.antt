@@ -6,7 +6,7 @@ use Rattle.codespan_base.specs.declared.term.config.Config.{Config}
 use Rattle.codespan_base.specs.declared.diagnostic.Diagnostic.{Diagnostic}
 use Rattle.codespan_base.specs.FileModel.{FileModel}
 use Rattle.codespan_base.specs.Streams.{Stream, text_of, no_marks}
-use Rattle.codespan_base.specs.WriterLaw.{Sink, sent, is_told}
+use Rattle.codespan_base.specs.WriterLaw.{Sink, sent, is_told, tells, gained}
 use Rattle.codespan_base.specs.Writers.{fresh_sink}
 use Rattle.codespan_picture.specs.Lookups.{Refusals, lookups_in, AllAnswered}
 use Rattle.codespan_picture.specs.Picture.{picture_in}
@@ -16,7 +16,7 @@ use Rattle.codespan_reporting.specs.Headline.{NamesAreStated, viewed_picture, Dr
 -- a plain writer that held nothing and was sent a stream holds its text
 held_text : (old new : Sink) (bytes : List ℕ) (s : Stream) → old ≡ fresh_sink no_marks (Some []) → new.held ≡ Some bytes
     → (is_told old ≡ true → new ≡ sent old s) → bytes ≡ text_of s
-unfolding sent is_told
+unfolding sent is_told tells gained
 held_text old new bytes s fresh held came =
     let now = came (ap is_told fresh) ∙ ap (λ (x : Sink). sent x s) fresh in
     let whole : Some bytes ≡ Some (text_of s) = sym held ∙ ap (λ (x : Sink). x.held) now in

@@ -2,8 +2,9 @@ use Rattle.std.proofs.Common.{arith, refl, ap, ◌∙◌, ◌≡◌, ◌<◌, �
 use Rattle.std.proofs.lemmas.Result.{err_from_is_err_and}
 use Rattle.std.proofs.lemmas.Bool.Decides.{nat_tests}
 use Rattle.std.proofs.lemmas.Grind.{common_steps}
-use Rattle.codespan_base.specs.ColorLaw.{painted}
-use Rattle.codespan_base.proofs.Paints.{Poured-start, Poured-tells, Poured-more, Poured-refused, Poured-end, tells-appends, tells-keeps, painted-nil}
+use Rattle.codespan_base.specs.WriterLaw.{gained}
+use Rattle.codespan_base.proofs.HeldBytes.{gained-nil}
+use Rattle.codespan_base.proofs.Paints.{Poured-start, Poured-tells, Poured-more, Poured-refused, Poured-end, tells-appends, tells-keeps}
 use Rattle.codespan_base.proofs.term.config.pouring.pour.Goals as goal
 
 pub loop-rest-init : goal.loop-rest-init
@@ -19,7 +20,7 @@ returns-in_err-count-clause-nothing g c = λ none. let some : 0 < length c.loop-
 
 pub returns-then-count-eq0-clause-paints : goal.returns-then-count-eq0-clause-paints
 returns-then-count-eq0-clause-paints g c = λ told. let i = c.loop-rest.invariant.poured told in
-    Poured-refused _ _ _ _ _ i (tells-appends _ _ _ (Poured-tells _ _ _ _ told i) c.in_ok-count.ensures.bytes ∙ ap (λ (k : ℕ). painted (g.W.Write.contents c.loop-rest.w) (take k c.loop-rest.rest.now)) c.if-count-eq0.true ∙ painted-nil _)
+    Poured-refused _ _ _ _ _ i (tells-appends _ _ _ (Poured-tells _ _ _ _ told i) c.in_ok-count.ensures.bytes ∙ ap (λ (k : ℕ). gained (g.W.Write.contents c.loop-rest.w) (take k c.loop-rest.rest.now)) c.if-count-eq0.true ∙ gained-nil _)
 
 pub returns-then-count-eq0-clause-nothing : goal.returns-then-count-eq0-clause-nothing
 returns-then-count-eq0-clause-nothing g c = λ none. let some : 0 < length c.loop-rest.rest.now = grind (arith, nat_tests) in

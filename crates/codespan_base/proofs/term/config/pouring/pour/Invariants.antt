@@ -1,5 +1,5 @@
 use Rattle.std.proofs.Common.{length, ◌≡◌, ◌≤◌, [], true}
-use Rattle.codespan_base.specs.ColorLaw.{tells}
+use Rattle.codespan_base.specs.WriterLaw.{tells}
 use Rattle.codespan_base.proofs.Paints.{Poured}
 use Rattle.codespan_base.proofs.term.config.pouring.pour.Given as goal
 
