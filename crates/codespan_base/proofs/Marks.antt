@@ -1,5 +1,5 @@
 -- A mark as the bytes that spell it, and bytes that a writer of colours sends.
-use Rattle.std.proofs.Common.{◌≡◌, ℕ, true, List, [], Option, append-nil, Result, Ok, Err, refl, sym, ap, subst, ◌∙◌}
+use Rattle.std.proofs.Common.{◌≡◌, ℕ, true, List, [], Option, append-nil, Result, Ok, Err, refl, sym, ap, ◌∙◌}
 use Rattle.codespan_base.specs.Streams.{StyleMark, one_mark, bytes}
 use Rattle.codespan_base.specs.WriterLaw.{Frame, Sink, is_told, tells, gained, GainedPartly, sent, Began, Sends}
 use Rattle.codespan_base.proofs.HeldBytes.{gained-nil}
@@ -19,9 +19,12 @@ sent_one_mark s m =
 -- a mark began where the bytes that spell it began
 pub began_one_mark : (s : Sink) (m : StyleMark) (t : Sink) → Began s (bytes (s.frame.spelling m)) t → Began s (one_mark m) t
 unfolding one_mark
-began_one_mark s m t p =
-    let spelling = s.frame.spelling m in
-    record { bytes = subst (λ (l : List ℕ). GainedPartly s.held l t.held) (spelled-bytes s.frame.spelling spelling ∙ sym (append-nil spelling)) p.bytes }
+began_one_mark s m t p = record {
+  begun = p.begun;
+  rest = p.rest;
+  whole = p.whole ∙ spelled-bytes s.frame.spelling (s.frame.spelling m) ∙ sym (append-nil (s.frame.spelling m));
+  held = p.held;
+}
 
 -- a call that sends the bytes of a mark
 pub ruleset marking = (sent_one_mark, began_one_mark)
@@ -48,4 +51,4 @@ gained_sent s t bs f e = sink-by s t _ _ f (e ∙ ap (gained s.held) (sym (spell
 
 -- the bytes began
 pub partly_began : (s t : Sink) (bs : List ℕ) → GainedPartly s.held bs t.held → Began s (bytes bs) t
-partly_began s t bs p = record { bytes = subst (λ (l : List ℕ). GainedPartly s.held l t.held) (sym (spelled-bytes s.frame.spelling bs)) p }
+partly_began s t bs p = record { begun = p.begun; rest = p.rest; whole = p.whole ∙ sym (spelled-bytes s.frame.spelling bs); held = p.held }

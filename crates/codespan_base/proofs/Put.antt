@@ -30,13 +30,13 @@ put-sent s bs n t h p = let f : t.frame ≡ s.frame = p.0 ∙ after_put-some s.f
 pub put-none : (s : Sink) (bs : List ℕ) (n : ℕ) (t : Sink) → n ≡ 0 → 0 < length bs → (t.frame ≡ after_put s.frame bs n) × (is_told s ≡ true → t.held ≡ append_known s.held (take n bs)) → (t.frame ≡ refusing s.frame) × (is_told s ≡ true → Began s (bytes bs) t)
 unfolding gained
 put-none s bs n t e h p = let f : t.frame ≡ refusing s.frame = p.0 ∙ after_put-none s.frame bs n e h in
-    (f, λ told. record { bytes = record { begun = []; rest = bs; whole = sym (spelled-bytes s.frame.spelling bs); held = p.1 told ∙ ap (λ (k : ℕ). append_known s.held (take k bs)) e } })
+    (f, λ told. record { begun = []; rest = bs; whole = sym (spelled-bytes s.frame.spelling bs); held = p.1 told ∙ ap (λ (k : ℕ). append_known s.held (take k bs)) e })
 
 -- a `put` that was refused, as a refused stream
 pub put-refused : (s : Sink) (bs : List ℕ) (t : Sink) → (t.frame ≡ refusing s.frame) × (is_told s ≡ true → t.held ≡ s.held) → (t.frame ≡ refusing s.frame) × (is_told s ≡ true → Began s (bytes bs) t)
 unfolding gained
 put-refused s bs t p =
-    (p.0, λ told. record { bytes = record { begun = []; rest = bs; whole = sym (spelled-bytes s.frame.spelling bs); held = p.1 told ∙ sym (append_known-nil s.held) } })
+    (p.0, λ told. record { begun = []; rest = bs; whole = sym (spelled-bytes s.frame.spelling bs); held = p.1 told ∙ sym (append_known-nil s.held) })
 
 -- the bytes that were taken, and those that are left
 pub bytes-take : (n : ℕ) (bs : List ℕ) → bytes bs ≡ bytes (take n bs) ++ bytes (drop n bs)

@@ -1,8 +1,8 @@
 -- Calls that send, one after another.
-use Rattle.std.proofs.Common.{◌≡◌, ℕ, List, [], ◌∷◌, ◌++◌, refl, sym, ap, subst, ◌∙◌, append_assoc, append-nil, Option, None, Some, is_some}
+use Rattle.std.proofs.Common.{◌≡◌, ℕ, List, [], ◌∷◌, ◌++◌, refl, sym, ap, ◌∙◌, append_assoc, Option}
 use Rattle.codespan_base.specs.Streams.{Stream, Byte, Mark, Slot, Spelling, spelled, bytes}
-use Rattle.codespan_base.specs.WriterLaw.{Sink, sent, is_told, gained, GainedPartly, Began}
-use Rattle.codespan_base.proofs.HeldBytes.{gained-append, gained-nil, tells-gained, GainedPartly-first, GainedPartly-last}
+use Rattle.codespan_base.specs.WriterLaw.{Sink, sent, is_told, gained, Began}
+use Rattle.codespan_base.proofs.HeldBytes.{gained-append, gained-nil, tells-gained}
 
 -- what two streams spell, one after the other
 pub spelled-append : (f : Spelling) (a b : Stream) → spelled f (a ++ b) ≡ spelled f a ++ spelled f b
@@ -32,16 +32,22 @@ sent-append s a b =
 
 -- a beginning of the first part is one of the whole
 pub Began-first : (s : Sink) (a : Stream) (t : Sink) (b : Stream) → Began s a t → Began s (a ++ b) t
-Began-first s a t b p =
-    let f = s.frame.spelling in
-    record { bytes = subst (λ (l : List ℕ). GainedPartly s.held l t.held) (sym (spelled-append f a b)) (GainedPartly-first s.held (spelled f a) t.held (spelled f b) p.bytes) }
+Began-first s a t b p = record {
+  begun = p.begun;
+  rest = p.rest ++ spelled s.frame.spelling b;
+  whole = sym (append_assoc p.begun p.rest (spelled s.frame.spelling b)) ∙ ap (λ (l : List ℕ). l ++ spelled s.frame.spelling b) p.whole ∙ sym (spelled-append s.frame.spelling a b);
+  held = p.held;
+}
 
 -- a beginning of the last part, after the first part came
 pub Began-last : (s : Sink) (a b : Stream) (u : Sink) → Began (sent s a) b u → Began s (a ++ b) u
 unfolding sent
-Began-last s a b u q =
-    let f = s.frame.spelling in
-    record { bytes = subst (λ (l : List ℕ). GainedPartly s.held l u.held) (sym (spelled-append f a b)) (GainedPartly-last s.held (spelled f a) (spelled f b) u.held q.bytes) }
+Began-last s a b u q = record {
+  begun = spelled s.frame.spelling a ++ q.begun;
+  rest = q.rest;
+  whole = append_assoc (spelled s.frame.spelling a) q.begun q.rest ∙ ap (λ (l : List ℕ). spelled s.frame.spelling a ++ l) q.whole ∙ sym (spelled-append s.frame.spelling a b);
+  held = q.held ∙ sym (gained-append s.held (spelled s.frame.spelling a) q.begun);
+}
 
 -- nothing came
 pub sent-nil : (s : Sink) → sent s [] ≡ s

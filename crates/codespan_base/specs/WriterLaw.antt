@@ -51,7 +51,10 @@ sent s items = record s { held = gained s.held (spelled s.frame.spelling items) 
 
 -- the writer has gained a beginning of the stream
 pub record Began (s : Sink) (items : Stream) (t : Sink) : Type 0 where
-  pub bytes : GainedPartly s.held (spelled s.frame.spelling items) t.held
+  pub begun : List ℕ
+  pub rest : List ℕ
+  pub whole : begun ++ rest ≡ spelled s.frame.spelling items
+  pub held : t.held ≡ gained s.held begun
 
 -- a call that is refused sets the flag, and nothing else of the frame changes
 abbrev pub KeepsFrame : {T E : Type 0} → Frame → Result T E → Frame → Type 0

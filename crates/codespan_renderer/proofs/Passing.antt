@@ -14,6 +14,6 @@ unfolding is_told
 is_told_behind name s = refl
 
 pub began_behind : (name : GName) (s : Sink) (items : Stream) (t : Sink) → Began s items t → Began (behind name s) items (behind name t)
-began_behind name s items t p = record { bytes = p.bytes }
+began_behind name s items t p = record { begun = p.begun; rest = p.rest; whole = p.whole; held = p.held }
 
 pub ruleset passing = (sent_behind, is_told_behind, began_behind)

@@ -20,7 +20,7 @@ use Rattle.codespan_reporting.proofs.Refusals.{first_refusal-some, first_refusal
 
 -- nothing came, which is a beginning of everything
 pub Began-none : (s : Sink) (items : Stream) (t : Sink) → t ≡ s → Began s items t
-Began-none s items t same = record { bytes = record { begun = []; rest = _; whole = refl; held = ap (λ (x : Sink). x.held) same ∙ sym (gained-nil s.held) } }
+Began-none s items t same = record { begun = []; rest = _; whole = refl; held = ap (λ (x : Sink). x.held) same ∙ sym (gained-nil s.held) }
 
 -- an error is not both of these
 two_errors : (e : Error) → e ≡ FormatError → e ≡ OutOfMemory → ⊥

@@ -78,6 +78,7 @@ impl<W: WriteColor> Write for StylesWriter<'_, W> {
     }
 }
 
+#[tactic(auto, using(crate::proofs::Marks::marking))]
 impl<W: WriteColor> WriteStyle for StylesWriter<'_, W> {
     ghost use Rattle.codespan_base.specs.Writers.{styles_sink};
 

@@ -1,6 +1,0 @@
-use Rattle.codespan_base.specs.Streams.{HeaderMessage}
-use Rattle.codespan_base.proofs.Marks.{Sends-one_mark}
-use Rattle.codespan_base.proofs.term.config.styles_writer.StylesWriterWriteStyle.set_header_message.Goals as goal
-
-pub returns : goal.returns
-returns g c = Sends-one_mark _ HeaderMessage _ _ c.set_color.ensures
