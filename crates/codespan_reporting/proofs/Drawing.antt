@@ -43,10 +43,12 @@ module _ {Id : Type 0} (renderer view : Config) (same : Id → Id → Bool) (fil
   pub refused_early : (old new : Sink) (e : Error) → new ≡ old → 0 < length before_header
       → (e ≢ OutOfMemory → e ≢ FormatError → first_refusal refusal before_header ≡ Some e) → DrawsRich renderer view same file refusal d old (Err e) new
   refused_early old new e unchanged some told = record {
-    frame = Blames-lookup refusal (before_header ++ after_header) old.frame new.frame e (ap (λ (s : Sink). s.frame) unchanged)
-        (omega (arith, length-append before_header after_header)) (λ p q. first_refusal-some refusal before_header after_header e (told p q));
-    stream = λ named tells. Began-none old _ new unchanged;
-    answered = tt;
+    drawn = record {
+      frame = Blames-lookup refusal (before_header ++ after_header) old.frame new.frame e (ap (λ (s : Sink). s.frame) unchanged)
+          (omega (arith, length-append before_header after_header)) (λ p q. first_refusal-some refusal before_header after_header e (told p q));
+      stream = λ named tells. Began-none old _ new unchanged;
+      answered = tt;
+    };
     early = λ p. unchanged;
     unprintable = λ h. inl unchanged;
   }
@@ -55,9 +57,11 @@ module _ {Id : Type 0} (renderer view : Config) (same : Id → Id → Bool) (fil
   pub refused_by_writer : (old new : Sink) (e : Error) → first_refusal refusal before_header ≡ None → new.frame ≡ refusing old.frame → IsIo e
       → Begins old new → DrawsRich renderer view same file refusal d old (Err e) new
   refused_by_writer old new e answered frame io begun = record {
-    frame = Blames-writer refusal (before_header ++ after_header) old.frame new.frame e frame io;
-    stream = begun;
-    answered = tt;
+    drawn = record {
+      frame = Blames-writer refusal (before_header ++ after_header) old.frame new.frame e frame io;
+      stream = begun;
+      answered = tt;
+    };
     early = λ p. absurd (some_refused refusal before_header answered p);
     unprintable = λ h. absurd (subst IsIo h io);
   }
@@ -66,10 +70,12 @@ module _ {Id : Type 0} (renderer view : Config) (same : Id → Id → Bool) (fil
   pub refused_late : (old new : Sink) (e : Error) → first_refusal refusal before_header ≡ None → new.frame ≡ old.frame → 0 < length after_header
       → (e ≢ OutOfMemory → first_refusal refusal after_header ≡ Some e) → Begins old new → DrawsRich renderer view same file refusal d old (Err e) new
   refused_late old new e answered frame some told begun = record {
-    frame = Blames-lookup refusal (before_header ++ after_header) old.frame new.frame e frame
-        (omega (arith, length-append before_header after_header)) (λ p q. first_refusal-none refusal before_header after_header answered ∙ told p);
-    stream = begun;
-    answered = tt;
+    drawn = record {
+      frame = Blames-lookup refusal (before_header ++ after_header) old.frame new.frame e frame
+          (omega (arith, length-append before_header after_header)) (λ p q. first_refusal-none refusal before_header after_header answered ∙ told p);
+      stream = begun;
+      answered = tt;
+    };
     early = λ p. absurd (some_refused refusal before_header answered p);
     unprintable = λ h. inr (told (λ (m : e ≡ OutOfMemory). two_errors e h m) ∙ ap Some h);
   }
@@ -78,9 +84,11 @@ module _ {Id : Type 0} (renderer view : Config) (same : Id → Id → Bool) (fil
   pub drawn : (old new : Sink) → first_refusal refusal before_header ≡ None → first_refusal refusal after_header ≡ None → new.frame ≡ old.frame
       → (NamesAreStated file d → is_told old ≡ true → new ≡ sent old (viewed_picture renderer view same file refusal d)) → DrawsRich renderer view same file refusal d old (Ok tt) new
   drawn old new answered_early answered_late frame came = record {
-    frame = frame;
-    stream = came;
-    answered = all_answered refusal (before_header ++ after_header) (first_refusal-none refusal before_header after_header answered_early ∙ answered_late);
+    drawn = record {
+      frame = frame;
+      stream = came;
+      answered = all_answered refusal (before_header ++ after_header) (first_refusal-none refusal before_header after_header answered_early ∙ answered_late);
+    };
     early = λ p. absurd (some_refused refusal before_header answered_early p);
     unprintable = tt;
   }

@@ -30,3 +30,4 @@ pub mod EntryPadding
 pub mod NoteRows
 pub mod SheetPrepared
 pub mod RichParts
+pub mod HeaderRuns

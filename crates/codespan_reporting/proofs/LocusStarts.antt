@@ -5,7 +5,7 @@ use Rattle.std.proofs.lemmas.List.{append-nil, map-append}
 use Rattle.std.proofs.lemmas.List.Concat.{flat_map-append}
 use Rattle.std.proofs.lemmas.List.Elements.{Contains-append_left, Contains-append_right}
 use Rattle.codespan_base.specs.declared.files.error.Error.{Error}
-use Rattle.codespan_base.specs.FileModel.{FileModel, Lookup, or_refusal}
+use Rattle.codespan_base.specs.FileModel.{FileModel, Lookup, name_text, or_refusal}
 use Rattle.codespan_base.specs.FileModel.Lookup.{LocationAt, Name}
 use Rattle.codespan_base.specs.Labels.{Labelled, is_primary}
 use Rattle.codespan_picture.specs.declared.given.Locus.{Locus}
@@ -86,6 +86,16 @@ module _ {Id : Type 0} (same : Id → Id → Bool) (file : Id → FileModel) (id
 
 -- ---- the places of files
 
+-- the text of a name that is stated
+named_text : (o : Option (List ℕ)) (text : List ℕ) → IsSome o → IfSome o (λ bytes. text ≡ bytes) → text ≡ unwrap_or o []
+named_text None text some is = absurd (true≢false (sym some))
+named_text (Some bytes) text some is = is
+
+-- a locus of a file's name and of a byte's location is the place of that byte
+pub named_place : (f : FileModel) (byte : ℕ) (locus : Locus) → IfSome f.name (λ bytes. string_bytes locus.name ≡ bytes) → locus.location ≡ f.location byte
+    → IsSome f.name → place_of_given locus ≡ record { name = name_text f; location = f.location byte }
+named_place f byte locus text at some = let name = named_text f.name (string_bytes locus.name) some text in λ i. record { name = name i; location = at i }
+
 -- the places of these files, whose lookups were answered
 pub record IsLocated {Id : Type 0} (same : Id → Id → Bool) (file : Id → FileModel) (refusal : Refusals Id) (xs : List (InFile Id)) (ids : List Id) (loci : List Locus) : Type 0 where
   pub count : length loci ≡ length ids
@@ -96,32 +106,6 @@ module _ {Id : Type 0} (same : Id → Id → Bool) (file : Id → FileModel) (re
   -- the lookups of a file
   abbrev asked_for : Id → List (Id × Lookup)
   asked_for id = asked_of id (locus_lookups same file xs id)
-
-  -- the text of a name that is stated
-  named_text : (o : Option (List ℕ)) (text : List ℕ) → IsSome o → IfSome o (λ bytes. text ≡ bytes) → text ≡ unwrap_or o []
-  named_text None text some is = absurd (true≢false (sym some))
-  named_text (Some bytes) text some is = is
-
-  module _ (id : Id) (start : ℕ) (is : start ≡ locus_start (labelled_file same file xs id).labels) where
-    -- the place of a file's start
-    pub located-at : (locus : Locus) → IfSome (file id).name (λ bytes. string_bytes locus.name ≡ bytes) → locus.location ≡ (file id).location start
-        → IsSome (file id).name → place_of_given locus ≡ place_of (labelled_file same file xs id)
-    located-at locus text at some =
-        let name = named_text (file id).name (string_bytes locus.name) some text in
-        let location = at ∙ ap (file id).location is in
-        λ i. record { name = name i; location = location i }
-
-    -- its lookups, one after the other
-    asked-both : first_refusal refusal (asked_for id) ≡ or_refusal (refusal id Name) (or_refusal (refusal id (LocationAt start)) None)
-    asked-both = ap (λ n. or_refusal (refusal id Name) (or_refusal (refusal id (LocationAt n)) None)) (sym is)
-
-    -- both are answered
-    pub located-answered : refusal id Name ≡ None → refusal id (LocationAt start) ≡ None → first_refusal refusal (asked_for id) ≡ None
-    located-answered a b = asked-both ∙ ap (λ o. or_refusal o (or_refusal (refusal id (LocationAt start)) None)) a ∙ ap (λ o. or_refusal o None) b
-
-    -- the second one refuses
-    pub located-second : (e : Error) → refusal id Name ≡ None → refusal id (LocationAt start) ≡ Some e → first_refusal refusal (asked_for id) ≡ Some e
-    located-second e a b = asked-both ∙ ap (λ o. or_refusal o (or_refusal (refusal id (LocationAt start)) None)) a ∙ ap (λ o. or_refusal o None) b
 
   -- one more file
   pub located-more : (ids more : List Id) (id : Id) (loci : List Locus) (locus : Locus) → more ≡ ids ++ id ∷ [] → IsLocated same file refusal xs ids loci

@@ -47,23 +47,14 @@ module _ {N : Type 0} (text : N → List ℕ) (look : Look) where
       ∙ notes-both (take i notes) (note ∷ [])
       ∙ ap (λ (s : Stream). stream_of_notes (take i notes) ++ s) (ap (stream_of_rows look) (append-nil (piece_rows (lines (text note)))) ∙ note-rows look (lines (text note)))
 
-  -- all that comes from notes on
-  abbrev pub notes-whole : List N → Stream
-  notes-whole notes = stream_of_rows look (note_rows (map text notes) ++ BlankRow ∷ [])
+  -- the notes before a place, and those from there on
+  pub notes-cut : (notes : List N) (i : ℕ) → stream_of_notes notes ≡ stream_of_notes (take i notes) ++ stream_of_notes (drop i notes)
+  notes-cut notes i = ap (λ (ns : List N). stream_of_notes ns) (sym (take-append-drop i notes)) ∙ notes-both (take i notes) (drop i notes)
+
+  -- all notes
+  pub notes-all : (notes : List N) (i : ℕ) → length notes ≤ i → stream_of_notes (take i notes) ≡ stream_of_notes notes
+  notes-all notes i past = ap (λ (ns : List N). stream_of_notes ns) (take_all i notes past)
 
   -- the rows of the notes, and the empty line
-  notes-blank : (notes : List N) → notes-whole notes ≡ stream_of_notes notes ++ newline
+  pub notes-blank : (notes : List N) → stream_of_rows look (note_rows (map text notes) ++ BlankRow ∷ []) ≡ stream_of_notes notes ++ newline
   notes-blank notes = flat_map-append (ended look) (note_rows (map text notes)) (BlankRow ∷ []) ∙ ap (λ (s : Stream). stream_of_notes notes ++ s) (append-nil newline)
-
-  -- the notes before a place, and those from there on
-  pub notes-split : (notes : List N) (i : ℕ) → notes-whole notes ≡ stream_of_notes (take i notes) ++ notes-whole (drop i notes)
-  notes-split notes i =
-      notes-blank notes
-      ∙ ap (λ (ns : List N). stream_of_notes ns ++ newline) (sym (take-append-drop i notes))
-      ∙ ap (λ (s : Stream). s ++ newline) (notes-both (take i notes) (drop i notes))
-      ∙ append_assoc (stream_of_notes (take i notes)) (stream_of_notes (drop i notes)) newline
-      ∙ ap (λ (s : Stream). stream_of_notes (take i notes) ++ s) (sym (notes-blank (drop i notes)))
-
-  -- all notes, and the empty line
-  pub notes-end : (notes : List N) (i : ℕ) → length notes ≤ i → notes-whole notes ≡ stream_of_notes (take i notes) ++ newline
-  notes-end notes i past = notes-blank notes ∙ ap (λ (ns : List N). stream_of_notes ns ++ newline) (sym (take_all i notes past))

@@ -1,7 +1,11 @@
--- A view, as its contracts see it: a diagnostic and a configuration.
+-- The views, as their contracts see them: a diagnostic, and a configuration or a style.
+use Rattle.std.specs.Prelude.{Bool, if◌then◌else◌}
 use Rattle.codespan_base.specs.declared.diagnostic.Diagnostic.{Diagnostic}
 use Rattle.codespan_base.specs.declared.term.config.Config.{Config}
+use Rattle.codespan_base.specs.declared.term.config.DisplayStyle.{DisplayStyle}
+use Rattle.codespan_base.specs.declared.term.config.DisplayStyle.TheVariants.{Medium, Short}
 use Rattle.codespan_reporting.specs.declared.term.views.rich.RichDiagnostic.{RichDiagnostic}
+use Rattle.codespan_reporting.specs.declared.term.views.short.ShortDiagnostic.{ShortDiagnostic}
 
 -- the diagnostic that it shows
 abbrev pub diagnostic_of : {Id : Type 0} → RichDiagnostic Id → Diagnostic Id
@@ -10,3 +14,15 @@ diagnostic_of v = v.diagnostic.now
 -- the configuration that chooses its lines and its padding
 abbrev pub view_config_of : {Id : Type 0} → RichDiagnostic Id → Config
 view_config_of v = v.config.now
+
+-- the diagnostic that a short view shows
+abbrev pub short_diagnostic_of : {Id : Type 0} → ShortDiagnostic Id → Diagnostic Id
+short_diagnostic_of v = v.diagnostic.now
+
+-- medium style shows the notes, short style does not
+abbrev pub style_with_notes : Bool → DisplayStyle
+style_with_notes show_notes = if show_notes then Medium else Short
+
+-- the style that it draws
+abbrev pub short_style_of : {Id : Type 0} → ShortDiagnostic Id → DisplayStyle
+short_style_of v = style_with_notes v.show_notes

@@ -8,6 +8,6 @@ pub use codespan_base::term::{
     Ansi, Chars, Color, ColorSpec, Config, DisplayStyle, GeneralWrite, GeneralWriteResult, Layout,
     NoColor, PlainWriter, SnippetStart, Styles, StylesWriter, WriteColor, WriteStyle, config,
 };
-pub use emit::emit_into_string;
+pub use emit::{emit_into_string, emit_to_string, emit_to_write_style};
 pub use renderer::{Locus, MultiLabel, Renderer, SingleLabel, lanes_in_order};
-pub use views::RichDiagnostic;
+pub use views::{RichDiagnostic, ShortDiagnostic};

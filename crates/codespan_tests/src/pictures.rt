@@ -11,20 +11,12 @@ mod several_lines;
 mod single_lines;
 mod small_lanes;
 mod small_pictures;
+mod styles;
 
 use codespan_reporting::diagnostic::{Diagnostic, Label};
-use codespan_reporting::files::SimpleFile;
 use codespan_reporting::term::{Config, emit_into_string};
 use listing::{Listing, Refused};
 use std::test::Fail;
-
-#[test]
-fn bare_bug(rt: HostRuntime) -> Result<(), Fail> {
-    let files = SimpleFile::new(rt.alloc(), "f", "")?;
-    let text = emit_into_string(&Config::default(), &files, &Diagnostic::bug(rt.alloc()))?;
-    assert_eq!(rt; text.as_str(), "bug: \n\n");
-    Ok(())
-}
 
 /// A table of files of a user's own, whose lines are numbered from 0.
 #[test]

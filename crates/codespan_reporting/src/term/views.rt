@@ -9,10 +9,13 @@ mod lines;
 mod loci;
 mod marks;
 mod padding;
+mod parts;
 mod pass;
 mod rich;
 mod sheet;
+mod short;
 mod snippets;
 mod sort;
 
 pub use rich::RichDiagnostic;
+pub use short::ShortDiagnostic;

@@ -3,8 +3,7 @@
 use codespan_reporting::diagnostic::{Diagnostic, Label, LabelStyle, Severity};
 use codespan_reporting::files::{Error, Files, SimpleFiles};
 use codespan_reporting::term::{
-    Ansi, Config, DisplayStyle, PlainWriter, Renderer, RichDiagnostic, Styles, StylesWriter,
-    emit_into_string,
+    Ansi, Config, PlainWriter, Renderer, RichDiagnostic, Styles, StylesWriter, emit_into_string,
 };
 use std::alloc::Global;
 use std::ops::Range;
@@ -68,7 +67,7 @@ pub fn files_of<'text>(
 }
 
 /// The diagnostic of a drawing.
-fn diagnostic_of(alloc: Global, drawing: &Drawing<'_>) -> Result<Diagnostic<usize>, Error> {
+pub fn diagnostic_of(alloc: Global, drawing: &Drawing<'_>) -> Result<Diagnostic<usize>, Error> {
     let mut diagnostic = Diagnostic::new(alloc, drawing.severity).with_message(drawing.message)?;
     if let Some(code) = drawing.code {
         diagnostic = diagnostic.with_code(code)?;
@@ -84,8 +83,7 @@ fn diagnostic_of(alloc: Global, drawing: &Drawing<'_>) -> Result<Diagnostic<usiz
 }
 
 /// What a diagnostic is drawn as, plain.
-fn plain_text(rt: &impl Abort, alloc: Global, drawing: &Drawing<'_>) -> Result<String, Error> {
-    assert!(rt; matches!(drawing.config.display_style, DisplayStyle::Rich));
+fn plain_text(alloc: Global, drawing: &Drawing<'_>) -> Result<String, Error> {
     let files = files_of(alloc, drawing.files)?;
     let diagnostic = diagnostic_of(alloc, drawing)?;
     emit_into_string(&drawing.config, &files, &diagnostic)
@@ -94,7 +92,7 @@ fn plain_text(rt: &impl Abort, alloc: Global, drawing: &Drawing<'_>) -> Result<S
 /// Draws a diagnostic, plain.
 pub fn assert_drawn(rt: &impl Abort, alloc: Global, drawing: Drawing<'_>) -> Result<(), Error> {
     let name = drawing.name;
-    let text = plain_text(rt, alloc, &drawing)?;
+    let text = plain_text(alloc, &drawing)?;
     assert_eq!(rt; text.as_str(), drawing.picture, "{name}");
     Ok(())
 }

@@ -11,36 +11,41 @@ use std::alloc::Global;
 use std::process::Abort;
 use std::test::Fail;
 
+/// A type error that another file explains.
+pub fn type_error<'text>(config: Config<'text>, picture: &'text str) -> Drawing<'text> {
+    Drawing {
+        config,
+        files: &[
+            (
+                "Data/Nat.fun",
+                "module Data.Nat where\n\n\
+                 data Nat : Type where\n\
+                 \x20   zero : Nat\n\
+                 \x20   succ : Nat → Nat\n\n\
+                 {-# BUILTIN NATRAL Nat #-}\n\n\
+                 infixl 6 _+_ _-_\n\n\
+                 _+_ : Nat → Nat → Nat\n",
+            ),
+            (
+                "Test.fun",
+                "module Test where\n\n_ : Nat\n_ = 123 + \"hello\"\n",
+            ),
+        ],
+        code: Some("E0001"),
+        message: "unexpected type in application of `_+_`",
+        labels: &[
+            (Primary, 1, 37..44, "expected `Nat`, found `String`"),
+            (Secondary, 0, 130..155, "based on the definition of `_+_`"),
+        ],
+        notes: &["expected type `Nat`\n   found type `String`\n"],
+        picture,
+        ..Drawing::default()
+    }
+}
+
 #[test]
 fn two_files(rt: HostRuntime) -> Result<(), Fail> {
-    assert_drawn(
-        &rt,
-        rt.alloc(),
-        Drawing {
-            files: &[
-                (
-                    "Data/Nat.fun",
-                    "module Data.Nat where\n\n\
-                     data Nat : Type where\n\
-                     \x20   zero : Nat\n\
-                     \x20   succ : Nat → Nat\n\n\
-                     {-# BUILTIN NATRAL Nat #-}\n\n\
-                     infixl 6 _+_ _-_\n\n\
-                     _+_ : Nat → Nat → Nat\n",
-                ),
-                (
-                    "Test.fun",
-                    "module Test where\n\n_ : Nat\n_ = 123 + \"hello\"\n",
-                ),
-            ],
-            code: Some("E0001"),
-            message: "unexpected type in application of `_+_`",
-            labels: &[
-                (Primary, 1, 37..44, "expected `Nat`, found `String`"),
-                (Secondary, 0, 130..155, "based on the definition of `_+_`"),
-            ],
-            notes: &["expected type `Nat`\n   found type `String`\n"],
-            picture: "error[E0001]: unexpected type in application of `_+_`\n\
+    let picture = "error[E0001]: unexpected type in application of `_+_`\n\
                       \x20  ┌─ Test.fun:4:11\n\
                       \x20  │\n\
                       \x204 │ _ = 123 + \"hello\"\n\
@@ -52,10 +57,8 @@ fn two_files(rt: HostRuntime) -> Result<(), Fail> {
                       \x20  │ --------------------- based on the definition of `_+_`\n\
                       \x20  │\n\
                       \x20  = expected type `Nat`\n\
-                      \x20       found type `String`\n\n",
-            ..Drawing::default()
-        },
-    )?;
+                      \x20       found type `String`\n\n";
+    assert_drawn(&rt, rt.alloc(), type_error(Config::default(), picture))?;
     Ok(())
 }
 
@@ -69,22 +72,6 @@ fn note_pieces(rt: HostRuntime) -> Result<(), Fail> {
             message: "m",
             notes: &["a\r\n\nb\n"],
             picture: "error: m\n = a\n   \n   b\n\n",
-            ..Drawing::default()
-        },
-    )?;
-    Ok(())
-}
-
-/// Of this row the part in rich style.
-#[test]
-fn medium_and_short(rt: HostRuntime) -> Result<(), Fail> {
-    assert_drawn(
-        &rt,
-        rt.alloc(),
-        Drawing {
-            message: "a message",
-            notes: &["a note"],
-            picture: "error: a message\n = a note\n\n",
             ..Drawing::default()
         },
     )?;

@@ -1,7 +1,8 @@
 //! Where the snippet of each file starts.
 
-ghost use Rattle.std.specs.Prelude.{◌≡◌, Contains, IfOk, IsSome, flat_map, length, map};
-ghost use Rattle.codespan_base.specs.FileModel.{FileModel};
+ghost use Rattle.std.specs.Prelude.{◌≡◌, ◌∷◌, [], Contains, IfOk, IsSome, flat_map, length, map};
+ghost use Rattle.codespan_base.specs.FileModel.{FileModel, name_text};
+ghost use Rattle.codespan_base.specs.FileModel.Lookup.{Name as NameLookup, LocationAt};
 ghost use Rattle.codespan_base.specs.Labels.{is_primary};
 ghost use Rattle.codespan_picture.specs.Given.{place_of_given};
 ghost use Rattle.codespan_reporting.specs.Inner.Loci.{least_if_any, starts_in};
@@ -16,7 +17,7 @@ use codespan_base::files::{Error, Files};
 use std::alloc::Global;
 
 /// Whether a label is a cause.
-fn is_primary<FileId>(label: &Label<FileId>) -> bool
+pub fn is_primary<FileId>(label: &Label<FileId>) -> bool
     ensures { result ≡ is_primary (label_of label.now).label }
 {
     matches!(label.style, LabelStyle::Primary)
@@ -54,6 +55,24 @@ pub fn locus_start<FileId: Copy + Eq>(labels: &[Label<FileId>], id: FileId) -> u
     }
 }
 
+/// The name of a file, and the location of a byte of it.
+///
+/// Refuses as the first of these lookups that refuses does, with `FormatError` where the `Display` of the name refuses, and with
+/// `OutOfMemory`.
+pub fn locus_at<'files, F: Files<'files>>(
+    alloc: Global,
+    files: &'files F,
+    id: F::FileId,
+    byte_index: usize,
+) -> Result<Locus, Error>
+    ensures locus { IfOk result (λ locus. IsSome (F.file files.now id).name → place_of_given locus ≡ record { name = name_text (F.file files.now id); location = (F.file files.now id).location byte_index }) }
+    ensures refused { TellsNaming (first_refusal (F.refusal files.now) (asked_of id (NameLookup ∷ LocationAt byte_index ∷ []))) result }
+{
+    let name = display_text(alloc, files.name(id)?)?;
+    let location = files.location(id, byte_index)?;
+    Ok(Locus { name, location })
+}
+
 /// The name of a file, and the location of the byte at which its snippet starts.
 ///
 /// Refuses as the first of these lookups that refuses does, with `FormatError` where the `Display` of the name refuses, and with
@@ -67,9 +86,7 @@ fn file_locus<'files, F: Files<'files>>(
     ensures locus { IfOk result (λ locus. IsSome (F.file files.now id).name → place_of_given locus ≡ place_of (labelled_file F.FileId.eq (F.file files.now) (map label_of labels.now) id)) }
     ensures refused { TellsNaming (first_refusal (F.refusal files.now) (asked_of id (locus_lookups F.FileId.eq (F.file files.now) (map label_of labels.now) id))) result }
 {
-    let name = display_text(alloc, files.name(id)?)?;
-    let location = files.location(id, locus_start(labels, id))?;
-    Ok(Locus { name, location })
+    locus_at(alloc, files, id, locus_start(labels, id))
 }
 
 /// Where the snippet of each file starts, in the order of these ids.

@@ -22,6 +22,7 @@ ghost use Rattle.codespan_picture.specs.Snippets.{has_any, is_followed, labelled
 use crate::term::renderer::Renderer;
 use crate::term::views::groups::file_len;
 use crate::term::views::marks::LineMarks;
+use crate::term::views::parts::{draw_header, draw_notes};
 use crate::term::views::sheet::{Sheet, prepare};
 use crate::term::views::snippets::{Snippet, draw_snippet};
 use codespan_base::diagnostic::Diagnostic;
@@ -100,9 +101,9 @@ impl<'diagnostic, 'config, FileId: Copy + Eq> RichDiagnostic<'diagnostic, 'confi
         let labels = &diagnostic.labels;
         let alloc = *labels.allocator();
         let sheet = prepare(alloc, files, self.config, labels.as_slice())?;
-        draw_header(diagnostic, renderer)?;
+        draw_header(diagnostic, renderer, None)?;
         self.draw_snippets(files, renderer, &sheet)?;
-        draw_notes(diagnostic, renderer, sheet.padding)
+        draw_closing(diagnostic, renderer, sheet.padding)
     }
 
     /// The snippets of all files, with an empty row after each, but after the last one only where notes follow.
@@ -186,25 +187,8 @@ fn has_notes<FileId>(diagnostic: &Diagnostic<FileId>) -> bool
     !diagnostic.notes.is_empty()
 }
 
-/// The header.
-fn draw_header<FileId, W: WriteStyle>(
-    diagnostic: &Diagnostic<FileId>,
-    renderer: &mut Renderer<'_, '_, W>,
-) -> Result<(), Error>
-    ensures same { SameRenderer renderer.old renderer.new }
-    ensures sends { Sends (W.sink (writer_of renderer.old)) (header_row diagnostic.now.severity None (heading_of diagnostic.now) ++ newline) result (W.sink (writer_of renderer.new)) }
-    ensures io { IfErr result IsIo }
-{
-    renderer.render_header(
-        None,
-        diagnostic.severity,
-        diagnostic.code.as_deref(),
-        diagnostic.message.as_str(),
-    )
-}
-
 /// The notes, and the empty line at the end.
-fn draw_notes<FileId, W: WriteStyle>(
+fn draw_closing<FileId, W: WriteStyle>(
     diagnostic: &Diagnostic<FileId>,
     renderer: &mut Renderer<'_, '_, W>,
     padding: usize,
@@ -213,9 +197,7 @@ fn draw_notes<FileId, W: WriteStyle>(
     ensures sends { Sends (W.sink (writer_of renderer.old)) (stream_of_rows (look_of (config_of renderer.old) diagnostic.now.severity padding) (note_rows (notes_of diagnostic.now) ++ BlankRow ∷ [])) result (W.sink (writer_of renderer.new)) }
     ensures io { IfErr result IsIo }
 {
-    for note in &diagnostic.notes {
-        renderer.render_snippet_note(padding, note.as_str())?;
-    }
+    draw_notes(diagnostic, renderer, padding)?;
     renderer.render_empty()
 }
 
@@ -228,6 +210,6 @@ fn draw_bare<FileId, W: WriteStyle>(
     ensures sends { Sends (W.sink (writer_of renderer.old)) (header_row diagnostic.now.severity None (heading_of diagnostic.now) ++ newline ++ stream_of_rows (look_of (config_of renderer.old) diagnostic.now.severity 0) (note_rows (notes_of diagnostic.now) ++ BlankRow ∷ [])) result (W.sink (writer_of renderer.new)) }
     ensures io { IfErr result IsIo }
 {
-    draw_header(diagnostic, renderer)?;
-    draw_notes(diagnostic, renderer, 0)
+    draw_header(diagnostic, renderer, None)?;
+    draw_closing(diagnostic, renderer, 0)
 }

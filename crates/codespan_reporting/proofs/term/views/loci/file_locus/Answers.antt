@@ -1,26 +1,19 @@
-use Rattle.std.proofs.Common.{◌≡◌, Err, sym, ap, ◌∙◌, map}
-use Rattle.std.specs.Prelude.{IfSome, string_bytes}
-use Rattle.std.proofs.lemmas.Result.{err_from_is_err_and}
-use Rattle.codespan_picture.specs.Picture.{label_of}
-use Rattle.codespan_reporting.proofs.LocusStarts.{located-answered, located-at, located-second}
+use Rattle.std.proofs.Common.{◌≡◌, ℕ, [], ◌∷◌, subst}
+use Rattle.std.specs.Prelude.{IfOk, IsSome}
+use Rattle.codespan_base.specs.FileModel.{name_text}
+use Rattle.codespan_base.specs.FileModel.Lookup.{LocationAt, Name}
+use Rattle.codespan_picture.specs.Given.{place_of_given}
+use Rattle.codespan_picture.specs.Lookups.{TellsNaming, asked_of, first_refusal}
 use Rattle.codespan_reporting.proofs.term.views.loci.file_locus.Goals as goal
-
-pub returns-in_err-location-clause-refused : goal.returns-in_err-location-clause-refused
-returns-in_err-location-clause-refused g c =
-    let file = g.F.Files.file c.args.files.now in
-    let p = err_from_is_err_and c.from_residual-in_err-location.result c.from_residual-in_err-location.ensures.1 in
-    rw (p.1 ∙ ap Err p.2) (λ told _. located-second g.F.FileId.PartialEq.eq file (g.F.Files.refusal c.args.files.now) (map label_of c.args.labels.now) c.args.id _ (c.locus_start.ensures file) _
-    c.in_ok-name.ensures.refused (c.in_err-location.ensures.refused told))
 
 pub returns-clause-locus : goal.returns-clause-locus
 returns-clause-locus g c =
-    let file = g.F.Files.file c.args.files.now in
-    let text : IfSome (file c.args.id).name (λ bytes. string_bytes c.in_ok-name-2.name ≡ bytes) = rw (sym c.in_ok-name.ensures.value) c.in_ok-name-2.ensures.text in
-    located-at g.F.FileId.PartialEq.eq file (g.F.Files.refusal c.args.files.now) (map label_of c.args.labels.now) c.args.id _ (c.locus_start.ensures file)
-    (record { name = c.in_ok-name-2.name; location = c.in_ok-location.location }) text c.in_ok-location.ensures.value
+    let f = g.F.Files.file c.args.files.now c.args.id in
+    subst (λ (n : ℕ). IfOk c.locus_at.result (λ locus. IsSome f.name → place_of_given locus ≡ record { name = name_text f; location = f.location n }))
+    (c.locus_start.ensures (g.F.Files.file c.args.files.now)) c.locus_at.ensures.locus
 
 pub returns-clause-refused : goal.returns-clause-refused
 returns-clause-refused g c =
-    let file = g.F.Files.file c.args.files.now in
-    located-answered g.F.FileId.PartialEq.eq file (g.F.Files.refusal c.args.files.now) (map label_of c.args.labels.now) c.args.id _ (c.locus_start.ensures file)
-    c.in_ok-name.ensures.refused c.in_ok-location.ensures.refused
+    let refusal = g.F.Files.refusal c.args.files.now in
+    subst (λ (n : ℕ). TellsNaming (first_refusal refusal (asked_of c.args.id (Name ∷ LocationAt n ∷ []))) c.locus_at.result)
+    (c.locus_start.ensures (g.F.Files.file c.args.files.now)) c.locus_at.ensures.refused

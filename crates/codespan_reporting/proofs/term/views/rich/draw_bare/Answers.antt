@@ -15,5 +15,5 @@ returns-in_err-draw_header-clause-sends g c =
 pub returns-clause-sends : goal.returns-clause-sends
 returns-clause-sends g c =
     let d = c.args.diagnostic.now in
-    sends_after _ _ _ _ _ c.draw_notes.result c.in_ok-draw_header.ensures.sends
-    (sends_at (λ (k : Config). whole_of_notes (look_of k d.severity 0) (notes_of d)) _ _ c.in_ok-draw_header.ensures.same.config _ _ c.draw_notes.result c.draw_notes.ensures.sends)
+    sends_after _ _ _ _ _ c.draw_closing.result c.in_ok-draw_header.ensures.sends
+    (sends_at (λ (k : Config). whole_of_notes (look_of k d.severity 0) (notes_of d)) _ _ c.in_ok-draw_header.ensures.same.config _ _ c.draw_closing.result c.draw_closing.ensures.sends)

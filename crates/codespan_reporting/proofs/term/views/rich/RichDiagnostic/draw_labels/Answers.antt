@@ -81,7 +81,7 @@ returns-clause-draws g c =
     (placed_snippets view (has_any (notes_of d)) (map place_of_given c.in_ok-sheet.sheet.loci.items) (labelled_files same file (labels_of d))) in
     let first = c.in_ok-draw_header.ensures.same.config in
     let second = c.in_ok-draw_snippets.ensures.same.config in
-    drawn-whole renderer view same file refusal d c.in_ok-sheet.sheet prepared early _ _ _ _ c.draw_notes.result c.in_ok-draw_header.ensures.sends
+    drawn-whole renderer view same file refusal d c.in_ok-sheet.sheet prepared early _ _ _ _ c.draw_closing.result c.in_ok-draw_header.ensures.sends
     (asking_at middle _ _ first _ _ _ (Ok tt) c.in_ok-draw_snippets.ensures.draws)
-    (sends_at (λ (k : Config). whole_of_notes (look_of k d.severity c.in_ok-sheet.sheet.padding) (notes_of d)) _ _ (second ∙ first) _ _ c.draw_notes.result c.draw_notes.ensures.sends)
-    c.draw_notes.ensures.io
+    (sends_at (λ (k : Config). whole_of_notes (look_of k d.severity c.in_ok-sheet.sheet.padding) (notes_of d)) _ _ (second ∙ first) _ _ c.draw_closing.result c.draw_closing.ensures.sends)
+    c.draw_closing.ensures.io

@@ -4,7 +4,7 @@ use Rattle.codespan_reporting.specs.Inner.Asking.{Came}
 use Rattle.codespan_picture.specs.Picture.{look_of}
 use Rattle.codespan_renderer.specs.Renderers.{SameRenderer, config_of, writer_of}
 use Rattle.codespan_reporting.proofs.NoteRows.{stream_of_notes}
-use Rattle.codespan_reporting.proofs.term.views.rich.draw_notes.Given as goal
+use Rattle.codespan_reporting.proofs.term.views.parts.draw_notes.Given as goal
 
 -- the notes before this one came
 abbrev pub invariant-loop-note : goal.invariant-loop-note

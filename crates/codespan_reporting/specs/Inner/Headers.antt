@@ -1,0 +1,64 @@
+-- Headers of labels, drawn one after another, each after the lookups of its place.
+use Rattle.std.specs.Prelude.{◌≡◌, ◌≢◌, ◌⊎◌, true, Bool, List, [], ◌∷◌, ◌++◌, flat_map, map, filter, None, Some, Contains, IsSome, Result, MatchResult}
+use Rattle.codespan_base.specs.declared.diagnostic.Diagnostic.{Diagnostic}
+use Rattle.codespan_base.specs.declared.files.error.Error.{Error}
+use Rattle.codespan_base.specs.declared.files.error.Error.TheVariants.{FormatError, OutOfMemory}
+use Rattle.codespan_base.specs.declared.term.config.Config.{Config}
+use Rattle.codespan_base.specs.Errors.{IsIo}
+use Rattle.codespan_base.specs.FileModel.{FileModel, Lookup}
+use Rattle.codespan_base.specs.FileModel.Lookup.{Name, LocationAt}
+use Rattle.codespan_base.specs.Labels.{is_primary}
+use Rattle.codespan_base.specs.Streams.{Stream}
+use Rattle.codespan_base.specs.WriterLaw.{Sink, sent, is_told, Began, refusing}
+use Rattle.codespan_picture.specs.Lookups.{Refusals, asked_of, first_refusal}
+use Rattle.codespan_picture.specs.Picture.{heading_of, look_of}
+use Rattle.codespan_picture.specs.RowStreams.{stream_of_rows}
+use Rattle.codespan_picture.specs.Snippets.{InFile, has_any, header_at}
+
+-- the primary ones of these labels
+abbrev pub primary_of : {Id : Type 0} → List (InFile Id) → List (InFile Id)
+primary_of {Id} xs = filter (λ (x : InFile Id). is_primary x.label) xs
+
+-- the lookups of a label's header
+abbrev pub header_asked : {Id : Type 0} → InFile Id → List (Id × Lookup)
+header_asked x = asked_of x.id (Name ∷ LocationAt x.label.start ∷ [])
+
+-- the names of these labels' files are stated
+abbrev pub AreNamed : {Id : Type 0} → (Id → FileModel) → List (InFile Id) → Type 0
+AreNamed {Id} file xs = (x : InFile Id) → Contains xs x → IsSome (file x.id).name
+
+module _ {Id : Type 0} (config : Config) (file : Id → FileModel) (refusal : Refusals Id) (d : Diagnostic Id) where
+  -- the stream of these labels' headers
+  abbrev pub headers_of : List (InFile Id) → Stream
+  headers_of xs = stream_of_rows (look_of config d.severity 0) (map (header_at file (heading_of d)) xs)
+
+  -- the headers came, and every lookup for them was answered
+  pub record HeadersCame (old : Sink) (xs : List (InFile Id)) (new : Sink) : Type 0 where
+    pub frame : new.frame ≡ old.frame
+    pub came : AreNamed file xs → is_told old ≡ true → new ≡ sent old (headers_of xs)
+    pub answered : first_refusal refusal (flat_map header_asked xs) ≡ None
+
+  -- the writer refused within a label's header
+  pub record HeaderStopped (old : Sink) (x : InFile Id) (error : Error) (new : Sink) : Type 0 where
+    pub io : IsIo error
+    pub frame : new.frame ≡ refusing old.frame
+    pub begun : IsSome (file x.id).name → is_told old ≡ true → Began old (headers_of (x ∷ [])) new
+
+  -- a lookup for a label's header refused, or memory, or the Display of its file's name: nothing of the header is written
+  pub record HeaderRefused (old : Sink) (x : InFile Id) (error : Error) (new : Sink) : Type 0 where
+    pub same : new ≡ old
+    pub told : error ≢ OutOfMemory → error ≢ FormatError → first_refusal refusal (header_asked x) ≡ Some error
+
+  -- the drawing ended at one of these labels
+  pub record HeadersEnded (old : Sink) (xs : List (InFile Id)) (error : Error) (new : Sink) : Type 0 where
+    pub before : List (InFile Id)
+    pub here : InFile Id
+    pub after : List (InFile Id)
+    pub whole : before ++ here ∷ after ≡ xs
+    pub mid : Sink
+    pub came : HeadersCame old before mid
+    pub ended : HeaderStopped mid here error new ⊎ HeaderRefused mid here error new
+
+  -- the call draws the headers of these labels, and answers whether there is one
+  abbrev pub DrawsHeaders : List (InFile Id) → Sink → Result Bool Error → Sink → Type 0
+  DrawsHeaders xs old r new = MatchResult r (λ some. HeadersCame old xs new × (some ≡ has_any xs)) (λ e. HeadersEnded old xs e new)

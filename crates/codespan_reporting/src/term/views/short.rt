@@ -1,0 +1,133 @@
+//! Short and medium style: a header for each cause, and in medium style the notes.
+
+ghost use Rattle.std.specs.Prelude.{◌≡◌, ◌∷◌, []};
+ghost use Rattle.codespan_base.specs.declared.term.config.DisplayStyle.TheVariants.{Short, Medium};
+ghost use Rattle.codespan_picture.specs.Picture.{label_of, labels_of};
+ghost use Rattle.codespan_renderer.specs.Renderers.{writer_of, config_of, SameRenderer};
+ghost use Rattle.codespan_reporting.specs.Headline.{DrawsShort};
+ghost use Rattle.codespan_reporting.specs.Inner.Headers.{DrawsHeaders, primary_of};
+
+use crate::term::renderer::Renderer;
+use crate::term::views::loci::{is_primary, locus_at};
+use crate::term::views::parts::{draw_header, draw_notes};
+use codespan_base::diagnostic::{Diagnostic, Label};
+use codespan_base::files::{Error, Files};
+use codespan_base::term::WriteStyle;
+
+/// Draws a header for each primary label of a diagnostic, at the place where the label starts, or one header without a place
+/// where no label is primary.
+#[derive(Clone, Copy)]
+pub struct ShortDiagnostic<'diagnostic, FileId> {
+    diagnostic: &'diagnostic Diagnostic<FileId>,
+    show_notes: bool,
+}
+
+impl<'diagnostic, FileId: Copy + Eq> ShortDiagnostic<'diagnostic, FileId> {
+    ghost use Rattle.codespan_reporting.specs.Views.{short_diagnostic_of, short_style_of, style_with_notes};
+
+    /// A view of the diagnostic: in medium style, with its notes after the headers, or in short style, without them.
+    pub fn new(
+        diagnostic: &'diagnostic Diagnostic<FileId>,
+        show_notes: bool,
+    ) -> ShortDiagnostic<'diagnostic, FileId>
+        ensures diagnostic { short_diagnostic_of result ≡ diagnostic.now }
+        ensures style { short_style_of result ≡ style_with_notes show_notes }
+    {
+        ShortDiagnostic {
+            diagnostic,
+            show_notes,
+        }
+    }
+
+    /// Draws the picture, by the renderer's configuration.
+    ///
+    /// For each primary label it asks for the name of its file and for the place of its start, and then draws the header. Files of
+    /// secondary labels are not asked.
+    ///
+    /// Refuses as the first lookup that refuses does, and with `Io` where the writer refuses; besides, where there is a lookup, with
+    /// `OutOfMemory`, which stands for a growth that was refused, and with `FormatError`, which stands for a file's name whose `Display`
+    /// refuses. The contract leaves open when these two come. Where a lookup refuses, the headers of the primary labels before it are
+    /// written. Without a primary label there is no lookup, and the one refusal is `Io`.
+    pub fn render<'files, F, W>(
+        &self,
+        files: &'files F,
+        renderer: &mut Renderer<'_, '_, W>,
+    ) -> Result<(), Error>
+    where
+        F: Files<'files, FileId = FileId>,
+        W: WriteStyle,
+        FileId: 'files,
+        ensures same { SameRenderer renderer.old renderer.new }
+        ensures draws { DrawsShort (config_of renderer.old) (config_of renderer.old) FileId.eq (F.file files.now) (F.refusal files.now) (short_diagnostic_of self.now) (short_style_of self.now) (W.sink (writer_of renderer.old)) result (W.sink (writer_of renderer.new)) }
+    {
+        if self.show_notes {
+            draw_medium(files, self.diagnostic, renderer)
+        } else {
+            draw_headers(files, self.diagnostic, renderer)
+        }
+    }
+}
+
+/// The headers, and then the notes.
+fn draw_medium<'files, F: Files<'files>, W: WriteStyle>(
+    files: &'files F,
+    diagnostic: &Diagnostic<F::FileId>,
+    renderer: &mut Renderer<'_, '_, W>,
+) -> Result<(), Error>
+    ensures same { SameRenderer renderer.old renderer.new }
+    ensures draws { DrawsShort (config_of renderer.old) (config_of renderer.old) F.FileId.eq (F.file files.now) (F.refusal files.now) diagnostic.now Medium (W.sink (writer_of renderer.old)) result (W.sink (writer_of renderer.new)) }
+{
+    draw_headers(files, diagnostic, renderer)?;
+    draw_notes(diagnostic, renderer, 0)
+}
+
+/// A header for each primary label, or one without a place.
+fn draw_headers<'files, F: Files<'files>, W: WriteStyle>(
+    files: &'files F,
+    diagnostic: &Diagnostic<F::FileId>,
+    renderer: &mut Renderer<'_, '_, W>,
+) -> Result<(), Error>
+    ensures same { SameRenderer renderer.old renderer.new }
+    ensures draws { DrawsShort (config_of renderer.old) (config_of renderer.old) F.FileId.eq (F.file files.now) (F.refusal files.now) diagnostic.now Short (W.sink (writer_of renderer.old)) result (W.sink (writer_of renderer.new)) }
+{
+    if draw_located(files, diagnostic, renderer)? {
+        Ok(())
+    } else {
+        draw_header(diagnostic, renderer, None)
+    }
+}
+
+/// A header for each primary label, in their order; whether there is one.
+fn draw_located<'files, F: Files<'files>, W: WriteStyle>(
+    files: &'files F,
+    diagnostic: &Diagnostic<F::FileId>,
+    renderer: &mut Renderer<'_, '_, W>,
+) -> Result<bool, Error>
+    ensures same { SameRenderer renderer.old renderer.new }
+    ensures draws { DrawsHeaders (config_of renderer.old) (F.file files.now) (F.refusal files.now) diagnostic.now (primary_of (labels_of diagnostic.now)) (W.sink (writer_of renderer.old)) result (W.sink (writer_of renderer.new)) }
+{
+    let mut is_located = false;
+    for label in &diagnostic.labels {
+        is_located |= draw_if_primary(files, diagnostic, renderer, label)?;
+    }
+    Ok(is_located)
+}
+
+/// The header of a label, where it is a primary one; whether it is.
+fn draw_if_primary<'files, F: Files<'files>, W: WriteStyle>(
+    files: &'files F,
+    diagnostic: &Diagnostic<F::FileId>,
+    renderer: &mut Renderer<'_, '_, W>,
+    label: &Label<F::FileId>,
+) -> Result<bool, Error>
+    ensures same { SameRenderer renderer.old renderer.new }
+    ensures draws { DrawsHeaders (config_of renderer.old) (F.file files.now) (F.refusal files.now) diagnostic.now (primary_of (label_of label.now ∷ [])) (W.sink (writer_of renderer.old)) result (W.sink (writer_of renderer.new)) }
+{
+    if !is_primary(label) {
+        return Ok(false);
+    }
+    let alloc = *diagnostic.labels.allocator();
+    let locus = locus_at(alloc, files, label.file_id, label.range.start)?;
+    draw_header(diagnostic, renderer, Some(&locus))?;
+    Ok(true)
+}

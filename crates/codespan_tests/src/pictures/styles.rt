@@ -1,0 +1,131 @@
+//! Short and medium style, and the calls that emit.
+
+use crate::pictures::drawing::{Drawing, assert_drawn, files_of};
+use crate::pictures::other_files::type_error;
+use codespan_reporting::diagnostic::{Diagnostic, Label};
+use codespan_reporting::files::{Error, SimpleFiles};
+use codespan_reporting::term::{
+    Ansi, Config, DisplayStyle, PlainWriter, Renderer, ShortDiagnostic, Styles, StylesWriter,
+    emit_into_string, emit_to_string, emit_to_write_style,
+};
+use std::alloc::Global;
+use std::test::Fail;
+
+/// The default configuration in a style.
+fn in_style<'chars>(display_style: DisplayStyle) -> Config<'chars> {
+    Config {
+        display_style,
+        ..Config::default()
+    }
+}
+
+#[test]
+fn bare_bug(rt: HostRuntime) -> Result<(), Fail> {
+    let alloc = rt.alloc();
+    let files: SimpleFiles<&str, &str> = SimpleFiles::new(alloc);
+    let bug = Diagnostic::bug(alloc);
+    let rows = [
+        (DisplayStyle::Rich, "kept", "keptbug: \n\n"),
+        (DisplayStyle::Medium, "", "bug: \n"),
+        (DisplayStyle::Short, "kept", "keptbug: \n"),
+    ];
+    for (style, held, text) in rows {
+        let config = in_style(style);
+        let picture = &text[held.len()..];
+        assert_eq!(rt; emit_into_string(&config, &files, &bug)?.as_str(), picture);
+        let mut string = held.to_string(alloc)?;
+        emit_to_string(&mut string, &config, &files, &bug)?;
+        assert_eq!(rt; string.as_str(), text);
+        let mut plain = PlainWriter::new(Vec::new(alloc));
+        emit_to_write_style(&mut plain, &config, &files, &bug)?;
+        assert_eq!(rt; plain.into_inner().as_slice(), picture.as_bytes());
+    }
+    Ok(())
+}
+
+#[test]
+fn medium_and_short(rt: HostRuntime) -> Result<(), Fail> {
+    let medium = "Test.fun:4:11: error[E0001]: unexpected type in application of `_+_`\n \
+                  = expected type `Nat`\n      found type `String`\n";
+    let short = "Test.fun:4:11: error[E0001]: unexpected type in application of `_+_`\n";
+    assert_drawn(
+        &rt,
+        rt.alloc(),
+        type_error(in_style(DisplayStyle::Medium), medium),
+    )?;
+    assert_drawn(
+        &rt,
+        rt.alloc(),
+        type_error(in_style(DisplayStyle::Short), short),
+    )?;
+    let without_code = Drawing {
+        config: in_style(DisplayStyle::Short),
+        code: Some(""),
+        message: "where did my errorcode go?",
+        picture: "error: where did my errorcode go?\n",
+        ..Drawing::default()
+    };
+    assert_drawn(&rt, rt.alloc(), without_code)?;
+    let with_note = Drawing {
+        message: "a message",
+        notes: &["a note"],
+        picture: "error: a message\n = a note\n\n",
+        ..Drawing::default()
+    };
+    assert_drawn(&rt, rt.alloc(), with_note)?;
+    Ok(())
+}
+
+/// A header alone, in colour, by the call and by the view.
+#[test]
+fn coloured_header(rt: HostRuntime) -> Result<(), Fail> {
+    let alloc = rt.alloc();
+    let files: SimpleFiles<&str, &str> = SimpleFiles::new(alloc);
+    let error = Diagnostic::error(alloc).with_message("m")?;
+    let config = in_style(DisplayStyle::Short);
+    let styles = Styles::default();
+    let coloured = b"\x1b[0m\x1b[1m\x1b[38;5;9merror\x1b[0m\x1b[1m: m\x1b[0m\n";
+    let mut bytes = Vec::new(alloc);
+    let mut writer = StylesWriter::new(Ansi::new(&mut bytes), &styles);
+    emit_to_write_style(&mut writer, &config, &files, &error)?;
+    assert_eq!(rt; bytes.as_slice(), coloured.as_slice());
+    let mut bytes = Vec::new(alloc);
+    let mut writer = StylesWriter::new(Ansi::new(&mut bytes), &styles);
+    let mut renderer = Renderer::new(&mut writer, &config);
+    ShortDiagnostic::new(&error, true).render(&files, &mut renderer)?;
+    assert_eq!(rt; bytes.as_slice(), coloured.as_slice());
+    Ok(())
+}
+
+/// A cause in a file that is there, and one in a file that is not.
+fn half_missing(alloc: Global) -> Result<Diagnostic<usize>, Error> {
+    Diagnostic::error(alloc)
+        .with_message("m")?
+        .with_label(Label::primary(alloc, 0, 0..1))?
+        .with_label(Label::primary(alloc, 7, 0..1))
+}
+
+/// The string stays as it was; a writer has the headers before the refusal, or in rich style nothing.
+#[test]
+fn missing_file(rt: HostRuntime) -> Result<(), Fail> {
+    let alloc = rt.alloc();
+    let files = files_of(alloc, &[("f", "ab")])?;
+    let diagnostic = half_missing(alloc)?;
+    let rows = [
+        (DisplayStyle::Rich, ""),
+        (DisplayStyle::Medium, "f:1:1: error: m\n"),
+        (DisplayStyle::Short, "f:1:1: error: m\n"),
+    ];
+    for (style, written) in rows {
+        let config = in_style(style);
+        let mut string = "kept".to_string(alloc)?;
+        let refused = emit_to_string(&mut string, &config, &files, &diagnostic);
+        assert!(rt; matches!(refused, Err(Error::FileMissing)));
+        assert_eq!(rt; string.as_str(), "kept");
+        let mut plain = PlainWriter::new(Vec::new(alloc));
+        let refused = emit_to_write_style(&mut plain, &config, &files, &diagnostic);
+        assert!(rt; matches!(refused, Err(Error::FileMissing)));
+        assert_eq!(rt; plain.into_inner().as_slice(), written.as_bytes());
+    }
+    Ok(())
+}
