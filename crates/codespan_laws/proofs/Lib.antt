@@ -1,6 +1,7 @@
 pub mod BarLemmas
 pub mod BreakLemmas
 pub mod CaretLemmas
+pub mod ColourLemmas
 pub mod FillLemmas
 pub mod Filling
 pub mod LaneWidths

@@ -26,6 +26,7 @@ pub use Rattle.codespan_picture.specs.Lookups
 pub use Rattle.codespan_picture.specs.Given
 -- what a picture means
 pub mod CaretLaws
+pub mod ColourLaws
 pub mod LaneLaws
 pub mod LineLaws
 pub mod MessageLaws

@@ -8,7 +8,7 @@ use Rattle.codespan_picture.specs.Rows.{Look}
 use Rattle.codespan_picture.specs.RowParts.{line_cells}
 use Rattle.codespan_picture.specs.Snippets.{LabelledFile, line_at}
 use Rattle.codespan_picture.specs.Padding.{padding_of}
-use Rattle.codespan_picture.specs.Picture.{look_of, files_of, picture}
+use Rattle.codespan_picture.specs.Picture.{look_of, files_of}
 use Rattle.codespan_laws.specs.CaretLaws.{CaretsAreCells, StartsInWide, PointersAreCells}
 use Rattle.codespan_laws.specs.LaneLaws.{BarsAreLabels, LanesAreLines, LanesAreShown}
 use Rattle.codespan_laws.specs.LineLaws.{BreaksAreGaps, BreaksAreCovered, DrawingOfShown, SourceRowsAreFew}

@@ -9,7 +9,9 @@ ghost use Rattle.codespan_base.specs.declared.term.config.Layout.{Layout};
 ghost use Rattle.codespan_base.specs.declared.diagnostic.Diagnostic.{Diagnostic};
 ghost use Rattle.codespan_base.specs.FileModel.{FileModel, line_count};
 ghost use Rattle.codespan_base.specs.Labels.{LaneMark};
-ghost use Rattle.codespan_base.specs.Streams.{row_length};
+ghost use Rattle.codespan_base.specs.declared.term.config.styles.Styles.{Styles};
+ghost use Rattle.codespan_base.specs.Streams.{Spelling, row_length};
+ghost use Rattle.codespan_laws.specs.ColourLaws.{ColoursChangeNoText, NoColourIsPlain};
 ghost use Rattle.codespan_laws.specs.CaretLaws.{CaretsAreCells, PointersAreCells, StartsInWide};
 ghost use Rattle.codespan_laws.specs.Meanings.{MeansLabels, StartsBeforeEnds};
 ghost use Rattle.codespan_laws.specs.LaneLaws.{BarsAreLabels, LanesAreLines, LanesAreShown};
@@ -19,6 +21,7 @@ ghost use Rattle.codespan_laws.specs.OrderLaws.{OrderIsFree};
 ghost use Rattle.codespan_laws.specs.PaddingLaws.{PaddingHasRoom};
 ghost use Rattle.codespan_laws.specs.RowLaws.{CharactersAreFree, RowsEndReset};
 ghost use Rattle.codespan_picture.specs.RowParts.{plain_lanes, source_lanes, below_lanes, underline_lanes, line_cells};
+ghost use Rattle.codespan_picture.specs.Picture.{picture};
 ghost use Rattle.codespan_picture.specs.Rows.{Look, Lanes, Line};
 ghost use Rattle.codespan_picture.specs.Snippets.{LabelledFile};
 
@@ -124,4 +127,13 @@ pub fn characters_are_free()
 /// The last mark of a row, if it has one, is a reset.
 pub fn rows_end_reset()
     ensures { RowsEndReset }
+{}
+
+// ---- colours
+
+/// Colours change no text: however a writer spells marks, what it is sent of a picture is the plain text and, among it, the bytes of marks.
+/// In no colours these are none, whatever the styles.
+pub fn colours_change_no_text<Id>()
+    ensures spelled { (spelling : Spelling) (config : Config) (same : Id → Id → Bool) (file : Id → FileModel) (d : Diagnostic Id) → ColoursChangeNoText spelling (picture config same file d) }
+    ensures colourless { (styles : Styles) (config : Config) (same : Id → Id → Bool) (file : Id → FileModel) (d : Diagnostic Id) → NoColourIsPlain styles (picture config same file d) }
 {}

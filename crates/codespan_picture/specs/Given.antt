@@ -1,5 +1,5 @@
 -- Labels, marks and places as the calls of a renderer are given them.
-use Rattle.std.specs.Prelude.{ℕ, ◌+◌, Bool, true, ◌&&◌, ◌==◌, nat_le, nat_lt, List, [], ◌∷◌, map, Option, Some, None, if◌then◌else◌, string_bytes}
+use Rattle.std.specs.Prelude.{ℕ, Bool, List, map, string_bytes}
 use Rattle.std.specs.Borrow.{Bor}
 use Rattle.std.specs.declared.ops.Range.{Range}
 use Rattle.codespan_base.specs.declared.diagnostic.LabelStyle.{LabelStyle}

@@ -60,13 +60,15 @@ notes_of d = map string_bytes d.notes.items
 
 -- ---- the picture
 
--- the picture in one of the styles
+-- the picture in one of the styles, of a diagnostic's severity, code and message, labels, and notes
+abbrev pub styled_picture : {Id : Type 0} → DisplayStyle → Config → (Id → Id → Bool) → (Id → FileModel) → Severity → Heading → List (InFile Id) → List (List ℕ) → Stream
+styled_picture Rich config same file severity heading xs notes = rich_picture config severity heading (labelled_files same file xs) notes
+styled_picture Medium config same file severity heading xs notes = stream_of_rows (look_of config severity 0) (medium_rows file heading xs notes)
+styled_picture Short config same file severity heading xs notes = stream_of_rows (look_of config severity 0) (short_rows file heading xs)
+
+-- the picture of a diagnostic in one of the styles
 abbrev pub picture_in : {Id : Type 0} → DisplayStyle → Config → (Id → Id → Bool) → (Id → FileModel) → Diagnostic Id → Stream
-picture_in Rich config same file d = rich_picture config d.severity (heading_of d) (files_of same file d) (notes_of d)
-picture_in Medium config same file d =
-    stream_of_rows (look_of config d.severity 0) (medium_rows file (heading_of d) (labels_of d) (notes_of d))
-picture_in Short config same file d =
-    stream_of_rows (look_of config d.severity 0) (short_rows file (heading_of d) (labels_of d))
+picture_in style config same file d = styled_picture style config same file d.severity (heading_of d) (labels_of d) (notes_of d)
 
 -- the picture in its config's style
 abbrev pub picture : {Id : Type 0} → Config → (Id → Id → Bool) → (Id → FileModel) → Diagnostic Id → Stream

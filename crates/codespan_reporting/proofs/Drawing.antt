@@ -16,7 +16,7 @@ use Rattle.codespan_picture.specs.Lookups.{Refusals, early_lookups, late_lookups
 use Rattle.codespan_reporting.specs.Headline.{DrawsRich, viewed_picture, NamesAreStated}
 use Rattle.codespan_reporting.specs.Inner.Asking.{Came}
 use Rattle.codespan_reporting.proofs.Chains.{came_both, came_then_stopped}
-use Rattle.codespan_reporting.proofs.Refusals.{first_refusal-some, first_refusal-none, all_answered, some_refused, Blames-lookup, Blames-writer}
+use Rattle.codespan_reporting.proofs.Refusals.{first_refusal-some, first_refusal-none, all_answered, some_refused}
 
 -- nothing came, which is a beginning of everything
 pub Began-none : (s : Sink) (items : Stream) (t : Sink) → t ≡ s → Began s items t
@@ -44,8 +44,10 @@ module _ {Id : Type 0} (renderer view : Config) (same : Id → Id → Bool) (fil
       → (e ≢ OutOfMemory → e ≢ FormatError → first_refusal refusal before_header ≡ Some e) → DrawsRich renderer view same file refusal d old (Err e) new
   refused_early old new e unchanged some told = record {
     drawn = record {
-      frame = Blames-lookup refusal (before_header ++ after_header) old.frame new.frame e (ap (λ (s : Sink). s.frame) unchanged)
-          (omega (arith, length-append before_header after_header)) (λ p q. first_refusal-some refusal before_header after_header e (told p q));
+      frame = inr (
+        ap (λ (s : Sink). s.frame) unchanged,
+        (omega (arith, length-append before_header after_header), λ p q. first_refusal-some refusal before_header after_header e (told p q)),
+      );
       stream = λ named tells. Began-none old _ new unchanged;
       answered = tt;
     };
@@ -58,7 +60,7 @@ module _ {Id : Type 0} (renderer view : Config) (same : Id → Id → Bool) (fil
       → Begins old new → DrawsRich renderer view same file refusal d old (Err e) new
   refused_by_writer old new e answered frame io begun = record {
     drawn = record {
-      frame = Blames-writer refusal (before_header ++ after_header) old.frame new.frame e frame io;
+      frame = inl (io, frame);
       stream = begun;
       answered = tt;
     };
@@ -71,8 +73,10 @@ module _ {Id : Type 0} (renderer view : Config) (same : Id → Id → Bool) (fil
       → (e ≢ OutOfMemory → first_refusal refusal after_header ≡ Some e) → Begins old new → DrawsRich renderer view same file refusal d old (Err e) new
   refused_late old new e answered frame some told begun = record {
     drawn = record {
-      frame = Blames-lookup refusal (before_header ++ after_header) old.frame new.frame e frame
-          (omega (arith, length-append before_header after_header)) (λ p q. first_refusal-none refusal before_header after_header answered ∙ told p);
+      frame = inr (
+        frame,
+        (omega (arith, length-append before_header after_header), λ p q. first_refusal-none refusal before_header after_header answered ∙ told p),
+      );
       stream = begun;
       answered = tt;
     };

@@ -1,20 +1,24 @@
 -- Emitting a picture as a text.
-use Rattle.std.proofs.Common.{◌≡◌, ℕ, Bool, true, false, List, [], Some, Ok, Err, Result, ⊎_elim, refl, sym, ap, ◌∙◌}
+use Rattle.std.proofs.Common.{◌≡◌, ◌≢◌, ◌⊎◌, ℕ, Bool, true, false, List, [], ◌∷◌, Option, Some, Ok, Err, Result, ⊎_elim, inl, inr, refl, sym, subst, ap, ◌∙◌}
 use Rattle.std.proofs.lemmas.Bool.{true≢false}
+use Rattle.std.specs.Borrow.{GName}
 use Rattle.codespan_base.specs.declared.term.config.DisplayStyle.{DisplayStyle}
 use Rattle.codespan_base.specs.declared.term.config.DisplayStyle.TheVariants.{Rich, Medium, Short}
 use Rattle.codespan_base.specs.declared.term.config.Config.{Config}
 use Rattle.codespan_base.specs.declared.diagnostic.Diagnostic.{Diagnostic}
 use Rattle.codespan_base.specs.declared.files.error.Error.{Error}
-use Rattle.codespan_base.specs.declared.files.error.Error.TheVariants.{FileMissing, IndexTooLarge, LineTooLarge, ColumnTooLarge, InvalidCharBoundary, Io, FormatError, OutOfMemory}
+use Rattle.codespan_base.specs.declared.files.error.Error.TheVariants.{FormatError}
+use Rattle.codespan_base.specs.Errors.{IsIo}
 use Rattle.codespan_base.specs.FileModel.{FileModel, Lookup}
-use Rattle.codespan_base.specs.Streams.{Stream, text_of, no_marks}
-use Rattle.codespan_base.specs.WriterLaw.{Frame, Sink, refusing, sent, is_told, tells, gained}
+use Rattle.codespan_base.specs.Streams.{Stream, Spelling, spelled, text_of, no_marks}
+use Rattle.codespan_base.specs.WriterLaw.{Frame, Sink, refusing, sent, is_told, tells, gained, Began, GainedPartly}
 use Rattle.codespan_base.specs.Writers.{fresh_sink}
-use Rattle.codespan_picture.specs.Lookups.{Refusals, lookups_in}
-use Rattle.codespan_picture.specs.Picture.{picture_in}
+use Rattle.codespan_picture.specs.Lookups.{Refusals, lookups_in, IsSomeRefused, early_lookups, late_lookups, first_refusal, headers_before_refusal}
+use Rattle.codespan_picture.specs.Picture.{picture_in, labels_of}
 use Rattle.codespan_laws.specs.Meanings.{MeansLabels}
-use Rattle.codespan_reporting.specs.Headline.{Blames, Draws, DrawsTo, IsDrawn, IsStringRefusal, NamesAreStated, picture_viewed}
+use Rattle.codespan_reporting.specs.declared.term.lent.LentWriter.{LentWriter}
+use Rattle.codespan_reporting.specs.Inner.Lent.{fresh_lent, lent_reference, lent_sink, lent_to}
+use Rattle.codespan_reporting.specs.Headline.{Blames, Draws, DrawsTo, IsDrawn, IsLookups, IsStringRefusal, IsTold, IsWriteRefusal, NamesAreStated, WritesText, picture_viewed}
 
 -- a plain writer that held nothing and was sent a stream holds its text
 held_text : (old new : Sink) (bytes : List ℕ) (s : Stream) → old ≡ fresh_sink no_marks (Some []) → new.held ≡ Some bytes
@@ -27,14 +31,30 @@ held_text old new bytes s fresh held came =
 
 -- a writer that has not refused was told of a lookup, or of memory
 string_refusal : {Id : Type 0} (refusal : Refusals Id) (ls : List (Id × Lookup)) (old new : Frame) (e : Error) → Blames refusal ls old e new → new.refused ≡ false → IsStringRefusal refusal ls e
-string_refusal refusal ls old new (Io cause) blames calm = ⊎_elim (λ (h : new ≡ refusing old). absurd (true≢false (sym (ap (λ (f : Frame). f.refused) h) ∙ calm))) (λ h. h.1) blames
-string_refusal refusal ls old new OutOfMemory blames calm = tt
-string_refusal refusal ls old new FormatError blames calm = blames.1
-string_refusal refusal ls old new FileMissing blames calm = blames.1
-string_refusal refusal ls old new (IndexTooLarge given max) blames calm = blames.1
-string_refusal refusal ls old new (LineTooLarge given max) blames calm = blames.1
-string_refusal refusal ls old new (ColumnTooLarge given max) blames calm = blames.1
-string_refusal refusal ls old new (InvalidCharBoundary given) blames calm = blames.1
+string_refusal refusal ls old new e blames calm =
+    ⊎_elim (λ (w : IsIo e × (new ≡ refusing old)). absurd (true≢false (sym (ap (λ (f : Frame). f.refused) w.1) ∙ calm)))
+    (λ (w : (new ≡ old) × IsTold refusal ls e). inr w.1)
+    blames
+
+-- a writer refused, or the lookups tell it
+write_refusal : {Id : Type 0} (refusal : Refusals Id) (ls : List (Id × Lookup)) (old new : Frame) (e : Error) → Blames refusal ls old e new → IsWriteRefusal refusal ls e
+write_refusal refusal ls old new e blames = ⊎_elim (λ (w : IsIo e × (new ≡ refusing old)). inl w.0) (λ (w : (new ≡ old) × IsTold refusal ls e). inr w.1) blames
+
+-- a refusal keeps the references that the writer writes through
+same_references : {Id : Type 0} (refusal : Refusals Id) (ls : List (Id × Lookup)) (old new : Frame) (e : Error) → Blames refusal ls old e new → new.through ≡ old.through
+same_references refusal ls old new e blames =
+    ⊎_elim (λ (w : IsIo e × (new ≡ refusing old)). ap (λ (f : Frame). f.through) w.1)
+    (λ (w : (new ≡ old) × IsTold refusal ls e). ap (λ (f : Frame). f.through) w.0)
+    blames
+
+-- a stream that came to a writer that spells marks as nothing came as its text
+text_came : (old new : Sink) (s : Stream) → old.frame.spelling ≡ no_marks → new ≡ sent old s → new.held ≡ gained old.held (text_of s)
+unfolding sent
+text_came old new s plain came = ap (λ (x : Sink). x.held) came ∙ ap (λ (spelling : Spelling). gained old.held (spelled spelling s)) plain
+
+-- and one that began, as a beginning of its text
+text_began : (old new : Sink) (s : Stream) → old.frame.spelling ≡ no_marks → Began old s new → GainedPartly old.held (text_of s) new.held
+text_began old new s plain p = record { begun = p.begun; rest = p.rest; whole = p.whole ∙ ap (λ (spelling : Spelling). spelled spelling s) plain; held = p.held }
 
 module _ {Id : Type 0} (config : Config) (same : Id → Id → Bool) (file : Id → FileModel) (refusal : Refusals Id) (d : Diagnostic Id) where
   -- what every style has in common
@@ -66,3 +86,67 @@ module _ {Id : Type 0} (config : Config) (same : Id → Id → Bool) (file : Id 
   pub told_of_string : (old new : Sink) (e : Error) → DrawsTo config same file refusal d config.display_style old (Err e) new → new.frame.refused ≡ false
       → IsStringRefusal refusal (lookups_in config.display_style config same file refusal d) e
   told_of_string old new e draws calm = string_refusal refusal _ old.frame new.frame e (common config.display_style old (Err e) new draws).frame calm
+
+  -- a picture that was drawn to a writer of plain text
+  module _ (old new : Sink) (plain : old.frame.spelling ≡ no_marks) where
+    -- what a style alone promises
+    early_of : (style : DisplayStyle) (r : Result (Unit {0}) Error) → DrawsTo config same file refusal d style old r new → style ≡ Rich
+        → IsSomeRefused refusal (early_lookups config same file refusal (labels_of d)) → new ≡ old
+    early_of Rich r draws is p = draws.early p
+    early_of Medium r draws is p = cc
+    early_of Short r draws is p = cc
+
+    unprintable_of : (style : DisplayStyle) (e : Error) → DrawsTo config same file refusal d style old (Err e) new → style ≡ Rich → e ≡ FormatError
+        → (new ≡ old) ⊎ (first_refusal refusal (late_lookups config same file refusal (labels_of d)) ≡ Some FormatError)
+    unprintable_of Rich e draws is h = draws.unprintable h
+    unprintable_of Medium e draws is h = cc
+    unprintable_of Short e draws is h = cc
+
+    headers_of : (style : DisplayStyle) (e : Error) → DrawsTo config same file refusal d style old (Err e) new → style ≢ Rich → NamesAreStated file d → is_told old ≡ true
+        → IsLookups old.frame e new.frame → new ≡ sent old (headers_before_refusal config file refusal d)
+    headers_of Rich e draws other named told of = absurd (other refl)
+    headers_of Medium e draws other named told of = draws.headers named told of
+    headers_of Short e draws other named told of = draws.headers named told of
+
+    -- the writer holds the picture's text, or a beginning of it
+    pub written : (r : Result (Unit {0}) Error) → DrawsTo config same file refusal d config.display_style old r new → WritesText config same file refusal d old.held r new.held
+    unfolding is_told
+    written (Ok done) draws =
+        let parts = common config.display_style old (Ok done) new draws in
+        record {
+          answered = parts.answered;
+          text = λ named told. text_came old new _ plain (parts.stream named told) ∙ ap (λ (s : Stream). gained old.held (text_of s)) (one_picture config.display_style);
+          early = λ is p. ap (λ (x : Sink). x.held) (early_of config.display_style (Ok done) draws is p);
+          unprintable = λ is. tt;
+          headers = λ other named told. tt;
+        }
+    written (Err e) draws =
+        let parts = common config.display_style old (Err e) new draws in
+        record {
+          answered = write_refusal refusal _ old.frame new.frame e parts.frame;
+          text = λ named told. subst (λ (s : Stream). GainedPartly old.held (text_of s) new.held) (one_picture config.display_style) (text_began old new _ plain (parts.stream named told));
+          early = λ is p. ap (λ (x : Sink). x.held) (early_of config.display_style (Err e) draws is p);
+          unprintable = λ is h. ⊎_elim (λ (k : new ≡ old). inl (ap (λ (x : Sink). x.held) k)) (λ k. inr k) (unprintable_of config.display_style e draws is h);
+          headers = λ other named told no_memory no_display no_writer.
+              text_came old new _ plain
+              (headers_of config.display_style e draws other named told (record { no_memory = no_memory; no_display = no_display; no_writer = λ io. absurd (no_writer io) }));
+        }
+
+    -- and writes through the references that it wrote through
+    pub references_of : (style : DisplayStyle) (r : Result (Unit {0}) Error) → DrawsTo config same file refusal d style old r new → new.frame.through ≡ old.frame.through
+    references_of style (Ok done) draws = ap (λ (f : Frame). f.through) (common style old (Ok done) new draws).frame
+    references_of style (Err e) draws = same_references refusal _ old.frame new.frame e (common style old (Err e) new draws).frame
+
+  -- a picture that was drawn to a lent writer: what comes back by its reference holds the text, or a beginning of it
+  pub written_back : {W : Type 0} (contents : W → Option (List ℕ)) (before after : LentWriter W) (name : GName) (held : Option (List ℕ)) (x : W) (r : Result (Unit {0}) Error)
+      → lent_sink contents before ≡ fresh_lent name held
+      → DrawsTo config same file refusal d config.display_style (lent_sink contents before) r (lent_sink contents after)
+      → (name ≡ lent_reference after → x ≡ lent_to after)
+      → WritesText config same file refusal d held r (contents x)
+  written_back {W} contents before after name held x r begins draws back =
+      let kept : (lent_reference after ∷ []) ≡ (name ∷ []) =
+      references_of (lent_sink contents before) (lent_sink contents after) refl config.display_style r draws ∙ ap (λ (s : Sink). s.frame.through) begins in
+      let named : name ≡ lent_reference after = cc in
+      subst (λ (o : Option (List ℕ)). WritesText config same file refusal d o r (contents x)) (ap (λ (s : Sink). s.held) begins)
+      (subst (λ (y : W). WritesText config same file refusal d (contents (lent_to before)) r (contents y)) (sym (back named))
+      (written (lent_sink contents before) (lent_sink contents after) refl r draws))

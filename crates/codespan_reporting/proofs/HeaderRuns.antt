@@ -8,7 +8,7 @@ use Rattle.std.proofs.lemmas.List.Elements.{Contains-append_left, Contains-appen
 use Rattle.codespan_base.specs.declared.diagnostic.Diagnostic.{Diagnostic}
 use Rattle.codespan_base.specs.declared.diagnostic.Label.{Label}
 use Rattle.codespan_base.specs.declared.files.error.Error.{Error}
-use Rattle.codespan_base.specs.declared.files.error.Error.TheVariants.{FileMissing, IndexTooLarge, LineTooLarge, ColumnTooLarge, InvalidCharBoundary, Io, FormatError, OutOfMemory}
+use Rattle.codespan_base.specs.declared.files.error.Error.TheVariants.{FormatError, OutOfMemory}
 use Rattle.codespan_base.specs.declared.term.config.Config.{Config}
 use Rattle.codespan_base.specs.declared.term.config.DisplayStyle.TheVariants.{Short, Medium}
 use Rattle.codespan_base.specs.Errors.{IsIo}
@@ -16,17 +16,17 @@ use Rattle.codespan_base.specs.FileModel.{FileModel, Lookup, name_text, or_refus
 use Rattle.codespan_base.specs.FileModel.Lookup.{Name, LocationAt}
 use Rattle.codespan_base.specs.Labels.{is_primary}
 use Rattle.codespan_base.specs.Streams.{Stream, newline}
-use Rattle.codespan_base.specs.WriterLaw.{Frame, Sink, sent, is_told, Began, Sends, refusing}
+use Rattle.codespan_base.specs.WriterLaw.{Sink, sent, is_told, Began, Sends, refusing}
 use Rattle.codespan_base.proofs.Sends.{is_told-sent, sent-append, sent-nil, Began-first, Began-last}
-use Rattle.codespan_picture.specs.Lookups.{Refusals, first_refusal, labels_before_refusal}
+use Rattle.codespan_picture.specs.Lookups.{Refusals, first_refusal}
 use Rattle.codespan_picture.specs.Picture.{heading_of, label_of, labels_of, look_of, notes_of}
-use Rattle.codespan_picture.specs.Rows.{Look, Place, Row, HeaderRow}
+use Rattle.codespan_picture.specs.Rows.{Look, Place, Row}
 use Rattle.codespan_picture.specs.RowStreams.{header_row, stream_of, stream_of_rows}
 use Rattle.codespan_picture.specs.Snippets.{InFile, has_any, header_at, header_rows_of, note_rows, short_rows}
-use Rattle.codespan_reporting.specs.Headline.{DrawsShort, IsLookups, NamesAreStated}
-use Rattle.codespan_reporting.specs.Inner.Headers.{AreNamed, DrawsHeaders, HeaderRefused, HeadersCame, HeadersEnded, HeaderStopped, header_asked, headers_of, primary_of}
+use Rattle.codespan_reporting.specs.Headline.{DrawsShort, NamesAreStated}
+use Rattle.codespan_reporting.specs.Inner.Headers.{AreNamed, HeaderRefused, HeadersCame, HeadersEnded, HeaderStopped, header_asked, headers_of, primary_of}
 use Rattle.codespan_reporting.proofs.Drawing.{Began-none}
-use Rattle.codespan_reporting.proofs.Refusals.{Blames-lookup, Blames-writer, all_answered, first_refusal-none, first_refusal-some}
+use Rattle.codespan_reporting.proofs.Refusals.{all_answered, first_refusal-none, first_refusal-some}
 
 -- what a filter keeps was there
 kept : {X : Type 0} (b : Bool) (x y : X) (ys zs : List X) → (Contains zs x → Contains ys x) → Contains (cond b (y ∷ zs) zs) x → Contains (y ∷ ys) x
@@ -70,26 +70,6 @@ primary_cut {Id} items i =
 -- one more flag
 pub flags_more : {X : Type 0} (xs ys : List X) (a b : Bool) → a ≡ has_any xs → b ≡ has_any ys → (a || b) ≡ has_any (xs ++ ys)
 flags_more xs ys a b first second = ap₂ (λ p q. p || q) first second ∙ sym (has_any-append xs ys)
-
--- ---- what errors tell
-
--- a writer's refusal is none of a lookup
-io_refused : (old new : Frame) (e : Error) → IsIo e → IsLookups old e new → new ≢ refusing old
-io_refused old new (Io cause) io of = of
-io_refused old new OutOfMemory io of = absurd io
-io_refused old new FormatError io of = absurd io
-io_refused old new FileMissing io of = absurd io
-io_refused old new (IndexTooLarge given max) io of = absurd io
-io_refused old new (LineTooLarge given max) io of = absurd io
-io_refused old new (ColumnTooLarge given max) io of = absurd io
-io_refused old new (InvalidCharBoundary given) io of = absurd io
-
--- a lookup's refusal is none for want of memory, and none of a Display
-no_memory : (old new : Frame) (e : Error) → IsLookups old e new → e ≢ OutOfMemory
-no_memory old new e of is = subst (λ (x : Error). IsLookups old x new) is of
-
-no_display : (old new : Frame) (e : Error) → IsLookups old e new → e ≢ FormatError
-no_display old new e of is = subst (λ (x : Error). IsLookups old x new) is of
 
 -- ---- one label's lookups
 
@@ -288,7 +268,7 @@ module _ {Id : Type 0} (config : Config) (file : Id → FileModel) (refusal : Re
       → Came old before mid → HeaderStopped config file refusal d mid here e new → DrawsShort config config same file refusal d Short old (Err e) new
   stopped_there same old mid new e before here after whole came stop = record {
     drawn = record {
-      frame = Blames-writer refusal asked old.frame new.frame e (stop.frame ∙ ap refusing came.frame) stop.io;
+      frame = inl (stop.io, stop.frame ∙ ap refusing came.frame);
       stream = λ named told.
           let names = named_part before here after whole named in
           let is = came.came names.0 told in
@@ -298,7 +278,7 @@ module _ {Id : Type 0} (config : Config) (file : Id → FileModel) (refusal : Re
           (Began-last old (headed before) (headed (here ∷ []) ++ headed after) new (subst (λ (x : Sink). Began x (headed (here ∷ []) ++ headed after) new) is first));
       answered = tt;
     };
-    headers = λ named told of. absurd (io_refused old.frame new.frame e stop.io of (stop.frame ∙ ap refusing came.frame));
+    headers = λ named told of. absurd (of.no_writer stop.io (stop.frame ∙ ap refusing came.frame));
   }
 
   -- a lookup for a header refused, or memory, or a Display
@@ -306,7 +286,7 @@ module _ {Id : Type 0} (config : Config) (file : Id → FileModel) (refusal : Re
       → Came old before mid → HeaderRefused config file refusal d mid here e new → DrawsShort config config same file refusal d Short old (Err e) new
   refused_there same old mid new e before here after whole came stop = record {
     drawn = record {
-      frame = Blames-lookup refusal asked old.frame new.frame e (ap (λ (x : Sink). x.frame) stop.same ∙ came.frame) some told_all;
+      frame = inr (ap (λ (x : Sink). x.frame) stop.same ∙ came.frame, (some, told_all));
       stream = λ named told.
           let is = came.came (named_part before here after whole named).0 told in
           subst (λ (s : Stream). Began old s new) (sym (split before here after whole))
@@ -315,7 +295,7 @@ module _ {Id : Type 0} (config : Config) (file : Id → FileModel) (refusal : Re
       answered = tt;
     };
     headers = λ named told of.
-        let here_refused : is_answered refusal here ≡ false = one_refused _ _ e (stop.told (no_memory old.frame new.frame e of) (no_display old.frame new.frame e of)) in
+        let here_refused : is_answered refusal here ≡ false = one_refused _ _ e (stop.told of.no_memory of.no_display) in
         let run : take_while (is_answered refusal) causes ≡ before = ap (take_while (is_answered refusal)) (sym whole) ∙ run_before before here after came.answered here_refused in
         stop.same ∙ came.came (named_part before here after whole named).0 told ∙ ap (λ (xs : List (InFile Id)). sent old (headed xs)) (sym run);
   }
@@ -370,14 +350,14 @@ module _ {Id : Type 0} (config : Config) (file : Id → FileModel) (refusal : Re
   }
   bare_header same old mid new (Err e) none came sends io = record {
     drawn = record {
-      frame = Blames-writer refusal asked old.frame new.frame e (sends.0 ∙ ap refusing came.frame) io;
+      frame = inl (io, sends.0 ∙ ap refusing came.frame);
       stream = λ named told.
           let is = came.came (named_causes named) told ∙ ap (λ (xs : List (InFile Id)). sent old (headed xs)) (none_there causes none) ∙ sent-nil old in
           subst (λ (s : Stream). Began old s new) (sym (bare_rows (none_there causes none)))
           (subst (λ (x : Sink). Began x (header_row d.severity None (heading_of d) ++ newline) new) is (sends.1 (ap is_told is ∙ told)));
       answered = tt;
     };
-    headers = λ named told of. absurd (io_refused old.frame new.frame e io of (sends.0 ∙ ap refusing came.frame));
+    headers = λ named told of. absurd (of.no_writer io (sends.0 ∙ ap refusing came.frame));
   }
 
   -- ---- the notes after them
@@ -415,7 +395,7 @@ module _ {Id : Type 0} (config : Config) (file : Id → FileModel) (refusal : Re
   }
   medium_sent same old mid new (Err e) short sends io = record {
     drawn = record {
-      frame = Blames-writer refusal asked old.frame new.frame e (sends.0 ∙ ap refusing short.drawn.frame) io;
+      frame = inl (io, sends.0 ∙ ap refusing short.drawn.frame);
       stream = λ named told.
           let is = short.drawn.stream named told in
           subst (λ (s : Stream). Began old s new) (sym medium-is)
@@ -423,5 +403,5 @@ module _ {Id : Type 0} (config : Config) (file : Id → FileModel) (refusal : Re
           (subst (λ (y : Sink). Began y (stream_of_rows look (note_rows (notes_of d))) new) is (sends.1 (ap is_told is ∙ is_told-sent old _ ∙ told))));
       answered = tt;
     };
-    headers = λ named told of. absurd (io_refused old.frame new.frame e io of (sends.0 ∙ ap refusing short.drawn.frame));
+    headers = λ named told of. absurd (of.no_writer io (sends.0 ∙ ap refusing short.drawn.frame));
   }

@@ -5,8 +5,7 @@ use Rattle.std.proofs.lemmas.List.{append-nil, map-append}
 use Rattle.std.proofs.lemmas.List.Concat.{flat_map-append}
 use Rattle.std.proofs.lemmas.List.Elements.{Contains-append_left, Contains-append_right}
 use Rattle.codespan_base.specs.declared.files.error.Error.{Error}
-use Rattle.codespan_base.specs.FileModel.{FileModel, Lookup, name_text, or_refusal}
-use Rattle.codespan_base.specs.FileModel.Lookup.{LocationAt, Name}
+use Rattle.codespan_base.specs.FileModel.{FileModel, Lookup, name_text}
 use Rattle.codespan_base.specs.Labels.{Labelled, is_primary}
 use Rattle.codespan_picture.specs.declared.given.Locus.{Locus}
 use Rattle.codespan_picture.specs.Given.{place_of_given}

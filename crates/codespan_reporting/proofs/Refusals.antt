@@ -1,16 +1,10 @@
--- The first lookup that refuses, and what its refusal tells of a writer.
-use Rattle.std.proofs.Common.{◌≡◌, ◌≢◌, zero, suc, ◌<◌, List, [], ◌∷◌, ◌++◌, length, Option, None, Some, inl, inr, refl, sym, ap, ◌∙◌, arith}
+-- The first lookup that refuses.
+use Rattle.std.proofs.Common.{◌≡◌, zero, suc, List, [], ◌∷◌, ◌++◌, Option, None, Some, refl, sym, ap, ◌∙◌, arith}
 use Rattle.codespan_base.specs.declared.files.error.Error.{Error}
-use Rattle.codespan_base.specs.declared.files.error.Error.TheVariants.{FileMissing, IndexTooLarge, LineTooLarge, ColumnTooLarge, InvalidCharBoundary, Io, FormatError, OutOfMemory}
-use Rattle.codespan_base.specs.Errors.{IsIo}
 use Rattle.codespan_base.specs.FileModel.{Lookup, or_refusal}
-use Rattle.codespan_base.specs.WriterLaw.{Frame, refusing}
 use Rattle.codespan_picture.specs.Lookups.{Refusals, first_refusal, AllAnswered, IsSomeRefused}
-use Rattle.codespan_reporting.specs.Headline.{Blames}
 
 module _ {Id : Type 0} (refusal : Refusals Id) where
-  -- ---- runs of lookups
-
   -- what refuses some lookups refuses them with more after them
   pub first_refusal-some : (ls ms : List (Id × Lookup)) (e : Error) → first_refusal refusal ls ≡ Some e → first_refusal refusal (ls ++ ms) ≡ Some e
   first_refusal-some [] ms e h = cc
@@ -45,28 +39,3 @@ module _ {Id : Type 0} (refusal : Refusals Id) where
   -- where one refuses, something refuses
   pub some_refused : (ls : List (Id × Lookup)) → first_refusal refusal ls ≡ None → IsSomeRefused refusal ls → ⊥
   some_refused ls h p = let answered = all_answered ls h p.is.id p.is.lookup p.is.is_made in let refused = p.is.is_refused in cc
-
-  -- ---- what a refusal tells
-
-  -- a lookup's refusal leaves the writer as it was
-  pub Blames-lookup : (ls : List (Id × Lookup)) (old new : Frame) (e : Error) → new ≡ old → 0 < length ls
-      → (e ≢ OutOfMemory → e ≢ FormatError → first_refusal refusal ls ≡ Some e) → Blames refusal ls old e new
-  Blames-lookup ls old new OutOfMemory same some told = (same, some)
-  Blames-lookup ls old new FormatError same some told = (same, some)
-  Blames-lookup ls old new (Io cause) same some told = inr (same, told (λ q. cc) (λ q. cc))
-  Blames-lookup ls old new FileMissing same some told = (same, told (λ q. cc) (λ q. cc))
-  Blames-lookup ls old new (IndexTooLarge given max) same some told = (same, told (λ q. cc) (λ q. cc))
-  Blames-lookup ls old new (LineTooLarge given max) same some told = (same, told (λ q. cc) (λ q. cc))
-  Blames-lookup ls old new (ColumnTooLarge given max) same some told = (same, told (λ q. cc) (λ q. cc))
-  Blames-lookup ls old new (InvalidCharBoundary given) same some told = (same, told (λ q. cc) (λ q. cc))
-
-  -- a writer's refusal says that it refused
-  pub Blames-writer : (ls : List (Id × Lookup)) (old new : Frame) (e : Error) → new ≡ refusing old → IsIo e → Blames refusal ls old e new
-  Blames-writer ls old new (Io cause) same io = inl same
-  Blames-writer ls old new OutOfMemory same io = absurd io
-  Blames-writer ls old new FormatError same io = absurd io
-  Blames-writer ls old new FileMissing same io = absurd io
-  Blames-writer ls old new (IndexTooLarge given max) same io = absurd io
-  Blames-writer ls old new (LineTooLarge given max) same io = absurd io
-  Blames-writer ls old new (ColumnTooLarge given max) same io = absurd io
-  Blames-writer ls old new (InvalidCharBoundary given) same io = absurd io

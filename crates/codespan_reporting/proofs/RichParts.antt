@@ -2,7 +2,7 @@
 use Rattle.std.proofs.Common.{◌≡◌, ℕ, ◌<◌, Bool, true, List, [], ◌∷◌, ◌++◌, length, map, None, Result, Ok, Err, ⊎_elim, refl, sym, subst, ap, ◌∙◌, arith}
 use Rattle.std.specs.Prelude.{IfErr}
 use Rattle.std.proofs.lemmas.Grind.{flat_map-append}
-use Rattle.std.proofs.lemmas.List.{append-nil, append_assoc}
+use Rattle.std.proofs.lemmas.List.{append_assoc}
 use Rattle.codespan_base.specs.declared.term.config.Config.{Config}
 use Rattle.codespan_base.specs.declared.diagnostic.Diagnostic.{Diagnostic}
 use Rattle.codespan_base.specs.declared.files.error.Error.{Error}
@@ -18,7 +18,7 @@ use Rattle.codespan_reporting.specs.Inner.GivenSheets.{IsPrepared, placed_snippe
 use Rattle.codespan_reporting.specs.Headline.{DrawsRich, NamesAreStated, viewed_picture}
 use Rattle.codespan_picture.specs.Lookups.{Refusals, early_lookups, first_refusal, late_lookups}
 use Rattle.codespan_picture.specs.Picture.{heading_of, labels_of, look_of, notes_of}
-use Rattle.codespan_picture.specs.Rows.{Look, Row, BlankRow, EmptyRow, HeaderRow}
+use Rattle.codespan_picture.specs.Rows.{Look, Row, BlankRow, HeaderRow}
 use Rattle.codespan_picture.specs.RowStreams.{header_row, stream_of, stream_of_rows}
 use Rattle.codespan_picture.specs.Snippets.{InFile, LabelledFile, has_any, is_followed, labelled_files, note_rows, place_of, row_after, snippet, snippets}
 use Rattle.codespan_reporting.proofs.Chains.{came_both, came_then_stopped, stopped_before, told_after, Began-as}

@@ -1,14 +1,15 @@
 -- The contracts of the calls that draw a diagnostic: what is drawn, what it means, and what a refusal tells.
-use Rattle.std.specs.Prelude.{◌≡◌, ◌≢◌, ℕ, ◌<◌, ◌⊎◌, Bool, true, List, ◌++◌, length, Contains, IsSome, Some, MatchResult, Result}
+use Rattle.std.specs.Prelude.{◌≡◌, ◌≢◌, ℕ, ◌<◌, ◌⊎◌, Bool, true, List, ◌++◌, length, Contains, IsSome, Option, Some, MatchResult, Result}
 use Rattle.codespan_base.specs.declared.term.config.Config.{Config}
 use Rattle.codespan_base.specs.declared.term.config.DisplayStyle.{DisplayStyle}
 use Rattle.codespan_base.specs.declared.term.config.DisplayStyle.TheVariants.{Rich, Medium, Short}
 use Rattle.codespan_base.specs.declared.diagnostic.Diagnostic.{Diagnostic}
 use Rattle.codespan_base.specs.declared.files.error.Error.{Error}
-use Rattle.codespan_base.specs.declared.files.error.Error.TheVariants.{FormatError, OutOfMemory, Io}
+use Rattle.codespan_base.specs.declared.files.error.Error.TheVariants.{FormatError, OutOfMemory}
+use Rattle.codespan_base.specs.Errors.{IsIo}
 use Rattle.codespan_base.specs.FileModel.{FileModel, Lookup}
 use Rattle.codespan_base.specs.Streams.{Stream, text_of}
-use Rattle.codespan_base.specs.WriterLaw.{Frame, Sink, refusing, sent, is_told, Began}
+use Rattle.codespan_base.specs.WriterLaw.{Frame, Sink, refusing, sent, is_told, Began, tells, gained, GainedPartly}
 use Rattle.codespan_picture.specs.Snippets.{InFile, short_rows, medium_rows}
 use Rattle.codespan_picture.specs.Picture.{look_of, labels_of, files_of, heading_of, notes_of, picture, rich_stream}
 use Rattle.codespan_picture.specs.RowStreams.{stream_of_rows}
@@ -24,26 +25,27 @@ NamesAreStated {Id} file d = (x : InFile Id) → Contains (labels_of d) x → Is
 -- ---- what a refusal tells
 
 module _ {Id : Type 0} (refusal : Refusals Id) (lookups : List (Id × Lookup)) where
-  -- what a string call tells: want of memory, a name whose Display refused, or what the first lookup that refuses is refused with;
-  -- memory alone where there is no lookup
-  abbrev pub IsStringRefusal : Error → Type 0
-  IsStringRefusal OutOfMemory = Unit {0}
-  IsStringRefusal FormatError = 0 < length lookups
-  IsStringRefusal e = first_refusal refusal lookups ≡ Some e
+  -- what lookups tell: want of memory, a name whose Display refused, or what the first one that refuses is refused with
+  abbrev pub IsTold : Error → Type 0
+  IsTold e = (0 < length lookups) × (e ≢ OutOfMemory → e ≢ FormatError → first_refusal refusal lookups ≡ Some e)
 
-  -- what an error says of a writer: `Io` that it refused, or that a lookup told it; any other that it refused nothing
+  -- what a string call is refused with: for want of memory, or as the lookups tell
+  abbrev pub IsStringRefusal : Error → Type 0
+  IsStringRefusal e = (e ≡ OutOfMemory) ⊎ IsTold e
+
+  -- what a call that writes is refused with: `Io`, or as the lookups tell
+  abbrev pub IsWriteRefusal : Error → Type 0
+  IsWriteRefusal e = IsIo e ⊎ IsTold e
+
+  -- whom an error blames: the writer, which has refused then, or the lookups, and then the writer has refused nothing
   abbrev pub Blames : Frame → Error → Frame → Type 0
-  Blames old (Io e) new = (new ≡ refusing old) ⊎ ((new ≡ old) × (first_refusal refusal lookups ≡ Some (Io e)))
-  Blames old OutOfMemory new = (new ≡ old) × (0 < length lookups)
-  Blames old FormatError new = (new ≡ old) × (0 < length lookups)
-  Blames old e new = (new ≡ old) × (first_refusal refusal lookups ≡ Some e)
+  Blames old e new = (IsIo e × (new ≡ refusing old)) ⊎ ((new ≡ old) × IsTold e)
 
 -- the refusal is that of a lookup and of nothing else: it tells no want of memory and no Display, and `Io` only where the writer did not refuse
-abbrev pub IsLookups : Frame → Error → Frame → Type 0
-IsLookups old (Io e) new = new ≢ refusing old
-IsLookups old FormatError new = ⊥
-IsLookups old OutOfMemory new = ⊥
-IsLookups old e new = Unit {0}
+pub record IsLookups (old : Frame) (e : Error) (new : Frame) : Type 0 where
+  pub no_memory : e ≢ OutOfMemory
+  pub no_display : e ≢ FormatError
+  pub no_writer : IsIo e → new ≢ refusing old
 
 -- ---- the calls that draw to a writer of styles
 
@@ -110,3 +112,19 @@ module _ {Id : Type 0} (config : Config) (same : Id → Id → Bool) (file : Id 
   DrawsTo Rich old r new = DrawsRich config config same file refusal d old r new
   DrawsTo Medium old r new = DrawsShort config config same file refusal d Medium old r new
   DrawsTo Short old r new = DrawsShort config config same file refusal d Short old r new
+
+  -- the text of the picture
+  abbrev pub drawn_text : List ℕ
+  drawn_text = text_of (picture config same file d)
+
+  -- what the calls that write plain text do, by what the writer tells before and after
+  pub record WritesText (old : Option (List ℕ)) (r : Result (Unit {0}) Error) (new : Option (List ℕ)) : Type 0 where
+    pub answered : MatchResult r (λ _. AllAnswered refusal lookups) (IsWriteRefusal refusal lookups)
+    pub text : NamesAreStated file d → tells old ≡ true → MatchResult r (λ _. new ≡ gained old drawn_text) (λ _. GainedPartly old drawn_text new)
+    -- in rich style: where a lookup before the header refuses, or the name of a file can not be printed, nothing is written
+    pub early : config.display_style ≡ Rich → IsSomeRefused refusal (early_lookups config same file refusal (labels_of d)) → new ≡ old
+    pub unprintable : config.display_style ≡ Rich → MatchResult r (λ _. Unit {0}) (λ e. e ≡ FormatError
+        → (new ≡ old) ⊎ (first_refusal refusal (late_lookups config same file refusal (labels_of d)) ≡ Some FormatError))
+    -- in short and medium style: a refused lookup leaves exactly the headers before it
+    pub headers : config.display_style ≢ Rich → NamesAreStated file d → tells old ≡ true → MatchResult r (λ _. Unit {0})
+        (λ e. e ≢ OutOfMemory → e ≢ FormatError → ¬ (IsIo e) → new ≡ gained old (text_of (headers_before_refusal config file refusal d)))

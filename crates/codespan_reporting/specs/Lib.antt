@@ -26,6 +26,7 @@ pub use Rattle.codespan_picture.specs.Lookups
 pub use Rattle.codespan_picture.specs.Given
 -- what a picture means
 pub use Rattle.codespan_laws.specs.CaretLaws
+pub use Rattle.codespan_laws.specs.ColourLaws
 pub use Rattle.codespan_laws.specs.LaneLaws
 pub use Rattle.codespan_laws.specs.LineLaws
 pub use Rattle.codespan_laws.specs.MessageLaws

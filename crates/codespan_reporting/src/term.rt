@@ -1,6 +1,7 @@
 //! The calls that draw a diagnostic.
 
-mod emit;
+mod emitting;
+mod lent;
 pub mod renderer;
 pub mod views;
 
@@ -8,6 +9,6 @@ pub use codespan_base::term::{
     Ansi, Chars, Color, ColorSpec, Config, DisplayStyle, GeneralWrite, GeneralWriteResult, Layout,
     NoColor, PlainWriter, SnippetStart, Styles, StylesWriter, WriteColor, WriteStyle, config,
 };
-pub use emit::{emit_into_string, emit_to_string, emit_to_write_style};
+pub use emitting::{emit, emit_into_string, emit_to_io_write, emit_to_string, emit_to_write_style};
 pub use renderer::{Locus, MultiLabel, Renderer, SingleLabel, lanes_in_order};
 pub use views::{RichDiagnostic, ShortDiagnostic};

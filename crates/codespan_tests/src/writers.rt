@@ -1,6 +1,6 @@
 //! The tables, every mark of every writer, and writers that stop.
 
-mod example;
+pub mod example;
 mod flushing;
 mod stopping;
 

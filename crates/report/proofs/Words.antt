@@ -1,7 +1,7 @@
 -- What the arguments ask for, word by word.
-use Rattle.std.proofs.Common.{◌≡◌, ℕ, ◌<◌, ◌≤◌, ◌⊎◌, inl, inr, Bool, List, [], ◌∷◌, length, get_or, map, Option, None, if◌then◌else◌, codes, refl, ap, sym, ◌∙◌, arith}
-use Rattle.std.specs.Str.{bytes_eq}
-use Rattle.report.specs.Requests.{number_of, request_of, with_range}
+use Rattle.std.proofs.Common.{◌≡◌, ℕ, ◌<◌, ◌≤◌, ◌⊎◌, inl, inr, List, [], ◌∷◌, length, get_or, map, Option, None, refl, ap, sym, ◌∙◌, arith}
+use Rattle.codespan_base.specs.declared.term.config.DisplayStyle.{DisplayStyle}
+use Rattle.report.specs.Requests.{number_of, request_of, style_of, with_parts}
 
 -- five words are what stands at their places
 five_words : {A : Type 0} (xs : List A) (a b c d e : A) → 5 ≤ length xs → length xs < 6
@@ -26,16 +26,16 @@ other_words text (v ∷ w ∷ x ∷ y ∷ []) others = refl
 other_words text (v ∷ w ∷ x ∷ y ∷ z ∷ []) others = absurd (elim others [ inl few ↦ omega arith | inr many ↦ omega arith ])
 other_words text (v ∷ w ∷ x ∷ y ∷ z ∷ u ∷ more) others = refl
 
--- what five words ask for, from the tests of each
+-- what five words ask for, from what each of them says
 pub words_ask : {A : Type 0} (text : A → List ℕ) (xs : List A) (style name start end message : A) → 5 ≤ length xs → length xs < 6
     → style ≡ get_or xs 0 style → name ≡ get_or xs 1 name → start ≡ get_or xs 2 start → end ≡ get_or xs 3 end → message ≡ get_or xs 4 message
-    → (is_rich : Bool) (first last : Option ℕ)
-    → is_rich ≡ bytes_eq (text style) (codes "rich") → first ≡ number_of (text start) → last ≡ number_of (text end)
-    → (if is_rich then with_range (text name) (text message) first last else None) ≡ request_of (map text xs)
+    → (named : Option DisplayStyle) (first last : Option ℕ)
+    → named ≡ style_of (text style) → first ≡ number_of (text start) → last ≡ number_of (text end)
+    → with_parts (text name) (text message) named first last ≡ request_of (map text xs)
 unfolding request_of
-words_ask text xs style name start end message least most p q r s t is_rich first last x y z =
+words_ask text xs style name start end message least most p q r s t named first last x y z =
     let five = five_words xs style name start end message least most p q r s t in
-    let asked : (if is_rich then with_range (text name) (text message) first last else None)
+    let asked : with_parts (text name) (text message) named first last
     ≡ request_of (text style ∷ text name ∷ text start ∷ text end ∷ text message ∷ []) =
     rw (x, y, z) refl in
     asked ∙ ap (λ l. request_of (map text l)) (sym five)

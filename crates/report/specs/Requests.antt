@@ -2,10 +2,13 @@
 use Rattle.std.specs.Prelude.{ℕ, ◌^◌, ◌&&◌, nat_lt, List, [], ◌∷◌, Option, Some, None, IfSome, codes, if◌then◌else◌}
 use Rattle.std.specs.Str.{all_ascii_digits, bytes_eq}
 use Rattle.std.specs.Str.Parse.{digits_value}
+use Rattle.codespan_base.specs.declared.term.config.DisplayStyle.{DisplayStyle}
+use Rattle.codespan_base.specs.declared.term.config.DisplayStyle.TheVariants.{Rich, Medium, Short}
 use Rattle.report.specs.declared.request.Request.{Request}
 
 -- a request by its fields, its texts as bytes
 pub record RequestView : Type 0 where
+  pub style : DisplayStyle
   pub name : List ℕ
   pub start : ℕ
   pub end : ℕ
@@ -14,6 +17,7 @@ pub record RequestView : Type 0 where
 -- what a request says
 abbrev pub request_view : Request → RequestView
 request_view request = record {
+  style = request.style;
   name = request.name.now;
   start = request.start;
   end = request.end;
@@ -26,17 +30,25 @@ number_of [] = None
 number_of (d ∷ ds) =
     if all_ascii_digits (d ∷ ds) && nat_lt (digits_value 10 (d ∷ ds)) (2 ^ 64) then Some (digits_value 10 (d ∷ ds)) else None
 
--- the request of a name and a message, where both ends are numbers
-abbrev pub with_range : List ℕ → List ℕ → Option ℕ → Option ℕ → Option RequestView
-with_range name message (Some start) (Some end) =
-    Some (record { name = name; start = start; end = end; message = message })
-with_range name message (Some start) None = None
-with_range name message None end = None
+-- the style that a word names
+unfoldable pub style_of : List ℕ → Option DisplayStyle
+style_of word =
+    if bytes_eq word (codes "rich") then Some Rich
+    else if bytes_eq word (codes "medium") then Some Medium
+    else if bytes_eq word (codes "short") then Some Short
+    else None
 
--- what the arguments ask for: `rich`, a name, two numbers and a message
+-- the request of a name and a message, where the style is one and both ends are numbers
+abbrev pub with_parts : List ℕ → List ℕ → Option DisplayStyle → Option ℕ → Option ℕ → Option RequestView
+with_parts name message (Some style) (Some start) (Some end) =
+    Some (record { style = style; name = name; start = start; end = end; message = message })
+with_parts name message (Some style) (Some start) None = None
+with_parts name message (Some style) None end = None
+with_parts name message None start end = None
+
+-- what the arguments ask for: a style, a name, two numbers and a message
 unfoldable pub request_of : List (List ℕ) → Option RequestView
-request_of (style ∷ name ∷ start ∷ end ∷ message ∷ []) =
-    if bytes_eq style (codes "rich") then with_range name message (number_of start) (number_of end) else None
+request_of (style ∷ name ∷ start ∷ end ∷ message ∷ []) = with_parts name message (style_of style) (number_of start) (number_of end)
 request_of _ = None
 
 -- the fact holds of the request that the words ask for and of the bytes that the reader has, where both are known

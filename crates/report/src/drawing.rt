@@ -20,7 +20,10 @@ pub fn draw(alloc: Global, request: &Request<'_>, source: &str) -> Result<String
 {
     let file = SimpleFile::new(alloc, request.name, source)?;
     let diagnostic = diagnostic(alloc, request)?;
-    let config = Config::default();
+    let config = Config {
+        display_style: request.style,
+        ..Config::default()
+    };
     Ok(emit_into_string(&config, &file, &diagnostic)?)
 }
 

@@ -1,6 +1,6 @@
 //! `report STYLE NAME START END MESSAGE` draws an error with one label over the source on standard input.
 //!
-//! `STYLE` is `rich` for now. `START` and `END` are bytes of the source, in decimal digits: what the label covers. `NAME` is the
+//! `STYLE` is `rich`, `medium` or `short`. `START` and `END` are bytes of the source, in decimal digits: what the label covers. `NAME` is the
 //! file's name, and `MESSAGE` what both the error and the label say.
 //!
 //! | status | what was done | one line on standard error |

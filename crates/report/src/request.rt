@@ -2,11 +2,15 @@
 
 ghost use Rattle.std.specs.Prelude.{◌≡◌, map, string_bytes};
 ghost use Rattle.std.specs.Option.{option_map};
-ghost use Rattle.report.specs.Requests.{number_of};
+ghost use Rattle.report.specs.Requests.{number_of, style_of};
 
-/// An error over a source: the file's name, the bytes that its label covers, and what both say.
+use codespan_reporting::term::DisplayStyle;
+
+/// An error over a source: how much is drawn, the file's name, the bytes that its label covers, and what both say.
 #[derive(Clone, Copy, Debug)]
 pub struct Request<'args> {
+    /// How much is drawn.
+    pub style: DisplayStyle,
     /// The name of the file.
     pub name: &'args str,
     /// The first byte of the label.
@@ -20,22 +24,32 @@ pub struct Request<'args> {
 impl<'args> Request<'args> {
     ghost use Rattle.report.specs.Requests.{request_view, request_of};
 
-    /// The request of the arguments `rich NAME START END MESSAGE`; `None` where their number or form is another.
+    /// The request of the arguments `STYLE NAME START END MESSAGE`; `None` where their number or form is another.
     pub fn from_arguments(args: &'args [String]) -> Option<Request<'args>>
         ensures { option_map request_view result ≡ request_of (map string_bytes args.now) }
     {
         let [style, name, start, end, message] = args else {
             return None;
         };
-        if style.as_str() != "rich" {
-            return None;
-        }
         Some(Request {
+            style: parse_style(style.as_str())?,
             name: name.as_str(),
             start: parse_number(start.as_str())?,
             end: parse_number(end.as_str())?,
             message: message.as_str(),
         })
+    }
+}
+
+/// The style that is called `rich`, `medium` or `short`; `None` for any other word.
+fn parse_style(text: &str) -> Option<DisplayStyle>
+    ensures { result ≡ style_of text.now }
+{
+    match text {
+        "rich" => Some(DisplayStyle::Rich),
+        "medium" => Some(DisplayStyle::Medium),
+        "short" => Some(DisplayStyle::Short),
+        _ => None,
     }
 }
 

@@ -146,6 +146,19 @@ fn report_run(rt: HostRuntime) -> Result<(), Fail> {
 }
 
 #[test]
+fn report_short_and_medium(rt: HostRuntime) -> Result<(), Fail> {
+    for style in ["short", "medium"] {
+        let drawn = ran(rt.alloc(), &[style, "f.txt", "0", "3", "bad"], b"abc\n")?;
+        assert_eq!(rt;
+            (drawn.output.text(), drawn.faults.text(), drawn.status),
+            ("f.txt:1:1: error: bad\n", "", 0),
+            "{style}"
+        );
+    }
+    Ok(())
+}
+
+#[test]
 fn report_two_lines(rt: HostRuntime) -> Result<(), Fail> {
     let two = ran(rt.alloc(), &["rich", "f.txt", "0", "4", "bad"], b"abc\nd")?;
     assert_eq!(rt;
@@ -157,12 +170,13 @@ fn report_two_lines(rt: HostRuntime) -> Result<(), Fail> {
 
 #[test]
 fn wrong_arguments(rt: HostRuntime) -> Result<(), Fail> {
-    let wrong: [&[&str]; 14] = [
+    let wrong: [&[&str]; 15] = [
         &[],
         &["rich"],
         &["rich", "f.txt", "0", "3"],
         &["rich", "f.txt", "0", "3", "bad", "worse"],
-        &["short", "f.txt", "0", "3", "bad"],
+        &["", "f.txt", "0", "3", "bad"],
+        &["shorter", "f.txt", "0", "3", "bad"],
         &["Rich", "f.txt", "0", "3", "bad"],
         &["rich", "f.txt", "+0", "3", "bad"],
         &["rich", "f.txt", "0", "+3", "bad"],

@@ -61,7 +61,10 @@ impl<'chars> Config<'chars> {
 impl<'chars> Default for Config<'chars> {
     ghost is_default = { IsConfig default_config };
 
-    fn default() -> Config<'chars> {
+    fn default() -> Config<'chars>
+        ensures alike { IsConfig default_config result }
+        ensures fixed { IsTrue (is_fixed result.chars.snippet_start) }
+    {
         Config {
             display_style: DisplayStyle::Rich,
             tab_width: 4,

@@ -3,7 +3,8 @@
 use codespan_reporting::diagnostic::{Diagnostic, Label, LabelStyle, Severity};
 use codespan_reporting::files::{Error, Files, SimpleFiles};
 use codespan_reporting::term::{
-    Ansi, Config, PlainWriter, Renderer, RichDiagnostic, Styles, StylesWriter, emit_into_string,
+    Ansi, Config, NoColor, PlainWriter, Renderer, RichDiagnostic, Styles, StylesWriter, emit,
+    emit_into_string, emit_to_io_write, emit_to_string, emit_to_write_style,
 };
 use std::alloc::Global;
 use std::ops::Range;
@@ -82,19 +83,57 @@ pub fn diagnostic_of(alloc: Global, drawing: &Drawing<'_>) -> Result<Diagnostic<
     Ok(diagnostic)
 }
 
-/// What a diagnostic is drawn as, plain.
-fn plain_text(alloc: Global, drawing: &Drawing<'_>) -> Result<String, Error> {
+/// Draws a diagnostic by every call that emits, plain and in colours.
+pub fn assert_drawn(rt: &impl Abort, alloc: Global, drawing: Drawing<'_>) -> Result<(), Error> {
     let files = files_of(alloc, drawing.files)?;
-    let diagnostic = diagnostic_of(alloc, drawing)?;
-    emit_into_string(&drawing.config, &files, &diagnostic)
+    let diagnostic = diagnostic_of(alloc, &drawing)?;
+    let config = &drawing.config;
+    let text = emit_into_string(config, &files, &diagnostic)?;
+    assert_text(rt, text.into_bytes(), &drawing);
+    let mut string = String::new(alloc);
+    emit_to_string(&mut string, config, &files, &diagnostic)?;
+    assert_text(rt, string.into_bytes(), &drawing);
+    let mut bytes = Vec::new(alloc);
+    emit_to_io_write(&mut bytes, config, &files, &diagnostic)?;
+    assert_text(rt, bytes, &drawing);
+    let mut bytes = Vec::new(alloc);
+    emit(&mut bytes, config, &files, &diagnostic)?;
+    assert_text(rt, bytes, &drawing);
+    assert_colours_change_no_text(rt, alloc, &drawing, &diagnostic)
 }
 
-/// Draws a diagnostic, plain.
-pub fn assert_drawn(rt: &impl Abort, alloc: Global, drawing: Drawing<'_>) -> Result<(), Error> {
-    let name = drawing.name;
-    let text = plain_text(alloc, &drawing)?;
-    assert_eq!(rt; text.as_str(), drawing.picture, "{name}");
+/// In no colours a diagnostic is drawn as its plain text, and so it is by escape sequences, once they are taken out.
+fn assert_colours_change_no_text(
+    rt: &impl Abort,
+    alloc: Global,
+    drawing: &Drawing<'_>,
+    diagnostic: &Diagnostic<usize>,
+) -> Result<(), Error> {
+    let files = files_of(alloc, drawing.files)?;
+    let styles = Styles::default();
+    let mut bytes = Vec::new(alloc);
+    let mut colourless = StylesWriter::new(NoColor::new(&mut bytes), &styles);
+    emit_to_write_style(&mut colourless, &drawing.config, &files, diagnostic)?;
+    assert_text(rt, bytes, drawing);
+    let mut bytes = Vec::new(alloc);
+    let mut coloured = StylesWriter::new(Ansi::new(&mut bytes), &styles);
+    emit_to_write_style(&mut coloured, &drawing.config, &files, diagnostic)?;
+    assert_text(rt, without_sequences(alloc, bytes.as_slice())?, drawing);
     Ok(())
+}
+
+/// The bytes without the escape sequences among them, each of which ends with its first `m`.
+pub fn without_sequences(alloc: Global, coloured: &[u8]) -> Result<Vec<u8>, Error> {
+    let mut text = Vec::new(alloc);
+    let mut is_sequence = false;
+    for byte in coloured {
+        is_sequence = is_sequence || *byte == b'\x1b';
+        if !is_sequence {
+            text.push(*byte)?;
+        }
+        is_sequence = is_sequence && *byte != b'm';
+    }
+    Ok(text)
 }
 
 /// These bytes are the picture of the drawing.

@@ -1,12 +1,13 @@
 //! Short and medium style, and the calls that emit.
 
-use crate::pictures::drawing::{Drawing, assert_drawn, files_of};
+use crate::pictures::drawing::{Drawing, assert_drawn, files_of, without_sequences};
 use crate::pictures::other_files::type_error;
+use crate::writers::example::TagWriter;
 use codespan_reporting::diagnostic::{Diagnostic, Label};
 use codespan_reporting::files::{Error, SimpleFiles};
 use codespan_reporting::term::{
-    Ansi, Config, DisplayStyle, PlainWriter, Renderer, ShortDiagnostic, Styles, StylesWriter,
-    emit_into_string, emit_to_string, emit_to_write_style,
+    Ansi, Config, DisplayStyle, PlainWriter, Renderer, ShortDiagnostic, Styles, StylesWriter, emit,
+    emit_into_string, emit_to_io_write, emit_to_string, emit_to_write_style,
 };
 use std::alloc::Global;
 use std::test::Fail;
@@ -39,6 +40,12 @@ fn bare_bug(rt: HostRuntime) -> Result<(), Fail> {
         let mut plain = PlainWriter::new(Vec::new(alloc));
         emit_to_write_style(&mut plain, &config, &files, &bug)?;
         assert_eq!(rt; plain.into_inner().as_slice(), picture.as_bytes());
+        let mut bytes = held.to_string(alloc)?.into_bytes();
+        emit_to_io_write(&mut bytes, &config, &files, &bug)?;
+        assert_eq!(rt; bytes.as_slice(), text.as_bytes());
+        let mut bytes = held.to_string(alloc)?.into_bytes();
+        emit(&mut bytes, &config, &files, &bug)?;
+        assert_eq!(rt; bytes.as_slice(), text.as_bytes());
     }
     Ok(())
 }
@@ -73,6 +80,38 @@ fn medium_and_short(rt: HostRuntime) -> Result<(), Fail> {
         ..Drawing::default()
     };
     assert_drawn(&rt, rt.alloc(), with_note)?;
+    Ok(())
+}
+
+/// What is taken out of coloured text is its escape sequences. Each drawing of a table is drawn in colours besides.
+#[test]
+fn colours_change_no_text(rt: HostRuntime) -> Result<(), Fail> {
+    let coloured = b"\x1b[0m\x1b[1m\x1b[38;5;9merror\x1b[0m\x1b[1m: m\x1b[0m\n";
+    let text = without_sequences(rt.alloc(), coloured)?;
+    assert_eq!(rt; text.as_slice(), b"error: m\n".as_slice());
+    Ok(())
+}
+
+/// A writer of one's own, in short and in medium style.
+#[test]
+fn tags_of_styles(rt: HostRuntime) -> Result<(), Fail> {
+    let alloc = rt.alloc();
+    let files = files_of(alloc, &[("f", "ab")])?;
+    let diagnostic = Diagnostic::error(alloc)
+        .with_message("m")?
+        .with_label(Label::primary(alloc, 0, 1..2))?
+        .with_note("n")?;
+    let header = "f:1:2: [header]error[message]: m[/]\n";
+    let note = " [bullet]=[/] n\n";
+    for (style, has_note) in [(DisplayStyle::Short, false), (DisplayStyle::Medium, true)] {
+        let mut bytes = Vec::new(alloc);
+        let mut tags = TagWriter::new(&mut bytes);
+        emit_to_write_style(&mut tags, &in_style(style), &files, &diagnostic)?;
+        let note = if has_note { note } else { "" };
+        let text = bytes.as_slice();
+        assert!(rt; text.starts_with(header.as_bytes()));
+        assert_eq!(rt; &text[header.len()..], note.as_bytes());
+    }
     Ok(())
 }
 
@@ -126,6 +165,10 @@ fn missing_file(rt: HostRuntime) -> Result<(), Fail> {
         let refused = emit_to_write_style(&mut plain, &config, &files, &diagnostic);
         assert!(rt; matches!(refused, Err(Error::FileMissing)));
         assert_eq!(rt; plain.into_inner().as_slice(), written.as_bytes());
+        let mut bytes = Vec::new(alloc);
+        let refused = emit_to_io_write(&mut bytes, &config, &files, &diagnostic);
+        assert!(rt; matches!(refused, Err(Error::FileMissing)));
+        assert_eq!(rt; bytes.as_slice(), written.as_bytes());
     }
     Ok(())
 }

@@ -1,10 +1,10 @@
 //! Writers that take little at a time, or stop.
 
 use crate::rows::{COLOURED, Given, draw_on};
-use codespan_reporting::diagnostic::{LabelStyle, Severity};
-use codespan_reporting::files::Error;
+use codespan_reporting::diagnostic::{Diagnostic, Label, LabelStyle, Severity};
+use codespan_reporting::files::{Error, SimpleFile};
 use codespan_reporting::term::renderer::{MultiLabel, Renderer};
-use codespan_reporting::term::{Ansi, Config, PlainWriter, Styles, StylesWriter};
+use codespan_reporting::term::{Ansi, Config, PlainWriter, Styles, StylesWriter, emit_to_io_write};
 use std::alloc::Global;
 use std::io;
 use std::io::{ErrorKind, Write};
@@ -100,5 +100,24 @@ fn endless_padding(rt: HostRuntime) -> Result<(), Fail> {
         assert!(rt; matches!(result, Err(Error::Io(_))));
         assert_eq!(rt; plain.into_inner().text.as_slice(), want.as_bytes());
     }
+    Ok(())
+}
+
+/// A tab that is as wide as can be is drawn blank by blank until the writer refuses.
+#[test]
+fn endless_tab(rt: HostRuntime) -> Result<(), Fail> {
+    let alloc = rt.alloc();
+    let file = SimpleFile::new(alloc, "f", "\tx")?;
+    let label = Label::primary(alloc, (), 1..2).with_message("m")?;
+    let diagnostic = Diagnostic::error(alloc).with_label(label)?;
+    let config = Config {
+        tab_width: usize::MAX,
+        ..Config::default()
+    };
+    let mut inner = Stopping::new(alloc, 1, 40);
+    let refused = emit_to_io_write(&mut inner, &config, &file, &diagnostic);
+    assert!(rt; matches!(refused, Err(Error::Io(_))));
+    let held = "error: \n  ┌─ f:1:2\n  │\n1 │      ";
+    assert_eq!(rt; inner.text.as_slice(), held.as_bytes());
     Ok(())
 }

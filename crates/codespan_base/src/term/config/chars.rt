@@ -80,7 +80,10 @@ impl<'chars> Default for Chars<'chars> {
 
     ghost is_default = { IsChars box_drawing };
 
-    fn default() -> Chars<'chars> {
+    fn default() -> Chars<'chars>
+        ensures alike { IsChars box_drawing result }
+        ensures fixed { IsTrue (is_fixed result.snippet_start) }
+    {
         Chars::box_drawing()
     }
 }
@@ -89,9 +92,10 @@ impl<'chars> Chars<'chars> {
     ghost use Rattle.codespan_base.specs.Lookalikes.{IsChars};
     ghost use Rattle.codespan_base.specs.Characters.{box_drawing, ascii};
 
-    /// The characters of box drawing.
+    /// The characters of box drawing. The text before a place is `Fixed`.
     pub fn box_drawing() -> Chars<'chars>
-        ensures { IsChars box_drawing result }
+        ensures alike { IsChars box_drawing result }
+        ensures fixed { IsTrue (is_fixed result.snippet_start) }
     {
         Chars {
             snippet_start: SnippetStart::Fixed("┌─"),
@@ -113,9 +117,10 @@ impl<'chars> Chars<'chars> {
         }
     }
 
-    /// Characters of ASCII alone.
+    /// Characters of ASCII alone. The text before a place is `Fixed`.
     pub fn ascii() -> Chars<'chars>
-        ensures { IsChars ascii result }
+        ensures alike { IsChars ascii result }
+        ensures fixed { IsTrue (is_fixed result.snippet_start) }
     {
         Chars {
             snippet_start: SnippetStart::Fixed("-->"),

@@ -2,7 +2,7 @@ use Rattle.std.proofs.Common.{Err, sym, ap, ◌∙◌}
 use Rattle.std.proofs.lemmas.Result.{err_from_is_err_and}
 use Rattle.codespan_picture.specs.Given.{place_of_given}
 use Rattle.codespan_picture.specs.Picture.{label_of}
-use Rattle.codespan_renderer.specs.Renderers.{config_of, writer_of}
+use Rattle.codespan_renderer.specs.Renderers.{config_of}
 use Rattle.codespan_reporting.proofs.HeaderRuns.{came_one, refused_one, secondary_one, stopped_one}
 use Rattle.codespan_reporting.proofs.term.views.short.draw_if_primary.Goals as goal
 

@@ -1,7 +1,7 @@
-use Rattle.std.proofs.Common.{◌≡◌, ◌+◌, ◌<◌, ◌≤◌, ◌++◌, [], ◌∷◌, Err, List, drop, get_or, length, map, refl, subst, sym, take, take_all, ap, ◌∙◌, arith}
+use Rattle.std.proofs.Common.{◌≡◌, ◌+◌, ◌<◌, ◌++◌, [], ◌∷◌, Err, List, drop, get_or, length, map, refl, subst, sym, ap, ◌∙◌, arith}
 use Rattle.std.proofs.lemmas.Result.{err_from_is_err_and}
 use Rattle.codespan_base.specs.declared.term.config.Config.{Config}
-use Rattle.codespan_picture.specs.Picture.{label_of, labels_of}
+use Rattle.codespan_picture.specs.Picture.{label_of}
 use Rattle.codespan_picture.specs.Snippets.{InFile, has_any}
 use Rattle.codespan_renderer.specs.Renderers.{config_of, writer_of}
 use Rattle.codespan_reporting.specs.Inner.Headers.{HeadersCame, HeadersEnded, primary_of}

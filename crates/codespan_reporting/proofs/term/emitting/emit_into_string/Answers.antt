@@ -1,9 +1,9 @@
 use Rattle.std.proofs.Common.{rules, Some, ap, ◌∙◌}
-use Rattle.std.specs.Prelude.{vec_items, string_bytes}
+use Rattle.std.specs.Prelude.{string_bytes}
 use Rattle.codespan_base.specs.Streams.{no_marks}
 use Rattle.codespan_base.specs.Writers.{fresh_sink}
 use Rattle.codespan_reporting.proofs.Emitting.{drawn_text}
-use Rattle.codespan_reporting.proofs.term.emit.emit_into_string.Goals as goal
+use Rattle.codespan_reporting.proofs.term.emitting.emit_into_string.Goals as goal
 
 pub returns-in-Ok-from_utf8 : goal.returns-in-Ok-from_utf8
 returns-in-Ok-from_utf8 g c =
