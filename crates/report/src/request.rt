@@ -42,6 +42,7 @@ impl<'args> Request<'args> {
 }
 
 /// The style that is called `rich`, `medium` or `short`; `None` for any other word.
+#[tactic(auto, unfolding(crate::specs::Requests::style_of))]
 fn parse_style(text: &str) -> Option<DisplayStyle>
     ensures { result ≡ style_of text.now }
 {
