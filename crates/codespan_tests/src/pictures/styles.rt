@@ -3,7 +3,7 @@
 use crate::pictures::drawing::{Drawing, assert_drawn, files_of, without_sequences};
 use crate::pictures::other_files::type_error;
 use crate::writers::example::TagWriter;
-use codespan_reporting::diagnostic::{Diagnostic, Label};
+use codespan_reporting::diagnostic::{Diagnostic, Label, LabelStyle};
 use codespan_reporting::files::{Error, SimpleFiles};
 use codespan_reporting::term::{
     Ansi, Config, DisplayStyle, PlainWriter, Renderer, ShortDiagnostic, Styles, StylesWriter, emit,
@@ -73,6 +73,14 @@ fn medium_and_short(rt: HostRuntime) -> Result<(), Fail> {
         ..Drawing::default()
     };
     assert_drawn(&rt, rt.alloc(), without_code)?;
+    let without_cause = Drawing {
+        config: in_style(DisplayStyle::Short),
+        files: &[("f", "")],
+        labels: &[(LabelStyle::Secondary, 0, 0..0, "")],
+        picture: "error: \n",
+        ..Drawing::default()
+    };
+    assert_drawn(&rt, rt.alloc(), without_cause)?;
     let with_note = Drawing {
         message: "a message",
         notes: &["a note"],
