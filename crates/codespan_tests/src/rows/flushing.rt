@@ -1,10 +1,12 @@
-//! Which calls of a renderer flush.
+//! Which calls flush.
 
 use crate::rows::draw_crossing;
-use codespan_reporting::diagnostic::{LabelStyle, Severity};
-use codespan_reporting::files::{Error, Location};
+use codespan_reporting::diagnostic::{Diagnostic, Label, LabelStyle, Severity};
+use codespan_reporting::files::{Error, Location, SimpleFile};
 use codespan_reporting::term::renderer::{Locus, Renderer};
-use codespan_reporting::term::{Config, PlainWriter, WriteStyle};
+use codespan_reporting::term::{
+    Config, DisplayStyle, PlainWriter, WriteStyle, emit, emit_to_io_write, emit_to_write_style,
+};
 use std::io;
 use std::io::Write;
 use std::process::Abort;
@@ -72,5 +74,31 @@ fn only_flush_flushes(rt: HostRuntime) -> Result<(), Fail> {
     send_marks(&mut renderer)?;
     renderer.flush()?;
     assert_eq!(rt; inner.flushes, 1);
+    Ok(())
+}
+
+/// No call that emits flushes, in any style.
+#[test]
+fn no_emit_flushes(rt: HostRuntime) -> Result<(), Fail> {
+    let alloc = rt.alloc();
+    let file = SimpleFile::new(alloc, "f", "ab")?;
+    let label = Label::primary(alloc, (), 0..1);
+    let diagnostic = Diagnostic::error(alloc).with_label(label)?;
+    for display_style in [
+        DisplayStyle::Rich,
+        DisplayStyle::Medium,
+        DisplayStyle::Short,
+    ] {
+        let config = Config {
+            display_style,
+            ..Config::default()
+        };
+        let mut inner = Counting { flushes: 0 };
+        emit_to_io_write(&mut inner, &config, &file, &diagnostic)?;
+        emit(&mut inner, &config, &file, &diagnostic)?;
+        let mut plain = PlainWriter::new(&mut inner);
+        emit_to_write_style(&mut plain, &config, &file, &diagnostic)?;
+        assert_eq!(rt; inner.flushes, 0);
+    }
     Ok(())
 }
