@@ -46,7 +46,8 @@ pub struct Location {
 /// The proof of an implementation shows this law, and the drawing rests on it:
 ///
 /// - A file is a name, a text, a strictly ascending list of line starts, and an end for each line. Lines are counted
-///   from 0 by their indices, and places are bytes of the text. The text is shorter than 2^64 bytes, as each `str` is.
+///   from 0 by their indices, and places are bytes of the text. The text is UTF-8, and shorter than 2^64 bytes, as each
+///   `str` is.
 /// - The first line starts at byte 0. Starts and ends are character boundaries of the text. A line's end is not before
 ///   its start, nor after the next line's start.
 /// - Equal ids name one file.

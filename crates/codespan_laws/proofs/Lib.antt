@@ -19,6 +19,9 @@ pub mod RefillPicture
 pub mod RefillRows
 pub mod ResetLemmas
 pub mod RowBoundLemmas
+pub mod RowTexts
+pub mod PlacedPictures
+pub mod PictureTexts
 pub mod SlotLemmas
 pub mod SlotSums
 pub mod CharacterLemmas

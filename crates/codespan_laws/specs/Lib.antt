@@ -22,6 +22,7 @@ pub use Rattle.codespan_picture.specs.Lines
 pub use Rattle.codespan_picture.specs.Snippets
 pub use Rattle.codespan_picture.specs.Padding
 pub use Rattle.codespan_picture.specs.Picture
+pub use Rattle.codespan_picture.specs.Placed
 pub use Rattle.codespan_picture.specs.Lookups
 pub use Rattle.codespan_picture.specs.Given
 -- what a picture means
@@ -33,4 +34,5 @@ pub mod MessageLaws
 pub mod OrderLaws
 pub mod PaddingLaws
 pub mod RowLaws
+pub mod TextLaws
 pub mod Meanings

@@ -20,6 +20,7 @@ ghost use Rattle.codespan_laws.specs.MessageLaws.{EachTrailsOrHangs, MessagesSta
 ghost use Rattle.codespan_laws.specs.OrderLaws.{OrderIsFree};
 ghost use Rattle.codespan_laws.specs.PaddingLaws.{PaddingHasRoom};
 ghost use Rattle.codespan_laws.specs.RowLaws.{CharactersAreFree, RowsEndReset};
+ghost use Rattle.codespan_laws.specs.TextLaws.{PictureIsText};
 ghost use Rattle.codespan_picture.specs.RowParts.{plain_lanes, source_lanes, below_lanes, underline_lanes, line_cells};
 ghost use Rattle.codespan_picture.specs.Picture.{picture};
 ghost use Rattle.codespan_picture.specs.Rows.{Look, Lanes, Line};
@@ -129,7 +130,13 @@ pub fn rows_end_reset()
     ensures { RowsEndReset }
 {}
 
-// ---- colours
+// ---- texts and colours
+
+/// What a picture writes is UTF-8, in each style: where its characters are characters, its files are lawful, and what their names
+/// state is UTF-8.
+pub fn pictures_are_texts<Id>()
+    ensures { (config : Config) (same : Id → Id → Bool) (file : Id → FileModel) (d : Diagnostic Id) → PictureIsText config same file d }
+{}
 
 /// Colours change no text: however a writer spells marks, what it is sent of a picture is the plain text and, among it, the bytes of marks.
 /// In no colours these are none, whatever the styles.

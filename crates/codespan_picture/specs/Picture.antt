@@ -60,11 +60,16 @@ notes_of d = map string_bytes d.notes.items
 
 -- ---- the picture
 
--- the picture in one of the styles, of a diagnostic's severity, code and message, labels, and notes
+-- the picture in one of the styles, of a severity, a code and message, labels, and notes: a view's config chooses lines and padding, the renderer's
+-- characters, tabs and lanes
+abbrev pub viewed_picture : {Id : Type 0} → DisplayStyle → Config → Config → (Id → Id → Bool) → (Id → FileModel) → Severity → Heading → List (InFile Id) → List (List ℕ) → Stream
+viewed_picture Rich renderer view same file severity heading xs notes = rich_stream renderer view severity heading (labelled_files same file xs) notes
+viewed_picture Medium renderer view same file severity heading xs notes = stream_of_rows (look_of renderer severity 0) (medium_rows file heading xs notes)
+viewed_picture Short renderer view same file severity heading xs notes = stream_of_rows (look_of renderer severity 0) (short_rows file heading xs)
+
+-- by one config
 abbrev pub styled_picture : {Id : Type 0} → DisplayStyle → Config → (Id → Id → Bool) → (Id → FileModel) → Severity → Heading → List (InFile Id) → List (List ℕ) → Stream
-styled_picture Rich config same file severity heading xs notes = rich_picture config severity heading (labelled_files same file xs) notes
-styled_picture Medium config same file severity heading xs notes = stream_of_rows (look_of config severity 0) (medium_rows file heading xs notes)
-styled_picture Short config same file severity heading xs notes = stream_of_rows (look_of config severity 0) (short_rows file heading xs)
+styled_picture style config same file severity heading xs notes = viewed_picture style config config same file severity heading xs notes
 
 -- the picture of a diagnostic in one of the styles
 abbrev pub picture_in : {Id : Type 0} → DisplayStyle → Config → (Id → Id → Bool) → (Id → FileModel) → Diagnostic Id → Stream

@@ -11,10 +11,14 @@ use Rattle.codespan_base.specs.FileModel.{FileModel, Lookup}
 use Rattle.codespan_base.specs.Streams.{Stream}
 use Rattle.codespan_base.specs.WriterLaw.{Sink, sent, is_told, Began, Sends, refusing}
 use Rattle.codespan_base.proofs.HeldBytes.{gained-nil}
+use Rattle.codespan_base.specs.declared.term.config.DisplayStyle.TheVariants.{Rich}
 use Rattle.codespan_picture.specs.Picture.{labels_of}
+use Rattle.codespan_picture.specs.Placed.{ArePlaces, placed_picture}
+use Rattle.codespan_picture.specs.Rows.{Place}
 use Rattle.codespan_picture.specs.Lookups.{Refusals, early_lookups, late_lookups, first_refusal}
-use Rattle.codespan_reporting.specs.Headline.{DrawsRich, viewed_picture, NamesAreStated}
+use Rattle.codespan_reporting.specs.Headline.{DrawsRich, ForSomeNames, NamesAreStated, drawn_picture}
 use Rattle.codespan_reporting.specs.Inner.Asking.{Came}
+use Rattle.codespan_laws.proofs.PlacedPictures.{placed-named}
 use Rattle.codespan_reporting.proofs.Chains.{came_both, came_then_stopped}
 use Rattle.codespan_reporting.proofs.Refusals.{first_refusal-some, first_refusal-none, all_answered, some_refused}
 
@@ -37,7 +41,7 @@ module _ {Id : Type 0} (renderer view : Config) (same : Id → Id → Bool) (fil
 
   -- the whole picture, or a beginning of it
   abbrev pub Begins : Sink → Sink → Type 0
-  Begins old new = NamesAreStated file d → is_told old ≡ true → Began old (viewed_picture renderer view same file refusal d) new
+  Begins old new = NamesAreStated file d → is_told old ≡ true → Began old (drawn_picture renderer view same file refusal d Rich) new
 
   -- a lookup before the header refused: nothing is written
   pub refused_early : (old new : Sink) (e : Error) → new ≡ old → 0 < length before_header
@@ -50,9 +54,9 @@ module _ {Id : Type 0} (renderer view : Config) (same : Id → Id → Bool) (fil
       );
       stream = λ named tells. Began-none old _ new unchanged;
       answered = tt;
+      by_names = λ told. tt;
     };
-    early = λ p. unchanged;
-    unprintable = λ h. inl unchanged;
+    keeps = record { early = λ p. unchanged; unprintable = λ h. inl unchanged };
   }
 
   -- the writer refused
@@ -63,9 +67,9 @@ module _ {Id : Type 0} (renderer view : Config) (same : Id → Id → Bool) (fil
       frame = inl (io, frame);
       stream = begun;
       answered = tt;
+      by_names = λ told. tt;
     };
-    early = λ p. absurd (some_refused refusal before_header answered p);
-    unprintable = λ h. absurd (subst IsIo h io);
+    keeps = record { early = λ p. absurd (some_refused refusal before_header answered p); unprintable = λ h. absurd (subst IsIo h io) };
   }
 
   -- a lookup after the header refused
@@ -79,31 +83,35 @@ module _ {Id : Type 0} (renderer view : Config) (same : Id → Id → Bool) (fil
       );
       stream = begun;
       answered = tt;
+      by_names = λ told. tt;
     };
-    early = λ p. absurd (some_refused refusal before_header answered p);
-    unprintable = λ h. inr (told (λ (m : e ≡ OutOfMemory). two_errors e h m) ∙ ap Some h);
+    keeps = record { early = λ p. absurd (some_refused refusal before_header answered p); unprintable = λ h. inr (told (λ (m : e ≡ OutOfMemory). two_errors e h m) ∙ ap Some h) };
   }
 
   -- all was answered and written
   pub drawn : (old new : Sink) → first_refusal refusal before_header ≡ None → first_refusal refusal after_header ≡ None → new.frame ≡ old.frame
-      → (NamesAreStated file d → is_told old ≡ true → new ≡ sent old (viewed_picture renderer view same file refusal d)) → DrawsRich renderer view same file refusal d old (Ok tt) new
+      → (is_told old ≡ true → ForSomeNames renderer view same file refusal d Rich (λ s. new ≡ sent old s)) → DrawsRich renderer view same file refusal d old (Ok tt) new
   drawn old new answered_early answered_late frame came = record {
     drawn = record {
       frame = frame;
-      stream = came;
+      stream = λ named told.
+          let by_names = came told in
+          by_names.holds ∙ ap (sent old) (placed-named same file d renderer view named Rich by_names.places by_names.are);
       answered = all_answered refusal (before_header ++ after_header) (first_refusal-none refusal before_header after_header answered_early ∙ answered_late);
+      by_names = came;
     };
-    early = λ p. absurd (some_refused refusal before_header answered_early p);
-    unprintable = tt;
+    keeps = record { early = λ p. absurd (some_refused refusal before_header answered_early p); unprintable = tt };
   }
 
   -- after the header, which came, the rest was sent or cut short
   pub finished : (old mid new : Sink) (first rest : Stream) (r : Result (Unit {0}) Error) → first_refusal refusal before_header ≡ None → first_refusal refusal after_header ≡ None
       → Came old first mid → Sends mid rest r new → IfErr r IsIo
-      → (NamesAreStated file d → viewed_picture renderer view same file refusal d ≡ first ++ rest) → DrawsRich renderer view same file refusal d old r new
-  finished old mid new first rest (Ok x) answered_early answered_late came sends io is =
+      → (places : List Place) → ArePlaces same file d Rich places → placed_picture renderer view same file d Rich places ≡ first ++ rest
+      → DrawsRich renderer view same file refusal d old r new
+  finished old mid new first rest (Ok x) answered_early answered_late came sends io places are is =
       let both = came_both old mid new first rest came sends in
-      drawn old new answered_early answered_late both.0 (λ named told. both.1 told ∙ ap (sent old) (sym (is named)))
-  finished old mid new first rest (Err e) answered_early answered_late came sends io is =
+      drawn old new answered_early answered_late both.0 (λ told. record { places = places; are = are; holds = both.1 told ∙ ap (sent old) (sym is) })
+  finished old mid new first rest (Err e) answered_early answered_late came sends io places are is =
       let stopped = came_then_stopped old mid new first rest came sends in
-      refused_by_writer old new e answered_early stopped.0 io (λ named told. subst (λ (s : Stream). Began old s new) (sym (is named)) (stopped.1 told))
+      refused_by_writer old new e answered_early stopped.0 io
+      (λ named told. subst (λ (s : Stream). Began old s new) (sym is ∙ placed-named same file d renderer view named Rich places are) (stopped.1 told))

@@ -9,16 +9,19 @@ use Rattle.codespan_base.specs.declared.diagnostic.Diagnostic.{Diagnostic}
 use Rattle.codespan_base.specs.declared.files.error.Error.{Error}
 use Rattle.codespan_base.specs.declared.files.error.Error.TheVariants.{FormatError}
 use Rattle.codespan_base.specs.Errors.{IsIo}
-use Rattle.codespan_base.specs.FileModel.{FileModel, Lookup}
+use Rattle.std.specs.Str.{IsUtf8}
+use Rattle.codespan_base.specs.FileModel.{FileModel, IsLawful, Lookup}
 use Rattle.codespan_base.specs.Streams.{Stream, Spelling, spelled, text_of, no_marks}
 use Rattle.codespan_base.specs.WriterLaw.{Frame, Sink, refusing, sent, is_told, tells, gained, Began, GainedPartly}
 use Rattle.codespan_base.specs.Writers.{fresh_sink}
 use Rattle.codespan_picture.specs.Lookups.{Refusals, lookups_in, IsSomeRefused, early_lookups, late_lookups, first_refusal, headers_before_refusal}
-use Rattle.codespan_picture.specs.Picture.{picture_in, labels_of}
+use Rattle.codespan_picture.specs.Picture.{labels_of}
 use Rattle.codespan_laws.specs.Meanings.{MeansLabels}
+use Rattle.codespan_laws.specs.TextLaws.{AreCharacters}
+use Rattle.codespan_laws.proofs.PictureTexts.{text-placed_picture}
 use Rattle.codespan_reporting.specs.declared.term.lent.LentWriter.{LentWriter}
 use Rattle.codespan_reporting.specs.Inner.Lent.{fresh_lent, lent_reference, lent_sink, lent_to}
-use Rattle.codespan_reporting.specs.Headline.{Blames, Draws, DrawsTo, IsDrawn, IsLookups, IsStringRefusal, IsTold, IsWriteRefusal, NamesAreStated, WritesText, picture_viewed}
+use Rattle.codespan_reporting.specs.Headline.{Blames, Draws, DrawsTo, ForSomeNames, IsDrawn, IsLookups, IsStringRefusal, IsTold, IsWriteRefusal, KeepsWriter, NamesAreStated, WritesText}
 
 -- a plain writer that held nothing and was sent a stream holds its text
 held_text : (old new : Sink) (bytes : List ℕ) (s : Stream) → old ≡ fresh_sink no_marks (Some []) → new.held ≡ Some bytes
@@ -64,23 +67,33 @@ module _ {Id : Type 0} (config : Config) (same : Id → Id → Bool) (file : Id 
   common Medium old r new draws = draws.drawn
   common Short old r new draws = draws.drawn
 
-  -- the picture, as a view with one configuration draws it
-  one_picture : (style : DisplayStyle) → picture_viewed config config same file refusal d style ≡ picture_in style config same file d
-  one_picture Rich = refl
-  one_picture Medium = refl
-  one_picture Short = refl
+  -- what holds of the picture by some names holds of it otherwise
+  by_other : (P Q : Stream → Type 0) → ((s : Stream) → P s → Q s) → ForSomeNames config config same file refusal d config.display_style P
+      → ForSomeNames config config same file refusal d config.display_style Q
+  by_other P Q other by = record { places = by.places; are = by.are; holds = other _ by.holds }
 
   -- a picture that was drawn to a plain writer is what that writer holds
-  pub drawn_text : (old new : Sink) (bytes : List ℕ) → DrawsTo config same file refusal d config.display_style old (Ok tt) new
+  pub string_drawn : (old new : Sink) (bytes : List ℕ) → DrawsTo config same file refusal d config.display_style old (Ok tt) new
       → old ≡ fresh_sink no_marks (Some []) → new.held ≡ Some bytes
       → (config.display_style ≡ Rich → MeansLabels config config same file d) → IsDrawn config same file refusal d bytes
-  drawn_text old new bytes draws fresh held means =
+  unfolding is_told tells
+  string_drawn old new bytes draws fresh held means =
       let parts = common config.display_style old (Ok tt) new draws in
       record {
         answered = parts.answered;
-        is = λ named. held_text old new bytes _ fresh held (parts.stream named) ∙ ap text_of (one_picture config.display_style);
+        is = λ named. held_text old new bytes _ fresh held (parts.stream named);
+        by_names = by_other (λ s. new ≡ sent old s) (λ s. bytes ≡ text_of s) (λ s came. held_text old new bytes s fresh held (λ told. came)) (parts.by_names (ap is_told fresh));
         meaning = means;
       }
+
+  -- and it is a text, whatever the names
+  pub text_held : (old new : Sink) (bytes : List ℕ) → DrawsTo config same file refusal d config.display_style old (Ok tt) new
+      → old ≡ fresh_sink no_marks (Some []) → new.held ≡ Some bytes → AreCharacters config.chars → ((id : Id) → IsLawful (file id)) → IsUtf8 bytes
+  unfolding is_told tells
+  text_held old new bytes draws fresh held characters lawful =
+      let by_names = (common config.display_style old (Ok tt) new draws).by_names (ap is_told fresh) in
+      subst IsUtf8 (sym (held_text old new bytes _ fresh held (λ told. by_names.holds)))
+      (text-placed_picture same file d lawful config config config.display_style by_names.places characters by_names.are).utf8
 
   -- what a string call tells where its writer has refused nothing
   pub told_of_string : (old new : Sink) (e : Error) → DrawsTo config same file refusal d config.display_style old (Err e) new → new.frame.refused ≡ false
@@ -90,17 +103,19 @@ module _ {Id : Type 0} (config : Config) (same : Id → Id → Bool) (file : Id 
   -- a picture that was drawn to a writer of plain text
   module _ (old new : Sink) (plain : old.frame.spelling ≡ no_marks) where
     -- what a style alone promises
-    early_of : (style : DisplayStyle) (r : Result (Unit {0}) Error) → DrawsTo config same file refusal d style old r new → style ≡ Rich
-        → IsSomeRefused refusal (early_lookups config same file refusal (labels_of d)) → new ≡ old
-    early_of Rich r draws is p = draws.early p
-    early_of Medium r draws is p = cc
-    early_of Short r draws is p = cc
+    keeps_of : (style : DisplayStyle) (r : Result (Unit {0}) Error) → DrawsTo config same file refusal d style old r new → style ≡ Rich
+        → KeepsWriter config config same file refusal d (new ≡ old) r
+    keeps_of Rich r draws is = draws.keeps
+    keeps_of Medium r draws is = cc
+    keeps_of Short r draws is = cc
 
-    unprintable_of : (style : DisplayStyle) (e : Error) → DrawsTo config same file refusal d style old (Err e) new → style ≡ Rich → e ≡ FormatError
-        → (new ≡ old) ⊎ (first_refusal refusal (late_lookups config same file refusal (labels_of d)) ≡ Some FormatError)
-    unprintable_of Rich e draws is h = draws.unprintable h
-    unprintable_of Medium e draws is h = cc
-    unprintable_of Short e draws is h = cc
+    -- a writer that is as it was tells the same bytes
+    keeps_bytes : (r : Result (Unit {0}) Error) → KeepsWriter config config same file refusal d (new ≡ old) r → KeepsWriter config config same file refusal d (new.held ≡ old.held) r
+    keeps_bytes (Ok done) keeps = record { early = λ p. ap (λ (x : Sink). x.held) (keeps.early p); unprintable = tt }
+    keeps_bytes (Err e) keeps = record {
+      early = λ p. ap (λ (x : Sink). x.held) (keeps.early p);
+      unprintable = λ h. ⊎_elim (λ (k : new ≡ old). inl (ap (λ (x : Sink). x.held) k)) (λ k. inr k) (keeps.unprintable h);
+    }
 
     headers_of : (style : DisplayStyle) (e : Error) → DrawsTo config same file refusal d style old (Err e) new → style ≢ Rich → NamesAreStated file d → is_told old ≡ true
         → IsLookups old.frame e new.frame → new ≡ sent old (headers_before_refusal config file refusal d)
@@ -115,18 +130,18 @@ module _ {Id : Type 0} (config : Config) (same : Id → Id → Bool) (file : Id 
         let parts = common config.display_style old (Ok done) new draws in
         record {
           answered = parts.answered;
-          text = λ named told. text_came old new _ plain (parts.stream named told) ∙ ap (λ (s : Stream). gained old.held (text_of s)) (one_picture config.display_style);
-          early = λ is p. ap (λ (x : Sink). x.held) (early_of config.display_style (Ok done) draws is p);
-          unprintable = λ is. tt;
+          text = λ named told. text_came old new _ plain (parts.stream named told);
+          by_names = λ told. by_other (λ s. new ≡ sent old s) (λ s. new.held ≡ gained old.held (text_of s)) (λ s came. text_came old new s plain came) (parts.by_names told);
+          keeps = λ is. keeps_bytes (Ok done) (keeps_of config.display_style (Ok done) draws is);
           headers = λ other named told. tt;
         }
     written (Err e) draws =
         let parts = common config.display_style old (Err e) new draws in
         record {
           answered = write_refusal refusal _ old.frame new.frame e parts.frame;
-          text = λ named told. subst (λ (s : Stream). GainedPartly old.held (text_of s) new.held) (one_picture config.display_style) (text_began old new _ plain (parts.stream named told));
-          early = λ is p. ap (λ (x : Sink). x.held) (early_of config.display_style (Err e) draws is p);
-          unprintable = λ is h. ⊎_elim (λ (k : new ≡ old). inl (ap (λ (x : Sink). x.held) k)) (λ k. inr k) (unprintable_of config.display_style e draws is h);
+          text = λ named told. text_began old new _ plain (parts.stream named told);
+          by_names = λ told. tt;
+          keeps = λ is. keeps_bytes (Err e) (keeps_of config.display_style (Err e) draws is);
           headers = λ other named told no_memory no_display no_writer.
               text_came old new _ plain
               (headers_of config.display_style e draws other named told (record { no_memory = no_memory; no_display = no_display; no_writer = λ io. absurd (no_writer io) }));

@@ -1,18 +1,20 @@
 -- The least start of a file's labels, and the places at which snippets start.
 use Rattle.std.proofs.Common.{◌≡◌, ℕ, Bool, true, false, cond, ◌&&◌, List, [], ◌∷◌, ◌++◌, length, map, filter, flat_map, Option, Some, None, refl, sym, ap, ◌∙◌, subst, arith, length-append, true≢false}
-use Rattle.std.specs.Prelude.{Contains, IfSome, IsSome, string_bytes, unwrap_or}
+use Rattle.std.specs.Prelude.{IfSome, string_bytes, unwrap_or}
+use Rattle.std.specs.List.{AllZip}
 use Rattle.std.proofs.lemmas.List.{append-nil, map-append}
 use Rattle.std.proofs.lemmas.List.Concat.{flat_map-append}
-use Rattle.std.proofs.lemmas.List.Elements.{Contains-append_left, Contains-append_right}
+use Rattle.std.proofs.lemmas.Str.{IsUtf8-string_bytes}
 use Rattle.codespan_base.specs.declared.files.error.Error.{Error}
-use Rattle.codespan_base.specs.FileModel.{FileModel, Lookup, name_text}
+use Rattle.codespan_base.specs.FileModel.{FileModel, Lookup}
 use Rattle.codespan_base.specs.Labels.{Labelled, is_primary}
 use Rattle.codespan_picture.specs.declared.given.Locus.{Locus}
 use Rattle.codespan_picture.specs.Given.{place_of_given}
 use Rattle.codespan_reporting.specs.Inner.Loci.{is_asked_label, least_if_any, starts_in}
 use Rattle.codespan_picture.specs.Lookups.{Refusals, asked_of, first_refusal, locus_lookups}
-use Rattle.codespan_picture.specs.Rows.{Place}
-use Rattle.codespan_picture.specs.Snippets.{InFile, if_any, labelled_file, least, locus_start, place_of}
+use Rattle.codespan_picture.specs.Placed.{IsPlaceIn, IsPlaceOfFile}
+use Rattle.codespan_picture.specs.Snippets.{InFile, LabelledFile, if_any, labelled_file, least, locus_start}
+use Rattle.codespan_laws.proofs.PlacedPictures.{zip_append}
 use Rattle.codespan_reporting.proofs.Refusals.{first_refusal-some, first_refusal-none}
 
 -- ---- the least start
@@ -85,20 +87,15 @@ module _ {Id : Type 0} (same : Id → Id → Bool) (file : Id → FileModel) (id
 
 -- ---- the places of files
 
--- the text of a name that is stated
-named_text : (o : Option (List ℕ)) (text : List ℕ) → IsSome o → IfSome o (λ bytes. text ≡ bytes) → text ≡ unwrap_or o []
-named_text None text some is = absurd (true≢false (sym some))
-named_text (Some bytes) text some is = is
-
 -- a locus of a file's name and of a byte's location is the place of that byte
-pub named_place : (f : FileModel) (byte : ℕ) (locus : Locus) → IfSome f.name (λ bytes. string_bytes locus.name ≡ bytes) → locus.location ≡ f.location byte
-    → IsSome f.name → place_of_given locus ≡ record { name = name_text f; location = f.location byte }
-named_place f byte locus text at some = let name = named_text f.name (string_bytes locus.name) some text in λ i. record { name = name i; location = at i }
+pub located_place : (f : FileModel) (byte : ℕ) (locus : Locus) → IfSome f.name (λ bytes. string_bytes locus.name ≡ bytes) → locus.location ≡ f.location byte
+    → IsPlaceIn f byte (place_of_given locus)
+located_place f byte locus text at = record { location = at; is_text = IsUtf8-string_bytes locus.name; is_stated = text }
 
 -- the places of these files, whose lookups were answered
 pub record IsLocated {Id : Type 0} (same : Id → Id → Bool) (file : Id → FileModel) (refusal : Refusals Id) (xs : List (InFile Id)) (ids : List Id) (loci : List Locus) : Type 0 where
   pub count : length loci ≡ length ids
-  pub places : ((id : Id) → Contains ids id → IsSome (file id).name) → map place_of_given loci ≡ map (λ id. place_of (labelled_file same file xs id)) ids
+  pub places : AllZip IsPlaceOfFile (map (labelled_file same file xs) ids) (map place_of_given loci)
   pub answered : first_refusal refusal (flat_map (λ id. asked_of id (locus_lookups same file xs id)) ids) ≡ None
 
 module _ {Id : Type 0} (same : Id → Id → Bool) (file : Id → FileModel) (refusal : Refusals Id) (xs : List (InFile Id)) where
@@ -108,22 +105,21 @@ module _ {Id : Type 0} (same : Id → Id → Bool) (file : Id → FileModel) (re
 
   -- one more file
   pub located-more : (ids more : List Id) (id : Id) (loci : List Locus) (locus : Locus) → more ≡ ids ++ id ∷ [] → IsLocated same file refusal xs ids loci
-      → (IsSome (file id).name → place_of_given locus ≡ place_of (labelled_file same file xs id)) → first_refusal refusal (asked_for id) ≡ None
+      → IsPlaceOfFile (labelled_file same file xs id) (place_of_given locus) → first_refusal refusal (asked_for id) ≡ None
       → IsLocated same file refusal xs more (loci ++ locus ∷ [])
   located-more ids more id loci locus is before at answered = record {
     count = omega (arith, ap length is, length-append ids (id ∷ []), length-append loci (locus ∷ []), before.count);
-    places = λ named.
-        map-append place_of_given loci (locus ∷ [])
-        ∙ ap (λ (ps : List Place). ps ++ place_of_given locus ∷ []) (before.places (λ j c. named j (subst (λ js. Contains js j) (sym is) (Contains-append_left ids (id ∷ []) j c))))
-        ∙ ap (λ (p : Place). map placed ids ++ p ∷ []) (at (named id (subst (λ js. Contains js id) (sym is) (Contains-append_right ids (id ∷ []) id (0, omega arith, refl)))))
-        ∙ sym (map-append placed ids (id ∷ [])) ∙ ap (map placed) (sym is);
+    places = subst (λ js. AllZip IsPlaceOfFile (map with_labels js) (map place_of_given (loci ++ locus ∷ []))) (sym is)
+        (subst (λ (ss : List LabelledFile). AllZip IsPlaceOfFile ss (map place_of_given (loci ++ locus ∷ []))) (sym (map-append with_labels ids (id ∷ [])))
+        (subst (AllZip IsPlaceOfFile (map with_labels ids ++ with_labels id ∷ [])) (sym (map-append place_of_given loci (locus ∷ [])))
+        (zip_append IsPlaceOfFile (map with_labels ids) (with_labels id ∷ []) (map place_of_given loci) (place_of_given locus ∷ []) before.places (at, tt))));
     answered = ap (λ js. first_refusal refusal (flat_map asked_for js)) is
         ∙ ap (first_refusal refusal) (flat_map-append asked_for ids (id ∷ []) ∙ ap (λ (ls : List (Id × Lookup)). flat_map asked_for ids ++ ls) (append-nil (asked_for id)))
         ∙ first_refusal-none refusal (flat_map asked_for ids) (asked_for id) before.answered ∙ answered;
   }
     where
-      placed : Id → Place
-      placed j = place_of (labelled_file same file xs j)
+      with_labels : Id → LabelledFile
+      with_labels j = labelled_file same file xs j
 
   -- what a file is refused with refuses all of them
   pub located-refused : (ids more rest all : List Id) (id : Id) (loci : List Locus) (e : Error) → more ≡ ids ++ id ∷ [] → all ≡ more ++ rest → IsLocated same file refusal xs ids loci

@@ -1,35 +1,34 @@
 -- A rich picture, drawn part by part: its header, its snippets, and its notes.
 use Rattle.std.proofs.Common.{◌≡◌, ℕ, ◌<◌, Bool, true, List, [], ◌∷◌, ◌++◌, length, map, None, Result, Ok, Err, ⊎_elim, refl, sym, subst, ap, ◌∙◌, arith}
 use Rattle.std.specs.Prelude.{IfErr}
+use Rattle.std.specs.List.{AllZip}
 use Rattle.std.proofs.lemmas.Grind.{flat_map-append}
 use Rattle.std.proofs.lemmas.List.{append_assoc}
 use Rattle.codespan_base.specs.declared.term.config.Config.{Config}
+use Rattle.codespan_base.specs.declared.term.config.DisplayStyle.TheVariants.{Rich}
 use Rattle.codespan_base.specs.declared.diagnostic.Diagnostic.{Diagnostic}
 use Rattle.codespan_base.specs.declared.files.error.Error.{Error}
 use Rattle.codespan_base.specs.Errors.{IsIo}
 use Rattle.codespan_base.specs.FileModel.{FileModel}
 use Rattle.codespan_base.specs.Streams.{Stream, newline}
 use Rattle.codespan_base.specs.WriterLaw.{Sink, Sends, Began, is_told}
-use Rattle.codespan_base.proofs.Sends.{Began-first, Began-last}
+use Rattle.codespan_base.proofs.Sends.{Began-first, Began-last, sent-nil}
 use Rattle.codespan_reporting.specs.declared.term.views.sheet.Sheet.{Sheet}
 use Rattle.codespan_reporting.specs.Inner.Asking.{Came, Stopped, EndedAsking, SendsAsking}
 use Rattle.codespan_picture.specs.Given.{place_of_given}
-use Rattle.codespan_reporting.specs.Inner.GivenSheets.{IsPrepared, placed_snippets}
-use Rattle.codespan_reporting.specs.Headline.{DrawsRich, NamesAreStated, viewed_picture}
+use Rattle.codespan_reporting.specs.Inner.GivenSheets.{IsPrepared}
+use Rattle.codespan_reporting.specs.Headline.{DrawsRich, NamesAreStated, drawn_picture}
 use Rattle.codespan_picture.specs.Lookups.{Refusals, early_lookups, first_refusal, late_lookups}
 use Rattle.codespan_picture.specs.Picture.{heading_of, labels_of, look_of, notes_of}
-use Rattle.codespan_picture.specs.Rows.{Look, Row, BlankRow, HeaderRow}
+use Rattle.codespan_picture.specs.Padding.{padding_of}
+use Rattle.codespan_picture.specs.Placed.{IsPlaceOfFile, placed_picture, placed_snippets}
+use Rattle.codespan_picture.specs.Rows.{BlankRow, HeaderRow, Look, Place, Row}
 use Rattle.codespan_picture.specs.RowStreams.{header_row, stream_of, stream_of_rows}
-use Rattle.codespan_picture.specs.Snippets.{InFile, LabelledFile, has_any, is_followed, labelled_files, note_rows, place_of, row_after, snippet, snippets}
+use Rattle.codespan_picture.specs.Snippets.{InFile, has_any, labelled_files, note_rows}
+use Rattle.codespan_laws.proofs.PlacedPictures.{placed-named}
 use Rattle.codespan_reporting.proofs.Chains.{came_both, came_then_stopped, stopped_before, told_after, Began-as}
 use Rattle.codespan_reporting.proofs.Drawing.{finished, refused_by_writer, refused_late}
 use Rattle.codespan_reporting.proofs.NoteRows.{whole_of_notes}
-
--- snippets that start where their files' snippets start are those of the picture
-placed-are : (config : Config) (notes : List (List ℕ)) (ss : List LabelledFile) → placed_snippets config (has_any notes) (map place_of ss) ss ≡ snippets config notes ss
-placed-are config notes [] = refl
-placed-are config notes (s ∷ ss) =
-    ap (λ (r : List Row). (snippet config s ++ row_after (is_followed (has_any notes) ss) s) ++ r) (placed-are config notes ss)
 
 -- where there is a label there is a lookup before the header
 pub some_early : {Id : Type 0} (config : Config) (same : Id → Id → Bool) (file : Id → FileModel) (refusal : Refusals Id) (xs : List (InFile Id)) → 0 < length xs
@@ -42,6 +41,19 @@ pub some_late : {Id : Type 0} (config : Config) (same : Id → Id → Bool) (fil
     → 0 < length (late_lookups config same file refusal xs)
 some_late config same file refusal [] some = absurd (omega arith)
 some_late config same file refusal (x ∷ xs) some = omega arith
+
+-- without labels the picture is its header and its notes
+pub bare-whole : {Id : Type 0} (renderer view : Config) (same : Id → Id → Bool) (file : Id → FileModel) (refusal : Refusals Id) (d : Diagnostic Id) (old new : Sink) (r : Result (Unit {0}) Error)
+    → labels_of d ≡ []
+    → Sends old (header_row d.severity None (heading_of d) ++ newline ++ whole_of_notes (look_of renderer d.severity 0) (notes_of d)) r new → IfErr r IsIo
+    → DrawsRich renderer view same file refusal d old r new
+bare-whole {Id} renderer view same file refusal d old new r none sends io =
+    finished renderer view same file refusal d old old new [] (header_row d.severity None (heading_of d) ++ newline ++ whole_of_notes (look_of renderer d.severity 0) (notes_of d)) r
+    (ap (λ (xs : List (InFile Id)). first_refusal refusal (early_lookups view same file refusal xs)) none)
+    (ap (λ (xs : List (InFile Id)). first_refusal refusal (late_lookups view same file refusal xs)) none)
+    (refl, λ told. sym (sent-nil old)) sends io []
+    (subst (λ (xs : List (InFile Id)). AllZip IsPlaceOfFile (labelled_files same file xs) []) (sym none) tt)
+    (ap (λ (xs : List (InFile Id)). stream_of_rows (look_of renderer d.severity (padding_of view (labelled_files same file xs))) (HeaderRow None (heading_of d) ∷ (note_rows (notes_of d) ++ (BlankRow ∷ [])))) none)
 
 module _ {Id : Type 0} (renderer view : Config) (same : Id → Id → Bool) (file : Id → FileModel) (refusal : Refusals Id) (d : Diagnostic Id) (sheet : Sheet Id)
     (prepared : IsPrepared same file view (labels_of d) sheet) (early : first_refusal refusal (early_lookups view same file refusal (labels_of d)) ≡ None) where
@@ -61,17 +73,22 @@ module _ {Id : Type 0} (renderer view : Config) (same : Id → Id → Bool) (fil
   abbrev end : Stream
   end = whole_of_notes look (notes_of d)
 
-  -- the picture is all of these
-  picture-is : NamesAreStated file d → viewed_picture renderer view same file refusal d ≡ (header ++ middle) ++ end
-  picture-is named =
-      let rows = snippets view (notes_of d) (labelled_files same file (labels_of d)) in
+  -- where the snippets start
+  abbrev places : List Place
+  places = map place_of_given sheet.loci.items
+
+  -- the picture with these places is all of these
+  placed-is : placed_picture renderer view same file d Rich places ≡ (header ++ middle) ++ end
+  placed-is =
+      let rows = placed_snippets view (has_any (notes_of d)) places (labelled_files same file (labels_of d)) in
       let ended : Row → Stream = λ row. stream_of look row ++ newline in
       ap (λ n. stream_of_rows (look_of renderer d.severity n) ((HeaderRow None (heading_of d) ∷ rows) ++ note_rows (notes_of d) ++ (BlankRow ∷ []))) (sym prepared.padding_is)
       ∙ ap (stream_of_rows look) (append_assoc (HeaderRow None (heading_of d) ∷ rows) (note_rows (notes_of d)) (BlankRow ∷ []))
       ∙ flat_map-append ended (HeaderRow None (heading_of d) ∷ rows) (note_rows (notes_of d) ++ (BlankRow ∷ []))
-      ∙ ap (λ (r : List Row). (header ++ stream_of_rows look r) ++ end)
-      (sym (placed-are view (notes_of d) (labelled_files same file (labels_of d)))
-      ∙ ap (λ ps. placed_snippets view (has_any (notes_of d)) ps (labelled_files same file (labels_of d))) (sym (prepared.places_are named)))
+
+  -- where the names are stated that is the picture
+  picture-is : NamesAreStated file d → drawn_picture renderer view same file refusal d Rich ≡ (header ++ middle) ++ end
+  picture-is named = sym (placed-named same file d renderer view named Rich places prepared.places_are) ∙ placed-is
 
   -- the header was cut short
   pub stopped-in_header : (old new : Sink) (e : Error) → Sends old header (Err e) new → IsIo e → DrawsRich renderer view same file refusal d old (Err e) new
@@ -102,4 +119,4 @@ module _ {Id : Type 0} (renderer view : Config) (same : Id → Id → Bool) (fil
       → SendsAsking (first_refusal refusal (late_lookups view same file refusal (labels_of d))) mid middle (Ok tt) last
       → Sends last end r new → IfErr r IsIo → DrawsRich renderer view same file refusal d old r new
   drawn-whole old mid last new r came part sends io =
-      finished renderer view same file refusal d old last new (header ++ middle) end r early part.0 (came_both old mid last header middle came part.1) sends io picture-is
+      finished renderer view same file refusal d old last new (header ++ middle) end r early part.0 (came_both old mid last header middle came part.1) sends io places prepared.places_are placed-is

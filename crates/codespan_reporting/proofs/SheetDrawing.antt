@@ -17,7 +17,7 @@ use Rattle.codespan_reporting.specs.Inner.Asking.{SendsAsking}
 use Rattle.codespan_reporting.specs.declared.term.views.entry.Entry.{Entry as GivenEntry}
 use Rattle.codespan_reporting.specs.Inner.Entries.{is_below, is_of_file}
 use Rattle.codespan_reporting.specs.Inner.GivenEntries.{entry_of}
-use Rattle.codespan_reporting.specs.Inner.GivenSheets.{placed_snippet, placed_snippets}
+use Rattle.codespan_picture.specs.Placed.{placed_snippet, placed_snippets}
 use Rattle.codespan_picture.specs.Lookups.{Refusals, first_refusal, snippet_lookups}
 use Rattle.codespan_reporting.specs.Inner.PlacedLabels.{lane_after, is_multi_of}
 use Rattle.codespan_picture.specs.Rows.{Look, Place, Row}

@@ -15,7 +15,8 @@ use Rattle.codespan_reporting.specs.declared.term.views.entry.Entry.{Entry as Gi
 use Rattle.codespan_reporting.specs.declared.term.views.sheet.Sheet.{Sheet}
 use Rattle.codespan_reporting.specs.Inner.Entries.{is_of_file}
 use Rattle.codespan_reporting.specs.Inner.GivenEntries.{IsLineOf, IsOfFiles, entry_of}
-use Rattle.codespan_reporting.specs.Inner.GivenSheets.{IsPrepared, known_numbers, numbers_from, placed_snippet}
+use Rattle.codespan_reporting.specs.Inner.GivenSheets.{IsPrepared, known_numbers, numbers_from}
+use Rattle.codespan_picture.specs.Placed.{placed_snippet}
 use Rattle.codespan_picture.specs.Lookups.{filled_lines, of_filled}
 use Rattle.codespan_reporting.specs.Inner.PlacedLabels.{IsAt, file_ids, lane_after}
 use Rattle.codespan_picture.specs.Rows.{Place, Row, StartRow, EmptyRow}

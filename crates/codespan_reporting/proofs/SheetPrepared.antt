@@ -2,7 +2,7 @@
 use Rattle.std.proofs.Common.{◌≡◌, ℕ, ◌<◌, Bool, true, not, max, List, [], ◌∷◌, ◌++◌, length, map, flat_map, Some, None, sym, ◌∙◌, ap, subst}
 use Rattle.std.specs.Prelude.{Contains, IsSome, fold}
 use Rattle.std.specs.Cmp.{IsEquivalence}
-use Rattle.std.specs.List.{AllByRecursion}
+use Rattle.std.specs.List.{AllByRecursion, AllZip}
 use Rattle.std.specs.List.Sorted.{IsPermutation, IsSortedBy}
 use Rattle.std.proofs.lemmas.List.Elements.{All-contains, All-contains_itself, All-from_recursion, All-map, All-weaker, recursion_from_All}
 use Rattle.std.proofs.lemmas.Simd.{map-map}
@@ -20,24 +20,13 @@ use Rattle.codespan_reporting.specs.Inner.GivenPadding.{drawn_digits, filled_loo
 use Rattle.codespan_reporting.specs.Inner.GivenSheets.{IsPrepared, numbers_from}
 use Rattle.codespan_picture.specs.Lookups.{Refusals, asked_of, early_lookups, first_refusal, label_lookups, locus_lookups, numbers_for_padding}
 use Rattle.codespan_picture.specs.Padding.{padding_of}
+use Rattle.codespan_picture.specs.Placed.{IsPlaceOfFile}
 use Rattle.codespan_reporting.specs.Inner.PlacedLabels.{all_entries, file_ids, lane_after}
 use Rattle.codespan_picture.specs.Snippets.{InFile, labelled_file, labelled_files, place_of}
 use Rattle.codespan_reporting.proofs.EntryPadding.{drawn_digits-gathered, filled_lookups-gathered, gathered-each, gathered-says, filled_numbers-gathered, known-classic, marked_digits-gathered, numbers-classic}
 use Rattle.codespan_reporting.proofs.FileParts.{gathered-sorted}
 use Rattle.codespan_reporting.proofs.Refusals.{first_refusal-none, first_refusal-some}
 use Rattle.codespan_laws.proofs.SortedLists.{all-filter}
-
--- what holds of ids holds of those of them that are seen first
-seen-each : {Id : Type 0} (P : Id → Type 0) (same : Id → Id → Bool) (js : List Id) → AllByRecursion P js → AllByRecursion P (first_seen same js)
-seen-each P same [] h = tt
-seen-each P same (j ∷ js) h = (h.0, all-filter P (λ other. not (same j other)) (first_seen same js) (seen-each P same js h.1))
-
--- what holds of the id of each label holds of each file's
-ids-each : {Id : Type 0} (P : Id → Type 0) (same : Id → Id → Bool) (xs : List (InFile Id)) → ((x : InFile Id) → Contains xs x → P x.id) → (id : Id) → Contains (file_ids same xs) id → P id
-ids-each {Id} P same xs h id c =
-    let given = All-map P (λ (x : InFile Id). x.id) xs (All-weaker (Contains xs) (λ (x : InFile Id). P x.id) h xs (All-contains_itself xs)) in
-    let js = map (λ (x : InFile Id). x.id) xs in
-    All-contains P (file_ids same xs) id (All-from_recursion P (file_ids same xs) (seen-each P same js (recursion_from_All P js given))) c
 
 module _ {Id : Type 0} (same : Id → Id → Bool) (file : Id → FileModel) (config : Config) (xs : List (InFile Id)) where
   -- the ids of the files
@@ -104,7 +93,7 @@ module _ {Id : Type 0} (same : Id → Id → Bool) (file : Id → FileModel) (co
       → IsSortedBy is_below (map entry_of sheet.entries.items)
       → ks ≡ sheet.ids.items
       → length sheet.loci.items ≡ length ks
-      → (((id : Id) → Contains ks id → IsSome (file id).name) → map place_of_given sheet.loci.items ≡ map (λ id. place_of (labelled_file same file xs id)) ks)
+      → AllZip IsPlaceOfFile (map (labelled_file same file xs) ks) (map place_of_given sheet.loci.items)
       → IsPadded refusal sheet.padding sheet.filled_numbers.items
       → IsPrepared same file config xs sheet
   sheet-prepared refusal sheet gathered ks are lanes adds perm up now count places padded = record {
@@ -117,10 +106,7 @@ module _ {Id : Type 0} (same : Id → Id → Bool) (file : Id → FileModel) (co
     loci_count = count ∙ ap length now;
     padding_is = padded.padding_is;
     numbers_are = padded.numbers_are;
-    places_are = λ named.
-        places (λ id c. ids-each (λ i. IsSome (file i).name) same xs named id (subst (λ (ls : List Id). Contains ls id) (now ∙ are) c))
-        ∙ ap (map (λ id. place_of (labelled_file same file xs id))) (now ∙ are)
-        ∙ sym (map-map place_of (labelled_file same file xs) ids);
+    places_are = subst (λ (ls : List Id). AllZip IsPlaceOfFile (map (labelled_file same file xs) ls) (map place_of_given sheet.loci.items)) (now ∙ are) places;
   }
 
   module _ (o : IsEquivalence same) (one_file : (i j : Id) → same i j ≡ true → file i ≡ file j) (some_line : (i : Id) → 0 < line_count (file i))

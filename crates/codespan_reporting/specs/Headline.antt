@@ -10,9 +10,10 @@ use Rattle.codespan_base.specs.Errors.{IsIo}
 use Rattle.codespan_base.specs.FileModel.{FileModel, Lookup}
 use Rattle.codespan_base.specs.Streams.{Stream, text_of}
 use Rattle.codespan_base.specs.WriterLaw.{Frame, Sink, refusing, sent, is_told, Began, tells, gained, GainedPartly}
-use Rattle.codespan_picture.specs.Snippets.{InFile, short_rows, medium_rows}
-use Rattle.codespan_picture.specs.Picture.{look_of, labels_of, files_of, heading_of, notes_of, picture, rich_stream}
-use Rattle.codespan_picture.specs.RowStreams.{stream_of_rows}
+use Rattle.codespan_picture.specs.Rows.{Place}
+use Rattle.codespan_picture.specs.Snippets.{InFile}
+use Rattle.codespan_picture.specs.Picture.{labels_of, heading_of, notes_of, picture, viewed_picture}
+use Rattle.codespan_picture.specs.Placed.{ArePlaces, placed_picture}
 use Rattle.codespan_picture.specs.Lookups.{Refusals, lookups_in, early_lookups, late_lookups, first_refusal, IsSomeRefused, AllAnswered, headers_before_refusal}
 use Rattle.codespan_laws.specs.Meanings.{MeansLabels}
 
@@ -50,35 +51,34 @@ pub record IsLookups (old : Frame) (e : Error) (new : Frame) : Type 0 where
 -- ---- the calls that draw to a writer of styles
 
 module _ {Id : Type 0} (renderer view : Config) (same : Id → Id → Bool) (file : Id → FileModel) (refusal : Refusals Id) (d : Diagnostic Id) where
-  -- the rich picture: the view's config chooses lines and padding, the renderer's characters, tabs and lanes
-  abbrev pub viewed_picture : Stream
-  viewed_picture = rich_stream renderer view d.severity (heading_of d) (files_of same file d) (notes_of d)
-
   -- the picture in one of the styles
-  abbrev pub picture_viewed : DisplayStyle → Stream
-  picture_viewed Rich = viewed_picture
-  picture_viewed Medium = stream_of_rows (look_of renderer d.severity 0) (medium_rows file (heading_of d) (labels_of d) (notes_of d))
-  picture_viewed Short = stream_of_rows (look_of renderer d.severity 0) (short_rows file (heading_of d) (labels_of d))
+  abbrev pub drawn_picture : DisplayStyle → Stream
+  drawn_picture style = viewed_picture style renderer view same file d.severity (heading_of d) (labels_of d) (notes_of d)
+
+  -- this holds of the picture by some names: those that the files state, and any texts where they state none
+  pub record ForSomeNames (style : DisplayStyle) (Holds : Stream → Type 0) : Type 0 where
+    pub places : List Place
+    pub are : ArePlaces same file d style places
+    pub holds : Holds (placed_picture renderer view same file d style places)
 
   -- what each call that draws a style to a writer does to it
   pub record Draws (style : DisplayStyle) (old : Sink) (r : Result (Unit {0}) Error) (new : Sink) : Type 0 where
     pub frame : MatchResult r (λ _. new.frame ≡ old.frame) (λ e. Blames refusal (lookups_in style view same file refusal d) old.frame e new.frame)
     pub stream : NamesAreStated file d → is_told old ≡ true
-        → MatchResult r (λ _. new ≡ sent old (picture_viewed style)) (λ _. Began old (picture_viewed style) new)
+        → MatchResult r (λ _. new ≡ sent old (drawn_picture style)) (λ _. Began old (drawn_picture style) new)
     pub answered : MatchResult r (λ _. AllAnswered refusal (lookups_in style view same file refusal d)) (λ _. Unit {0})
+    pub by_names : is_told old ≡ true → MatchResult r (λ _. ForSomeNames style (λ s. new ≡ sent old s)) (λ _. Unit {0})
 
-  -- in rich style, besides: where a lookup before the header refuses, or the name of a file can not be printed, nothing is written
+  -- the writer is as it was where a lookup before the header refuses, and where the name of a file can not be printed
+  pub record KeepsWriter (kept : Type 0) (r : Result (Unit {0}) Error) : Type 0 where
+    pub early : IsSomeRefused refusal (early_lookups view same file refusal (labels_of d)) → kept
+    pub unprintable : MatchResult r (λ _. Unit {0}) (λ e. e ≡ FormatError
+        → kept ⊎ (first_refusal refusal (late_lookups view same file refusal (labels_of d)) ≡ Some FormatError))
+
+  -- in rich style, besides: nothing is written before the lookups that come before the header
   pub record DrawsRich (old : Sink) (r : Result (Unit {0}) Error) (new : Sink) : Type 0 where
     pub drawn : Draws Rich old r new
-    pub early : IsSomeRefused refusal (early_lookups view same file refusal (labels_of d)) → new ≡ old
-    pub unprintable : MatchResult r (λ _. Unit {0}) (λ e. e ≡ FormatError
-        → (new ≡ old) ⊎ (first_refusal refusal (late_lookups view same file refusal (labels_of d)) ≡ Some FormatError))
-
-  -- in short and medium style, besides: a refused lookup leaves exactly the headers before it
-  pub record DrawsShort (style : DisplayStyle) (old : Sink) (r : Result (Unit {0}) Error) (new : Sink) : Type 0 where
-    pub drawn : Draws style old r new
-    pub headers : NamesAreStated file d → is_told old ≡ true
-        → MatchResult r (λ _. Unit {0}) (λ e. IsLookups old.frame e new.frame → new ≡ sent old (headers_before_refusal renderer file refusal d))
+    pub keeps : KeepsWriter (new ≡ old) r
 
 -- ---- the calls that emit
 
@@ -87,10 +87,17 @@ module _ {Id : Type 0} (config : Config) (same : Id → Id → Bool) (file : Id 
   abbrev lookups : List (Id × Lookup)
   lookups = lookups_in config.display_style config same file refusal d
 
+  -- in short and medium style, besides what each style does: a refused lookup leaves exactly the headers before it
+  pub record DrawsShort (style : DisplayStyle) (old : Sink) (r : Result (Unit {0}) Error) (new : Sink) : Type 0 where
+    pub drawn : Draws config config same file refusal d style old r new
+    pub headers : NamesAreStated file d → is_told old ≡ true
+        → MatchResult r (λ _. Unit {0}) (λ e. IsLookups old.frame e new.frame → new ≡ sent old (headers_before_refusal config file refusal d))
+
   -- the text is the picture's, which in rich style means the labels; no lookup was refused
   pub record IsDrawn (text : List ℕ) : Type 0 where
     pub answered : AllAnswered refusal lookups
     pub is : NamesAreStated file d → text ≡ text_of (picture config same file d)
+    pub by_names : ForSomeNames config config same file refusal d config.display_style (λ s. text ≡ text_of s)
     pub meaning : config.display_style ≡ Rich → MeansLabels config config same file d
 
   -- what the calls that answer a string do
@@ -110,21 +117,19 @@ module _ {Id : Type 0} (config : Config) (same : Id → Id → Bool) (file : Id 
   -- what the call that draws to a writer of styles does to it
   abbrev pub DrawsTo : DisplayStyle → Sink → Result (Unit {0}) Error → Sink → Type 0
   DrawsTo Rich old r new = DrawsRich config config same file refusal d old r new
-  DrawsTo Medium old r new = DrawsShort config config same file refusal d Medium old r new
-  DrawsTo Short old r new = DrawsShort config config same file refusal d Short old r new
+  DrawsTo Medium old r new = DrawsShort Medium old r new
+  DrawsTo Short old r new = DrawsShort Short old r new
 
   -- the text of the picture
-  abbrev pub drawn_text : List ℕ
-  drawn_text = text_of (picture config same file d)
+  abbrev pub picture_text : List ℕ
+  picture_text = text_of (picture config same file d)
 
   -- what the calls that write plain text do, by what the writer tells before and after
   pub record WritesText (old : Option (List ℕ)) (r : Result (Unit {0}) Error) (new : Option (List ℕ)) : Type 0 where
     pub answered : MatchResult r (λ _. AllAnswered refusal lookups) (IsWriteRefusal refusal lookups)
-    pub text : NamesAreStated file d → tells old ≡ true → MatchResult r (λ _. new ≡ gained old drawn_text) (λ _. GainedPartly old drawn_text new)
-    -- in rich style: where a lookup before the header refuses, or the name of a file can not be printed, nothing is written
-    pub early : config.display_style ≡ Rich → IsSomeRefused refusal (early_lookups config same file refusal (labels_of d)) → new ≡ old
-    pub unprintable : config.display_style ≡ Rich → MatchResult r (λ _. Unit {0}) (λ e. e ≡ FormatError
-        → (new ≡ old) ⊎ (first_refusal refusal (late_lookups config same file refusal (labels_of d)) ≡ Some FormatError))
+    pub text : NamesAreStated file d → tells old ≡ true → MatchResult r (λ _. new ≡ gained old picture_text) (λ _. GainedPartly old picture_text new)
+    pub by_names : tells old ≡ true → MatchResult r (λ _. ForSomeNames config config same file refusal d config.display_style (λ s. new ≡ gained old (text_of s))) (λ _. Unit {0})
+    pub keeps : config.display_style ≡ Rich → KeepsWriter config config same file refusal d (new ≡ old) r
     -- in short and medium style: a refused lookup leaves exactly the headers before it
     pub headers : config.display_style ≢ Rich → NamesAreStated file d → tells old ≡ true → MatchResult r (λ _. Unit {0})
         (λ e. e ≢ OutOfMemory → e ≢ FormatError → ¬ (IsIo e) → new ≡ gained old (text_of (headers_before_refusal config file refusal d)))

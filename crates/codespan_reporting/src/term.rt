@@ -1,5 +1,6 @@
 //! The calls that draw a diagnostic.
 
+mod characters;
 mod emitting;
 mod lent;
 pub mod renderer;

@@ -2,11 +2,13 @@
 use Rattle.std.proofs.Common.{◌≡◌, ℕ, ◌+◌, ◌-◌, ◌^◌, ◌<◌, ◌≤◌, true, List, length, get_or, replicate, Option, Some, None, refl, arith, ⊎_elim}
 use Rattle.std.specs.Prelude.{slice_index, nat_lt, if◌then◌else◌}
 use Rattle.std.specs.List.{range_with_len}
-use Rattle.std.specs.Str.{IsCharBoundary}
+use Rattle.std.specs.Str.{IsCharBoundary, IsUtf8}
 use Rattle.std.proofs.lemmas.Bool.{cases_lt}
 use Rattle.std.proofs.lemmas.List.{get_or-replicate, length-replicate}
 use Rattle.std.proofs.lemmas.List.FromFn.{get_or-range_with_len, length-range_with_len}
-use Rattle.std.proofs.lemmas.Str.{IsCharBoundary-before_ascii}
+use Rattle.std.proofs.lemmas.List.Elements.{All-replicate}
+use Rattle.std.proofs.lemmas.Str.{IsCharBoundary-before_ascii, IsUtf8-from_ascii}
+use Rattle.std.proofs.lemmas.Str.Ascii.{IsAscii-from_all}
 use Rattle.codespan_base.specs.declared.files.error.Error.{Error}
 use Rattle.codespan_base.specs.declared.files.error.Error.TheVariants.{FileMissing, LineTooLarge}
 use Rattle.codespan_base.specs.FileModel.{FileModel, IsLawful, Lookup, RefusesPastEnd, line_of}
@@ -53,6 +55,11 @@ text_len : length longest_text ≡ greatest
 unfolding longest_text
 text_len = length-replicate greatest 10
 
+-- it is one
+text_is : IsUtf8 longest_text
+unfolding longest_text
+text_is = IsUtf8-from_ascii (replicate greatest 10) (IsAscii-from_all (replicate greatest 10) (All-replicate (λ (b : ℕ). b < 128) greatest 10 (omega arith)))
+
 text_at : (i : ℕ) → i < greatest → get_or longest_text i 0 ≡ 10
 unfolding longest_text
 text_at i h = get_or-replicate greatest i 10 0 h
@@ -90,6 +97,7 @@ line_at byte h =
 
 pub longest_lawful : (name : List ℕ) → IsLawful (longest_file name)
 longest_lawful name = record {
+  is_text = text_is;
   fits = omega (arith, text_len, greatest_is);
   some_line = omega (arith, starts_len);
   first = start_at 0 (omega arith);

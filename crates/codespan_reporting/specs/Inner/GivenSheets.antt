@@ -1,5 +1,6 @@
 -- What a view knows before it draws: the files of the labels, their entries in order, and the numbers that are known.
-use Rattle.std.specs.Prelude.{◌≡◌, ℕ, Bool, List, [], ◌∷◌, ◌++◌, All, Contains, IsSome, drop, flat_map, length, map}
+use Rattle.std.specs.Prelude.{◌≡◌, ℕ, Bool, List, [], All, drop, flat_map, length, map}
+use Rattle.std.specs.List.{AllZip}
 use Rattle.std.specs.List.Sorted.{IsPermutation, IsSortedBy}
 use Rattle.codespan_base.specs.declared.term.config.Config.{Config}
 use Rattle.codespan_base.specs.declared.term.config.Layout.{Layout}
@@ -11,9 +12,9 @@ use Rattle.codespan_picture.specs.Given.{place_of_given}
 use Rattle.codespan_reporting.specs.Inner.GivenEntries.{IsOfFiles, entry_of}
 use Rattle.codespan_picture.specs.Lookups.{filled_lines}
 use Rattle.codespan_picture.specs.Padding.{padding_of}
+use Rattle.codespan_picture.specs.Placed.{IsPlaceOfFile}
 use Rattle.codespan_reporting.specs.Inner.PlacedLabels.{all_entries, file_ids, lane_after}
-use Rattle.codespan_picture.specs.Rows.{Place, Row}
-use Rattle.codespan_picture.specs.Snippets.{InFile, LabelledFile, is_followed, labelled_files, place_of, row_after, snippet_at}
+use Rattle.codespan_picture.specs.Snippets.{InFile, LabelledFile, labelled_files}
 
 -- the numbers of a file's lines that are known before the header: in the unbroken layout those of the lines that are filled in, in the classic one none
 abbrev pub known_numbers : Layout → Config → LabelledFile → List ℕ
@@ -34,15 +35,4 @@ pub record IsPrepared {Id : Type 0} (same : Id → Id → Bool) (file : Id → F
   pub loci_count : length sheet.loci.items ≡ length sheet.ids.items
   pub padding_is : sheet.padding ≡ padding_of config (labelled_files same file xs)
   pub numbers_are : sheet.filled_numbers.items ≡ numbers_from config (labelled_files same file xs) 0
-  pub places_are : ((x : InFile Id) → Contains xs x → IsSome (file x.id).name) → map place_of_given sheet.loci.items ≡ map place_of (labelled_files same file xs)
-
--- a file's snippet that starts with this place, and the row after it, where something follows
-abbrev pub placed_snippet : Config → Bool → Place → LabelledFile → List Row
-placed_snippet config followed place s =
-    snippet_at config place s ++ row_after followed s
-
--- the snippets of files that start with these places
-abbrev pub placed_snippets : Config → Bool → List Place → List LabelledFile → List Row
-placed_snippets config has_notes [] ss = []
-placed_snippets config has_notes (p ∷ ps) [] = []
-placed_snippets config has_notes (p ∷ ps) (s ∷ ss) = placed_snippet config (is_followed has_notes ss) p s ++ placed_snippets config has_notes ps ss
+  pub places_are : AllZip IsPlaceOfFile (labelled_files same file xs) (map place_of_given sheet.loci.items)

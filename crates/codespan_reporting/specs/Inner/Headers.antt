@@ -1,5 +1,6 @@
 -- Headers of labels, drawn one after another, each after the lookups of its place.
 use Rattle.std.specs.Prelude.{◌≡◌, ◌≢◌, ◌⊎◌, true, Bool, List, [], ◌∷◌, ◌++◌, flat_map, map, filter, None, Some, Contains, IsSome, Result, MatchResult}
+use Rattle.std.specs.List.{AllZip}
 use Rattle.codespan_base.specs.declared.diagnostic.Diagnostic.{Diagnostic}
 use Rattle.codespan_base.specs.declared.files.error.Error.{Error}
 use Rattle.codespan_base.specs.declared.files.error.Error.TheVariants.{FormatError, OutOfMemory}
@@ -12,6 +13,8 @@ use Rattle.codespan_base.specs.Streams.{Stream}
 use Rattle.codespan_base.specs.WriterLaw.{Sink, sent, is_told, Began, refusing}
 use Rattle.codespan_picture.specs.Lookups.{Refusals, asked_of, first_refusal}
 use Rattle.codespan_picture.specs.Picture.{heading_of, look_of}
+use Rattle.codespan_picture.specs.Placed.{IsPlaceOfLabel, placed_headers}
+use Rattle.codespan_picture.specs.Rows.{Place}
 use Rattle.codespan_picture.specs.RowStreams.{stream_of_rows}
 use Rattle.codespan_picture.specs.Snippets.{InFile, has_any, header_at}
 
@@ -32,10 +35,16 @@ module _ {Id : Type 0} (config : Config) (file : Id → FileModel) (refusal : Re
   abbrev pub headers_of : List (InFile Id) → Stream
   headers_of xs = stream_of_rows (look_of config d.severity 0) (map (header_at file (heading_of d)) xs)
 
-  -- the headers came, and every lookup for them was answered
+  -- the stream of headers with these places
+  abbrev pub headers_at : List Place → Stream
+  headers_at places = stream_of_rows (look_of config d.severity 0) (placed_headers (heading_of d) places)
+
+  -- the headers came, with the places of their labels, and every lookup for them was answered
   pub record HeadersCame (old : Sink) (xs : List (InFile Id)) (new : Sink) : Type 0 where
     pub frame : new.frame ≡ old.frame
-    pub came : AreNamed file xs → is_told old ≡ true → new ≡ sent old (headers_of xs)
+    pub places : List Place
+    pub are : AllZip (IsPlaceOfLabel file) xs places
+    pub came : is_told old ≡ true → new ≡ sent old (headers_at places)
     pub answered : first_refusal refusal (flat_map header_asked xs) ≡ None
 
   -- the writer refused within a label's header

@@ -5,6 +5,7 @@ ghost use Rattle.codespan_base.specs.declared.term.config.DisplayStyle.TheVarian
 ghost use Rattle.codespan_laws.specs.Meanings.{MeansLabels};
 ghost use Rattle.codespan_reporting.specs.Headline.{AppendsText, DrawsText, DrawsTo, WritesText};
 
+use crate::term::characters::are_characters;
 use crate::term::lent::LentWriter;
 use crate::term::renderer::Renderer;
 use crate::term::views::{RichDiagnostic, ShortDiagnostic};
@@ -25,14 +26,12 @@ pub fn emit_into_string<'files, F: Files<'files>>(
 ) -> Result<String, Error>
     ensures { DrawsText config.now F.FileId.eq (F.file files.now) (F.refusal files.now) diagnostic.now string_bytes result }
 {
+    are_characters(&config.chars);
     let mut plain = PlainWriter::new(Vec::new(*diagnostic.labels.allocator()));
     let drawn = emit_to_write_style(&mut plain, config, files, diagnostic);
     match drawn {
-        Ok(()) => match String::from_utf8(plain.into_inner()) {
-            Ok(text) => Ok(text),
-            // All parts of a picture are texts, so this is never reached. No contract says so.
-            Err(_) => Err(Error::OutOfMemory),
-        },
+        // All that a picture writes is text.
+        Ok(()) => Ok(unsafe { String::from_utf8_unchecked(plain.into_inner()) }),
         Err(_) if plain.has_refused() => Err(Error::OutOfMemory),
         Err(error) => Err(error),
     }

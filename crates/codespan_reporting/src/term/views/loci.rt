@@ -1,14 +1,16 @@
 //! Where the snippet of each file starts.
 
-ghost use Rattle.std.specs.Prelude.{◌≡◌, ◌∷◌, [], Contains, IfOk, IsSome, flat_map, length, map};
-ghost use Rattle.codespan_base.specs.FileModel.{FileModel, name_text};
+ghost use Rattle.std.specs.Prelude.{◌≡◌, ◌∷◌, [], IfOk, flat_map, length, map};
+ghost use Rattle.std.specs.List.{AllZip};
+ghost use Rattle.codespan_base.specs.FileModel.{FileModel};
 ghost use Rattle.codespan_base.specs.FileModel.Lookup.{Name as NameLookup, LocationAt};
 ghost use Rattle.codespan_base.specs.Labels.{is_primary};
 ghost use Rattle.codespan_picture.specs.Given.{place_of_given};
 ghost use Rattle.codespan_reporting.specs.Inner.Loci.{least_if_any, starts_in};
 ghost use Rattle.codespan_picture.specs.Lookups.{TellsNaming, asked_of, first_refusal, locus_lookups};
 ghost use Rattle.codespan_picture.specs.Picture.{label_of};
-ghost use Rattle.codespan_picture.specs.Snippets.{labelled_file, locus_start, place_of};
+ghost use Rattle.codespan_picture.specs.Placed.{IsPlaceIn, IsPlaceOfFile};
+ghost use Rattle.codespan_picture.specs.Snippets.{labelled_file, locus_start};
 
 use crate::term::renderer::Locus;
 use codespan_base::diagnostic::text::display_text;
@@ -65,7 +67,7 @@ pub fn locus_at<'files, F: Files<'files>>(
     id: F::FileId,
     byte_index: usize,
 ) -> Result<Locus, Error>
-    ensures locus { IfOk result (λ locus. IsSome (F.file files.now id).name → place_of_given locus ≡ record { name = name_text (F.file files.now id); location = (F.file files.now id).location byte_index }) }
+    ensures locus { IfOk result (λ locus. IsPlaceIn (F.file files.now id) byte_index (place_of_given locus)) }
     ensures refused { TellsNaming (first_refusal (F.refusal files.now) (asked_of id (NameLookup ∷ LocationAt byte_index ∷ []))) result }
 {
     let name = display_text(alloc, files.name(id)?)?;
@@ -83,7 +85,7 @@ fn file_locus<'files, F: Files<'files>>(
     id: F::FileId,
     labels: &[Label<F::FileId>],
 ) -> Result<Locus, Error>
-    ensures locus { IfOk result (λ locus. IsSome (F.file files.now id).name → place_of_given locus ≡ place_of (labelled_file F.FileId.eq (F.file files.now) (map label_of labels.now) id)) }
+    ensures locus { IfOk result (λ locus. IsPlaceOfFile (labelled_file F.FileId.eq (F.file files.now) (map label_of labels.now) id) (place_of_given locus)) }
     ensures refused { TellsNaming (first_refusal (F.refusal files.now) (asked_of id (locus_lookups F.FileId.eq (F.file files.now) (map label_of labels.now) id))) result }
 {
     locus_at(alloc, files, id, locus_start(labels, id))
@@ -100,7 +102,7 @@ pub fn file_loci<'files, F: Files<'files>>(
     labels: &[Label<F::FileId>],
 ) -> Result<Vec<Locus>, Error>
     ensures count { IfOk result (λ loci. length loci.items ≡ length ids.now) }
-    ensures loci { IfOk result (λ loci. ((id : F.FileId) → Contains ids.now id → IsSome (F.file files.now id).name) → map place_of_given loci.items ≡ map (λ id. place_of (labelled_file F.FileId.eq (F.file files.now) (map label_of labels.now) id)) ids.now) }
+    ensures loci { IfOk result (λ loci. AllZip IsPlaceOfFile (map (labelled_file F.FileId.eq (F.file files.now) (map label_of labels.now)) ids.now) (map place_of_given loci.items)) }
     ensures refused { TellsNaming (first_refusal (F.refusal files.now) (flat_map (λ id. asked_of id (locus_lookups F.FileId.eq (F.file files.now) (map label_of labels.now) id)) ids.now)) result }
 {
     let mut loci = Vec::new(alloc);

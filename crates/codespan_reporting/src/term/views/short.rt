@@ -58,7 +58,7 @@ impl<'diagnostic, FileId: Copy + Eq> ShortDiagnostic<'diagnostic, FileId> {
         W: WriteStyle,
         FileId: 'files,
         ensures same { SameRenderer renderer.old renderer.new }
-        ensures draws { DrawsShort (config_of renderer.old) (config_of renderer.old) FileId.eq (F.file files.now) (F.refusal files.now) (short_diagnostic_of self.now) (short_style_of self.now) (W.sink (writer_of renderer.old)) result (W.sink (writer_of renderer.new)) }
+        ensures draws { DrawsShort (config_of renderer.old) FileId.eq (F.file files.now) (F.refusal files.now) (short_diagnostic_of self.now) (short_style_of self.now) (W.sink (writer_of renderer.old)) result (W.sink (writer_of renderer.new)) }
     {
         if self.show_notes {
             draw_medium(files, self.diagnostic, renderer)
@@ -75,7 +75,7 @@ fn draw_medium<'files, F: Files<'files>, W: WriteStyle>(
     renderer: &mut Renderer<'_, '_, W>,
 ) -> Result<(), Error>
     ensures same { SameRenderer renderer.old renderer.new }
-    ensures draws { DrawsShort (config_of renderer.old) (config_of renderer.old) F.FileId.eq (F.file files.now) (F.refusal files.now) diagnostic.now Medium (W.sink (writer_of renderer.old)) result (W.sink (writer_of renderer.new)) }
+    ensures draws { DrawsShort (config_of renderer.old) F.FileId.eq (F.file files.now) (F.refusal files.now) diagnostic.now Medium (W.sink (writer_of renderer.old)) result (W.sink (writer_of renderer.new)) }
 {
     draw_headers(files, diagnostic, renderer)?;
     draw_notes(diagnostic, renderer, 0)
@@ -88,7 +88,7 @@ fn draw_headers<'files, F: Files<'files>, W: WriteStyle>(
     renderer: &mut Renderer<'_, '_, W>,
 ) -> Result<(), Error>
     ensures same { SameRenderer renderer.old renderer.new }
-    ensures draws { DrawsShort (config_of renderer.old) (config_of renderer.old) F.FileId.eq (F.file files.now) (F.refusal files.now) diagnostic.now Short (W.sink (writer_of renderer.old)) result (W.sink (writer_of renderer.new)) }
+    ensures draws { DrawsShort (config_of renderer.old) F.FileId.eq (F.file files.now) (F.refusal files.now) diagnostic.now Short (W.sink (writer_of renderer.old)) result (W.sink (writer_of renderer.new)) }
 {
     if draw_located(files, diagnostic, renderer)? {
         Ok(())

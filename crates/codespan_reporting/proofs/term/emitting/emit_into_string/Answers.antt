@@ -1,11 +1,21 @@
-use Rattle.std.proofs.Common.{rules, Some, ap, ◌∙◌}
+use Rattle.std.proofs.Common.{rules, ◌≡◌, Some, ap, ◌∙◌}
 use Rattle.std.specs.Prelude.{string_bytes}
+use Rattle.codespan_base.specs.FileModel.{IsLawful}
 use Rattle.codespan_base.specs.Streams.{no_marks}
 use Rattle.codespan_base.specs.Writers.{fresh_sink}
-use Rattle.codespan_reporting.proofs.Emitting.{drawn_text}
+use Rattle.codespan_reporting.proofs.Emitting.{string_drawn, text_held}
 use Rattle.codespan_reporting.proofs.term.emitting.emit_into_string.Goals as goal
 
-pub returns-in-Ok-from_utf8 : goal.returns-in-Ok-from_utf8
-returns-in-Ok-from_utf8 g c =
-    drawn_text c.args.config.now g.F.FileId.PartialEq.eq (g.F.Files.file c.args.files.now) (g.F.Files.refusal c.args.files.now) c.args.diagnostic.now _ _ (string_bytes c.in-Ok-from_utf8.text)
+-- what was written is a text
+pub from_utf8_unchecked-requires : goal.from_utf8_unchecked-requires
+from_utf8_unchecked-requires g c =
+    let file = g.F.Files.file c.args.files.now in
+    let claim : g.claim c.lifetimes = search rules in
+    let lawful : (id : g.row.F-FileId.Denot) → IsLawful (file id) = λ id. (g.met.F.Files c.lifetimes claim).lawful c.args.files.now id in
+    text_held c.args.config.now g.F.FileId.PartialEq.eq file (g.F.Files.refusal c.args.files.now) c.args.diagnostic.now _ _ c.into_inner.result.items
+    c.in-Ok.ensures.draws (c.new-plain.ensures.begins ∙ ap (λ xs. fresh_sink no_marks (Some xs)) c.new.ensures.items) (search rules) c.are_characters.ensures lawful
+
+pub returns-in-Ok : goal.returns-in-Ok
+returns-in-Ok g c =
+    string_drawn c.args.config.now g.F.FileId.PartialEq.eq (g.F.Files.file c.args.files.now) (g.F.Files.refusal c.args.files.now) c.args.diagnostic.now _ _ (string_bytes c.from_utf8_unchecked.result)
     c.in-Ok.ensures.draws (c.new-plain.ensures.begins ∙ ap (λ xs. fresh_sink no_marks (Some xs)) c.new.ensures.items) (search rules) c.in-Ok.ensures.meaning

@@ -1,15 +1,15 @@
-use Rattle.std.proofs.Common.{◌≡◌, ℕ, [], ◌∷◌, subst}
-use Rattle.std.specs.Prelude.{IfOk, IsSome}
-use Rattle.codespan_base.specs.FileModel.{name_text}
+use Rattle.std.proofs.Common.{ℕ, [], ◌∷◌, subst}
+use Rattle.std.specs.Prelude.{IfOk}
 use Rattle.codespan_base.specs.FileModel.Lookup.{LocationAt, Name}
 use Rattle.codespan_picture.specs.Given.{place_of_given}
+use Rattle.codespan_picture.specs.Placed.{IsPlaceIn}
 use Rattle.codespan_picture.specs.Lookups.{TellsNaming, asked_of, first_refusal}
 use Rattle.codespan_reporting.proofs.term.views.loci.file_locus.Goals as goal
 
 pub returns-clause-locus : goal.returns-clause-locus
 returns-clause-locus g c =
     let f = g.F.Files.file c.args.files.now c.args.id in
-    subst (λ (n : ℕ). IfOk c.locus_at.result (λ locus. IsSome f.name → place_of_given locus ≡ record { name = name_text f; location = f.location n }))
+    subst (λ (n : ℕ). IfOk c.locus_at.result (λ locus. IsPlaceIn f n (place_of_given locus)))
     (c.locus_start.ensures (g.F.Files.file c.args.files.now)) c.locus_at.ensures.locus
 
 pub returns-clause-refused : goal.returns-clause-refused

@@ -3,7 +3,7 @@ use Rattle.std.specs.Prelude.{IfSome, string_bytes}
 use Rattle.std.proofs.lemmas.Result.{err_from_is_err_and}
 use Rattle.codespan_base.specs.FileModel.{or_refusal}
 use Rattle.codespan_base.specs.FileModel.Lookup.{LocationAt}
-use Rattle.codespan_reporting.proofs.LocusStarts.{named_place}
+use Rattle.codespan_reporting.proofs.LocusStarts.{located_place}
 use Rattle.codespan_reporting.proofs.term.views.loci.locus_at.Goals as goal
 
 pub returns-in_err-location-clause-refused : goal.returns-in_err-location-clause-refused
@@ -17,7 +17,7 @@ pub returns-clause-locus : goal.returns-clause-locus
 returns-clause-locus g c =
     let file = g.F.Files.file c.args.files.now in
     let text : IfSome (file c.args.id).name (λ bytes. string_bytes c.in_ok-name-2.name ≡ bytes) = rw (sym c.in_ok-name.ensures.value) c.in_ok-name-2.ensures.text in
-    named_place (file c.args.id) c.args.byte_index (record { name = c.in_ok-name-2.name; location = c.in_ok-location.location }) text c.in_ok-location.ensures.value
+    located_place (file c.args.id) c.args.byte_index (record { name = c.in_ok-name-2.name; location = c.in_ok-location.location }) text c.in_ok-location.ensures.value
 
 pub returns-clause-refused : goal.returns-clause-refused
 returns-clause-refused g c =

@@ -9,7 +9,8 @@ use Rattle.codespan_reporting.specs.declared.term.views.entry.Entry.{Entry}
 use Rattle.codespan_reporting.specs.Inner.Entries.{is_of_file}
 use Rattle.codespan_picture.specs.Given.{place_of_given}
 use Rattle.codespan_reporting.specs.Inner.GivenEntries.{entry_of}
-use Rattle.codespan_reporting.specs.Inner.GivenSheets.{numbers_from, placed_snippet}
+use Rattle.codespan_reporting.specs.Inner.GivenSheets.{numbers_from}
+use Rattle.codespan_picture.specs.Placed.{placed_snippet}
 use Rattle.codespan_picture.specs.Lookups.{asked_of, first_refusal, snippet_lookups}
 use Rattle.codespan_renderer.specs.Renderers.{config_of, writer_of}
 use Rattle.codespan_picture.specs.RowStreams.{stream_of_rows}

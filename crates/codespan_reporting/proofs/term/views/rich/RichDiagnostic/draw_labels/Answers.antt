@@ -4,7 +4,8 @@ use Rattle.std.proofs.lemmas.Result.{err_from_is_err_and}
 use Rattle.codespan_base.specs.declared.term.config.Config.{Config}
 use Rattle.codespan_base.specs.declared.diagnostic.Label.{Label}
 use Rattle.codespan_base.specs.Streams.{Stream}
-use Rattle.codespan_reporting.specs.Inner.GivenSheets.{IsPrepared, placed_snippets}
+use Rattle.codespan_reporting.specs.Inner.GivenSheets.{IsPrepared}
+use Rattle.codespan_picture.specs.Placed.{placed_snippets}
 use Rattle.codespan_picture.specs.Given.{place_of_given}
 use Rattle.codespan_picture.specs.Lookups.{early_lookups, first_refusal}
 use Rattle.codespan_picture.specs.Picture.{label_of, labels_of, look_of, notes_of}

@@ -5,7 +5,7 @@ use Rattle.std.proofs.lemmas.Result.{err_from_is_err_and}
 use Rattle.codespan_base.specs.declared.term.config.Config.{Config}
 use Rattle.codespan_picture.specs.Given.{place_of_given}
 use Rattle.codespan_reporting.specs.Inner.GivenEntries.{entry_of}
-use Rattle.codespan_reporting.specs.Inner.GivenSheets.{placed_snippet, placed_snippets}
+use Rattle.codespan_picture.specs.Placed.{placed_snippet, placed_snippets}
 use Rattle.codespan_picture.specs.Lookups.{first_refusal, snippet_lookups}
 use Rattle.codespan_picture.specs.Picture.{labels_of, look_of, notes_of}
 use Rattle.codespan_renderer.specs.Renderers.{config_of}
