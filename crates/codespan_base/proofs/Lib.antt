@@ -12,6 +12,7 @@ pub mod LineRuns
 pub mod Sends
 pub mod Put
 pub mod Loops
+pub mod Chains
 pub mod Repeats
 pub mod Marks
 pub mod Paints

@@ -1,13 +1,52 @@
 -- Bytes that a writer takes by writes, one after another.
-use Rattle.std.proofs.Common.{◌≡◌, ℕ, true, List, [], ◌++◌, take, drop, Option, None, Some, append-nil, append_assoc, refl, sym, ap, ◌∙◌}
+use Rattle.std.proofs.Common.{◌≡◌, ℕ, true, List, [], ◌++◌, take, drop, Option, None, Some, Result, Ok, Err, append-nil, append_assoc, refl, sym, ap, subst, ◌∙◌}
 use Rattle.std.specs.Io.KnownBytes.{Appends, Keeps}
+use Rattle.std.specs.Result.{IsErrAnd}
 use Rattle.std.proofs.lemmas.Bool.{false≢true}
+use Rattle.std.proofs.lemmas.Result.{err_from_is_err_and}
 use Rattle.std.proofs.lemmas.List.{take-append-drop}
 use Rattle.codespan_base.specs.WriterLaw.{tells, gained, GainedPartly}
+use Rattle.codespan_base.specs.ColorLaw.{Paints}
 use Rattle.codespan_base.proofs.HeldBytes.{gained-append, gained-nil, tells-gained, GainedPartly-first, GainedPartly-last, GainedPartly_first_2, GainedPartly_first_3}
 
 -- calls that paint, one after another
 pub ruleset paintings = (gained-append, gained-nil, tells-gained, GainedPartly-first, GainedPartly-last, GainedPartly_first_2, GainedPartly_first_3)
+
+-- ---- calls that paint, each where the one before it succeeded
+
+-- the bytes came
+abbrev pub Painted : Option (List ℕ) → List ℕ → Option (List ℕ) → Type 0
+Painted o bs m = tells o ≡ true → m ≡ gained o bs
+
+-- a beginning of the bytes came
+abbrev pub PaintedPartly : Option (List ℕ) → List ℕ → Option (List ℕ) → Type 0
+PaintedPartly o bs m = tells o ≡ true → GainedPartly o bs m
+
+tells-after : (o m : Option (List ℕ)) (a : List ℕ) → tells o ≡ true → m ≡ gained o a → tells m ≡ true
+tells-after o m a told e = ap tells e ∙ tells-gained o a ∙ told
+
+-- other bytes came after them
+pub painted-then : (o : Option (List ℕ)) (a b : List ℕ) (m k : Option (List ℕ)) → Painted o a m → Painted m b k → Painted o (a ++ b) k
+painted-then o a b m k p q = λ told.
+    let e = p told in q (tells-after o m a told e) ∙ ap (λ (x : Option (List ℕ)). gained x b) e ∙ sym (gained-append o a b)
+
+-- a beginning of the bytes after them came
+pub partly-then : (o : Option (List ℕ)) (a b : List ℕ) (m k : Option (List ℕ)) → Painted o a m → PaintedPartly m b k → PaintedPartly o (a ++ b) k
+partly-then o a b m k p q = λ told.
+    let e = p told in GainedPartly-last o a b k (subst (λ (x : Option (List ℕ)). GainedPartly x b k) e (q (tells-after o m a told e)))
+
+-- none of the bytes after them came
+pub partly-before : (o : Option (List ℕ)) (a b : List ℕ) (k : Option (List ℕ)) → PaintedPartly o a k → PaintedPartly o (a ++ b) k
+partly-before o a b k p = λ told. GainedPartly-first o a k b (p told)
+
+-- the last call answers for all
+pub paints-last : {E : Type 0} (o : Option (List ℕ)) (a b : List ℕ) (m k : Option (List ℕ)) (r : Result (Unit {0}) E) → Painted o a m → Paints m b r k → Paints o (a ++ b) r k
+paints-last o a b m k (Ok x) p q = painted-then o a b m k p q
+paints-last o a b m k (Err x) p q = partly-then o a b m k p q
+
+-- the call that was refused answers for all
+pub paint-refused : {E : Type 0} (Q : E → Type 0) (o : Option (List ℕ)) (a : List ℕ) (k : Option (List ℕ)) (r : Result (Unit {0}) E) → IsErrAnd r Q → PaintedPartly o a k → Paints o a r k
+paint-refused Q o a k r h p = let e = (err_from_is_err_and r h).1 in rw e p
 
 -- ---- the loop over `write`
 

@@ -43,7 +43,6 @@ impl<W: Write> Write for Ansi<W> {
     }
 }
 
-#[tactic(auto, using(crate::proofs::Paints::paintings), unfolding(crate::specs::Ansi::ansi_style))]
 impl<W: Write> WriteColor for Ansi<W> {
     ghost color_bytes = { ansi_style };
 

@@ -89,7 +89,6 @@ fn send_caret_run<W: WriteStyle>(
 }
 
 /// The end of a run of carets of one style, and the mark of the next.
-#[tactic(auto, using(codespan_base::proofs::Sends::sendings))]
 fn end_caret_run<W: WriteStyle>(
     w: &mut W,
     look: Look<'_>,
@@ -134,7 +133,6 @@ fn send_carets<W: WriteStyle>(w: &mut W, look: Look<'_>, line: Line<'_, '_>) -> 
 }
 
 /// A label's message in its style.
-#[tactic(auto, using(codespan_base::proofs::Sends::sendings), unfolding(codespan_picture::specs::RowParts::label_message))]
 pub fn send_message<W: WriteStyle>(
     w: &mut W,
     severity: Severity,
@@ -166,7 +164,6 @@ fn send_trailing<W: WriteStyle>(
 }
 
 /// The carets under a line, and the message that trails them.
-#[tactic(auto, using(codespan_base::proofs::Sends::sendings), unfolding(codespan_picture::specs::RowStreams::caret_row))]
 pub fn send_caret_row<W: WriteStyle>(
     w: &mut W,
     look: Look<'_>,

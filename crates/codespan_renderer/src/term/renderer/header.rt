@@ -59,7 +59,6 @@ fn send_bracketed<W: WriteStyle>(w: &mut W, code: Option<&str>) -> io::Result<()
 }
 
 /// A header up to its message.
-#[tactic(auto, using(codespan_base::proofs::Sends::sendings))]
 fn send_heading<W: WriteStyle>(
     w: &mut W,
     locus: Option<&Locus>,
@@ -75,7 +74,6 @@ fn send_heading<W: WriteStyle>(
 }
 
 /// The header of a diagnostic.
-#[tactic(auto, using(codespan_base::proofs::Sends::sendings), unfolding(codespan_picture::specs::RowStreams::header_row))]
 pub fn send_header<W: WriteStyle>(
     w: &mut W,
     locus: Option<&Locus>,
@@ -104,7 +102,6 @@ fn start_text<'a>(chars: &'a Chars<'_>) -> &'a str
 }
 
 /// The start of a file's snippet.
-#[tactic(auto, using(codespan_base::proofs::Sends::sendings), unfolding(codespan_picture::specs::RowStreams::start_row))]
 pub fn send_start<W: WriteStyle>(
     w: &mut W,
     chars: &Chars<'_>,

@@ -125,7 +125,6 @@ fn send_filling<W: WriteStyle>(
 }
 
 /// The two characters of a lane that is no gap: what fills it, and its own character.
-#[tactic(auto, using(codespan_base::proofs::Sends::sendings))]
 fn send_filled<W: WriteStyle>(
     w: &mut W,
     look: Look<'_>,

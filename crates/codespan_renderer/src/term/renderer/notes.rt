@@ -17,7 +17,6 @@ use codespan_base::term::{Chars, WriteStyle};
 use std::io;
 
 /// A row of a snippet without text.
-#[tactic(auto, using(codespan_base::proofs::Sends::sendings, crate::proofs::RowWords::lanes_are), unfolding(codespan_picture::specs::RowStreams::empty_row))]
 pub fn send_empty<W: WriteStyle>(w: &mut W, look: Look<'_>, lanes: Lanes<'_, '_>) -> io::Result<()>
     ensures { Sends (W.sink w.old) (empty_row (look_of_given look.entry) (lanes_of_given lanes.entry) ++ newline) result (W.sink w.new) }
 {
@@ -28,7 +27,6 @@ pub fn send_empty<W: WriteStyle>(w: &mut W, look: Look<'_>, lanes: Lanes<'_, '_>
 }
 
 /// The row of a break.
-#[tactic(auto, using(codespan_base::proofs::Sends::sendings, crate::proofs::RowWords::lanes_are), unfolding(codespan_picture::specs::RowStreams::break_row))]
 pub fn send_break<W: WriteStyle>(w: &mut W, look: Look<'_>, lanes: Lanes<'_, '_>) -> io::Result<()>
     ensures { Sends (W.sink w.old) (break_row (look_of_given look.entry) (lanes_of_given lanes.entry) ++ newline) result (W.sink w.new) }
 {
@@ -39,7 +37,6 @@ pub fn send_break<W: WriteStyle>(w: &mut W, look: Look<'_>, lanes: Lanes<'_, '_>
 }
 
 /// The first row of a note.
-#[tactic(auto, using(codespan_base::proofs::Sends::sendings), unfolding(codespan_picture::specs::RowStreams::first_note_row))]
 fn send_first_piece<W: WriteStyle>(
     w: &mut W,
     chars: &Chars<'_>,
@@ -58,7 +55,6 @@ fn send_first_piece<W: WriteStyle>(
 }
 
 /// A later row of a note.
-#[tactic(auto, using(codespan_base::proofs::Sends::sendings), unfolding(codespan_picture::specs::RowStreams::later_note_row))]
 fn send_later_piece<W: WriteStyle>(w: &mut W, padding: usize, piece: &str) -> io::Result<()>
     ensures { Sends (W.sink w.old) (later_note_row padding piece.now ++ newline) result (W.sink w.new) }
 {

@@ -55,7 +55,6 @@ pub fn count_digits(number: usize) -> usize
 }
 
 /// A line number, right in its places, or in full where it is longer.
-#[tactic(auto, using(codespan_base::proofs::Sends::sendings), unfolding(codespan_picture::specs::RowParts::numbered_gutter))]
 pub fn send_numbered_gutter<W: WriteStyle>(
     w: &mut W,
     padding: usize,
@@ -71,7 +70,6 @@ pub fn send_numbered_gutter<W: WriteStyle>(
 }
 
 /// The border left of the source.
-#[tactic(auto, using(codespan_base::proofs::Sends::sendings), unfolding(codespan_picture::specs::RowParts::border))]
 pub fn send_border<W: WriteStyle>(w: &mut W, chars: &Chars<'_>) -> io::Result<()>
     ensures { Sends (W.sink w.old) (border chars.now) result (W.sink w.new) }
 {
@@ -81,7 +79,6 @@ pub fn send_border<W: WriteStyle>(w: &mut W, chars: &Chars<'_>) -> io::Result<()
 }
 
 /// The border where lines are left out.
-#[tactic(auto, using(codespan_base::proofs::Sends::sendings), unfolding(codespan_picture::specs::RowParts::break_border))]
 pub fn send_break_border<W: WriteStyle>(w: &mut W, chars: &Chars<'_>) -> io::Result<()>
     ensures { Sends (W.sink w.old) (break_border chars.now) result (W.sink w.new) }
 {
@@ -91,7 +88,6 @@ pub fn send_break_border<W: WriteStyle>(w: &mut W, chars: &Chars<'_>) -> io::Res
 }
 
 /// One character in a label's style.
-#[tactic(auto, using(codespan_base::proofs::Sends::sendings), unfolding(codespan_picture::specs::Lanes::label_glyph))]
 pub fn send_label_glyph<W: WriteStyle>(
     w: &mut W,
     severity: Severity,
@@ -125,7 +121,6 @@ pub fn send_change<W: WriteStyle>(
 }
 
 /// Where a snippet is: name, line number and column number.
-#[tactic(auto, using(codespan_base::proofs::Sends::sendings), unfolding(codespan_picture::specs::RowParts::locus))]
 pub fn send_locus<W: WriteStyle>(w: &mut W, at: &Locus) -> io::Result<()>
     ensures { Sends (W.sink w.old) (locus (place_of_given at.now)) result (W.sink w.new) }
 {
@@ -137,7 +132,6 @@ pub fn send_locus<W: WriteStyle>(w: &mut W, at: &Locus) -> io::Result<()>
 }
 
 /// The beginning of each row under a line.
-#[tactic(auto, using(codespan_base::proofs::Sends::sendings, crate::proofs::RowWords::lanes_are), unfolding(codespan_picture::specs::RowStreams::opening))]
 pub fn send_opening<W: WriteStyle>(w: &mut W, look: Look<'_>, line: Line<'_, '_>) -> io::Result<()>
     ensures { Sends (W.sink w.old) (opening (look_of_given look.entry) (line_of_given line.entry)) result (W.sink w.new) }
 {

@@ -80,7 +80,6 @@ fn pointer_in(
 }
 
 /// The blanks before a pointer, and the pointer.
-#[tactic(auto, using(codespan_base::proofs::Sends::sendings))]
 fn send_pointer<W: WriteStyle>(
     w: &mut W,
     look: Look<'_>,
@@ -140,7 +139,6 @@ fn send_pointer_row<W: WriteStyle>(
 }
 
 /// A message under its pointer.
-#[tactic(auto, using(codespan_base::proofs::Sends::sendings), unfolding(codespan_picture::specs::RowStreams::hanging_row))]
 fn send_hanging_row<W: WriteStyle>(
     w: &mut W,
     look: Look<'_>,
@@ -178,7 +176,6 @@ fn send_hanging_rows<W: WriteStyle>(
 }
 
 /// The pointers, and a row for each message that hangs.
-#[tactic(auto, using(codespan_base::proofs::Sends::sendings))]
 fn send_pointers_and_messages<W: WriteStyle>(
     w: &mut W,
     look: Look<'_>,

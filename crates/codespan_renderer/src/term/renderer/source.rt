@@ -106,7 +106,6 @@ fn send_coloured_text<W: WriteStyle>(
 }
 
 /// The end of a run of text of one style, and the mark of the next.
-#[tactic(auto, using(codespan_base::proofs::Sends::sendings))]
 fn end_text_run<W: WriteStyle>(
     w: &mut W,
     look: Look<'_>,
@@ -121,7 +120,6 @@ fn end_text_run<W: WriteStyle>(
 }
 
 /// The end of a run of text before a tab, and the tab's blanks.
-#[tactic(auto, using(codespan_base::proofs::Sends::sendings))]
 fn send_tab<W: WriteStyle>(
     w: &mut W,
     look: Look<'_>,
@@ -137,7 +135,6 @@ fn send_tab<W: WriteStyle>(
 }
 
 /// The number of a line, its border, its lanes, and one blank.
-#[tactic(auto, using(codespan_base::proofs::Sends::sendings, crate::proofs::RowWords::lanes_are))]
 fn send_source_lanes<W: WriteStyle>(w: &mut W, look: Look<'_>, line: Line<'_, '_>) -> io::Result<()>
     ensures { Sends (W.sink w.old) (numbered_gutter look.entry.padding line.entry.number ++ border look.entry.chars.now ++ source_lanes (look_of_given look.entry) (leading_of (line_of_given line.entry)) (lanes_of_given line.entry.lanes) ++ space) result (W.sink w.new) }
 {
@@ -148,7 +145,6 @@ fn send_source_lanes<W: WriteStyle>(w: &mut W, look: Look<'_>, line: Line<'_, '_
 }
 
 /// A line of the source.
-#[tactic(auto, using(codespan_base::proofs::Sends::sendings), unfolding(codespan_picture::specs::RowStreams::source_row))]
 fn send_source_row<W: WriteStyle>(w: &mut W, look: Look<'_>, line: Line<'_, '_>) -> io::Result<()>
     ensures { Sends (W.sink w.old) (source_row (look_of_given look.entry) (line_of_given line.entry) ++ newline) result (W.sink w.new) }
 {

@@ -111,7 +111,6 @@ fn send_underline<W: WriteStyle>(
 }
 
 /// The beginning of an underline row: up to its lanes.
-#[tactic(auto, using(codespan_base::proofs::Sends::sendings, crate::proofs::Underlines::underline_lanes_are))]
 fn send_underline_lanes<W: WriteStyle>(
     w: &mut W,
     look: Look<'_>,
@@ -133,7 +132,6 @@ fn send_underline_lanes<W: WriteStyle>(
 }
 
 /// The underline of a mark.
-#[tactic(auto, using(codespan_base::proofs::Sends::sendings), unfolding(codespan_picture::specs::RowStreams::underline_row))]
 fn send_underline_row<W: WriteStyle>(
     w: &mut W,
     look: Look<'_>,

@@ -1,0 +1,23 @@
+use Rattle.codespan_base.proofs.Chains.{came-then, stopped-then, stopped-before, refused, sends-last}
+use Rattle.codespan_picture.specs.RowStreams.{underline_row}
+use Rattle.codespan_renderer.proofs.term.renderer.underlines.send_underline_row.Goals as goal
+
+pub returns-in_err-send_underline_lanes : goal.returns-in_err-send_underline_lanes
+unfolding underline_row
+returns-in_err-send_underline_lanes g c = refused _ _ _ _ _ c.from_residual.ensures.1 (stopped-before _ (stopped-before _ (stopped-before _ (stopped-before _ c.in_err-send_underline_lanes.ensures))))
+
+pub returns-in_err-set_label : goal.returns-in_err-set_label
+unfolding underline_row
+returns-in_err-set_label g c = refused _ _ _ _ _ c.from_residual-in_err-set_label.ensures.1 (stopped-before _ (stopped-before _ (stopped-before _ (stopped-then _ c.in_ok-send_underline_lanes.ensures c.in_err-set_label.ensures))))
+
+pub returns-in_err-send_underline : goal.returns-in_err-send_underline
+unfolding underline_row
+returns-in_err-send_underline g c = refused _ _ _ _ _ c.from_residual-in_err-send_underline.ensures.1 (stopped-before _ (stopped-before _ (stopped-then _ (came-then _ _ _ c.in_ok-send_underline_lanes.ensures c.in_ok-set_label.ensures) c.in_err-send_underline.ensures)))
+
+pub returns-in_err-reset : goal.returns-in_err-reset
+unfolding underline_row
+returns-in_err-reset g c = refused _ _ _ _ _ c.from_residual-in_err-reset.ensures.1 (stopped-before _ (stopped-then _ (came-then _ _ _ (came-then _ _ _ c.in_ok-send_underline_lanes.ensures c.in_ok-set_label.ensures) c.in_ok-send_underline.ensures) c.in_err-reset.ensures))
+
+pub returns : goal.returns
+unfolding underline_row
+returns g c = sends-last _ _ _ _ _ (came-then _ _ _ (came-then _ _ _ (came-then _ _ _ c.in_ok-send_underline_lanes.ensures c.in_ok-set_label.ensures) c.in_ok-send_underline.ensures) c.in_ok-reset.ensures) c.send_newline.ensures
