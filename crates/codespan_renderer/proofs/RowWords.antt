@@ -13,7 +13,8 @@ use Rattle.codespan_renderer.specs.declared.term.renderer.lanes.LaneRow.TheVaria
 use Rattle.codespan_picture.specs.Given.{GivenLabel, all_labelled}
 use Rattle.codespan_renderer.specs.Inner.GivenLine.{given_lanes}
 use Rattle.codespan_picture.specs.Rows.{Look, Lanes, Line, Row, SourceRow, caret_rows, hanging, hanging_rows, underline_rows, rows_of}
-use Rattle.codespan_picture.specs.RowStreams.{caret_row, source_row, stream_of, stream_of_rows}
+use Rattle.codespan_picture.specs.RowStreams.{bracketed, caret_row, source_row, stream_of, stream_of_rows}
+use Rattle.std.specs.Prelude.{codes}
 use Rattle.std.specs.Str.{IsUtf8}
 use Rattle.codespan_picture.specs.declared.cells.Cell.{Cell}
 use Rattle.codespan_picture.specs.Cells.{cells}
@@ -39,6 +40,12 @@ unfolding given_lanes below_lanes
 below_lanes_are look leading lanes = refl
 
 pub ruleset lanes_are = (source_lanes_are, plain_lanes_are, below_lanes_are)
+
+-- a code that is not empty stands in brackets
+pub bracketed-some : (code : List ℕ) → 0 < length code → bracketed (Some code) ≡ bytes (codes "[") ++ bytes code ++ bytes (codes "]")
+unfolding bracketed
+bracketed-some [] h = absurd (omega arith)
+bracketed-some (b ∷ bs) h = refl
 
 -- ---- digits
 

@@ -269,7 +269,6 @@ impl<W: WriteStyle> Write for Renderer<'_, '_, W> {
     }
 }
 
-#[tactic(auto, using(crate::proofs::Passing::passing))]
 impl<W: WriteStyle> WriteStyle for Renderer<'_, '_, W> {
     ghost use Rattle.codespan_renderer.specs.Renderers.{writer_of, renderer_sink};
 

@@ -105,7 +105,6 @@ fn corner_line(chars: &Chars<'_>, part: MultiLabel<'_>) -> char
 }
 
 /// A lane's part before its own character: blanks, or the line of a corner that stands to the left.
-#[tactic(auto, using(codespan_base::proofs::Sends::sendings), unfolding(codespan_picture::specs::Lanes::filling))]
 fn send_filling<W: WriteStyle>(
     w: &mut W,
     look: Look<'_>,

@@ -123,7 +123,6 @@ fn send_pointers<W: WriteStyle>(
 }
 
 /// The pointers under a line.
-#[tactic(auto, using(codespan_base::proofs::Sends::sendings, crate::proofs::RowWords::all_before), unfolding(codespan_picture::specs::RowStreams::pointer_row))]
 fn send_pointer_row<W: WriteStyle>(
     w: &mut W,
     look: Look<'_>,
