@@ -18,6 +18,7 @@ pub mod LabelsGathered
 pub mod Askings
 pub mod MarkOrder
 pub mod StepStreams
+pub mod StyleCalls
 pub mod GroupSteps
 pub mod GivenSteps
 pub mod SnippetParts
