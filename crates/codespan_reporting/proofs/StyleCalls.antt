@@ -34,16 +34,16 @@ module _ {Id : Type 0} (same : Id → Id → Bool) (file : Id → FileModel) (co
 
     -- the short view, with the notes or without them
     pub short_drawn : (notes : Bool) (view : DisplayStyle) → view ≡ style_with_notes notes → style ≡ style_with_notes notes
-        → DrawsShort k k same file refusal e view s r u → DrawsTo config same file refusal d style t r w
+        → DrawsShort k same file refusal e view s r u → DrawsTo config same file refusal d style t r w
     short_drawn notes view views is draws =
         subst (λ (y : DisplayStyle). DrawsTo config same file refusal d y t r w) (sym is)
         (by notes
-        (subst (λ (y : Config). DrawsShort y y same file refusal d (style_with_notes notes) t r w) configs
-        (subst (λ (y : Diagnostic Id). DrawsShort k k same file refusal y (style_with_notes notes) t r w) diagnostics
-        (subst (λ (y : DisplayStyle). DrawsShort k k same file refusal e y t r w) views
-        (subst (λ (y : Sink). DrawsShort k k same file refusal e view y r w) before
-        (subst (λ (y : Sink). DrawsShort k k same file refusal e view s r y) after draws))))))
+        (subst (λ (y : Config). DrawsShort y same file refusal d (style_with_notes notes) t r w) configs
+        (subst (λ (y : Diagnostic Id). DrawsShort k same file refusal y (style_with_notes notes) t r w) diagnostics
+        (subst (λ (y : DisplayStyle). DrawsShort k same file refusal e y t r w) views
+        (subst (λ (y : Sink). DrawsShort k same file refusal e view y r w) before
+        (subst (λ (y : Sink). DrawsShort k same file refusal e view s r y) after draws))))))
       where
-        by : (b : Bool) → DrawsShort config config same file refusal d (style_with_notes b) t r w → DrawsTo config same file refusal d (style_with_notes b) t r w
+        by : (b : Bool) → DrawsShort config same file refusal d (style_with_notes b) t r w → DrawsTo config same file refusal d (style_with_notes b) t r w
         by true drawn = drawn
         by false drawn = drawn

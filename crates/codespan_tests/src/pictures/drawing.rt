@@ -3,8 +3,8 @@
 use codespan_reporting::diagnostic::{Diagnostic, Label, LabelStyle, Severity};
 use codespan_reporting::files::{Error, Files, SimpleFiles};
 use codespan_reporting::term::{
-    Ansi, Config, NoColor, PlainWriter, Renderer, RichDiagnostic, Styles, StylesWriter, emit,
-    emit_into_string, emit_to_io_write, emit_to_string, emit_to_write_style,
+    Ansi, Config, NoColor, PlainWriter, Renderer, RichDiagnostic, Styles, StylesWriter, WriteStyle,
+    emit, emit_into_string, emit_to_io_write, emit_to_string, emit_to_write_style,
 };
 use std::alloc::Global;
 use std::ops::Range;
@@ -145,7 +145,7 @@ fn assert_text(rt: &impl Abort, text: Vec<u8>, drawing: &Drawing<'_>) {
     }
 }
 
-/// Draws a diagnostic, plain, by a renderer with a configuration of its own.
+/// Draws a diagnostic by a renderer with a configuration of its own.
 pub fn assert_drawn_by(
     rt: &impl Abort,
     alloc: Global,
@@ -154,11 +154,8 @@ pub fn assert_drawn_by(
 ) -> Result<(), Error> {
     let files = files_of(alloc, drawing.files)?;
     let diagnostic = diagnostic_of(alloc, &drawing)?;
-    let mut plain = PlainWriter::new(Vec::new(alloc));
-    let mut renderer = Renderer::new(&mut plain, renderer_config);
-    RichDiagnostic::new(&diagnostic, &drawing.config).render(&files, &mut renderer)?;
-    assert_text(rt, plain.into_inner(), &drawing);
-    Ok(())
+    let view = RichDiagnostic::new(&diagnostic, &drawing.config);
+    assert_view_writes(rt, alloc, renderer_config, view, &files, drawing.picture)?
 }
 
 /// Draws a diagnostic in colour.
@@ -174,15 +171,40 @@ pub fn assert_coloured(rt: &impl Abort, alloc: Global, drawing: Drawing<'_>) -> 
     Ok(())
 }
 
-/// What the view writes, and what it answers.
-pub fn draw_to<'files, F: Files<'files>>(
+/// A view writes this text: plain, in no colours, and by escape sequences, once they are taken out. What it answers.
+pub fn assert_view_writes<'files, F: Files<'files>>(
+    rt: &impl Abort,
     alloc: Global,
     config: &Config<'_>,
+    view: RichDiagnostic<'_, '_, F::FileId>,
     files: &'files F,
-    diagnostic: &Diagnostic<F::FileId>,
-) -> (Vec<u8>, Result<(), Error>) {
+    text: &str,
+) -> Result<Result<(), Error>, Error> {
+    let styles = Styles::default();
     let mut plain = PlainWriter::new(Vec::new(alloc));
-    let mut renderer = Renderer::new(&mut plain, config);
-    let answer = RichDiagnostic::new(diagnostic, config).render(files, &mut renderer);
-    (plain.into_inner(), answer)
+    let answer = draw_view(&mut plain, config, view, files);
+    assert_eq!(rt; plain.into_inner().as_slice(), text.as_bytes());
+    let mut bytes = Vec::new(alloc);
+    let mut colourless = StylesWriter::new(NoColor::new(&mut bytes), &styles);
+    let _answer = draw_view(&mut colourless, config, view, files);
+    assert_eq!(rt; bytes.as_slice(), text.as_bytes());
+    let mut bytes = Vec::new(alloc);
+    let mut coloured = StylesWriter::new(Ansi::new(&mut bytes), &styles);
+    let _answer = draw_view(&mut coloured, config, view, files);
+    assert_eq!(rt;
+        without_sequences(alloc, bytes.as_slice())?.as_slice(),
+        text.as_bytes()
+    );
+    Ok(answer)
+}
+
+/// Draws a view to a writer, by a renderer with this configuration.
+fn draw_view<'files, F: Files<'files>, W: WriteStyle>(
+    writer: &mut W,
+    config: &Config<'_>,
+    view: RichDiagnostic<'_, '_, F::FileId>,
+    files: &'files F,
+) -> Result<(), Error> {
+    let mut renderer = Renderer::new(writer, config);
+    view.render(files, &mut renderer)
 }

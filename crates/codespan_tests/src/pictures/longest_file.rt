@@ -2,10 +2,10 @@
 
 ghost use Rattle.std.specs.Prelude.{refl};
 
-use crate::pictures::drawing::draw_to;
+use crate::pictures::drawing::assert_view_writes;
 use codespan_reporting::diagnostic::{Diagnostic, Label};
 use codespan_reporting::files::{Error, Files, Location};
-use codespan_reporting::term::{Config, Layout};
+use codespan_reporting::term::{Config, Layout, RichDiagnostic};
 use std::ops::Range;
 use std::test::Fail;
 
@@ -90,9 +90,9 @@ fn context_past_all_indices(rt: HostRuntime) -> Result<(), Fail> {
                 layout,
                 ..Config::default()
             };
-            let (text, answer) = draw_to(alloc, &config, &files, &diagnostic);
+            let view = RichDiagnostic::new(&diagnostic, &config);
+            let answer = assert_view_writes(&rt, alloc, &config, view, &files, "error: \n")?;
             assert!(rt; matches!(answer, Err(Error::FileMissing)));
-            assert_eq!(rt; text.as_slice(), "error: \n".as_bytes());
         }
     }
     Ok(())

@@ -1,6 +1,6 @@
 //! Pictures that are refused.
 
-use crate::pictures::drawing::draw_to;
+use crate::pictures::drawing::assert_view_writes;
 use crate::pictures::listing::{Listing, Refused};
 use codespan_reporting::diagnostic::{Diagnostic, Label};
 use codespan_reporting::files::{Error, Files, SimpleFile};
@@ -91,9 +91,9 @@ fn refused_lookups(rt: HostRuntime) -> Result<(), Fail> {
     for (asked, held) in cases {
         let refused = asked.refused_beside(Refused::default());
         let files = Listing::new(alloc, "f", "ab", refused)?;
-        let (text, answer) = draw_to(alloc, &config, &files, &diagnostic);
+        let view = RichDiagnostic::new(&diagnostic, &config);
+        let answer = assert_view_writes(&rt, alloc, &config, view, &files, held)?;
         assert!(rt; asked.is_told(&answer));
-        assert_eq!(rt; text.as_slice(), held.as_bytes());
         let answer = emit_into_string(&config, &files, &diagnostic).map(|_| ());
         assert!(rt; asked.is_told(&answer));
     }
@@ -163,10 +163,10 @@ fn first_refusal(rt: HostRuntime) -> Result<(), Fail> {
             let next = order.get(place + 1).unwrap_or(first);
             let refused = first.refused_beside(next.refused_beside(Refused::default()));
             let files = Listing::new(alloc, "f", "a\nb\nc\nd\ne\nf\ng\nh\ni", refused)?;
-            let (text, answer) = draw_to(alloc, &config, &files, &diagnostic);
-            assert!(rt; first.is_told(&answer), "{place}");
+            let view = RichDiagnostic::new(&diagnostic, &config);
             let held = written_before(*first, layout);
-            assert_eq!(rt; text.as_slice(), held.as_bytes(), "{place}");
+            let answer = assert_view_writes(&rt, alloc, &config, view, &files, held)?;
+            assert!(rt; first.is_told(&answer), "{place}");
         }
     }
     Ok(())
@@ -191,9 +191,9 @@ fn refused_number_of_filled_line(rt: HostRuntime) -> Result<(), Fail> {
             layout,
             ..Config::default()
         };
-        let (text, answer) = draw_to(alloc, &config, &files, &diagnostic);
+        let view = RichDiagnostic::new(&diagnostic, &config);
+        let answer = assert_view_writes(&rt, alloc, &config, view, &files, held)?;
         assert!(rt; asked.is_told(&answer));
-        assert_eq!(rt; text.as_slice(), held.as_bytes());
     }
     Ok(())
 }
@@ -219,9 +219,9 @@ fn unprintable_name(rt: HostRuntime) -> Result<(), Fail> {
         0..1,
     ))?;
     let config = Config::default();
-    let (text, answer) = draw_to(rt.alloc(), &config, &files, &diagnostic);
+    let view = RichDiagnostic::new(&diagnostic, &config);
+    let answer = assert_view_writes(&rt, rt.alloc(), &config, view, &files, "")?;
     assert!(rt; matches!(answer, Err(Error::FormatError)));
-    assert_eq!(rt; text.as_slice(), b"".as_slice());
     let answer = emit_into_string(&config, &files, &diagnostic);
     assert!(rt; matches!(answer, Err(Error::FormatError)));
     Ok(())

@@ -1,5 +1,6 @@
+use Rattle.std.proofs.Common.{rules}
 use Rattle.codespan_renderer.proofs.Passing.{sends_behind}
 use Rattle.codespan_renderer.proofs.term.renderer.RendererWriteStyle.set_note_bullet.Goals as goal
 
 pub returns : goal.returns
-returns g c = sends_behind _ _ _ _ _ c.set_note_bullet.ensures
+returns g c = sends_behind _ _ _ _ _ (search rules)
