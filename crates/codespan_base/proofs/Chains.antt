@@ -14,7 +14,8 @@ Came s items t = (t.frame ≡ s.frame) × (is_told s ≡ true → t ≡ sent s i
 abbrev pub Stopped : Sink → Stream → Sink → Type 0
 Stopped s items t = (t.frame ≡ refusing s.frame) × (is_told s ≡ true → Began s items t)
 
-told-after : (s t : Sink) (a : Stream) → is_told s ≡ true → t ≡ sent s a → is_told t ≡ true
+-- a writer that tells its bytes goes on telling them
+pub told-after : (s t : Sink) (a : Stream) → is_told s ≡ true → t ≡ sent s a → is_told t ≡ true
 told-after s t a told e = ap is_told e ∙ is_told-sent s a ∙ told
 
 -- another stream came after it

@@ -12,7 +12,7 @@ use Rattle.codespan_base.specs.WriterLaw.{Sink, Sends, Began}
 use Rattle.codespan_base.proofs.Sends.{sent-nil, Began-first, Began-last}
 use Rattle.codespan_reporting.specs.Inner.Asking.{Stopped, EndedAsking, SendsAsking}
 use Rattle.codespan_picture.specs.Lookups.{Refusals, asked_of, first_refusal}
-use Rattle.codespan_reporting.proofs.Chains.{told_after, came_both, came_then_stopped, stopped_before}
+use Rattle.codespan_base.proofs.Chains.{came-then, stopped-before, stopped-then, told-after}
 use Rattle.codespan_reporting.proofs.Drawing.{Began-none}
 
 -- ---- refusals, one after another
@@ -93,13 +93,13 @@ asking_no_memory o s a e is = asking_refused o s a e (λ other. absurd (other is
 pub asking_then : (o p : Option Error) (s t u : Sink) (a b : Stream) (x : Unit {0}) (r : Result (Unit {0}) Error)
     → SendsAsking o s a (Ok x) t → SendsAsking p t b r u → SendsAsking (or_refusal o p) s (a ++ b) r u
 asking_then o p s t u a b x (Ok y) first second =
-    (or_refusal-answered o p first.0 ∙ second.0, came_both s t u a b first.1 second.1)
+    (or_refusal-answered o p first.0 ∙ second.0, came-then s a b first.1 second.1)
 asking_then o p s t u a b x (Err e) first second =
     ⊎_elim
-    (λ (w : IsIo e × Stopped t b u). inl (w.0, came_then_stopped s t u a b first.1 w.1))
+    (λ (w : IsIo e × Stopped t b u). inl (w.0, stopped-then a first.1 w.1))
     (λ (w : EndedAsking p t b e u). inr (record {
       frame = w.frame ∙ first.1.0;
-      begun = λ tells. Began-last s a b u (subst (λ (y : Sink). Began y b u) (first.1.1 tells) (w.begun (told_after s t a first.1 tells)));
+      begun = λ tells. Began-last s a b u (subst (λ (y : Sink). Began y b u) (first.1.1 tells) (w.begun (told-after s t a tells (first.1.1 tells))));
       told = λ m. or_refusal-answered o p first.0 ∙ w.told m;
     }))
     second
@@ -108,7 +108,7 @@ asking_then o p s t u a b x (Err e) first second =
 pub asking_cut : (o p : Option Error) (s t : Sink) (a b : Stream) (e : Error) → SendsAsking o s a (Err e) t → SendsAsking (or_refusal o p) s (a ++ b) (Err e) t
 asking_cut o p s t a b e part =
     ⊎_elim
-    (λ (w : IsIo e × Stopped s a t). inl (w.0, stopped_before s t a b w.1))
+    (λ (w : IsIo e × Stopped s a t). inl (w.0, stopped-before b w.1))
     (λ (w : EndedAsking o s a e t). inr (record {
       frame = w.frame;
       begun = λ tells. Began-first s a t b (w.begun tells);

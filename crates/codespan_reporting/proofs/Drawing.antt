@@ -19,7 +19,7 @@ use Rattle.codespan_picture.specs.Lookups.{Refusals, early_lookups, late_lookups
 use Rattle.codespan_reporting.specs.Headline.{DrawsRich, ForSomeNames, NamesAreStated, drawn_picture}
 use Rattle.codespan_reporting.specs.Inner.Asking.{Came}
 use Rattle.codespan_laws.proofs.PlacedPictures.{placed-named}
-use Rattle.codespan_reporting.proofs.Chains.{came_both, came_then_stopped}
+use Rattle.codespan_base.proofs.Chains.{came-then, stopped-then}
 use Rattle.codespan_reporting.proofs.Refusals.{first_refusal-some, first_refusal-none, all_answered, some_refused}
 
 -- nothing came, which is a beginning of everything
@@ -109,9 +109,9 @@ module _ {Id : Type 0} (renderer view : Config) (same : Id → Id → Bool) (fil
       → (places : List Place) → ArePlaces same file d Rich places → placed_picture renderer view same file d Rich places ≡ first ++ rest
       → DrawsRich renderer view same file refusal d old r new
   finished old mid new first rest (Ok x) answered_early answered_late came sends io places are is =
-      let both = came_both old mid new first rest came sends in
+      let both = came-then old first rest came sends in
       drawn old new answered_early answered_late both.0 (λ told. record { places = places; are = are; holds = both.1 told ∙ ap (sent old) (sym is) })
   finished old mid new first rest (Err e) answered_early answered_late came sends io places are is =
-      let stopped = came_then_stopped old mid new first rest came sends in
+      let stopped = stopped-then first came sends in
       refused_by_writer old new e answered_early stopped.0 io
       (λ named told. subst (λ (s : Stream). Began old s new) (sym is ∙ placed-named same file d renderer view named Rich places are) (stopped.1 told))

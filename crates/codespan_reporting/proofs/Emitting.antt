@@ -1,5 +1,5 @@
 -- Emitting a picture as a text.
-use Rattle.std.proofs.Common.{◌≡◌, ◌≢◌, ◌⊎◌, ℕ, Bool, true, false, List, [], ◌∷◌, Option, Some, Ok, Err, Result, ⊎_elim, inl, inr, refl, sym, subst, ap, ◌∙◌}
+use Rattle.std.proofs.Common.{◌≡◌, ◌≢◌, ℕ, Bool, true, false, List, [], ◌∷◌, Option, Some, Ok, Err, Result, ⊎_elim, inl, inr, refl, sym, subst, ap, ◌∙◌}
 use Rattle.std.proofs.lemmas.Bool.{true≢false}
 use Rattle.std.specs.Borrow.{GName}
 use Rattle.codespan_base.specs.declared.term.config.DisplayStyle.{DisplayStyle}
@@ -7,15 +7,13 @@ use Rattle.codespan_base.specs.declared.term.config.DisplayStyle.TheVariants.{Ri
 use Rattle.codespan_base.specs.declared.term.config.Config.{Config}
 use Rattle.codespan_base.specs.declared.diagnostic.Diagnostic.{Diagnostic}
 use Rattle.codespan_base.specs.declared.files.error.Error.{Error}
-use Rattle.codespan_base.specs.declared.files.error.Error.TheVariants.{FormatError}
 use Rattle.codespan_base.specs.Errors.{IsIo}
 use Rattle.std.specs.Str.{IsUtf8}
 use Rattle.codespan_base.specs.FileModel.{FileModel, IsLawful, Lookup}
 use Rattle.codespan_base.specs.Streams.{Stream, Spelling, spelled, text_of, no_marks}
 use Rattle.codespan_base.specs.WriterLaw.{Frame, Sink, refusing, sent, is_told, tells, gained, Began, GainedPartly}
 use Rattle.codespan_base.specs.Writers.{fresh_sink}
-use Rattle.codespan_picture.specs.Lookups.{Refusals, lookups_in, IsSomeRefused, early_lookups, late_lookups, first_refusal, headers_before_refusal}
-use Rattle.codespan_picture.specs.Picture.{labels_of}
+use Rattle.codespan_picture.specs.Lookups.{Refusals, lookups_in, headers_before_refusal}
 use Rattle.codespan_laws.specs.Meanings.{MeansLabels}
 use Rattle.codespan_laws.specs.TextLaws.{AreCharacters}
 use Rattle.codespan_laws.proofs.PictureTexts.{text-placed_picture}

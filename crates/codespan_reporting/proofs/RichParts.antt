@@ -1,5 +1,5 @@
 -- A rich picture, drawn part by part: its header, its snippets, and its notes.
-use Rattle.std.proofs.Common.{◌≡◌, ℕ, ◌<◌, Bool, true, List, [], ◌∷◌, ◌++◌, length, map, None, Result, Ok, Err, ⊎_elim, refl, sym, subst, ap, ◌∙◌, arith}
+use Rattle.std.proofs.Common.{◌≡◌, ◌<◌, Bool, true, List, [], ◌∷◌, ◌++◌, length, map, None, Result, Ok, Err, ⊎_elim, refl, sym, subst, ap, ◌∙◌, arith}
 use Rattle.std.specs.Prelude.{IfErr}
 use Rattle.std.specs.List.{AllZip}
 use Rattle.std.proofs.lemmas.Grind.{flat_map-append}
@@ -26,7 +26,8 @@ use Rattle.codespan_picture.specs.Rows.{BlankRow, HeaderRow, Look, Place, Row}
 use Rattle.codespan_picture.specs.RowStreams.{header_row, stream_of, stream_of_rows}
 use Rattle.codespan_picture.specs.Snippets.{InFile, has_any, labelled_files, note_rows}
 use Rattle.codespan_laws.proofs.PlacedPictures.{placed-named}
-use Rattle.codespan_reporting.proofs.Chains.{came_both, came_then_stopped, stopped_before, told_after, Began-as}
+use Rattle.codespan_base.proofs.Chains.{came-then, stopped-before, stopped-then, told-after}
+use Rattle.codespan_reporting.proofs.Chains.{Began-as}
 use Rattle.codespan_reporting.proofs.Drawing.{finished, refused_by_writer, refused_late}
 use Rattle.codespan_reporting.proofs.NoteRows.{whole_of_notes}
 
@@ -94,14 +95,14 @@ module _ {Id : Type 0} (renderer view : Config) (same : Id → Id → Bool) (fil
   pub stopped-in_header : (old new : Sink) (e : Error) → Sends old header (Err e) new → IsIo e → DrawsRich renderer view same file refusal d old (Err e) new
   stopped-in_header old new e sends io =
       refused_by_writer renderer view same file refusal d old new e early sends.0 io
-      (λ named told. Began-as old new ((header ++ middle) ++ end) _ (picture-is named) ((stopped_before old new (header ++ middle) end (stopped_before old new header middle sends)).1 told))
+      (λ named told. Began-as old new ((header ++ middle) ++ end) _ (picture-is named) ((stopped-before end (stopped-before middle sends)).1 told))
 
   -- the snippets were cut short
   pub stopped-in_snippets : (old mid new : Sink) (e : Error) → 0 < length (labels_of d) → Came old header mid
       → SendsAsking (first_refusal refusal (late_lookups view same file refusal (labels_of d))) mid middle (Err e) new → DrawsRich renderer view same file refusal d old (Err e) new
   stopped-in_snippets old mid new e some came part =
       ⊎_elim
-      (λ (w : IsIo e × Stopped mid middle new). let stopped = stopped_before old new (header ++ middle) end (came_then_stopped old mid new header middle came w.1) in
+      (λ (w : IsIo e × Stopped mid middle new). let stopped = stopped-before end (stopped-then header came w.1) in
       refused_by_writer renderer view same file refusal d old new e early stopped.0 w.0
       (λ named told. Began-as old new ((header ++ middle) ++ end) _ (picture-is named) (stopped.1 told)))
       (λ (w : EndedAsking (first_refusal refusal (late_lookups view same file refusal (labels_of d))) mid middle e new).
@@ -112,11 +113,11 @@ module _ {Id : Type 0} (renderer view : Config) (same : Id → Id → Bool) (fil
     where
       cut : (old mid new : Sink) → Came old header mid → (is_told mid ≡ true → Began mid middle new) → is_told old ≡ true → Began old ((header ++ middle) ++ end) new
       cut old mid new came begun told =
-          Began-first old (header ++ middle) new end (Began-last old header middle new (subst (λ (x : Sink). Began x middle new) (came.1 told) (begun (told_after old mid header came told))))
+          Began-first old (header ++ middle) new end (Began-last old header middle new (subst (λ (x : Sink). Began x middle new) (came.1 told) (begun (told-after old mid header told (came.1 told)))))
 
   -- header and snippets came, and then the notes were sent
   pub drawn-whole : (old mid last new : Sink) (r : Result (Unit {0}) Error) → Came old header mid
       → SendsAsking (first_refusal refusal (late_lookups view same file refusal (labels_of d))) mid middle (Ok tt) last
       → Sends last end r new → IfErr r IsIo → DrawsRich renderer view same file refusal d old r new
   drawn-whole old mid last new r came part sends io =
-      finished renderer view same file refusal d old last new (header ++ middle) end r early part.0 (came_both old mid last header middle came part.1) sends io places prepared.places_are placed-is
+      finished renderer view same file refusal d old last new (header ++ middle) end r early part.0 (came-then old header middle came part.1) sends io places prepared.places_are placed-is

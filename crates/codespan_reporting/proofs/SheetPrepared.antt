@@ -1,16 +1,14 @@
 -- A sheet that was prepared is that of the labels, and what refuses one.
-use Rattle.std.proofs.Common.{◌≡◌, ℕ, ◌<◌, Bool, true, not, max, List, [], ◌∷◌, ◌++◌, length, map, flat_map, Some, None, sym, ◌∙◌, ap, subst}
-use Rattle.std.specs.Prelude.{Contains, IsSome, fold}
+use Rattle.std.proofs.Common.{◌≡◌, ℕ, ◌<◌, Bool, true, max, List, [], ◌++◌, length, map, flat_map, Some, None, sym, ◌∙◌, ap, subst}
+use Rattle.std.specs.Prelude.{fold}
 use Rattle.std.specs.Cmp.{IsEquivalence}
 use Rattle.std.specs.List.{AllByRecursion, AllZip}
 use Rattle.std.specs.List.Sorted.{IsPermutation, IsSortedBy}
-use Rattle.std.proofs.lemmas.List.Elements.{All-contains, All-contains_itself, All-from_recursion, All-map, All-weaker, recursion_from_All}
-use Rattle.std.proofs.lemmas.Simd.{map-map}
+use Rattle.std.proofs.lemmas.List.Elements.{All-from_recursion}
 use Rattle.codespan_base.specs.declared.files.error.Error.{Error}
 use Rattle.codespan_base.specs.declared.term.config.Config.{Config}
 use Rattle.codespan_base.specs.declared.term.config.Layout.TheVariants.{Classic, Unbroken}
 use Rattle.codespan_base.specs.FileModel.{FileModel, Lookup, line_count}
-use Rattle.codespan_base.specs.Labels.{first_seen}
 use Rattle.codespan_reporting.specs.declared.term.views.entry.Entry.{Entry as GivenEntry}
 use Rattle.codespan_reporting.specs.declared.term.views.sheet.Sheet.{Sheet}
 use Rattle.codespan_reporting.specs.Inner.Entries.{is_below}
@@ -22,11 +20,10 @@ use Rattle.codespan_picture.specs.Lookups.{Refusals, asked_of, early_lookups, fi
 use Rattle.codespan_picture.specs.Padding.{padding_of}
 use Rattle.codespan_picture.specs.Placed.{IsPlaceOfFile}
 use Rattle.codespan_reporting.specs.Inner.PlacedLabels.{all_entries, file_ids, lane_after}
-use Rattle.codespan_picture.specs.Snippets.{InFile, labelled_file, labelled_files, place_of}
+use Rattle.codespan_picture.specs.Snippets.{InFile, labelled_file, labelled_files}
 use Rattle.codespan_reporting.proofs.EntryPadding.{drawn_digits-gathered, filled_lookups-gathered, gathered-each, gathered-says, filled_numbers-gathered, known-classic, marked_digits-gathered, numbers-classic}
 use Rattle.codespan_reporting.proofs.FileParts.{gathered-sorted}
 use Rattle.codespan_reporting.proofs.Refusals.{first_refusal-none, first_refusal-some}
-use Rattle.codespan_laws.proofs.SortedLists.{all-filter}
 
 module _ {Id : Type 0} (same : Id → Id → Bool) (file : Id → FileModel) (config : Config) (xs : List (InFile Id)) where
   -- the ids of the files

@@ -10,7 +10,7 @@ use Rattle.codespan_base.specs.WriterLaw.{Sink, Sends}
 use Rattle.codespan_reporting.specs.Inner.Asking.{Came, SendsAsking}
 use Rattle.codespan_picture.specs.Rows.{Look, Row}
 use Rattle.codespan_picture.specs.RowStreams.{stream_of, stream_of_rows}
-use Rattle.codespan_reporting.proofs.Chains.{came_both, came_then_stopped}
+use Rattle.codespan_base.proofs.Chains.{came-then, stopped-then}
 use Rattle.codespan_reporting.proofs.Askings.{asking_after, asking_as_refusal, asking_cut, asking_of_sends, asking_then, or_refusal-none}
 
 -- the stream of three parts
@@ -25,8 +25,8 @@ sends_at f k m same s t r sends = subst (λ (x : _). Sends s (f x) r t) same sen
 
 -- a stream came, and then a call sent another one
 pub sends_after : (s t u : Sink) (a b : Stream) (r : Result (Unit {0}) Error) → Came s a t → Sends t b r u → Sends s (a ++ b) r u
-sends_after s t u a b (Ok x) came sends = came_both s t u a b came sends
-sends_after s t u a b (Err e) came sends = came_then_stopped s t u a b came sends
+sends_after s t u a b (Ok x) came sends = came-then s a b came sends
+sends_after s t u a b (Err e) came sends = stopped-then a came sends
 
 module _ (o p : Option Error) (s t : Sink) (a b c : Stream) (answered : o ≡ None) where
   -- nothing more is asked

@@ -1,4 +1,4 @@
-use Rattle.std.proofs.Common.{rules, ◌≡◌, Some, ap, ◌∙◌}
+use Rattle.std.proofs.Common.{rules, Some, ap, ◌∙◌}
 use Rattle.std.specs.Prelude.{string_bytes}
 use Rattle.codespan_base.specs.FileModel.{IsLawful}
 use Rattle.codespan_base.specs.Streams.{no_marks}

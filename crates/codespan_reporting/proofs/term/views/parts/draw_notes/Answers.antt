@@ -9,7 +9,8 @@ use Rattle.codespan_reporting.specs.Inner.Asking.{Came, Stopped}
 use Rattle.codespan_picture.specs.Picture.{look_of}
 use Rattle.codespan_renderer.specs.Renderers.{config_of, writer_of}
 use Rattle.codespan_picture.specs.RowStreams.{note_stream}
-use Rattle.codespan_reporting.proofs.Chains.{came_at, came_both, came_then_stopped, stopped_at, stopped_before}
+use Rattle.codespan_base.proofs.Chains.{came-then, stopped-before, stopped-then}
+use Rattle.codespan_reporting.proofs.Chains.{came_at, stopped_at}
 use Rattle.codespan_reporting.proofs.NoteRows.{notes-all, notes-cut, notes-next, stream_of_notes}
 use Rattle.codespan_reporting.proofs.term.views.parts.draw_notes.Goals as goal
 
@@ -38,7 +39,7 @@ returns-in_err-render_snippet_note-clause-sends g c =
     let second = subst (λ (text : List ℕ). Stopped (g.W.WriteStyle.sink (writer_of c.loop-note.renderer)) (note_stream look.chars c.args.padding (lines text)) t) c.as_str.ensures.value
     (stopped_at (λ (k : Config). note_stream (look_of k d.severity c.args.padding).chars c.args.padding (lines c.as_str.result.now)) _ _ c.loop-note.invariant.same.config _ _ c.in_err-render_snippet_note.ensures.sends) in
     let p = err_from_is_err_and c.from_residual.result c.from_residual.ensures.1 in
-    rw (p.1 ∙ ap Err p.2) (subst (λ (x : Stream). Stopped s x t) (sym whole) (stopped_before s t _ rest (came_then_stopped _ _ _ _ _ c.loop-note.invariant.came second)))
+    rw (p.1 ∙ ap Err p.2) (subst (λ (x : Stream). Stopped s x t) (sym whole) (stopped-before rest (stopped-then _ c.loop-note.invariant.came second)))
 
 pub loop-note-preserved : goal.loop-note-preserved
 loop-note-preserved g c =
@@ -57,7 +58,7 @@ loop-note-preserved g c =
     let was = c.loop-note.invariant.same in
     record {
       same = record { reference = same.reference ∙ was.reference; config = same.config ∙ was.config };
-      came = subst (λ (x : Stream). Came s x t) (sym (notes-next string_bytes look notes i note inside is)) (came_both _ _ _ _ _ c.loop-note.invariant.came second);
+      came = subst (λ (x : Stream). Came s x t) (sym (notes-next string_bytes look notes i note inside is)) (came-then _ _ _ c.loop-note.invariant.came second);
     }
 
 pub returns-clause-sends : goal.returns-clause-sends

@@ -2,7 +2,7 @@ use Rattle.std.proofs.Common.{Err, ap, ◌∙◌}
 use Rattle.std.proofs.lemmas.Result.{err_from_is_err_and}
 use Rattle.codespan_base.specs.declared.term.config.Config.{Config}
 use Rattle.codespan_picture.specs.Picture.{look_of, notes_of}
-use Rattle.codespan_reporting.proofs.Chains.{stopped_before}
+use Rattle.codespan_base.proofs.Chains.{stopped-before}
 use Rattle.codespan_reporting.proofs.NoteRows.{whole_of_notes}
 use Rattle.codespan_reporting.proofs.SnippetParts.{sends_after, sends_at}
 use Rattle.codespan_reporting.proofs.term.views.rich.draw_bare.Goals as goal
@@ -10,7 +10,7 @@ use Rattle.codespan_reporting.proofs.term.views.rich.draw_bare.Goals as goal
 pub returns-in_err-draw_header-clause-sends : goal.returns-in_err-draw_header-clause-sends
 returns-in_err-draw_header-clause-sends g c =
     let p = err_from_is_err_and c.from_residual.result c.from_residual.ensures.1 in
-    rw (p.1 ∙ ap Err p.2) (stopped_before _ _ _ _ c.in_err-draw_header.ensures.sends)
+    rw (p.1 ∙ ap Err p.2) (stopped-before _ c.in_err-draw_header.ensures.sends)
 
 pub returns-clause-sends : goal.returns-clause-sends
 returns-clause-sends g c =

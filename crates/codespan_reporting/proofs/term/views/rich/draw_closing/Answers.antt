@@ -6,7 +6,7 @@ use Rattle.codespan_base.specs.WriterLaw.{Sends}
 use Rattle.codespan_reporting.specs.Inner.Asking.{Stopped}
 use Rattle.codespan_picture.specs.Picture.{look_of}
 use Rattle.codespan_renderer.specs.Renderers.{config_of, writer_of}
-use Rattle.codespan_reporting.proofs.Chains.{stopped_before}
+use Rattle.codespan_base.proofs.Chains.{stopped-before}
 use Rattle.codespan_reporting.proofs.NoteRows.{notes-blank}
 use Rattle.codespan_reporting.proofs.SnippetParts.{sends_after}
 use Rattle.codespan_reporting.proofs.term.views.rich.draw_closing.Goals as goal
@@ -18,7 +18,7 @@ returns-in_err-draw_notes-clause-sends g c =
     let p = err_from_is_err_and c.from_residual.result c.from_residual.ensures.1 in
     rw (p.1 ∙ ap Err p.2)
     (subst (λ (x : Stream). Stopped (g.W.WriteStyle.sink (writer_of c.args.renderer.now)) x (g.W.WriteStyle.sink (writer_of c.draw_notes.new.renderer)))
-    (sym (notes-blank string_bytes look d.notes.items)) (stopped_before _ _ _ _ c.in_err-draw_notes.ensures.sends))
+    (sym (notes-blank string_bytes look d.notes.items)) (stopped-before _ c.in_err-draw_notes.ensures.sends))
 
 pub returns-clause-sends : goal.returns-clause-sends
 returns-clause-sends g c =
