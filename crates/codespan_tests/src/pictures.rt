@@ -1,7 +1,7 @@
 //! Worked rows through the public calls.
 
 mod chosen_lines;
-mod drawing;
+pub mod drawing;
 mod label_orders;
 mod listing;
 mod longest_file;
@@ -14,7 +14,8 @@ mod small_pictures;
 mod styles;
 
 use codespan_reporting::diagnostic::{Diagnostic, Label};
-use codespan_reporting::term::{Config, emit_into_string};
+use codespan_reporting::term::{Config, RichDiagnostic, emit_into_string};
+use drawing::assert_view_writes;
 use listing::{Listing, Refused};
 use std::test::Fail;
 
@@ -25,8 +26,11 @@ fn line_number_zero(rt: HostRuntime) -> Result<(), Fail> {
     let files = Listing::new(alloc, "f", "ab", Refused::default())?;
     let label = Label::primary(alloc, (), 0..1).with_message("z")?;
     let diagnostic = Diagnostic::error(alloc).with_label(label)?;
-    let text = emit_into_string(&Config::default(), &files, &diagnostic)?;
+    let config = Config::default();
+    let text = emit_into_string(&config, &files, &diagnostic)?;
     let picture = "error: \n  ┌─ f:0:1\n  │\n0 │ ab\n  │ ^ z\n\n";
     assert_eq!(rt; text.as_str(), picture);
+    let view = RichDiagnostic::new(&diagnostic, &config);
+    assert_view_writes(&rt, alloc, &config, view, &files, picture)??;
     Ok(())
 }

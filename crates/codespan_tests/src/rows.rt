@@ -3,6 +3,7 @@
 mod flushing;
 mod stopping;
 
+use crate::pictures::drawing::without_sequences;
 use codespan_reporting::diagnostic::{LabelStyle, Severity};
 use codespan_reporting::files::{Error, Location};
 use codespan_reporting::term::renderer::{
@@ -63,7 +64,7 @@ fn draw_on<W: WriteStyle>(rt: &impl Abort, w: &mut W, given: Given<'_>) -> Resul
     draw_line(rt, &mut Renderer::new(w, &config), given)
 }
 
-/// The rows of a line, plain.
+/// The rows of a line, plain. By escape sequences they are the same, once these are taken out.
 fn rows_of(
     rt: &impl Abort,
     alloc: Global,
@@ -72,7 +73,16 @@ fn rows_of(
 ) -> Result<Vec<u8>, Error> {
     let mut plain = PlainWriter::new(Vec::new(alloc));
     draw_line(rt, &mut Renderer::new(&mut plain, config), given)?;
-    Ok(plain.into_inner())
+    let styles = Styles::default();
+    let mut bytes = Vec::new(alloc);
+    let mut coloured = StylesWriter::new(Ansi::new(&mut bytes), &styles);
+    draw_line(rt, &mut Renderer::new(&mut coloured, config), given)?;
+    let rows = plain.into_inner();
+    assert_eq!(rt;
+        without_sequences(alloc, bytes.as_slice())?.as_slice(),
+        rows.as_slice()
+    );
+    Ok(rows)
 }
 
 #[test]

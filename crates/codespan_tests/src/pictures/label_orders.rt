@@ -1,8 +1,9 @@
 //! A picture of many labels, given in three orders.
 
+use crate::pictures::drawing::assert_view_writes;
 use codespan_reporting::diagnostic::{Diagnostic, Label, LabelStyle};
 use codespan_reporting::files::{Error, SimpleFile};
-use codespan_reporting::term::{Config, emit_into_string};
+use codespan_reporting::term::{Config, RichDiagnostic, emit_into_string};
 use std::alloc::Global;
 use std::test::Fail;
 
@@ -61,14 +62,17 @@ fn label_orders(rt: HostRuntime) -> Result<(), Fail> {
     let source = source_of(alloc)?;
     let files = SimpleFile::new(alloc, "f", source.as_str())?;
     let want = picture(alloc)?;
+    let config = Config::default();
     for order in 0..3 {
         let mut diagnostic = Diagnostic::error(alloc);
         for index in 0..200 {
             let label = label_of(alloc, place_at(order, index))?;
             diagnostic = diagnostic.with_label(label)?;
         }
-        let text = emit_into_string(&Config::default(), &files, &diagnostic)?;
+        let text = emit_into_string(&config, &files, &diagnostic)?;
         assert_eq!(rt; text.as_str(), want.as_str(), "order {order}");
+        let view = RichDiagnostic::new(&diagnostic, &config);
+        assert_view_writes(&rt, alloc, &config, view, &files, want.as_str())??;
     }
     Ok(())
 }

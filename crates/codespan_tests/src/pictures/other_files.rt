@@ -1,6 +1,8 @@
 //! Pictures of several files, of notes, in colour, and of files with numbers of their own.
 
-use crate::pictures::drawing::{Drawing, assert_coloured, assert_drawn, assert_drawn_by, files_of};
+use crate::pictures::drawing::{
+    Drawing, assert_coloured, assert_drawn, assert_drawn_by, assert_view_writes, files_of,
+};
 use codespan_reporting::diagnostic::LabelStyle::{Primary, Secondary};
 use codespan_reporting::diagnostic::{Diagnostic, Label};
 use codespan_reporting::files::{Error, MappedFile};
@@ -110,7 +112,8 @@ fn mapped_numbers(rt: HostRuntime) -> Result<(), Fail> {
     let file = numbered(rt.alloc(), 2, 100)?;
     let label = Label::primary(rt.alloc(), (), 2..7).with_message("x")?;
     let diagnostic = Diagnostic::error(rt.alloc()).with_label(label)?;
-    let text = emit_into_string(&Config::default(), &file, &diagnostic)?;
+    let config = Config::default();
+    let text = emit_into_string(&config, &file, &diagnostic)?;
     let picture = "error: \n\
                    \x20   ┌─ m:2:1\n\
                    \x20   │  \n\
@@ -119,6 +122,8 @@ fn mapped_numbers(rt: HostRuntime) -> Result<(), Fail> {
                    101 │ │ d\n\
                    \x20   │ ╰─^ x\n\n";
     assert_eq!(rt; text.as_str(), picture);
+    let view = RichDiagnostic::new(&diagnostic, &config);
+    assert_view_writes(&rt, rt.alloc(), &config, view, &file, picture)??;
     Ok(())
 }
 

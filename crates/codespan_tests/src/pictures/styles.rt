@@ -3,7 +3,7 @@
 use crate::pictures::drawing::{Drawing, assert_drawn, files_of, without_sequences};
 use crate::pictures::other_files::type_error;
 use crate::writers::example::TagWriter;
-use codespan_reporting::diagnostic::{Diagnostic, Label, LabelStyle};
+use codespan_reporting::diagnostic::{Diagnostic, Label, LabelStyle, Severity};
 use codespan_reporting::files::{Error, SimpleFiles};
 use codespan_reporting::term::{
     Ansi, Config, DisplayStyle, PlainWriter, Renderer, ShortDiagnostic, Styles, StylesWriter, emit,
@@ -46,6 +46,13 @@ fn bare_bug(rt: HostRuntime) -> Result<(), Fail> {
         let mut bytes = held.to_string(alloc)?.into_bytes();
         emit(&mut bytes, &config, &files, &bug)?;
         assert_eq!(rt; bytes.as_slice(), text.as_bytes());
+        let drawing = Drawing {
+            config,
+            severity: Severity::Bug,
+            picture,
+            ..Drawing::default()
+        };
+        assert_drawn(&rt, alloc, drawing)?;
     }
     Ok(())
 }
