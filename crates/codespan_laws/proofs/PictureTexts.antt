@@ -1,6 +1,6 @@
 -- The rows of a picture say texts.
 use Rattle.std.proofs.Common.{◌≡◌, ℕ, zero, suc, ◌+◌, ◌-◌, ◌<◌, ◌≤◌, Bool, true, false, not, ◌&&◌, ◌==◌, cond, List, [], ◌∷◌, ◌++◌, length, take, drop, get_or, map, filter, reverse, Option, Some, None, encode_utf8_all, refl, sym, ap, ◌∙◌, subst, arith, append_assoc, append-nil, ⊎_elim}
-use Rattle.std.specs.Prelude.{if◌then◌else◌, IfSome, String, nat_lt, string_bytes, unwrap_or}
+use Rattle.std.specs.Prelude.{if◌then◌else◌, IfSome, String, nat_lt, string_bytes}
 use Rattle.std.specs.Char.{encode_utf8}
 use Rattle.std.specs.List.{AllByRecursion, AllZip, cons_option, enumerate_from, filter_map, onto_first, slice_split, suffix_len}
 use Rattle.std.specs.Option.{option_map}
@@ -18,23 +18,21 @@ use Rattle.codespan_base.specs.declared.diagnostic.Label.{Label}
 use Rattle.codespan_base.specs.declared.term.config.Config.{Config}
 use Rattle.codespan_base.specs.declared.term.config.DisplayStyle.{DisplayStyle}
 use Rattle.codespan_base.specs.declared.term.config.DisplayStyle.TheVariants.{Rich, Medium, Short}
-use Rattle.codespan_base.specs.FileModel.{FileModel, IsLawful, line_text, name_text}
-use Rattle.codespan_base.specs.Labels.{Labelled, LaneMark, Top, Left, Bottom, drawn_label, first_line, first_seen, has_message, is_primary, is_single, mark_of, multi_labels, part_at, part_on, put_in, single_labels, sorted, stands_before}
-use Rattle.codespan_base.specs.Streams.{bytes}
+use Rattle.codespan_base.specs.FileModel.{FileModel, IsLawful, line_text}
+use Rattle.codespan_base.specs.Labels.{Labelled, LaneMark, Top, Left, Bottom, drawn_label, first_line, has_message, is_single, mark_of, multi_labels, part_at, part_on, put_in, single_labels, sorted, stands_before}
 use Rattle.codespan_picture.specs.Cells.{drawn_text, is_line_end}
-use Rattle.codespan_picture.specs.Placed.{ArePlaces, IsPlaceIn, IsPlaceOfFile, IsPlaceOfLabel, placed_header_rows, placed_headers, placed_picture, placed_rich_rows, placed_snippet, placed_snippets}
+use Rattle.codespan_picture.specs.Placed.{ArePlaces, IsPlaceOfFile, IsPlaceOfLabel, placed_header_rows, placed_headers, placed_picture, placed_rich_rows, placed_snippet, placed_snippets, stated_places}
 use Rattle.codespan_picture.specs.Lines.{drawn_lines, is_broken}
 use Rattle.codespan_picture.specs.Padding.{padding_of}
-use Rattle.codespan_picture.specs.Picture.{files_of, heading_of, label_of, labels_of, look_of, notes_of, picture_in}
+use Rattle.codespan_picture.specs.Picture.{files_of, heading_of, label_of, labels_of, look_of, notes_of}
 use Rattle.codespan_picture.specs.Rows.{Around, Line, Place, Row, HeaderRow, EmptyRow, BreakRow, SourceRow, HangingRow, UnderlineRow, LaterNoteRow, BlankRow, caret_rows, does_trail, hanging, hanging_of, hanging_rows, has_underline, others, rightmost, rows_of, underline_rows}
 use Rattle.codespan_picture.specs.Cells.{leading_whitespace}
 use Rattle.codespan_picture.specs.Carets.{greatest_end}
-use Rattle.codespan_picture.specs.RowStreams.{stream_of_rows}
-use Rattle.codespan_picture.specs.Snippets.{InFile, LabelledFile, bare_lanes, break_rows, has_any, header_at, header_rows_of, is_followed, labelled_file, line_at, locus_start, note_rows, piece_rows, place_of, row_after, rows_after, snippet, snippet_at, snippets}
+use Rattle.codespan_picture.specs.Snippets.{InFile, LabelledFile, bare_lanes, break_rows, has_any, is_followed, labelled_file, line_at, note_rows, piece_rows, row_after, rows_after, snippet_at}
 use Rattle.codespan_laws.specs.TextLaws.{AreCharacters, IsText, PictureIsText}
 use Rattle.codespan_laws.proofs.LaneLineLemmas.{each_all, each_map}
 use Rattle.codespan_picture.proofs.Rightmost.{around_is}
-use Rattle.codespan_laws.proofs.PlacedPictures.{are_stated, placed_of_stated, stated_places}
+use Rattle.codespan_laws.proofs.PlacedPictures.{are_stated, placed_of_stated}
 use Rattle.codespan_laws.proofs.RowTexts.{IsTextLine, IsTextPart, IsTextRow, text-bytes, text-rows}
 use Rattle.codespan_laws.proofs.SortedLists.{all-append, all-filter, all-reverse}
 

@@ -1,5 +1,5 @@
 -- Pictures by the places in them: where all names are stated they are the pictures.
-use Rattle.std.proofs.Common.{◌≡◌, ℕ, Bool, List, [], ◌∷◌, ◌++◌, Option, Some, None, map, filter, not, refl, sym, ap, ◌∙◌, true≢false}
+use Rattle.std.proofs.Common.{◌≡◌, ℕ, Bool, List, [], ◌∷◌, ◌++◌, Option, Some, None, map, not, refl, sym, ap, ◌∙◌, true≢false}
 use Rattle.std.specs.Prelude.{Contains, IfSome, IsSome, unwrap_or}
 use Rattle.std.specs.List.{AllByRecursion, AllZip}
 use Rattle.std.specs.Str.{IsUtf8}
@@ -11,13 +11,12 @@ use Rattle.codespan_base.specs.declared.term.config.DisplayStyle.TheVariants.{Ri
 use Rattle.codespan_base.specs.declared.diagnostic.Diagnostic.{Diagnostic}
 use Rattle.codespan_base.specs.FileModel.{FileModel, name_text}
 use Rattle.codespan_base.specs.Labels.{first_seen, is_primary}
-use Rattle.codespan_base.specs.Streams.{Stream}
 use Rattle.codespan_picture.specs.Padding.{padding_of}
 use Rattle.codespan_picture.specs.Picture.{files_of, heading_of, labels_of, look_of, notes_of, viewed_picture}
-use Rattle.codespan_picture.specs.Placed.{ArePlaces, IsPlaceIn, IsPlaceOfFile, IsPlaceOfLabel, placed_header_rows, placed_headers, placed_picture, placed_snippets}
+use Rattle.codespan_picture.specs.Placed.{ArePlaces, IsPlaceIn, IsPlaceOfFile, IsPlaceOfLabel, place_of_label, placed_header_rows, placed_headers, placed_picture, placed_snippets, stated_places}
 use Rattle.codespan_picture.specs.Rows.{BlankRow, HeaderRow, Heading, Place, Row}
 use Rattle.codespan_picture.specs.RowStreams.{stream_of_rows}
-use Rattle.codespan_picture.specs.Snippets.{InFile, LabelledFile, has_any, header_at, header_rows_of, is_followed, labelled_file, note_rows, place_of, row_after, snippet, snippets}
+use Rattle.codespan_picture.specs.Snippets.{InFile, LabelledFile, has_any, header_at, header_rows_of, is_followed, labelled_file, note_rows, place_of, primary_of, row_after, snippet, snippets}
 use Rattle.codespan_laws.proofs.LaneLineLemmas.{each_map}
 use Rattle.codespan_laws.proofs.SortedLists.{all-filter}
 
@@ -77,10 +76,6 @@ zip_map R f (x ∷ xs) (p ∷ ps) h = (h.0, zip_map R f xs ps h.1)
 
 -- ---- the places of a picture
 
--- the place of a label, as its header shows it
-abbrev pub place_of_label : {Id : Type 0} → (Id → FileModel) → InFile Id → Place
-place_of_label file x = record { name = name_text (file x.id); location = (file x.id).location x.label.start }
-
 -- places of labels whose files state their names are those
 pub places_of_labels : {Id : Type 0} (file : Id → FileModel) (xs : List (InFile Id)) (places : List Place) → AllZip (IsPlaceOfLabel file) xs places
     → AllByRecursion (λ (x : InFile Id). IsSome (file x.id).name) xs → places ≡ map (place_of_label file) xs
@@ -115,16 +110,10 @@ seen-each P same (j ∷ js) h = (h.0, all-filter P (λ other. not (same j other)
 module _ {Id : Type 0} (same : Id → Id → Bool) (file : Id → FileModel) (d : Diagnostic Id) where
   -- the primary labels
   abbrev causes : List (InFile Id)
-  causes = filter (λ (x : InFile Id). is_primary x.label) (labels_of d)
-
-  -- the places that the files state
-  abbrev pub stated_places : DisplayStyle → List Place
-  stated_places Rich = map place_of (files_of same file d)
-  stated_places Medium = map (place_of_label file) causes
-  stated_places Short = map (place_of_label file) causes
+  causes = primary_of (labels_of d)
 
   -- they are places of the picture
-  pub are_stated : ((id : Id) → IfSome (file id).name IsUtf8) → (style : DisplayStyle) → ArePlaces same file d style (stated_places style)
+  pub are_stated : ((id : Id) → IfSome (file id).name IsUtf8) → (style : DisplayStyle) → ArePlaces same file d style (stated_places same file d style)
   are_stated text Rich =
       zip_map_both (first_seen same (map (λ (x : InFile Id). x.id) (labels_of d)))
     where
@@ -149,7 +138,7 @@ module _ {Id : Type 0} (same : Id → Id → Bool) (file : Id → FileModel) (d 
         (each_map (λ id. IsSome (file id).name) (λ (x : InFile Id). x.id) (labels_of d) named_labels))
 
     -- then places of the picture are those
-    stated-are : (style : DisplayStyle) (places : List Place) → ArePlaces same file d style places → places ≡ stated_places style
+    stated-are : (style : DisplayStyle) (places : List Place) → ArePlaces same file d style places → places ≡ stated_places same file d style
     stated-are Rich places are =
         zip_one IsPlaceOfFile (λ (s : LabelledFile). IsSome s.file.name) place_of (λ s p at some. place_is s.file _ p at some) (files_of same file d) places are named_files
     stated-are Medium places are = places_of_labels file causes places are named_causes
@@ -158,7 +147,7 @@ module _ {Id : Type 0} (same : Id → Id → Bool) (file : Id → FileModel) (d 
   module _ (renderer view : Config) where
     -- with the places that the files state the picture is that of the files
     pub placed_of_stated : (style : DisplayStyle)
-        → placed_picture renderer view same file d style (stated_places style) ≡ viewed_picture style renderer view same file d.severity (heading_of d) (labels_of d) (notes_of d)
+        → placed_picture renderer view same file d style (stated_places same file d style) ≡ viewed_picture style renderer view same file d.severity (heading_of d) (labels_of d) (notes_of d)
     placed_of_stated Rich =
         ap (λ (rows : List Row). stream_of_rows (look_of renderer d.severity (padding_of view (files_of same file d))) ((HeaderRow None (heading_of d) ∷ rows) ++ note_rows (notes_of d) ++ (BlankRow ∷ [])))
         (placed-are view (notes_of d) (files_of same file d))

@@ -5,6 +5,7 @@
 ghost use Rattle.std.specs.Prelude.{◌≡◌, ◌*◌, ◌<◌, ℕ, Bool, List};
 ghost use Rattle.std.specs.Cmp.{IsEquivalence};
 ghost use Rattle.codespan_base.specs.declared.term.config.Config.{Config};
+ghost use Rattle.codespan_base.specs.declared.term.config.DisplayStyle.{DisplayStyle};
 ghost use Rattle.codespan_base.specs.declared.term.config.Layout.{Layout};
 ghost use Rattle.codespan_base.specs.declared.diagnostic.Diagnostic.{Diagnostic};
 ghost use Rattle.codespan_base.specs.FileModel.{FileModel, line_count};
@@ -22,7 +23,8 @@ ghost use Rattle.codespan_laws.specs.PaddingLaws.{PaddingHasRoom};
 ghost use Rattle.codespan_laws.specs.RowLaws.{CharactersAreFree, RowsEndReset};
 ghost use Rattle.codespan_laws.specs.TextLaws.{PictureIsText};
 ghost use Rattle.codespan_picture.specs.RowParts.{plain_lanes, source_lanes, below_lanes, underline_lanes, line_cells};
-ghost use Rattle.codespan_picture.specs.Picture.{picture};
+ghost use Rattle.codespan_picture.specs.Picture.{heading_of, labels_of, notes_of, picture, viewed_picture};
+ghost use Rattle.codespan_picture.specs.Placed.{placed_picture, stated_places};
 ghost use Rattle.codespan_picture.specs.Rows.{Look, Lanes, Line};
 ghost use Rattle.codespan_picture.specs.Snippets.{LabelledFile};
 
@@ -130,7 +132,14 @@ pub fn rows_end_reset()
     ensures { RowsEndReset }
 {}
 
-// ---- texts and colours
+// ---- names, texts and colours
+
+/// With the places whose names the files state, the picture by places is the picture of the diagnostic.
+pub fn stated_places_make_the_picture<Id>()
+    ensures { (renderer view : Config) (same : Id → Id → Bool) (file : Id → FileModel) (d : Diagnostic Id) (style : DisplayStyle)
+        → placed_picture renderer view same file d style (stated_places same file d style)
+        ≡ viewed_picture style renderer view same file d.severity (heading_of d) (labels_of d) (notes_of d) }
+{}
 
 /// What a picture writes is UTF-8, in each style: where its characters are characters, its files are lawful, and what their names
 /// state is UTF-8.

@@ -11,9 +11,9 @@ use Rattle.codespan_base.specs.declared.files.error.Error.{Error}
 use Rattle.codespan_base.specs.declared.files.error.Error.TheVariants.{LineTooLarge, FormatError, OutOfMemory}
 use Rattle.codespan_base.specs.FileModel.{FileModel, Lookup, line_count, or_refusal}
 use Rattle.codespan_base.specs.FileModel.Lookup.{Name, Source, LineIndex, LineNumber, LocationAt, LineRange}
-use Rattle.codespan_base.specs.Labels.{Labelled, is_primary, first_line, last_line, first_seen}
+use Rattle.codespan_base.specs.Labels.{Labelled, first_line, last_line, first_seen}
 use Rattle.codespan_picture.specs.Lines.{is_shown, is_drawn}
-use Rattle.codespan_picture.specs.Snippets.{LabelledFile, InFile, labelled_file, locus_start, header_at}
+use Rattle.codespan_picture.specs.Snippets.{LabelledFile, InFile, labelled_file, locus_start, header_at, primary_of}
 use Rattle.codespan_picture.specs.Padding.{spans}
 use Rattle.codespan_base.specs.Streams.{Stream}
 use Rattle.codespan_picture.specs.RowStreams.{stream_of_rows}
@@ -113,10 +113,13 @@ module _ {Id : Type 0} (config : Config) (same : Id → Id → Bool) (file : Id 
   abbrev pub late_lookups : List (Id × Lookup)
   late_lookups = flat_map (snippet_lookups config same file xs) ids
 
--- the lookups of short and medium style, for each primary label
+-- the lookups of a label's header in short and medium style: the name of its file, and the location of its start
+abbrev pub header_asked : {Id : Type 0} → InFile Id → List (Id × Lookup)
+header_asked x = asked_of x.id (Name ∷ LocationAt x.label.start ∷ [])
+
+-- those of the headers of all primary labels
 abbrev pub header_lookups : {Id : Type 0} → List (InFile Id) → List (Id × Lookup)
-header_lookups {Id} xs =
-    flat_map (λ (x : InFile Id). asked_of x.id (Name ∷ LocationAt x.label.start ∷ [])) (filter (λ (x : InFile Id). is_primary x.label) xs)
+header_lookups xs = flat_map header_asked (primary_of xs)
 
 -- all lookups of a picture in one of the styles
 abbrev pub lookups_in : {Id : Type 0} → DisplayStyle → Config → (Id → Id → Bool) → (Id → FileModel) → Refusals Id → Diagnostic Id → List (Id × Lookup)
@@ -147,7 +150,7 @@ AllAnswered {Id} refusal lookups = (id : Id) (lookup : Lookup) → Contains look
 
 -- the primary labels before the first one that a lookup refuses
 abbrev pub labels_before_refusal : {Id : Type 0} → Refusals Id → List (InFile Id) → List (InFile Id)
-labels_before_refusal {Id} refusal xs = take_while is_answered (filter (λ (x : InFile Id). is_primary x.label) xs)
+labels_before_refusal {Id} refusal xs = take_while is_answered (primary_of xs)
   where
     is_answered : InFile Id → Bool
     is_answered x = is_none (refusal x.id Name) && is_none (refusal x.id (LocationAt x.label.start))

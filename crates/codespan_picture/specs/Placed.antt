@@ -1,19 +1,18 @@
 -- A picture by the places in it: it is known up to the names of files that state none.
-use Rattle.std.specs.Prelude.{◌≡◌, ℕ, Bool, List, [], ◌∷◌, ◌++◌, map, filter, None, Some, IfSome}
+use Rattle.std.specs.Prelude.{◌≡◌, ℕ, Bool, List, [], ◌∷◌, ◌++◌, map, None, Some, IfSome}
 use Rattle.std.specs.List.{AllZip}
 use Rattle.std.specs.Str.{IsUtf8}
 use Rattle.codespan_base.specs.declared.term.config.Config.{Config}
 use Rattle.codespan_base.specs.declared.term.config.DisplayStyle.{DisplayStyle}
 use Rattle.codespan_base.specs.declared.term.config.DisplayStyle.TheVariants.{Rich, Medium, Short}
 use Rattle.codespan_base.specs.declared.diagnostic.Diagnostic.{Diagnostic}
-use Rattle.codespan_base.specs.FileModel.{FileModel}
-use Rattle.codespan_base.specs.Labels.{is_primary}
+use Rattle.codespan_base.specs.FileModel.{FileModel, name_text}
 use Rattle.codespan_base.specs.Streams.{Stream}
 use Rattle.codespan_picture.specs.Padding.{padding_of}
 use Rattle.codespan_picture.specs.Picture.{look_of, labels_of, files_of, heading_of, notes_of}
 use Rattle.codespan_picture.specs.Rows.{Place, Heading, Row, HeaderRow, BlankRow}
 use Rattle.codespan_picture.specs.RowStreams.{stream_of_rows}
-use Rattle.codespan_picture.specs.Snippets.{InFile, LabelledFile, has_any, is_followed, locus_start, note_rows, row_after, snippet_at}
+use Rattle.codespan_picture.specs.Snippets.{InFile, LabelledFile, has_any, is_followed, locus_start, note_rows, place_of, primary_of, row_after, snippet_at}
 
 -- ---- places
 
@@ -70,6 +69,16 @@ module _ {Id : Type 0} (renderer view : Config) (same : Id → Id → Bool) (fil
 
 -- the places of a picture: in rich style of each file, in short and medium style of each primary label
 abbrev pub ArePlaces : {Id : Type 0} → (Id → Id → Bool) → (Id → FileModel) → Diagnostic Id → DisplayStyle → List Place → Type 0
-ArePlaces {Id} same file d Rich places = AllZip IsPlaceOfFile (files_of same file d) places
-ArePlaces {Id} same file d Medium places = AllZip (IsPlaceOfLabel file) (filter (λ (x : InFile Id). is_primary x.label) (labels_of d)) places
-ArePlaces {Id} same file d Short places = AllZip (IsPlaceOfLabel file) (filter (λ (x : InFile Id). is_primary x.label) (labels_of d)) places
+ArePlaces same file d Rich places = AllZip IsPlaceOfFile (files_of same file d) places
+ArePlaces same file d Medium places = AllZip (IsPlaceOfLabel file) (primary_of (labels_of d)) places
+ArePlaces same file d Short places = AllZip (IsPlaceOfLabel file) (primary_of (labels_of d)) places
+
+-- the place at which a label starts, by the name that its file states
+abbrev pub place_of_label : {Id : Type 0} → (Id → FileModel) → InFile Id → Place
+place_of_label file x = record { name = name_text (file x.id); location = (file x.id).location x.label.start }
+
+-- the places of a picture, by the names that the files state
+abbrev pub stated_places : {Id : Type 0} → (Id → Id → Bool) → (Id → FileModel) → Diagnostic Id → DisplayStyle → List Place
+stated_places same file d Rich = map place_of (files_of same file d)
+stated_places same file d Medium = map (place_of_label file) (primary_of (labels_of d))
+stated_places same file d Short = map (place_of_label file) (primary_of (labels_of d))

@@ -138,6 +138,10 @@ rich_rows config heading ss notes =
 
 -- ---- short and medium style
 
+-- the primary ones of these labels
+abbrev pub primary_of : {Id : Type 0} → List (InFile Id) → List (InFile Id)
+primary_of {Id} xs = filter (λ (x : InFile Id). is_primary x.label) xs
+
 -- a header with the place of a label's start
 abbrev pub header_at : {Id : Type 0} → (Id → FileModel) → Heading → InFile Id → Row
 header_at file heading x =
@@ -150,7 +154,7 @@ header_rows_of file heading (x ∷ xs) = map (header_at file heading) (x ∷ xs)
 
 -- a header for each primary label
 abbrev pub short_rows : {Id : Type 0} → (Id → FileModel) → Heading → List (InFile Id) → List Row
-short_rows {Id} file heading labels = header_rows_of file heading (filter (λ (x : InFile Id). is_primary x.label) labels)
+short_rows file heading labels = header_rows_of file heading (primary_of labels)
 
 -- a header for each primary label, and then the notes
 abbrev pub medium_rows : {Id : Type 0} → (Id → FileModel) → Heading → List (InFile Id) → List (List ℕ) → List Row

@@ -19,15 +19,15 @@ use Rattle.codespan_base.specs.Labels.{is_primary}
 use Rattle.codespan_base.specs.Streams.{Stream, newline}
 use Rattle.codespan_base.specs.WriterLaw.{Sink, sent, is_told, Began, Sends, refusing}
 use Rattle.codespan_base.proofs.Sends.{is_told-sent, sent-append, sent-nil, Began-first, Began-last}
-use Rattle.codespan_picture.specs.Lookups.{Refusals, first_refusal}
+use Rattle.codespan_picture.specs.Lookups.{Refusals, first_refusal, header_asked}
 use Rattle.codespan_picture.specs.Picture.{heading_of, label_of, labels_of, look_of, notes_of}
-use Rattle.codespan_picture.specs.Placed.{IsPlaceOfLabel, placed_header_rows, placed_headers}
+use Rattle.codespan_picture.specs.Placed.{IsPlaceOfLabel, place_of_label, placed_header_rows, placed_headers}
 use Rattle.codespan_picture.specs.Rows.{HeaderRow, Heading, Look, Place, Row}
 use Rattle.codespan_picture.specs.RowStreams.{header_row, stream_of, stream_of_rows}
-use Rattle.codespan_picture.specs.Snippets.{InFile, has_any, header_at, header_rows_of, note_rows, short_rows}
+use Rattle.codespan_picture.specs.Snippets.{InFile, has_any, header_at, header_rows_of, note_rows, primary_of, short_rows}
 use Rattle.codespan_reporting.specs.Headline.{DrawsShort, NamesAreStated}
-use Rattle.codespan_reporting.specs.Inner.Headers.{AreNamed, HeaderRefused, HeadersCame, HeadersEnded, HeaderStopped, header_asked, headers_at, headers_of, primary_of}
-use Rattle.codespan_laws.proofs.PlacedPictures.{each_of, headers-are, place_is, place_of_label, places_of_labels, zip_append}
+use Rattle.codespan_reporting.specs.Inner.Headers.{AreNamed, HeaderRefused, HeadersCame, HeadersEnded, HeaderStopped, headers_at, headers_of}
+use Rattle.codespan_laws.proofs.PlacedPictures.{each_of, headers-are, place_is, places_of_labels, zip_append}
 use Rattle.codespan_reporting.proofs.Drawing.{Began-none}
 use Rattle.codespan_reporting.proofs.Refusals.{all_answered, first_refusal-none, first_refusal-some}
 

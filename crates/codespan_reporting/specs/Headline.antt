@@ -75,7 +75,7 @@ module _ {Id : Type 0} (renderer view : Config) (same : Id → Id → Bool) (fil
     pub unprintable : MatchResult r (λ _. Unit {0}) (λ e. e ≡ FormatError
         → kept ⊎ (first_refusal refusal (late_lookups view same file refusal (labels_of d)) ≡ Some FormatError))
 
-  -- in rich style, besides: nothing is written before the lookups that come before the header
+  -- in rich style, besides: where a lookup before the header refuses, or a name can not be printed, nothing is written
   pub record DrawsRich (old : Sink) (r : Result (Unit {0}) Error) (new : Sink) : Type 0 where
     pub drawn : Draws Rich old r new
     pub keeps : KeepsWriter (new ≡ old) r

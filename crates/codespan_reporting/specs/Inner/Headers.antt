@@ -1,30 +1,20 @@
 -- Headers of labels, drawn one after another, each after the lookups of its place.
-use Rattle.std.specs.Prelude.{◌≡◌, ◌≢◌, ◌⊎◌, true, Bool, List, [], ◌∷◌, ◌++◌, flat_map, map, filter, None, Some, Contains, IsSome, Result, MatchResult}
+use Rattle.std.specs.Prelude.{◌≡◌, ◌≢◌, ◌⊎◌, true, Bool, List, [], ◌∷◌, ◌++◌, flat_map, map, None, Some, Contains, IsSome, Result, MatchResult}
 use Rattle.std.specs.List.{AllZip}
 use Rattle.codespan_base.specs.declared.diagnostic.Diagnostic.{Diagnostic}
 use Rattle.codespan_base.specs.declared.files.error.Error.{Error}
 use Rattle.codespan_base.specs.declared.files.error.Error.TheVariants.{FormatError, OutOfMemory}
 use Rattle.codespan_base.specs.declared.term.config.Config.{Config}
 use Rattle.codespan_base.specs.Errors.{IsIo}
-use Rattle.codespan_base.specs.FileModel.{FileModel, Lookup}
-use Rattle.codespan_base.specs.FileModel.Lookup.{Name, LocationAt}
-use Rattle.codespan_base.specs.Labels.{is_primary}
+use Rattle.codespan_base.specs.FileModel.{FileModel}
 use Rattle.codespan_base.specs.Streams.{Stream}
 use Rattle.codespan_base.specs.WriterLaw.{Sink, sent, is_told, Began, refusing}
-use Rattle.codespan_picture.specs.Lookups.{Refusals, asked_of, first_refusal}
+use Rattle.codespan_picture.specs.Lookups.{Refusals, first_refusal, header_asked}
 use Rattle.codespan_picture.specs.Picture.{heading_of, look_of}
 use Rattle.codespan_picture.specs.Placed.{IsPlaceOfLabel, placed_headers}
 use Rattle.codespan_picture.specs.Rows.{Place}
 use Rattle.codespan_picture.specs.RowStreams.{stream_of_rows}
 use Rattle.codespan_picture.specs.Snippets.{InFile, has_any, header_at}
-
--- the primary ones of these labels
-abbrev pub primary_of : {Id : Type 0} → List (InFile Id) → List (InFile Id)
-primary_of {Id} xs = filter (λ (x : InFile Id). is_primary x.label) xs
-
--- the lookups of a label's header
-abbrev pub header_asked : {Id : Type 0} → InFile Id → List (Id × Lookup)
-header_asked x = asked_of x.id (Name ∷ LocationAt x.label.start ∷ [])
 
 -- the names of these labels' files are stated
 abbrev pub AreNamed : {Id : Type 0} → (Id → FileModel) → List (InFile Id) → Type 0

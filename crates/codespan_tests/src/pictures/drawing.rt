@@ -171,7 +171,8 @@ pub fn assert_coloured(rt: &impl Abort, alloc: Global, drawing: Drawing<'_>) -> 
     Ok(())
 }
 
-/// A view writes this text: plain, in no colours, and by escape sequences, once they are taken out. What it answers.
+/// A view writes this text: plain, in no colours, and by escape sequences, once they are taken out. What it answers, which is
+/// `Ok` in colours where it is in plain text.
 pub fn assert_view_writes<'files, F: Files<'files>>(
     rt: &impl Abort,
     alloc: Global,
@@ -186,11 +187,13 @@ pub fn assert_view_writes<'files, F: Files<'files>>(
     assert_eq!(rt; plain.into_inner().as_slice(), text.as_bytes());
     let mut bytes = Vec::new(alloc);
     let mut colourless = StylesWriter::new(NoColor::new(&mut bytes), &styles);
-    let _answer = draw_view(&mut colourless, config, view, files);
+    let is_drawn = draw_view(&mut colourless, config, view, files).is_ok();
+    assert_eq!(rt; is_drawn, answer.is_ok());
     assert_eq!(rt; bytes.as_slice(), text.as_bytes());
     let mut bytes = Vec::new(alloc);
     let mut coloured = StylesWriter::new(Ansi::new(&mut bytes), &styles);
-    let _answer = draw_view(&mut coloured, config, view, files);
+    let is_drawn = draw_view(&mut coloured, config, view, files).is_ok();
+    assert_eq!(rt; is_drawn, answer.is_ok());
     assert_eq!(rt;
         without_sequences(alloc, bytes.as_slice())?.as_slice(),
         text.as_bytes()

@@ -5,7 +5,8 @@ ghost use Rattle.codespan_base.specs.declared.term.config.DisplayStyle.TheVarian
 ghost use Rattle.codespan_picture.specs.Picture.{label_of, labels_of};
 ghost use Rattle.codespan_renderer.specs.Renderers.{writer_of, config_of, SameRenderer};
 ghost use Rattle.codespan_reporting.specs.Headline.{DrawsShort};
-ghost use Rattle.codespan_reporting.specs.Inner.Headers.{DrawsHeaders, primary_of};
+ghost use Rattle.codespan_reporting.specs.Inner.Headers.{DrawsHeaders};
+ghost use Rattle.codespan_picture.specs.Snippets.{primary_of};
 
 use crate::term::renderer::Renderer;
 use crate::term::views::loci::{is_primary, locus_at};

@@ -4,7 +4,8 @@ use Rattle.codespan_base.specs.declared.term.config.Config.{Config}
 use Rattle.codespan_picture.specs.Picture.{label_of}
 use Rattle.codespan_picture.specs.Snippets.{InFile, has_any}
 use Rattle.codespan_renderer.specs.Renderers.{config_of, writer_of}
-use Rattle.codespan_reporting.specs.Inner.Headers.{HeadersCame, HeadersEnded, primary_of}
+use Rattle.codespan_reporting.specs.Inner.Headers.{HeadersCame, HeadersEnded}
+use Rattle.codespan_picture.specs.Snippets.{primary_of}
 use Rattle.codespan_reporting.proofs.HeaderRuns.{came_more, ended_before, ended_more, flags_more, none_yet, primary_cut, primary_next}
 use Rattle.codespan_reporting.proofs.term.views.short.draw_located.Goals as goal
 
