@@ -58,10 +58,6 @@ out_of_memory {T} e x same is = same ∙ inside x is
     inside : (y : Error) → IsErrOf {T = T} (Err y) OutOfMemory → y ≡ OutOfMemory
     inside y h = cc
 
--- a refusal tells an error that is equal
-pub same_error : (o : Option Error) (e x : Error) → e ≡ x → (x ≢ OutOfMemory → o ≡ Some x) → e ≢ OutOfMemory → o ≡ Some e
-same_error o e x same told = subst (λ (y : Error). y ≢ OutOfMemory → o ≡ Some y) (sym same) told
-
 -- nothing is sent and nothing is asked
 pub asking_nothing : (s : Sink) → SendsAsking None s [] (Ok tt) s
 asking_nothing s = (refl, (refl, λ told. sym (sent-nil s)))

@@ -119,7 +119,7 @@ module _ {Id : Type 0} (refusal : Refusals Id) (id : Id) (config : Config) (f : 
   refused_then ls ms e some = ap (first_refusal refusal) (map-append (λ l. (id, l)) ls ms) ∙ first_refusal-some refusal (asked_of id ls) (asked_of id ms) e some
 
   -- the lines below this one are done with: the file has them, what the label says of them is there, and no lookup was refused
-  pub record IsGathered (P : GivenEntry → Type 0) (at : LabelPlace) (old new : List GivenEntry) (n : ℕ) : Type 0 where
+  pub record GathersLines (P : GivenEntry → Type 0) (at : LabelPlace) (old new : List GivenEntry) (n : ℕ) : Type 0 where
     pub within : n ≤ line_count f
     pub added : Adds P old new (entries_below at n)
     pub answered : refused (lookups_below n) ≡ None
@@ -127,7 +127,7 @@ module _ {Id : Type 0} (refusal : Refusals Id) (id : Id) (config : Config) (f : 
   module _ (P : GivenEntry → Type 0) (at : LabelPlace) where
     -- no line below the first one that is near enough
     pub gathered-start : (xs : List GivenEntry) (n : ℕ) → last_line f x < line_count f → n ≤ last_line f x → n ≤ first_line f x - config.before_label_lines
-        → IsGathered P at xs xs n
+        → GathersLines P at xs xs n
     gathered-start xs n inside low far = record {
       within = omega arith;
       added = Adds-as P xs xs [] _ (gives_none (entries_on config f x at) 0 n (λ l _ high. no_entries at l (too_far l (omega arith)))) (Adds-none P xs);
@@ -140,8 +140,8 @@ module _ {Id : Type 0} (refusal : Refusals Id) (id : Id) (config : Config) (f : 
     -- one more line
     pub gathered-step : (xs ys zs : List GivenEntry) (n : ℕ) → first_line f x < line_count f → last_line f x < line_count f
         → n ≤ max (last_line f x + config.after_label_lines) (first_line f x)
-        → IsGathered P at xs ys n → (is_asked config f x n ≡ true → n < line_count f) → Adds P ys zs (entries_on config f x at n) → refused (lookups_on config f x n) ≡ None
-        → IsGathered P at xs zs (n + 1)
+        → GathersLines P at xs ys n → (is_asked config f x n ≡ true → n < line_count f) → Adds P ys zs (entries_on config f x at n) → refused (lookups_on config f x n) ≡ None
+        → GathersLines P at xs zs (n + 1)
     gathered-step xs ys zs n first last near g inside adds none = record {
       within = ⊎_elim (λ asked. let k = inside asked in omega arith) (λ skipped. further skipped) (cases_Bool (is_asked config f x n));
       added = Adds-as P xs zs _ _ (gives_more (entries_on config f x at) n) (Adds-both P xs ys zs _ _ g.added adds);
@@ -166,7 +166,7 @@ module _ {Id : Type 0} (refusal : Refusals Id) (id : Id) (config : Config) (f : 
     )
 
     -- the end of the lines that are near enough
-    gathered-end : (xs ys : List GivenEntry) (n : ℕ) → IsGathered P at xs ys n → first_line f x < n → last_line f x + config.after_label_lines < n
+    gathered-end : (xs ys : List GivenEntry) (n : ℕ) → GathersLines P at xs ys n → first_line f x < n → last_line f x + config.after_label_lines < n
         → Adds P xs ys (entries_of config f at x) × (refused all_lookups ≡ None)
     gathered-end xs ys n g first far =
         let all = all_said n g.within (λ l low high. above_both (first_line f x) (last_line f x) config.before_label_lines config.after_label_lines l (omega arith) (omega arith)) in
@@ -178,7 +178,7 @@ module _ {Id : Type 0} (refusal : Refusals Id) (id : Id) (config : Config) (f : 
         )
 
     -- the end of the file
-    pub gathered-context : (xs ys : List GivenEntry) (n : ℕ) → IsGathered P at xs ys n → line_count f ≤ n → ends_context (refusal id (LineRange n)) ≡ true
+    pub gathered-context : (xs ys : List GivenEntry) (n : ℕ) → GathersLines P at xs ys n → line_count f ≤ n → ends_context (refusal id (LineRange n)) ≡ true
         → Adds P xs ys (entries_of config f at x) × (refused all_lookups ≡ None)
     gathered-context xs ys n g past ends =
         let here : n ≡ line_count f = omega (arith, g.within) in
@@ -196,7 +196,7 @@ module _ {Id : Type 0} (refusal : Refusals Id) (id : Id) (config : Config) (f : 
         neither false = refl
 
     -- the end of all indices
-    gathered-whole : (xs ys : List GivenEntry) (n : ℕ) → IsGathered P at xs ys n → n ≡ 2 ^ 64 → IsLawful f → RefusesPastEnd f n (refusal id (LineRange n))
+    gathered-whole : (xs ys : List GivenEntry) (n : ℕ) → GathersLines P at xs ys n → n ≡ 2 ^ 64 → IsLawful f → RefusesPastEnd f n (refusal id (LineRange n))
         → Adds P xs ys (entries_of config f at x) × (refused all_lookups ≡ None)
     gathered-whole xs ys n g all law past_end =
         let past : line_count f ≤ n = omega (arith, all, lines_have_indices f law) in
@@ -221,7 +221,7 @@ module _ {Id : Type 0} (refusal : Refusals Id) (id : Id) (config : Config) (f : 
             absurd (omega (arith, none, all, g.within, lines_within_text f law))
 
     -- the end of the context, or of all indices
-    pub gathered-reach : (xs ys : List GivenEntry) (n : ℕ) → IsGathered P at xs ys n → first_line f x < n → min (last_line f x + config.after_label_lines + 1) (2 ^ 64) ≤ n → n ≤ 2 ^ 64
+    pub gathered-reach : (xs ys : List GivenEntry) (n : ℕ) → GathersLines P at xs ys n → first_line f x < n → min (last_line f x + config.after_label_lines + 1) (2 ^ 64) ≤ n → n ≤ 2 ^ 64
         → IsLawful f → RefusesPastEnd f n (refusal id (LineRange n)) → Adds P xs ys (entries_of config f at x) × (refused all_lookups ≡ None)
     gathered-reach xs ys n g first far below law past_end =
         ⊎_elim (λ (h : last_line f x + config.after_label_lines < n). gathered-end xs ys n g first h)
@@ -229,7 +229,7 @@ module _ {Id : Type 0} (refusal : Refusals Id) (id : Id) (config : Config) (f : 
         (cases_lt (last_line f x + config.after_label_lines) n)
 
     -- a line whose lookups are refused
-    pub gathered-refused : (xs ys : List GivenEntry) (n : ℕ) (e : Error) → first_line f x < line_count f → last_line f x < line_count f → IsGathered P at xs ys n → is_asked config f x n ≡ true
+    pub gathered-refused : (xs ys : List GivenEntry) (n : ℕ) (e : Error) → first_line f x < line_count f → last_line f x < line_count f → GathersLines P at xs ys n → is_asked config f x n ≡ true
         → line_refusal f (refusal id) (last_line f x) n ≡ Some e → refused all_lookups ≡ Some e
     gathered-refused xs ys n e first last g asked told =
         ⊎_elim (λ (h : n < line_count f). before_end h) (λ (h : line_count f ≤ n). at_end (omega (arith, g.within))) (cases_lt n (line_count f))

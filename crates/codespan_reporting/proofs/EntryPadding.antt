@@ -3,30 +3,24 @@ use Rattle.std.proofs.Common.{◌≡◌, ℕ, zero, suc, ◌+◌, ◌<◌, ◌�
 use Rattle.std.specs.Prelude.{Contains, fold}
 use Rattle.std.specs.Cmp.{IsEquivalence}
 use Rattle.std.specs.List.{All, AllByRecursion, list_any, range_with_len}
-use Rattle.std.specs.List.Sorted.{IsPermutation, IsSortedBy}
+use Rattle.std.specs.List.Sorted.{IsPermutation}
 use Rattle.std.proofs.lemmas.Bool.{and_parts, cases_Bool, eq-eqb, eqb-true, lt-ltb, true≢false}
 use Rattle.std.proofs.lemmas.List.Elements.{All-from_recursion, recursion_from_All}
 use Rattle.std.proofs.lemmas.List.Folds.{flat_map-map, list_any_at}
 use Rattle.std.proofs.lemmas.List.Sorted.{All-permutation, list_any-IsPermutation}
 use Rattle.codespan_base.specs.declared.term.config.Config.{Config}
-use Rattle.codespan_base.specs.declared.term.config.Layout.TheVariants.{Classic, Unbroken}
+use Rattle.codespan_base.specs.declared.term.config.Layout.TheVariants.{Classic}
 use Rattle.codespan_base.specs.FileModel.{FileModel, line_count}
-use Rattle.codespan_base.specs.FileModel.Lookup.{LineNumber}
 use Rattle.codespan_reporting.specs.declared.term.views.entry.Entry.{Entry as GivenEntry}
-use Rattle.codespan_reporting.specs.Inner.Entries.{Entry, entries_of, is_below, is_of_file, is_on_line}
+use Rattle.codespan_reporting.specs.Inner.Entries.{Entry, entries_of, is_of_file, is_on_line}
 use Rattle.codespan_reporting.specs.Inner.GivenEntries.{Adds, IsOfFiles, entry_of}
-use Rattle.codespan_reporting.specs.Inner.GivenPadding.{by_place, drawn_digits, filled_lookups, is_mark, filled_numbers, line_digits, marked_digits, steps_at}
-use Rattle.codespan_reporting.specs.Inner.GivenSheets.{known_numbers, numbers_from}
-use Rattle.codespan_picture.specs.Lines.{drawn_lines}
-use Rattle.codespan_picture.specs.Lookups.{Refusals, asked_of, numbers_for_padding}
+use Rattle.codespan_reporting.specs.Inner.GivenPadding.{is_mark, marked_digits}
+use Rattle.codespan_reporting.specs.Inner.Plans.{by_place}
 use Rattle.codespan_picture.specs.Padding.{digit_count, digits_of, numbered_lines, padding_of, spanned_lines, spans}
 use Rattle.codespan_reporting.specs.Inner.PlacedLabels.{IsAt, all_entries, entries_after, file_ids, file_place, place_after}
 use Rattle.codespan_picture.specs.Snippets.{InFile, LabelledFile, labelled_file, labelled_files}
-use Rattle.codespan_reporting.specs.Inner.Steps.{fills_of, lines_of_steps}
 use Rattle.codespan_reporting.proofs.EntryMarks as marks
-use Rattle.codespan_reporting.proofs.EntryPicture.{snippet-fills, snippet-lines}
 use Rattle.codespan_reporting.proofs.FileOrder.{file_ids-has, has}
-use Rattle.codespan_reporting.proofs.FileParts.{gathered-sorted}
 use Rattle.codespan_reporting.proofs.FilePlaces.{at-get, file_place-at}
 use Rattle.codespan_laws.proofs.Greatest.{greatest-bounds, greatest-same}
 use Rattle.codespan_reporting.proofs.LabelEntries.{all-of_file, marked-of_line}
@@ -48,7 +42,7 @@ gathered-each P gathered entries es adds perm =
 -- ---- ids at their places
 
 -- ids that give the same at their places
-by_place-same : {Id A : Type 0} (give : ℕ → Id → List A) (each : Id → List A) (k : ℕ) (js : List Id) → ((i : ℕ) (id : Id) → IsAt js i id → give (k + i) id ≡ each id)
+pub by_place-same : {Id A : Type 0} (give : ℕ → Id → List A) (each : Id → List A) (k : ℕ) (js : List Id) → ((i : ℕ) (id : Id) → IsAt js i id → give (k + i) id ≡ each id)
     → by_place give k js ≡ flat_map each js
 by_place-same give each k [] same = refl
 by_place-same {Id} {A} give each k (j ∷ js) same =
@@ -252,80 +246,3 @@ module _ {Id : Type 0} (same : Id → Id → Bool) (file : Id → FileModel) (o 
     -- the greatest digit count of marks is the padding
     pub spanned-room : fold max 0 (marked_digits entries) ≡ padding_of config (labelled_files same file xs)
     spanned-room = greatest-same (marked_digits entries) (flat_map (λ (s : LabelledFile). digits_of s (numbered_lines config s)) (labelled_files same file xs)) marks-fit lines-fit
-
-  -- ---- lines that are drawn
-
-  module _ (entries : List Entry) (perm : IsPermutation (all_entries same file config xs) entries) (up : IsSortedBy is_below entries) (unbroken : config.layout ≡ Unbroken) where
-    -- in the unbroken layout the numbers of drawn lines count
-    numbered : (id : Id) → numbered_lines config (labelled_file same file xs id) ≡ drawn_lines config (file id) (labelled_file same file xs id).labels
-    numbered id = ap (λ v. numbered_lines (record config { layout = v }) (labelled_file same file xs id)) unbroken
-
-    -- the digits of the numbers of the lines that the steps draw are those that the padding has room for
-    digits-are : drawn_digits file entries ids ≡ flat_map (λ (s : LabelledFile). digits_of s (numbered_lines config s)) (labelled_files same file xs)
-    digits-are =
-        by_place-same (λ k id. line_digits (file id) (lines_of_steps (steps_at entries k))) (λ id. digits_of (labelled_file same file xs id) (numbered_lines config (labelled_file same file xs id))) 0 ids
-        (λ i id at. let e : 0 + i ≡ i = omega arith in
-        ap (λ k. line_digits (file id) (lines_of_steps (steps_at entries k))) e
-        ∙ ap (line_digits (file id)) (snippet-lines same file o one_file some_line config xs entries perm up i id at ∙ sym (numbered id)))
-        ∙ sym (flat_map-map (λ (s : LabelledFile). digits_of s (numbered_lines config s)) (labelled_file same file xs) ids)
-
-    -- the lookups of the lines that the steps fill in are those of the padding
-    fills-are : (refusal : Refusals Id) → filled_lookups entries ids ≡ flat_map (λ id. asked_of id (numbers_for_padding config same file refusal xs config.layout id)) ids
-    fills-are refusal =
-        by_place-same (λ k id. asked_of id (map LineNumber (fills_of (steps_at entries k)))) (λ id. asked_of id (numbers_for_padding config same file refusal xs config.layout id)) 0 ids
-        (λ i id at. let e : 0 + i ≡ i = omega arith in
-        ap (λ k. asked_of id (map LineNumber (fills_of (steps_at entries k)))) e
-        ∙ ap (λ ls. asked_of id (map LineNumber ls)) (snippet-fills same file o one_file some_line config xs entries perm up i id at)
-        ∙ ap (λ v. asked_of id (numbers_for_padding config same file refusal xs v id)) (sym unbroken))
-
-    -- the numbers of the lines that the steps fill in are those that are known before the header
-    kept-are : filled_numbers file entries ids ≡ numbers_from config (labelled_files same file xs) 0
-    kept-are =
-        by_place-same (λ k id. map (file id).number (fills_of (steps_at entries k))) (λ id. known_numbers config.layout config (labelled_file same file xs id)) 0 ids
-        (λ i id at. let e : 0 + i ≡ i = omega arith in
-        ap (λ k. map (file id).number (fills_of (steps_at entries k))) e
-        ∙ ap (map (file id).number) (snippet-fills same file o one_file some_line config xs entries perm up i id at)
-        ∙ ap (λ v. known_numbers v config (labelled_file same file xs id)) (sym unbroken))
-        ∙ sym (flat_map-map (known_numbers config.layout config) (labelled_file same file xs) ids)
-
-  -- ---- what was gathered
-
-  module _ (gathered : List GivenEntry) (adds : Adds (IsOfFiles file (file_ids same xs)) [] gathered (all_entries same file config xs)) where
-    -- in the classic layout the greatest digit count of the marks, in whatever order, is the padding
-    pub marked_digits-gathered : (entries : List GivenEntry) → IsPermutation gathered entries → config.layout ≡ Classic → fold max 0 (marked_digits entries) ≡ padding_of config (labelled_files same file xs)
-    marked_digits-gathered entries perm classic =
-        spanned-room entries (gathered-each (IsOfFiles file ids) gathered entries all adds perm) (gathered-sorted all gathered entries (gathered-says (IsOfFiles file ids) gathered all adds) perm) classic
-
-    module _ (entries : List GivenEntry) (perm : IsPermutation gathered entries) (up : IsSortedBy is_below (map entry_of entries)) (unbroken : config.layout ≡ Unbroken) where
-      -- in the unbroken layout the greatest digit count of the lines that the sorted entries draw is
-      pub drawn_digits-gathered : fold max 0 (drawn_digits file (map entry_of entries) (file_ids same xs)) ≡ padding_of config (labelled_files same file xs)
-      drawn_digits-gathered =
-          ap (fold max 0) (digits-are (map entry_of entries) (gathered-sorted all gathered entries (gathered-says (IsOfFiles file ids) gathered all adds) perm) up unbroken)
-
-      -- and the numbers that they fill in are those of the early lookups
-      pub filled_lookups-gathered : (refusal : Refusals Id)
-          → filled_lookups (map entry_of entries) (file_ids same xs) ≡ flat_map (λ id. asked_of id (numbers_for_padding config same file refusal xs config.layout id)) (file_ids same xs)
-      filled_lookups-gathered = fills-are (map entry_of entries) (gathered-sorted all gathered entries (gathered-says (IsOfFiles file ids) gathered all adds) perm) up unbroken
-
-      -- and what is answered there is known before the header
-      pub filled_numbers-gathered : filled_numbers file (map entry_of entries) (file_ids same xs) ≡ numbers_from config (labelled_files same file xs) 0
-      filled_numbers-gathered = kept-are (map entry_of entries) (gathered-sorted all gathered entries (gathered-says (IsOfFiles file ids) gathered all adds) perm) up unbroken
-
--- in the classic layout no numbers are asked for
-pub numbers-classic : {Id : Type 0} (config : Config) (same : Id → Id → Bool) (file : Id → FileModel) (refusal : Refusals Id) (xs : List (InFile Id)) (js : List Id)
-    → config.layout ≡ Classic → flat_map (λ id. asked_of id (numbers_for_padding config same file refusal xs config.layout id)) js ≡ []
-numbers-classic {Id} config same file refusal xs js classic =
-    ap (λ v. flat_map (λ id. asked_of id (numbers_for_padding config same file refusal xs v id)) js) classic ∙ nothing js
-  where
-    nothing : (ks : List Id) → flat_map (λ id. asked_of id (numbers_for_padding config same file refusal xs Classic id)) ks ≡ []
-    nothing [] = refl
-    nothing (k ∷ ks) = nothing ks
-
--- and none are known before the header
-pub known-nothing : (config : Config) (ss : List LabelledFile) → flat_map (known_numbers Classic config) ss ≡ []
-known-nothing config [] = refl
-known-nothing config (s ∷ ss) = known-nothing config ss
-
--- the same of all files
-pub known-classic : (config : Config) (ss : List LabelledFile) → config.layout ≡ Classic → numbers_from config ss 0 ≡ []
-known-classic config ss classic = ap (λ v. flat_map (known_numbers v config) ss) classic ∙ known-nothing config ss

@@ -1,11 +1,11 @@
 -- The walk over entries as a view holds them.
 use Rattle.std.proofs.Common.{◌≡◌, ℕ, ◌+◌, ◌-◌, ◌<◌, ◌≤◌, List, [], ◌∷◌, ◌++◌, map, length, take, drop, get_or, slice_range, Option, Some, sym, ◌∙◌, ap, arith}
 use Rattle.std.specs.List.{prefix_len}
-use Rattle.std.proofs.lemmas.List.{drop-map, take-map, length-map, get_or-map, drop_all}
+use Rattle.std.proofs.lemmas.List.{drop-map, take-map, length-map, get_or-map}
 use Rattle.codespan_reporting.specs.declared.term.views.entry.Entry.{Entry as GivenEntry}
 use Rattle.codespan_reporting.specs.Inner.Entries.{Entry, is_shown, is_on_line}
 use Rattle.codespan_reporting.specs.Inner.GivenEntries.{entry_of}
-use Rattle.codespan_reporting.specs.Inner.Steps.{Step, Draw, groups, walk, gap_after}
+use Rattle.codespan_reporting.specs.Inner.Steps.{Step, Draw, groups, walk, gap_after, steps_to}
 use Rattle.codespan_reporting.proofs.FileParts.{next_part, prefix-map}
 use Rattle.codespan_reporting.proofs.GroupSteps.{IsGroup, part, without, next_group, steps-shown, steps-hidden, slice_range-more, slice_range-none}
 
@@ -70,8 +70,7 @@ shown-given m g is = is ∙ sym (prefix-map entry_of is_shown g)
 -- the steps up to a shown line: what stands before it, and the line itself
 abbrev pub shown_steps : List GivenEntry → ℕ → ℕ → ℕ → ℕ → GivenEntry → Option ℕ → List Step
 shown_steps xs at n m from d was =
-    gap_after was (index_at xs at d) (given (slice_range xs from at)) (given (given_without m (next_part xs at n)))
-    ++ Draw (index_at xs at d) (given (given_without m (next_part xs at n))) ∷ []
+    steps_to was (index_at xs at d) (given (slice_range xs from at)) (given (given_without m (next_part xs at n)))
 
 -- the steps of the entries that are left, where so many of them were skipped
 abbrev pub steps_left : List GivenEntry → ℕ → ℕ → Option ℕ → List Step
@@ -106,9 +105,3 @@ given-hidden xs at n m from d was counted is more order =
     (shown-given m (next_part xs at n) is ∙ ap (prefix_len is_shown) (sym g.group)) (omega (arith, own_length, g.long, more))
     (slice_range-more (given xs) from at n order (omega (arith, counted.inside, length-map xs entry_of)) g.next.len)
     ∙ (λ i. walk was (slice_range (given xs) from (at + g.long i)) (groups (drop (at + g.long i) (given xs))))
-
--- where all entries are gone, no step is left
-pub steps_left-none : (xs : List GivenEntry) (from at : ℕ) (was : Option ℕ) → length xs ≤ at → steps_left xs from at was ≡ []
-steps_left-none xs from at was past =
-    let past_map : length (given xs) ≤ at = omega (arith, length-map xs entry_of, past) in
-    ap (λ (es : List Entry). walk was (slice_range (given xs) from at) (groups es)) (drop_all at (given xs) past_map)

@@ -1,14 +1,12 @@
 -- The walk over entries in order, group by group.
-use Rattle.std.proofs.Common.{◌≡◌, ℕ, zero, suc, ◌+◌, ◌-◌, ◌<◌, ◌≤◌, true, false, List, [], ◌∷◌, ◌++◌, length, take, drop, get_or, slice_range, Option, Some, None, ⊎_elim, refl, sym, ◌∙◌, ap, subst, arith, length-drop}
-use Rattle.std.specs.Prelude.{◌==◌, nat_le}
+use Rattle.std.proofs.Common.{◌≡◌, ℕ, zero, suc, ◌+◌, ◌-◌, ◌<◌, ◌≤◌, true, false, List, [], ◌∷◌, ◌++◌, length, take, drop, get_or, slice_range, Option, Some, ⊎_elim, refl, sym, ◌∙◌, ap, subst, arith, length-drop}
 use Rattle.std.specs.List.{prefix_len}
 use Rattle.std.proofs.Math.Nat.{add-sub_cancel_left}
 use Rattle.std.proofs.Math.Seq.{take-add, take-length}
 use Rattle.std.proofs.lemmas.List.{get_or-drop, length-take-le, append_assoc, drop-drop}
 use Rattle.std.proofs.lemmas.Bool.{cases_Bool, eq-eqb}
-use Rattle.std.proofs.lemmas.Bool.Decides.{nat_tests}
 use Rattle.codespan_reporting.specs.Inner.Entries.{Entry, is_shown, is_on_line}
-use Rattle.codespan_reporting.specs.Inner.Steps.{Draw, Fill, groups, marks_of, gap_after, walk}
+use Rattle.codespan_reporting.specs.Inner.Steps.{Draw, groups, marks_of, gap_after, walk}
 use Rattle.codespan_reporting.proofs.EntryGroups.{groups-cons}
 
 -- ---- groups
@@ -62,26 +60,6 @@ walk-hidden was skipped (x ∷ group) gs some more =
   where
     fewer : is_shown x ≡ true → length (marks_of (x ∷ group)) ≤ length group
     fewer t = simp length-drop (rw t (omega arith))
-
--- ---- what stands between two shown lines
-
--- one line
-pub gap-one : (was : Option ℕ) (c d : ℕ) (skipped marks : List Entry) → was ≡ Some c → d ≡ c + 2 → gap_after was d skipped marks ≡ Fill (d - 1) skipped ∷ []
-gap-one was c d skipped marks is far =
-    let before : c + 1 ≡ d - 1 = omega arith in
-    ap (λ w. gap_after w d skipped marks) is ∙ rw (eq-eqb d (c + 2) far, before) refl
-
--- none
-pub gap-close : (was : Option ℕ) (c d : ℕ) (skipped marks : List Entry) → was ≡ Some c → d ≤ c + 1 → gap_after was d skipped marks ≡ []
-gap-close was c d skipped marks is near =
-    let other : (d == c + 2) ≡ false = grind (arith, nat_tests) in
-    let narrow : nat_le (c + 3) d ≡ false = grind (arith, nat_tests) in
-    ap (λ w. gap_after w d skipped marks) is ∙ rw (other, narrow) refl
-
--- before the first shown line stands nothing
-pub gap-first : (was : Option ℕ) (d : ℕ) (skipped marks : List Entry) → ((c : ℕ) → was ≡ Some c → ⊥) → gap_after was d skipped marks ≡ []
-gap-first None d skipped marks first = refl
-gap-first (Some c) d skipped marks first = absurd (first c refl)
 
 -- ---- the walk by places
 

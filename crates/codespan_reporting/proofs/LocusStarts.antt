@@ -1,21 +1,14 @@
 -- The least start of a file's labels, and the places at which snippets start.
-use Rattle.std.proofs.Common.{◌≡◌, ℕ, Bool, true, false, cond, ◌&&◌, List, [], ◌∷◌, ◌++◌, length, map, filter, flat_map, Some, None, refl, sym, ap, ◌∙◌, subst, arith, length-append}
+use Rattle.std.proofs.Common.{◌≡◌, ℕ, Bool, true, false, cond, ◌&&◌, List, [], ◌∷◌, map, filter, Some, None, refl, sym, ap, ◌∙◌}
 use Rattle.std.specs.Prelude.{IfSome, string_bytes, unwrap_or}
-use Rattle.std.specs.List.{AllZip}
-use Rattle.std.proofs.lemmas.List.{append-nil, map-append}
-use Rattle.std.proofs.lemmas.List.Concat.{flat_map-append}
 use Rattle.std.proofs.lemmas.Str.{IsUtf8-string_bytes}
-use Rattle.codespan_base.specs.declared.files.error.Error.{Error}
-use Rattle.codespan_base.specs.FileModel.{FileModel, Lookup}
+use Rattle.codespan_base.specs.FileModel.{FileModel}
 use Rattle.codespan_base.specs.Labels.{Labelled, is_primary}
 use Rattle.codespan_picture.specs.declared.given.Locus.{Locus}
 use Rattle.codespan_picture.specs.Given.{place_of_given}
 use Rattle.codespan_reporting.specs.Inner.Loci.{is_asked_label, least_if_any, starts_in}
-use Rattle.codespan_picture.specs.Lookups.{Refusals, asked_of, first_refusal, locus_lookups}
-use Rattle.codespan_picture.specs.Placed.{IsPlaceIn, IsPlaceOfFile}
-use Rattle.codespan_picture.specs.Snippets.{InFile, LabelledFile, if_any, labelled_file, least, locus_start}
-use Rattle.codespan_laws.proofs.PlacedPictures.{zip_append}
-use Rattle.codespan_reporting.proofs.Refusals.{first_refusal-some, first_refusal-none}
+use Rattle.codespan_picture.specs.Placed.{IsPlaceIn}
+use Rattle.codespan_picture.specs.Snippets.{InFile, if_any, labelled_file, least, locus_start}
 
 -- ---- the least start
 
@@ -91,42 +84,3 @@ module _ {Id : Type 0} (same : Id → Id → Bool) (file : Id → FileModel) (id
 pub located_place : (f : FileModel) (byte : ℕ) (locus : Locus) → IfSome f.name (λ bytes. string_bytes locus.name ≡ bytes) → locus.location ≡ f.location byte
     → IsPlaceIn f byte (place_of_given locus)
 located_place f byte locus text at = record { location = at; is_text = IsUtf8-string_bytes locus.name; is_stated = text }
-
--- the places of these files, whose lookups were answered
-pub record IsLocated {Id : Type 0} (same : Id → Id → Bool) (file : Id → FileModel) (refusal : Refusals Id) (xs : List (InFile Id)) (ids : List Id) (loci : List Locus) : Type 0 where
-  pub count : length loci ≡ length ids
-  pub places : AllZip IsPlaceOfFile (map (labelled_file same file xs) ids) (map place_of_given loci)
-  pub answered : first_refusal refusal (flat_map (λ id. asked_of id (locus_lookups same file xs id)) ids) ≡ None
-
-module _ {Id : Type 0} (same : Id → Id → Bool) (file : Id → FileModel) (refusal : Refusals Id) (xs : List (InFile Id)) where
-  -- the lookups of a file
-  abbrev asked_for : Id → List (Id × Lookup)
-  asked_for id = asked_of id (locus_lookups same file xs id)
-
-  -- one more file
-  pub located-more : (ids more : List Id) (id : Id) (loci : List Locus) (locus : Locus) → more ≡ ids ++ id ∷ [] → IsLocated same file refusal xs ids loci
-      → IsPlaceOfFile (labelled_file same file xs id) (place_of_given locus) → first_refusal refusal (asked_for id) ≡ None
-      → IsLocated same file refusal xs more (loci ++ locus ∷ [])
-  located-more ids more id loci locus is before at answered = record {
-    count = omega (arith, ap length is, length-append ids (id ∷ []), length-append loci (locus ∷ []), before.count);
-    places = subst (λ js. AllZip IsPlaceOfFile (map with_labels js) (map place_of_given (loci ++ locus ∷ []))) (sym is)
-        (subst (λ (ss : List LabelledFile). AllZip IsPlaceOfFile ss (map place_of_given (loci ++ locus ∷ []))) (sym (map-append with_labels ids (id ∷ [])))
-        (subst (AllZip IsPlaceOfFile (map with_labels ids ++ with_labels id ∷ [])) (sym (map-append place_of_given loci (locus ∷ [])))
-        (zip_append IsPlaceOfFile (map with_labels ids) (with_labels id ∷ []) (map place_of_given loci) (place_of_given locus ∷ []) before.places (at, tt))));
-    answered = ap (λ js. first_refusal refusal (flat_map asked_for js)) is
-        ∙ ap (first_refusal refusal) (flat_map-append asked_for ids (id ∷ []) ∙ ap (λ (ls : List (Id × Lookup)). flat_map asked_for ids ++ ls) (append-nil (asked_for id)))
-        ∙ first_refusal-none refusal (flat_map asked_for ids) (asked_for id) before.answered ∙ answered;
-  }
-    where
-      with_labels : Id → LabelledFile
-      with_labels j = labelled_file same file xs j
-
-  -- what a file is refused with refuses all of them
-  pub located-refused : (ids more rest all : List Id) (id : Id) (loci : List Locus) (e : Error) → more ≡ ids ++ id ∷ [] → all ≡ more ++ rest → IsLocated same file refusal xs ids loci
-      → first_refusal refusal (asked_for id) ≡ Some e → first_refusal refusal (flat_map asked_for all) ≡ Some e
-  located-refused ids more rest all id loci e is whole before told =
-      ap (λ js. first_refusal refusal (flat_map asked_for js)) (whole ∙ ap (λ (js : List Id). js ++ rest) is)
-      ∙ ap (first_refusal refusal) (flat_map-append asked_for (ids ++ id ∷ []) rest)
-      ∙ first_refusal-some refusal (flat_map asked_for (ids ++ id ∷ [])) (flat_map asked_for rest) e
-      (ap (first_refusal refusal) (flat_map-append asked_for ids (id ∷ []) ∙ ap (λ (ls : List (Id × Lookup)). flat_map asked_for ids ++ ls) (append-nil (asked_for id)))
-      ∙ first_refusal-none refusal (flat_map asked_for ids) (asked_for id) before.answered ∙ told)

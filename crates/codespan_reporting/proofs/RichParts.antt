@@ -1,7 +1,7 @@
 -- A rich picture, drawn part by part: its header, its snippets, and its notes.
 use Rattle.std.proofs.Common.{◌≡◌, ◌<◌, Bool, true, List, [], ◌∷◌, ◌++◌, length, map, None, Result, Ok, Err, ⊎_elim, refl, sym, subst, ap, ◌∙◌, arith}
 use Rattle.std.specs.Prelude.{IfErr}
-use Rattle.std.specs.List.{AllZip}
+use Rattle.std.specs.List.{AllByRecursion, AllZip}
 use Rattle.std.proofs.lemmas.Grind.{flat_map-append}
 use Rattle.std.proofs.lemmas.List.{append_assoc}
 use Rattle.codespan_base.specs.declared.term.config.Config.{Config}
@@ -14,9 +14,9 @@ use Rattle.codespan_base.specs.Streams.{Stream, newline}
 use Rattle.codespan_base.specs.WriterLaw.{Sink, Sends, Began, is_told}
 use Rattle.codespan_base.proofs.Sends.{Began-first, Began-last, sent-nil}
 use Rattle.codespan_reporting.specs.declared.term.views.sheet.Sheet.{Sheet}
+use Rattle.codespan_reporting.specs.declared.term.views.sheet.SheetFile.{SheetFile}
 use Rattle.codespan_reporting.specs.Inner.Asking.{Came, Stopped, EndedAsking, SendsAsking}
-use Rattle.codespan_picture.specs.Given.{place_of_given}
-use Rattle.codespan_reporting.specs.Inner.GivenSheets.{IsPrepared}
+use Rattle.codespan_reporting.specs.Inner.GivenSheets.{IsPrepared, IsSheetFile, ids_of, places_of}
 use Rattle.codespan_reporting.specs.Headline.{DrawsRich, NamesAreStated, drawn_picture}
 use Rattle.codespan_picture.specs.Lookups.{Refusals, early_lookups, first_refusal, late_lookups}
 use Rattle.codespan_picture.specs.Picture.{heading_of, labels_of, look_of, notes_of}
@@ -24,7 +24,7 @@ use Rattle.codespan_picture.specs.Padding.{padding_of}
 use Rattle.codespan_picture.specs.Placed.{IsPlaceOfFile, placed_picture, placed_snippets}
 use Rattle.codespan_picture.specs.Rows.{BlankRow, HeaderRow, Look, Place, Row}
 use Rattle.codespan_picture.specs.RowStreams.{header_row, stream_of, stream_of_rows}
-use Rattle.codespan_picture.specs.Snippets.{InFile, has_any, labelled_files, note_rows}
+use Rattle.codespan_picture.specs.Snippets.{InFile, has_any, labelled_file, labelled_files, note_rows}
 use Rattle.codespan_laws.proofs.PlacedPictures.{placed-named}
 use Rattle.codespan_base.proofs.Chains.{came-then, stopped-before, stopped-then, told-after}
 use Rattle.codespan_reporting.proofs.Chains.{Began-as}
@@ -68,7 +68,7 @@ module _ {Id : Type 0} (renderer view : Config) (same : Id → Id → Bool) (fil
 
   -- the snippets
   abbrev middle : Stream
-  middle = stream_of_rows look (placed_snippets view (has_any (notes_of d)) (map place_of_given sheet.loci.items) (labelled_files same file (labels_of d)))
+  middle = stream_of_rows look (placed_snippets view (has_any (notes_of d)) (places_of sheet.files.items) (labelled_files same file (labels_of d)))
 
   -- the notes and the empty line
   abbrev end : Stream
@@ -76,7 +76,16 @@ module _ {Id : Type 0} (renderer view : Config) (same : Id → Id → Bool) (fil
 
   -- where the snippets start
   abbrev places : List Place
-  places = map place_of_given sheet.loci.items
+  places = places_of sheet.files.items
+
+  -- they are places of the files
+  places-are : AllZip IsPlaceOfFile (labelled_files same file (labels_of d)) places
+  places-are = subst (λ (ids : List Id). AllZip IsPlaceOfFile (map (labelled_file same file (labels_of d)) ids) places) prepared.ids_are (from sheet.files.items prepared.files_are)
+    where
+      from : (fs : List (SheetFile Id)) → AllByRecursion (λ (f : SheetFile Id). IsSheetFile view (labelled_file same file (labels_of d) f.id) f) fs
+          → AllZip IsPlaceOfFile (map (labelled_file same file (labels_of d)) (ids_of fs)) (places_of fs)
+      from [] are = tt
+      from (f ∷ fs) are = (are.0.place, from fs are.1)
 
   -- the picture with these places is all of these
   placed-is : placed_picture renderer view same file d Rich places ≡ (header ++ middle) ++ end
@@ -89,7 +98,7 @@ module _ {Id : Type 0} (renderer view : Config) (same : Id → Id → Bool) (fil
 
   -- where the names are stated that is the picture
   picture-is : NamesAreStated file d → drawn_picture renderer view same file refusal d Rich ≡ (header ++ middle) ++ end
-  picture-is named = sym (placed-named same file d renderer view named Rich places prepared.places_are) ∙ placed-is
+  picture-is named = sym (placed-named same file d renderer view named Rich places places-are) ∙ placed-is
 
   -- the header was cut short
   pub stopped-in_header : (old new : Sink) (e : Error) → Sends old header (Err e) new → IsIo e → DrawsRich renderer view same file refusal d old (Err e) new
@@ -120,4 +129,4 @@ module _ {Id : Type 0} (renderer view : Config) (same : Id → Id → Bool) (fil
       → SendsAsking (first_refusal refusal (late_lookups view same file refusal (labels_of d))) mid middle (Ok tt) last
       → Sends last end r new → IfErr r IsIo → DrawsRich renderer view same file refusal d old r new
   drawn-whole old mid last new r came part sends io =
-      finished renderer view same file refusal d old last new (header ++ middle) end r early part.0 (came-then old header middle came part.1) sends io places prepared.places_are placed-is
+      finished renderer view same file refusal d old last new (header ++ middle) end r early part.0 (came-then old header middle came part.1) sends io places places-are placed-is

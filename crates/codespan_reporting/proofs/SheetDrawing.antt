@@ -1,11 +1,9 @@
 -- The snippets of a sheet, one after another.
-use Rattle.std.proofs.Common.{◌≡◌, ℕ, zero, suc, ◌+◌, ◌<◌, ◌≤◌, Bool, true, false, ◌&&◌, not, List, [], ◌∷◌, ◌++◌, length, drop, get_or, map, take, ◌-◌, Option, None, Ok, Err, refl, sym, subst, ap, ◌∙◌, arith, cond}
-use Rattle.std.specs.Prelude.{filter, flat_map, if◌then◌else◌}
-use Rattle.std.specs.List.{prefix_len}
-use Rattle.std.specs.List.Sorted.{IsSortedBy}
+use Rattle.std.proofs.Common.{◌≡◌, ℕ, zero, suc, ◌+◌, ◌-◌, ◌<◌, ◌≤◌, Bool, true, false, ◌&&◌, ◌||◌, not, List, [], ◌∷◌, ◌++◌, length, drop, get_or, map, Option, None, Result, Ok, Err, refl, sym, ap, ◌∙◌, arith, cond, lt-ltb}
+use Rattle.std.specs.Prelude.{filter, flat_map, nat_lt, if◌then◌else◌}
 use Rattle.std.proofs.Math.Seq.{drop-cons}
-use Rattle.std.proofs.lemmas.Grind.{flat_map-append}
-use Rattle.std.proofs.lemmas.List.{append-nil, append_assoc}
+use Rattle.std.proofs.lemmas.Grind.{common_steps, flat_map-append}
+use Rattle.std.proofs.lemmas.List.{append-nil, append_assoc, get_or-map, length-drop, length-map}
 use Rattle.std.proofs.lemmas.List.Sums.{sum_by-cons}
 use Rattle.codespan_base.specs.declared.term.config.Config.{Config}
 use Rattle.codespan_base.specs.declared.files.error.Error.{Error}
@@ -14,16 +12,19 @@ use Rattle.codespan_base.specs.Labels.{Labelled, is_single, multi_labels}
 use Rattle.codespan_base.specs.Streams.{Stream, newline}
 use Rattle.codespan_base.specs.WriterLaw.{Sink}
 use Rattle.codespan_reporting.specs.Inner.Asking.{SendsAsking}
-use Rattle.codespan_reporting.specs.declared.term.views.entry.Entry.{Entry as GivenEntry}
-use Rattle.codespan_reporting.specs.Inner.Entries.{is_below, is_of_file}
-use Rattle.codespan_reporting.specs.Inner.GivenEntries.{entry_of}
 use Rattle.codespan_picture.specs.Placed.{placed_snippet, placed_snippets}
-use Rattle.codespan_picture.specs.Lookups.{Refusals, first_refusal, snippet_lookups}
+use Rattle.codespan_picture.specs.Lookups.{Refusals, asked_of, first_refusal, snippet_lookups}
 use Rattle.codespan_reporting.specs.Inner.PlacedLabels.{lane_after, is_multi_of}
-use Rattle.codespan_picture.specs.Rows.{Look, Place, Row}
+use Rattle.codespan_picture.specs.Rows.{EmptyRow, Look, Place, Row, StartRow}
 use Rattle.codespan_picture.specs.RowStreams.{stream_of, stream_of_rows}
-use Rattle.codespan_picture.specs.Snippets.{InFile, LabelledFile, is_followed, labelled_file, lane_count}
-use Rattle.codespan_reporting.proofs.FileParts.{IsFilePart, from_file, next-file}
+use Rattle.codespan_picture.specs.Snippets.{InFile, LabelledFile, bare_lanes, is_followed, labelled_file, lane_count}
+use Rattle.codespan_base.specs.FileModel.Lookup.{Source}
+use Rattle.codespan_picture.specs.Given.{place_of_given}
+use Rattle.codespan_reporting.specs.Inner.GivenSheets.{IsSheetFile, ids_of, places_of}
+use Rattle.codespan_reporting.specs.Inner.GivenSnippets.{lookups_with, rows_in}
+use Rattle.codespan_reporting.specs.Inner.GivenSteps.{step_of}
+use Rattle.codespan_reporting.specs.Inner.Steps.{rows_of_steps}
+use Rattle.codespan_reporting.specs.declared.term.views.sheet.SheetFile.{SheetFile}
 use Rattle.codespan_reporting.proofs.Askings.{asking_as, asking_cut, asking_nothing, asking_then, first_refusal-append}
 
 -- the elements from one on: that one, and those after it
@@ -156,16 +157,56 @@ module _ {Id : Type 0} (same : Id → Id → Bool) (file : Id → FileModel) (re
       no-rows [] = refl
       no-rows (p ∷ ps) = refl
 
--- there is an element at a place below the length
-pub some-at : {X : Type 0} (xs : List X) (k : ℕ) → k < length xs → (x : X) × (x ≡ get_or xs k x)
-some-at [] k inside = absurd (omega arith)
-some-at (x ∷ xs) zero inside = (x, refl)
-some-at (x ∷ xs) (suc k) inside = some-at xs k (omega arith)
+-- ---- the files of a sheet
 
--- the entries of the next file, as a list that is equal has them
-pub next-part : (xs ys : List GivenEntry) → ys ≡ xs → (at n f : ℕ) → IsSortedBy is_below (map entry_of xs) → at ≤ length xs → drop at (map entry_of xs) ≡ from_file f (map entry_of xs)
-    → n ≡ prefix_len (λ e. is_of_file f (entry_of e)) (take (length ys - at) (drop at ys)) → n ≤ length (take (length ys - at) (drop at ys)) → IsFilePart xs at n f
-next-part xs ys same at n f up within rest is le =
-    next-file xs at n f up within rest
-    (subst (λ (es : List GivenEntry). n ≡ prefix_len (λ e. is_of_file f (entry_of e)) (take (length es - at) (drop at es))) same is)
-    (subst (λ (es : List GivenEntry). n ≤ length (take (length es - at) (drop at es))) same le)
+-- a snippet is followed by another one, or by notes
+followed-is : {X : Type 0} (has_notes : Bool) (ys : List X) → is_followed has_notes ys ≡ (has_notes || nat_lt 0 (length ys))
+followed-is true [] = refl
+followed-is false [] = refl
+followed-is true (y ∷ ys) = refl
+followed-is false (y ∷ ys) = sym (lt-ltb 0 (length (y ∷ ys)) (omega arith))
+
+-- something is left of a difference
+left-over : (a b : ℕ) → nat_lt 0 (b - a) ≡ nat_lt a b
+left-over a b = grind (arith, common_steps)
+
+-- something follows where there are notes or another file
+pub followed-at : {X : Type 0} (b : Bool) (xs : List X) (k : ℕ) → is_followed b (drop (k + 1) xs) ≡ (b || nat_lt (k + 1) (length xs))
+followed-at has_notes xs k =
+    followed-is has_notes (drop (k + 1) xs)
+    ∙ ap (λ n. has_notes || nat_lt 0 n) (length-drop (k + 1) xs)
+    ∙ ap (λ (b : Bool). has_notes || b) (left-over (k + 1) (length xs))
+
+module _ {Id : Type 0} (same : Id → Id → Bool) (file : Id → FileModel) (config : Config) (xs : List (InFile Id)) (f : SheetFile Id) (is : IsSheetFile config (labelled_file same file xs f.id) f) where
+  -- the file with its labels
+  abbrev own : LabelledFile
+  own = labelled_file same file xs f.id
+
+  -- its rows
+  rows-are : (followed : Bool) → rows_in f (file f.id) followed ≡ placed_snippet config followed (place_of_given f.locus) own
+  rows-are followed =
+      (λ i. (StartRow (place_of_given f.locus) ∷ EmptyRow (record { count = is.lanes_are i; marks = [] }) ∷ []) ++ rows_of_steps (file f.id) (is.lanes_are i) (map step_of f.steps.items)
+      ++ (if followed then EmptyRow (record { count = is.lanes_are i; marks = [] }) ∷ [] else []))
+      ∙ ap (λ (r : List Row). (StartRow (place_of_given f.locus) ∷ EmptyRow (bare_lanes own) ∷ []) ++ r ++ (if followed then EmptyRow (bare_lanes own) ∷ [] else [])) is.rows
+
+  -- the call draws its snippet, and makes its lookups
+  pub drawn-file : (refusal : Refusals Id) (look : Look) (old new : Sink) (r : Result (Unit {0}) Error) (followed other : Bool) → followed ≡ other
+      → SendsAsking (first_refusal refusal (asked_of f.id (lookups_with f))) old (stream_of_rows look (rows_in f (file f.id) followed)) r new
+      → SendsAsking (first_refusal refusal (snippet_lookups config same file xs f.id)) old (stream_of_rows look (placed_snippet config other (place_of_given f.locus) own)) r new
+  drawn-file refusal look old new r followed other alike drawn =
+      asking_as _ _ old new _ _ r (ap (λ (ls : List Lookup). first_refusal refusal (asked_of f.id (Source ∷ ls))) is.asked)
+      (ap (stream_of_rows look) (rows-are followed ∙ ap (λ (b : Bool). placed_snippet config b (place_of_given f.locus) own) alike)) drawn
+
+module _ {Id : Type 0} (files : List (SheetFile Id)) (k : ℕ) (f : SheetFile Id) (inside : k < length files) (at : f ≡ get_or files k f) where
+  -- its id and its place stand where it does
+  pub id-inside : k < length (ids_of files)
+  id-inside = omega (arith, inside, length-map files (λ (g : SheetFile Id). g.id))
+
+  pub id-at : f.id ≡ get_or (ids_of files) k f.id
+  id-at = ap (λ (g : SheetFile Id). g.id) at ∙ sym (get_or-map (λ (g : SheetFile Id). g.id) files k f f.id inside)
+
+  pub place-inside : k < length (places_of files)
+  place-inside = omega (arith, inside, length-map files (λ (g : SheetFile Id). place_of_given g.locus))
+
+  pub place-at : place_of_given f.locus ≡ get_or (places_of files) k (place_of_given f.locus)
+  place-at = ap (λ (g : SheetFile Id). place_of_given g.locus) at ∙ sym (get_or-map (λ (g : SheetFile Id). place_of_given g.locus) files k f (place_of_given f.locus) inside)

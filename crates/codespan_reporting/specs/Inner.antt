@@ -7,6 +7,8 @@ pub mod Entries
 pub mod GivenEntries
 pub mod PlacedLabels
 pub mod Steps
+pub mod GivenSteps
+pub mod Plans
 pub mod GivenSnippets
 pub mod GivenSheets
 pub mod GivenPadding

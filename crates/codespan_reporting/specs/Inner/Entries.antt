@@ -46,15 +46,17 @@ place_of Shown = 0
 place_of (Single place label) = place
 place_of (Multi mark) = 0
 
--- by file, line and kind; labels inside a line by their ranges, of equal ranges the one given last first; the others by lane
+-- by kind; labels inside a line by their ranges, of equal ranges the one given last first; the others by lane
+abbrev pub says_cmp : Says → Says → Ordering
+says_cmp x y =
+    ordering_then (nat_cmp (kind_of x) (kind_of y))
+    (ordering_then (nat_cmp (first_of x) (first_of y))
+    (ordering_then (nat_cmp (second_of x) (second_of y))
+    (nat_cmp (place_of y) (place_of x))))
+
+-- by file and line, and then by what is said
 abbrev pub entry_cmp : Entry → Entry → Ordering
-entry_cmp x y =
-    ordering_then (nat_cmp x.file y.file)
-    (ordering_then (nat_cmp x.line y.line)
-    (ordering_then (nat_cmp (kind_of x.says) (kind_of y.says))
-    (ordering_then (nat_cmp (first_of x.says) (first_of y.says))
-    (ordering_then (nat_cmp (second_of x.says) (second_of y.says))
-    (nat_cmp (place_of y.says) (place_of x.says))))))
+entry_cmp x y = ordering_then (nat_cmp x.file y.file) (ordering_then (nat_cmp x.line y.line) (says_cmp x.says y.says))
 
 -- one entry stands before another
 abbrev pub is_below : Entry → Entry → Bool

@@ -7,12 +7,11 @@ use Rattle.codespan_base.specs.FileModel.{FileModel, IsLineRange, Lookup}
 use Rattle.codespan_base.specs.Labels.{Labelled, from_line_start, mark_of, part_at}
 use Rattle.codespan_base.specs.Streams.{bytes}
 use Rattle.codespan_reporting.specs.declared.term.views.entry.Entry.{Entry as GivenEntry}
-use Rattle.codespan_reporting.specs.declared.term.views.entry.Key.{Key}
 use Rattle.codespan_reporting.specs.declared.term.views.entry.Says.{Says as GivenSays}
 use Rattle.codespan_reporting.specs.declared.term.views.entry.Says.TheVariants as given
 use Rattle.codespan_reporting.specs.declared.term.views.entry.SourceLine.{SourceLine}
 use Rattle.codespan_reporting.specs.declared.term.views.gather.LabelPlace.{LabelPlace as GivenPlace}
-use Rattle.codespan_reporting.specs.Inner.Entries.{Entry, LabelPlace, Says, Shown, Single, Multi, kind_of, first_of, second_of, place_of, line_entries}
+use Rattle.codespan_reporting.specs.Inner.Entries.{Entry, LabelPlace, Says, Shown, Single, Multi, line_entries}
 use Rattle.codespan_picture.specs.Given.{part_of}
 use Rattle.codespan_picture.specs.Lookups.{is_asked, of_line}
 use Rattle.codespan_reporting.specs.Inner.PlacedLabels.{IsAt}
@@ -26,17 +25,6 @@ says_of (given.Multi lane style mark) = Multi (record { lane = lane; style = sty
 -- an entry
 abbrev pub entry_of : GivenEntry → Entry
 entry_of e = record { file = e.file; line = e.line.index; says = says_of e.says }
-
--- the key of one
-abbrev pub key_of : GivenEntry → Key
-key_of e = record {
-  file = e.file;
-  line = e.line.index;
-  kind = kind_of (says_of e.says);
-  first = first_of (says_of e.says);
-  second = second_of (says_of e.says);
-  place = record { 0 = place_of (says_of e.says) };
-}
 
 -- the line is one of the file's, with its number and its range
 pub record IsLineOf (f : FileModel) (line : SourceLine) : Type 0 where

@@ -1,38 +1,68 @@
--- What a view knows before it draws: the files of the labels, their entries in order, and the numbers that are known.
-use Rattle.std.specs.Prelude.{◌≡◌, ℕ, Bool, List, [], All, drop, flat_map, length, map}
-use Rattle.std.specs.List.{AllZip}
+-- What a view knows before it draws: what labels say of lines, in order, and the files of the picture with what is drawn of them.
+use Rattle.std.specs.Prelude.{◌≡◌, Bool, List, ◌++◌, flat_map, map, None}
+use Rattle.std.specs.List.{AllByRecursion}
 use Rattle.std.specs.List.Sorted.{IsPermutation, IsSortedBy}
 use Rattle.codespan_base.specs.declared.term.config.Config.{Config}
-use Rattle.codespan_base.specs.declared.term.config.Layout.{Layout}
-use Rattle.codespan_base.specs.declared.term.config.Layout.TheVariants.{Classic, Unbroken}
-use Rattle.codespan_base.specs.FileModel.{FileModel}
-use Rattle.codespan_reporting.specs.declared.term.views.sheet.Sheet.{Sheet}
-use Rattle.codespan_reporting.specs.Inner.Entries.{is_below}
+use Rattle.codespan_base.specs.FileModel.{FileModel, Lookup}
 use Rattle.codespan_picture.specs.Given.{place_of_given}
-use Rattle.codespan_reporting.specs.Inner.GivenEntries.{IsOfFiles, entry_of}
-use Rattle.codespan_picture.specs.Lookups.{filled_lines}
+use Rattle.codespan_picture.specs.Lines.{drawn_lines}
+use Rattle.codespan_picture.specs.Lookups.{Refusals, asked_of, filled_lines, locus_lookups, numbers_for_padding, of_filled}
 use Rattle.codespan_picture.specs.Padding.{padding_of}
 use Rattle.codespan_picture.specs.Placed.{IsPlaceOfFile}
+use Rattle.codespan_picture.specs.Rows.{Place}
+use Rattle.codespan_picture.specs.Snippets.{InFile, LabelledFile, labelled_file, labelled_files, lane_count, rows_after}
+use Rattle.codespan_reporting.specs.declared.term.views.gather.Gathered.{Gathered}
+use Rattle.codespan_reporting.specs.declared.term.views.plan.FilePlan.{FilePlan}
+use Rattle.codespan_reporting.specs.declared.term.views.sheet.Sheet.{Sheet}
+use Rattle.codespan_reporting.specs.declared.term.views.sheet.SheetFile.{SheetFile}
+use Rattle.codespan_reporting.specs.Inner.Entries.{is_below}
+use Rattle.codespan_reporting.specs.Inner.GivenEntries.{IsOfFiles, entry_of}
+use Rattle.codespan_reporting.specs.Inner.GivenSteps.{IsStepOf, asked_by_all, step_of}
 use Rattle.codespan_reporting.specs.Inner.PlacedLabels.{all_entries, file_ids, lane_after}
-use Rattle.codespan_picture.specs.Snippets.{InFile, LabelledFile, labelled_files}
+use Rattle.codespan_reporting.specs.Inner.StepDrawing.{DoFit}
+use Rattle.codespan_reporting.specs.Inner.Steps.{rows_of_steps}
 
--- the numbers of a file's lines that are known before the header: in the unbroken layout those of the lines that are filled in, in the classic one none
-abbrev pub known_numbers : Layout → Config → LabelledFile → List ℕ
-known_numbers Classic config s = []
-known_numbers Unbroken config s = map s.file.number (filled_lines config s)
+-- where the snippet of each file starts
+abbrev pub places_of : {Id : Type 0} → List (SheetFile Id) → List Place
+places_of {Id} files = map (λ (f : SheetFile Id). place_of_given f.locus) files
 
--- those of the files from the place k on
-abbrev pub numbers_from : Config → List LabelledFile → ℕ → List ℕ
-numbers_from config ss k = flat_map (known_numbers config.layout config) (drop k ss)
+-- what names each file
+abbrev pub ids_of : {Id : Type 0} → List (SheetFile Id) → List Id
+ids_of {Id} files = map (λ (f : SheetFile Id). f.id) files
 
--- the sheet is that of these labels
-pub record IsPrepared {Id : Type 0} (same : Id → Id → Bool) (file : Id → FileModel) (config : Config) (xs : List (InFile Id)) (sheet : Sheet Id) : Type 0 where
-  pub ids_are : sheet.ids.items ≡ file_ids same xs
-  pub lanes_are : sheet.lane_counts.items ≡ map (lane_after same file xs) sheet.ids.items
-  pub sorted : IsSortedBy is_below (map entry_of sheet.entries.items)
-  pub permutation : IsPermutation (all_entries same file config xs) (map entry_of sheet.entries.items)
-  pub lines : All (IsOfFiles file sheet.ids.items) sheet.entries.items
-  pub loci_count : length sheet.loci.items ≡ length sheet.ids.items
-  pub padding_is : sheet.padding ≡ padding_of config (labelled_files same file xs)
-  pub numbers_are : sheet.filled_numbers.items ≡ numbers_from config (labelled_files same file xs) 0
-  pub places_are : AllZip IsPlaceOfFile (labelled_files same file xs) (map place_of_given sheet.loci.items)
+-- the file of a picture is that of its labels: its lanes, where its snippet starts, what its steps draw, and what they ask for
+pub record IsSheetFile {Id : Type 0} (config : Config) (s : LabelledFile) (f : SheetFile Id) : Type 0 where
+  pub lanes_are : f.lane_count ≡ lane_count s
+  pub place : IsPlaceOfFile s (place_of_given f.locus)
+  pub each : AllByRecursion (IsStepOf s.file) f.steps.items
+  pub fits : DoFit (lane_count s) (map step_of f.steps.items)
+  pub rows : rows_of_steps s.file (lane_count s) (map step_of f.steps.items) ≡ rows_after s None (drawn_lines config s.file s.labels)
+  pub asked : asked_by_all f.steps.items ≡ flat_map (of_filled config.layout) (filled_lines config s)
+
+module _ {Id : Type 0} (same : Id → Id → Bool) (file : Id → FileModel) where
+  -- this was gathered of these labels, and is in order
+  pub record IsGathered (config : Config) (xs : List (InFile Id)) (gathered : Gathered Id) : Type 0 where
+    pub ids_are : gathered.ids.items ≡ file_ids same xs
+    pub lanes_are : gathered.lane_counts.items ≡ map (lane_after same file xs) gathered.ids.items
+    pub sorted : IsSortedBy is_below (map entry_of gathered.entries.items)
+    pub permutation : IsPermutation (all_entries same file config xs) (map entry_of gathered.entries.items)
+    pub lines : AllByRecursion (IsOfFiles file gathered.ids.items) gathered.entries.items
+
+  -- a plan, with the place at which the file's snippet starts
+  pub record IsPlacedPlan (xs : List (InFile Id)) (plan : FilePlan Id) (placed : SheetFile Id) : Type 0 where
+    pub id_is : placed.id ≡ plan.id
+    pub lanes_are : placed.lane_count ≡ plan.lane_count
+    pub steps_are : placed.steps.items ≡ plan.steps.items
+    pub place : IsPlaceOfFile (labelled_file same file xs plan.id) (place_of_given placed.locus)
+
+  -- the sheet is that of these labels
+  pub record IsPrepared (config : Config) (xs : List (InFile Id)) (sheet : Sheet Id) : Type 0 where
+    pub ids_are : ids_of sheet.files.items ≡ file_ids same xs
+    pub files_are : AllByRecursion (λ f. IsSheetFile config (labelled_file same file xs f.id) f) sheet.files.items
+    pub padding_is : sheet.padding ≡ padding_of config (labelled_files same file xs)
+
+-- the lookups of the numbers and places of a picture's files, which come after those of its labels
+abbrev pub sheet_lookups : {Id : Type 0} → Config → (Id → Id → Bool) → (Id → FileModel) → Refusals Id → List (InFile Id) → List (Id × Lookup)
+sheet_lookups config same file refusal xs =
+    flat_map (λ id. asked_of id (numbers_for_padding config same file refusal xs config.layout id)) (file_ids same xs)
+    ++ flat_map (λ id. asked_of id (locus_lookups same file xs id)) (file_ids same xs)

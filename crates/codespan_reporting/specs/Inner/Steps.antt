@@ -1,14 +1,11 @@
 -- The steps that entries in order make: lines that are drawn, lines that are filled in, and breaks.
-use Rattle.std.specs.Prelude.{◌≡◌, ℕ, ◌+◌, Bool, ◌==◌, List, [], ◌∷◌, ◌++◌, map, flat_map, drop, Option, Some, None, if◌then◌else◌}
+use Rattle.std.specs.Prelude.{ℕ, ◌+◌, Bool, ◌==◌, List, [], ◌∷◌, ◌++◌, flat_map, drop, Option, Some, None, if◌then◌else◌}
 use Rattle.std.specs.List.{prefix_len, filter_map}
-use Rattle.codespan_base.specs.declared.term.config.Layout.{Layout}
-use Rattle.codespan_base.specs.declared.term.config.Layout.TheVariants.{Classic, Unbroken}
-use Rattle.codespan_base.specs.FileModel.{FileModel, Lookup, line_text}
+use Rattle.codespan_base.specs.FileModel.{FileModel, line_text}
 use Rattle.codespan_base.specs.Labels.{Labelled, LaneMark}
 use Rattle.codespan_picture.specs.Cells.{drawn_text}
 use Rattle.codespan_picture.specs.Lanes.{ascend_from}
 use Rattle.codespan_picture.specs.Lines.{is_broken}
-use Rattle.codespan_picture.specs.Lookups.{of_filled}
 use Rattle.codespan_picture.specs.Rows.{Line, Row, BreakRow, rows_of}
 use Rattle.codespan_reporting.specs.Inner.Entries.{Entry, Says, Shown, Single, Multi, is_shown}
 
@@ -43,6 +40,10 @@ gap c d skipped marks = if d == c + 2 then Fill (c + 1) skipped ∷ [] else if i
 abbrev pub gap_after : Option ℕ → ℕ → List Entry → List Entry → List Step
 gap_after None d skipped marks = []
 gap_after (Some c) d skipped marks = gap c d skipped marks
+
+-- the steps up to a shown line: what stands before it, and the line itself
+abbrev pub steps_to : Option ℕ → ℕ → List Entry → List Entry → List Step
+steps_to was d skipped marks = gap_after was d skipped marks ++ Draw d marks ∷ []
 
 -- the steps of these groups, where `was` is the last shown line, and these entries were skipped since then
 abbrev pub walk : Option ℕ → List Entry → List (List Entry) → List Step
@@ -110,15 +111,6 @@ fill_of (Break es) = []
 -- the lines that are filled in
 abbrev pub fills_of : List Step → List ℕ
 fills_of steps = flat_map fill_of steps
-
--- the lookups with the steps: what is asked for of each line that is filled in
-abbrev pub lookups_of_steps : Layout → List Step → List Lookup
-lookups_of_steps layout steps = flat_map (of_filled layout) (fills_of steps)
-
--- these are the numbers, known before the header, of lines that are filled in, and then later ones; in the classic layout none is known
-abbrev pub AreKnown : Layout → FileModel → List ℕ → List ℕ → List ℕ → Type 0
-AreKnown Classic f ls numbers later = (numbers ≡ []) × (later ≡ [])
-AreKnown Unbroken f ls numbers later = numbers ≡ map f.number ls ++ later
 
 -- the line of a step that draws one
 abbrev pub line_of_step : Step → List ℕ

@@ -10,12 +10,13 @@ mod loci;
 mod marks;
 mod padding;
 mod parts;
-mod pass;
+mod plan;
 mod rich;
 mod sheet;
 mod short;
 mod snippets;
 mod sort;
+mod steps;
 
 pub use rich::RichDiagnostic;
 pub use short::ShortDiagnostic;

@@ -1,8 +1,7 @@
-//! What labels say of lines, and the order in which a picture takes it.
+//! What labels say of lines.
 
 use crate::term::renderer::MultiLabel;
 use codespan_base::diagnostic::LabelStyle;
-use std::cmp::Reverse;
 
 /// A line of a file, as its lookups gave it.
 #[derive(Clone, Copy)]
@@ -55,22 +54,4 @@ pub struct Entry<'d> {
     pub line: SourceLine,
     /// What is said of it.
     pub says: Says<'d>,
-}
-
-/// The order of entries: by file, by line, and by kind; labels inside a line by their ranges, and of equal ranges the one given
-/// last first; labels over several lines by their lanes. Only equal entries share a key.
-#[derive(Clone, Copy, PartialEq, Eq, PartialOrd, Ord)]
-pub struct Key {
-    /// The file's place.
-    pub file: usize,
-    /// The line's index.
-    pub line: usize,
-    /// 0 where the line is shown, 1 for a label inside it, 2 for one over several lines.
-    pub kind: usize,
-    /// The start of a label inside the line, or the lane of one over several lines.
-    pub first: usize,
-    /// The end of a label inside the line.
-    pub second: usize,
-    /// The place of a label inside the line.
-    pub place: Reverse<usize>,
 }

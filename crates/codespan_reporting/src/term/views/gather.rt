@@ -8,6 +8,7 @@ ghost use Rattle.codespan_base.specs.Labels.{first_line, from_line_start, is_sin
 ghost use Rattle.codespan_picture.specs.Given.{part_of};
 ghost use Rattle.codespan_reporting.specs.Inner.Entries.{Single, line_entries, entries_of};
 ghost use Rattle.codespan_reporting.specs.Inner.GivenEntries.{Adds, AddsOf, IsLineOf, IsOfFiles, entries_on, label_place, lookups_on, said, says_at, says_of};
+ghost use Rattle.codespan_reporting.specs.Inner.GivenSheets.{IsGathered};
 ghost use Rattle.codespan_picture.specs.Lookups.{asked_lines, asked_of, ends_context, first_refusal, is_asked, label_lookups, line_refusal, of_label, of_line, probe};
 ghost use Rattle.codespan_picture.specs.Picture.{label_of};
 ghost use Rattle.codespan_reporting.specs.Inner.PlacedLabels.{all_entries, file_ids, lane_after};
@@ -16,6 +17,7 @@ use crate::term::renderer::MultiLabel;
 use crate::term::views::entry::{Entry, Says, SourceLine};
 use crate::term::views::file_order::{file_ids, file_place};
 use crate::term::views::label_lines::{LabelLines, label_lines};
+use crate::term::views::sort::sort;
 use codespan_base::diagnostic::Label;
 use codespan_base::files::{Error, Files};
 use codespan_base::term::Config;
@@ -30,32 +32,6 @@ pub struct LabelPlace {
     pub place: usize,
     /// The lane that it has where it is over several lines.
     pub lane: usize,
-}
-
-/// A line that a label asks for. After the label's last line, `None` says that the file ends before it.
-fn find_line<'files, F: Files<'files>>(
-    files: &'files F,
-    id: F::FileId,
-    lines: LabelLines,
-    index: usize,
-) -> Result<Option<SourceLine>, Error>
-    ensures found { IfOk result (λ found. IfSome found (λ line. (line.index ≡ index) × IsLineOf (F.file files.now id) line)) }
-    ensures answered { IfOk result (λ found. IfSome found (λ _. first_refusal (F.refusal files.now) (asked_of id (of_line index)) ≡ None)) }
-    ensures ended { IfOk result (λ found. found ≡ None → (line_count (F.file files.now id) ≤ index) × (ends_context (F.refusal files.now id (LineRange index)) ≡ true)) }
-    ensures refused { Tells (line_refusal (F.file files.now id) (F.refusal files.now id) lines.last index) result }
-{
-    let range = match files.line_range(id, index) {
-        Ok(range) => range,
-        Err(Error::LineTooLarge { .. }) if index > lines.last => return Ok(None),
-        Err(error) => return Err(error),
-    };
-    let number = files.line_number(id, index)?;
-    Ok(Some(SourceLine {
-        index,
-        number,
-        start: range.start,
-        end: range.end,
-    }))
 }
 
 /// What a label over several lines does on a line, if it does anything there.
@@ -134,101 +110,138 @@ fn push_said<'d>(
     Ok(())
 }
 
-/// Adds what a label says of a line: that the line is shown, and what the label has on it.
-fn push_line<'d, FileId>(
-    config: &Config<'_>,
+/// How the lines of a label are asked for.
+#[derive(Drop)]
+struct Asking<'a, 'c, 'files, F> {
+    /// The table that its file is in.
+    files: &'files F,
+    /// The configuration, which says how far the context lines around labels reach.
+    config: &'a Config<'c>,
+    /// Where the label is among those of the diagnostic.
     at: LabelPlace,
-    label: &'d Label<FileId>,
+    /// The lines that it starts and ends on.
     lines: LabelLines,
-    line: SourceLine,
-    entries: &mut Vec<Entry<'d>>,
-) -> Result<(), Error>
-    ensures added { OnOk result ((f : FileModel) → first_line f (label_of label.now).label ≡ lines.first → last_line f (label_of label.now).label ≡ lines.last → IsLineOf f line → AddsOf f entries.old.items entries.new.items (line_entries config.now f (label_place at) (label_of label.now).label line.index)) }
-    ensures refused { OnErr result (IsErrOf result Error.OutOfMemory) }
-{
-    let shown = lines.shows(config, line.index).then_some(Says::Shown);
-    push_said(at.file, line, shown, entries)?;
-    push_said(at.file, line, mark_says(at, label, lines, line), entries)?;
-    Ok(())
 }
 
-/// Asks for a line and adds what the label says of it, where the label asks for that line at all. Gives whether the context goes on:
-/// it ends with the file.
-fn gather_line<'files, 'd, F: Files<'files>>(
-    files: &'files F,
-    config: &Config<'_>,
-    at: LabelPlace,
-    label: &'d Label<F::FileId>,
-    lines: LabelLines,
-    index: usize,
-    entries: &mut Vec<Entry<'d>>,
-) -> Result<bool, Error>
-    requires first { first_line (F.file files.now label.now.file_id) (label_of label.now).label ≡ lines.first }
-    requires last { last_line (F.file files.now label.now.file_id) (label_of label.now).label ≡ lines.last }
-    ensures inside { IfOk result (λ goes_on. goes_on ≡ true → is_asked config.now (F.file files.now label.now.file_id) (label_of label.now).label index ≡ true → index < line_count (F.file files.now label.now.file_id)) }
-    ensures added { IfOk result (λ goes_on. goes_on ≡ true → AddsOf (F.file files.now label.now.file_id) entries.old.items entries.new.items (entries_on config.now (F.file files.now label.now.file_id) (label_of label.now).label (label_place at) index)) }
-    ensures answered { IfOk result (λ goes_on. goes_on ≡ true → first_refusal (F.refusal files.now) (asked_of label.now.file_id (lookups_on config.now (F.file files.now label.now.file_id) (label_of label.now).label index)) ≡ None) }
-    ensures ended { IfOk result (λ goes_on. goes_on ≡ false → (entries.new.items ≡ entries.old.items) × (line_count (F.file files.now label.now.file_id) ≤ index) × (ends_context (F.refusal files.now label.now.file_id (LineRange index)) ≡ true)) }
-    ensures refused { IfErr result (λ e. e ≢ Error.OutOfMemory → (is_asked config.now (F.file files.now label.now.file_id) (label_of label.now).label index ≡ true) × (line_refusal (F.file files.now label.now.file_id) (F.refusal files.now label.now.file_id) lines.last index ≡ Some e)) }
-{
-    if !lines.spans(index) && !lines.is_around(config, index) {
-        return Ok(true);
+impl<'a, 'c, 'files, F: Files<'files>> Asking<'a, 'c, 'files, F> {
+    /// A line that the label asks for. After the label's last line, `None` says that the file ends before it.
+    fn find_line(&self, id: F::FileId, index: usize) -> Result<Option<SourceLine>, Error>
+        ensures found { IfOk result (λ found. IfSome found (λ line. (line.index ≡ index) × IsLineOf (F.file self.now.files.now id) line)) }
+        ensures answered { IfOk result (λ found. IfSome found (λ _. first_refusal (F.refusal self.now.files.now) (asked_of id (of_line index)) ≡ None)) }
+        ensures ended { IfOk result (λ found. found ≡ None → (line_count (F.file self.now.files.now id) ≤ index) × (ends_context (F.refusal self.now.files.now id (LineRange index)) ≡ true)) }
+        ensures refused { Tells (line_refusal (F.file self.now.files.now id) (F.refusal self.now.files.now id) self.now.lines.last index) result }
+    {
+        let range = match self.files.line_range(id, index) {
+            Ok(range) => range,
+            Err(Error::LineTooLarge { .. }) if index > self.lines.last => return Ok(None),
+            Err(error) => return Err(error),
+        };
+        let number = self.files.line_number(id, index)?;
+        Ok(Some(SourceLine {
+            index,
+            number,
+            start: range.start,
+            end: range.end,
+        }))
     }
-    let Some(line) = find_line(files, label.file_id, lines, index)? else {
-        return Ok(false);
-    };
-    push_line(config, at, label, lines, line, entries)?;
-    Ok(true)
-}
 
-/// Adds what a label says of the lines that it asks for, in their order, up to the greatest index at most.
-fn gather_lines<'files, 'd, F: Files<'files>>(
-    files: &'files F,
-    config: &Config<'_>,
-    at: LabelPlace,
-    label: &'d Label<F::FileId>,
-    lines: LabelLines,
-    entries: &mut Vec<Entry<'d>>,
-) -> Result<(), Error>
-    requires first { first_line (F.file files.now label.now.file_id) (label_of label.now).label ≡ lines.first }
-    requires last { last_line (F.file files.now label.now.file_id) (label_of label.now).label ≡ lines.last }
-    ensures added { OnOk result (AddsOf (F.file files.now label.now.file_id) entries.old.items entries.new.items (entries_of config.now (F.file files.now label.now.file_id) (label_place at) (label_of label.now).label)) }
-    ensures refused { Tells (first_refusal (F.refusal files.now) (asked_of label.now.file_id (flat_map of_line (asked_lines config.now (F.file files.now label.now.file_id) (label_of label.now).label) ++ probe config.now (F.file files.now label.now.file_id) (F.refusal files.now label.now.file_id) (label_of label.now).label))) result }
-{
-    let first = lines.first.saturating_sub(config.before_label_lines);
-    let last = lines.last.saturating_add(config.after_label_lines);
-    for index in first.min(lines.last)..=last.max(lines.first) {
-        if !gather_line(files, config, at, label, lines, index, entries)? {
-            return Ok(());
+    /// Adds what the label says of a line: that the line is shown, and what the label has on it.
+    fn push_line<'d>(
+        &self,
+        label: &'d Label<F::FileId>,
+        line: SourceLine,
+        entries: &mut Vec<Entry<'d>>,
+    ) -> Result<(), Error>
+        requires first { first_line (F.file self.now.files.now label.now.file_id) (label_of label.now).label ≡ self.now.lines.first }
+        requires last { last_line (F.file self.now.files.now label.now.file_id) (label_of label.now).label ≡ self.now.lines.last }
+        requires line { IsLineOf (F.file self.now.files.now label.now.file_id) line }
+        ensures added { OnOk result (AddsOf (F.file self.now.files.now label.now.file_id) entries.old.items entries.new.items (line_entries self.now.config.now (F.file self.now.files.now label.now.file_id) (label_place self.now.at) (label_of label.now).label line.index)) }
+        ensures refused { OnErr result (IsErrOf result Error.OutOfMemory) }
+    {
+        let shown = self
+            .lines
+            .shows(self.config, line.index)
+            .then_some(Says::Shown);
+        push_said(self.at.file, line, shown, entries)?;
+        push_said(
+            self.at.file,
+            line,
+            mark_says(self.at, label, self.lines, line),
+            entries,
+        )?;
+        Ok(())
+    }
+
+    /// Asks for a line and adds what the label says of it, where the label asks for that line at all. Gives whether the context goes
+    /// on: it ends with the file.
+    fn gather_line<'d>(
+        &self,
+        label: &'d Label<F::FileId>,
+        index: usize,
+        entries: &mut Vec<Entry<'d>>,
+    ) -> Result<bool, Error>
+        requires first { first_line (F.file self.now.files.now label.now.file_id) (label_of label.now).label ≡ self.now.lines.first }
+        requires last { last_line (F.file self.now.files.now label.now.file_id) (label_of label.now).label ≡ self.now.lines.last }
+        ensures inside { IfOk result (λ goes_on. goes_on ≡ true → is_asked self.now.config.now (F.file self.now.files.now label.now.file_id) (label_of label.now).label index ≡ true → index < line_count (F.file self.now.files.now label.now.file_id)) }
+        ensures added { IfOk result (λ goes_on. goes_on ≡ true → AddsOf (F.file self.now.files.now label.now.file_id) entries.old.items entries.new.items (entries_on self.now.config.now (F.file self.now.files.now label.now.file_id) (label_of label.now).label (label_place self.now.at) index)) }
+        ensures answered { IfOk result (λ goes_on. goes_on ≡ true → first_refusal (F.refusal self.now.files.now) (asked_of label.now.file_id (lookups_on self.now.config.now (F.file self.now.files.now label.now.file_id) (label_of label.now).label index)) ≡ None) }
+        ensures ended { IfOk result (λ goes_on. goes_on ≡ false → (entries.new.items ≡ entries.old.items) × (line_count (F.file self.now.files.now label.now.file_id) ≤ index) × (ends_context (F.refusal self.now.files.now label.now.file_id (LineRange index)) ≡ true)) }
+        ensures refused { IfErr result (λ e. e ≢ Error.OutOfMemory → (is_asked self.now.config.now (F.file self.now.files.now label.now.file_id) (label_of label.now).label index ≡ true) × (line_refusal (F.file self.now.files.now label.now.file_id) (F.refusal self.now.files.now label.now.file_id) self.now.lines.last index ≡ Some e)) }
+    {
+        if !self.lines.spans(index) && !self.lines.is_around(self.config, index) {
+            return Ok(true);
         }
+        let Some(line) = self.find_line(label.file_id, index)? else {
+            return Ok(false);
+        };
+        self.push_line(label, line, entries)?;
+        Ok(true)
     }
-    Ok(())
+
+    /// Adds what the label says of the lines that it asks for, in their order, up to the greatest index at most.
+    fn gather_lines<'d>(
+        &self,
+        label: &'d Label<F::FileId>,
+        entries: &mut Vec<Entry<'d>>,
+    ) -> Result<(), Error>
+        requires first { first_line (F.file self.now.files.now label.now.file_id) (label_of label.now).label ≡ self.now.lines.first }
+        requires last { last_line (F.file self.now.files.now label.now.file_id) (label_of label.now).label ≡ self.now.lines.last }
+        ensures added { OnOk result (AddsOf (F.file self.now.files.now label.now.file_id) entries.old.items entries.new.items (entries_of self.now.config.now (F.file self.now.files.now label.now.file_id) (label_place self.now.at) (label_of label.now).label)) }
+        ensures refused { Tells (first_refusal (F.refusal self.now.files.now) (asked_of label.now.file_id (flat_map of_line (asked_lines self.now.config.now (F.file self.now.files.now label.now.file_id) (label_of label.now).label) ++ probe self.now.config.now (F.file self.now.files.now label.now.file_id) (F.refusal self.now.files.now label.now.file_id) (label_of label.now).label))) result }
+    {
+        let lines = self.lines;
+        let first = lines.first.saturating_sub(self.config.before_label_lines);
+        let last = lines.last.saturating_add(self.config.after_label_lines);
+        for index in first.min(lines.last)..=last.max(lines.first) {
+            if !self.gather_line(label, index, entries)? {
+                return Ok(());
+            }
+        }
+        Ok(())
+    }
 }
 
-/// Adds what a label says of the lines that it asks for. A label over several lines takes the next lane of its file.
+/// Asks for the lines of a label, and adds what it says of them. Gives how many lanes it takes: one where it is over several lines.
 fn gather_label<'files, 'd, F: Files<'files>>(
     files: &'files F,
     config: &Config<'_>,
-    file: usize,
-    place: usize,
+    at: LabelPlace,
     label: &'d Label<F::FileId>,
-    lane_counts: &mut Vec<usize>,
     entries: &mut Vec<Entry<'d>>,
-) -> Result<(), Error>
-    requires inside { file < vec_len lane_counts.old }
-    requires room { slice_index lane_counts.old.items file + 1 < 2 ^ 64 }
-    ensures added { OnOk result (AddsOf (F.file files.now label.now.file_id) entries.old.items entries.new.items (entries_of config.now (F.file files.now label.now.file_id) (record { file = file; place = place; lane = slice_index lane_counts.old.items file }) (label_of label.now).label)) }
-    ensures lanes { OnOk result (lane_counts.new.items ≡ slice_set lane_counts.old.items file (slice_index lane_counts.old.items file + (if is_single (F.file files.now label.now.file_id) (label_of label.now).label then 0 else 1))) }
+) -> Result<usize, Error>
+    ensures added { OnOk result (AddsOf (F.file files.now label.now.file_id) entries.old.items entries.new.items (entries_of config.now (F.file files.now label.now.file_id) (label_place at) (label_of label.now).label)) }
+    ensures lanes { IfOk result (λ lanes. lanes ≡ (if is_single (F.file files.now label.now.file_id) (label_of label.now).label then 0 else 1)) }
     ensures refused { Tells (first_refusal (F.refusal files.now) (asked_of label.now.file_id (of_label config.now (F.file files.now label.now.file_id) (F.refusal files.now label.now.file_id) (label_of label.now).label))) result }
 {
     let lines = label_lines(files, label)?;
-    let lane = lane_counts[file];
-    let at = LabelPlace { file, place, lane };
-    gather_lines(files, config, at, label, lines, entries)?;
-    if !lines.is_single() {
-        lane_counts[file] = lane + 1;
-    }
-    Ok(())
+    let asking = Asking {
+        files,
+        config,
+        at,
+        lines,
+    };
+    asking.gather_lines(label, entries)?;
+    Ok(if lines.is_single() { 0 } else { 1 })
 }
 
 /// What the labels of a diagnostic say of lines.
@@ -242,10 +255,25 @@ pub struct Gathered<'d, FileId> {
     pub entries: Vec<Entry<'d>>,
 }
 
-/// Asks for the lines of all labels, and gathers what the labels say of them.
+/// Asks for the lines of all labels, and gathers what the labels say of them, in the order of the picture.
 ///
 /// Refuses as the first lookup that refuses does, and with `OutOfMemory`.
 pub fn gather<'files, 'd, F: Files<'files>>(
+    alloc: Global,
+    files: &'files F,
+    config: &Config<'_>,
+    labels: &'d [Label<F::FileId>],
+) -> Result<Gathered<'d, F::FileId>, Error>
+    ensures gathered { IfOk result (IsGathered F.FileId.eq (F.file files.now) config.now (map label_of labels.now)) }
+    ensures refused { Tells (first_refusal (F.refusal files.now) (label_lookups config.now (F.file files.now) (F.refusal files.now) (map label_of labels.now))) result }
+{
+    let mut gathered = gather_in_turn(alloc, files, config, labels)?;
+    sort(&mut gathered.entries);
+    Ok(gathered)
+}
+
+/// The same in the order of the labels.
+fn gather_in_turn<'files, 'd, F: Files<'files>>(
     alloc: Global,
     files: &'files F,
     config: &Config<'_>,
@@ -261,15 +289,10 @@ pub fn gather<'files, 'd, F: Files<'files>>(
     let mut entries = Vec::new(alloc);
     for (place, label) in labels.iter().enumerate() {
         let file = file_place(&ids, label.file_id);
-        gather_label(
-            files,
-            config,
-            file,
-            place,
-            label,
-            &mut lane_counts,
-            &mut entries,
-        )?;
+        let lane = lane_counts[file];
+        let at = LabelPlace { file, place, lane };
+        let lanes = gather_label(files, config, at, label, &mut entries)?;
+        lane_counts[file] = lane + lanes;
     }
     Ok(Gathered {
         ids,

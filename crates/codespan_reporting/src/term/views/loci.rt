@@ -1,18 +1,21 @@
 //! Where the snippet of each file starts.
 
-ghost use Rattle.std.specs.Prelude.{◌≡◌, ◌∷◌, [], IfOk, flat_map, length, map};
+ghost use Rattle.std.specs.Prelude.{◌≡◌, ◌∷◌, [], IfOk, map};
 ghost use Rattle.std.specs.List.{AllZip};
 ghost use Rattle.codespan_base.specs.FileModel.{FileModel};
 ghost use Rattle.codespan_base.specs.FileModel.Lookup.{Name as NameLookup, LocationAt};
 ghost use Rattle.codespan_base.specs.Labels.{is_primary};
 ghost use Rattle.codespan_picture.specs.Given.{place_of_given};
-ghost use Rattle.codespan_reporting.specs.Inner.Loci.{least_if_any, starts_in};
+ghost use Rattle.codespan_reporting.specs.Inner.GivenSheets.{IsPlacedPlan};
+ghost use Rattle.codespan_reporting.specs.Inner.Loci.{least_if_any, place_lookups, starts_in};
 ghost use Rattle.codespan_picture.specs.Lookups.{TellsNaming, asked_of, first_refusal, locus_lookups};
 ghost use Rattle.codespan_picture.specs.Picture.{label_of};
 ghost use Rattle.codespan_picture.specs.Placed.{IsPlaceIn, IsPlaceOfFile};
 ghost use Rattle.codespan_picture.specs.Snippets.{labelled_file, locus_start};
 
 use crate::term::renderer::Locus;
+use crate::term::views::plan::FilePlan;
+use crate::term::views::sheet::SheetFile;
 use codespan_base::diagnostic::text::display_text;
 use codespan_base::diagnostic::{Label, LabelStyle};
 use codespan_base::files::{Error, Files};
@@ -91,23 +94,28 @@ fn file_locus<'files, F: Files<'files>>(
     locus_at(alloc, files, id, locus_start(labels, id))
 }
 
-/// Where the snippet of each file starts, in the order of these ids.
+/// Looks up where the snippet of each file starts, and adds it to what is drawn of the file.
 ///
 /// Refuses as the first lookup of a name or a location that refuses does, with `FormatError` where the `Display` of a name
 /// refuses, and with `OutOfMemory`.
-pub fn file_loci<'files, F: Files<'files>>(
+pub fn place_files<'files, 'e, 'd, F: Files<'files>>(
     alloc: Global,
     files: &'files F,
-    ids: &[F::FileId],
     labels: &[Label<F::FileId>],
-) -> Result<Vec<Locus>, Error>
-    ensures count { IfOk result (λ loci. length loci.items ≡ length ids.now) }
-    ensures loci { IfOk result (λ loci. AllZip IsPlaceOfFile (map (labelled_file F.FileId.eq (F.file files.now) (map label_of labels.now)) ids.now) (map place_of_given loci.items)) }
-    ensures refused { TellsNaming (first_refusal (F.refusal files.now) (flat_map (λ id. asked_of id (locus_lookups F.FileId.eq (F.file files.now) (map label_of labels.now) id)) ids.now)) result }
+    plans: Vec<FilePlan<'e, 'd, F::FileId>>,
+) -> Result<Vec<SheetFile<'e, 'd, F::FileId>>, Error>
+    ensures placed { IfOk result (λ placed. AllZip (IsPlacedPlan F.FileId.eq (F.file files.now) (map label_of labels.now)) plans.entry.items placed.items) }
+    ensures refused { TellsNaming (first_refusal (F.refusal files.now) (place_lookups F.FileId.eq (F.file files.now) (map label_of labels.now) plans.entry.items)) result }
 {
-    let mut loci = Vec::new(alloc);
-    for id in ids {
-        loci.push(file_locus(alloc, files, *id, labels)?)?;
+    let mut placed = Vec::new(alloc);
+    for plan in plans {
+        let locus = file_locus(alloc, files, plan.id, labels)?;
+        placed.push(SheetFile {
+            id: plan.id,
+            locus,
+            lane_count: plan.lane_count,
+            steps: plan.steps,
+        })?;
     }
-    Ok(loci)
+    Ok(placed)
 }

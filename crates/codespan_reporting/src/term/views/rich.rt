@@ -1,36 +1,31 @@
 //! Rich style: a diagnostic over the lines that its labels speak of.
 
-ghost use Rattle.std.specs.Prelude.{◌≡◌, ◌+◌, ◌<◌, ◌≤◌, ◌++◌, ◌∷◌, [], IfErr, None, OnOk, drop, filter, length, map, slice_index_or, slice_range};
-ghost use Rattle.std.specs.Slice.Iter.{iter_rest};
+ghost use Rattle.std.specs.Prelude.{◌≡◌, ◌<◌, ◌++◌, ◌∷◌, [], IfErr, None, length};
 ghost use Rattle.codespan_base.specs.Errors.{IsIo};
 ghost use Rattle.codespan_base.specs.Streams.{newline};
 ghost use Rattle.codespan_base.specs.WriterLaw.{Sends};
 ghost use Rattle.codespan_reporting.specs.Inner.Asking.{SendsAsking};
-ghost use Rattle.codespan_reporting.specs.Inner.Entries.{is_of_file};
-ghost use Rattle.codespan_picture.specs.Given.{place_of_given};
-ghost use Rattle.codespan_reporting.specs.Inner.GivenEntries.{entry_of};
-ghost use Rattle.codespan_reporting.specs.Inner.GivenSheets.{IsPrepared, numbers_from};
+ghost use Rattle.codespan_reporting.specs.Inner.GivenSheets.{IsPrepared, places_of};
 ghost use Rattle.codespan_laws.specs.Meanings.{MeansLabels};
 ghost use Rattle.codespan_reporting.specs.Headline.{DrawsRich};
-ghost use Rattle.codespan_picture.specs.Lookups.{first_refusal, late_lookups, snippet_lookups};
+ghost use Rattle.codespan_picture.specs.Lookups.{first_refusal, late_lookups};
 ghost use Rattle.codespan_picture.specs.Picture.{look_of, heading_of, labels_of, notes_of};
 ghost use Rattle.codespan_renderer.specs.Renderers.{writer_of, config_of, SameRenderer};
-ghost use Rattle.codespan_picture.specs.Placed.{placed_snippet, placed_snippets};
-ghost use Rattle.codespan_picture.specs.Rows.{BlankRow, Place};
+ghost use Rattle.codespan_picture.specs.Placed.{placed_snippets};
+ghost use Rattle.codespan_picture.specs.Rows.{BlankRow};
 ghost use Rattle.codespan_picture.specs.RowStreams.{header_row, stream_of_rows};
-ghost use Rattle.codespan_picture.specs.Snippets.{has_any, is_followed, labelled_file, labelled_files, note_rows};
+ghost use Rattle.codespan_picture.specs.Snippets.{has_any, labelled_files, note_rows};
 
 use crate::term::renderer::Renderer;
-use crate::term::views::groups::file_len;
+use crate::term::views::gather::gather;
+use crate::term::views::lines::Page;
 use crate::term::views::marks::LineMarks;
 use crate::term::views::parts::{draw_header, draw_notes};
 use crate::term::views::sheet::{Sheet, prepare};
-use crate::term::views::snippets::{Snippet, draw_snippet};
+use crate::term::views::snippets::draw_snippet;
 use codespan_base::diagnostic::Diagnostic;
 use codespan_base::files::{Error, Files};
 use codespan_base::term::{Config, WriteStyle};
-use std::ops::Range;
-use std::slice;
 
 /// Draws a diagnostic over the lines of the source that its labels speak of.
 #[derive(Clone, Copy)]
@@ -99,9 +94,10 @@ impl<'diagnostic, 'config, FileId: Copy + Eq> RichDiagnostic<'diagnostic, 'confi
         ensures draws { DrawsRich (config_of renderer.old) (view_config_of self.now) FileId.eq (F.file files.now) (F.refusal files.now) (diagnostic_of self.now) (W.sink (writer_of renderer.old)) result (W.sink (writer_of renderer.new)) }
     {
         let diagnostic = self.diagnostic;
-        let labels = &diagnostic.labels;
-        let alloc = *labels.allocator();
-        let sheet = prepare(alloc, files, self.config, labels.as_slice())?;
+        let alloc = *diagnostic.labels.allocator();
+        let labels = diagnostic.labels.as_slice();
+        let gathered = gather(alloc, files, self.config, labels)?;
+        let sheet = prepare(alloc, files, self.config, labels, &gathered)?;
         draw_header(diagnostic, renderer, None)?;
         self.draw_snippets(files, renderer, &sheet)?;
         draw_closing(diagnostic, renderer, sheet.padding)
@@ -112,7 +108,7 @@ impl<'diagnostic, 'config, FileId: Copy + Eq> RichDiagnostic<'diagnostic, 'confi
         &self,
         files: &'files F,
         renderer: &mut Renderer<'_, '_, W>,
-        sheet: &Sheet<'_, FileId>,
+        sheet: &Sheet<'_, '_, FileId>,
     ) -> Result<(), Error>
     where
         F: Files<'files, FileId = FileId>,
@@ -120,64 +116,21 @@ impl<'diagnostic, 'config, FileId: Copy + Eq> RichDiagnostic<'diagnostic, 'confi
         FileId: 'files,
         requires { IsPrepared FileId.eq (F.file files.now) (view_config_of self.now) (labels_of (diagnostic_of self.now)) sheet.now }
         ensures same { SameRenderer renderer.old renderer.new }
-        ensures draws { SendsAsking (first_refusal (F.refusal files.now) (late_lookups (view_config_of self.now) FileId.eq (F.file files.now) (F.refusal files.now) (labels_of (diagnostic_of self.now)))) (W.sink (writer_of renderer.old)) (stream_of_rows (look_of (config_of renderer.old) (diagnostic_of self.now).severity sheet.now.padding) (placed_snippets (view_config_of self.now) (has_any (notes_of (diagnostic_of self.now))) (map place_of_given sheet.now.loci.items) (labelled_files FileId.eq (F.file files.now) (labels_of (diagnostic_of self.now))))) result (W.sink (writer_of renderer.new)) }
-    {
-        let mut marks = LineMarks::new(*self.diagnostic.labels.allocator());
-        let mut numbers = sheet.filled_numbers.iter();
-        let mut start = 0;
-        for place in 0..sheet.ids.len() {
-            let len = file_len(&sheet.entries[start..], place);
-            self.draw_file(
-                files,
-                renderer,
-                sheet,
-                &mut marks,
-                &mut numbers,
-                place,
-                start..start + len,
-            )?;
-            start += len;
-        }
-        Ok(())
-    }
-
-    /// The snippet of the file at a place, whose entries are those of the range, and the row after it where something follows. The
-    /// numbers of the lines that are filled in, where they are known, are the next of `numbers`.
-    fn draw_file<'files, 'd, F, W>(
-        &self,
-        files: &'files F,
-        renderer: &mut Renderer<'_, '_, W>,
-        sheet: &Sheet<'d, FileId>,
-        marks: &mut LineMarks<'d>,
-        numbers: &mut slice::Iter<'_, usize>,
-        place: usize,
-        range: Range<usize>,
-    ) -> Result<(), Error>
-    where
-        F: Files<'files, FileId = FileId>,
-        W: WriteStyle,
-        FileId: 'files,
-        requires prepared { IsPrepared FileId.eq (F.file files.now) (view_config_of self.now) (labels_of (diagnostic_of self.now)) sheet.now }
-        requires inside { place < length sheet.now.ids.items }
-        requires order { range.start ≤ range.end }
-        requires end { range.end ≤ length sheet.now.entries.items }
-        requires known { iter_rest numbers.old ≡ numbers_from (view_config_of self.now) (labelled_files FileId.eq (F.file files.now) (labels_of (diagnostic_of self.now))) place }
-        requires own { map entry_of (slice_range sheet.now.entries.items range.start range.end) ≡ filter (is_of_file place) (map entry_of sheet.now.entries.items) }
-        ensures same { SameRenderer renderer.old renderer.new }
-        ensures draws { (id : FileId) (start : Place) → id ≡ slice_index_or sheet.now.ids.items place id → start ≡ slice_index_or (map place_of_given sheet.now.loci.items) place start → SendsAsking (first_refusal (F.refusal files.now) (snippet_lookups (view_config_of self.now) FileId.eq (F.file files.now) (labels_of (diagnostic_of self.now)) id)) (W.sink (writer_of renderer.old)) (stream_of_rows (look_of (config_of renderer.old) (diagnostic_of self.now).severity sheet.now.padding) (placed_snippet (view_config_of self.now) (is_followed (has_any (notes_of (diagnostic_of self.now))) (drop (place + 1) sheet.now.ids.items)) start (labelled_file FileId.eq (F.file files.now) (labels_of (diagnostic_of self.now)) id))) result (W.sink (writer_of renderer.new)) }
-        ensures left { OnOk result (iter_rest numbers.new ≡ numbers_from (view_config_of self.now) (labelled_files FileId.eq (F.file files.now) (labels_of (diagnostic_of self.now))) (place + 1)) }
+        ensures draws { SendsAsking (first_refusal (F.refusal files.now) (late_lookups (view_config_of self.now) FileId.eq (F.file files.now) (F.refusal files.now) (labels_of (diagnostic_of self.now)))) (W.sink (writer_of renderer.old)) (stream_of_rows (look_of (config_of renderer.old) (diagnostic_of self.now).severity sheet.now.padding) (placed_snippets (view_config_of self.now) (has_any (notes_of (diagnostic_of self.now))) (places_of sheet.now.files.items) (labelled_files FileId.eq (F.file files.now) (labels_of (diagnostic_of self.now))))) result (W.sink (writer_of renderer.new)) }
     {
         let diagnostic = self.diagnostic;
-        let snippet = Snippet {
-            id: sheet.ids[place],
-            locus: &sheet.loci[place],
-            lane_count: sheet.lane_counts[place],
-            entries: &sheet.entries[range],
+        let page = Page {
+            files,
             padding: sheet.padding,
             severity: diagnostic.severity,
         };
-        let is_followed = has_notes(diagnostic) || place + 1 < sheet.ids.len();
-        draw_snippet(renderer, files, &snippet, marks, numbers, is_followed)
+        let mut marks = LineMarks::new(*diagnostic.labels.allocator());
+        let notes_follow = has_notes(diagnostic);
+        for (place, file) in sheet.files.iter().enumerate() {
+            let is_followed = notes_follow | (place + 1 < sheet.files.len());
+            draw_snippet(renderer, &page, file, &mut marks, is_followed)?;
+        }
+        Ok(())
     }
 }
 

@@ -1,72 +1,64 @@
-//! All that is looked up before the header of a picture.
+//! All that is known of a picture before its header is drawn.
 
 ghost use Rattle.std.specs.Prelude.{IfOk, map};
-ghost use Rattle.codespan_reporting.specs.Inner.GivenSheets.{IsPrepared};
-ghost use Rattle.codespan_picture.specs.Lookups.{TellsNaming, early_lookups, first_refusal};
+ghost use Rattle.codespan_picture.specs.Lookups.{TellsNaming, first_refusal};
 ghost use Rattle.codespan_picture.specs.Picture.{label_of};
+ghost use Rattle.codespan_reporting.specs.Inner.GivenSheets.{IsGathered, IsPrepared, sheet_lookups};
 
 use crate::term::renderer::Locus;
-use crate::term::views::entry::Entry;
-use crate::term::views::gather::gather;
-use crate::term::views::loci::file_loci;
+use crate::term::views::gather::Gathered;
+use crate::term::views::loci::place_files;
 use crate::term::views::padding::{drawn_padding, spanned_padding};
-use crate::term::views::sort::sort;
+use crate::term::views::plan::plan_files;
+use crate::term::views::steps::Step;
 use codespan_base::diagnostic::Label;
 use codespan_base::files::{Error, Files};
 use codespan_base::term::{Config, Layout};
 use std::alloc::Global;
 
-/// What a picture shows of the files of its labels.
+/// A file of a picture.
 #[derive(Drop)]
-pub struct Sheet<'d, FileId> {
-    /// The ids of the files, in the order of their first label.
-    pub ids: Vec<FileId>,
-    /// Where the snippet of each file starts.
-    pub loci: Vec<Locus>,
-    /// How many lanes each file has.
-    pub lane_counts: Vec<usize>,
-    /// What the labels say of lines, in the order of the picture.
-    pub entries: Vec<Entry<'d>>,
-    /// The room for line numbers, in characters.
-    pub padding: usize,
-    /// The numbers of the lines that are filled in, in the order of the picture, where the room for line numbers depends on them;
-    /// in the classic layout there are none here, and they are asked for when the lines are drawn.
-    pub filled_numbers: Vec<usize>,
+pub struct SheetFile<'e, 'd, FileId> {
+    /// What names the file.
+    pub id: FileId,
+    /// Where its snippet starts.
+    pub locus: Locus,
+    /// How many lanes it has.
+    pub lane_count: usize,
+    /// What is drawn of it, in order.
+    pub steps: Vec<Step<'e, 'd>>,
 }
 
-/// Asks for the lines of all labels, for the numbers of lines that are filled in where the room for line numbers depends on them, and
-/// for the name and the place of each file, in this order.
+/// What a picture shows of the files of its labels.
+#[derive(Drop)]
+pub struct Sheet<'e, 'd, FileId> {
+    /// The files, in the order of their first labels.
+    pub files: Vec<SheetFile<'e, 'd, FileId>>,
+    /// The room for line numbers, in characters.
+    pub padding: usize,
+}
+
+/// Asks for the numbers of lines that are filled in where the room for line numbers depends on them, and for the name and the place of
+/// each file, in this order.
 ///
 /// Refuses as the first of these lookups that refuses does, with `FormatError` where the `Display` of a name refuses, and with
 /// `OutOfMemory`.
-pub fn prepare<'files, 'd, F: Files<'files>>(
+pub fn prepare<'files, 'e, 'd, F: Files<'files>>(
     alloc: Global,
     files: &'files F,
     config: &Config<'_>,
-    labels: &'d [Label<F::FileId>],
-) -> Result<Sheet<'d, F::FileId>, Error>
+    labels: &[Label<F::FileId>],
+    gathered: &'e Gathered<'d, F::FileId>,
+) -> Result<Sheet<'e, 'd, F::FileId>, Error>
+    requires { IsGathered F.FileId.eq (F.file files.now) config.now (map label_of labels.now) gathered.now }
     ensures prepared { IfOk result (IsPrepared F.FileId.eq (F.file files.now) config.now (map label_of labels.now)) }
-    ensures refused { TellsNaming (first_refusal (F.refusal files.now) (early_lookups config.now F.FileId.eq (F.file files.now) (F.refusal files.now) (map label_of labels.now))) result }
+    ensures refused { TellsNaming (first_refusal (F.refusal files.now) (sheet_lookups config.now F.FileId.eq (F.file files.now) (F.refusal files.now) (map label_of labels.now))) result }
 {
-    let mut gathered = gather(alloc, files, config, labels)?;
-    sort(&mut gathered.entries);
-    let mut filled_numbers = Vec::new(alloc);
+    let plans = plan_files(alloc, files, config.layout, gathered)?;
     let padding = match config.layout {
         Layout::Classic => spanned_padding(&gathered.entries),
-        Layout::Unbroken => drawn_padding(
-            files,
-            &gathered.ids,
-            &gathered.entries,
-            &mut filled_numbers,
-        )?,
+        Layout::Unbroken => drawn_padding(&plans),
     };
-    let loci = file_loci(alloc, files, &gathered.ids, labels)?;
-    Ok(Sheet {
-        ids: gathered.ids,
-        loci,
-        lane_counts: gathered.lane_counts,
-        entries: gathered.entries,
-        padding,
-        filled_numbers,
-    })
+    let files = place_files(alloc, files, labels, plans)?;
+    Ok(Sheet { files, padding })
 }

@@ -1,108 +1,83 @@
 //! The snippets of a picture, one for each file.
 
-ghost use Rattle.std.specs.Prelude.{◌≡◌, ℕ, List, All, IfErr, OnOk};
-ghost use Rattle.std.specs.Slice.Iter.{iter_rest};
-ghost use Rattle.codespan_base.specs.declared.term.config.Layout.{Layout};
+ghost use Rattle.std.specs.Prelude.{IfErr, map};
+ghost use Rattle.std.specs.List.{AllByRecursion};
 ghost use Rattle.codespan_base.specs.Errors.{IsIo};
 ghost use Rattle.codespan_base.specs.WriterLaw.{Sends};
-ghost use Rattle.codespan_reporting.specs.Inner.Asking.{SendsAsking};
-ghost use Rattle.codespan_reporting.specs.Inner.GivenEntries.{IsLineOf};
-ghost use Rattle.codespan_reporting.specs.Inner.GivenSnippets.{end_rows, lookups_in, rows_in, start_rows, steps_in};
 ghost use Rattle.codespan_picture.specs.Lookups.{asked_of, first_refusal};
 ghost use Rattle.codespan_picture.specs.Picture.{look_of};
-ghost use Rattle.codespan_renderer.specs.Renderers.{writer_of, config_of, SameRenderer};
 ghost use Rattle.codespan_picture.specs.RowStreams.{stream_of_rows};
-ghost use Rattle.codespan_reporting.specs.Inner.StepDrawing.{DoFit, Knows};
-ghost use Rattle.codespan_reporting.specs.Inner.Steps.{AreKnown, fills_of};
+ghost use Rattle.codespan_renderer.specs.Renderers.{writer_of, config_of, SameRenderer};
+ghost use Rattle.codespan_reporting.specs.Inner.Asking.{SendsAsking};
+ghost use Rattle.codespan_reporting.specs.Inner.GivenSnippets.{end_rows, lookups_with, rows_in, start_rows};
+ghost use Rattle.codespan_reporting.specs.Inner.GivenSteps.{IsStepOf, step_of};
+ghost use Rattle.codespan_reporting.specs.Inner.StepDrawing.{DoFit};
 
-use crate::term::renderer::{Locus, Renderer};
-use crate::term::views::entry::Entry;
-use crate::term::views::lines::FileLines;
+use crate::term::renderer::Renderer;
+use crate::term::views::lines::{FileLines, Page};
 use crate::term::views::marks::LineMarks;
-use crate::term::views::pass::draw_lines;
-use codespan_base::diagnostic::Severity;
+use crate::term::views::sheet::SheetFile;
 use codespan_base::files::{Error, Files};
 use codespan_base::term::WriteStyle;
 use std::convert::AsStr;
-use std::slice;
-
-/// The snippet of one file.
-#[derive(Drop)]
-pub struct Snippet<'s, 'd, FileId> {
-    /// What names the file.
-    pub id: FileId,
-    /// Where the snippet starts.
-    pub locus: &'s Locus,
-    /// How many lanes the file has.
-    pub lane_count: usize,
-    /// What the labels say of its lines, in order.
-    pub entries: &'s [Entry<'d>],
-    /// The room for line numbers, in characters.
-    pub padding: usize,
-    /// How bad the diagnostic is.
-    pub severity: Severity,
-}
 
 /// The first rows of a snippet: where it starts, and an empty one.
 #[tactic(auto, using(codespan_base::proofs::Sends::sendings))]
-fn draw_start<FileId, W: WriteStyle>(
+fn draw_start<F, FileId, W: WriteStyle>(
     renderer: &mut Renderer<'_, '_, W>,
-    snippet: &Snippet<'_, '_, FileId>,
+    page: &Page<'_, F>,
+    file: &SheetFile<'_, '_, FileId>,
 ) -> Result<(), Error>
     ensures same { SameRenderer renderer.old renderer.new }
-    ensures sends { Sends (W.sink (writer_of renderer.old)) (stream_of_rows (look_of (config_of renderer.old) snippet.now.severity snippet.now.padding) (start_rows snippet.now)) result (W.sink (writer_of renderer.new)) }
+    ensures sends { Sends (W.sink (writer_of renderer.old)) (stream_of_rows (look_of (config_of renderer.old) page.now.severity page.now.padding) (start_rows file.now)) result (W.sink (writer_of renderer.new)) }
     ensures io { IfErr result IsIo }
 {
-    renderer.render_snippet_start(snippet.padding, snippet.locus)?;
-    renderer.render_snippet_empty(snippet.padding, snippet.severity, snippet.lane_count, &[])
+    renderer.render_snippet_start(page.padding, &file.locus)?;
+    renderer.render_snippet_empty(page.padding, page.severity, file.lane_count, &[])
 }
 
 /// The row after a snippet, where something follows.
-fn draw_end<FileId, W: WriteStyle>(
+fn draw_end<F, FileId, W: WriteStyle>(
     renderer: &mut Renderer<'_, '_, W>,
-    snippet: &Snippet<'_, '_, FileId>,
+    page: &Page<'_, F>,
+    file: &SheetFile<'_, '_, FileId>,
     is_followed: bool,
 ) -> Result<(), Error>
     ensures same { SameRenderer renderer.old renderer.new }
-    ensures sends { Sends (W.sink (writer_of renderer.old)) (stream_of_rows (look_of (config_of renderer.old) snippet.now.severity snippet.now.padding) (end_rows snippet.now is_followed)) result (W.sink (writer_of renderer.new)) }
+    ensures sends { Sends (W.sink (writer_of renderer.old)) (stream_of_rows (look_of (config_of renderer.old) page.now.severity page.now.padding) (end_rows file.now is_followed)) result (W.sink (writer_of renderer.new)) }
     ensures io { IfErr result IsIo }
 {
     if is_followed {
-        renderer.render_snippet_empty(snippet.padding, snippet.severity, snippet.lane_count, &[])
+        renderer.render_snippet_empty(page.padding, page.severity, file.lane_count, &[])
     } else {
         Ok(())
     }
 }
 
-/// Asks for the source of a file and draws its snippet, with a row after it where something follows. The numbers of the lines that
-/// are filled in are the next of `numbers`, or are asked for where there are none.
+/// Asks for the source of a file and draws its snippet, with a row after it where something follows.
 ///
 /// Refuses as the first lookup that refuses does, with `OutOfMemory` where a growth is refused, and with `Io` where the writer
 /// refuses. What is written then is a beginning.
 pub fn draw_snippet<'files, 'd, F: Files<'files>, W: WriteStyle>(
     renderer: &mut Renderer<'_, '_, W>,
-    files: &'files F,
-    snippet: &Snippet<'_, 'd, F::FileId>,
+    page: &Page<'files, F>,
+    file: &SheetFile<'_, 'd, F::FileId>,
     marks: &mut LineMarks<'d>,
-    numbers: &mut slice::Iter<'_, usize>,
     is_followed: bool,
 ) -> Result<(), Error>
-    requires lines { All (λ e. IsLineOf (F.file files.now snippet.now.id) e.line) snippet.now.entries.now }
-    requires fits { DoFit snippet.now.lane_count (steps_in snippet.now) }
-    requires known { Knows (F.file files.now snippet.now.id) (fills_of (steps_in snippet.now)) (iter_rest numbers.old) }
+    requires steps { AllByRecursion (IsStepOf (F.file page.now.files.now file.now.id)) file.now.steps.items }
+    requires fits { DoFit file.now.lane_count (map step_of file.now.steps.items) }
     ensures same { SameRenderer renderer.old renderer.new }
-    ensures draws { (layout : Layout) (later : List ℕ) → AreKnown layout (F.file files.now snippet.now.id) (fills_of (steps_in snippet.now)) (iter_rest numbers.old) later → SendsAsking (first_refusal (F.refusal files.now) (asked_of snippet.now.id (lookups_in snippet.now layout))) (W.sink (writer_of renderer.old)) (stream_of_rows (look_of (config_of renderer.old) snippet.now.severity snippet.now.padding) (rows_in snippet.now (F.file files.now snippet.now.id) is_followed)) result (W.sink (writer_of renderer.new)) × OnOk result (iter_rest numbers.new ≡ later) }
+    ensures draws { SendsAsking (first_refusal (F.refusal page.now.files.now) (asked_of file.now.id (lookups_with file.now))) (W.sink (writer_of renderer.old)) (stream_of_rows (look_of (config_of renderer.old) page.now.severity page.now.padding) (rows_in file.now (F.file page.now.files.now file.now.id) is_followed)) result (W.sink (writer_of renderer.new)) }
 {
-    let source = files.source(snippet.id)?;
-    draw_start(renderer, snippet)?;
+    let source = page.files.source(file.id)?;
+    draw_start(renderer, page, file)?;
     let lines = FileLines {
-        files,
-        id: snippet.id,
+        page,
+        id: file.id,
         text: source.as_str(),
-        padding: snippet.padding,
-        severity: snippet.severity,
-        lane_count: snippet.lane_count,
+        lane_count: file.lane_count,
     };
-    draw_lines(renderer, &lines, marks, snippet.entries, numbers)?;
-    draw_end(renderer, snippet, is_followed)
+    lines.draw_steps(renderer, marks, &file.steps)?;
+    draw_end(renderer, page, file, is_followed)
 }

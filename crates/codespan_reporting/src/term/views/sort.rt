@@ -2,33 +2,62 @@
 
 ghost use Rattle.std.specs.Prelude.{◌≡◌, map};
 ghost use Rattle.std.specs.List.Sorted.{IsPermutation, IsSortedBy};
-ghost use Rattle.codespan_reporting.specs.Inner.Entries.{is_below};
-ghost use Rattle.codespan_reporting.specs.Inner.GivenEntries.{entry_of, key_of};
+ghost use Rattle.codespan_reporting.specs.Inner.Entries.{entry_cmp, is_below, kind_of, says_cmp};
+ghost use Rattle.codespan_reporting.specs.Inner.GivenEntries.{entry_of, says_of};
 
-use crate::term::views::entry::{Entry, Key, Says};
-use std::cmp::Reverse;
+use crate::term::views::entry::{Entry, Says};
+use std::cmp::Ordering;
 
-/// What an entry is sorted by.
-pub fn key(entry: &Entry<'_>) -> Key
-    ensures { result ≡ key_of entry.now }
+/// The order of entries: by file, by line, and by what is said. Only equal entries tie.
+fn compare(left: &Entry<'_>, right: &Entry<'_>) -> Ordering
+    ensures { result ≡ entry_cmp (entry_of left.now) (entry_of right.now) }
 {
-    let (kind, first, second, place) = match entry.says {
-        Says::Shown => (0, 0, 0, 0),
-        Says::Single {
-            place,
-            start,
-            end,
-            ..
-        } => (1, start, end, place),
-        Says::Multi { lane, .. } => (2, lane, 0, 0),
-    };
-    Key {
-        file: entry.file,
-        line: entry.line.index,
-        kind,
-        first,
-        second,
-        place: Reverse(place),
+    let places = left
+        .file
+        .cmp(&right.file)
+        .then(left.line.index.cmp(&right.line.index));
+    match places {
+        Ordering::Equal => compare_says(&left.says, &right.says),
+        _ => places,
+    }
+}
+
+/// The order of what is said of a line: that it is shown, then labels inside it by their ranges, and of equal ranges the one given last
+/// first, then labels over several lines by their lanes.
+fn compare_says(left: &Says<'_>, right: &Says<'_>) -> Ordering
+    ensures { result ≡ says_cmp (says_of left.now) (says_of right.now) }
+{
+    match (left, right) {
+        (
+            Says::Single {
+                place,
+                start,
+                end,
+                ..
+            },
+            Says::Single {
+                place: other_place,
+                start: other_start,
+                end: other_end,
+                ..
+            },
+        ) => start
+            .cmp(other_start)
+            .then(end.cmp(other_end))
+            .then(other_place.cmp(place)),
+        (Says::Multi { lane, .. }, Says::Multi { lane: other, .. }) => lane.cmp(other),
+        _ => kind(left).cmp(&kind(right)),
+    }
+}
+
+/// 0 where the line is shown, 1 for a label inside it, 2 for one over several lines.
+fn kind(says: &Says<'_>) -> usize
+    ensures { result ≡ kind_of (says_of says.now) }
+{
+    match says {
+        Says::Shown => 0,
+        Says::Single { .. } => 1,
+        Says::Multi { .. } => 2,
     }
 }
 
@@ -37,5 +66,5 @@ pub fn sort(entries: &mut Vec<Entry<'_>>)
     ensures permutation { IsPermutation entries.old.items entries.new.items }
     ensures sorted { IsSortedBy is_below (map entry_of entries.new.items) }
 {
-    entries.sort_unstable_by_key(|entry| key(entry));
+    entries.sort_unstable_by(|left, right| compare(left, right));
 }

@@ -1,87 +1,10 @@
-use Rattle.std.proofs.Common.{rules, ◌≡◌, ◌+◌, ◌≤◌, [], true, Err, length, get_or, set, map, refl, sym, ap, ◌∙◌, subst, arith}
-use Rattle.std.specs.Prelude.{replicate, if◌then◌else◌}
-use Rattle.std.proofs.lemmas.List.{length-map}
-use Rattle.std.proofs.lemmas.Result.{err_from_is_err_and}
-use Rattle.codespan_base.specs.Labels.{is_single}
-use Rattle.codespan_reporting.specs.Inner.Entries.{entries_of}
-use Rattle.codespan_reporting.specs.Inner.GivenEntries.{Adds, AddsOf, IsOfFiles}
+use Rattle.std.proofs.Common.{map, refl}
 use Rattle.codespan_picture.specs.Picture.{label_of}
-use Rattle.codespan_reporting.specs.Inner.PlacedLabels.{entries_after, file_place}
-use Rattle.codespan_reporting.proofs.LabelsGathered.{gathered-none, gathered-all, gathered-more, gathered-refused, file-inside, lane-room}
+use Rattle.codespan_reporting.proofs.SheetPrepared.{gathered-in_order}
 use Rattle.codespan_reporting.proofs.term.views.gather.gather.Goals as goal
 
-pub loop-place-init : goal.loop-place-init
-loop-place-init g c =
-    let file = g.F.Files.file c.args.files.now in
-    let refusal = g.F.Files.refusal c.args.files.now in
-    let claim : g.claim c.lifetimes = search rules in
-    let one : (i j : g.row.F-FileId.Denot) → g.F.FileId.PartialEq.eq i j ≡ true → file i ≡ file j = λ i j t. ((g.met.F.Files c.lifetimes claim).same_file c.args.files.now i j t).0 in
-    let zeros : c.in_ok-lane_counts.lane_counts.items ≡ replicate (length c.in_ok-ids.ids.items) 0 = search rules in
-    rw c.new-entries.ensures.items
-    (gathered-none g.F.FileId.PartialEq.eq file g.met.F.FileId.Eq.laws one refusal c.args.config.now c.args.labels.now c.in_ok-ids.ids.items c.in_ok-ids.ensures.value _ zeros)
-
-pub gather_label-requires : goal.gather_label-requires
-gather_label-requires g c =
-    let file = g.F.Files.file c.args.files.now in
-    let ids = c.in_ok-ids.ids.items in
-    let label = c.index-labels-place.result in
-    let lanes = c.loop-place.lane_counts.items in
-    let refusal = g.F.Files.refusal c.args.files.now in
-    let claim : g.claim c.lifetimes = search rules in
-    let one : (i j : g.row.F-FileId.Denot) → g.F.FileId.PartialEq.eq i j ≡ true → file i ≡ file j = λ i j t. ((g.met.F.Files c.lifetimes claim).same_file c.args.files.now i j t).0 in
-    let place : c.file_place-file.result ≡ file_place g.F.FileId.PartialEq.eq ids label.file_id = c.file_place-file.ensures ∙ ap (λ js. file_place g.F.FileId.PartialEq.eq js label.file_id) c.deref.ensures.value in
-    let inside = file-inside g.F.FileId.PartialEq.eq file g.met.F.FileId.Eq.laws one refusal c.args.config.now c.args.labels.now ids c.in_ok-ids.ensures.value
-    c.loop-place.place label c.loop-place-test.true c.index-labels-place.is in
-    let room = lane-room g.F.FileId.PartialEq.eq file g.met.F.FileId.Eq.laws one refusal c.args.config.now c.args.labels.now ids c.in_ok-ids.ensures.value
-    c.loop-place.place label c.loop-place-test.true c.index-labels-place.is lanes c.loop-place.entries.items c.loop-place.invariant in
-    let lane : get_or lanes c.file_place-file.result 0 ≤ c.loop-place.place = subst (λ k. get_or lanes k 0 ≤ c.loop-place.place) (sym place) room in
-    let long : length lanes ≡ length ids = ap length c.loop-place.invariant.lanes_are ∙ length-map ids _ in
-    λ k. ((refl, tt), (omega (arith, inside, place, long, c.loop-place.lane_counts.ok.0), omega (arith, lane, c.loop-place-test.true, c.args.labels.now)))
-
-pub loop-place-preserved : goal.loop-place-preserved
-loop-place-preserved g c =
-    let file = g.F.Files.file c.args.files.now in
-    let refusal = g.F.Files.refusal c.args.files.now in
-    let claim : g.claim c.lifetimes = search rules in
-    let one : (i j : g.row.F-FileId.Denot) → g.F.FileId.PartialEq.eq i j ≡ true → file i ≡ file j = λ i j t. ((g.met.F.Files c.lifetimes claim).same_file c.args.files.now i j t).0 in
-    let ids = c.in_ok-ids.ids.items in
-    let label = c.index-labels-place.result in
-    let f = file label.file_id in
-    let x = (label_of label).label in
-    let lanes = c.loop-place.lane_counts.items in
-    let place : c.file_place-file.result ≡ file_place g.F.FileId.PartialEq.eq ids label.file_id = c.file_place-file.ensures ∙ ap (λ js. file_place g.F.FileId.PartialEq.eq js label.file_id) c.deref.ensures.value in
-    gathered-more g.F.FileId.PartialEq.eq file g.met.F.FileId.Eq.laws one refusal c.args.config.now c.args.labels.now ids c.in_ok-ids.ensures.value
-    c.loop-place.place label c.loop-place-test.true c.index-labels-place.is lanes c.gather_label.new.lane_counts.items c.loop-place.entries.items c.gather_label.new.entries.items c.loop-place.invariant
-    (subst (λ k. AddsOf f c.loop-place.entries.items c.gather_label.new.entries.items (entries_of c.args.config.now f (record { file = k; place = c.loop-place.place; lane = get_or lanes k 0 }) x)) place c.in_ok-gather_label.ensures.added)
-    (subst (λ k. c.gather_label.new.lane_counts.items ≡ set lanes k (get_or lanes k 0 + (if is_single f x then 0 else 1))) place c.in_ok-gather_label.ensures.lanes)
-    c.in_ok-gather_label.ensures.refused
-
-pub returns-in_err-gather_label-clause-refused : goal.returns-in_err-gather_label-clause-refused
-returns-in_err-gather_label-clause-refused g c =
-    let file = g.F.Files.file c.args.files.now in
-    let refusal = g.F.Files.refusal c.args.files.now in
-    let claim : g.claim c.lifetimes = search rules in
-    let one : (i j : g.row.F-FileId.Denot) → g.F.FileId.PartialEq.eq i j ≡ true → file i ≡ file j = λ i j t. ((g.met.F.Files c.lifetimes claim).same_file c.args.files.now i j t).0 in
-    let label = c.index-labels-place.result in
-    let p = err_from_is_err_and c.from_residual-in_err-gather_label.result c.from_residual-in_err-gather_label.ensures.1 in
-    rw (p.1 ∙ ap Err p.2) (λ told. gathered-refused g.F.FileId.PartialEq.eq file g.met.F.FileId.Eq.laws one refusal c.args.config.now c.args.labels.now c.in_ok-ids.ids.items c.in_ok-ids.ensures.value
-    c.loop-place.place label c.loop-place-test.true c.index-labels-place.is c.loop-place.lane_counts.items c.loop-place.entries.items _ c.loop-place.invariant (c.in_err-gather_label.ensures.refused told))
-
-pub returns-clause-entries : goal.returns-clause-entries
-returns-clause-entries g c =
-    let file = g.F.Files.file c.args.files.now in
-    let refusal = g.F.Files.refusal c.args.files.now in
-    let claim : g.claim c.lifetimes = search rules in
-    let one : (i j : g.row.F-FileId.Denot) → g.F.FileId.PartialEq.eq i j ≡ true → file i ≡ file j = λ i j t. ((g.met.F.Files c.lifetimes claim).same_file c.args.files.now i j t).0 in
-    let all = gathered-all g.F.FileId.PartialEq.eq file g.met.F.FileId.Eq.laws one refusal c.args.config.now c.args.labels.now c.in_ok-ids.ids.items c.in_ok-ids.ensures.value
-    c.loop-place.place _ _ c.loop-place-test.false c.loop-place.invariant in
-    subst (λ ids. Adds (IsOfFiles file c.in_ok-ids.ids.items) [] c.loop-place.entries.items (entries_after g.F.FileId.PartialEq.eq file c.args.config.now ids [] (map label_of c.args.labels.now))) c.in_ok-ids.ensures.value all.1
-
-pub returns-clause-refused : goal.returns-clause-refused
-returns-clause-refused g c =
-    let file = g.F.Files.file c.args.files.now in
-    let refusal = g.F.Files.refusal c.args.files.now in
-    let claim : g.claim c.lifetimes = search rules in
-    let one : (i j : g.row.F-FileId.Denot) → g.F.FileId.PartialEq.eq i j ≡ true → file i ≡ file j = λ i j t. ((g.met.F.Files c.lifetimes claim).same_file c.args.files.now i j t).0 in
-    (gathered-all g.F.FileId.PartialEq.eq file g.met.F.FileId.Eq.laws one refusal c.args.config.now c.args.labels.now c.in_ok-ids.ids.items c.in_ok-ids.ensures.value
-    c.loop-place.place _ _ c.loop-place-test.false c.loop-place.invariant).2
+pub returns-clause-gathered : goal.returns-clause-gathered
+returns-clause-gathered g c =
+    let made = c.in_ok-gathered.ensures in
+    gathered-in_order g.F.FileId.PartialEq.eq (g.F.Files.file c.args.files.now) c.args.config.now (map label_of c.args.labels.now)
+    c.in_ok-gathered.gathered _ refl refl made.ids made.lanes made.entries c.sort.ensures.permutation c.sort.ensures.sorted

@@ -1,111 +1,97 @@
-use Rattle.std.proofs.Common.{rules, ◌≡◌, ◌<◌, List, true, Err, map, refl, sym, subst, ap, ◌∙◌}
-use Rattle.std.specs.List.Sorted.{IsSortedBy}
+use Rattle.std.proofs.Common.{rules, ◌≡◌, Err, length, map, max, refl, ap, ◌∙◌}
+use Rattle.std.specs.Prelude.{flat_map, fold}
+use Rattle.std.proofs.lemmas.List.{length-map}
 use Rattle.std.proofs.lemmas.Result.{err_from_is_err_and}
-use Rattle.codespan_base.specs.FileModel.{line_count}
-use Rattle.codespan_reporting.specs.declared.term.views.entry.Entry.{Entry}
-use Rattle.codespan_reporting.specs.Inner.Entries.{is_below}
-use Rattle.codespan_reporting.specs.Inner.GivenEntries.{entry_of}
 use Rattle.codespan_picture.specs.Picture.{label_of}
-use Rattle.codespan_reporting.proofs.SheetPrepared.{IsPadded, padded-classic, padded-unbroken, refused-labels, refused-loci, refused-padding, sheet-prepared, sorted-lines}
-use Rattle.codespan_reporting.proofs.term.views.sheet.prepare.Goals.{in-Classic, in-Unbroken+in_ok-padding-in-Unbroken}
-use Rattle.codespan_reporting.proofs.term.views.sheet.prepare.Given.{Over}
+use Rattle.codespan_picture.specs.Padding.{padding_of}
+use Rattle.codespan_picture.specs.Snippets.{labelled_files}
+use Rattle.codespan_reporting.specs.Inner.GivenPadding.{marked_digits}
+use Rattle.codespan_reporting.specs.Inner.Plans.{plan_digits}
+use Rattle.codespan_reporting.proofs.Askings.{or_refusal-answered}
+use Rattle.codespan_reporting.proofs.PlanFiles.{AreFiles, drawn-room, file_plans, marked-room, numbers-are, plan_ids, sheet-prepared}
+use Rattle.codespan_reporting.proofs.SheetPrepared.{numbers-refused, sheet-is}
+use Rattle.codespan_reporting.proofs.term.views.sheet.prepare.Goals.{in-Classic, in-Unbroken}
 use Rattle.codespan_reporting.proofs.term.views.sheet.prepare.Goals as goal
 
-pub returns-in_err-gathered-clause-refused : goal.returns-in_err-gathered-clause-refused
-returns-in_err-gathered-clause-refused g c =
+pub plan_files-requires : goal.plan_files-requires
+plan_files-requires g c κs =
+    ((refl, tt), (c.requires.sorted, (c.requires.lines, ap length c.requires.lanes_are ∙ length-map c.args.gathered.now.ids.items _)))
+
+pub returns-in_err-plans-clause-refused : goal.returns-in_err-plans-clause-refused
+returns-in_err-plans-clause-refused g c =
+    let file = g.F.Files.file c.args.files.now in
+    let same = g.F.FileId.PartialEq.eq in
+    let claim : g.claim c.lifetimes = search rules in
+    let table : AreFiles same file = record {
+      equivalence = g.met.F.FileId.Eq.laws;
+      one_file = λ i j t. ((g.met.F.Files c.lifetimes claim).same_file c.args.files.now i j t).0;
+      some_line = λ i. ((g.met.F.Files c.lifetimes claim).lawful c.args.files.now i).some_line;
+    } in
+    let config = c.args.config.now in
+    let xs = map label_of c.args.labels.now in
+    let refusal = g.F.Files.refusal c.args.files.now in
+    let gathered = c.args.gathered.now in
+    let numbers = numbers-are same file table config xs gathered c.requires refusal in
     let p = err_from_is_err_and c.from_residual.result c.from_residual.ensures.1 in
-    rw (p.1 ∙ ap Err p.2) (λ told _. refused-labels g.F.FileId.PartialEq.eq (g.F.Files.file c.args.files.now) c.args.config.now (map label_of c.args.labels.now) (g.F.Files.refusal c.args.files.now) _
-    (c.in_err-gathered.ensures.refused told))
+    rw (p.1 ∙ ap Err p.2) (λ memory display. numbers-refused same file config xs refusal _ numbers _ (c.in_err-plans.ensures.refused memory))
 
-pub drawn_padding-requires : goal.drawn_padding-requires
-drawn_padding-requires g c κs =
-    let gathered = c.in_ok-gathered.gathered in
-    let es = c.deref-in-Unbroken-2.ensures.value in (
-      (refl, tt),
-      (
-        subst (λ (l : List Entry). IsSortedBy is_below (map entry_of l)) (sym es) c.sort.ensures.sorted,
-        sorted-lines g.F.FileId.PartialEq.eq (g.F.Files.file c.args.files.now) c.args.config.now (map label_of c.args.labels.now)
-            gathered.ids.items c.deref-in-Unbroken.result.now gathered.entries.items c.sort.new.entries.items c.deref-in-Unbroken-2.result.now
-            c.deref-in-Unbroken.ensures.value es c.in_ok-gathered.ensures.entries c.sort.ensures.permutation,
-      ),
-    )
-
-pub returns-in_err-padding-in-Unbroken-clause-refused : goal.returns-in_err-padding-in-Unbroken-clause-refused
-returns-in_err-padding-in-Unbroken-clause-refused g c =
-    let same = g.F.FileId.PartialEq.eq in
+pub returns-in_err-files-clause-refused : goal.returns-in_err-files-clause-refused
+returns-in_err-files-clause-refused g c =
     let file = g.F.Files.file c.args.files.now in
-    let claim : g.claim c.lifetimes = search rules in
-    let one : (i j : g.row.F-FileId.Denot) → same i j ≡ true → file i ≡ file j = λ i j t. ((g.met.F.Files c.lifetimes claim).same_file c.args.files.now i j t).0 in
-    let some : (i : g.row.F-FileId.Denot) → 0 < line_count (file i) = λ i. ((g.met.F.Files c.lifetimes claim).lawful c.args.files.now i).some_line in
-    let gathered = c.in_ok-gathered.gathered in
-    let p = err_from_is_err_and c.from_residual-in_err-padding-in-Unbroken.result c.from_residual-in_err-padding-in-Unbroken.ensures.1 in
-    rw (p.1 ∙ ap Err p.2) (λ told _. refused-padding same file c.args.config.now (map label_of c.args.labels.now) g.met.F.FileId.Eq.laws one some (g.F.Files.refusal c.args.files.now)
-    gathered.ids.items gathered.entries.items c.in_ok-gathered.ensures.ids c.in_ok-gathered.ensures.entries
-    c.sort.new.entries.items c.sort.ensures.permutation c.sort.ensures.sorted c.in-Unbroken.is
-    c.deref-in-Unbroken.result.now c.deref-in-Unbroken-2.result.now c.deref-in-Unbroken.ensures.value c.deref-in-Unbroken-2.ensures.value
-    _ c.in_ok-gathered.ensures.refused (c.in_err-padding-in-Unbroken.ensures.refused told))
-
-pub returns-in_err-loci-clause-refused : goal.returns-in_err-loci-clause-refused
-returns-in_err-loci-clause-refused g c =
     let same = g.F.FileId.PartialEq.eq in
-    let file = g.F.Files.file c.args.files.now in
-    let refusal = g.F.Files.refusal c.args.files.now in
     let claim : g.claim c.lifetimes = search rules in
-    let one : (i j : g.row.F-FileId.Denot) → same i j ≡ true → file i ≡ file j = λ i j t. ((g.met.F.Files c.lifetimes claim).same_file c.args.files.now i j t).0 in
-    let some : (i : g.row.F-FileId.Denot) → 0 < line_count (file i) = λ i. ((g.met.F.Files c.lifetimes claim).lawful c.args.files.now i).some_line in
+    let table : AreFiles same file = record {
+      equivalence = g.met.F.FileId.Eq.laws;
+      one_file = λ i j t. ((g.met.F.Files c.lifetimes claim).same_file c.args.files.now i j t).0;
+      some_line = λ i. ((g.met.F.Files c.lifetimes claim).lawful c.args.files.now i).some_line;
+    } in
     let config = c.args.config.now in
     let xs = map label_of c.args.labels.now in
-    let gathered = c.in_ok-gathered.gathered in
-    let made = c.in_ok-gathered.ensures in
-    let padded : IsPadded same file config xs refusal c.match-config.padding c.match-config.filled_numbers.items =
-    elim c.match-config.branch [
-      | in-Classic w ↦ padded-classic same file config xs g.met.F.FileId.Eq.laws one some refusal gathered.ids.items gathered.entries.items made.ids made.entries
-          c.sort.new.entries.items c.sort.ensures.permutation w.deref.result.now c.match-config.padding c.match-config.filled_numbers.items w.in-Classic.is w.deref.ensures.value (w.padding-is ∙ w.spanned_padding-padding.ensures)
-          (rw w.filled_numbers-is c.new-filled_numbers.ensures.items)
-      | in-Unbroken+in_ok-padding-in-Unbroken w ↦ padded-unbroken same file config xs g.met.F.FileId.Eq.laws one some refusal gathered.ids.items gathered.entries.items made.ids made.entries
-          c.sort.new.entries.items c.sort.ensures.permutation c.sort.ensures.sorted w.in-Unbroken.is
-          w.deref-in-Unbroken.result.now w.deref-in-Unbroken-2.result.now w.deref-in-Unbroken.ensures.value w.deref-in-Unbroken-2.ensures.value
-          c.match-config.padding c.new-filled_numbers.result.items c.match-config.filled_numbers.items (w.padding-is ∙ w.in_ok-padding-in-Unbroken.ensures.value)
-          c.new-filled_numbers.ensures.items (rw w.filled_numbers-is w.in_ok-padding-in-Unbroken.ensures.kept) w.in_ok-padding-in-Unbroken.ensures.refused
-    ] in
-    let p = err_from_is_err_and c.from_residual-in_err-loci.result c.from_residual-in_err-loci.ensures.1 in
-    rw (p.1 ∙ ap Err p.2) (λ told named. refused-loci same file config xs refusal gathered.ids.items c.deref-2.result.now c.match-config.padding c.match-config.filled_numbers.items
-    c.in_ok-gathered.ensures.ids c.deref-2.ensures.value c.in_ok-gathered.ensures.refused padded ∙ c.in_err-loci.ensures.refused told named)
-
--- the room for line numbers, in both layouts
-padded : (g : Over) (c : goal.In_ok-loci g)
-    → IsPadded g.F.FileId.PartialEq.eq (g.F.Files.file c.args.files.now) c.args.config.now (map label_of c.args.labels.now) (g.F.Files.refusal c.args.files.now) c.match-config.padding c.match-config.filled_numbers.items
-padded g c =
-    let same = g.F.FileId.PartialEq.eq in
-    let file = g.F.Files.file c.args.files.now in
     let refusal = g.F.Files.refusal c.args.files.now in
-    let claim : g.claim c.lifetimes = search rules in
-    let one : (i j : g.row.F-FileId.Denot) → same i j ≡ true → file i ≡ file j = λ i j t. ((g.met.F.Files c.lifetimes claim).same_file c.args.files.now i j t).0 in
-    let some : (i : g.row.F-FileId.Denot) → 0 < line_count (file i) = λ i. ((g.met.F.Files c.lifetimes claim).lawful c.args.files.now i).some_line in
-    let config = c.args.config.now in
-    let xs = map label_of c.args.labels.now in
-    let gathered = c.in_ok-gathered.gathered in
-    let made = c.in_ok-gathered.ensures in
-    elim c.match-config.branch [
-      | in-Classic w ↦ padded-classic same file config xs g.met.F.FileId.Eq.laws one some refusal gathered.ids.items gathered.entries.items made.ids made.entries
-          c.sort.new.entries.items c.sort.ensures.permutation w.deref.result.now c.match-config.padding c.match-config.filled_numbers.items w.in-Classic.is w.deref.ensures.value (w.padding-is ∙ w.spanned_padding-padding.ensures)
-          (rw w.filled_numbers-is c.new-filled_numbers.ensures.items)
-      | in-Unbroken+in_ok-padding-in-Unbroken w ↦ padded-unbroken same file config xs g.met.F.FileId.Eq.laws one some refusal gathered.ids.items gathered.entries.items made.ids made.entries
-          c.sort.new.entries.items c.sort.ensures.permutation c.sort.ensures.sorted w.in-Unbroken.is
-          w.deref-in-Unbroken.result.now w.deref-in-Unbroken-2.result.now w.deref-in-Unbroken.ensures.value w.deref-in-Unbroken-2.ensures.value
-          c.match-config.padding c.new-filled_numbers.result.items c.match-config.filled_numbers.items (w.padding-is ∙ w.in_ok-padding-in-Unbroken.ensures.value)
-          c.new-filled_numbers.ensures.items (rw w.filled_numbers-is w.in_ok-padding-in-Unbroken.ensures.kept) w.in_ok-padding-in-Unbroken.ensures.refused
-    ]
+    let gathered = c.args.gathered.now in
+    let numbers = numbers-are same file table config xs gathered c.requires refusal in
+    let plans = c.in_ok-plans.plans.items in
+    let split = sheet-is same file config xs refusal _ plans numbers (plan_ids same file table config xs gathered c.requires plans c.in_ok-plans.ensures.plans) in
+    let p = err_from_is_err_and c.from_residual-in_err-files.result c.from_residual-in_err-files.ensures.1 in
+    rw (p.1 ∙ ap Err p.2) (λ memory display. split ∙ or_refusal-answered _ _ c.in_ok-plans.ensures.refused ∙ c.in_err-files.ensures.refused memory display)
 
 pub returns-clause-prepared : goal.returns-clause-prepared
 returns-clause-prepared g c =
-    let made = c.in_ok-gathered.ensures in
-    sheet-prepared g.F.FileId.PartialEq.eq (g.F.Files.file c.args.files.now) c.args.config.now (map label_of c.args.labels.now) (g.F.Files.refusal c.args.files.now)
-    _ c.in_ok-gathered.gathered.entries.items c.deref-2.result.now
-    made.ids made.lanes made.entries c.sort.ensures.permutation c.sort.ensures.sorted c.deref-2.ensures.value c.in_ok-loci.ensures.count c.in_ok-loci.ensures.loci (padded g c)
+    let file = g.F.Files.file c.args.files.now in
+    let same = g.F.FileId.PartialEq.eq in
+    let claim : g.claim c.lifetimes = search rules in
+    let table : AreFiles same file = record {
+      equivalence = g.met.F.FileId.Eq.laws;
+      one_file = λ i j t. ((g.met.F.Files c.lifetimes claim).same_file c.args.files.now i j t).0;
+      some_line = λ i. ((g.met.F.Files c.lifetimes claim).lawful c.args.files.now i).some_line;
+    } in
+    let config = c.args.config.now in
+    let xs = map label_of c.args.labels.now in
+    let gathered = c.args.gathered.now in
+    let plans = c.in_ok-plans.plans.items in
+    let found = c.in_ok-plans.ensures.plans in
+    let room : c.match-config.padding ≡ padding_of config (labelled_files same file xs) = elim c.match-config.branch [
+      | in-Classic w ↦ marked-room same file table config xs gathered c.requires plans found w.in-Classic.is _ (w.padding-is ∙ w.spanned_padding-padding.ensures ∙ ap (λ es. fold max 0 (marked_digits es)) w.deref.ensures.value)
+      | in-Unbroken w ↦ drawn-room same file table config xs gathered c.requires plans found w.in-Unbroken.is _ (w.padding-is ∙ w.drawn_padding-padding.ensures ∙ ap (λ ps. fold max 0 (flat_map plan_digits ps)) w.deref-in-Unbroken.ensures.value)
+    ] in
+    sheet-prepared same file config xs plans _ (plan_ids same file table config xs gathered c.requires plans found) (file_plans same file table config xs gathered c.requires plans found)
+    c.in_ok-files.ensures.placed room
 
 pub returns-clause-refused : goal.returns-clause-refused
 returns-clause-refused g c =
-    let made = c.in_ok-gathered.ensures in
-    refused-loci g.F.FileId.PartialEq.eq (g.F.Files.file c.args.files.now) c.args.config.now (map label_of c.args.labels.now) (g.F.Files.refusal c.args.files.now)
-    c.in_ok-gathered.gathered.ids.items c.deref-2.result.now c.match-config.padding c.match-config.filled_numbers.items made.ids c.deref-2.ensures.value made.refused (padded g c) ∙ c.in_ok-loci.ensures.refused
+    let file = g.F.Files.file c.args.files.now in
+    let same = g.F.FileId.PartialEq.eq in
+    let claim : g.claim c.lifetimes = search rules in
+    let table : AreFiles same file = record {
+      equivalence = g.met.F.FileId.Eq.laws;
+      one_file = λ i j t. ((g.met.F.Files c.lifetimes claim).same_file c.args.files.now i j t).0;
+      some_line = λ i. ((g.met.F.Files c.lifetimes claim).lawful c.args.files.now i).some_line;
+    } in
+    let config = c.args.config.now in
+    let xs = map label_of c.args.labels.now in
+    let refusal = g.F.Files.refusal c.args.files.now in
+    let gathered = c.args.gathered.now in
+    let numbers = numbers-are same file table config xs gathered c.requires refusal in
+    let plans = c.in_ok-plans.plans.items in
+    let split = sheet-is same file config xs refusal _ plans numbers (plan_ids same file table config xs gathered c.requires plans c.in_ok-plans.ensures.plans) in
+    split ∙ or_refusal-answered _ _ c.in_ok-plans.ensures.refused ∙ c.in_ok-files.ensures.refused

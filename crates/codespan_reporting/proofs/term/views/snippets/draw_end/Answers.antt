@@ -11,6 +11,6 @@ use Rattle.codespan_reporting.proofs.term.views.snippets.draw_end.Goals as goal
 pub returns-else-is_followed-clause-sends : goal.returns-else-is_followed-clause-sends
 returns-else-is_followed-clause-sends g c =
     let s = g.W.WriteStyle.sink (writer_of c.args.renderer.now) in
-    let snippet = c.args.snippet.now in
-    let look = look_of (config_of c.args.renderer.now) snippet.severity snippet.padding in
-    (refl, λ told. sym (ap (λ (b : Bool). sent s (stream_of_rows look (if b then EmptyRow (record { count = snippet.lane_count; marks = [] }) ∷ [] else []))) c.if-is_followed.false ∙ sent-nil s))
+    let page = c.args.page.now in
+    let look = look_of (config_of c.args.renderer.now) page.severity page.padding in
+    (refl, λ told. sym (ap (λ (b : Bool). sent s (stream_of_rows look (if b then EmptyRow (record { count = c.args.file.now.lane_count; marks = [] }) ∷ [] else []))) c.if-is_followed.false ∙ sent-nil s))

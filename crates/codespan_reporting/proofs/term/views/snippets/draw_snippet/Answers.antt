@@ -1,77 +1,91 @@
-use Rattle.std.proofs.Common.{List, Result, Err, Ok, sym, ap, ◌∙◌}
-use Rattle.std.specs.Prelude.{MatchResult}
+use Rattle.std.proofs.Common.{rules, List, Ok, Err, map, refl, sym, ap, ◌∙◌, subst}
+use Rattle.std.specs.List.{AllByRecursion}
 use Rattle.std.proofs.lemmas.Result.{err_from_is_err_and}
 use Rattle.codespan_base.specs.declared.term.config.Config.{Config}
 use Rattle.codespan_base.specs.FileModel.Lookup.{Source}
-use Rattle.codespan_reporting.specs.Inner.GivenSnippets.{end_rows, start_rows, steps_in}
 use Rattle.codespan_picture.specs.Lookups.{asked_of, first_refusal}
 use Rattle.codespan_picture.specs.Picture.{look_of}
-use Rattle.codespan_renderer.specs.Renderers.{config_of}
 use Rattle.codespan_picture.specs.Rows.{Row}
 use Rattle.codespan_picture.specs.RowStreams.{stream_of_rows}
-use Rattle.codespan_reporting.specs.Inner.Steps.{lookups_of_steps, rows_of_steps}
+use Rattle.codespan_renderer.specs.Renderers.{config_of, writer_of}
+use Rattle.codespan_reporting.specs.Inner.GivenSnippets.{end_rows, start_rows}
+use Rattle.codespan_reporting.specs.declared.term.views.steps.Step.{Step}
+use Rattle.codespan_reporting.specs.Inner.Asking.{SendsAsking}
+use Rattle.codespan_reporting.specs.Inner.GivenSteps.{IsStepOf, asked_by_all, step_of}
+use Rattle.codespan_reporting.specs.Inner.StepDrawing.{DoFit}
+use Rattle.codespan_reporting.specs.Inner.Steps.{rows_of_steps}
 use Rattle.codespan_reporting.proofs.Askings.{asking_as_stream, asking_at, asking_refused_before}
 use Rattle.codespan_reporting.proofs.SnippetParts.{rows-three, sends_at, stopped-at_start, stopped-in_lines, drawn-to_end}
 use Rattle.codespan_reporting.proofs.term.views.snippets.draw_snippet.Goals as goal
 
+pub draw_steps-requires : goal.draw_steps-requires
+draw_steps-requires g c κs =
+    let file = c.args.file.now in
+    let f = g.F.Files.file c.args.page.now.files.now file.id in
+    let steps = sym c.deref.ensures.value in (
+      (refl, (refl, tt)),
+      (search rules, (subst (AllByRecursion (IsStepOf f)) steps c.requires.steps, subst (λ (l : List Step). DoFit file.lane_count (map step_of l)) steps c.requires.fits)),
+    )
+
 pub returns-in_err-source-clause-draws : goal.returns-in_err-source-clause-draws
-returns-in_err-source-clause-draws g c = λ layout later known.
-    let snippet = c.args.snippet.now in
-    let refusal = g.F.Files.refusal c.args.files.now in
+returns-in_err-source-clause-draws g c =
+    let page = c.args.page.now in
+    let file = c.args.file.now in
+    let refusal = g.F.Files.refusal page.files.now in
     let p = err_from_is_err_and c.from_residual.result c.from_residual.ensures.1 in
-    rw (p.1 ∙ ap Err p.2) (asking_refused_before (refusal snippet.id Source) (first_refusal refusal (asked_of snippet.id (lookups_of_steps layout (steps_in snippet)))) _ _ _ c.in_err-source.ensures.refused, tt)
+    rw (p.1 ∙ ap Err p.2) (asking_refused_before (refusal file.id Source) (first_refusal refusal (asked_of file.id (asked_by_all file.steps.items))) _ _ _ c.in_err-source.ensures.refused)
 
 pub returns-in_err-draw_start-clause-draws : goal.returns-in_err-draw_start-clause-draws
-returns-in_err-draw_start-clause-draws g c = λ layout later known.
-    let snippet = c.args.snippet.now in
-    let refusal = g.F.Files.refusal c.args.files.now in
-    let f = g.F.Files.file c.args.files.now snippet.id in
-    let look = look_of (config_of c.args.renderer.now) snippet.severity snippet.padding in
+returns-in_err-draw_start-clause-draws g c =
+    let page = c.args.page.now in
+    let file = c.args.file.now in
+    let refusal = g.F.Files.refusal page.files.now in
+    let f = g.F.Files.file page.files.now file.id in
+    let look = look_of (config_of c.args.renderer.now) page.severity page.padding in
+    let rows : List Row = rows_of_steps f file.lane_count (map step_of file.steps.items) in
     let p = err_from_is_err_and c.from_residual-in_err-draw_start.result c.from_residual-in_err-draw_start.ensures.1 in
-    rw (p.1 ∙ ap Err p.2) (
-      asking_as_stream _ _ _ _ _ (Err _) (sym (rows-three look (start_rows snippet) (rows_of_steps f snippet.lane_count (steps_in snippet)) (end_rows snippet c.args.is_followed)))
-          (stopped-at_start (refusal snippet.id Source) (first_refusal refusal (asked_of snippet.id (lookups_of_steps layout (steps_in snippet)))) _ _ _ _ _ c.in_ok-source.ensures.refused
-          _ c.in_err-draw_start.ensures.sends c.in_err-draw_start.ensures.io),
-      tt,
-    )
+    rw (p.1 ∙ ap Err p.2)
+    (asking_as_stream _ _ _ _ _ (Err _) (sym (rows-three look (start_rows file) rows (end_rows file c.args.is_followed)))
+    (stopped-at_start (refusal file.id Source) (first_refusal refusal (asked_of file.id (asked_by_all file.steps.items))) _ _ _ _ _ c.in_ok-source.ensures.refused
+    _ c.in_err-draw_start.ensures.sends c.in_err-draw_start.ensures.io))
 
-pub returns-in_err-draw_lines-clause-draws : goal.returns-in_err-draw_lines-clause-draws
-returns-in_err-draw_lines-clause-draws g c = λ layout later known.
-    let snippet = c.args.snippet.now in
-    let refusal = g.F.Files.refusal c.args.files.now in
-    let f = g.F.Files.file c.args.files.now snippet.id in
-    let rows : List Row = rows_of_steps f snippet.lane_count (steps_in snippet) in
-    let look = look_of (config_of c.args.renderer.now) snippet.severity snippet.padding in
-    let p = err_from_is_err_and c.from_residual-in_err-draw_lines.result c.from_residual-in_err-draw_lines.ensures.1 in
-    let e = c.in_err-draw_lines.field-0.0 in
-    rw (p.1 ∙ ap Err p.2) (
-      asking_as_stream _ _ _ _ _ (Err e) (sym (rows-three look (start_rows snippet) rows (end_rows snippet c.args.is_followed)))
-          (stopped-in_lines (refusal snippet.id Source) (first_refusal refusal (asked_of snippet.id (lookups_of_steps layout (steps_in snippet)))) _ _ _ _ _ c.in_ok-source.ensures.refused
-          _ _ e c.in_ok-draw_start.ensures.sends
-          (asking_at (λ (k : Config). stream_of_rows (look_of k snippet.severity snippet.padding) rows) _ _ c.in_ok-draw_start.ensures.same.config _ _ _ (Err e)
-          (c.in_err-draw_lines.ensures.draws layout later known).0)),
-      tt,
-    )
+pub returns-in_err-draw_steps-clause-draws : goal.returns-in_err-draw_steps-clause-draws
+returns-in_err-draw_steps-clause-draws g c =
+    let page = c.args.page.now in
+    let file = c.args.file.now in
+    let refusal = g.F.Files.refusal page.files.now in
+    let f = g.F.Files.file page.files.now file.id in
+    let look = look_of (config_of c.args.renderer.now) page.severity page.padding in
+    let rows : List Row = rows_of_steps f file.lane_count (map step_of file.steps.items) in
+    let e = c.in_err-draw_steps.field-0.0 in
+    let p = err_from_is_err_and c.from_residual-in_err-draw_steps.result c.from_residual-in_err-draw_steps.ensures.1 in
+    let t = g.W.WriteStyle.sink (writer_of c.draw_start.new.renderer) in
+    let u = g.W.WriteStyle.sink (writer_of c.draw_steps.new.renderer) in
+    let drawn = subst (λ (steps : List Step). SendsAsking (first_refusal refusal (asked_of file.id (asked_by_all steps))) t
+    (stream_of_rows (look_of (config_of c.draw_start.new.renderer) page.severity page.padding) (rows_of_steps f file.lane_count (map step_of steps))) (Err e) u) c.deref.ensures.value c.in_err-draw_steps.ensures.draws in
+    rw (p.1 ∙ ap Err p.2)
+    (asking_as_stream _ _ _ _ _ (Err e) (sym (rows-three look (start_rows file) rows (end_rows file c.args.is_followed)))
+    (stopped-in_lines (refusal file.id Source) (first_refusal refusal (asked_of file.id (asked_by_all file.steps.items))) _ _ _ _ _ c.in_ok-source.ensures.refused
+    _ _ e c.in_ok-draw_start.ensures.sends
+    (asking_at (λ (k : Config). stream_of_rows (look_of k page.severity page.padding) rows) _ _ c.in_ok-draw_start.ensures.same.config _ _ _ (Err e) drawn)))
 
 pub returns-clause-draws : goal.returns-clause-draws
-returns-clause-draws g c = λ layout later known.
-    let snippet = c.args.snippet.now in
-    let refusal = g.F.Files.refusal c.args.files.now in
-    let f = g.F.Files.file c.args.files.now snippet.id in
-    let rows : List Row = rows_of_steps f snippet.lane_count (steps_in snippet) in
-    let look = look_of (config_of c.args.renderer.now) snippet.severity snippet.padding in
+returns-clause-draws g c =
+    let page = c.args.page.now in
+    let file = c.args.file.now in
+    let refusal = g.F.Files.refusal page.files.now in
+    let f = g.F.Files.file page.files.now file.id in
+    let look = look_of (config_of c.args.renderer.now) page.severity page.padding in
+    let rows : List Row = rows_of_steps f file.lane_count (map step_of file.steps.items) in
     let first = c.in_ok-draw_start.ensures.same.config in
-    let second = c.in_ok-draw_lines.ensures.same.config in
-    let lines = c.in_ok-draw_lines.ensures.draws layout later known in (
-      asking_as_stream _ _ _ _ _ c.draw_end.result (sym (rows-three look (start_rows snippet) rows (end_rows snippet c.args.is_followed)))
-          (drawn-to_end (refusal snippet.id Source) (first_refusal refusal (asked_of snippet.id (lookups_of_steps layout (steps_in snippet)))) _ _ _ _ _ c.in_ok-source.ensures.refused
-          _ _ _ _ c.draw_end.result c.in_ok-draw_start.ensures.sends
-          (asking_at (λ (k : Config). stream_of_rows (look_of k snippet.severity snippet.padding) rows) _ _ first _ _ _ (Ok c.in_ok-draw_lines.field-0) lines.0)
-          (sends_at (λ (k : Config). stream_of_rows (look_of k snippet.severity snippet.padding) (end_rows snippet c.args.is_followed)) _ _ (second ∙ first) _ _ c.draw_end.result c.draw_end.ensures.sends)
-          c.draw_end.ensures.io),
-      left c.draw_end.result lines.1,
-    )
-  where
-    left : {A : Type 0} {E : Type 0} {T : Type 0} (r : Result T E) → A → MatchResult r (λ _. A) (λ _. Unit {0})
-    left (Ok x) same = same
-    left (Err e) same = tt
+    let second = c.in_ok-draw_steps.ensures.same.config in
+    let t = g.W.WriteStyle.sink (writer_of c.draw_start.new.renderer) in
+    let u = g.W.WriteStyle.sink (writer_of c.draw_steps.new.renderer) in
+    let drawn = subst (λ (steps : List Step). SendsAsking (first_refusal refusal (asked_of file.id (asked_by_all steps))) t
+    (stream_of_rows (look_of (config_of c.draw_start.new.renderer) page.severity page.padding) (rows_of_steps f file.lane_count (map step_of steps))) (Ok tt) u) c.deref.ensures.value c.in_ok-draw_steps.ensures.draws in
+    asking_as_stream _ _ _ _ _ c.draw_end.result (sym (rows-three look (start_rows file) rows (end_rows file c.args.is_followed)))
+    (drawn-to_end (refusal file.id Source) (first_refusal refusal (asked_of file.id (asked_by_all file.steps.items))) _ _ _ _ _ c.in_ok-source.ensures.refused
+    _ _ _ _ c.draw_end.result c.in_ok-draw_start.ensures.sends
+    (asking_at (λ (k : Config). stream_of_rows (look_of k page.severity page.padding) rows) _ _ first _ _ _ (Ok tt) drawn)
+    (sends_at (λ (k : Config). stream_of_rows (look_of k page.severity page.padding) (end_rows file c.args.is_followed)) _ _ (second ∙ first) _ _ c.draw_end.result c.draw_end.ensures.sends)
+    c.draw_end.ensures.io)

@@ -1,12 +1,10 @@
-use Rattle.std.proofs.Common.{◌≡◌, ◌<◌, List, None, Ok, Err, length, map, refl, sym, subst, ap, ◌∙◌, arith}
+use Rattle.std.proofs.Common.{◌≡◌, ◌<◌, None, Ok, Err, length, map, refl, sym, subst, ap, ◌∙◌, arith}
 use Rattle.std.proofs.lemmas.List.{length-map}
 use Rattle.std.proofs.lemmas.Result.{err_from_is_err_and}
 use Rattle.codespan_base.specs.declared.term.config.Config.{Config}
-use Rattle.codespan_base.specs.declared.diagnostic.Label.{Label}
 use Rattle.codespan_base.specs.Streams.{Stream}
-use Rattle.codespan_reporting.specs.Inner.GivenSheets.{IsPrepared}
+use Rattle.codespan_reporting.specs.Inner.GivenSheets.{IsPrepared, places_of}
 use Rattle.codespan_picture.specs.Placed.{placed_snippets}
-use Rattle.codespan_picture.specs.Given.{place_of_given}
 use Rattle.codespan_picture.specs.Lookups.{early_lookups, first_refusal}
 use Rattle.codespan_picture.specs.Picture.{label_of, labels_of, look_of, notes_of}
 use Rattle.codespan_renderer.specs.Renderers.{config_of}
@@ -17,8 +15,25 @@ use Rattle.codespan_reporting.proofs.Askings.{asking_at}
 use Rattle.codespan_reporting.proofs.Drawing.{refused_early}
 use Rattle.codespan_reporting.proofs.NoteRows.{whole_of_notes}
 use Rattle.codespan_reporting.proofs.RichParts.{stopped-in_header, stopped-in_snippets, drawn-whole, some_early}
+use Rattle.codespan_reporting.proofs.SheetPrepared.{labels-answered, labels-refused}
 use Rattle.codespan_reporting.proofs.SnippetParts.{sends_at}
 use Rattle.codespan_reporting.proofs.term.views.rich.RichDiagnostic.draw_labels.Goals as goal
+
+pub returns-in_err-gathered-clause-draws : goal.returns-in_err-gathered-clause-draws
+returns-in_err-gathered-clause-draws g c =
+    let file = g.F.Files.file c.args.files.now in
+    let refusal = g.F.Files.refusal c.args.files.now in
+    let view = view_config_of c.args.self.now in
+    let renderer = config_of c.args.renderer.now in
+    let d = diagnostic_of c.args.self.now in
+    let same = g.FileId.PartialEq.eq in
+    let some : 0 < length (labels_of d) = omega (arith, c.requires, length-map d.labels.items label_of) in
+    let labels : map label_of c.as_slice-labels.result.now ≡ labels_of d = ap (map label_of) c.as_slice-labels.ensures.value in
+    let xs = map label_of c.as_slice-labels.result.now in
+    let p = err_from_is_err_and c.from_residual.result c.from_residual.ensures.1 in
+    rw (p.1 ∙ ap Err p.2)
+    (refused_early renderer view same file refusal d _ _ _ refl (some_early view same file refusal (labels_of d) some)
+    (λ memory display. ap (λ ys. first_refusal refusal (early_lookups view same file refusal ys)) (sym labels) ∙ labels-refused same file view xs refusal _ (c.in_err-gathered.ensures.refused memory)))
 
 pub returns-in_err-sheet-clause-draws : goal.returns-in_err-sheet-clause-draws
 returns-in_err-sheet-clause-draws g c =
@@ -29,10 +44,13 @@ returns-in_err-sheet-clause-draws g c =
     let d = diagnostic_of c.args.self.now in
     let same = g.FileId.PartialEq.eq in
     let some : 0 < length (labels_of d) = omega (arith, c.requires, length-map d.labels.items label_of) in
-    let p = err_from_is_err_and c.from_residual.result c.from_residual.ensures.1 in
+    let labels : map label_of c.as_slice-labels.result.now ≡ labels_of d = ap (map label_of) c.as_slice-labels.ensures.value in
+    let xs = map label_of c.as_slice-labels.result.now in
+    let p = err_from_is_err_and c.from_residual-in_err-sheet.result c.from_residual-in_err-sheet.ensures.1 in
     rw (p.1 ∙ ap Err p.2)
     (refused_early renderer view same file refusal d _ _ _ refl (some_early view same file refusal (labels_of d) some)
-    (λ m f. ap (λ (ls : List (Label g.row.FileId.Denot)). first_refusal refusal (early_lookups view same file refusal (map label_of ls))) (sym c.as_slice.ensures.value) ∙ c.in_err-sheet.ensures.refused m f))
+    (λ memory display. ap (λ ys. first_refusal refusal (early_lookups view same file refusal ys)) (sym labels)
+    ∙ labels-answered same file view xs refusal c.in_ok-gathered.ensures.refused ∙ c.in_err-sheet.ensures.refused memory display))
 
 pub returns-in_err-draw_header-clause-draws : goal.returns-in_err-draw_header-clause-draws
 returns-in_err-draw_header-clause-draws g c =
@@ -42,9 +60,11 @@ returns-in_err-draw_header-clause-draws g c =
     let renderer = config_of c.args.renderer.now in
     let d = diagnostic_of c.args.self.now in
     let same = g.FileId.PartialEq.eq in
-    let prepared : IsPrepared same file view (labels_of d) c.in_ok-sheet.sheet = subst (λ (ls : List (Label g.row.FileId.Denot)). IsPrepared same file view (map label_of ls) c.in_ok-sheet.sheet) c.as_slice.ensures.value c.in_ok-sheet.ensures.prepared in
+    let labels : map label_of c.as_slice-labels.result.now ≡ labels_of d = ap (map label_of) c.as_slice-labels.ensures.value in
+    let xs = map label_of c.as_slice-labels.result.now in
+    let prepared : IsPrepared same file view (labels_of d) c.in_ok-sheet.sheet = subst (λ ys. IsPrepared same file view ys c.in_ok-sheet.sheet) labels c.in_ok-sheet.ensures.prepared in
     let early : first_refusal refusal (early_lookups view same file refusal (labels_of d)) ≡ None =
-    ap (λ (ls : List (Label g.row.FileId.Denot)). first_refusal refusal (early_lookups view same file refusal (map label_of ls))) (sym c.as_slice.ensures.value) ∙ c.in_ok-sheet.ensures.refused in
+    ap (λ ys. first_refusal refusal (early_lookups view same file refusal ys)) (sym labels) ∙ labels-answered same file view xs refusal c.in_ok-gathered.ensures.refused ∙ c.in_ok-sheet.ensures.refused in
     let p = err_from_is_err_and c.from_residual-in_err-draw_header.result c.from_residual-in_err-draw_header.ensures.1 in
     rw (p.1 ∙ ap Err p.2) (stopped-in_header renderer view same file refusal d c.in_ok-sheet.sheet prepared early _ _ _ c.in_err-draw_header.ensures.sends c.in_err-draw_header.ensures.io)
 
@@ -57,11 +77,13 @@ returns-in_err-draw_snippets-clause-draws g c =
     let d = diagnostic_of c.args.self.now in
     let same = g.FileId.PartialEq.eq in
     let some : 0 < length (labels_of d) = omega (arith, c.requires, length-map d.labels.items label_of) in
-    let prepared : IsPrepared same file view (labels_of d) c.in_ok-sheet.sheet = subst (λ (ls : List (Label g.row.FileId.Denot)). IsPrepared same file view (map label_of ls) c.in_ok-sheet.sheet) c.as_slice.ensures.value c.in_ok-sheet.ensures.prepared in
+    let labels : map label_of c.as_slice-labels.result.now ≡ labels_of d = ap (map label_of) c.as_slice-labels.ensures.value in
+    let xs = map label_of c.as_slice-labels.result.now in
+    let prepared : IsPrepared same file view (labels_of d) c.in_ok-sheet.sheet = subst (λ ys. IsPrepared same file view ys c.in_ok-sheet.sheet) labels c.in_ok-sheet.ensures.prepared in
     let early : first_refusal refusal (early_lookups view same file refusal (labels_of d)) ≡ None =
-    ap (λ (ls : List (Label g.row.FileId.Denot)). first_refusal refusal (early_lookups view same file refusal (map label_of ls))) (sym c.as_slice.ensures.value) ∙ c.in_ok-sheet.ensures.refused in
+    ap (λ ys. first_refusal refusal (early_lookups view same file refusal ys)) (sym labels) ∙ labels-answered same file view xs refusal c.in_ok-gathered.ensures.refused ∙ c.in_ok-sheet.ensures.refused in
     let middle : Config → Stream = λ k. stream_of_rows (look_of k d.severity c.in_ok-sheet.sheet.padding)
-    (placed_snippets view (has_any (notes_of d)) (map place_of_given c.in_ok-sheet.sheet.loci.items) (labelled_files same file (labels_of d))) in
+    (placed_snippets view (has_any (notes_of d)) (places_of c.in_ok-sheet.sheet.files.items) (labelled_files same file (labels_of d))) in
     let e = c.in_err-draw_snippets.field-0.0 in
     let p = err_from_is_err_and c.from_residual-in_err-draw_snippets.result c.from_residual-in_err-draw_snippets.ensures.1 in
     rw (p.1 ∙ ap Err p.2) (stopped-in_snippets renderer view same file refusal d c.in_ok-sheet.sheet prepared early _ _ _ e some c.in_ok-draw_header.ensures.sends
@@ -75,11 +97,13 @@ returns-clause-draws g c =
     let renderer = config_of c.args.renderer.now in
     let d = diagnostic_of c.args.self.now in
     let same = g.FileId.PartialEq.eq in
-    let prepared : IsPrepared same file view (labels_of d) c.in_ok-sheet.sheet = subst (λ (ls : List (Label g.row.FileId.Denot)). IsPrepared same file view (map label_of ls) c.in_ok-sheet.sheet) c.as_slice.ensures.value c.in_ok-sheet.ensures.prepared in
+    let labels : map label_of c.as_slice-labels.result.now ≡ labels_of d = ap (map label_of) c.as_slice-labels.ensures.value in
+    let xs = map label_of c.as_slice-labels.result.now in
+    let prepared : IsPrepared same file view (labels_of d) c.in_ok-sheet.sheet = subst (λ ys. IsPrepared same file view ys c.in_ok-sheet.sheet) labels c.in_ok-sheet.ensures.prepared in
     let early : first_refusal refusal (early_lookups view same file refusal (labels_of d)) ≡ None =
-    ap (λ (ls : List (Label g.row.FileId.Denot)). first_refusal refusal (early_lookups view same file refusal (map label_of ls))) (sym c.as_slice.ensures.value) ∙ c.in_ok-sheet.ensures.refused in
+    ap (λ ys. first_refusal refusal (early_lookups view same file refusal ys)) (sym labels) ∙ labels-answered same file view xs refusal c.in_ok-gathered.ensures.refused ∙ c.in_ok-sheet.ensures.refused in
     let middle : Config → Stream = λ k. stream_of_rows (look_of k d.severity c.in_ok-sheet.sheet.padding)
-    (placed_snippets view (has_any (notes_of d)) (map place_of_given c.in_ok-sheet.sheet.loci.items) (labelled_files same file (labels_of d))) in
+    (placed_snippets view (has_any (notes_of d)) (places_of c.in_ok-sheet.sheet.files.items) (labelled_files same file (labels_of d))) in
     let first = c.in_ok-draw_header.ensures.same.config in
     let second = c.in_ok-draw_snippets.ensures.same.config in
     drawn-whole renderer view same file refusal d c.in_ok-sheet.sheet prepared early _ _ _ _ c.draw_closing.result c.in_ok-draw_header.ensures.sends

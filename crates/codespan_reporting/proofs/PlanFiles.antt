@@ -1,0 +1,268 @@
+-- The plans of files: what their steps draw and ask for is what the pictures of the files show.
+use Rattle.std.proofs.Common.{◌≡◌, ℕ, zero, suc, ◌+◌, ◌<◌, Bool, true, List, [], ◌∷◌, ◌++◌, get_or, map, max, Option, None, refl, sym, subst, ap, ◌∙◌, arith}
+use Rattle.std.specs.Prelude.{IfSome, flat_map, fold}
+use Rattle.std.specs.Cmp.{IsEquivalence}
+use Rattle.std.specs.List.{AllByRecursion, AllZip}
+use Rattle.std.proofs.lemmas.Grind.{flat_map-append}
+use Rattle.std.proofs.lemmas.List.{map-append}
+use Rattle.std.proofs.lemmas.List.Folds.{flat_map-map}
+use Rattle.codespan_base.specs.declared.term.config.Config.{Config}
+use Rattle.codespan_base.specs.declared.term.config.Layout.{Layout}
+use Rattle.codespan_base.specs.declared.term.config.Layout.TheVariants.{Classic, Unbroken}
+use Rattle.codespan_base.specs.FileModel.{FileModel, Lookup, line_count}
+use Rattle.codespan_picture.specs.Lines.{drawn_lines}
+use Rattle.codespan_picture.specs.Lookups.{Refusals, asked_of, filled_lines, numbers_for_padding, of_filled}
+use Rattle.codespan_picture.specs.Padding.{digit_count, digits_of, numbered_lines, padding_of}
+use Rattle.codespan_picture.specs.Snippets.{InFile, LabelledFile, labelled_file, labelled_files, lane_count, rows_after}
+use Rattle.codespan_reporting.specs.declared.term.views.gather.Gathered.{Gathered}
+use Rattle.codespan_reporting.specs.declared.term.views.plan.FilePlan.{FilePlan}
+use Rattle.codespan_reporting.specs.declared.term.views.sheet.SheetFile.{SheetFile}
+use Rattle.codespan_reporting.specs.declared.term.views.steps.Step.{Step as GivenStep}
+use Rattle.codespan_reporting.specs.declared.term.views.steps.Step.TheVariants as given
+use Rattle.codespan_reporting.specs.Inner.Entries.{Entry}
+use Rattle.codespan_reporting.specs.Inner.GivenSheets.{IsGathered, IsPlacedPlan, IsPrepared, IsSheetFile, ids_of}
+use Rattle.codespan_reporting.specs.Inner.GivenEntries.{IsOfFiles, entry_of}
+use Rattle.codespan_reporting.specs.Inner.GivenPadding.{marked_digits}
+use Rattle.codespan_reporting.specs.declared.term.views.sheet.Sheet.{Sheet}
+use Rattle.codespan_reporting.specs.Inner.GivenSteps.{IsStepIn, IsStepOf, asked_by, asked_by_all, asked_with, numbers_asked, step_of}
+use Rattle.codespan_reporting.specs.Inner.PlacedLabels.{IsAt, file_ids, lane_after}
+use Rattle.codespan_reporting.specs.Inner.Plans.{ArePlans, IsPlan, plan_digits, planned_lookups, step_digits, steps_at}
+use Rattle.codespan_reporting.specs.Inner.StepDrawing.{DoFit}
+use Rattle.codespan_reporting.specs.Inner.Steps.{Step, fill_of, fills_of, line_of_step, lines_of_steps, rows_of_steps}
+use Rattle.codespan_reporting.proofs.EntryPadding.{by_place-same, spanned-room}
+use Rattle.codespan_reporting.proofs.EntryPicture.{snippet-fills, snippet-fits, snippet-lines, snippet-rows}
+use Rattle.codespan_reporting.proofs.SheetDrawing.{lanes-count}
+
+-- ---- one step
+
+-- a step in a layout is one of the file
+step_of-file : (layout : Layout) (f : FileModel) (g : GivenStep) → IsStepIn layout f g → IsStepOf f g
+step_of-file layout f (given.Shown line marks) is = is
+step_of-file Classic f (given.Filled index number marks) is = subst (λ (o : Option ℕ). IfSome o (λ known. known ≡ f.number index)) (sym is) tt
+step_of-file Unbroken f (given.Filled index number marks) is = subst (λ (o : Option ℕ). IfSome o (λ known. known ≡ f.number index)) (sym is) refl
+step_of-file layout f (given.Break marks) is = tt
+
+-- it asks for what the layout asks for of the line that it fills in
+step-asks : (layout : Layout) (f : FileModel) (g : GivenStep) → IsStepIn layout f g → asked_by g ≡ flat_map (of_filled layout) (fill_of (step_of g))
+step-asks layout f (given.Shown line marks) is = refl
+step-asks Classic f (given.Filled index number marks) is = ap (λ (o : Option ℕ). asked_with o index) is
+step-asks Unbroken f (given.Filled index number marks) is = ap (λ (o : Option ℕ). asked_with o index) is
+step-asks layout f (given.Break marks) is = refl
+
+-- in the unbroken layout the digits of its number are those of its line's
+step-digits : (f : FileModel) (g : GivenStep) → IsStepIn Unbroken f g → step_digits g ≡ map (λ l. digit_count (f.number l)) (line_of_step (step_of g))
+step-digits f (given.Shown line marks) is = ap (λ n. digit_count n ∷ []) is.number_is
+step-digits f (given.Filled index number marks) is = ap (λ (o : Option ℕ). step_digits (given.Filled index o marks)) is
+step-digits f (given.Break marks) is = refl
+
+-- ---- steps
+
+-- steps in a layout are those of the file
+steps_of-file : (layout : Layout) (f : FileModel) (gs : List GivenStep) → AllByRecursion (IsStepIn layout f) gs → AllByRecursion (IsStepOf f) gs
+steps_of-file layout f [] h = tt
+steps_of-file layout f (g ∷ gs) h = (step_of-file layout f g h.0, steps_of-file layout f gs h.1)
+
+-- they ask for what the layout asks for of the lines that they fill in
+steps-ask : (layout : Layout) (f : FileModel) (gs : List GivenStep) → AllByRecursion (IsStepIn layout f) gs → asked_by_all gs ≡ flat_map (of_filled layout) (fills_of (map step_of gs))
+steps-ask layout f [] h = refl
+steps-ask layout f (g ∷ gs) h =
+    (λ i. step-asks layout f g h.0 i ++ steps-ask layout f gs h.1 i)
+    ∙ sym (flat_map-append (of_filled layout) (fill_of (step_of g)) (fills_of (map step_of gs)))
+
+-- in the unbroken layout the digits of their numbers are those of their lines'
+steps-digits : (f : FileModel) (gs : List GivenStep) → AllByRecursion (IsStepIn Unbroken f) gs → flat_map step_digits gs ≡ map (λ l. digit_count (f.number l)) (lines_of_steps (map step_of gs))
+steps-digits f [] h = refl
+steps-digits f (g ∷ gs) h =
+    (λ i. step-digits f g h.0 i ++ steps-digits f gs h.1 i)
+    ∙ sym (map-append (λ l. digit_count (f.number l)) (line_of_step (step_of g)) (lines_of_steps (map step_of gs)))
+
+-- ---- a place
+
+-- what the id at a place is made into
+at-map : {Id : Type 0} (make : Id → ℕ) (ids : List Id) (k : ℕ) (id : Id) (d : ℕ) → IsAt ids k id → get_or (map make ids) k d ≡ make id
+at-map make [] k id d at = absurd at
+at-map make (j ∷ js) zero id d at = ap make at
+at-map make (j ∷ js) (suc k) id d at = at-map make js k id d at
+
+-- ---- plans
+
+-- the plan of a file is that of its labels: its lanes, what its steps draw, and what they ask for
+pub record IsFilePlan {Id : Type 0} (config : Config) (s : LabelledFile) (plan : FilePlan Id) : Type 0 where
+  pub lanes_are : plan.lane_count ≡ lane_count s
+  pub each : AllByRecursion (IsStepOf s.file) plan.steps.items
+  pub fits : DoFit (lane_count s) (map step_of plan.steps.items)
+  pub rows : rows_of_steps s.file (lane_count s) (map step_of plan.steps.items) ≡ rows_after s None (drawn_lines config s.file s.labels)
+  pub asked : asked_by_all plan.steps.items ≡ flat_map (of_filled config.layout) (filled_lines config s)
+
+-- in the unbroken layout the numbers of drawn lines count
+numbered : (config : Config) → config.layout ≡ Unbroken → (s : LabelledFile) → numbered_lines config s ≡ drawn_lines config s.file s.labels
+numbered config unbroken s = ap (λ v. numbered_lines (record config { layout = v }) s) unbroken
+
+-- the files are those of a lawful table: sameness of ids is an equivalence, the same ids name one file, and each file has a line
+pub record AreFiles {Id : Type 0} (same : Id → Id → Bool) (file : Id → FileModel) : Type 0 where
+  pub equivalence : IsEquivalence same
+  pub one_file : (i j : Id) → same i j ≡ true → file i ≡ file j
+  pub some_line : (i : Id) → 0 < line_count (file i)
+
+module _ {Id : Type 0} (same : Id → Id → Bool) (file : Id → FileModel) (table : AreFiles same file) (config : Config) (xs : List (InFile Id)) (gathered : Gathered Id) (all : IsGathered same file config xs gathered) where
+  -- its entries
+  abbrev es : List Entry
+  es = map entry_of gathered.entries.items
+
+  -- its lanes
+  abbrev counts : List ℕ
+  counts = gathered.lane_counts.items
+
+  -- a file with its labels
+  abbrev labelled : Id → LabelledFile
+  labelled = labelled_file same file xs
+
+  -- the numbers that are asked for before the header are those of the padding
+  pub numbers-are : (refusal : Refusals Id) → planned_lookups config.layout es gathered.ids.items
+      ≡ flat_map (λ id. asked_of id (numbers_for_padding config same file refusal xs config.layout id)) (file_ids same xs)
+  numbers-are refusal =
+      ap (planned_lookups config.layout es) all.ids_are
+      ∙ by_place-same (λ k id. asked_of id (numbers_asked config.layout (fills_of (steps_at es k)))) (λ id. asked_of id (numbers_for_padding config same file refusal xs config.layout id)) 0 (file_ids same xs)
+      (λ i id at. let e : 0 + i ≡ i = omega arith in
+      ap (λ k. asked_of id (numbers_asked config.layout (fills_of (steps_at es k)))) e
+      ∙ ap (λ (ls : List ℕ). asked_of id (numbers_asked config.layout ls)) (snippet-fills same file table.equivalence table.one_file table.some_line config xs es all.permutation all.sorted i id at)
+      ∙ ap (λ (ls : List Lookup). asked_of id ls) (by_layout config.layout id))
+    where
+      by_layout : (layout : Layout) (id : Id) → numbers_asked layout (filled_lines config (labelled id)) ≡ numbers_for_padding config same file refusal xs layout id
+      by_layout Classic id = refl
+      by_layout Unbroken id = refl
+
+  module _ (k : ℕ) (id : Id) (at : IsAt (file_ids same xs) k id) (plan : FilePlan Id) (is : IsPlan config.layout file es counts k id plan) where
+    -- its steps
+    steps-are : map step_of plan.steps.items ≡ steps_at es k
+    steps-are = ap (map step_of) is.adds.whole ∙ is.adds.are
+
+    -- they are in the layout
+    steps-in : AllByRecursion (IsStepIn config.layout (file id)) plan.steps.items
+    steps-in = subst (AllByRecursion (IsStepIn config.layout (file id))) (sym is.adds.whole) is.adds.each
+
+    -- the plan is that of the file
+    file-plan : IsFilePlan config (labelled id) plan
+    file-plan = record {
+      lanes_are = is.lanes_are ∙ ap (λ (ns : List ℕ). get_or ns k plan.lane_count) (all.lanes_are ∙ ap (map (lane_after same file xs)) all.ids_are) ∙ at-map (lane_after same file xs) (file_ids same xs) k id plan.lane_count at ∙ lanes-count same file table.one_file id xs;
+      each = steps_of-file config.layout (file id) plan.steps.items steps-in;
+      fits = subst (DoFit (lane_count (labelled id))) (sym steps-are) (snippet-fits same file table.equivalence table.one_file table.some_line config xs es all.permutation all.sorted k id at);
+      rows = ap (rows_of_steps (file id) (lane_count (labelled id))) steps-are ∙ snippet-rows same file table.equivalence table.one_file table.some_line config xs es all.permutation all.sorted k id at;
+      asked = steps-ask config.layout (file id) plan.steps.items steps-in ∙ ap (λ (steps : List Step). flat_map (of_filled config.layout) (fills_of steps)) steps-are
+          ∙ ap (λ (ls : List ℕ). flat_map (of_filled config.layout) ls) (snippet-fills same file table.equivalence table.one_file table.some_line config xs es all.permutation all.sorted k id at);
+    }
+
+    -- in the unbroken layout the digits of its numbers are those that the padding has room for
+    file-digits : config.layout ≡ Unbroken → plan_digits plan ≡ digits_of (labelled id) (numbered_lines config (labelled id))
+    file-digits unbroken =
+        steps-digits (file id) plan.steps.items (subst (λ (layout : Layout). AllByRecursion (IsStepIn layout (file id)) plan.steps.items) unbroken steps-in)
+        ∙ ap (λ (steps : List Step). digits_of (labelled id) (lines_of_steps steps)) steps-are
+        ∙ ap (digits_of (labelled id)) (snippet-lines same file table.equivalence table.one_file table.some_line config xs es all.permutation all.sorted k id at ∙ sym (numbered config unbroken (labelled id)))
+
+  -- the ids from a place on stand at their places
+  abbrev AreAt : ℕ → List Id → Type 0
+  AreAt k ids = (i : ℕ) (id : Id) → IsAt ids i id → IsAt (file_ids same xs) (k + i) id
+
+  -- so do those after the first
+  are_at-next : (k : ℕ) (id : Id) (ids : List Id) → AreAt k (id ∷ ids) → AreAt (k + 1) ids
+  are_at-next k id ids at = λ i j h. let e : k + suc i ≡ k + 1 + i = omega arith in subst (λ n. IsAt (file_ids same xs) n j) e (at (suc i) j h)
+
+  -- and so does the first
+  are_at-here : (k : ℕ) (id : Id) (ids : List Id) → AreAt k (id ∷ ids) → IsAt (file_ids same xs) k id
+  are_at-here k id ids at = let e : k + 0 ≡ k = omega arith in subst (λ n. IsAt (file_ids same xs) n id) e (at 0 id refl)
+
+  -- so do all
+  all_at : AreAt 0 (file_ids same xs)
+  all_at = λ i id h. let e : i ≡ 0 + i = omega arith in subst (λ n. IsAt (file_ids same xs) n id) e h
+
+  -- the ids of plans
+  ids-from : (k : ℕ) (ids : List Id) (plans : List (FilePlan Id)) → ArePlans config.layout file es counts k ids plans → map (λ (p : FilePlan Id). p.id) plans ≡ ids
+  ids-from k [] [] h = refl
+  ids-from k [] (p ∷ ps) h = absurd h
+  ids-from k (id ∷ ids) [] h = absurd h
+  ids-from k (id ∷ ids) (p ∷ ps) h = λ i. h.0.id_is i ∷ ids-from (k + 1) ids ps h.1 i
+
+  -- plans are those of their files
+  plans-from : (k : ℕ) (ids : List Id) (plans : List (FilePlan Id)) → AreAt k ids → ArePlans config.layout file es counts k ids plans
+      → AllByRecursion (λ (p : FilePlan Id). IsFilePlan config (labelled p.id) p) plans
+  plans-from k [] [] at h = tt
+  plans-from k [] (p ∷ ps) at h = absurd h
+  plans-from k (id ∷ ids) [] at h = absurd h
+  plans-from k (id ∷ ids) (p ∷ ps) at h = (
+    subst (λ (i : Id). IsFilePlan config (labelled i) p) (sym h.0.id_is) (file-plan k id (are_at-here k id ids at) p h.0),
+    plans-from (k + 1) ids ps (are_at-next k id ids at) h.1,
+  )
+
+  -- in the unbroken layout their digits are those that the padding has room for
+  digits-from : config.layout ≡ Unbroken → (k : ℕ) (ids : List Id) (plans : List (FilePlan Id)) → AreAt k ids → ArePlans config.layout file es counts k ids plans
+      → flat_map plan_digits plans ≡ flat_map (λ id. digits_of (labelled id) (numbered_lines config (labelled id))) ids
+  digits-from unbroken k [] [] at h = refl
+  digits-from unbroken k [] (p ∷ ps) at h = absurd h
+  digits-from unbroken k (id ∷ ids) [] at h = absurd h
+  digits-from unbroken k (id ∷ ids) (p ∷ ps) at h =
+      λ i. file-digits k id (are_at-here k id ids at) p h.0 unbroken i ++ digits-from unbroken (k + 1) ids ps (are_at-next k id ids at) h.1 i
+
+  module _ (plans : List (FilePlan Id)) (found : ArePlans config.layout file es counts 0 gathered.ids.items plans) where
+    -- they are in the order of the files
+    are : ArePlans config.layout file es counts 0 (file_ids same xs) plans
+    are = subst (λ (ids : List Id). ArePlans config.layout file es counts 0 ids plans) all.ids_are found
+
+    -- the ids of all plans
+    pub plan_ids : map (λ (p : FilePlan Id). p.id) plans ≡ file_ids same xs
+    plan_ids = ids-from 0 (file_ids same xs) plans are
+
+    -- all plans
+    pub file_plans : AllByRecursion (λ (p : FilePlan Id). IsFilePlan config (labelled p.id) p) plans
+    file_plans = plans-from 0 (file_ids same xs) plans all_at are
+
+    -- in the classic layout the marks tell the room for numbers
+    pub marked-room : config.layout ≡ Classic → (padding : ℕ) → padding ≡ fold max 0 (marked_digits gathered.entries.items) → padding ≡ padding_of config (labelled_files same file xs)
+    marked-room classic padding is =
+        is ∙ spanned-room same file table.equivalence table.one_file table.some_line config xs gathered.entries.items
+        (subst (λ (ids : List Id). AllByRecursion (IsOfFiles file ids) gathered.entries.items) all.ids_are all.lines) all.permutation classic
+
+    -- in the unbroken layout the plans do
+    pub drawn-room : config.layout ≡ Unbroken → (padding : ℕ) → padding ≡ fold max 0 (flat_map plan_digits plans) → padding ≡ padding_of config (labelled_files same file xs)
+    drawn-room unbroken padding is =
+        is ∙ ap (fold max 0) (digits-from unbroken 0 (file_ids same xs) plans all_at are
+        ∙ sym (flat_map-map (λ (s : LabelledFile). digits_of s (numbered_lines config s)) labelled (file_ids same xs)))
+
+-- ---- files with their places
+
+module _ {Id : Type 0} (same : Id → Id → Bool) (file : Id → FileModel) (config : Config) (xs : List (InFile Id)) where
+  -- a plan with its place is a file of the picture
+  sheet_file : (p : FilePlan Id) (f : SheetFile Id) → IsPlacedPlan same file xs p f → IsFilePlan config (labelled_file same file xs p.id) p → IsSheetFile config (labelled_file same file xs f.id) f
+  sheet_file p f placed plan =
+      subst (λ (id : Id). IsSheetFile config (labelled_file same file xs id) f) (sym placed.id_is) (record {
+        lanes_are = placed.lanes_are ∙ plan.lanes_are;
+        place = placed.place;
+        each = subst (AllByRecursion (IsStepOf (file p.id))) (sym placed.steps_are) plan.each;
+        fits = subst (λ (gs : List GivenStep). DoFit (lane_count (labelled_file same file xs p.id)) (map step_of gs)) (sym placed.steps_are) plan.fits;
+        rows = ap (λ (gs : List GivenStep). rows_of_steps (file p.id) (lane_count (labelled_file same file xs p.id)) (map step_of gs)) placed.steps_are ∙ plan.rows;
+        asked = ap asked_by_all placed.steps_are ∙ plan.asked;
+      })
+
+  -- so are all
+  pub sheet_files : (ps : List (FilePlan Id)) (fs : List (SheetFile Id)) → AllZip (IsPlacedPlan same file xs) ps fs
+      → AllByRecursion (λ (p : FilePlan Id). IsFilePlan config (labelled_file same file xs p.id) p) ps → AllByRecursion (λ (f : SheetFile Id). IsSheetFile config (labelled_file same file xs f.id) f) fs
+  sheet_files [] [] placed plans = tt
+  sheet_files [] (f ∷ fs) placed plans = absurd placed
+  sheet_files (p ∷ ps) [] placed plans = absurd placed
+  sheet_files (p ∷ ps) (f ∷ fs) placed plans = (sheet_file p f placed.0 plans.0, sheet_files ps fs placed.1 plans.1)
+
+  -- their ids are those of the plans
+  pub sheet_ids : (ps : List (FilePlan Id)) (fs : List (SheetFile Id)) → AllZip (IsPlacedPlan same file xs) ps fs → ids_of fs ≡ map (λ (p : FilePlan Id). p.id) ps
+  sheet_ids [] [] placed = refl
+  sheet_ids [] (f ∷ fs) placed = absurd placed
+  sheet_ids (p ∷ ps) [] placed = absurd placed
+  sheet_ids (p ∷ ps) (f ∷ fs) placed = λ i. placed.0.id_is i ∷ sheet_ids ps fs placed.1 i
+
+  -- plans with their places, and the room for their numbers, are the sheet of the labels
+  pub sheet-prepared : (ps : List (FilePlan Id)) (sheet : Sheet Id) → map (λ (p : FilePlan Id). p.id) ps ≡ file_ids same xs
+      → AllByRecursion (λ (p : FilePlan Id). IsFilePlan config (labelled_file same file xs p.id) p) ps → AllZip (IsPlacedPlan same file xs) ps sheet.files.items
+      → sheet.padding ≡ padding_of config (labelled_files same file xs) → IsPrepared same file config xs sheet
+  sheet-prepared ps sheet ids plans placed padding = record {
+    ids_are = sheet_ids ps sheet.files.items placed ∙ ids;
+    files_are = sheet_files ps sheet.files.items placed plans;
+    padding_is = padding;
+  }

@@ -1,0 +1,88 @@
+-- Steps that a walk over entries finds, one after another, and the lookups of numbers with them.
+use Rattle.std.proofs.Common.{◌≡◌, ℕ, List, [], ◌++◌, Option, None, Some, refl, sym, subst, ap, ◌∙◌, append-nil, append_assoc}
+use Rattle.std.proofs.lemmas.List.{map-append}
+use Rattle.std.proofs.lemmas.Grind.{flat_map-append}
+use Rattle.codespan_base.specs.declared.files.error.Error.{Error}
+use Rattle.codespan_base.specs.declared.term.config.Layout.{Layout}
+use Rattle.codespan_base.specs.declared.term.config.Layout.TheVariants.{Classic, Unbroken}
+use Rattle.codespan_base.specs.FileModel.{FileModel, Lookup, or_refusal}
+use Rattle.codespan_base.specs.FileModel.Lookup.{LineNumber}
+use Rattle.codespan_picture.specs.Lookups.{Refusals, asked_of, first_refusal}
+use Rattle.codespan_reporting.specs.declared.term.views.steps.Step.{Step as GivenStep}
+use Rattle.codespan_reporting.specs.Inner.GivenSteps.{AddsSteps, IsStepIn, numbers_asked, step_of}
+use Rattle.codespan_reporting.specs.Inner.Steps.{Step, fill_of, fills_of}
+use Rattle.codespan_reporting.proofs.Askings.{first_refusal-asked, or_refusal-answered, or_refusal-some}
+use Rattle.codespan_laws.proofs.SortedLists.{all-append}
+
+module _ (layout : Layout) (f : FileModel) where
+  -- no step was added
+  pub adds_nothing : (old new : List GivenStep) → new ≡ old → AddsSteps layout f old new []
+  adds_nothing old new same = record { more = []; whole = same ∙ sym (append-nil old); are = refl; each = tt }
+
+  -- steps were added, and then others
+  pub adds_then : (old mid new : List GivenStep) (xs ys : List Step) → AddsSteps layout f old mid xs → AddsSteps layout f mid new ys → AddsSteps layout f old new (xs ++ ys)
+  adds_then old mid new xs ys first second = record {
+    more = first.more ++ second.more;
+    whole = second.whole ∙ ap (λ (l : List GivenStep). l ++ second.more) first.whole ∙ append_assoc old first.more second.more;
+    are = map-append step_of first.more second.more ∙ (λ i. first.are i ++ second.are i);
+    each = all-append (IsStepIn layout f) first.more second.more first.each second.each;
+  }
+
+-- the numbers of some lines are asked for, and then those of others
+numbers_asked-append : (layout : Layout) (ls ms : List ℕ) → numbers_asked layout (ls ++ ms) ≡ numbers_asked layout ls ++ numbers_asked layout ms
+numbers_asked-append Classic ls ms = refl
+numbers_asked-append Unbroken ls ms = map-append LineNumber ls ms
+
+-- no number is asked for of no line
+numbers_asked-nothing : (layout : Layout) → numbers_asked layout [] ≡ []
+numbers_asked-nothing Classic = refl
+numbers_asked-nothing Unbroken = refl
+
+module _ {Id : Type 0} (refusal : Refusals Id) (id : Id) (layout : Layout) where
+  -- the first of the numbers of lines filled in by these steps that refuses
+  abbrev pub numbers_refused : List Step → Option Error
+  numbers_refused steps = first_refusal refusal (asked_of id (numbers_asked layout (fills_of steps)))
+
+  -- the numbers of some steps, and then those of others
+  pub numbers_refused-append : (xs ys : List Step) → numbers_refused (xs ++ ys) ≡ or_refusal (numbers_refused xs) (numbers_refused ys)
+  numbers_refused-append xs ys =
+      ap (λ (ls : List ℕ). first_refusal refusal (asked_of id (numbers_asked layout ls))) (flat_map-append fill_of xs ys)
+      ∙ ap (λ (ls : List Lookup). first_refusal refusal (asked_of id ls)) (numbers_asked-append layout (fills_of xs) (fills_of ys))
+      ∙ first_refusal-asked refusal id (numbers_asked layout (fills_of xs)) (numbers_asked layout (fills_of ys))
+
+  -- of all steps some were found, and the rest is left
+  pub record StepsLeft (f : FileModel) (whole rest : List Step) (now : List GivenStep) : Type 0 where
+    pub taken : List Step
+    pub is_whole : taken ++ rest ≡ whole
+    pub adds : AddsSteps layout f [] now taken
+    pub answered : numbers_refused taken ≡ None
+
+  module _ (f : FileModel) (whole : List Step) where
+    -- nothing is found yet
+    pub left_all : (rest : List Step) (now : List GivenStep) → rest ≡ whole → now ≡ [] → StepsLeft f whole rest now
+    left_all rest now same none = record { taken = []; is_whole = same; adds = adds_nothing layout f [] now none; answered = ap (λ (ls : List Lookup). first_refusal refusal (asked_of id ls)) (numbers_asked-nothing layout) }
+
+    -- the same steps are left in other words
+    pub left_as : (rest next : List Step) (now : List GivenStep) → rest ≡ next → StepsLeft f whole rest now → StepsLeft f whole next now
+    left_as rest next now same left = subst (λ (steps : List Step). StepsLeft f whole steps now) same left
+
+    module _ (rest steps next : List Step) (now : List GivenStep) (same : rest ≡ steps ++ next) (left : StepsLeft f whole rest now) where
+      -- these come next
+      next_whole : (left.taken ++ steps) ++ next ≡ whole
+      next_whole = append_assoc left.taken steps next ∙ ap (λ (xs : List Step). left.taken ++ xs) (sym same) ∙ left.is_whole
+
+      -- they are found
+      pub left_more : (new : List GivenStep) → AddsSteps layout f now new steps → numbers_refused steps ≡ None → StepsLeft f whole next new
+      left_more new adds answered = record {
+        taken = left.taken ++ steps;
+        is_whole = next_whole;
+        adds = adds_then layout f [] now new left.taken steps left.adds adds;
+        answered = numbers_refused-append left.taken steps ∙ or_refusal-answered (numbers_refused left.taken) (numbers_refused steps) left.answered ∙ answered;
+      }
+
+      -- the lookup of a number with them refuses
+      pub left_refused : (e : Error) → numbers_refused steps ≡ Some e → numbers_refused whole ≡ Some e
+      left_refused e refused =
+          ap numbers_refused (sym next_whole) ∙ numbers_refused-append (left.taken ++ steps) next
+          ∙ or_refusal-some (numbers_refused (left.taken ++ steps)) (numbers_refused next) e
+          (numbers_refused-append left.taken steps ∙ or_refusal-answered (numbers_refused left.taken) (numbers_refused steps) left.answered ∙ refused)

@@ -1,0 +1,64 @@
+//! What is drawn of each file of a picture.
+
+ghost use Rattle.std.specs.Prelude.{◌≡◌, IfOk, length, map};
+ghost use Rattle.std.specs.List.{AllByRecursion};
+ghost use Rattle.std.specs.List.Sorted.{IsSortedBy};
+ghost use Rattle.codespan_base.specs.FileModel.{Tells};
+ghost use Rattle.codespan_picture.specs.Lookups.{first_refusal};
+ghost use Rattle.codespan_reporting.specs.Inner.Entries.{is_below};
+ghost use Rattle.codespan_reporting.specs.Inner.GivenEntries.{IsOfFiles, entry_of};
+ghost use Rattle.codespan_reporting.specs.Inner.Plans.{ArePlans, planned_lookups};
+
+use crate::term::views::gather::Gathered;
+use crate::term::views::groups::file_len;
+use crate::term::views::steps::{Step, Walk};
+use codespan_base::files::{Error, Files};
+use codespan_base::term::Layout;
+use std::alloc::Global;
+
+/// What is drawn of a file.
+#[derive(Drop)]
+pub struct FilePlan<'e, 'd, FileId> {
+    /// What names the file.
+    pub id: FileId,
+    /// How many lanes it has.
+    pub lane_count: usize,
+    /// What is drawn of it, in order.
+    pub steps: Vec<Step<'e, 'd>>,
+}
+
+/// What is drawn of each file, in the order of the files' first labels.
+///
+/// In the unbroken layout this asks for the numbers of the lines that are filled in. Refuses as the first of these lookups that refuses
+/// does, and with `OutOfMemory`.
+pub fn plan_files<'files, 'e, 'd, F: Files<'files>>(
+    alloc: Global,
+    files: &'files F,
+    layout: Layout,
+    gathered: &'e Gathered<'d, F::FileId>,
+) -> Result<Vec<FilePlan<'e, 'd, F::FileId>>, Error>
+    requires sorted { IsSortedBy is_below (map entry_of gathered.now.entries.items) }
+    requires lines { AllByRecursion (IsOfFiles (F.file files.now) gathered.now.ids.items) gathered.now.entries.items }
+    requires lanes { length gathered.now.lane_counts.items ≡ length gathered.now.ids.items }
+    ensures plans { IfOk result (λ plans. ArePlans layout (F.file files.now) (map entry_of gathered.now.entries.items) gathered.now.lane_counts.items 0 gathered.now.ids.items plans.items) }
+    ensures refused { Tells (first_refusal (F.refusal files.now) (planned_lookups layout (map entry_of gathered.now.entries.items) gathered.now.ids.items)) result }
+{
+    let mut plans = Vec::new(alloc);
+    let mut start = 0;
+    for (place, id) in gathered.ids.iter().enumerate() {
+        let len = file_len(&gathered.entries[start..], place);
+        let walk = Walk {
+            files,
+            id: *id,
+            layout,
+        };
+        let steps = walk.steps(alloc, &gathered.entries[start..start + len])?;
+        plans.push(FilePlan {
+            id: *id,
+            lane_count: gathered.lane_counts[place],
+            steps,
+        })?;
+        start += len;
+    }
+    Ok(plans)
+}
