@@ -1,18 +1,18 @@
 -- The place of a label's file among those of a diagnostic.
-use Rattle.std.proofs.Common.{◌≡◌, ℕ, zero, suc, ◌+◌, ◌<◌, Bool, true, false, not, ◌==◌, cond, List, [], ◌∷◌, length, get_or, map, filter, refl, sym, ◌∙◌, ap, subst, arith, true≢false, ⊎_elim}
+use Rattle.std.proofs.Common.{◌≡◌, ℕ, zero, suc, ◌+◌, ◌<◌, Bool, true, false, not, ◌==◌, ◌||◌, ◌++◌, cond, List, [], ◌∷◌, length, get_or, map, filter, refl, sym, ◌∙◌, ap, subst, arith, true≢false, ⊎_elim}
 use Rattle.std.specs.Cmp.{IsEquivalence, both_ways}
 use Rattle.std.specs.List.{AllByRecursion}
 use Rattle.std.proofs.lemmas.Bool.{cases_Bool, eqb-true, eq-eqb, ne_eqb}
 use Rattle.codespan_base.specs.Labels.{first_seen}
 use Rattle.codespan_picture.specs.Snippets.{InFile}
-use Rattle.codespan_reporting.specs.Inner.PlacedLabels.{IsAt, file_ids, file_place}
+use Rattle.codespan_reporting.specs.Inner.PlacedLabels.{AreApart, IsAt, file_ids, file_place}
+use Rattle.codespan_reporting.proofs.FileOrder.{has}
 use Rattle.codespan_laws.proofs.SortedLists.{all-weaker, all-filter, all-pass}
 
 module _ {Id : Type 0} (same : Id → Id → Bool) (o : IsEquivalence same) where
   -- the ids differ
   abbrev pub Differ : List Id → Type 0
-  Differ [] = Unit {0}
-  Differ (j ∷ js) = AllByRecursion (λ k. same j k ≡ false) js × Differ js
+  Differ ids = AreApart same ids
 
   -- those that a filter keeps differ
   differ-filter : (p : Id → Bool) (js : List Id) → Differ js → Differ (filter p js)
@@ -79,3 +79,32 @@ pub at-get : {Id : Type 0} (ids : List Id) (f : ℕ) (d : Id) → f < length ids
 at-get [] f d h = absurd (omega arith)
 at-get (j ∷ js) zero d h = refl
 at-get (j ∷ js) (suc f) d h = at-get js f d (omega arith)
+
+-- ---- places as labels are gone over
+
+module _ {Id : Type 0} (same : Id → Id → Bool) (o : IsEquivalence same) where
+  -- an id that is the same as the one at a place has that place
+  pub guessed-place : (ids : List Id) (k : ℕ) (j i : Id) → AreApart same ids → IsAt ids k j → same j i ≡ true → k ≡ file_place same ids i
+  guessed-place ids k j i apart at t = sym (eqb-true (file_place same ids i) k (place-is same o ids k j apart at i ∙ t))
+
+  -- an id that is none of these has the place after them
+  pub no-place : (ids : List Id) (i : Id) → has same o ids i ≡ false → file_place same ids i ≡ length ids
+  no-place [] i none = refl
+  no-place (j ∷ js) i none =
+      let parts = or_parts (same j i) (has same o js i) none in
+      omega (arith, place-later same o j js i parts.0, no-place js i parts.1)
+    where
+      or_parts : (b c : Bool) → (b || c) ≡ false → (b ≡ false) × (c ≡ false)
+      or_parts true c h = absurd (true≢false h)
+      or_parts false c h = (refl, h)
+
+  -- one more id after these changes no place of one of them, nor that of the id itself
+  pub place-kept : (ids : List Id) (j i : Id) → (has same o ids i || same j i) ≡ true → file_place same (ids ++ j ∷ []) i ≡ file_place same ids i
+  place-kept [] j i there = place-here same o j [] i there
+  place-kept (k ∷ ks) j i there =
+      ⊎_elim
+      (λ (t : same k i ≡ true). place-here same o k (ks ++ j ∷ []) i t ∙ sym (place-here same o k ks i t))
+      (λ (f : same k i ≡ false). place-later same o k (ks ++ j ∷ []) i f
+      ∙ ap suc (place-kept ks j i (ap (λ b. (b || has same o ks i) || same j i) (sym f) ∙ there))
+      ∙ sym (place-later same o k ks i f))
+      (cases_Bool (same k i))

@@ -13,6 +13,7 @@ pub mod FileParts
 pub mod Gathering
 pub mod Contexts
 pub mod FileOrder
+pub mod LabelFiles
 pub mod LabelPlaces
 pub mod LabelsGathered
 pub mod Askings

@@ -10,7 +10,7 @@ use codespan_reporting::term::renderer::{
     Locus, MultiLabel, Renderer, SingleLabel, lanes_in_order,
 };
 use codespan_reporting::term::{
-    Ansi, Chars, Config, PlainWriter, Styles, StylesWriter, WriteStyle,
+    Ansi, Chars, Config, NoColor, PlainWriter, Styles, StylesWriter, WriteStyle,
 };
 use std::alloc::Global;
 use std::io::Write;
@@ -64,32 +64,63 @@ fn draw_on<W: WriteStyle>(rt: &impl Abort, w: &mut W, given: Given<'_>) -> Resul
     draw_line(rt, &mut Renderer::new(w, &config), given)
 }
 
-/// The rows of a line, plain. By escape sequences they are the same, once these are taken out.
-fn rows_of(
+/// Rows that direct calls draw.
+trait Rows {
+    /// Draws them.
+    fn draw<W: WriteStyle>(
+        &self,
+        rt: &impl Abort,
+        renderer: &mut Renderer<'_, '_, W>,
+    ) -> Result<(), Error>;
+}
+
+impl<'a> Rows for Given<'a> {
+    /// Draws the line.
+    fn draw<W: WriteStyle>(
+        &self,
+        rt: &impl Abort,
+        renderer: &mut Renderer<'_, '_, W>,
+    ) -> Result<(), Error> {
+        draw_line(rt, renderer, *self)
+    }
+}
+
+/// The rows are this text: plain, in no colours, and by escape sequences, once they are taken out.
+fn assert_rows<R: Rows>(
     rt: &impl Abort,
     alloc: Global,
     config: &Config<'_>,
-    given: Given<'_>,
-) -> Result<Vec<u8>, Error> {
-    let mut plain = PlainWriter::new(Vec::new(alloc));
-    draw_line(rt, &mut Renderer::new(&mut plain, config), given)?;
+    rows: &R,
+    want: &str,
+) -> Result<(), Error> {
     let styles = Styles::default();
+    let mut plain = PlainWriter::new(Vec::new(alloc));
+    rows.draw(rt, &mut Renderer::new(&mut plain, config))?;
+    assert_eq!(rt; plain.into_inner().as_slice(), want.as_bytes());
+    let mut bytes = Vec::new(alloc);
+    let mut colourless = StylesWriter::new(NoColor::new(&mut bytes), &styles);
+    rows.draw(rt, &mut Renderer::new(&mut colourless, config))?;
+    assert_eq!(rt; bytes.as_slice(), want.as_bytes());
     let mut bytes = Vec::new(alloc);
     let mut coloured = StylesWriter::new(Ansi::new(&mut bytes), &styles);
-    draw_line(rt, &mut Renderer::new(&mut coloured, config), given)?;
-    let rows = plain.into_inner();
+    rows.draw(rt, &mut Renderer::new(&mut coloured, config))?;
     assert_eq!(rt;
         without_sequences(alloc, bytes.as_slice())?.as_slice(),
-        rows.as_slice()
+        want.as_bytes()
     );
-    Ok(rows)
+    Ok(())
 }
 
 #[test]
 fn reversed_handed_in(rt: HostRuntime) -> Result<(), Fail> {
     let given = Given::labelled("abc", &[(LabelStyle::Secondary, 2..1, "r")]);
-    let rows = rows_of(&rt, rt.alloc(), &Config::default(), given)?;
-    assert_eq!(rt; rows.as_slice(), "1 │ abc\n  │   r\n".as_bytes());
+    assert_rows(
+        &rt,
+        rt.alloc(),
+        &Config::default(),
+        &given,
+        "1 │ abc\n  │   r\n",
+    )?;
     Ok(())
 }
 
@@ -100,9 +131,8 @@ fn overlapping_labels(rt: HostRuntime) -> Result<(), Fail> {
         (LabelStyle::Primary, 2..4, "p"),
     ];
     let given = Given::labelled("abcdef", &labels);
-    let rows = rows_of(&rt, rt.alloc(), &Config::default(), given)?;
     let want = "1 │ abcdef\n  │ --^^--\n  │ │ │\n  │ │ p\n  │ s\n";
-    assert_eq!(rt; rows.as_slice(), want.as_bytes());
+    assert_rows(&rt, rt.alloc(), &Config::default(), &given, want)?;
     Ok(())
 }
 
@@ -114,9 +144,8 @@ fn wide_pointers(rt: HostRuntime) -> Result<(), Fail> {
         (LabelStyle::Secondary, 4..5, "t"),
     ];
     let given = Given::labelled("路ab", &labels);
-    let rows = rows_of(&rt, rt.alloc(), &Config::default(), given)?;
     let want = "1 │ 路ab\n  │ ^^-- t\n  │ │ │ \n  │ │ s\n  │ w\n";
-    assert_eq!(rt; rows.as_slice(), want.as_bytes());
+    assert_rows(&rt, rt.alloc(), &Config::default(), &given, want)?;
     Ok(())
 }
 
@@ -149,8 +178,7 @@ fn tab_stops(rt: HostRuntime) -> Result<(), Fail> {
             number: 4,
             ..Given::labelled("\t\tReloadingCondition:\tattack-cooldown\n", &labels)
         };
-        let rows = rows_of(&rt, rt.alloc(), &config, given)?;
-        assert_eq!(rt; rows.as_slice(), want.as_bytes(), "at {tab_width}");
+        assert_rows(&rt, rt.alloc(), &config, &given, want)?;
     }
     Ok(())
 }
@@ -242,61 +270,104 @@ fn draw_crossing<W: WriteStyle>(
     draw_line(rt, renderer, given)
 }
 
+/// A picture with two labels over several lines whose underlines cross.
+#[derive(Drop)]
+struct CrossingLanes {
+    locus: Locus,
+}
+
+impl Rows for CrossingLanes {
+    /// Draws all of its rows.
+    fn draw<W: WriteStyle>(
+        &self,
+        rt: &impl Abort,
+        renderer: &mut Renderer<'_, '_, W>,
+    ) -> Result<(), Error> {
+        renderer.render_header(None, Severity::Error, None, "")?;
+        renderer.render_snippet_start(1, &self.locus)?;
+        renderer.render_snippet_empty(1, Severity::Error, 2, &[])?;
+        draw_crossing(rt, renderer)?;
+        renderer.render_empty()
+    }
+}
+
 #[test]
 fn crossing_lanes(rt: HostRuntime) -> Result<(), Fail> {
-    let config = Config::default();
-    let mut plain = PlainWriter::new(Vec::new(rt.alloc()));
-    let mut renderer = Renderer::new(&mut plain, &config);
-    let locus = Locus {
-        name: String::from_str(rt.alloc(), "f")?,
-        location: Location {
-            line_number: 1,
-            column_number: 1,
-        },
-    };
-    renderer.render_header(None, Severity::Error, None, "")?;
-    renderer.render_snippet_start(1, &locus)?;
-    renderer.render_snippet_empty(1, Severity::Error, 2, &[])?;
-    draw_crossing(&rt, &mut renderer)?;
-    renderer.render_empty()?;
+    let locus = locus_of(rt.alloc(), "f", 1, 1)?;
     let want = "error: \n  ┌─ f:1:1\n  │    \n1 │   ╭ ab\n  │ ╭────'\n2 │ │ │ cd\n\
                 \x20 │ ╰─│─' q\n3 │   │ ef\n  │   ╰─^ p\n\n";
-    assert_eq!(rt; plain.into_inner().as_slice(), want.as_bytes());
+    let rows = CrossingLanes { locus };
+    assert_rows(&rt, rt.alloc(), &Config::default(), &rows, want)?;
     Ok(())
+}
+
+/// The place of a line and a column of a file.
+fn locus_of(
+    alloc: Global,
+    name: &str,
+    line_number: usize,
+    column_number: usize,
+) -> Result<Locus, Error> {
+    Ok(Locus {
+        name: String::from_str(alloc, name)?,
+        location: Location {
+            line_number,
+            column_number,
+        },
+    })
+}
+
+/// A header, and a note of several pieces.
+#[derive(Clone, Copy)]
+struct NotePieces;
+
+impl Rows for NotePieces {
+    /// Draws both, and the empty line at the end.
+    fn draw<W: WriteStyle>(
+        &self,
+        _rt: &impl Abort,
+        renderer: &mut Renderer<'_, '_, W>,
+    ) -> Result<(), Error> {
+        renderer.render_header(None, Severity::Error, None, "m")?;
+        renderer.render_snippet_note(0, "a\r\n\nb\n")?;
+        renderer.render_empty()
+    }
 }
 
 #[test]
 fn note_pieces(rt: HostRuntime) -> Result<(), Fail> {
-    let config = Config::default();
-    let mut plain = PlainWriter::new(Vec::new(rt.alloc()));
-    let mut renderer = Renderer::new(&mut plain, &config);
-    renderer.render_header(None, Severity::Error, None, "m")?;
-    renderer.render_snippet_note(0, "a\r\n\nb\n")?;
-    renderer.render_empty()?;
     let want = "error: m\n = a\n   \n   b\n\n";
-    assert_eq!(rt; plain.into_inner().as_slice(), want.as_bytes());
+    assert_rows(&rt, rt.alloc(), &Config::default(), &NotePieces, want)?;
     Ok(())
+}
+
+/// A header with a place and a code, and one with neither.
+#[derive(Drop)]
+struct MediumAndShort {
+    locus: Locus,
+}
+
+impl Rows for MediumAndShort {
+    /// Draws both.
+    fn draw<W: WriteStyle>(
+        &self,
+        _rt: &impl Abort,
+        renderer: &mut Renderer<'_, '_, W>,
+    ) -> Result<(), Error> {
+        let message = "unexpected type in application of `_+_`";
+        renderer.render_header(Some(&self.locus), Severity::Error, Some("E0001"), message)?;
+        let message = "where did my errorcode go?";
+        renderer.render_header(None, Severity::Error, Some(""), message)
+    }
 }
 
 #[test]
 fn medium_and_short(rt: HostRuntime) -> Result<(), Fail> {
-    let config = Config::default();
-    let mut plain = PlainWriter::new(Vec::new(rt.alloc()));
-    let mut renderer = Renderer::new(&mut plain, &config);
-    let locus = Locus {
-        name: String::from_str(rt.alloc(), "Test.fun")?,
-        location: Location {
-            line_number: 4,
-            column_number: 11,
-        },
-    };
-    let message = "unexpected type in application of `_+_`";
-    renderer.render_header(Some(&locus), Severity::Error, Some("E0001"), message)?;
-    let message = "where did my errorcode go?";
-    renderer.render_header(None, Severity::Error, Some(""), message)?;
+    let locus = locus_of(rt.alloc(), "Test.fun", 4, 11)?;
     let want = "Test.fun:4:11: error[E0001]: unexpected type in application of `_+_`\n\
                 error: where did my errorcode go?\n";
-    assert_eq!(rt; plain.into_inner().as_slice(), want.as_bytes());
+    let rows = MediumAndShort { locus };
+    assert_rows(&rt, rt.alloc(), &Config::default(), &rows, want)?;
     Ok(())
 }
 

@@ -1,6 +1,6 @@
 -- The labels of a diagnostic among each other: their files, their places and their lanes.
-use Rattle.std.specs.Prelude.{◌≡◌, ℕ, zero, suc, Bool, not, ◌&&◌, List, [], ◌∷◌, ◌++◌, length, count_by, map}
-use Rattle.std.specs.List.{position_or_len}
+use Rattle.std.specs.Prelude.{◌≡◌, ℕ, zero, suc, Bool, false, not, ◌&&◌, List, [], ◌∷◌, ◌++◌, length, count_by, map}
+use Rattle.std.specs.List.{AllByRecursion, position_or_len}
 use Rattle.codespan_base.specs.declared.term.config.Config.{Config}
 use Rattle.codespan_base.specs.FileModel.{FileModel}
 use Rattle.codespan_base.specs.Labels.{is_single, first_seen}
@@ -21,6 +21,15 @@ module _ {Id : Type 0} (same : Id → Id → Bool) where
   -- the place of an id among those
   abbrev pub file_place : List Id → Id → ℕ
   file_place ids id = position_or_len (λ j. same j id) ids
+
+  -- the place of each label's file
+  abbrev pub label_places : List Id → List (InFile Id) → List ℕ
+  label_places ids xs = map (λ (x : InFile Id). file_place ids x.id) xs
+
+  -- no two of these ids are the same
+  abbrev pub AreApart : List Id → Type 0
+  AreApart [] = Unit {0}
+  AreApart (j ∷ js) = AllByRecursion (λ k. same j k ≡ false) js × AreApart js
 
   module _ (file : Id → FileModel) where
     -- the label is of this file and over several lines

@@ -14,6 +14,9 @@ use codespan_base::files::{Error, Files};
 use codespan_base::term::{Config, DisplayStyle, PlainWriter, WriteStyle};
 use std::io::Write;
 
+/// The bytes for which a string has room before a picture is drawn into it, so that a picture of a few rows grows it no more.
+const ROOM: usize = 1024;
+
 /// The picture of a diagnostic, as plain text, in the style that the configuration asks for.
 ///
 /// Refuses as the first lookup that refuses does; besides, with `OutOfMemory`, which stands for a growth that was refused, and, where
@@ -27,7 +30,8 @@ pub fn emit_into_string<'files, F: Files<'files>>(
     ensures { DrawsText config.now F.FileId.eq (F.file files.now) (F.refusal files.now) diagnostic.now string_bytes result }
 {
     are_characters(&config.chars);
-    let mut plain = PlainWriter::new(Vec::new(*diagnostic.labels.allocator()));
+    let bytes = Vec::with_capacity(*diagnostic.labels.allocator(), ROOM)?;
+    let mut plain = PlainWriter::new(bytes);
     let drawn = emit_to_write_style(&mut plain, config, files, diagnostic);
     match drawn {
         // SAFETY: what a picture writes is UTF-8: its characters are characters, its texts are texts, and a line is cut between

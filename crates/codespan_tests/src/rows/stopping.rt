@@ -4,7 +4,9 @@ use crate::rows::{COLOURED, Given, draw_on};
 use codespan_reporting::diagnostic::{Diagnostic, Label, LabelStyle, Severity};
 use codespan_reporting::files::{Error, SimpleFile};
 use codespan_reporting::term::renderer::{MultiLabel, Renderer};
-use codespan_reporting::term::{Ansi, Config, PlainWriter, Styles, StylesWriter, emit_to_io_write};
+use codespan_reporting::term::{
+    Ansi, Config, NoColor, PlainWriter, Styles, StylesWriter, emit_to_io_write, emit_to_write_style,
+};
 use std::alloc::Global;
 use std::io;
 use std::io::{ErrorKind, Write};
@@ -118,6 +120,12 @@ fn endless_tab(rt: HostRuntime) -> Result<(), Fail> {
     let refused = emit_to_io_write(&mut inner, &config, &file, &diagnostic);
     assert!(rt; matches!(refused, Err(Error::Io(_))));
     let held = "error: \n  ┌─ f:1:2\n  │\n1 │      ";
+    assert_eq!(rt; inner.text.as_slice(), held.as_bytes());
+    let styles = Styles::default();
+    let mut inner = Stopping::new(alloc, 1, 40);
+    let mut colourless = StylesWriter::new(NoColor::new(&mut inner), &styles);
+    let refused = emit_to_write_style(&mut colourless, &config, &file, &diagnostic);
+    assert!(rt; matches!(refused, Err(Error::Io(_))));
     assert_eq!(rt; inner.text.as_slice(), held.as_bytes());
     Ok(())
 }

@@ -15,7 +15,7 @@ ghost use Rattle.codespan_reporting.specs.Inner.PlacedLabels.{all_entries, file_
 
 use crate::term::renderer::MultiLabel;
 use crate::term::views::entry::{Entry, Says, SourceLine};
-use crate::term::views::file_order::{file_ids, file_place};
+use crate::term::views::file_order::label_files;
 use crate::term::views::label_lines::{LabelLines, label_lines};
 use crate::term::views::sort::sort;
 use codespan_base::diagnostic::Label;
@@ -284,18 +284,18 @@ fn gather_in_turn<'files, 'd, F: Files<'files>>(
     ensures entries { IfOk result (λ gathered. Adds (IsOfFiles (F.file files.now) gathered.ids.items) [] gathered.entries.items (all_entries F.FileId.eq (F.file files.now) config.now (map label_of labels.now))) }
     ensures refused { Tells (first_refusal (F.refusal files.now) (label_lookups config.now (F.file files.now) (F.refusal files.now) (map label_of labels.now))) result }
 {
-    let ids = file_ids(alloc, labels)?;
-    let mut lane_counts = vec![in alloc; 0; ids.len()]?;
+    let of_labels = label_files(alloc, labels)?;
+    let mut lane_counts = vec![in alloc; 0; of_labels.ids.len()]?;
     let mut entries = Vec::new(alloc);
     for (place, label) in labels.iter().enumerate() {
-        let file = file_place(&ids, label.file_id);
+        let file = of_labels.places[place];
         let lane = lane_counts[file];
         let at = LabelPlace { file, place, lane };
         let lanes = gather_label(files, config, at, label, &mut entries)?;
         lane_counts[file] = lane + lanes;
     }
     Ok(Gathered {
-        ids,
+        ids: of_labels.ids,
         lane_counts,
         entries,
     })

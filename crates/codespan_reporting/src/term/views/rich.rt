@@ -128,7 +128,7 @@ impl<'diagnostic, 'config, FileId: Copy + Eq> RichDiagnostic<'diagnostic, 'confi
         let notes_follow = has_notes(diagnostic);
         for (place, file) in sheet.files.iter().enumerate() {
             let is_followed = notes_follow | (place + 1 < sheet.files.len());
-            draw_snippet(renderer, &page, file, &mut marks, is_followed)?;
+            draw_snippet(&page, renderer, &mut marks, file, is_followed)?;
         }
         Ok(())
     }

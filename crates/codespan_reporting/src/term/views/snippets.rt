@@ -24,8 +24,8 @@ use std::convert::AsStr;
 /// The first rows of a snippet: where it starts, and an empty one.
 #[tactic(auto, using(codespan_base::proofs::Sends::sendings))]
 fn draw_start<F, FileId, W: WriteStyle>(
-    renderer: &mut Renderer<'_, '_, W>,
     page: &Page<'_, F>,
+    renderer: &mut Renderer<'_, '_, W>,
     file: &SheetFile<'_, '_, FileId>,
 ) -> Result<(), Error>
     ensures same { SameRenderer renderer.old renderer.new }
@@ -38,8 +38,8 @@ fn draw_start<F, FileId, W: WriteStyle>(
 
 /// The row after a snippet, where something follows.
 fn draw_end<F, FileId, W: WriteStyle>(
-    renderer: &mut Renderer<'_, '_, W>,
     page: &Page<'_, F>,
+    renderer: &mut Renderer<'_, '_, W>,
     file: &SheetFile<'_, '_, FileId>,
     is_followed: bool,
 ) -> Result<(), Error>
@@ -59,10 +59,10 @@ fn draw_end<F, FileId, W: WriteStyle>(
 /// Refuses as the first lookup that refuses does, with `OutOfMemory` where a growth is refused, and with `Io` where the writer
 /// refuses. What is written then is a beginning.
 pub fn draw_snippet<'files, 'd, F: Files<'files>, W: WriteStyle>(
-    renderer: &mut Renderer<'_, '_, W>,
     page: &Page<'files, F>,
-    file: &SheetFile<'_, 'd, F::FileId>,
+    renderer: &mut Renderer<'_, '_, W>,
     marks: &mut LineMarks<'d>,
+    file: &SheetFile<'_, 'd, F::FileId>,
     is_followed: bool,
 ) -> Result<(), Error>
     requires steps { AllByRecursion (IsStepOf (F.file page.now.files.now file.now.id)) file.now.steps.items }
@@ -71,7 +71,7 @@ pub fn draw_snippet<'files, 'd, F: Files<'files>, W: WriteStyle>(
     ensures draws { SendsAsking (first_refusal (F.refusal page.now.files.now) (asked_of file.now.id (lookups_with file.now))) (W.sink (writer_of renderer.old)) (stream_of_rows (look_of (config_of renderer.old) page.now.severity page.now.padding) (rows_in file.now (F.file page.now.files.now file.now.id) is_followed)) result (W.sink (writer_of renderer.new)) }
 {
     let source = page.files.source(file.id)?;
-    draw_start(renderer, page, file)?;
+    draw_start(page, renderer, file)?;
     let lines = FileLines {
         page,
         id: file.id,
@@ -79,5 +79,5 @@ pub fn draw_snippet<'files, 'd, F: Files<'files>, W: WriteStyle>(
         lane_count: file.lane_count,
     };
     lines.draw_steps(renderer, marks, &file.steps)?;
-    draw_end(renderer, page, file, is_followed)
+    draw_end(page, renderer, file, is_followed)
 }

@@ -13,9 +13,9 @@ from_utf8_unchecked-requires g c =
     let claim : g.claim c.lifetimes = search rules in
     let lawful : (id : g.row.F-FileId.Denot) → IsLawful (file id) = λ id. (g.met.F.Files c.lifetimes claim).lawful c.args.files.now id in
     text_held c.args.config.now g.F.FileId.PartialEq.eq file (g.F.Files.refusal c.args.files.now) c.args.diagnostic.now _ _ c.into_inner.result.items
-    c.in-Ok.ensures.draws (c.new-plain.ensures.begins ∙ ap (λ xs. fresh_sink no_marks (Some xs)) c.new.ensures.items) (search rules) c.are_characters.ensures lawful
+    c.in-Ok.ensures.draws (c.new-plain.ensures.begins ∙ ap (λ xs. fresh_sink no_marks (Some xs)) c.in_ok-bytes.ensures.items) (search rules) c.are_characters.ensures lawful
 
 pub returns-in-Ok : goal.returns-in-Ok
 returns-in-Ok g c =
     string_drawn c.args.config.now g.F.FileId.PartialEq.eq (g.F.Files.file c.args.files.now) (g.F.Files.refusal c.args.files.now) c.args.diagnostic.now _ _ (string_bytes c.from_utf8_unchecked.result)
-    c.in-Ok.ensures.draws (c.new-plain.ensures.begins ∙ ap (λ xs. fresh_sink no_marks (Some xs)) c.new.ensures.items) (search rules) c.in-Ok.ensures.meaning
+    c.in-Ok.ensures.draws (c.new-plain.ensures.begins ∙ ap (λ xs. fresh_sink no_marks (Some xs)) c.in_ok-bytes.ensures.items) (search rules) c.in-Ok.ensures.meaning

@@ -8,6 +8,7 @@ use Rattle.codespan_reporting.specs.Inner.Entries.{entries_of}
 use Rattle.codespan_reporting.specs.Inner.GivenEntries.{Adds, AddsOf, IsOfFiles}
 use Rattle.codespan_picture.specs.Picture.{label_of}
 use Rattle.codespan_reporting.specs.Inner.PlacedLabels.{entries_after, file_place}
+use Rattle.codespan_reporting.proofs.LabelFiles.{label_place-at}
 use Rattle.codespan_reporting.proofs.LabelsGathered.{gathered-none, gathered-all, gathered-more, gathered-refused, file-inside, lane-room}
 use Rattle.codespan_reporting.proofs.term.views.gather.gather_in_turn.Goals as goal
 
@@ -22,21 +23,23 @@ loop-place-init g c =
     let refusal = g.F.Files.refusal c.args.files.now in
     let claim : g.claim c.lifetimes = search rules in
     let one : (i j : g.row.F-FileId.Denot) → g.F.FileId.PartialEq.eq i j ≡ true → file i ≡ file j = λ i j t. ((g.met.F.Files c.lifetimes claim).same_file c.args.files.now i j t).0 in
-    let zeros : c.in_ok-lane_counts.lane_counts.items ≡ replicate (length c.in_ok-ids.ids.items) 0 = search rules in
+    let zeros : c.in_ok-lane_counts.lane_counts.items ≡ replicate (length c.in_ok-of_labels.of_labels.ids.items) 0 = search rules in
     rw c.new-entries.ensures.items
-    (gathered-none g.F.FileId.PartialEq.eq file g.met.F.FileId.Eq.laws one refusal c.args.config.now c.args.labels.now c.in_ok-ids.ids.items c.in_ok-ids.ensures.value _ zeros)
+    (gathered-none g.F.FileId.PartialEq.eq file g.met.F.FileId.Eq.laws one refusal c.args.config.now c.args.labels.now c.in_ok-of_labels.of_labels.ids.items c.in_ok-of_labels.ensures.ids _ zeros)
 
 pub index-lane-requires : goal.index-lane-requires
 index-lane-requires g c =
     let file = g.F.Files.file c.args.files.now in
-    let ids = c.in_ok-ids.ids.items in
+    let ids = c.in_ok-of_labels.of_labels.ids.items in
     let label = c.index-labels-place.result in
     let lanes = c.loop-place.lane_counts.items in
     let refusal = g.F.Files.refusal c.args.files.now in
     let claim : g.claim c.lifetimes = search rules in
     let one : (i j : g.row.F-FileId.Denot) → g.F.FileId.PartialEq.eq i j ≡ true → file i ≡ file j = λ i j t. ((g.met.F.Files c.lifetimes claim).same_file c.args.files.now i j t).0 in
-    let place : c.file_place-file.result ≡ file_place g.F.FileId.PartialEq.eq ids label.file_id = c.file_place-file.ensures ∙ ap (λ js. file_place g.F.FileId.PartialEq.eq js label.file_id) c.deref.ensures.value in
-    let inside = file-inside g.F.FileId.PartialEq.eq file g.met.F.FileId.Eq.laws one refusal c.args.config.now c.args.labels.now ids c.in_ok-ids.ensures.value
+    let place : c.index-file.result.now ≡ file_place g.F.FileId.PartialEq.eq ids label.file_id =
+    c.index-file.ensures ∙ ap (λ ns. get_or ns c.loop-place.place c.index-file.result.now) c.in_ok-of_labels.ensures.places
+    ∙ label_place-at g.F.FileId.PartialEq.eq ids c.args.labels.now c.loop-place.place c.index-file.result.now label c.loop-place-test.true c.index-labels-place.is in
+    let inside = file-inside g.F.FileId.PartialEq.eq file g.met.F.FileId.Eq.laws one refusal c.args.config.now c.args.labels.now ids c.in_ok-of_labels.ensures.ids
     c.loop-place.place label c.loop-place-test.true c.index-labels-place.is in
     let long : length lanes ≡ length ids = ap length c.loop-place.invariant.lanes_are ∙ length-map ids _ in
     omega (arith, inside, place, long, c.loop-place.lane_counts.ok.0)
@@ -44,14 +47,16 @@ index-lane-requires g c =
 pub index_mut-requires : goal.index_mut-requires
 index_mut-requires g c =
     let file = g.F.Files.file c.args.files.now in
-    let ids = c.in_ok-ids.ids.items in
+    let ids = c.in_ok-of_labels.of_labels.ids.items in
     let label = c.index-labels-place.result in
     let lanes = c.loop-place.lane_counts.items in
     let refusal = g.F.Files.refusal c.args.files.now in
     let claim : g.claim c.lifetimes = search rules in
     let one : (i j : g.row.F-FileId.Denot) → g.F.FileId.PartialEq.eq i j ≡ true → file i ≡ file j = λ i j t. ((g.met.F.Files c.lifetimes claim).same_file c.args.files.now i j t).0 in
-    let place : c.file_place-file.result ≡ file_place g.F.FileId.PartialEq.eq ids label.file_id = c.file_place-file.ensures ∙ ap (λ js. file_place g.F.FileId.PartialEq.eq js label.file_id) c.deref.ensures.value in
-    let inside = file-inside g.F.FileId.PartialEq.eq file g.met.F.FileId.Eq.laws one refusal c.args.config.now c.args.labels.now ids c.in_ok-ids.ensures.value
+    let place : c.index-file.result.now ≡ file_place g.F.FileId.PartialEq.eq ids label.file_id =
+    c.index-file.ensures ∙ ap (λ ns. get_or ns c.loop-place.place c.index-file.result.now) c.in_ok-of_labels.ensures.places
+    ∙ label_place-at g.F.FileId.PartialEq.eq ids c.args.labels.now c.loop-place.place c.index-file.result.now label c.loop-place-test.true c.index-labels-place.is in
+    let inside = file-inside g.F.FileId.PartialEq.eq file g.met.F.FileId.Eq.laws one refusal c.args.config.now c.args.labels.now ids c.in_ok-of_labels.ensures.ids
     c.loop-place.place label c.loop-place-test.true c.index-labels-place.is in
     let long : length lanes ≡ length ids = ap length c.loop-place.invariant.lanes_are ∙ length-map ids _ in
     omega (arith, inside, place, long, c.loop-place.lane_counts.ok.0)
@@ -59,20 +64,22 @@ index_mut-requires g c =
 pub overflow_add-lane : goal.overflow_add-lane
 overflow_add-lane g c =
     let file = g.F.Files.file c.args.files.now in
-    let ids = c.in_ok-ids.ids.items in
+    let ids = c.in_ok-of_labels.of_labels.ids.items in
     let label = c.index-labels-place.result in
     let lanes = c.loop-place.lane_counts.items in
     let refusal = g.F.Files.refusal c.args.files.now in
     let claim : g.claim c.lifetimes = search rules in
     let one : (i j : g.row.F-FileId.Denot) → g.F.FileId.PartialEq.eq i j ≡ true → file i ≡ file j = λ i j t. ((g.met.F.Files c.lifetimes claim).same_file c.args.files.now i j t).0 in
-    let place : c.file_place-file.result ≡ file_place g.F.FileId.PartialEq.eq ids label.file_id = c.file_place-file.ensures ∙ ap (λ js. file_place g.F.FileId.PartialEq.eq js label.file_id) c.deref.ensures.value in
-    let room = lane-room g.F.FileId.PartialEq.eq file g.met.F.FileId.Eq.laws one refusal c.args.config.now c.args.labels.now ids c.in_ok-ids.ensures.value
+    let place : c.index-file.result.now ≡ file_place g.F.FileId.PartialEq.eq ids label.file_id =
+    c.index-file.ensures ∙ ap (λ ns. get_or ns c.loop-place.place c.index-file.result.now) c.in_ok-of_labels.ensures.places
+    ∙ label_place-at g.F.FileId.PartialEq.eq ids c.args.labels.now c.loop-place.place c.index-file.result.now label c.loop-place-test.true c.index-labels-place.is in
+    let room = lane-room g.F.FileId.PartialEq.eq file g.met.F.FileId.Eq.laws one refusal c.args.config.now c.args.labels.now ids c.in_ok-of_labels.ensures.ids
     c.loop-place.place label c.loop-place-test.true c.index-labels-place.is lanes c.loop-place.entries.items c.loop-place.invariant in
-    let inside = file-inside g.F.FileId.PartialEq.eq file g.met.F.FileId.Eq.laws one refusal c.args.config.now c.args.labels.now ids c.in_ok-ids.ensures.value
+    let inside = file-inside g.F.FileId.PartialEq.eq file g.met.F.FileId.Eq.laws one refusal c.args.config.now c.args.labels.now ids c.in_ok-of_labels.ensures.ids
     c.loop-place.place label c.loop-place-test.true c.index-labels-place.is in
     let long : length lanes ≡ length ids = ap length c.loop-place.invariant.lanes_are ∙ length-map ids _ in
-    let lane_is : c.index-lane.result.now ≡ get_or lanes c.file_place-file.result 0 = c.index-lane.ensures ∙ get_or_default_zero lanes c.file_place-file.result _ (omega (arith, inside, place, long)) in
-    let lane : get_or lanes c.file_place-file.result 0 ≤ c.loop-place.place = subst (λ k. get_or lanes k 0 ≤ c.loop-place.place) (sym place) room in
+    let lane_is : c.index-lane.result.now ≡ get_or lanes c.index-file.result.now 0 = c.index-lane.ensures ∙ get_or_default_zero lanes c.index-file.result.now _ (omega (arith, inside, place, long)) in
+    let lane : get_or lanes c.index-file.result.now 0 ≤ c.loop-place.place = subst (λ k. get_or lanes k 0 ≤ c.loop-place.place) (sym place) room in
     omega (arith, lane, lane_is, c.in_ok-lanes.ensures.lanes, at_most_one (is_single (file label.file_id) (label_of label).label), c.loop-place-test.true)
 
 pub loop-place-preserved : goal.loop-place-preserved
@@ -81,22 +88,24 @@ loop-place-preserved g c =
     let refusal = g.F.Files.refusal c.args.files.now in
     let claim : g.claim c.lifetimes = search rules in
     let one : (i j : g.row.F-FileId.Denot) → g.F.FileId.PartialEq.eq i j ≡ true → file i ≡ file j = λ i j t. ((g.met.F.Files c.lifetimes claim).same_file c.args.files.now i j t).0 in
-    let ids = c.in_ok-ids.ids.items in
+    let ids = c.in_ok-of_labels.of_labels.ids.items in
     let label = c.index-labels-place.result in
     let f = file label.file_id in
     let x = (label_of label).label in
     let lanes = c.loop-place.lane_counts.items in
-    let place : c.file_place-file.result ≡ file_place g.F.FileId.PartialEq.eq ids label.file_id = c.file_place-file.ensures ∙ ap (λ js. file_place g.F.FileId.PartialEq.eq js label.file_id) c.deref.ensures.value in
-    let inside = file-inside g.F.FileId.PartialEq.eq file g.met.F.FileId.Eq.laws one refusal c.args.config.now c.args.labels.now ids c.in_ok-ids.ensures.value
+    let place : c.index-file.result.now ≡ file_place g.F.FileId.PartialEq.eq ids label.file_id =
+    c.index-file.ensures ∙ ap (λ ns. get_or ns c.loop-place.place c.index-file.result.now) c.in_ok-of_labels.ensures.places
+    ∙ label_place-at g.F.FileId.PartialEq.eq ids c.args.labels.now c.loop-place.place c.index-file.result.now label c.loop-place-test.true c.index-labels-place.is in
+    let inside = file-inside g.F.FileId.PartialEq.eq file g.met.F.FileId.Eq.laws one refusal c.args.config.now c.args.labels.now ids c.in_ok-of_labels.ensures.ids
     c.loop-place.place label c.loop-place-test.true c.index-labels-place.is in
     let long : length lanes ≡ length ids = ap length c.loop-place.invariant.lanes_are ∙ length-map ids _ in
-    let lane_is : c.index-lane.result.now ≡ get_or lanes c.file_place-file.result 0 = c.index-lane.ensures ∙ get_or_default_zero lanes c.file_place-file.result _ (omega (arith, inside, place, long)) in
-    gathered-more g.F.FileId.PartialEq.eq file g.met.F.FileId.Eq.laws one refusal c.args.config.now c.args.labels.now ids c.in_ok-ids.ensures.value
+    let lane_is : c.index-lane.result.now ≡ get_or lanes c.index-file.result.now 0 = c.index-lane.ensures ∙ get_or_default_zero lanes c.index-file.result.now _ (omega (arith, inside, place, long)) in
+    gathered-more g.F.FileId.PartialEq.eq file g.met.F.FileId.Eq.laws one refusal c.args.config.now c.args.labels.now ids c.in_ok-of_labels.ensures.ids
     c.loop-place.place label c.loop-place-test.true c.index-labels-place.is lanes _ c.loop-place.entries.items c.gather_label.new.entries.items c.loop-place.invariant
     (subst (λ k. AddsOf f c.loop-place.entries.items c.gather_label.new.entries.items (entries_of c.args.config.now f (record { file = k; place = c.loop-place.place; lane = get_or lanes k 0 }) x)) place
-    (subst (λ n. AddsOf f c.loop-place.entries.items c.gather_label.new.entries.items (entries_of c.args.config.now f (record { file = c.file_place-file.result; place = c.loop-place.place; lane = n }) x)) lane_is c.in_ok-lanes.ensures.added))
-    (subst (λ k. set lanes c.file_place-file.result (c.index-lane.result.now + c.in_ok-lanes.lanes) ≡ set lanes k (get_or lanes k 0 + (if is_single f x then 0 else 1))) place
-    (λ i. set lanes c.file_place-file.result (lane_is i + c.in_ok-lanes.ensures.lanes i)))
+    (subst (λ n. AddsOf f c.loop-place.entries.items c.gather_label.new.entries.items (entries_of c.args.config.now f (record { file = c.index-file.result.now; place = c.loop-place.place; lane = n }) x)) lane_is c.in_ok-lanes.ensures.added))
+    (subst (λ k. set lanes c.index-file.result.now (c.index-lane.result.now + c.in_ok-lanes.lanes) ≡ set lanes k (get_or lanes k 0 + (if is_single f x then 0 else 1))) place
+    (λ i. set lanes c.index-file.result.now (lane_is i + c.in_ok-lanes.ensures.lanes i)))
     c.in_ok-lanes.ensures.refused
 
 pub returns-in_err-lanes-clause-refused : goal.returns-in_err-lanes-clause-refused
@@ -107,7 +116,7 @@ returns-in_err-lanes-clause-refused g c =
     let one : (i j : g.row.F-FileId.Denot) → g.F.FileId.PartialEq.eq i j ≡ true → file i ≡ file j = λ i j t. ((g.met.F.Files c.lifetimes claim).same_file c.args.files.now i j t).0 in
     let label = c.index-labels-place.result in
     let p = err_from_is_err_and c.from_residual-in_err-lanes.result c.from_residual-in_err-lanes.ensures.1 in
-    rw (p.1 ∙ ap Err p.2) (λ told. gathered-refused g.F.FileId.PartialEq.eq file g.met.F.FileId.Eq.laws one refusal c.args.config.now c.args.labels.now c.in_ok-ids.ids.items c.in_ok-ids.ensures.value
+    rw (p.1 ∙ ap Err p.2) (λ told. gathered-refused g.F.FileId.PartialEq.eq file g.met.F.FileId.Eq.laws one refusal c.args.config.now c.args.labels.now c.in_ok-of_labels.of_labels.ids.items c.in_ok-of_labels.ensures.ids
     c.loop-place.place label c.loop-place-test.true c.index-labels-place.is c.loop-place.lane_counts.items c.loop-place.entries.items _ c.loop-place.invariant (c.in_err-lanes.ensures.refused told))
 
 pub returns-clause-entries : goal.returns-clause-entries
@@ -116,9 +125,9 @@ returns-clause-entries g c =
     let refusal = g.F.Files.refusal c.args.files.now in
     let claim : g.claim c.lifetimes = search rules in
     let one : (i j : g.row.F-FileId.Denot) → g.F.FileId.PartialEq.eq i j ≡ true → file i ≡ file j = λ i j t. ((g.met.F.Files c.lifetimes claim).same_file c.args.files.now i j t).0 in
-    let all = gathered-all g.F.FileId.PartialEq.eq file g.met.F.FileId.Eq.laws one refusal c.args.config.now c.args.labels.now c.in_ok-ids.ids.items c.in_ok-ids.ensures.value
+    let all = gathered-all g.F.FileId.PartialEq.eq file g.met.F.FileId.Eq.laws one refusal c.args.config.now c.args.labels.now c.in_ok-of_labels.of_labels.ids.items c.in_ok-of_labels.ensures.ids
     c.loop-place.place _ _ c.loop-place-test.false c.loop-place.invariant in
-    subst (λ ids. Adds (IsOfFiles file c.in_ok-ids.ids.items) [] c.loop-place.entries.items (entries_after g.F.FileId.PartialEq.eq file c.args.config.now ids [] (map label_of c.args.labels.now))) c.in_ok-ids.ensures.value all.1
+    subst (λ ids. Adds (IsOfFiles file c.in_ok-of_labels.of_labels.ids.items) [] c.loop-place.entries.items (entries_after g.F.FileId.PartialEq.eq file c.args.config.now ids [] (map label_of c.args.labels.now))) c.in_ok-of_labels.ensures.ids all.1
 
 pub returns-clause-refused : goal.returns-clause-refused
 returns-clause-refused g c =
@@ -126,5 +135,5 @@ returns-clause-refused g c =
     let refusal = g.F.Files.refusal c.args.files.now in
     let claim : g.claim c.lifetimes = search rules in
     let one : (i j : g.row.F-FileId.Denot) → g.F.FileId.PartialEq.eq i j ≡ true → file i ≡ file j = λ i j t. ((g.met.F.Files c.lifetimes claim).same_file c.args.files.now i j t).0 in
-    (gathered-all g.F.FileId.PartialEq.eq file g.met.F.FileId.Eq.laws one refusal c.args.config.now c.args.labels.now c.in_ok-ids.ids.items c.in_ok-ids.ensures.value
+    (gathered-all g.F.FileId.PartialEq.eq file g.met.F.FileId.Eq.laws one refusal c.args.config.now c.args.labels.now c.in_ok-of_labels.of_labels.ids.items c.in_ok-of_labels.ensures.ids
     c.loop-place.place _ _ c.loop-place-test.false c.loop-place.invariant).2

@@ -3,4 +3,4 @@ use Rattle.codespan_reporting.proofs.term.views.gather.gather_in_turn.Given as g
 
 -- the labels before this one are done with
 abbrev pub invariant-loop-place : goal.invariant-loop-place
-invariant-loop-place g l = AreGathered g.F.FileId.PartialEq.eq (g.F.Files.file l.files) (g.F.Files.refusal l.files) l.config l.labels l.ids.items l.place l.lane_counts.items l.entries.items
+invariant-loop-place g l = AreGathered g.F.FileId.PartialEq.eq (g.F.Files.file l.files) (g.F.Files.refusal l.files) l.config l.labels l.of_labels.ids.items l.place l.lane_counts.items l.entries.items
