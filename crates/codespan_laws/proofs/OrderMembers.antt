@@ -9,7 +9,7 @@ use Rattle.codespan_base.specs.Labels.{Labelled, is_primary, is_single, first_li
 use Rattle.codespan_laws.specs.OrderLaws.{is_drawn_at}
 use Rattle.codespan_picture.specs.Snippets.{least, if_any, locus_start}
 use Rattle.codespan_laws.proofs.OrderSorts.{has_range, sorted-same}
-use Rattle.codespan_laws.proofs.PointerLemmas.{any-filter}
+use Rattle.codespan_picture.proofs.HangingStarts.{any-filter}
 use Rattle.codespan_laws.proofs.RefillLemmas.{any-map, filter-map}
 use Rattle.codespan_laws.proofs.SortedLists.{any-filtered, filter-filter, filter-reverse}
 

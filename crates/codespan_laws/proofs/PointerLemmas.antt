@@ -26,55 +26,8 @@ use Rattle.codespan_picture.specs.RowParts.{starts_in, greatest_start, blanks_up
 use Rattle.codespan_picture.specs.RowStreams.{pointer_row, hanging_row}
 use Rattle.codespan_laws.proofs.Texts.{text_of-append, text_of-one_mark, text_of-glyph, text_of-blanks, encode_utf8_all-append, encode_utf8_all-blanks}
 use Rattle.codespan_laws.proofs.CaretLemmas.{range_with_len-append, map-range_with_len, map-constant}
-use Rattle.codespan_picture.proofs.Rightmost.{around_is}
-
--- ---- hanging labels are labels of the line
-
--- what passes among the labels that a filter keeps passes among all
-pub any-filter : (p q : Labelled → Bool) (xs : List Labelled) → list_any p (filter q xs) ≡ true → list_any p xs ≡ true
-any-filter p q [] h = cc
-any-filter p q (x ∷ xs) h = by_test (any-filter p q xs) (q x) h
-  where
-    by_test : (list_any p (filter q xs) ≡ true → list_any p xs ≡ true) → (b : Bool)
-        → list_any p (cond b (x ∷ filter q xs) (filter q xs)) ≡ true → (p x || list_any p xs) ≡ true
-    by_test again true h =
-        ⊎_elim (λ here. or_left (p x) (list_any p xs) here) (λ later. or_right (p x) (list_any p xs) (again later)) (or_cases (p x) (list_any p (filter q xs)) h)
-    by_test again false h = or_right (p x) (list_any p xs) (again h)
-
-any-others : (p : Labelled → Bool) (a : Around) → list_any p (others a) ≡ true → list_any p (a.before ++ (a.here ∷ a.after)) ≡ true
-any-others p a h =
-    list_any-append p a.before (a.here ∷ a.after)
-    ∙ ⊎_elim (λ early. or_left (list_any p a.before) (p a.here || list_any p a.after) early)
-    (λ late. or_right (list_any p a.before) (p a.here || list_any p a.after) (or_right (p a.here) (list_any p a.after) late))
-    (or_cases (list_any p a.before) (list_any p a.after) (sym (list_any-append p a.before a.after) ∙ h))
-
-any-hanging : (p : Labelled → Bool) (labels : List Labelled) → list_any p (hanging labels) ≡ true → list_any p labels ≡ true
-any-hanging p labels h = by_rightmost (rightmost labels) refl h
-  where
-    by_trail : (a : Around) → a.before ++ (a.here ∷ a.after) ≡ labels → (b : Bool)
-        → list_any p (filter has_message (if b then others a else labels)) ≡ true → list_any p labels ≡ true
-    by_trail a whole true h = subst (λ xs. list_any p xs ≡ true) whole (any-others p a (any-filter p has_message (others a) h))
-    by_trail a whole false h = any-filter p has_message labels h
-
-    by_rightmost : (r : Option Around) → rightmost labels ≡ r → list_any p (hanging_of labels r) ≡ true → list_any p labels ≡ true
-    by_rightmost None is h = cc
-    by_rightmost (Some a) is h = by_trail a (around_is (greatest_end labels) labels a is) (does_trail a) h
-
-fold_start-le : (m : ℕ) (xs : List Labelled) → m ≤ fold (λ n (x : Labelled). max n x.start) m xs
-fold_start-le m [] = omega arith
-fold_start-le m (x ∷ xs) = let more = fold_start-le (max m x.start) xs in omega arith
-
-any-below : (m v : ℕ) (p : Labelled → Bool) (xs : List Labelled) → ((x : Labelled) → p x ≡ true → v ≤ x.start) → list_any p xs ≡ true
-    → v ≤ fold (λ n (x : Labelled). max n x.start) m xs
-any-below m v p [] below h = cc
-any-below m v p (x ∷ xs) below h =
-    ⊎_elim
-    (λ here. let low = below x here in let more = fold_start-le (max m x.start) xs in omega arith)
-    (λ later. any-below (max m x.start) v p xs below later)
-    (or_cases (p x) (list_any p xs) h)
-
-starts_in-low : (c : Cell) (x : Labelled) → starts_in c x ≡ true → c.place ≤ x.start
-starts_in-low c x h = grind (arith, nat_tests)
+use Rattle.codespan_picture.proofs.HangingStarts.{any-filter, any-hanging, any-below, starts_in-low}
+use Rattle.codespan_picture.proofs.Spread.{AreSpread, cells-spread, none-before}
 
 -- ---- members
 
@@ -92,30 +45,11 @@ any_in p xs x h holds = list_any_at p xs h.0 x h.1 (ap p h.2 ∙ holds)
 
 -- ---- characters in a row
 
--- they begin at this place and this column, each has a byte, and each follows the one before
-abbrev pub AreSpread : ℕ → ℕ → List Cell → Type 0
-AreSpread place column [] = Unit {0}
-AreSpread place column (c ∷ cs) =
-    (c.place ≡ place) × (c.column ≡ column) × (0 < c.bytes) × AreSpread (place + c.bytes) (column + c.width) cs
-
-cells-spread : (tab place column : ℕ) (codes : List ℕ) → AreSpread place column (cells_then (λ _ _. []) tab place column codes)
-cells-spread tab place column [] = tt
-cells-spread tab place column (c ∷ cs) =
-    (refl, refl, omega (arith, (len_utf8_bounds c).0), cells-spread tab (place + len_utf8 c) (column + width_at tab column c) cs)
-
 place-low : (place column : ℕ) (cs : List Cell) (c : Cell) → AreSpread place column cs → Contains cs c → place ≤ c.place
 place-low place column [] c laid h = absurd (omega (arith, h.1))
 place-low place column (d ∷ ds) c laid (zero, h, e) = let same = ap (λ (y : Cell). y.place) e in omega (arith, same, laid.0)
 place-low place column (d ∷ ds) c laid (suc k, h, e) =
     let more = place-low (place + d.bytes) (column + d.width) ds c laid.3 (k, omega (arith, h), e) in omega (arith, more)
-
--- from a place on no character begins before it
-none-before : (near : ℕ → Bool) (place column : ℕ) (cs : List Cell) → AreSpread place column cs
-    → ((q : ℕ) → place ≤ q → near q ≡ false) → filter (λ (c : Cell). near c.place) cs ≡ []
-none-before near place column [] laid far = refl
-none-before near place column (c ∷ cs) laid far =
-    let here = far c.place (omega (arith, laid.0)) in
-    simp here (none-before near (place + c.bytes) (column + c.width) cs laid.3 (λ q low. far q (omega arith)))
 
 -- the widths of the characters before one sum to its column
 column-at : (place column : ℕ) (cs : List Cell) (c : Cell) → AreSpread place column cs → Contains cs c

@@ -1,2 +1,4 @@
 pub mod Alike
 pub mod Rightmost
+pub mod HangingStarts
+pub mod Spread

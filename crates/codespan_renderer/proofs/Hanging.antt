@@ -150,7 +150,7 @@ pointers_next look labels before c cs h =
     rw kept refl
 
 -- no label hangs from the character
-pointer_none : (look : Look) (labels : List Labelled) (c : Cell) → pointer_found (hanging labels) c ≡ None
+pub pointer_none : (look : Look) (labels : List Labelled) (c : Cell) → pointer_found (hanging labels) c ≡ None
     → pointer_at look labels (hanging labels) c ≡ blanks_up_to (greatest_start labels) c c.width
 unfolding pointer_at
 pointer_none look labels c h = by_test (list_any (starts_in c) (hanging labels)) refl h
@@ -161,7 +161,7 @@ pointer_none look labels c h = by_test (list_any (starts_in c) (hanging labels))
     by_test false is h = rw is refl
 
 -- a label of this style hangs from it
-pointer_some : (look : Look) (labels : List Labelled) (c : Cell) (style : LabelStyle) → pointer_found (hanging labels) c ≡ Some style
+pub pointer_some : (look : Look) (labels : List Labelled) (c : Cell) (style : LabelStyle) → pointer_found (hanging labels) c ≡ Some style
     → pointer_at look labels (hanging labels) c
     ≡ label_glyph look.severity style look.chars.pointer_left ++ blanks_up_to (greatest_start labels) c (c.width - 1)
 unfolding pointer_at

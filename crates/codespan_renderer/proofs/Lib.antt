@@ -8,3 +8,11 @@ pub mod Hanging
 pub mod Laying
 pub mod TextRuns
 pub mod Underlines
+pub mod Sweeping
+pub mod SweptCarets
+pub mod StartsMet
+pub mod SpacedPointers
+pub mod PointerWalks
+pub mod WidthSearch
+pub mod Pieces
+pub mod CellLists

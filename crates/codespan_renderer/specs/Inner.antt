@@ -1,5 +1,9 @@
 -- Words that private calls and proofs use: a reader of the public contracts needs none of them.
 pub mod CellsLeft
 pub mod GivenLine
+pub mod LineCells
 pub mod MarksLeft
 pub mod Runs
+pub mod PointerLists
+pub mod PrimaryMarks
+pub mod Sweeps

@@ -23,9 +23,9 @@ pub record SameRenderer {W : Type 0} (old new : Renderer W) : Type 0 where
   pub config : config_of new ≡ config_of old
 
 -- a writer, behind one more reference
-abbrev pub behind : GName → Sink → Sink
-behind name s = record s { frame = record s.frame { through = name ∷ s.frame.through } }
+abbrev pub sink_behind : GName → Sink → Sink
+sink_behind name s = record s { frame = record s.frame { through = name ∷ s.frame.through } }
 
 -- the law sees a renderer as its writer, behind its reference
 abbrev pub renderer_sink : {W : Type 0} → (W → Sink) → Renderer W → Sink
-renderer_sink sink r = behind (reference_of r) (sink (writer_of r))
+renderer_sink sink r = sink_behind (reference_of r) (sink (writer_of r))

@@ -3,7 +3,7 @@ use Rattle.std.proofs.Common.{◌≡◌, ℕ, zero, suc, ◌+◌, ◌<◌, ◌�
 use Rattle.std.specs.List.{prefix_len, range_with_len, AllByRecursion}
 use Rattle.std.proofs.lemmas.Bool.{cases_Bool, eqb-true, eqb-false, eq-eqb, ltb-true, ltb-false, lt-ltb, le-ltb}
 use Rattle.std.proofs.lemmas.List.{append-nil}
-use Rattle.codespan_reporting.specs.Inner.Entries.{Entry, is_shown, is_on_line}
+use Rattle.codespan_reporting.specs.Inner.Entries.{Entry, tells_shown, is_on_line}
 use Rattle.codespan_reporting.specs.Inner.Steps.{Step, Draw, join_group, groups, marks_of, gap, gap_after, walk, steps_of}
 use Rattle.codespan_laws.proofs.SortedLists.{all-weaker, all-filter, filter-whole, filter-nothing}
 
@@ -145,7 +145,7 @@ groups-by_line (suc n) a xs h low high =
 -- the first entry of a group says that its line is shown
 abbrev pub starts_shown : List Entry → Bool
 starts_shown [] = false
-starts_shown (x ∷ g) = is_shown x
+starts_shown (x ∷ g) = tells_shown x
 
 -- a group that does not say so is all marks
 marks-hidden : (g : List Entry) → starts_shown g ≡ false → marks_of g ≡ g

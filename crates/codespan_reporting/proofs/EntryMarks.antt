@@ -11,7 +11,7 @@ use Rattle.std.proofs.Math.Bool.{and-false}
 use Rattle.codespan_base.specs.declared.term.config.Config.{Config}
 use Rattle.codespan_base.specs.FileModel.{FileModel, line_count}
 use Rattle.codespan_base.specs.Labels.{Labelled, LaneMark, Part, first_line, last_line, is_single, drawn_label, part_on, mark_of, multi_labels}
-use Rattle.codespan_reporting.specs.Inner.Entries.{Entry, Single, Multi, LabelPlace, is_below, is_shown, is_on_line, is_of_file, entry_of_mark, line_entries, entries_of}
+use Rattle.codespan_reporting.specs.Inner.Entries.{Entry, Single, Multi, LabelPlace, is_below, tells_shown, is_on_line, is_of_file, entry_of_mark, line_entries, entries_of}
 use Rattle.codespan_picture.specs.Lines.{shows}
 use Rattle.codespan_reporting.specs.Inner.PlacedLabels.{file_place, is_multi_of, lane_after, place_after, entries_after}
 use Rattle.codespan_picture.specs.Snippets.{InFile}
@@ -377,5 +377,5 @@ module _ {Id : Type 0} (same : Id → Id → Bool) (file : Id → FileModel) (o 
 
     -- whether some label shows a line that the file has
     pub any-said : nat_lt l (line_count own_file) ≡ true → (xs before : List (InFile Id))
-        → list_any is_shown (said_after before xs) ≡ list_any (λ x. shows config (first_line own_file x) (last_line own_file x) l) (labels_in xs)
-    any-said = any-passes is_shown (λ x. shows config (first_line own_file x) (last_line own_file x) l) (λ at x. shown-of_line config own_file at x l)
+        → list_any tells_shown (said_after before xs) ≡ list_any (λ x. shows config (first_line own_file x) (last_line own_file x) l) (labels_in xs)
+    any-said = any-passes tells_shown (λ x. shows config (first_line own_file x) (last_line own_file x) l) (λ at x. shown-of_line config own_file at x l)

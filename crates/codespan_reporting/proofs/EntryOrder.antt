@@ -9,7 +9,7 @@ use Rattle.std.proofs.lemmas.Bool.Decides.{nat_tests}
 use Rattle.std.proofs.lemmas.Cmp.{nat_cmp_total, on_total, then_total, back_total}
 use Rattle.std.proofs.lemmas.List.Sorted.{ranks_by}
 use Rattle.codespan_base.specs.Labels.{Labelled, LaneMark, stands_before}
-use Rattle.codespan_reporting.specs.Inner.Entries.{Entry, Says, Shown, Single, Multi, kind_of, first_of, second_of, place_of, is_below}
+use Rattle.codespan_reporting.specs.Inner.Entries.{Entry, Says, Shown, Single, Multi, kind_of, first_of, second_of, place_in_list, is_below}
 use Rattle.codespan_reporting.specs.Inner.Steps.{single_of, singles_in}
 use Rattle.codespan_laws.proofs.OrderSorts.{Ascends}
 use Rattle.codespan_laws.proofs.SortedLists.{Rises}
@@ -22,7 +22,7 @@ below_order = ranks_by
     (then_total (on_total (λ (e : Entry). kind_of e.says) nat_cmp_total)
     (then_total (on_total (λ (e : Entry). first_of e.says) nat_cmp_total)
     (then_total (on_total (λ (e : Entry). second_of e.says) nat_cmp_total)
-    (back_total (on_total (λ (e : Entry). place_of e.says) nat_cmp_total)))))))
+    (back_total (on_total (λ (e : Entry). place_in_list e.says) nat_cmp_total)))))))
     (λ e. e)
 
 -- ---- one comparison after another

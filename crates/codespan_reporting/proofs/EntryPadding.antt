@@ -17,7 +17,7 @@ use Rattle.codespan_reporting.specs.Inner.GivenEntries.{Adds, IsOfFiles, entry_o
 use Rattle.codespan_reporting.specs.Inner.GivenPadding.{is_mark, marked_digits}
 use Rattle.codespan_reporting.specs.Inner.Plans.{by_place}
 use Rattle.codespan_picture.specs.Padding.{digit_count, digits_of, numbered_lines, padding_of, spanned_lines, spans}
-use Rattle.codespan_reporting.specs.Inner.PlacedLabels.{IsAt, all_entries, entries_after, file_ids, file_place, place_after}
+use Rattle.codespan_reporting.specs.Inner.PlacedLabels.{IsIdAt, all_entries, entries_after, file_ids, file_place, place_after}
 use Rattle.codespan_picture.specs.Snippets.{InFile, LabelledFile, labelled_file, labelled_files}
 use Rattle.codespan_reporting.proofs.EntryMarks as marks
 use Rattle.codespan_reporting.proofs.FileOrder.{file_ids-has, has}
@@ -42,7 +42,7 @@ gathered-each P gathered entries es adds perm =
 -- ---- ids at their places
 
 -- ids that give the same at their places
-pub by_place-same : {Id A : Type 0} (give : ℕ → Id → List A) (each : Id → List A) (k : ℕ) (js : List Id) → ((i : ℕ) (id : Id) → IsAt js i id → give (k + i) id ≡ each id)
+pub by_place-same : {Id A : Type 0} (give : ℕ → Id → List A) (each : Id → List A) (k : ℕ) (js : List Id) → ((i : ℕ) (id : Id) → IsIdAt js i id → give (k + i) id ≡ each id)
     → by_place give k js ≡ flat_map each js
 by_place-same give each k [] same = refl
 by_place-same {Id} {A} give each k (j ∷ js) same =
@@ -52,13 +52,13 @@ by_place-same {Id} {A} give each k (j ∷ js) same =
     (by_place-same give each (k + 1) js (λ i id at. let e : k + 1 + i ≡ k + suc i = omega arith in ap (λ n. give n id) e ∙ same (suc i) id at))
 
 -- the id at a place is one of them, whatever it stands for
-place-contained : {Id X : Type 0} (h : Id → X) (ids : List Id) (f : ℕ) (id : Id) → IsAt ids f id → Contains (map h ids) (h id)
+place-contained : {Id X : Type 0} (h : Id → X) (ids : List Id) (f : ℕ) (id : Id) → IsIdAt ids f id → Contains (map h ids) (h id)
 place-contained h [] f id at = absurd at
 place-contained h (j ∷ js) zero id at = (0, omega arith, ap h at)
 place-contained h (j ∷ js) (suc f) id at = let c = place-contained h js f id at in let low : c.0 < length (map h js) = c.1 in (suc c.0, omega (arith, low), c.2)
 
 -- what holds of all that each id gives
-all-places : {Id A : Type 0} (P : A → Type 0) (each : Id → List A) (js : List Id) → ((i : ℕ) (id : Id) → IsAt js i id → AllByRecursion P (each id)) → AllByRecursion P (flat_map each js)
+all-places : {Id A : Type 0} (P : A → Type 0) (each : Id → List A) (js : List Id) → ((i : ℕ) (id : Id) → IsIdAt js i id → AllByRecursion P (each id)) → AllByRecursion P (flat_map each js)
 all-places P each [] h = tt
 all-places P each (j ∷ js) h = all-append P (each j) (flat_map each js) (h 0 j refl) (all-places P each js (λ i id at. h (suc i) id at))
 
@@ -133,16 +133,16 @@ module _ {Id : Type 0} (same : Id → Id → Bool) (file : Id → FileModel) (o 
 
   -- the id is at the place of the entry's file
   abbrev IsPlaced : Entry → Type 0
-  IsPlaced e = (id : Id) × IsAt ids e.file id
+  IsPlaced e = (id : Id) × IsIdAt ids e.file id
 
   -- each entry's file has its place
   entries-placed : (ys before : List (InFile Id)) → AllByRecursion (λ (y : InFile Id). has same o ids y.id ≡ true) ys → AllByRecursion IsPlaced (entries_after same file config ids before ys)
   entries-placed [] before h = tt
   entries-placed (y ∷ ys) before h =
       let es = entries_of config (file y.id) (place_after same file ids before y) y.label in
-      let at : IsAt ids (file_place same ids y.id) (get_or ids (file_place same ids y.id) y.id) = at-get ids (file_place same ids y.id) y.id (has-place same o ids y.id h.0) in
+      let at : IsIdAt ids (file_place same ids y.id) (get_or ids (file_place same ids y.id) y.id) = at-get ids (file_place same ids y.id) y.id (has-place same o ids y.id h.0) in
       all-append IsPlaced es (entries_after same file config ids (before ++ y ∷ []) ys)
-      (all-weaker (λ e. e.file ≡ file_place same ids y.id) IsPlaced (λ e k. (get_or ids (file_place same ids y.id) y.id, subst (λ n. IsAt ids n (get_or ids (file_place same ids y.id) y.id)) (sym k) at)) es
+      (all-weaker (λ e. e.file ≡ file_place same ids y.id) IsPlaced (λ e k. (get_or ids (file_place same ids y.id) y.id, subst (λ n. IsIdAt ids n (get_or ids (file_place same ids y.id) y.id)) (sym k) at)) es
       (all-of_file config (file y.id) (place_after same file ids before y) y.label))
       (entries-placed ys (before ++ y ∷ []) h.1)
 
@@ -150,7 +150,7 @@ module _ {Id : Type 0} (same : Id → Id → Bool) (file : Id → FileModel) (o 
   all-placed : AllByRecursion IsPlaced all
   all-placed = entries-placed xs [] (recursion_from_All (λ (y : InFile Id). has same o ids y.id ≡ true) xs (λ k d h. file_ids-has same o xs k d h))
 
-  module _ (f : ℕ) (id : Id) (at : IsAt ids f id) where
+  module _ (f : ℕ) (id : Id) (at : IsIdAt ids f id) where
     -- the file with its labels
     abbrev s : LabelledFile
     s = labelled_file same file xs id
@@ -191,7 +191,7 @@ module _ {Id : Type 0} (same : Id → Id → Bool) (file : Id → FileModel) (o 
 
     -- the numbers of a line that is marked
     abbrev Fits : Entry → Type 0
-    Fits e = is_mark e ≡ true → (id : Id) × IsAt ids e.file id × Contains (spanned_lines (labelled_file same file xs id)) e.line
+    Fits e = is_mark e ≡ true → (id : Id) × IsIdAt ids e.file id × Contains (spanned_lines (labelled_file same file xs id)) e.line
 
     -- each mark is on a spanned line
     all-fit : All Fits all
@@ -214,7 +214,7 @@ module _ {Id : Type 0} (same : Id → Id → Bool) (file : Id → FileModel) (o 
         entries (all-both (λ e. Fits (entry_of e)) (IsOfFiles file ids) entries fit lines))
 
     -- a spanned line has a mark with its number
-    spanned-fits : (f : ℕ) (id : Id) → IsAt ids f id → (l : ℕ) → l < line_count (file id) → list_any (λ x. spans (file id) x l) (labelled_file same file xs id).labels ≡ true
+    spanned-fits : (f : ℕ) (id : Id) → IsIdAt ids f id → (l : ℕ) → l < line_count (file id) → list_any (λ x. spans (file id) x l) (labelled_file same file xs id).labels ≡ true
         → digit_count ((file id).number l) ≤ fold max 0 (marked_digits entries)
     spanned-fits f id at l low t =
         found entries lines (marked-most (fold max 0 (marked_digits entries)) entries (greatest-bounds 0 (marked_digits entries)))
@@ -229,7 +229,7 @@ module _ {Id : Type 0} (same : Id → Id → Bool) (file : Id → FileModel) (o 
         found (e ∷ es) h k any =
             ⊎_elim
             (λ (p : pick f l (entry_of e) ≡ true). let parts = pick-parts f l (entry_of e) p in
-            let number = (h.0 id (subst (λ n. IsAt ids n id) (sym parts.0) at)).number_is ∙ ap (file id).number parts.1 in
+            let number = (h.0 id (subst (λ n. IsIdAt ids n id) (sym parts.0) at)).number_is ∙ ap (file id).number parts.1 in
             subst (λ n. digit_count n ≤ m) number (k.0 parts.2))
             (λ (p : pick f l (entry_of e) ≡ false). found es h.1 k.1 (sym (ap (λ b. b || list_any (pick f l) (map entry_of es)) p) ∙ any))
             (cases_Bool (pick f l (entry_of e)))

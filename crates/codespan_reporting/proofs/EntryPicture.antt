@@ -9,11 +9,11 @@ use Rattle.std.proofs.lemmas.List.Sorted.{All-permutation, list_any-IsPermutatio
 use Rattle.codespan_base.specs.declared.term.config.Config.{Config}
 use Rattle.codespan_base.specs.FileModel.{FileModel, line_count}
 use Rattle.codespan_base.specs.Labels.{Labelled, LaneMark, is_single, first_line, last_line, drawn_label, single_labels, multi_labels, marks_on, sorted}
-use Rattle.codespan_reporting.specs.Inner.Entries.{Entry, Says, Shown, Single, Multi, kind_of, is_below, is_shown, is_on_line, is_of_file}
+use Rattle.codespan_reporting.specs.Inner.Entries.{Entry, Says, Shown, Single, Multi, kind_of, is_below, tells_shown, is_on_line, is_of_file}
 use Rattle.codespan_picture.specs.Lines as lines
 use Rattle.codespan_picture.specs.Lines.{drawn_lines}
 use Rattle.codespan_picture.specs.Lookups.{filled_lines}
-use Rattle.codespan_reporting.specs.Inner.PlacedLabels.{IsAt, file_ids, file_place, all_entries}
+use Rattle.codespan_reporting.specs.Inner.PlacedLabels.{IsIdAt, file_ids, file_place, all_entries}
 use Rattle.codespan_picture.specs.Snippets.{InFile, LabelledFile, labelled_file, lane_count, line_at, drawing, rows_after}
 use Rattle.codespan_reporting.specs.Inner.Steps.{marks_of, steps_of, single_of, multi_of, singles_in, multis_in, line_of_group, rows_of_steps, fills_of, lines_of_steps, do_fit, does_step_fit}
 use Rattle.codespan_picture.specs.Lanes.{ascend_from}
@@ -26,6 +26,8 @@ use Rattle.codespan_laws.proofs.FillLemmas.{drawing_of_shown, none_past}
 use Rattle.codespan_reporting.proofs.LabelEntries.{is_kind}
 use Rattle.codespan_laws.proofs.OrderSorts.{has_range, ascending-same, sorted-ascends, sorted-keeps}
 use Rattle.codespan_laws.proofs.SortedLists.{Rises, Falls, Climbs, all-weaker, all-filter, all-both, all-pass, any-nothing, filter-filter, filter-reverse, any-filtered, reverse-cons, rises-filter, rises-from_sorted, filter-sorted_climbs, filter-sorted_falls}
+use Rattle.codespan_renderer.specs.Inner.Sweeps.{starts_in_order}
+use Rattle.codespan_reporting.proofs.MarkOrder.{ascends-starts}
 use Rattle.codespan_reporting.proofs.StepLines.{steps-drawing, steps-fit, steps-lines, steps-fills}
 
 -- ---- what a group says
@@ -40,13 +42,13 @@ marks-said {Y} h none (x ∷ xs) = by_says x.says refl (marks-said h none xs)
     rest = filter_map (λ (e : Entry). h e.says) xs
 
     whole : (b : Bool) → (kind_of x.says == 0) ≡ b → b ≡ false → filter_map (λ (e : Entry). h e.says) (marks_of (x ∷ xs)) ≡ cons_option (h x.says) rest
-    whole b e f = ap (λ t. filter_map (λ (d : Entry). h d.says) (drop (cond t (1 + prefix_len is_shown xs) 0) (x ∷ xs))) (e ∙ f)
+    whole b e f = ap (λ t. filter_map (λ (d : Entry). h d.says) (drop (cond t (1 + prefix_len tells_shown xs) 0) (x ∷ xs))) (e ∙ f)
 
     by_says : (s : Says) → x.says ≡ s → filter_map (λ (e : Entry). h e.says) (marks_of xs) ≡ rest
         → filter_map (λ (e : Entry). h e.says) (marks_of (x ∷ xs)) ≡ cons_option (h x.says) rest
     by_says Shown e again =
-        let k : 1 + prefix_len is_shown xs ≡ suc (prefix_len is_shown xs) = omega arith in
-        ap (λ s. filter_map (λ (d : Entry). h d.says) (drop (cond (kind_of s == 0) (1 + prefix_len is_shown xs) 0) (x ∷ xs))) e
+        let k : 1 + prefix_len tells_shown xs ≡ suc (prefix_len tells_shown xs) = omega arith in
+        ap (λ s. filter_map (λ (d : Entry). h d.says) (drop (cond (kind_of s == 0) (1 + prefix_len tells_shown xs) 0) (x ∷ xs))) e
         ∙ ap (λ i. filter_map (λ (d : Entry). h d.says) (drop i (x ∷ xs))) k
         ∙ again ∙ sym (ap (λ o. cons_option o rest) (ap h e ∙ none))
     by_says (Single p y) e again = whole false (ap (λ s. kind_of s == 0) e) refl
@@ -131,15 +133,15 @@ kinds-rise f l (x ∷ xs) h a = (
 )
 
 -- the first of them says that the line is shown, where some entry does
-starts-any : (es : List Entry) → IsRising (λ e. kind_of e.says) es → starts_shown es ≡ list_any is_shown es
+starts-any : (es : List Entry) → IsRising (λ e. kind_of e.says) es → starts_shown es ≡ list_any tells_shown es
 starts-any [] h = refl
 starts-any (x ∷ xs) h =
     ⊎_elim
-    (λ (t : is_shown x ≡ true). t ∙ sym (ap (λ b. b || list_any is_shown xs) t))
-    (λ (t : is_shown x ≡ false). let ne : kind_of x.says ≡ 0 → ⊥ = eqb-false (kind_of x.says) 0 t in
-    t ∙ sym (ap (λ b. b || list_any is_shown xs) t
-    ∙ any-nothing is_shown xs (all-weaker (λ e. kind_of x.says ≤ kind_of e.says) (λ e. is_shown e ≡ false) (λ e q. ne_eqb (kind_of e.says) 0 (λ z. ne (omega arith))) xs h.0)))
-    (cases_Bool (is_shown x))
+    (λ (t : tells_shown x ≡ true). t ∙ sym (ap (λ b. b || list_any tells_shown xs) t))
+    (λ (t : tells_shown x ≡ false). let ne : kind_of x.says ≡ 0 → ⊥ = eqb-false (kind_of x.says) 0 t in
+    t ∙ sym (ap (λ b. b || list_any tells_shown xs) t
+    ∙ any-nothing tells_shown xs (all-weaker (λ e. kind_of x.says ≤ kind_of e.says) (λ e. tells_shown e ≡ false) (λ e q. ne_eqb (kind_of e.says) 0 (λ z. ne (omega arith))) xs h.0)))
+    (cases_Bool (tells_shown x))
 
 -- ---- the entries of a file
 
@@ -147,7 +149,7 @@ module _ {Id : Type 0} (same : Id → Id → Bool) (file : Id → FileModel) (o 
     (one_file : (i j : Id) → same i j ≡ true → file i ≡ file j) (some_line : (i : Id) → 0 < line_count (file i))
     (config : Config) (xs : List (InFile Id)) (entries : List Entry)
     (perm : IsPermutation (all_entries same file config xs) entries) (up : IsSortedBy is_below entries)
-    (f : ℕ) (id : Id) (at : IsAt (file_ids same xs) f id) where
+    (f : ℕ) (id : Id) (at : IsIdAt (file_ids same xs) f id) where
   -- the entries as they were given
   abbrev all : List Entry
   all = all_entries same file config xs
@@ -284,8 +286,8 @@ module _ {Id : Type 0} (same : Id → Id → Bool) (file : Id → FileModel) (o 
       let inside : nat_lt l (line_count (file id)) ≡ true = lt-ltb l (line_count (file id)) h in
       let shows_line : (x : Labelled) → Bool = λ x. lines.shows config (first_line (file id) x) (last_line (file id) x) l in
       starts-any (bucket l) (kinds-rise f l (bucket l) (bucket-on l) (bucket-rises l))
-      ∙ any-picked l is_shown entries ∙ sym (list_any-IsPermutation (pick l is_shown) all entries perm) ∙ sym (any-picked l is_shown all)
-      ∙ ap (list_any is_shown) (given-said l)
+      ∙ any-picked l tells_shown entries ∙ sym (list_any-IsPermutation (pick l tells_shown) all entries perm) ∙ sym (any-picked l tells_shown all)
+      ∙ ap (list_any tells_shown) (given-said l)
       ∙ marks.any-said same file o config (file_ids same xs) f id place model (some_line id) l inside xs []
       ∙ sym (ap (λ b. b && list_any shows_line s.labels) inside)
 
@@ -334,10 +336,19 @@ module _ {Id : Type 0} (same : Id → Id → Bool) (file : Id → FileModel) (o 
       ∙ steps-lines (λ l. marks_of (bucket l)) (lines.is_shown config (file id) s.labels) (line_count (file id)) (none_past config s)
 
   -- a line's marks stand in the order of their lanes
-  marks-fit : (l : ℕ) → do_fit (lane_count s) (marks_of (bucket l)) ≡ true
-  marks-fit l =
+  lanes-ascend : (l : ℕ) → ascend_from (lane_count s) 0 (multis_in (marks_of (bucket l))) ≡ true
+  lanes-ascend l =
       ap (ascend_from (lane_count s) 0) (multis-are l)
       ∙ marks-ascend (file id) l (lane_count s) 0 0 (multi_labels (file id) s.labels) (omega arith) (omega arith)
+
+  -- its labels in that of their starts
+  starts-ascend : (l : ℕ) → starts_in_order (singles_in (marks_of (bucket l))) ≡ true
+  starts-ascend l =
+      ap starts_in_order (marks-said single_of refl (bucket l))
+      ∙ ascends-starts (singles_in (bucket l)) (singles-ascend f l (bucket l) (bucket-on l) (bucket-rises l))
+
+  marks-fit : (l : ℕ) → do_fit (lane_count s) (marks_of (bucket l)) ≡ true
+  marks-fit l = rw (lanes-ascend l, starts-ascend l) refl
 
   -- so do those of each step
   pub snippet-fits : AllByRecursion (λ step. does_step_fit (lane_count s) step ≡ true) (steps_of part)

@@ -5,7 +5,7 @@ use Rattle.std.specs.List.{AllByRecursion}
 use Rattle.std.proofs.lemmas.Bool.{cases_Bool, eqb-true, eq-eqb, ne_eqb}
 use Rattle.codespan_base.specs.Labels.{first_seen}
 use Rattle.codespan_picture.specs.Snippets.{InFile}
-use Rattle.codespan_reporting.specs.Inner.PlacedLabels.{AreApart, IsAt, file_ids, file_place}
+use Rattle.codespan_reporting.specs.Inner.PlacedLabels.{AreApart, IsIdAt, file_ids, file_place}
 use Rattle.codespan_reporting.proofs.FileOrder.{has}
 use Rattle.codespan_laws.proofs.SortedLists.{all-weaker, all-filter, all-pass}
 
@@ -45,7 +45,7 @@ module _ {Id : Type 0} (same : Id → Id → Bool) (o : IsEquivalence same) wher
   place-later j js i f = ap (λ b. cond (not b) (1 + file_place same js i) 0) f ∙ omega arith
 
   -- what holds of each id holds of that at a place
-  at-all : (P : Id → Type 0) (ids : List Id) (f : ℕ) (id : Id) → AllByRecursion P ids → IsAt ids f id → P id
+  at-all : (P : Id → Type 0) (ids : List Id) (f : ℕ) (id : Id) → AllByRecursion P ids → IsIdAt ids f id → P id
   at-all P [] f id h a = absurd a
   at-all P (j ∷ js) zero id h a = subst P a h.0
   at-all P (j ∷ js) (suc f) id h a = at-all P js f id h.1 a
@@ -56,7 +56,7 @@ module _ {Id : Type 0} (same : Id → Id → Bool) (o : IsEquivalence same) wher
       both_ways _ _ (λ t. let k : c ≡ suc b = eqb-true c (suc b) t in eq-eqb a b (omega arith)) (λ t. let k : a ≡ b = eqb-true a b t in eq-eqb c (suc b) (omega arith))
 
   -- of ids that differ the one at a place is equal to those that have the place
-  place-is : (ids : List Id) (f : ℕ) (id : Id) → Differ ids → IsAt ids f id → (i : Id) → (file_place same ids i == f) ≡ same id i
+  place-is : (ids : List Id) (f : ℕ) (id : Id) → Differ ids → IsIdAt ids f id → (i : Id) → (file_place same ids i == f) ≡ same id i
   place-is [] f id d a i = absurd a
   place-is (j ∷ js) zero id d a i =
       ⊎_elim
@@ -71,11 +71,11 @@ module _ {Id : Type 0} (same : Id → Id → Bool) (o : IsEquivalence same) wher
       (cases_Bool (same j i))
 
   -- the id at a place of a diagnostic's files is equal to those of the labels there
-  pub file_place-at : (xs : List (InFile Id)) (f : ℕ) (id : Id) → IsAt (file_ids same xs) f id → (i : Id) → (file_place same (file_ids same xs) i == f) ≡ same id i
+  pub file_place-at : (xs : List (InFile Id)) (f : ℕ) (id : Id) → IsIdAt (file_ids same xs) f id → (i : Id) → (file_place same (file_ids same xs) i == f) ≡ same id i
   file_place-at xs f id a i = place-is (file_ids same xs) f id (first_seen-differ (map (λ (x : InFile Id). x.id) xs)) a i
 
 -- the id at a place
-pub at-get : {Id : Type 0} (ids : List Id) (f : ℕ) (d : Id) → f < length ids → IsAt ids f (get_or ids f d)
+pub at-get : {Id : Type 0} (ids : List Id) (f : ℕ) (d : Id) → f < length ids → IsIdAt ids f (get_or ids f d)
 at-get [] f d h = absurd (omega arith)
 at-get (j ∷ js) zero d h = refl
 at-get (j ∷ js) (suc f) d h = at-get js f d (omega arith)
@@ -84,7 +84,7 @@ at-get (j ∷ js) (suc f) d h = at-get js f d (omega arith)
 
 module _ {Id : Type 0} (same : Id → Id → Bool) (o : IsEquivalence same) where
   -- an id that is the same as the one at a place has that place
-  pub guessed-place : (ids : List Id) (k : ℕ) (j i : Id) → AreApart same ids → IsAt ids k j → same j i ≡ true → k ≡ file_place same ids i
+  pub guessed-place : (ids : List Id) (k : ℕ) (j i : Id) → AreApart same ids → IsIdAt ids k j → same j i ≡ true → k ≡ file_place same ids i
   guessed-place ids k j i apart at t = sym (eqb-true (file_place same ids i) k (place-is same o ids k j apart at i ∙ t))
 
   -- an id that is none of these has the place after them

@@ -3,7 +3,7 @@ use Rattle.std.proofs.Common.{◌≡◌, ℕ, ◌+◌, ◌-◌, ◌<◌, ◌≤�
 use Rattle.std.specs.List.{prefix_len}
 use Rattle.std.proofs.lemmas.List.{drop-map, take-map, length-map, get_or-map}
 use Rattle.codespan_reporting.specs.declared.term.views.entry.Entry.{Entry as GivenEntry}
-use Rattle.codespan_reporting.specs.Inner.Entries.{Entry, is_shown, is_on_line}
+use Rattle.codespan_reporting.specs.Inner.Entries.{Entry, tells_shown, is_on_line}
 use Rattle.codespan_reporting.specs.Inner.GivenEntries.{entry_of}
 use Rattle.codespan_reporting.specs.Inner.Steps.{Step, Draw, groups, walk, gap_after, steps_to}
 use Rattle.codespan_reporting.proofs.FileParts.{next_part, prefix-map}
@@ -64,8 +64,8 @@ pub given_group-len : (xs : List GivenEntry) (at n : ℕ) (d : GivenEntry) → I
 given_group-len xs at n d counted = let g = given_group xs at n d counted in (sym g.long ∙ g.next.len, g.next.some)
 
 -- the count of those in front that say that their line is shown
-shown-given : (m : ℕ) (g : List GivenEntry) → m ≡ prefix_len (λ e. is_shown (entry_of e)) g → m ≡ prefix_len is_shown (given g)
-shown-given m g is = is ∙ sym (prefix-map entry_of is_shown g)
+shown-given : (m : ℕ) (g : List GivenEntry) → m ≡ prefix_len (λ e. tells_shown (entry_of e)) g → m ≡ prefix_len tells_shown (given g)
+shown-given m g is = is ∙ sym (prefix-map entry_of tells_shown g)
 
 -- the steps up to a shown line: what stands before it, and the line itself
 abbrev pub shown_steps : List GivenEntry → ℕ → ℕ → ℕ → ℕ → GivenEntry → Option ℕ → List Step
@@ -78,7 +78,7 @@ steps_left xs from at was = walk was (slice_range (given xs) from at) (groups (d
 
 -- a line that is shown is next: the steps up to it, and then the others
 pub given-shown : (xs : List GivenEntry) (at n m from : ℕ) (d : GivenEntry) (was : Option ℕ) → IsCounted xs at n d
-    → m ≡ prefix_len (λ e. is_shown (entry_of e)) (next_part xs at n) → length (given_without m (next_part xs at n)) < length (next_part xs at n)
+    → m ≡ prefix_len (λ e. tells_shown (entry_of e)) (next_part xs at n) → length (given_without m (next_part xs at n)) < length (next_part xs at n)
     → steps_left xs from at was
     ≡ shown_steps xs at n m from d was ++ steps_left xs (at + length (next_part xs at n)) (at + length (next_part xs at n)) (Some (index_at xs at d))
 given-shown xs at n m from d was counted is less =
@@ -88,20 +88,20 @@ given-shown xs at n m from d was counted is less =
     let skipped : slice_range (given xs) from at ≡ given (slice_range xs from at) = cut-of_map entry_of (at - from) from xs in
     let ends : slice_range (given xs) (at + length (next_part xs at n)) (at + length (next_part xs at n)) ≡ [] = slice_range-none (given xs) (at + length (next_part xs at n)) in
     let opened = steps-shown (given xs) at n m (entry_of d) was (slice_range (given xs) from at) g.next
-    (shown-given m (next_part xs at n) is ∙ ap (prefix_len is_shown) (sym g.group)) (omega (arith, own_length, g.long, less)) in
+    (shown-given m (next_part xs at n) is ∙ ap (prefix_len tells_shown) (sym g.group)) (omega (arith, own_length, g.long, less)) in
     opened
     ∙ (λ i. (gap_after was (g.line i) (skipped i) (own i) ++ Draw (g.line i) (own i) ∷ [])
     ++ walk (Some (g.line i)) (sym ends i) (groups (drop (at + g.long i) (given xs))))
 
 -- a line that is not shown is next: its entries are skipped
 pub given-hidden : (xs : List GivenEntry) (at n m from : ℕ) (d : GivenEntry) (was : Option ℕ) → IsCounted xs at n d
-    → m ≡ prefix_len (λ e. is_shown (entry_of e)) (next_part xs at n) → length (next_part xs at n) ≤ length (given_without m (next_part xs at n)) → from ≤ at
+    → m ≡ prefix_len (λ e. tells_shown (entry_of e)) (next_part xs at n) → length (next_part xs at n) ≤ length (given_without m (next_part xs at n)) → from ≤ at
     → steps_left xs from at was ≡ steps_left xs from (at + length (next_part xs at n)) was
 given-hidden xs at n m from d was counted is more order =
     let g = given_group xs at n d counted in
     let own : without m (part (given xs) at n) ≡ given (given_without m (next_part xs at n)) = ap (without m) g.group ∙ without-given m (next_part xs at n) in
     let own_length : length (without m (part (given xs) at n)) ≡ length (given_without m (next_part xs at n)) = ap length own ∙ length-map (given_without m (next_part xs at n)) entry_of in
     steps-hidden (given xs) at n m (entry_of d) was (slice_range (given xs) from at) _ g.next
-    (shown-given m (next_part xs at n) is ∙ ap (prefix_len is_shown) (sym g.group)) (omega (arith, own_length, g.long, more))
+    (shown-given m (next_part xs at n) is ∙ ap (prefix_len tells_shown) (sym g.group)) (omega (arith, own_length, g.long, more))
     (slice_range-more (given xs) from at n order (omega (arith, counted.inside, length-map xs entry_of)) g.next.len)
     ∙ (λ i. walk was (slice_range (given xs) from (at + g.long i)) (groups (drop (at + g.long i) (given xs))))

@@ -5,7 +5,7 @@ use Rattle.std.proofs.Math.Nat.{add-sub_cancel_left}
 use Rattle.std.proofs.Math.Seq.{take-add, take-length}
 use Rattle.std.proofs.lemmas.List.{get_or-drop, length-take-le, append_assoc, drop-drop}
 use Rattle.std.proofs.lemmas.Bool.{cases_Bool, eq-eqb}
-use Rattle.codespan_reporting.specs.Inner.Entries.{Entry, is_shown, is_on_line}
+use Rattle.codespan_reporting.specs.Inner.Entries.{Entry, tells_shown, is_on_line}
 use Rattle.codespan_reporting.specs.Inner.Steps.{Draw, groups, marks_of, gap_after, walk}
 use Rattle.codespan_reporting.proofs.EntryGroups.{groups-cons}
 
@@ -43,9 +43,9 @@ walk-shown was skipped (x ∷ group) gs d l is less =
     ⊎_elim
     (λ t. rw (← is) (rw t refl))
     (λ f. absurd (omega (arith, less, ap (λ n. length (drop n (x ∷ group))) (none f))))
-    (cases_Bool (is_shown x))
+    (cases_Bool (tells_shown x))
   where
-    none : is_shown x ≡ false → prefix_len is_shown (x ∷ group) ≡ 0
+    none : tells_shown x ≡ false → prefix_len tells_shown (x ∷ group) ≡ 0
     none f = rw f refl
 
 -- a group of a line that is not
@@ -56,9 +56,9 @@ walk-hidden was skipped (x ∷ group) gs some more =
     ⊎_elim
     (λ t. absurd (omega (arith, more, fewer t)))
     (λ f. rw f refl)
-    (cases_Bool (is_shown x))
+    (cases_Bool (tells_shown x))
   where
-    fewer : is_shown x ≡ true → length (marks_of (x ∷ group)) ≤ length group
+    fewer : tells_shown x ≡ true → length (marks_of (x ∷ group)) ≤ length group
     fewer t = simp length-drop (rw t (omega arith))
 
 -- ---- the walk by places
@@ -113,7 +113,7 @@ next_group xs at n d inside is' le' =
 
 -- a line that is shown is next: the steps up to it, and then the others
 pub steps-shown : (xs : List Entry) (at n m : ℕ) (d : Entry) (was : Option ℕ) (skipped : List Entry) → IsGroup xs at n d
-    → m ≡ prefix_len is_shown (part xs at n) → length (without m (part xs at n)) < length (part xs at n)
+    → m ≡ prefix_len tells_shown (part xs at n) → length (without m (part xs at n)) < length (part xs at n)
     → walk was skipped (groups (drop at xs))
     ≡ (gap_after was (get_or xs at d).line skipped (without m (part xs at n)) ++ Draw (get_or xs at d).line (without m (part xs at n)) ∷ [])
     ++ walk (Some (get_or xs at d).line) [] (groups (drop (at + length (part xs at n)) xs))
@@ -131,7 +131,7 @@ steps-shown xs at n m d was skipped next is less =
 
 -- a line that is not shown is next: its entries are skipped
 pub steps-hidden : (xs : List Entry) (at n m : ℕ) (d : Entry) (was : Option ℕ) (skipped joined : List Entry) → IsGroup xs at n d
-    → m ≡ prefix_len is_shown (part xs at n) → length (part xs at n) ≤ length (without m (part xs at n))
+    → m ≡ prefix_len tells_shown (part xs at n) → length (part xs at n) ≤ length (without m (part xs at n))
     → joined ≡ skipped ++ part xs at n
     → walk was skipped (groups (drop at xs)) ≡ walk was joined (groups (drop (at + length (part xs at n)) xs))
 steps-hidden xs at n m d was skipped joined next is more joins =

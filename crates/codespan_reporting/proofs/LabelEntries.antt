@@ -9,7 +9,7 @@ use Rattle.std.proofs.lemmas.List.Elements.{filter-append}
 use Rattle.codespan_base.specs.declared.term.config.Config.{Config}
 use Rattle.codespan_base.specs.FileModel.{FileModel, line_count, line_start}
 use Rattle.codespan_base.specs.Labels.{Labelled, LaneMark, Part, Top, Left, Bottom, first_line, last_line, is_single, drawn_label, part_on, mark_of}
-use Rattle.codespan_reporting.specs.Inner.Entries.{Entry, Says, Shown, Single, Multi, LabelPlace, kind_of, is_shown, is_on_line, entry_on, entry_of_mark, line_entries, entries_of}
+use Rattle.codespan_reporting.specs.Inner.Entries.{Entry, Says, Shown, Single, Multi, LabelPlace, kind_of, tells_shown, is_on_line, entry_on, entry_of_mark, line_entries, entries_of}
 use Rattle.codespan_reporting.specs.Inner.GivenPadding.{is_mark}
 use Rattle.codespan_picture.specs.Lines.{shows}
 use Rattle.codespan_picture.specs.Lookups.{is_around, is_asked}
@@ -234,11 +234,11 @@ module _ (config : Config) (f : FileModel) (at : LabelPlace) (x : Labelled) wher
       by_tests false false c (Some m) = refl
 
   -- whether one of them says that the line is shown
-  pub shown-of_line : (l : ℕ) → list_any is_shown (line_entries config f at x l) ≡ shows config (first_line f x) (last_line f x) l
+  pub shown-of_line : (l : ℕ) → list_any tells_shown (line_entries config f at x l) ≡ shows config (first_line f x) (last_line f x) l
   shown-of_line l = by_tests (shows config (first_line f x) (last_line f x) l) (is_single f x) (first_line f x == l) (mark_of at.lane x (part_on f l x))
     where
       by_tests : (a b c : Bool) (o : Option LaneMark)
-          → list_any is_shown (cond a (entry_on config f at x l Shown ∷ []) [] ++ cond b (cond c (entry_on config f at x l (Single at.place (drawn_label f x)) ∷ []) []) (entry_of_mark config f at x l o)) ≡ a
+          → list_any tells_shown (cond a (entry_on config f at x l Shown ∷ []) [] ++ cond b (cond c (entry_on config f at x l (Single at.place (drawn_label f x)) ∷ []) []) (entry_of_mark config f at x l o)) ≡ a
       by_tests true b c o = refl
       by_tests false true true o = refl
       by_tests false true false o = refl

@@ -25,42 +25,32 @@ module _ {Id : Type 0} (same : Id → Id → Bool) (o : IsEquivalence same) wher
       (λ (f : same j i ≡ false). omega (arith, place-later same o j js i f, has-place js i (sym (ap (λ b. b || has same o js i) f) ∙ h)))
       (cases_Bool (same j i))
 
-  module _ (h : Id → ℕ) (alike : (i j : Id) → same i j ≡ true → h i ≡ h j) where
-    -- what is counted at an id's place is what is counted for it
-    pub counted-at : (ids : List Id) (i : Id) → has same o ids i ≡ true → get_or (map h ids) (file_place same ids i) 0 ≡ h i
-    counted-at [] i h = absurd (true≢false (sym h))
-    counted-at (j ∷ js) i there =
+  module _ {A : Type 0} (h : Id → A) (alike : (i j : Id) → same i j ≡ true → h i ≡ h j) where
+    -- what is kept at an id's place is what is kept for it
+    pub kept-at : (ids : List Id) (i : Id) (d : A) → has same o ids i ≡ true → get_or (map h ids) (file_place same ids i) d ≡ h i
+    kept-at [] i d h = absurd (true≢false (sym h))
+    kept-at (j ∷ js) i d there =
         ⊎_elim
-        (λ (t : same j i ≡ true). ap (λ k. get_or (map h (j ∷ js)) k 0) (place-here same o j js i t) ∙ alike j i t)
-        (λ (f : same j i ≡ false). ap (λ k. get_or (map h (j ∷ js)) k 0) (place-later same o j js i f) ∙ counted-at js i (sym (ap (λ b. b || has same o js i) f) ∙ there))
+        (λ (t : same j i ≡ true). ap (λ k. get_or (map h (j ∷ js)) k d) (place-here same o j js i t) ∙ alike j i t)
+        (λ (f : same j i ≡ false). ap (λ k. get_or (map h (j ∷ js)) k d) (place-later same o j js i f) ∙ kept-at js i d (sym (ap (λ b. b || has same o js i) f) ∙ there))
         (cases_Bool (same j i))
 
-  module _ (h : Id → ℕ) (i : Id) (m : ℕ) where
-    -- so many more for the id
-    abbrev pub more_of : Id → ℕ
-    more_of j = h j + (if same j i then m else 0)
-
-    -- nothing more for the others
-    others : (j : Id) → same j i ≡ true → (ks : List Id) → AllByRecursion (λ k. same j k ≡ false) ks → map more_of ks ≡ map h ks
-    others j t [] apart = refl
-    others j t (k ∷ ks) apart =
+  module _ {A : Type 0} (h more : Id → A) (i : Id) (v : A) (own : (j : Id) → same j i ≡ true → more j ≡ v) (others : (j : Id) → same j i ≡ false → more j ≡ h j) where
+    -- nothing changes for ids that differ from one that is the same as this
+    others-stay : (j : Id) → same j i ≡ true → (ks : List Id) → AllByRecursion (λ k. same j k ≡ false) ks → map more ks ≡ map h ks
+    others-stay j t [] apart = refl
+    others-stay j t (k ∷ ks) apart =
         let not_it : same k i ≡ false = o.symm k i ∙ sym (o.congr j i k t) ∙ apart.0 in
-        let first : more_of k ≡ h k = ap (λ (b : Bool). h k + (if b then m else 0)) not_it ∙ omega arith in
-        ap (λ n. n ∷ map more_of ks) first ∙ ap (λ (ns : List ℕ). h k ∷ ns) (others j t ks apart.1)
+        λ n. others k not_it n ∷ others-stay j t ks apart.1 n
 
-    -- where the number at the id's place grows, the others stay
-    pub counted-more : (ids : List Id) → Differ same o ids → has same o ids i ≡ true
-        → set (map h ids) (file_place same ids i) (get_or (map h ids) (file_place same ids i) 0 + m) ≡ map more_of ids
-    counted-more [] differ there = absurd (true≢false (sym there))
-    counted-more (j ∷ js) differ there =
+    -- where what is kept at the id's place changes, the others stay
+    pub set-at : (ids : List Id) → Differ same o ids → has same o ids i ≡ true → set (map h ids) (file_place same ids i) v ≡ map more ids
+    set-at [] differ there = absurd (true≢false (sym there))
+    set-at (j ∷ js) differ there =
         ⊎_elim
-        (λ (t : same j i ≡ true). ap (λ k. set (map h (j ∷ js)) k (get_or (map h (j ∷ js)) k 0 + m)) (place-here same o j js i t)
-        ∙ ap (λ (b : Bool). (h j + (if b then m else 0)) ∷ map h js) (sym t)
-        ∙ ap (λ (ns : List ℕ). more_of j ∷ ns) (sym (others j t js differ.0)))
-        (λ (f : same j i ≡ false). let first : more_of j ≡ h j = ap (λ (b : Bool). h j + (if b then m else 0)) f ∙ omega arith in
-        ap (λ k. set (map h (j ∷ js)) k (get_or (map h (j ∷ js)) k 0 + m)) (place-later same o j js i f)
-        ∙ ap (λ (ns : List ℕ). h j ∷ ns) (counted-more js differ.1 (sym (ap (λ b. b || has same o js i) f) ∙ there))
-        ∙ ap (λ n. n ∷ map more_of js) (sym first))
+        (λ (t : same j i ≡ true). ap (λ k. set (map h (j ∷ js)) k v) (place-here same o j js i t) ∙ (λ n. sym (own j t) n ∷ sym (others-stay j t js differ.0) n))
+        (λ (f : same j i ≡ false). ap (λ k. set (map h (j ∷ js)) k v) (place-later same o j js i f)
+        ∙ (λ n. sym (others j f) n ∷ set-at js differ.1 (sym (ap (λ b. b || has same o js i) f) ∙ there) n))
         (cases_Bool (same j i))
 
   module _ (file : Id → FileModel) where

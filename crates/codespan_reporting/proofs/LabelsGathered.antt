@@ -5,7 +5,7 @@ use Rattle.std.specs.Cmp.{IsEquivalence}
 use Rattle.std.specs.List.{AllByRecursion}
 use Rattle.std.proofs.lemmas.Bool.{eq-eqb}
 use Rattle.std.proofs.lemmas.Grind.{flat_map-append}
-use Rattle.std.proofs.lemmas.List.{append-nil, get_or-map, length-map, length-take-le, map-append, take-append-drop, take_all, take_more}
+use Rattle.std.proofs.lemmas.List.{append-nil, length-map, length-take-le, map-append, take-append-drop, take_all}
 use Rattle.std.proofs.lemmas.List.Sums.{count_by-le-length}
 use Rattle.codespan_base.specs.declared.term.config.Config.{Config}
 use Rattle.codespan_base.specs.declared.diagnostic.Label.{Label}
@@ -18,12 +18,12 @@ use Rattle.codespan_reporting.specs.Inner.GivenEntries.{Adds, AddsOf, IsLineOf, 
 use Rattle.codespan_picture.specs.Lines.{shows}
 use Rattle.codespan_picture.specs.Lookups.{Refusals, asked_lines, asked_of, first_refusal, label_asked, label_lookups, of_label}
 use Rattle.codespan_picture.specs.Picture.{label_of}
-use Rattle.codespan_reporting.specs.Inner.PlacedLabels.{IsAt, entries_after, file_ids, file_place, is_multi_of, lane_after, place_after}
+use Rattle.codespan_reporting.specs.Inner.PlacedLabels.{IsIdAt, entries_after, file_ids, file_place, is_multi_of, lane_after, place_after}
 use Rattle.codespan_picture.specs.Snippets.{InFile}
-use Rattle.codespan_reporting.proofs.FileOrder.{file_ids-has, has}
-use Rattle.codespan_reporting.proofs.FilePlaces.{Differ, file_place-at, first_seen-differ}
+use Rattle.codespan_reporting.proofs.FilePlaces.{file_place-at}
 use Rattle.codespan_reporting.proofs.Gathering.{Adds-as, Adds-both}
-use Rattle.codespan_reporting.proofs.LabelPlaces.{counted-at, counted-more, entries_after-more, has-place, lane_after-alike, lane_after-more}
+use Rattle.codespan_reporting.proofs.LabelPlaces.{entries_after-more, kept-at, lane_after-alike, lane_after-more, set-at}
+use Rattle.codespan_reporting.proofs.LabelTurns.{IsLabelTurn, before, before-more, has-file, ids-differ}
 use Rattle.codespan_reporting.proofs.Refusals.{first_refusal-none, first_refusal-some}
 use Rattle.codespan_laws.proofs.SortedLists.{all-append, all-both, all-mapped, all-weaker}
 
@@ -56,18 +56,10 @@ module _ (config : Config) (f : FileModel) (at : LabelPlace) (x : Labelled) wher
       all-append (λ (e : Entry). e.file ≡ at.file) (line_entries config f at x l) (flat_map (line_entries config f at x) ls)
       (all-append (λ (e : Entry). e.file ≡ at.file) (shown_entries config f at x l) (mark_entries config f at x l) (own_shown l) (own_marks l)) (own_lines ls)
 
--- two functions that agree
-map-agree : {X Y : Type 0} (g h : X → Y) → ((x : X) → g x ≡ h x) → (xs : List X) → map g xs ≡ map h xs
-map-agree g h agree xs = λ i. map (λ x. agree x i) xs
-
 -- as many zeros as there are elements
 zeros-are : {X : Type 0} (xs : List X) → map {B = ℕ} (λ _. 0) xs ≡ replicate (length xs) 0
 zeros-are [] = refl
 zeros-are (x ∷ xs) = ap (λ (ns : List ℕ). 0 ∷ ns) (zeros-are xs)
-
--- the labels before a place
-abbrev pub before : {Id : Type 0} → List (Label Id) → ℕ → List (InFile Id)
-before labels place = map label_of (take place labels)
 
 -- the labels before this place are done with: the next lanes are counted, what the labels say is there, and no lookup was refused
 pub record AreGathered {Id : Type 0} (same : Id → Id → Bool) (file : Id → FileModel) (refusal : Refusals Id) (config : Config) (labels : List (Label Id)) (ids : List Id)
@@ -83,33 +75,24 @@ module _ {Id : Type 0} (same : Id → Id → Bool) (file : Id → FileModel) (o 
   Are = AreGathered same file refusal config labels ids
 
   module _ (place : ℕ) (label : Label Id) (inside : place < length labels) (is : label ≡ get_or labels place label) where
+    -- it is the label's turn
+    abbrev turn : IsLabelTurn same labels ids place label
+    turn = record { are = are; inside = inside; is = is }
+
     -- the labels before the next place
-    before-more : before labels (place + 1) ≡ before labels place ++ label_of label ∷ []
-    before-more =
-        ap (map label_of) (take_more labels place label inside ∙ ap (λ (l : Label Id). take place labels ++ l ∷ []) (sym is)) ∙ map-append label_of (take place labels) (label ∷ [])
+    one_more : before labels (place + 1) ≡ before labels place ++ label_of label ∷ []
+    one_more = before-more same o labels ids place label turn
 
     -- how many these are
     before-length : length (before labels place) ≡ place
     before-length = length-map (take place labels) label_of ∙ length-take-le place labels (omega arith)
-
-    -- the label's file is one of those
-    pub has-file : has same o ids label.file_id ≡ true
-    has-file =
-        ap (λ (js : List Id). has same o js label.file_id) are
-        ∙ ap (λ (l : Label Id). has same o (file_ids same (map label_of labels)) l.file_id) is
-        ∙ ap (λ (x : InFile Id). has same o (file_ids same (map label_of labels)) x.id) (sym (get_or-map label_of labels place label (label_of label) inside))
-        ∙ file_ids-has same o (map label_of labels) place (label_of label) (omega (arith, length-map labels label_of))
-
-    -- its place is below their number
-    pub file-inside : file_place same ids label.file_id < length ids
-    file-inside = has-place same o ids label.file_id has-file
 
     -- its lane is below its place
     pub lane-is : (lanes : List ℕ) (entries : List GivenEntry) → Are place lanes entries
         → get_or lanes (file_place same ids label.file_id) 0 ≡ lane_after same file (before labels place) label.file_id
     lane-is lanes entries g =
         ap (λ (ns : List ℕ). get_or ns (file_place same ids label.file_id) 0) g.lanes_are
-        ∙ counted-at same o (lane_after same file (before labels place)) (lane_after-alike same o file (before labels place)) ids label.file_id has-file
+        ∙ kept-at same o (lane_after same file (before labels place)) (lane_after-alike same o file (before labels place)) ids label.file_id 0 (has-file same o labels ids place label turn)
 
     pub lane-room : (lanes : List ℕ) (entries : List GivenEntry) → Are place lanes entries → get_or lanes (file_place same ids label.file_id) 0 ≤ place
     lane-room lanes entries g =
@@ -118,8 +101,8 @@ module _ {Id : Type 0} (same : Id → Id → Bool) (file : Id → FileModel) (o 
     -- an entry of the label's file is one of the files with these ids
     of_files : (e : GivenEntry) → IsLineOf (file label.file_id) e.line → e.file ≡ file_place same ids label.file_id → IsOfFiles file ids e
     of_files e is_line own id there =
-        let at : IsAt (file_ids same (map label_of labels)) (file_place same (file_ids same (map label_of labels)) label.file_id) id =
-        subst (λ (js : List Id). IsAt js (file_place same js label.file_id) id) are (subst (λ k. IsAt ids k id) own there) in
+        let at : IsIdAt (file_ids same (map label_of labels)) (file_place same (file_ids same (map label_of labels)) label.file_id) id =
+        subst (λ (js : List Id). IsIdAt js (file_place same js label.file_id) id) are (subst (λ k. IsIdAt ids k id) own there) in
         let alike : same id label.file_id ≡ true =
         sym (file_place-at same o (map label_of labels) _ id at label.file_id) ∙ eq-eqb _ _ refl in
         subst (λ (f : FileModel). IsLineOf f e.line) (sym (one_file id label.file_id alike)) is_line
@@ -151,10 +134,15 @@ module _ {Id : Type 0} (same : Id → Id → Bool) (file : Id → FileModel) (o 
               (all-both (λ e. IsLineOf f e.line) (λ e. e.file ≡ file_place same ids label.file_id) adds.more adds.each own);
         } in
         Adds-as (IsOfFiles file ids) [] more _ _
-        (ap (entries_after same file config ids []) before-more
+        (ap (entries_after same file config ids []) one_more
         ∙ entries_after-more same o file config ids [] (before labels place) (label_of label)
         ∙ ap (λ (at : LabelPlace). entries_after same file config ids [] (before labels place) ++ entries_of config f at x) (sym (here-is lanes entries g)))
         (Adds-both (IsOfFiles file ids) [] entries more _ _ g.added widened)
+
+    -- the lane of the next label after this one
+    lane-more : (j : Id) → lane_after same file (before labels (place + 1)) j
+        ≡ lane_after same file (before labels place) j + (if same j label.file_id then (if is_single (file label.file_id) (label_of label).label then 0 else 1) else 0)
+    lane-more j = ap (λ xs. lane_after same file xs j) one_more ∙ lane_after-more same o file (before labels place) (label_of label) j
 
     -- one more label
     pub gathered-more : (lanes next : List ℕ) (entries more : List GivenEntry) → Are place lanes entries
@@ -166,15 +154,14 @@ module _ {Id : Type 0} (same : Id → Id → Bool) (file : Id → FileModel) (o 
         let m : ℕ = if is_single (file label.file_id) (label_of label).label then 0 else 1 in
         record {
           lanes_are =
-              counted
-              ∙ ap (λ (ns : List ℕ). set ns (file_place same ids label.file_id) (get_or ns (file_place same ids label.file_id) 0 + m)) g.lanes_are
-              ∙ counted-more same o (lane_after same file (before labels place)) label.file_id m ids
-              (subst (Differ same o) (sym are) (first_seen-differ same o (map (λ (x : InFile Id). x.id) (map label_of labels)))) has-file
-              ∙ map-agree _ (lane_after same file (before labels (place + 1)))
-              (λ id. sym (lane_after-more same o file (before labels place) (label_of label) id) ∙ ap (λ xs. lane_after same file xs id) (sym before-more)) ids;
+              counted ∙ (λ i. set (g.lanes_are i) (file_place same ids label.file_id) (lane-is lanes entries g i + m))
+              ∙ set-at same o (lane_after same file (before labels place)) (lane_after same file (before labels (place + 1))) label.file_id _
+              (λ j t. lane-more j ∙ ap (λ (b : Bool). lane_after same file (before labels place) j + (if b then m else 0)) t ∙ ap (λ n. n + m) (lane_after-alike same o file (before labels place) j label.file_id t))
+              (λ j f. lane-more j ∙ ap (λ (b : Bool). lane_after same file (before labels place) j + (if b then m else 0)) f ∙ omega arith)
+              ids (ids-differ same o labels ids place label turn) (has-file same o labels ids place label turn);
           added = added-more lanes entries more g adds;
           answered =
-              ap (λ xs. first_refusal refusal (label_lookups config file refusal xs)) before-more
+              ap (λ xs. first_refusal refusal (label_lookups config file refusal xs)) one_more
               ∙ ap (first_refusal refusal) (flat_map-append (label_asked config file refusal) (before labels place) (label_of label ∷ []))
               ∙ first_refusal-none refusal (label_lookups config file refusal (before labels place)) _ g.answered
               ∙ ap (first_refusal refusal) (append-nil (label_asked config file refusal (label_of label))) ∙ none;
@@ -188,7 +175,7 @@ module _ {Id : Type 0} (same : Id → Id → Bool) (file : Id → FileModel) (o 
         let rest = map label_of (drop (place + 1) labels) in
         let whole : map label_of labels ≡ (before labels place ++ label_of label ∷ []) ++ rest =
         ap (map label_of) (sym (take-append-drop (place + 1) labels)) ∙ map-append label_of (take (place + 1) labels) (drop (place + 1) labels)
-        ∙ ap (λ (xs : List (InFile Id)). xs ++ rest) before-more in
+        ∙ ap (λ (xs : List (InFile Id)). xs ++ rest) one_more in
         let asked = label_asked config file refusal in
         ap (λ xs. first_refusal refusal (flat_map asked xs)) whole
         ∙ ap (first_refusal refusal) (flat_map-append asked (before labels place ++ label_of label ∷ []) rest)

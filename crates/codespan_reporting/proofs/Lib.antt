@@ -15,6 +15,7 @@ pub mod Contexts
 pub mod FileOrder
 pub mod LabelFiles
 pub mod LabelPlaces
+pub mod LabelTurns
 pub mod LabelsGathered
 pub mod Askings
 pub mod MarkOrder

@@ -1,14 +1,24 @@
 -- The least start of a file's labels, and the places at which snippets start.
-use Rattle.std.proofs.Common.{◌≡◌, ℕ, Bool, true, false, cond, ◌&&◌, List, [], ◌∷◌, map, filter, Some, None, refl, sym, ap, ◌∙◌}
-use Rattle.std.specs.Prelude.{IfSome, string_bytes, unwrap_or}
+use Rattle.std.proofs.Common.{◌≡◌, ℕ, ◌+◌, Bool, true, false, cond, not, ◌&&◌, ◌||◌, List, [], ◌∷◌, ◌++◌, length, get_or, set, map, filter, Option, Some, None, refl, sym, ap, ◌∙◌, append-nil}
+use Rattle.std.specs.Prelude.{IfSome, string_bytes, min, replicate, unwrap_or, if◌then◌else◌}
+use Rattle.std.specs.Cmp.{IsEquivalence}
+use Rattle.std.proofs.lemmas.List.{map-append}
+use Rattle.std.proofs.lemmas.List.Elements.{filter-append}
+use Rattle.std.proofs.lemmas.List.Sums.{fold-append}
 use Rattle.std.proofs.lemmas.Str.{IsUtf8-string_bytes}
+use Rattle.codespan_base.specs.declared.diagnostic.Label.{Label}
 use Rattle.codespan_base.specs.FileModel.{FileModel}
 use Rattle.codespan_base.specs.Labels.{Labelled, is_primary}
 use Rattle.codespan_picture.specs.declared.given.Locus.{Locus}
 use Rattle.codespan_picture.specs.Given.{place_of_given}
-use Rattle.codespan_reporting.specs.Inner.Loci.{is_asked_label, least_if_any, starts_in}
+use Rattle.codespan_picture.specs.Picture.{label_of}
 use Rattle.codespan_picture.specs.Placed.{IsPlaceIn}
 use Rattle.codespan_picture.specs.Snippets.{InFile, if_any, labelled_file, least, locus_start}
+use Rattle.codespan_reporting.specs.declared.term.views.loci.FileStart.{FileStart}
+use Rattle.codespan_reporting.specs.Inner.Loci.{file_start, is_asked_label, least_if_any, least_with, start_byte, start_with, label_starts}
+use Rattle.codespan_reporting.specs.Inner.PlacedLabels.{file_place}
+use Rattle.codespan_reporting.proofs.LabelPlaces.{kept-at, set-at}
+use Rattle.codespan_reporting.proofs.LabelTurns.{IsLabelTurn, before, before-more, has-file, ids-differ}
 
 -- ---- the least start
 
@@ -19,7 +29,7 @@ least-unwrap (n ∷ ns) = refl
 
 module _ {Id : Type 0} (same : Id → Id → Bool) (file : Id → FileModel) (id : Id) where
   -- the starts of the primary labels of the file
-  primary-starts : (xs : List (InFile Id)) → starts_in same id true xs ≡ map (λ (x : Labelled). x.start) (filter is_primary (labelled_file same file xs id).labels)
+  primary-starts : (xs : List (InFile Id)) → label_starts same id true xs ≡ map (λ (x : Labelled). x.start) (filter is_primary (labelled_file same file xs id).labels)
   primary-starts [] = refl
   primary-starts (x ∷ xs) = by (same id x.id) (primary-starts xs)
     where
@@ -29,31 +39,31 @@ module _ {Id : Type 0} (same : Id → Id → Bool) (file : Id → FileModel) (id
       asked : List (InFile Id)
       asked = filter (is_asked_label same id true) xs
 
-      kept : (c : Bool) → starts_in same id true xs ≡ map (λ (y : Labelled). y.start) (filter is_primary (labelled_file same file xs id).labels)
+      kept : (c : Bool) → label_starts same id true xs ≡ map (λ (y : Labelled). y.start) (filter is_primary (labelled_file same file xs id).labels)
           → map (λ (y : InFile Id). y.label.start) (cond c (x ∷ asked) asked)
           ≡ map (λ (y : Labelled). y.start) (cond c (x.label ∷ filter is_primary (map (λ (y : InFile Id). y.label) own)) (filter is_primary (map (λ (y : InFile Id). y.label) own)))
       kept true rest = ap (λ (ns : List ℕ). x.label.start ∷ ns) rest
       kept false rest = rest
 
-      by : (b : Bool) → starts_in same id true xs ≡ map (λ (y : Labelled). y.start) (filter is_primary (labelled_file same file xs id).labels)
+      by : (b : Bool) → label_starts same id true xs ≡ map (λ (y : Labelled). y.start) (filter is_primary (labelled_file same file xs id).labels)
           → map (λ (y : InFile Id). y.label.start) (cond (b && is_primary x.label) (x ∷ asked) asked)
           ≡ map (λ (y : Labelled). y.start) (filter is_primary (map (λ (y : InFile Id). y.label) (cond b (x ∷ own) own)))
       by true rest = kept (is_primary x.label) rest
       by false rest = rest
 
   -- the starts of all its labels
-  all-starts : (xs : List (InFile Id)) → starts_in same id false xs ≡ map (λ (x : Labelled). x.start) (labelled_file same file xs id).labels
+  all-starts : (xs : List (InFile Id)) → label_starts same id false xs ≡ map (λ (x : Labelled). x.start) (labelled_file same file xs id).labels
   all-starts [] = refl
   all-starts (x ∷ xs) = by (same id x.id) (all-starts xs)
     where
-      by : (b : Bool) → starts_in same id false xs ≡ map (λ (x : Labelled). x.start) (labelled_file same file xs id).labels
+      by : (b : Bool) → label_starts same id false xs ≡ map (λ (x : Labelled). x.start) (labelled_file same file xs id).labels
           → map (λ (x : InFile Id). x.label.start) (cond (b && true) (x ∷ filter (is_asked_label same id false) xs) (filter (is_asked_label same id false) xs))
           ≡ map (λ (x : Labelled). x.start) (map (λ (x : InFile Id). x.label) (cond b (x ∷ filter (λ (x : InFile Id). same id x.id) xs) (filter (λ (x : InFile Id). same id x.id) xs)))
       by true rest = ap (λ (ns : List ℕ). x.label.start ∷ ns) rest
       by false rest = rest
 
   -- the least start of a primary label, where there is one
-  pub locus-primary : (xs : List (InFile Id)) (n : ℕ) → least_if_any (starts_in same id true xs) ≡ Some n → n ≡ locus_start (labelled_file same file xs id).labels
+  locus-primary : (xs : List (InFile Id)) (n : ℕ) → least_if_any (label_starts same id true xs) ≡ Some n → n ≡ locus_start (labelled_file same file xs id).labels
   locus-primary xs n is = by (filter is_primary labels) (ap least_if_any (sym (primary-starts xs)) ∙ is)
     where
       labels : List Labelled
@@ -64,7 +74,7 @@ module _ {Id : Type 0} (same : Id → Id → Bool) (file : Id → FileModel) (id
       by (l ∷ ls) h = cc
 
   -- or that of any label
-  pub locus-any : (xs : List (InFile Id)) (n : ℕ) → least_if_any (starts_in same id true xs) ≡ None → n ≡ unwrap_or (least_if_any (starts_in same id false xs)) 0
+  locus-any : (xs : List (InFile Id)) (n : ℕ) → least_if_any (label_starts same id true xs) ≡ None → n ≡ unwrap_or (least_if_any (label_starts same id false xs)) 0
       → n ≡ locus_start (labelled_file same file xs id).labels
   locus-any xs n none is =
       is ∙ ap (λ (ns : List ℕ). unwrap_or (least_if_any ns) 0) (all-starts xs) ∙ least-unwrap (map (λ (x : Labelled). x.start) labels)
@@ -77,6 +87,99 @@ module _ {Id : Type 0} (same : Id → Id → Bool) (file : Id → FileModel) (id
           → least (map (λ (x : Labelled). x.start) labels) ≡ least (map (λ (x : Labelled). x.start) (if_any ls labels))
       by [] h = refl
       by (l ∷ ls) h = cc
+
+  -- what the labels tell is where the snippet starts
+  pub start-is : (xs : List (InFile Id)) → start_byte (file_start same xs id) ≡ locus_start (labelled_file same file xs id).labels
+  start-is xs = by (least_if_any (label_starts same id true xs)) refl
+    where
+      by : (o : Option ℕ) → least_if_any (label_starts same id true xs) ≡ o → unwrap_or o (unwrap_or (least_if_any (label_starts same id false xs)) 0) ≡ locus_start (labelled_file same file xs id).labels
+      by (Some n) is = locus-primary xs n is
+      by None is = locus-any xs _ is refl
+
+-- ---- one label more
+
+-- the least of some numbers and one more
+least-more : (ns : List ℕ) (n : ℕ) → least_if_any (ns ++ n ∷ []) ≡ Some (least_with (least_if_any ns) n)
+least-more [] n = refl
+least-more (m ∷ ns) n = ap Some (fold-append min m ns (n ∷ []))
+
+module _ {Id : Type 0} (same : Id → Id → Bool) (xs : List (InFile Id)) (x : InFile Id) (id : Id) where
+  -- the start of the label, where it is asked for
+  abbrev own_start : Bool → List ℕ
+  own_start b = if b then x.label.start ∷ [] else []
+
+  -- the starts of labels, with one more
+  starts-more : (only : Bool) → label_starts same id only (xs ++ x ∷ []) ≡ label_starts same id only xs ++ own_start (is_asked_label same id only x)
+  starts-more only =
+      ap (map start) (filter-append (is_asked_label same id only) xs (x ∷ []))
+      ∙ map-append start (filter (is_asked_label same id only) xs) (filter (is_asked_label same id only) (x ∷ []))
+      ∙ ap (λ (ns : List ℕ). label_starts same id only xs ++ ns) (by (is_asked_label same id only x))
+    where
+      start : InFile Id → ℕ
+      start y = y.label.start
+
+      by : (b : Bool) → map start (cond b (x ∷ []) []) ≡ own_start b
+      by true = refl
+      by false = refl
+
+  -- a label of another file tells nothing
+  pub start-others : same id x.id ≡ false → file_start same (xs ++ x ∷ []) id ≡ file_start same xs id
+  start-others f = λ i. record { primary = least_if_any (none true i); any = least_if_any (none false i) }
+    where
+      none : (only : Bool) → label_starts same id only (xs ++ x ∷ []) ≡ label_starts same id only xs
+      none only = starts-more only ∙ ap (λ (b : Bool). label_starts same id only xs ++ own_start (b && (not only || is_primary x.label))) f ∙ append-nil (label_starts same id only xs)
+
+  -- one of the file tells its start
+  pub start-own : same id x.id ≡ true → file_start same (xs ++ x ∷ []) id ≡ start_with (file_start same xs id) x.label
+  start-own t = λ i. record { primary = by (is_primary x.label) refl i; any = (ap least_if_any (asked false) ∙ least-more (label_starts same id false xs) x.label.start) i }
+    where
+      asked : (only : Bool) → label_starts same id only (xs ++ x ∷ []) ≡ label_starts same id only xs ++ own_start (not only || is_primary x.label)
+      asked only = starts-more only ∙ ap (λ (b : Bool). label_starts same id only xs ++ own_start (b && (not only || is_primary x.label))) t
+
+      primary : List ℕ
+      primary = label_starts same id true xs
+
+      by : (b : Bool) → is_primary x.label ≡ b → least_if_any (label_starts same id true (xs ++ x ∷ [])) ≡ (if b then Some (least_with (least_if_any primary) x.label.start) else least_if_any primary)
+      by true is = ap least_if_any (asked true ∙ ap (λ (c : Bool). primary ++ own_start c) is) ∙ least-more primary x.label.start
+      by false is = ap least_if_any (asked true ∙ ap (λ (c : Bool). primary ++ own_start c) is ∙ append-nil primary)
+
+-- equal ids have one start
+start-alike : {Id : Type 0} (same : Id → Id → Bool) (o : IsEquivalence same) (xs : List (InFile Id)) (i j : Id) → same i j ≡ true → file_start same xs i ≡ file_start same xs j
+start-alike {Id} same o xs i j t = λ k. record { primary = least_if_any (starts true k); any = least_if_any (starts false k) }
+  where
+    starts : (only : Bool) → label_starts same i only xs ≡ label_starts same j only xs
+    starts only = λ k. map (λ (y : InFile Id). y.label.start) (filter (λ (y : InFile Id). o.congr i j y.id t k && (not only || is_primary y.label)) xs)
+
+-- no label tells where a file starts
+pub starts-none : {Id : Type 0} (same : Id → Id → Bool) (ids : List Id) (starts : List FileStart) (unknown : FileStart) → unknown.primary ≡ None → unknown.any ≡ None
+    → starts ≡ replicate (length ids) unknown → starts ≡ map (file_start same []) ids
+starts-none {Id} same ids starts unknown primary any is = is ∙ by ids
+  where
+    by : (js : List Id) → replicate (length js) unknown ≡ map (file_start same []) js
+    by [] = refl
+    by (j ∷ js) = λ i. record { primary = primary i; any = any i } ∷ by js i
+
+module _ {Id : Type 0} (same : Id → Id → Bool) (o : IsEquivalence same) (labels : List (Label Id)) (ids : List Id) (place : ℕ) (label : Label Id) (turn : IsLabelTurn same labels ids place label)
+    (starts : List FileStart) (are : starts ≡ map (file_start same (before labels place)) ids) where
+  -- what is known of the label's file, and of all files with the label
+  pub starts-set : (d : FileStart) (now : List FileStart)
+      → now ≡ set starts (file_place same ids label.file_id) (start_with (get_or starts (file_place same ids label.file_id) d) (label_of label).label)
+      → now ≡ map (file_start same (before labels (place + 1))) ids
+  starts-set d now is =
+      is ∙ (λ i. set (are i) (file_place same ids label.file_id) (start_with (known i) (label_of label).label))
+      ∙ set-at same o (file_start same (before labels place)) (file_start same (before labels (place + 1))) label.file_id _
+      (λ j t. whole j ∙ start-own same (before labels place) (label_of label) j t
+      ∙ ap (λ (s : FileStart). start_with s (label_of label).label) (start-alike same o (before labels place) j label.file_id t))
+      (λ j f. whole j ∙ start-others same (before labels place) (label_of label) j f)
+      ids (ids-differ same o labels ids place label turn) (has-file same o labels ids place label turn)
+    where
+      known : get_or starts (file_place same ids label.file_id) d ≡ file_start same (before labels place) label.file_id
+      known =
+          ap (λ (ss : List FileStart). get_or ss (file_place same ids label.file_id) d) are
+          ∙ kept-at same o (file_start same (before labels place)) (start-alike same o (before labels place)) ids label.file_id d (has-file same o labels ids place label turn)
+
+      whole : (j : Id) → file_start same (before labels (place + 1)) j ≡ file_start same (before labels place ++ label_of label ∷ []) j
+      whole j = ap (λ (ys : List (InFile Id)). file_start same ys j) (before-more same o labels ids place label turn)
 
 -- ---- the places of files
 

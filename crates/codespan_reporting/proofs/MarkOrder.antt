@@ -1,10 +1,43 @@
--- The lanes of marks as they are given and as they are defined.
-use Rattle.std.proofs.Common.{◌≡◌, ℕ, true, List, map, ap, ◌∙◌}
-use Rattle.codespan_picture.specs.Given.{GivenMark, mark_of_given, lanes_in_order}
+-- The lanes and the labels of a line as they are given and as they are defined.
+use Rattle.std.proofs.Common.{◌≡◌, ℕ, ◌≤◌, false, true, nat_le, List, [], ◌∷◌, map, refl, ap, ◌∙◌, arith}
+use Rattle.std.specs.List.{AllByRecursion}
+use Rattle.std.proofs.lemmas.Bool.{and_parts}
+use Rattle.std.proofs.lemmas.Bool.Decides.{nat_tests}
+use Rattle.codespan_base.specs.Labels.{Labelled, stands_before}
+use Rattle.codespan_picture.specs.Given.{GivenLabel, GivenMark, all_labelled, mark_of_given, lanes_in_order}
 use Rattle.codespan_picture.specs.Lanes.{ascend_from}
+use Rattle.codespan_laws.proofs.OrderSorts.{Ascends}
+use Rattle.codespan_laws.proofs.SortedLists.{all-weaker}
+use Rattle.codespan_renderer.specs.Inner.Sweeps.{starts_from, starts_in_order}
 use Rattle.codespan_reporting.specs.Inner.Entries.{Entry}
-use Rattle.codespan_reporting.specs.Inner.Steps.{multis_in, do_fit}
+use Rattle.codespan_reporting.specs.Inner.Steps.{singles_in, multis_in, do_fit}
 
 -- a renderer may be given the marks of entries that fit
 pub lanes_fit : (count : ℕ) (ms : List GivenMark) (es : List Entry) → map mark_of_given ms ≡ multis_in es → do_fit count es ≡ true → lanes_in_order count ms ≡ true
-lanes_fit count ms es same fit = ap (ascend_from count 0) same ∙ fit
+lanes_fit count ms es same fit = ap (ascend_from count 0) same ∙ (and_parts (ascend_from count 0 (multis_in es)) (starts_in_order (singles_in es)) fit).0
+
+-- and their labels
+pub starts_fit : (count : ℕ) (xs : List GivenLabel) (es : List Entry) → all_labelled xs ≡ singles_in es → do_fit count es ≡ true
+    → starts_in_order (all_labelled xs) ≡ true
+starts_fit count xs es same fit = ap starts_in_order same ∙ (and_parts (ascend_from count 0 (multis_in es)) (starts_in_order (singles_in es)) fit).1
+
+-- ---- labels by their ranges
+
+later-start : (x z : Labelled) → stands_before z x ≡ false → x.start ≤ z.start
+later-start x z h = grind (arith, nat_tests)
+
+starts-from : (low : ℕ) (xs : List Labelled) → AllByRecursion (λ (z : Labelled). low ≤ z.start) xs → Ascends xs → starts_from low xs ≡ true
+starts-from low [] far up = refl
+starts-from low (x ∷ xs) far up =
+    let first = far.0 in
+    let here : nat_le low x.start ≡ true = grind (arith, nat_tests) in
+    let others = all-weaker (λ z. stands_before z x ≡ false) (λ z. x.start ≤ z.start) (λ z h. later-start x z h) xs up.0 in
+    rw (here, starts-from x.start xs others up.1) refl
+
+from-zero : (xs : List Labelled) → AllByRecursion (λ (z : Labelled). 0 ≤ z.start) xs
+from-zero [] = tt
+from-zero (x ∷ xs) = (omega arith, from-zero xs)
+
+-- labels in the order of their ranges are in that of their starts
+pub ascends-starts : (xs : List Labelled) → Ascends xs → starts_in_order xs ≡ true
+ascends-starts xs up = starts-from 0 xs (from-zero xs) up

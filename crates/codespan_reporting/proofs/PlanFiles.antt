@@ -10,11 +10,15 @@ use Rattle.codespan_base.specs.declared.term.config.Config.{Config}
 use Rattle.codespan_base.specs.declared.term.config.Layout.{Layout}
 use Rattle.codespan_base.specs.declared.term.config.Layout.TheVariants.{Classic, Unbroken}
 use Rattle.codespan_base.specs.FileModel.{FileModel, Lookup, line_count}
+use Rattle.codespan_base.specs.FileModel.Lookup.{LocationAt, Name}
+use Rattle.codespan_picture.specs.Given.{place_of_given}
 use Rattle.codespan_picture.specs.Lines.{drawn_lines}
-use Rattle.codespan_picture.specs.Lookups.{Refusals, asked_of, filled_lines, numbers_for_padding, of_filled}
+use Rattle.codespan_picture.specs.Lookups.{Refusals, asked_of, filled_lines, locus_lookups, numbers_for_padding, of_filled}
 use Rattle.codespan_picture.specs.Padding.{digit_count, digits_of, numbered_lines, padding_of}
-use Rattle.codespan_picture.specs.Snippets.{InFile, LabelledFile, labelled_file, labelled_files, lane_count, rows_after}
+use Rattle.codespan_picture.specs.Placed.{IsPlaceIn}
+use Rattle.codespan_picture.specs.Snippets.{InFile, LabelledFile, labelled_file, labelled_files, lane_count, locus_start, rows_after}
 use Rattle.codespan_reporting.specs.declared.term.views.gather.Gathered.{Gathered}
+use Rattle.codespan_reporting.specs.declared.term.views.loci.FileStart.{FileStart}
 use Rattle.codespan_reporting.specs.declared.term.views.plan.FilePlan.{FilePlan}
 use Rattle.codespan_reporting.specs.declared.term.views.sheet.SheetFile.{SheetFile}
 use Rattle.codespan_reporting.specs.declared.term.views.steps.Step.{Step as GivenStep}
@@ -25,12 +29,14 @@ use Rattle.codespan_reporting.specs.Inner.GivenEntries.{IsOfFiles, entry_of}
 use Rattle.codespan_reporting.specs.Inner.GivenPadding.{marked_digits}
 use Rattle.codespan_reporting.specs.declared.term.views.sheet.Sheet.{Sheet}
 use Rattle.codespan_reporting.specs.Inner.GivenSteps.{IsStepIn, IsStepOf, asked_by, asked_by_all, asked_with, numbers_asked, step_of}
-use Rattle.codespan_reporting.specs.Inner.PlacedLabels.{IsAt, file_ids, lane_after}
+use Rattle.codespan_reporting.specs.Inner.Loci.{file_start, place_lookups, start_byte}
+use Rattle.codespan_reporting.specs.Inner.PlacedLabels.{IsIdAt, file_ids, lane_after}
 use Rattle.codespan_reporting.specs.Inner.Plans.{ArePlans, IsPlan, plan_digits, planned_lookups, step_digits, steps_at}
 use Rattle.codespan_reporting.specs.Inner.StepDrawing.{DoFit}
 use Rattle.codespan_reporting.specs.Inner.Steps.{Step, fill_of, fills_of, line_of_step, lines_of_steps, rows_of_steps}
 use Rattle.codespan_reporting.proofs.EntryPadding.{by_place-same, spanned-room}
 use Rattle.codespan_reporting.proofs.EntryPicture.{snippet-fills, snippet-fits, snippet-lines, snippet-rows}
+use Rattle.codespan_reporting.proofs.LocusStarts.{start-is}
 use Rattle.codespan_reporting.proofs.SheetDrawing.{lanes-count}
 
 -- ---- one step
@@ -79,16 +85,17 @@ steps-digits f (g ∷ gs) h =
 -- ---- a place
 
 -- what the id at a place is made into
-at-map : {Id : Type 0} (make : Id → ℕ) (ids : List Id) (k : ℕ) (id : Id) (d : ℕ) → IsAt ids k id → get_or (map make ids) k d ≡ make id
+at-map : {Id A : Type 0} (make : Id → A) (ids : List Id) (k : ℕ) (id : Id) (d : A) → IsIdAt ids k id → get_or (map make ids) k d ≡ make id
 at-map make [] k id d at = absurd at
 at-map make (j ∷ js) zero id d at = ap make at
 at-map make (j ∷ js) (suc k) id d at = at-map make js k id d at
 
 -- ---- plans
 
--- the plan of a file is that of its labels: its lanes, what its steps draw, and what they ask for
+-- the plan of a file is that of its labels: its lanes, where it starts, what its steps draw, and what they ask for
 pub record IsFilePlan {Id : Type 0} (config : Config) (s : LabelledFile) (plan : FilePlan Id) : Type 0 where
   pub lanes_are : plan.lane_count ≡ lane_count s
+  pub starts : start_byte plan.start ≡ locus_start s.labels
   pub each : AllByRecursion (IsStepOf s.file) plan.steps.items
   pub fits : DoFit (lane_count s) (map step_of plan.steps.items)
   pub rows : rows_of_steps s.file (lane_count s) (map step_of plan.steps.items) ≡ rows_after s None (drawn_lines config s.file s.labels)
@@ -104,7 +111,8 @@ pub record AreFiles {Id : Type 0} (same : Id → Id → Bool) (file : Id → Fil
   pub one_file : (i j : Id) → same i j ≡ true → file i ≡ file j
   pub some_line : (i : Id) → 0 < line_count (file i)
 
-module _ {Id : Type 0} (same : Id → Id → Bool) (file : Id → FileModel) (table : AreFiles same file) (config : Config) (xs : List (InFile Id)) (gathered : Gathered Id) (all : IsGathered same file config xs gathered) where
+module _ {Id : Type 0} (same : Id → Id → Bool) (file : Id → FileModel) (table : AreFiles same file) (config : Config) (xs : List (InFile Id)) (gathered : Gathered Id) (all : IsGathered same file config xs gathered)
+    (starts : List FileStart) (starts_are : starts ≡ map (file_start same xs) gathered.ids.items) where
   -- its entries
   abbrev es : List Entry
   es = map entry_of gathered.entries.items
@@ -132,7 +140,7 @@ module _ {Id : Type 0} (same : Id → Id → Bool) (file : Id → FileModel) (ta
       by_layout Classic id = refl
       by_layout Unbroken id = refl
 
-  module _ (k : ℕ) (id : Id) (at : IsAt (file_ids same xs) k id) (plan : FilePlan Id) (is : IsPlan config.layout file es counts k id plan) where
+  module _ (k : ℕ) (id : Id) (at : IsIdAt (file_ids same xs) k id) (plan : FilePlan Id) (is : IsPlan config.layout file es counts starts k id plan) where
     -- its steps
     steps-are : map step_of plan.steps.items ≡ steps_at es k
     steps-are = ap (map step_of) is.adds.whole ∙ is.adds.are
@@ -145,6 +153,9 @@ module _ {Id : Type 0} (same : Id → Id → Bool) (file : Id → FileModel) (ta
     file-plan : IsFilePlan config (labelled id) plan
     file-plan = record {
       lanes_are = is.lanes_are ∙ ap (λ (ns : List ℕ). get_or ns k plan.lane_count) (all.lanes_are ∙ ap (map (lane_after same file xs)) all.ids_are) ∙ at-map (lane_after same file xs) (file_ids same xs) k id plan.lane_count at ∙ lanes-count same file table.one_file id xs;
+      starts =
+          ap start_byte (is.start_is ∙ ap (λ (ss : List FileStart). get_or ss k plan.start) (starts_are ∙ ap (map (file_start same xs)) all.ids_are) ∙ at-map (file_start same xs) (file_ids same xs) k id plan.start at)
+          ∙ start-is same file id xs;
       each = steps_of-file config.layout (file id) plan.steps.items steps-in;
       fits = subst (DoFit (lane_count (labelled id))) (sym steps-are) (snippet-fits same file table.equivalence table.one_file table.some_line config xs es all.permutation all.sorted k id at);
       rows = ap (rows_of_steps (file id) (lane_count (labelled id))) steps-are ∙ snippet-rows same file table.equivalence table.one_file table.some_line config xs es all.permutation all.sorted k id at;
@@ -161,29 +172,29 @@ module _ {Id : Type 0} (same : Id → Id → Bool) (file : Id → FileModel) (ta
 
   -- the ids from a place on stand at their places
   abbrev AreAt : ℕ → List Id → Type 0
-  AreAt k ids = (i : ℕ) (id : Id) → IsAt ids i id → IsAt (file_ids same xs) (k + i) id
+  AreAt k ids = (i : ℕ) (id : Id) → IsIdAt ids i id → IsIdAt (file_ids same xs) (k + i) id
 
   -- so do those after the first
   are_at-next : (k : ℕ) (id : Id) (ids : List Id) → AreAt k (id ∷ ids) → AreAt (k + 1) ids
-  are_at-next k id ids at = λ i j h. let e : k + suc i ≡ k + 1 + i = omega arith in subst (λ n. IsAt (file_ids same xs) n j) e (at (suc i) j h)
+  are_at-next k id ids at = λ i j h. let e : k + suc i ≡ k + 1 + i = omega arith in subst (λ n. IsIdAt (file_ids same xs) n j) e (at (suc i) j h)
 
   -- and so does the first
-  are_at-here : (k : ℕ) (id : Id) (ids : List Id) → AreAt k (id ∷ ids) → IsAt (file_ids same xs) k id
-  are_at-here k id ids at = let e : k + 0 ≡ k = omega arith in subst (λ n. IsAt (file_ids same xs) n id) e (at 0 id refl)
+  are_at-here : (k : ℕ) (id : Id) (ids : List Id) → AreAt k (id ∷ ids) → IsIdAt (file_ids same xs) k id
+  are_at-here k id ids at = let e : k + 0 ≡ k = omega arith in subst (λ n. IsIdAt (file_ids same xs) n id) e (at 0 id refl)
 
   -- so do all
   all_at : AreAt 0 (file_ids same xs)
-  all_at = λ i id h. let e : i ≡ 0 + i = omega arith in subst (λ n. IsAt (file_ids same xs) n id) e h
+  all_at = λ i id h. let e : i ≡ 0 + i = omega arith in subst (λ n. IsIdAt (file_ids same xs) n id) e h
 
   -- the ids of plans
-  ids-from : (k : ℕ) (ids : List Id) (plans : List (FilePlan Id)) → ArePlans config.layout file es counts k ids plans → map (λ (p : FilePlan Id). p.id) plans ≡ ids
+  ids-from : (k : ℕ) (ids : List Id) (plans : List (FilePlan Id)) → ArePlans config.layout file es counts starts k ids plans → map (λ (p : FilePlan Id). p.id) plans ≡ ids
   ids-from k [] [] h = refl
   ids-from k [] (p ∷ ps) h = absurd h
   ids-from k (id ∷ ids) [] h = absurd h
   ids-from k (id ∷ ids) (p ∷ ps) h = λ i. h.0.id_is i ∷ ids-from (k + 1) ids ps h.1 i
 
   -- plans are those of their files
-  plans-from : (k : ℕ) (ids : List Id) (plans : List (FilePlan Id)) → AreAt k ids → ArePlans config.layout file es counts k ids plans
+  plans-from : (k : ℕ) (ids : List Id) (plans : List (FilePlan Id)) → AreAt k ids → ArePlans config.layout file es counts starts k ids plans
       → AllByRecursion (λ (p : FilePlan Id). IsFilePlan config (labelled p.id) p) plans
   plans-from k [] [] at h = tt
   plans-from k [] (p ∷ ps) at h = absurd h
@@ -194,7 +205,7 @@ module _ {Id : Type 0} (same : Id → Id → Bool) (file : Id → FileModel) (ta
   )
 
   -- in the unbroken layout their digits are those that the padding has room for
-  digits-from : config.layout ≡ Unbroken → (k : ℕ) (ids : List Id) (plans : List (FilePlan Id)) → AreAt k ids → ArePlans config.layout file es counts k ids plans
+  digits-from : config.layout ≡ Unbroken → (k : ℕ) (ids : List Id) (plans : List (FilePlan Id)) → AreAt k ids → ArePlans config.layout file es counts starts k ids plans
       → flat_map plan_digits plans ≡ flat_map (λ id. digits_of (labelled id) (numbered_lines config (labelled id))) ids
   digits-from unbroken k [] [] at h = refl
   digits-from unbroken k [] (p ∷ ps) at h = absurd h
@@ -202,10 +213,10 @@ module _ {Id : Type 0} (same : Id → Id → Bool) (file : Id → FileModel) (ta
   digits-from unbroken k (id ∷ ids) (p ∷ ps) at h =
       λ i. file-digits k id (are_at-here k id ids at) p h.0 unbroken i ++ digits-from unbroken (k + 1) ids ps (are_at-next k id ids at) h.1 i
 
-  module _ (plans : List (FilePlan Id)) (found : ArePlans config.layout file es counts 0 gathered.ids.items plans) where
+  module _ (plans : List (FilePlan Id)) (found : ArePlans config.layout file es counts starts 0 gathered.ids.items plans) where
     -- they are in the order of the files
-    are : ArePlans config.layout file es counts 0 (file_ids same xs) plans
-    are = subst (λ (ids : List Id). ArePlans config.layout file es counts 0 ids plans) all.ids_are found
+    are : ArePlans config.layout file es counts starts 0 (file_ids same xs) plans
+    are = subst (λ (ids : List Id). ArePlans config.layout file es counts starts 0 ids plans) all.ids_are found
 
     -- the ids of all plans
     pub plan_ids : map (λ (p : FilePlan Id). p.id) plans ≡ file_ids same xs
@@ -231,19 +242,25 @@ module _ {Id : Type 0} (same : Id → Id → Bool) (file : Id → FileModel) (ta
 
 module _ {Id : Type 0} (same : Id → Id → Bool) (file : Id → FileModel) (config : Config) (xs : List (InFile Id)) where
   -- a plan with its place is a file of the picture
-  sheet_file : (p : FilePlan Id) (f : SheetFile Id) → IsPlacedPlan same file xs p f → IsFilePlan config (labelled_file same file xs p.id) p → IsSheetFile config (labelled_file same file xs f.id) f
+  sheet_file : (p : FilePlan Id) (f : SheetFile Id) → IsPlacedPlan file p f → IsFilePlan config (labelled_file same file xs p.id) p → IsSheetFile config (labelled_file same file xs f.id) f
   sheet_file p f placed plan =
       subst (λ (id : Id). IsSheetFile config (labelled_file same file xs id) f) (sym placed.id_is) (record {
         lanes_are = placed.lanes_are ∙ plan.lanes_are;
-        place = placed.place;
+        place = subst (λ n. IsPlaceIn (file p.id) n (place_of_given f.locus)) plan.starts placed.place;
         each = subst (AllByRecursion (IsStepOf (file p.id))) (sym placed.steps_are) plan.each;
         fits = subst (λ (gs : List GivenStep). DoFit (lane_count (labelled_file same file xs p.id)) (map step_of gs)) (sym placed.steps_are) plan.fits;
         rows = ap (λ (gs : List GivenStep). rows_of_steps (file p.id) (lane_count (labelled_file same file xs p.id)) (map step_of gs)) placed.steps_are ∙ plan.rows;
         asked = ap asked_by_all placed.steps_are ∙ plan.asked;
       })
 
+  -- the lookups of the places of plans are those of their files
+  pub places-are : (ps : List (FilePlan Id)) → AllByRecursion (λ (p : FilePlan Id). IsFilePlan config (labelled_file same file xs p.id) p) ps
+      → flat_map (λ id. asked_of id (locus_lookups same file xs id)) (map (λ (p : FilePlan Id). p.id) ps) ≡ place_lookups ps
+  places-are [] plans = refl
+  places-are (p ∷ ps) plans = λ i. asked_of p.id (Name ∷ LocationAt (sym plans.0.starts i) ∷ []) ++ places-are ps plans.1 i
+
   -- so are all
-  pub sheet_files : (ps : List (FilePlan Id)) (fs : List (SheetFile Id)) → AllZip (IsPlacedPlan same file xs) ps fs
+  pub sheet_files : (ps : List (FilePlan Id)) (fs : List (SheetFile Id)) → AllZip (IsPlacedPlan file) ps fs
       → AllByRecursion (λ (p : FilePlan Id). IsFilePlan config (labelled_file same file xs p.id) p) ps → AllByRecursion (λ (f : SheetFile Id). IsSheetFile config (labelled_file same file xs f.id) f) fs
   sheet_files [] [] placed plans = tt
   sheet_files [] (f ∷ fs) placed plans = absurd placed
@@ -251,7 +268,7 @@ module _ {Id : Type 0} (same : Id → Id → Bool) (file : Id → FileModel) (co
   sheet_files (p ∷ ps) (f ∷ fs) placed plans = (sheet_file p f placed.0 plans.0, sheet_files ps fs placed.1 plans.1)
 
   -- their ids are those of the plans
-  pub sheet_ids : (ps : List (FilePlan Id)) (fs : List (SheetFile Id)) → AllZip (IsPlacedPlan same file xs) ps fs → ids_of fs ≡ map (λ (p : FilePlan Id). p.id) ps
+  pub sheet_ids : (ps : List (FilePlan Id)) (fs : List (SheetFile Id)) → AllZip (IsPlacedPlan file) ps fs → ids_of fs ≡ map (λ (p : FilePlan Id). p.id) ps
   sheet_ids [] [] placed = refl
   sheet_ids [] (f ∷ fs) placed = absurd placed
   sheet_ids (p ∷ ps) [] placed = absurd placed
@@ -259,7 +276,7 @@ module _ {Id : Type 0} (same : Id → Id → Bool) (file : Id → FileModel) (co
 
   -- plans with their places, and the room for their numbers, are the sheet of the labels
   pub sheet-prepared : (ps : List (FilePlan Id)) (sheet : Sheet Id) → map (λ (p : FilePlan Id). p.id) ps ≡ file_ids same xs
-      → AllByRecursion (λ (p : FilePlan Id). IsFilePlan config (labelled_file same file xs p.id) p) ps → AllZip (IsPlacedPlan same file xs) ps sheet.files.items
+      → AllByRecursion (λ (p : FilePlan Id). IsFilePlan config (labelled_file same file xs p.id) p) ps → AllZip (IsPlacedPlan file) ps sheet.files.items
       → sheet.padding ≡ padding_of config (labelled_files same file xs) → IsPrepared same file config xs sheet
   sheet-prepared ps sheet ids plans placed padding = record {
     ids_are = sheet_ids ps sheet.files.items placed ∙ ids;

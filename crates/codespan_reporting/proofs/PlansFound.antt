@@ -11,11 +11,12 @@ use Rattle.codespan_base.specs.declared.term.config.Layout.{Layout}
 use Rattle.codespan_base.specs.FileModel.{FileModel, Lookup}
 use Rattle.codespan_picture.specs.Lookups.{Refusals, asked_of, first_refusal}
 use Rattle.codespan_reporting.specs.declared.term.views.entry.Entry.{Entry as GivenEntry}
+use Rattle.codespan_reporting.specs.declared.term.views.loci.FileStart.{FileStart}
 use Rattle.codespan_reporting.specs.declared.term.views.plan.FilePlan.{FilePlan}
 use Rattle.codespan_reporting.specs.Inner.Entries.{Entry, is_below, is_of_file}
 use Rattle.codespan_reporting.specs.Inner.GivenEntries.{IsLineOf, IsOfFiles, entry_of}
 use Rattle.codespan_reporting.specs.Inner.GivenSteps.{numbers_asked}
-use Rattle.codespan_reporting.specs.Inner.PlacedLabels.{IsAt}
+use Rattle.codespan_reporting.specs.Inner.PlacedLabels.{IsIdAt}
 use Rattle.codespan_reporting.specs.Inner.Plans.{ArePlans, IsPlan, by_place, planned_lookups, steps_at}
 use Rattle.codespan_reporting.specs.Inner.Steps.{fills_of, steps_of}
 use Rattle.codespan_reporting.proofs.FileParts.{IsFilePart, from_file, next-file, next_part}
@@ -43,13 +44,13 @@ by_place-more {Id} {A} give f ids more id len is =
 
 module _ {Id : Type 0} (file : Id → FileModel) where
   -- a file's part of the entries is of lines that the file has
-  pub part-lines : (ids : List Id) (xs : List GivenEntry) (at n f : ℕ) (id : Id) (ys : List Entry) → IsAt ids f id → AllByRecursion (IsOfFiles file ids) xs
+  pub part-lines : (ids : List Id) (xs : List GivenEntry) (at n f : ℕ) (id : Id) (ys : List Entry) → IsIdAt ids f id → AllByRecursion (IsOfFiles file ids) xs
       → map entry_of (take n (drop at xs)) ≡ filter (is_of_file f) ys → AllByRecursion (λ e. IsLineOf (file id) e.line) (take n (drop at xs))
   part-lines ids xs at n f id ys is_at lines own =
       let part = take n (drop at xs) in
       let of_file = all-mapped entry_of (λ e. is_of_file f e ≡ true) part (subst (AllByRecursion (λ e. is_of_file f e ≡ true)) (sym own) (all-pass (is_of_file f) ys)) in
       all-weaker (λ e. (is_of_file f (entry_of e) ≡ true) × IsOfFiles file ids e) (λ e. IsLineOf (file id) e.line)
-      (λ e h. h.1 id (subst (λ k. IsAt ids k id) (sym (eqb-true e.file f h.0)) is_at))
+      (λ e h. h.1 id (subst (λ k. IsIdAt ids k id) (sym (eqb-true e.file f h.0)) is_at))
       part (all-both (λ e. is_of_file f (entry_of e) ≡ true) (IsOfFiles file ids) part of_file (all-part (IsOfFiles file ids) at n xs lines))
 
 -- ---- the turn of a file
@@ -81,7 +82,7 @@ module _ {Id : Type 0} (ids : List Id) (xs ys : List GivenEntry) (at n f : ℕ) 
     -- its lines are the file's
     pub own_lines : (file : Id → FileModel) → AllByRecursion (IsOfFiles file ids) xs → All (λ e. IsLineOf (file id) e.line) (next_part zs at n)
     own_lines file lines =
-        let there : IsAt ids f id = subst (IsAt ids f) (sym turn.is) (at-get ids f id turn.there) in
+        let there : IsIdAt ids f id = subst (IsIdAt ids f) (sym turn.is) (at-get ids f id turn.there) in
         All-from_recursion (λ e. IsLineOf (file id) e.line) (next_part zs at n)
         (part-lines file ids zs at (at + n - at) f id (map entry_of xs) there (subst (AllByRecursion (IsOfFiles file ids)) (sym same) lines) own_entries)
 
@@ -105,16 +106,16 @@ module _ {Id : Type 0} (ids : List Id) (xs ys : List GivenEntry) (at n f : ℕ) 
 
 -- ---- plans
 
-module _ {Id : Type 0} (layout : Layout) (file : Id → FileModel) (es : List Entry) (lane_counts : List ℕ) where
+module _ {Id : Type 0} (layout : Layout) (file : Id → FileModel) (es : List Entry) (lane_counts : List ℕ) (starts : List FileStart) where
   -- plans from a place on, and then others
-  plans-append : (k : ℕ) (ids js : List Id) (ps qs : List (FilePlan Id)) → ArePlans layout file es lane_counts k ids ps → ArePlans layout file es lane_counts (k + length ids) js qs
-      → ArePlans layout file es lane_counts k (ids ++ js) (ps ++ qs)
-  plans-append k [] js [] qs h more = let e : k + 0 ≡ k = omega arith in subst (λ n. ArePlans layout file es lane_counts n js qs) e more
+  plans-append : (k : ℕ) (ids js : List Id) (ps qs : List (FilePlan Id)) → ArePlans layout file es lane_counts starts k ids ps → ArePlans layout file es lane_counts starts (k + length ids) js qs
+      → ArePlans layout file es lane_counts starts k (ids ++ js) (ps ++ qs)
+  plans-append k [] js [] qs h more = let e : k + 0 ≡ k = omega arith in subst (λ n. ArePlans layout file es lane_counts starts n js qs) e more
   plans-append k [] js (p ∷ ps) qs h more = absurd h
   plans-append k (id ∷ ids) js [] qs h more = absurd h
   plans-append k (id ∷ ids) js (p ∷ ps) qs h more =
       let e : k + suc (length ids) ≡ k + 1 + length ids = omega arith in
-      (h.0, plans-append (k + 1) ids js ps qs h.1 (subst (λ n. ArePlans layout file es lane_counts n js qs) e more))
+      (h.0, plans-append (k + 1) ids js ps qs h.1 (subst (λ n. ArePlans layout file es lane_counts starts n js qs) e more))
 
   module _ (refusal : Refusals Id) where
     -- the lookups of the numbers of a file's lines
@@ -123,7 +124,7 @@ module _ {Id : Type 0} (layout : Layout) (file : Id → FileModel) (es : List En
 
     -- the plans of these files are found, and their lookups were answered
     pub record ArePlanned (ids : List Id) (now : List (FilePlan Id)) : Type 0 where
-      pub plans : ArePlans layout file es lane_counts 0 ids now
+      pub plans : ArePlans layout file es lane_counts starts 0 ids now
       pub answered : first_refusal refusal (planned_lookups layout es ids) ≡ None
 
     module _ (f : ℕ) (ids more : List Id) (id : Id) (now : List (FilePlan Id)) (len : length ids ≡ f) (is : more ≡ ids ++ id ∷ []) (before : ArePlanned ids now) where
@@ -132,14 +133,14 @@ module _ {Id : Type 0} (layout : Layout) (file : Id → FileModel) (es : List En
       asked-more = ap (first_refusal refusal) (by_place-more asked_at f ids more id len is) ∙ first_refusal-none refusal (planned_lookups layout es ids) (asked_at f id) before.answered
 
       -- one more file
-      pub planned-more : (new : List (FilePlan Id)) (plan : FilePlan Id) → new ≡ now ++ plan ∷ [] → IsPlan layout file es lane_counts f id plan
+      pub planned-more : (new : List (FilePlan Id)) (plan : FilePlan Id) → new ≡ now ++ plan ∷ [] → IsPlan layout file es lane_counts starts f id plan
           → first_refusal refusal (asked_at f id) ≡ None → ArePlanned more new
       planned-more new plan whole own answered = record {
         plans =
             let place : f ≡ 0 + length ids = omega (arith, len) in
-            subst (λ js. ArePlans layout file es lane_counts 0 js new) (sym is)
-            (subst (ArePlans layout file es lane_counts 0 (ids ++ id ∷ [])) (sym whole)
-            (plans-append 0 ids (id ∷ []) now (plan ∷ []) before.plans (subst (λ n. IsPlan layout file es lane_counts n id plan) place own, tt)));
+            subst (λ js. ArePlans layout file es lane_counts starts 0 js new) (sym is)
+            (subst (ArePlans layout file es lane_counts starts 0 (ids ++ id ∷ [])) (sym whole)
+            (plans-append 0 ids (id ∷ []) now (plan ∷ []) before.plans (subst (λ n. IsPlan layout file es lane_counts starts n id plan) place own, tt)));
         answered = asked-more ∙ answered;
       }
 

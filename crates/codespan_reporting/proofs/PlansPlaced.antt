@@ -1,15 +1,15 @@
 -- Plans that get their places, one after another.
-use Rattle.std.proofs.Common.{◌≡◌, Bool, List, [], ◌∷◌, ◌++◌, length, None, Some, refl, sym, subst, ap, ◌∙◌, append-nil, arith}
+use Rattle.std.proofs.Common.{◌≡◌, List, [], ◌∷◌, ◌++◌, length, None, Some, refl, sym, subst, ap, ◌∙◌, append-nil, arith}
 use Rattle.std.specs.List.{AllZip}
 use Rattle.std.proofs.lemmas.Grind.{flat_map-append}
 use Rattle.codespan_base.specs.declared.files.error.Error.{Error}
 use Rattle.codespan_base.specs.FileModel.{FileModel, Lookup}
-use Rattle.codespan_picture.specs.Lookups.{Refusals, asked_of, first_refusal, locus_lookups}
-use Rattle.codespan_picture.specs.Snippets.{InFile}
+use Rattle.codespan_base.specs.FileModel.Lookup.{LocationAt, Name}
+use Rattle.codespan_picture.specs.Lookups.{Refusals, asked_of, first_refusal}
 use Rattle.codespan_reporting.specs.declared.term.views.plan.FilePlan.{FilePlan}
 use Rattle.codespan_reporting.specs.declared.term.views.sheet.SheetFile.{SheetFile}
 use Rattle.codespan_reporting.specs.Inner.GivenSheets.{IsPlacedPlan}
-use Rattle.codespan_reporting.specs.Inner.Loci.{place_lookups}
+use Rattle.codespan_reporting.specs.Inner.Loci.{place_lookups, start_byte}
 use Rattle.codespan_reporting.proofs.Refusals.{first_refusal-none, first_refusal-some}
 
 -- one more pair
@@ -24,37 +24,37 @@ pub no_element : {X : Type 0} (l : List X) → length l ≡ 0 → l ≡ []
 no_element [] h = refl
 no_element (x ∷ xs) h = absurd (omega arith)
 
-module _ {Id : Type 0} (same : Id → Id → Bool) (file : Id → FileModel) (refusal : Refusals Id) (xs : List (InFile Id)) where
+module _ {Id : Type 0} (file : Id → FileModel) (refusal : Refusals Id) where
   -- the lookups of the place of a plan's file
   abbrev asked : FilePlan Id → List (Id × Lookup)
-  asked p = asked_of p.id (locus_lookups same file xs p.id)
+  asked p = asked_of p.id (Name ∷ LocationAt (start_byte p.start) ∷ [])
 
   -- these plans have got their places
   pub record ArePlaced (plans : List (FilePlan Id)) (placed : List (SheetFile Id)) : Type 0 where
-    pub are : AllZip (IsPlacedPlan same file xs) plans placed
-    pub answered : first_refusal refusal (place_lookups same file xs plans) ≡ None
+    pub are : AllZip (IsPlacedPlan file) plans placed
+    pub answered : first_refusal refusal (place_lookups plans) ≡ None
 
   -- no plan has yet
   pub placed-nothing : (placed : List (SheetFile Id)) → placed ≡ [] → ArePlaced [] placed
-  placed-nothing placed none = record { are = subst (AllZip (IsPlacedPlan same file xs) []) (sym none) tt; answered = refl }
+  placed-nothing placed none = record { are = subst (AllZip (IsPlacedPlan file) []) (sym none) tt; answered = refl }
 
   -- the lookups of one more
-  more : (plans : List (FilePlan Id)) (p : FilePlan Id) → place_lookups same file xs (plans ++ p ∷ []) ≡ place_lookups same file xs plans ++ asked p
-  more plans p = flat_map-append asked plans (p ∷ []) ∙ ap (λ (ls : List (Id × Lookup)). place_lookups same file xs plans ++ ls) (append-nil (asked p))
+  more : (plans : List (FilePlan Id)) (p : FilePlan Id) → place_lookups (plans ++ p ∷ []) ≡ place_lookups plans ++ asked p
+  more plans p = flat_map-append asked plans (p ∷ []) ∙ ap (λ (ls : List (Id × Lookup)). place_lookups plans ++ ls) (append-nil (asked p))
 
   -- so has one more
-  pub placed-more : (plans : List (FilePlan Id)) (placed now : List (SheetFile Id)) (p : FilePlan Id) (s : SheetFile Id) → ArePlaced plans placed → IsPlacedPlan same file xs p s
+  pub placed-more : (plans : List (FilePlan Id)) (placed now : List (SheetFile Id)) (p : FilePlan Id) (s : SheetFile Id) → ArePlaced plans placed → IsPlacedPlan file p s
       → now ≡ placed ++ s ∷ [] → first_refusal refusal (asked p) ≡ None → ArePlaced (plans ++ p ∷ []) now
   placed-more plans placed now p s before one whole answered = record {
-    are = subst (AllZip (IsPlacedPlan same file xs) (plans ++ p ∷ [])) (sym whole) (zip-more (IsPlacedPlan same file xs) plans placed p s before.are one);
-    answered = ap (first_refusal refusal) (more plans p) ∙ first_refusal-none refusal (place_lookups same file xs plans) (asked p) before.answered ∙ answered;
+    are = subst (AllZip (IsPlacedPlan file) (plans ++ p ∷ [])) (sym whole) (zip-more (IsPlacedPlan file) plans placed p s before.are one);
+    answered = ap (first_refusal refusal) (more plans p) ∙ first_refusal-none refusal (place_lookups plans) (asked p) before.answered ∙ answered;
   }
 
   -- a lookup of one more refuses
   pub placed-refused : (plans rest all : List (FilePlan Id)) (placed : List (SheetFile Id)) (p : FilePlan Id) (e : Error) → ArePlaced plans placed → plans ++ p ∷ rest ≡ all
-      → first_refusal refusal (asked p) ≡ Some e → first_refusal refusal (place_lookups same file xs all) ≡ Some e
+      → first_refusal refusal (asked p) ≡ Some e → first_refusal refusal (place_lookups all) ≡ Some e
   placed-refused plans rest all placed p e before whole told =
-      ap (λ (ps : List (FilePlan Id)). first_refusal refusal (place_lookups same file xs ps)) (sym whole)
+      ap (λ (ps : List (FilePlan Id)). first_refusal refusal (place_lookups ps)) (sym whole)
       ∙ ap (first_refusal refusal) (flat_map-append asked plans (p ∷ rest))
-      ∙ first_refusal-none refusal (place_lookups same file xs plans) (asked p ++ place_lookups same file xs rest) before.answered
-      ∙ first_refusal-some refusal (asked p) (place_lookups same file xs rest) e told
+      ∙ first_refusal-none refusal (place_lookups plans) (asked p ++ place_lookups rest) before.answered
+      ∙ first_refusal-some refusal (asked p) (place_lookups rest) e told

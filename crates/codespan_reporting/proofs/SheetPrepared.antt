@@ -2,7 +2,6 @@
 use Rattle.std.proofs.Common.{◌≡◌, ℕ, Bool, List, [], map, flat_map, Option, Some, None, Vec, Global, sym, subst, ◌∙◌, ap, append_assoc}
 use Rattle.std.specs.List.{AllByRecursion}
 use Rattle.std.specs.List.Sorted.{IsPermutation, IsSortedBy}
-use Rattle.std.proofs.lemmas.List.Folds.{flat_map-map}
 use Rattle.codespan_base.specs.declared.files.error.Error.{Error}
 use Rattle.codespan_base.specs.declared.term.config.Config.{Config}
 use Rattle.codespan_base.specs.FileModel.{FileModel, Lookup, or_refusal}
@@ -14,7 +13,7 @@ use Rattle.codespan_reporting.specs.Inner.Entries.{is_below}
 use Rattle.codespan_reporting.specs.Inner.GivenEntries.{Adds, IsOfFiles, entry_of}
 use Rattle.codespan_reporting.specs.Inner.GivenSheets.{IsGathered, sheet_lookups}
 use Rattle.codespan_reporting.specs.Inner.Loci.{place_lookups}
-use Rattle.codespan_reporting.specs.Inner.PlacedLabels.{all_entries, file_ids, lane_after}
+use Rattle.codespan_reporting.specs.Inner.PlacedLabels.{all_entries, file_ids, label_places, lane_after}
 use Rattle.codespan_reporting.proofs.Askings.{first_refusal-append}
 use Rattle.codespan_reporting.proofs.EntryPadding.{gathered-each, gathered-says}
 use Rattle.codespan_reporting.proofs.FileParts.{gathered-sorted}
@@ -22,11 +21,13 @@ use Rattle.codespan_reporting.proofs.Refusals.{first_refusal-some}
 
 module _ {Id : Type 0} (same : Id → Id → Bool) (file : Id → FileModel) (config : Config) (xs : List (InFile Id)) where
   -- what was gathered, put in order
-  pub gathered-in_order : (was now : Gathered Id) → now.ids ≡ was.ids → now.lane_counts ≡ was.lane_counts → was.ids.items ≡ file_ids same xs → was.lane_counts.items ≡ map (lane_after same file xs) was.ids.items
+  pub gathered-in_order : (was now : Gathered Id) → now.ids ≡ was.ids → now.places ≡ was.places → now.lane_counts ≡ was.lane_counts
+      → was.ids.items ≡ file_ids same xs → was.places.items ≡ label_places same was.ids.items xs → was.lane_counts.items ≡ map (lane_after same file xs) was.ids.items
       → Adds (IsOfFiles file was.ids.items) [] was.entries.items (all_entries same file config xs) → IsPermutation was.entries.items now.entries.items → IsSortedBy is_below (map entry_of now.entries.items)
       → IsGathered same file config xs now
-  gathered-in_order was now same_ids same_lanes are lanes adds perm up = record {
+  gathered-in_order was now same_ids same_places same_lanes are places lanes adds perm up = record {
     ids_are = ap (λ (v : Vec Id Global). v.items) same_ids ∙ are;
+    places_are = ap (λ (v : Vec ℕ Global). v.items) same_places ∙ places ∙ ap (λ (v : Vec Id Global). label_places same v.items xs) (sym same_ids);
     lanes_are = ap (λ (v : Vec ℕ Global). v.items) same_lanes ∙ lanes ∙ ap (λ (v : Vec Id Global). map (lane_after same file xs) v.items) (sym same_ids);
     sorted = up;
     permutation = gathered-sorted (all_entries same file config xs) was.entries.items now.entries.items (gathered-says (IsOfFiles file was.ids.items) was.entries.items (all_entries same file config xs) adds) perm;
@@ -46,15 +47,12 @@ module _ {Id : Type 0} (same : Id → Id → Bool) (file : Id → FileModel) (co
     -- of those of the files the numbers come first, and then the places
     pub sheet-is : (numbers : List (Id × Lookup)) (plans : List (FilePlan Id))
         → numbers ≡ flat_map (λ id. asked_of id (numbers_for_padding config same file refusal xs config.layout id)) (file_ids same xs)
-        → map (λ (p : FilePlan Id). p.id) plans ≡ file_ids same xs
-        → first_refusal refusal (sheet_lookups config same file refusal xs) ≡ or_refusal (first_refusal refusal numbers) (first_refusal refusal (place_lookups same file xs plans))
-    sheet-is numbers plans are ids =
+        → flat_map (λ id. asked_of id (locus_lookups same file xs id)) (file_ids same xs) ≡ place_lookups plans
+        → first_refusal refusal (sheet_lookups config same file refusal xs) ≡ or_refusal (first_refusal refusal numbers) (first_refusal refusal (place_lookups plans))
+    sheet-is numbers plans are places =
         first_refusal-append refusal (flat_map (λ id. asked_of id (numbers_for_padding config same file refusal xs config.layout id)) (file_ids same xs))
         (flat_map (λ id. asked_of id (locus_lookups same file xs id)) (file_ids same xs))
         ∙ (λ i. or_refusal (first_refusal refusal (sym are i)) (first_refusal refusal (places i)))
-      where
-        places : flat_map (λ id. asked_of id (locus_lookups same file xs id)) (file_ids same xs) ≡ place_lookups same file xs plans
-        places = ap (flat_map (λ (id : Id). asked_of id (locus_lookups same file xs id))) (sym ids) ∙ flat_map-map (λ (id : Id). asked_of id (locus_lookups same file xs id)) (λ (p : FilePlan Id). p.id) plans
 
     -- a lookup of a number refuses
     pub numbers-refused : (numbers : List (Id × Lookup)) → numbers ≡ flat_map (λ id. asked_of id (numbers_for_padding config same file refusal xs config.layout id)) (file_ids same xs)

@@ -54,6 +54,13 @@ around_given xs (Some place) =
 pub record AreHanging (labels before after : List GivenLabel) : Type 0 where
   pub are : filter has_message (all_labelled (before ++ after)) ≡ hanging (all_labelled labels)
 
+-- the two lists are a beginning of the labels and an end of them
+pub record ArePieces (labels before after : List GivenLabel) : Type 0 where
+  pub rest : List GivenLabel
+  pub begins : before ++ rest ≡ labels
+  pub skipped : List GivenLabel
+  pub ends : skipped ++ after ≡ labels
+
 -- the rows of messages that hang, the last one first
 abbrev pub hanging_stream : Look → Line → List Labelled → Stream
 hanging_stream look line xs = stream_of_rows look (map (HangingRow line) (reverse xs))

@@ -3,6 +3,7 @@
 ghost use Rattle.std.specs.Prelude.{◌≡◌};
 ghost use Rattle.codespan_picture.specs.Given.{lanes_in_order};
 
+pub mod by_cells;
 mod carets;
 mod cells;
 mod header;

@@ -41,10 +41,10 @@ second_of (Single place label) = label.end
 second_of (Multi mark) = 0
 
 -- the place of a label inside the line
-abbrev pub place_of : Says → ℕ
-place_of Shown = 0
-place_of (Single place label) = place
-place_of (Multi mark) = 0
+abbrev pub place_in_list : Says → ℕ
+place_in_list Shown = 0
+place_in_list (Single place label) = place
+place_in_list (Multi mark) = 0
 
 -- by kind; labels inside a line by their ranges, of equal ranges the one given last first; the others by lane
 abbrev pub says_cmp : Says → Says → Ordering
@@ -52,7 +52,7 @@ says_cmp x y =
     ordering_then (nat_cmp (kind_of x) (kind_of y))
     (ordering_then (nat_cmp (first_of x) (first_of y))
     (ordering_then (nat_cmp (second_of x) (second_of y))
-    (nat_cmp (place_of y) (place_of x))))
+    (nat_cmp (place_in_list y) (place_in_list x))))
 
 -- by file and line, and then by what is said
 abbrev pub entry_cmp : Entry → Entry → Ordering
@@ -65,8 +65,8 @@ is_below x y = is_lt (entry_cmp x y)
 -- ---- tests on entries
 
 -- the entry says that its line is shown
-abbrev pub is_shown : Entry → Bool
-is_shown e = kind_of e.says == 0
+abbrev pub tells_shown : Entry → Bool
+tells_shown e = kind_of e.says == 0
 
 -- the entry is of this line
 abbrev pub is_on_line : ℕ → Entry → Bool

@@ -14,7 +14,7 @@ use Rattle.codespan_reporting.specs.declared.term.views.gather.LabelPlace.{Label
 use Rattle.codespan_reporting.specs.Inner.Entries.{Entry, LabelPlace, Says, Shown, Single, Multi, line_entries}
 use Rattle.codespan_picture.specs.Given.{part_of}
 use Rattle.codespan_picture.specs.Lookups.{is_asked, of_line}
-use Rattle.codespan_reporting.specs.Inner.PlacedLabels.{IsAt}
+use Rattle.codespan_reporting.specs.Inner.PlacedLabels.{IsIdAt}
 
 -- what an entry says
 abbrev pub says_of : GivenSays → Says
@@ -33,7 +33,7 @@ pub record IsLineOf (f : FileModel) (line : SourceLine) : Type 0 where
 
 -- the entry's line is one of its file, of those with these ids
 abbrev pub IsOfFiles : {Id : Type 0} → (Id → FileModel) → List Id → GivenEntry → Type 0
-IsOfFiles {Id} file ids e = (id : Id) → IsAt ids e.file id → IsLineOf (file id) e.line
+IsOfFiles {Id} file ids e = (id : Id) → IsIdAt ids e.file id → IsLineOf (file id) e.line
 
 -- entries were added that say this, and this holds of each
 pub record Adds (P : GivenEntry → Type 0) (old new : List GivenEntry) (entries : List Entry) : Type 0 where

@@ -8,7 +8,7 @@ use Rattle.codespan_picture.specs.Given.{place_of_given}
 use Rattle.codespan_picture.specs.Lines.{drawn_lines}
 use Rattle.codespan_picture.specs.Lookups.{Refusals, asked_of, filled_lines, locus_lookups, numbers_for_padding, of_filled}
 use Rattle.codespan_picture.specs.Padding.{padding_of}
-use Rattle.codespan_picture.specs.Placed.{IsPlaceOfFile}
+use Rattle.codespan_picture.specs.Placed.{IsPlaceIn, IsPlaceOfFile}
 use Rattle.codespan_picture.specs.Rows.{Place}
 use Rattle.codespan_picture.specs.Snippets.{InFile, LabelledFile, labelled_file, labelled_files, lane_count, rows_after}
 use Rattle.codespan_reporting.specs.declared.term.views.gather.Gathered.{Gathered}
@@ -18,7 +18,8 @@ use Rattle.codespan_reporting.specs.declared.term.views.sheet.SheetFile.{SheetFi
 use Rattle.codespan_reporting.specs.Inner.Entries.{is_below}
 use Rattle.codespan_reporting.specs.Inner.GivenEntries.{IsOfFiles, entry_of}
 use Rattle.codespan_reporting.specs.Inner.GivenSteps.{IsStepOf, asked_by_all, step_of}
-use Rattle.codespan_reporting.specs.Inner.PlacedLabels.{all_entries, file_ids, lane_after}
+use Rattle.codespan_reporting.specs.Inner.Loci.{start_byte}
+use Rattle.codespan_reporting.specs.Inner.PlacedLabels.{all_entries, file_ids, label_places, lane_after}
 use Rattle.codespan_reporting.specs.Inner.StepDrawing.{DoFit}
 use Rattle.codespan_reporting.specs.Inner.Steps.{rows_of_steps}
 
@@ -39,21 +40,22 @@ pub record IsSheetFile {Id : Type 0} (config : Config) (s : LabelledFile) (f : S
   pub rows : rows_of_steps s.file (lane_count s) (map step_of f.steps.items) ≡ rows_after s None (drawn_lines config s.file s.labels)
   pub asked : asked_by_all f.steps.items ≡ flat_map (of_filled config.layout) (filled_lines config s)
 
+-- a plan, with the place at which the file's snippet starts
+pub record IsPlacedPlan {Id : Type 0} (file : Id → FileModel) (plan : FilePlan Id) (placed : SheetFile Id) : Type 0 where
+  pub id_is : placed.id ≡ plan.id
+  pub lanes_are : placed.lane_count ≡ plan.lane_count
+  pub steps_are : placed.steps.items ≡ plan.steps.items
+  pub place : IsPlaceIn (file plan.id) (start_byte plan.start) (place_of_given placed.locus)
+
 module _ {Id : Type 0} (same : Id → Id → Bool) (file : Id → FileModel) where
   -- this was gathered of these labels, and is in order
   pub record IsGathered (config : Config) (xs : List (InFile Id)) (gathered : Gathered Id) : Type 0 where
     pub ids_are : gathered.ids.items ≡ file_ids same xs
+    pub places_are : gathered.places.items ≡ label_places same gathered.ids.items xs
     pub lanes_are : gathered.lane_counts.items ≡ map (lane_after same file xs) gathered.ids.items
     pub sorted : IsSortedBy is_below (map entry_of gathered.entries.items)
     pub permutation : IsPermutation (all_entries same file config xs) (map entry_of gathered.entries.items)
     pub lines : AllByRecursion (IsOfFiles file gathered.ids.items) gathered.entries.items
-
-  -- a plan, with the place at which the file's snippet starts
-  pub record IsPlacedPlan (xs : List (InFile Id)) (plan : FilePlan Id) (placed : SheetFile Id) : Type 0 where
-    pub id_is : placed.id ≡ plan.id
-    pub lanes_are : placed.lane_count ≡ plan.lane_count
-    pub steps_are : placed.steps.items ≡ plan.steps.items
-    pub place : IsPlaceOfFile (labelled_file same file xs plan.id) (place_of_given placed.locus)
 
   -- the sheet is that of these labels
   pub record IsPrepared (config : Config) (xs : List (InFile Id)) (sheet : Sheet Id) : Type 0 where

@@ -1,9 +1,11 @@
--- The least start of some labels of a file.
-use Rattle.std.specs.Prelude.{ℕ, Bool, not, ◌&&◌, ◌||◌, min, List, [], ◌∷◌, map, flat_map, filter, fold, Option, Some, None}
-use Rattle.codespan_base.specs.FileModel.{FileModel, Lookup}
-use Rattle.codespan_base.specs.Labels.{is_primary}
-use Rattle.codespan_picture.specs.Lookups.{asked_of, locus_lookups}
+-- Where the snippet of each file starts.
+use Rattle.std.specs.Prelude.{ℕ, Bool, true, false, not, ◌&&◌, ◌||◌, min, List, [], ◌∷◌, map, flat_map, filter, fold, if◌then◌else◌, Option, Some, None, unwrap_or}
+use Rattle.codespan_base.specs.FileModel.{Lookup}
+use Rattle.codespan_base.specs.FileModel.Lookup.{LocationAt, Name}
+use Rattle.codespan_base.specs.Labels.{Labelled, is_primary}
+use Rattle.codespan_picture.specs.Lookups.{asked_of}
 use Rattle.codespan_picture.specs.Snippets.{InFile}
+use Rattle.codespan_reporting.specs.declared.term.views.loci.FileStart.{FileStart}
 use Rattle.codespan_reporting.specs.declared.term.views.plan.FilePlan.{FilePlan}
 
 -- the least of some numbers, if there is one
@@ -16,9 +18,26 @@ abbrev pub is_asked_label : {Id : Type 0} → (Id → Id → Bool) → Id → Bo
 is_asked_label same id only_primary x = same id x.id && (not only_primary || is_primary x.label)
 
 -- the starts of the labels of a file, or of its primary ones alone
-abbrev pub starts_in : {Id : Type 0} → (Id → Id → Bool) → Id → Bool → List (InFile Id) → List ℕ
-starts_in {Id} same id only_primary xs = map (λ (x : InFile Id). x.label.start) (filter (is_asked_label same id only_primary) xs)
+abbrev pub label_starts : {Id : Type 0} → (Id → Id → Bool) → Id → Bool → List (InFile Id) → List ℕ
+label_starts {Id} same id only_primary xs = map (λ (x : InFile Id). x.label.start) (filter (is_asked_label same id only_primary) xs)
+
+-- where the snippet of a file starts, as these labels tell
+abbrev pub file_start : {Id : Type 0} → (Id → Id → Bool) → List (InFile Id) → Id → FileStart
+file_start same xs id = record { primary = least_if_any (label_starts same id true xs); any = least_if_any (label_starts same id false xs) }
+
+-- the lesser of a number, and of one that may be there
+abbrev pub least_with : Option ℕ → ℕ → ℕ
+least_with None n = n
+least_with (Some m) n = min m n
+
+-- where it starts with one label more
+abbrev pub start_with : FileStart → Labelled → FileStart
+start_with s x = record { primary = if is_primary x then Some (least_with s.primary x.start) else s.primary; any = Some (least_with s.any x.start) }
+
+-- the byte: the least start of a primary label, or of any where none is primary
+abbrev pub start_byte : FileStart → ℕ
+start_byte s = unwrap_or s.primary (unwrap_or s.any 0)
 
 -- the lookups of the places of files
-abbrev pub place_lookups : {Id : Type 0} → (Id → Id → Bool) → (Id → FileModel) → List (InFile Id) → List (FilePlan Id) → List (Id × Lookup)
-place_lookups {Id} same file xs plans = flat_map (λ (p : FilePlan Id). asked_of p.id (locus_lookups same file xs p.id)) plans
+abbrev pub place_lookups : {Id : Type 0} → List (FilePlan Id) → List (Id × Lookup)
+place_lookups {Id} plans = flat_map (λ (p : FilePlan Id). asked_of p.id (Name ∷ LocationAt (start_byte p.start) ∷ [])) plans

@@ -8,10 +8,10 @@ use Rattle.codespan_reporting.specs.Inner.Entries.{Entry, LabelPlace, entries_of
 use Rattle.codespan_picture.specs.Snippets.{InFile}
 
 -- id is the one at place f
-abbrev pub IsAt : {Id : Type 0} → List Id → ℕ → Id → Type 0
-IsAt [] f id = ⊥
-IsAt (j ∷ js) zero id = j ≡ id
-IsAt (j ∷ js) (suc f) id = IsAt js f id
+abbrev pub IsIdAt : {Id : Type 0} → List Id → ℕ → Id → Type 0
+IsIdAt [] f id = ⊥
+IsIdAt (j ∷ js) zero id = j ≡ id
+IsIdAt (j ∷ js) (suc f) id = IsIdAt js f id
 
 module _ {Id : Type 0} (same : Id → Id → Bool) where
   -- the ids of the labels' files, in the order of their first label

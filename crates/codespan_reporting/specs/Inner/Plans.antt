@@ -4,6 +4,7 @@ use Rattle.codespan_base.specs.declared.term.config.Layout.{Layout}
 use Rattle.codespan_base.specs.FileModel.{FileModel, Lookup}
 use Rattle.codespan_picture.specs.Lookups.{asked_of}
 use Rattle.codespan_picture.specs.Padding.{digit_count}
+use Rattle.codespan_reporting.specs.declared.term.views.loci.FileStart.{FileStart}
 use Rattle.codespan_reporting.specs.declared.term.views.plan.FilePlan.{FilePlan}
 use Rattle.codespan_reporting.specs.declared.term.views.steps.Step.{Step as GivenStep}
 use Rattle.codespan_reporting.specs.declared.term.views.steps.Step.TheVariants as given
@@ -24,11 +25,12 @@ by_place give k (id ∷ ids) = give k id ++ by_place give (k + 1) ids
 abbrev pub planned_lookups : {Id : Type 0} → Layout → List Entry → List Id → List (Id × Lookup)
 planned_lookups layout es ids = by_place (λ k id. asked_of id (numbers_asked layout (fills_of (steps_at es k)))) 0 ids
 
-module _ {Id : Type 0} (layout : Layout) (file : Id → FileModel) (es : List Entry) (lane_counts : List ℕ) where
+module _ {Id : Type 0} (layout : Layout) (file : Id → FileModel) (es : List Entry) (lane_counts : List ℕ) (starts : List FileStart) where
   -- the plan is that of the file at a place, which this id names
   pub record IsPlan (k : ℕ) (id : Id) (plan : FilePlan Id) : Type 0 where
     pub id_is : plan.id ≡ id
     pub lanes_are : plan.lane_count ≡ slice_index_or lane_counts k plan.lane_count
+    pub start_is : plan.start ≡ slice_index_or starts k plan.start
     pub adds : AddsSteps layout (file id) [] plan.steps.items (steps_at es k)
 
   -- the plans are those of the files from a place on

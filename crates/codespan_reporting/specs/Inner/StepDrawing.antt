@@ -13,7 +13,7 @@ use Rattle.codespan_picture.specs.Rows.{Row}
 use Rattle.codespan_picture.specs.RowStreams.{stream_of_rows}
 use Rattle.codespan_reporting.specs.Inner.Steps.{Step, does_step_fit, rows_of_step, rows_of_steps}
 
--- the marks of each step are in the order of so many lanes
+-- the marks of each step are in the order of so many lanes, and its labels in that of their starts
 abbrev pub DoFit : ℕ → List Step → Type 0
 DoFit count steps = AllByRecursion (λ step. does_step_fit count step ≡ true) steps
 

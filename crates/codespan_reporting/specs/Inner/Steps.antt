@@ -1,5 +1,5 @@
 -- The steps that entries in order make: lines that are drawn, lines that are filled in, and breaks.
-use Rattle.std.specs.Prelude.{ℕ, ◌+◌, Bool, ◌==◌, List, [], ◌∷◌, ◌++◌, flat_map, drop, Option, Some, None, if◌then◌else◌}
+use Rattle.std.specs.Prelude.{ℕ, ◌+◌, Bool, ◌==◌, ◌&&◌, List, [], ◌∷◌, ◌++◌, flat_map, drop, Option, Some, None, if◌then◌else◌}
 use Rattle.std.specs.List.{prefix_len, filter_map}
 use Rattle.codespan_base.specs.FileModel.{FileModel, line_text}
 use Rattle.codespan_base.specs.Labels.{Labelled, LaneMark}
@@ -7,7 +7,8 @@ use Rattle.codespan_picture.specs.Cells.{drawn_text}
 use Rattle.codespan_picture.specs.Lanes.{ascend_from}
 use Rattle.codespan_picture.specs.Lines.{is_broken}
 use Rattle.codespan_picture.specs.Rows.{Line, Row, BreakRow, rows_of}
-use Rattle.codespan_reporting.specs.Inner.Entries.{Entry, Says, Shown, Single, Multi, is_shown}
+use Rattle.codespan_renderer.specs.Inner.Sweeps.{starts_in_order}
+use Rattle.codespan_reporting.specs.Inner.Entries.{Entry, Says, Shown, Single, Multi, tells_shown}
 
 -- a line is drawn with its marks, a line between two shown ones is filled in with its marks, or lines are left out before one with these marks
 pub data Step : Type 0 where
@@ -30,7 +31,7 @@ groups (x ∷ xs) = join_group x (groups xs)
 
 -- a group without those in front that say that the line is shown
 abbrev pub marks_of : List Entry → List Entry
-marks_of g = drop (prefix_len is_shown g) g
+marks_of g = drop (prefix_len tells_shown g) g
 
 -- what stands between two shown lines: the one line between them, a break, or nothing
 abbrev pub gap : ℕ → ℕ → List Entry → List Entry → List Step
@@ -50,7 +51,7 @@ abbrev pub walk : Option ℕ → List Entry → List (List Entry) → List Step
 walk was skipped [] = []
 walk was skipped ([] ∷ gs) = walk was skipped gs
 walk was skipped ((x ∷ g) ∷ gs) =
-    if is_shown x
+    if tells_shown x
     then gap_after was x.line skipped (marks_of (x ∷ g)) ++ (Draw x.line (marks_of (x ∷ g)) ∷ walk (Some x.line) [] gs)
     else walk was (skipped ++ (x ∷ g)) gs
 
@@ -122,11 +123,11 @@ line_of_step (Break es) = []
 abbrev pub lines_of_steps : List Step → List ℕ
 lines_of_steps steps = flat_map line_of_step steps
 
--- ---- lanes in order
+-- ---- marks and labels in order
 
--- the entries' marks are in the order of so many lanes
+-- the entries' marks are in the order of so many lanes, and their labels in that of their starts
 abbrev pub do_fit : ℕ → List Entry → Bool
-do_fit count es = ascend_from count 0 (multis_in es)
+do_fit count es = ascend_from count 0 (multis_in es) && starts_in_order (singles_in es)
 
 -- those of a step are
 abbrev pub does_step_fit : ℕ → Step → Bool

@@ -89,7 +89,7 @@ fn send_caret_run<W: WriteStyle>(
 }
 
 /// The end of a run of carets of one style, and the mark of the next.
-fn end_caret_run<W: WriteStyle>(
+pub fn end_caret_run<W: WriteStyle>(
     w: &mut W,
     look: Look<'_>,
     was: Option<LabelStyle>,
@@ -103,7 +103,7 @@ fn end_caret_run<W: WriteStyle>(
 }
 
 /// How many cells of carets or blanks a character has under it, where they reach to `end`.
-fn caret_count(cell: Cell, style: Option<LabelStyle>, end: usize) -> usize
+pub fn caret_count(cell: Cell, style: Option<LabelStyle>, end: usize) -> usize
     ensures { result ≡ caret_count end style cell }
 {
     if style.is_some() || cell.place < end {
@@ -147,7 +147,7 @@ pub fn send_message<W: WriteStyle>(
 
 /// One blank and the trailing message, where there is one.
 #[tactic(auto, using(codespan_base::proofs::Sends::sendings), unfolding(codespan_picture::specs::RowParts::trailing_message))]
-fn send_trailing<W: WriteStyle>(
+pub fn send_trailing<W: WriteStyle>(
     w: &mut W,
     severity: Severity,
     trailing: Option<&SingleLabel<'_>>,

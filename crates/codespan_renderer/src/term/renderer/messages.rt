@@ -3,7 +3,7 @@
 ghost use Rattle.std.specs.Prelude.{◌≡◌, ◌<◌, length, false, IfSome};
 ghost use Rattle.std.specs.Option.{option_map_or};
 ghost use Rattle.codespan_picture.specs.Given.{labelled, all_labelled};
-ghost use Rattle.codespan_renderer.specs.Inner.Runs.{given_label, around_given, AreHanging};
+ghost use Rattle.codespan_renderer.specs.Inner.Runs.{given_label, around_given, AreHanging, ArePieces};
 ghost use Rattle.codespan_picture.specs.Rows.{trailing, last_with_end, is_overlapped, does_trail};
 
 use crate::term::renderer::SingleLabel;
@@ -26,6 +26,7 @@ impl<'row, 'd> Messages<'row, 'd> {
     pub fn of(labels: &'row [SingleLabel<'d>]) -> Messages<'row, 'd>
         ensures trailing { given_label result.trailing ≡ trailing (all_labelled labels.now) }
         ensures hanging { AreHanging labels.now result.before.now result.after.now }
+        ensures pieces { ArePieces labels.now result.before.now result.after.now }
     {
         match last_with_end(labels, greatest_end(labels)) {
             Some(place) if does_trail(labels, place) => Messages {

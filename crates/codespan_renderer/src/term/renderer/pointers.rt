@@ -26,7 +26,7 @@ use codespan_base::term::WriteStyle;
 use std::io;
 
 /// The greatest start of the labels, 0 where there is none.
-fn greatest_start(labels: &[SingleLabel<'_>]) -> usize
+pub fn greatest_start(labels: &[SingleLabel<'_>]) -> usize
     ensures { result ≡ greatest_start (all_labelled labels.now) }
 {
     let mut greatest = 0;
@@ -80,7 +80,7 @@ fn pointer_in(
 }
 
 /// The blanks before a pointer, and the pointer.
-fn send_pointer<W: WriteStyle>(
+pub fn send_pointer<W: WriteStyle>(
     w: &mut W,
     look: Look<'_>,
     blank: u128,
@@ -190,7 +190,7 @@ fn send_pointers_and_messages<W: WriteStyle>(
 }
 
 /// Whether one of the labels has a message.
-fn has_any_message(labels: &[SingleLabel<'_>]) -> bool
+pub fn has_any_message(labels: &[SingleLabel<'_>]) -> bool
     ensures { result ≡ list_any has_message (all_labelled labels.now) }
 {
     for label in labels {

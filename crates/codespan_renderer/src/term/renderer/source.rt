@@ -106,7 +106,7 @@ fn send_coloured_text<W: WriteStyle>(
 }
 
 /// The end of a run of text of one style, and the mark of the next.
-fn end_text_run<W: WriteStyle>(
+pub fn end_text_run<W: WriteStyle>(
     w: &mut W,
     look: Look<'_>,
     text: &[u8],
@@ -120,7 +120,7 @@ fn end_text_run<W: WriteStyle>(
 }
 
 /// The end of a run of text before a tab, and the tab's blanks.
-fn send_tab<W: WriteStyle>(
+pub fn send_tab<W: WriteStyle>(
     w: &mut W,
     look: Look<'_>,
     text: &[u8],
@@ -135,7 +135,11 @@ fn send_tab<W: WriteStyle>(
 }
 
 /// The number of a line, its border, its lanes, and one blank.
-fn send_source_lanes<W: WriteStyle>(w: &mut W, look: Look<'_>, line: Line<'_, '_>) -> io::Result<()>
+pub fn send_source_lanes<W: WriteStyle>(
+    w: &mut W,
+    look: Look<'_>,
+    line: Line<'_, '_>,
+) -> io::Result<()>
     ensures { Sends (W.sink w.old) (numbered_gutter look.entry.padding line.entry.number ++ border look.entry.chars.now ++ source_lanes (look_of_given look.entry) (leading_of (line_of_given line.entry)) (lanes_of_given line.entry.lanes) ++ space) result (W.sink w.new) }
 {
     send_numbered_gutter(w, look.padding, line.number)?;

@@ -11,7 +11,7 @@ ghost use Rattle.codespan_reporting.specs.Inner.GivenEntries.{Adds, AddsOf, IsLi
 ghost use Rattle.codespan_reporting.specs.Inner.GivenSheets.{IsGathered};
 ghost use Rattle.codespan_picture.specs.Lookups.{asked_lines, asked_of, ends_context, first_refusal, is_asked, label_lookups, line_refusal, of_label, of_line, probe};
 ghost use Rattle.codespan_picture.specs.Picture.{label_of};
-ghost use Rattle.codespan_reporting.specs.Inner.PlacedLabels.{all_entries, file_ids, lane_after};
+ghost use Rattle.codespan_reporting.specs.Inner.PlacedLabels.{all_entries, file_ids, label_places, lane_after};
 
 use crate::term::renderer::MultiLabel;
 use crate::term::views::entry::{Entry, Says, SourceLine};
@@ -249,6 +249,8 @@ fn gather_label<'files, 'd, F: Files<'files>>(
 pub struct Gathered<'d, FileId> {
     /// The ids of the labels' files, in the order of their first label.
     pub ids: Vec<FileId>,
+    /// For each label the place of its file among these, counted from 0.
+    pub places: Vec<usize>,
     /// How many lanes each of these files has.
     pub lane_counts: Vec<usize>,
     /// What the labels say, in their order.
@@ -280,6 +282,7 @@ fn gather_in_turn<'files, 'd, F: Files<'files>>(
     labels: &'d [Label<F::FileId>],
 ) -> Result<Gathered<'d, F::FileId>, Error>
     ensures ids { IfOk result (λ gathered. gathered.ids.items ≡ file_ids F.FileId.eq (map label_of labels.now)) }
+    ensures places { IfOk result (λ gathered. gathered.places.items ≡ label_places F.FileId.eq gathered.ids.items (map label_of labels.now)) }
     ensures lanes { IfOk result (λ gathered. gathered.lane_counts.items ≡ map (lane_after F.FileId.eq (F.file files.now) (map label_of labels.now)) gathered.ids.items) }
     ensures entries { IfOk result (λ gathered. Adds (IsOfFiles (F.file files.now) gathered.ids.items) [] gathered.entries.items (all_entries F.FileId.eq (F.file files.now) config.now (map label_of labels.now))) }
     ensures refused { Tells (first_refusal (F.refusal files.now) (label_lookups config.now (F.file files.now) (F.refusal files.now) (map label_of labels.now))) result }
@@ -296,6 +299,7 @@ fn gather_in_turn<'files, 'd, F: Files<'files>>(
     }
     Ok(Gathered {
         ids: of_labels.ids,
+        places: of_labels.places,
         lane_counts,
         entries,
     })

@@ -2,14 +2,14 @@
 
 ghost use Rattle.std.specs.Prelude.{◌≡◌, ◌≤◌, length};
 ghost use Rattle.std.specs.List.{prefix_len};
-ghost use Rattle.codespan_reporting.specs.Inner.Entries.{is_shown, is_on_line, is_of_file};
+ghost use Rattle.codespan_reporting.specs.Inner.Entries.{is_of_file, is_on_line, tells_shown};
 ghost use Rattle.codespan_reporting.specs.Inner.GivenEntries.{entry_of};
 
 use crate::term::views::entry::{Entry, Says};
 
 /// Whether an entry says that its line is shown.
 pub fn is_shown(entry: &Entry<'_>) -> bool
-    ensures { result ≡ is_shown (entry_of entry.now) }
+    ensures { result ≡ tells_shown (entry_of entry.now) }
 {
     matches!(entry.says, Says::Shown)
 }
@@ -27,7 +27,7 @@ pub fn line_len(entries: &[Entry<'_>], line: usize) -> usize
 
 /// How many entries in front say that their line is shown.
 pub fn shown_len(entries: &[Entry<'_>]) -> usize
-    ensures value { result ≡ prefix_len (λ e. is_shown (entry_of e)) entries.now }
+    ensures value { result ≡ prefix_len (λ e. tells_shown (entry_of e)) entries.now }
     ensures within { result ≤ length entries.now }
 {
     entries.iter().take_while(|entry| is_shown(*entry)).count()

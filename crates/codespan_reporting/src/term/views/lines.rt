@@ -129,10 +129,26 @@ impl<'page, 'files, F: Files<'files>> FileLines<'page, 'files, F> {
         ensures draws { DrawsStep F.file F.refusal self.now (config_of renderer.old) [] (Draw line.index (map entry_of entries.now)) (W.sink (writer_of renderer.old)) result (W.sink (writer_of renderer.new)) }
     {
         marks.refill(entries)?;
-        renderer.render_snippet_source(
+        let source = &self.text[line.start..line.end];
+        if marks.singles.is_empty() {
+            return renderer.render_snippet_source(
+                self.page.padding,
+                line.number,
+                source,
+                self.page.severity,
+                &[],
+                self.lane_count,
+                marks.multis.as_slice(),
+            );
+        }
+        marks
+            .cells
+            .refill(renderer, source, marks.singles.as_slice())?;
+        marks.cells.render(
+            renderer,
             self.page.padding,
             line.number,
-            &self.text[line.start..line.end],
+            source,
             self.page.severity,
             marks.singles.as_slice(),
             self.lane_count,

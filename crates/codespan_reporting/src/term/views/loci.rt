@@ -1,19 +1,19 @@
 //! Where the snippet of each file starts.
 
-ghost use Rattle.std.specs.Prelude.{◌≡◌, ◌∷◌, [], IfOk, map};
+ghost use Rattle.std.specs.Prelude.{◌≡◌, ◌∷◌, [], IfOk, OnErr, IsErrOf, map};
 ghost use Rattle.std.specs.List.{AllZip};
-ghost use Rattle.codespan_base.specs.FileModel.{FileModel};
 ghost use Rattle.codespan_base.specs.FileModel.Lookup.{Name as NameLookup, LocationAt};
 ghost use Rattle.codespan_base.specs.Labels.{is_primary};
 ghost use Rattle.codespan_picture.specs.Given.{place_of_given};
-ghost use Rattle.codespan_reporting.specs.Inner.GivenSheets.{IsPlacedPlan};
-ghost use Rattle.codespan_reporting.specs.Inner.Loci.{least_if_any, place_lookups, starts_in};
-ghost use Rattle.codespan_picture.specs.Lookups.{TellsNaming, asked_of, first_refusal, locus_lookups};
+ghost use Rattle.codespan_picture.specs.Lookups.{TellsNaming, asked_of, first_refusal};
 ghost use Rattle.codespan_picture.specs.Picture.{label_of};
-ghost use Rattle.codespan_picture.specs.Placed.{IsPlaceIn, IsPlaceOfFile};
-ghost use Rattle.codespan_picture.specs.Snippets.{labelled_file, locus_start};
+ghost use Rattle.codespan_picture.specs.Placed.{IsPlaceIn};
+ghost use Rattle.codespan_reporting.specs.Inner.GivenSheets.{IsPlacedPlan};
+ghost use Rattle.codespan_reporting.specs.Inner.Loci.{file_start, least_with, place_lookups, start_byte, start_with};
+ghost use Rattle.codespan_reporting.specs.Inner.PlacedLabels.{file_ids, label_places};
 
 use crate::term::renderer::Locus;
+use crate::term::views::gather::Gathered;
 use crate::term::views::plan::FilePlan;
 use crate::term::views::sheet::SheetFile;
 use codespan_base::diagnostic::text::display_text;
@@ -28,36 +28,74 @@ pub fn is_primary<FileId>(label: &Label<FileId>) -> bool
     matches!(label.style, LabelStyle::Primary)
 }
 
-/// The least byte at which a label of the file starts, or a primary one where only those are asked for; `None` where there is none.
-fn least_start<FileId: Copy + Eq>(
-    labels: &[Label<FileId>],
-    id: FileId,
-    only_primary: bool,
-) -> Option<usize>
-    ensures { result ≡ least_if_any (starts_in FileId.eq id only_primary (map label_of labels.now)) }
+/// The lesser of a byte, and of one that may be known.
+fn least(known: Option<usize>, start: usize) -> usize
+    ensures { result ≡ least_with known start }
 {
-    let mut least: Option<usize> = None;
-    for label in labels {
-        if id == label.file_id && (!only_primary || is_primary(label)) {
-            let start = label.range.start;
-            least = match least {
-                Some(byte) => Some(byte.min(start)),
-                None => Some(start),
-            };
-        }
+    match known {
+        Some(byte) => byte.min(start),
+        None => start,
     }
-    least
 }
 
-/// The byte at which a file's snippet starts: the least start of a primary label of the file, or of any of its labels where
-/// none is primary. It is 0 where no label is of the file.
-pub fn locus_start<FileId: Copy + Eq>(labels: &[Label<FileId>], id: FileId) -> usize
-    ensures { (file : FileId → FileModel) → result ≡ locus_start (labelled_file FileId.eq file (map label_of labels.now) id).labels }
-{
-    match least_start(labels, id, true) {
-        Some(start) => start,
-        None => least_start(labels, id, false).unwrap_or(0),
+/// Where the snippet of a file starts, as some of its labels tell. Bytes are counted from 0.
+#[derive(Clone, Copy)]
+pub struct FileStart {
+    /// The least byte at which a primary label starts; `None` where none is primary.
+    pub primary: Option<usize>,
+    /// The least byte at which any label starts; `None` where there is none.
+    pub any: Option<usize>,
+}
+
+impl FileStart {
+    /// What one label more tells.
+    fn with<FileId>(self, label: &Label<FileId>) -> FileStart
+        ensures { result ≡ start_with self (label_of label.now).label }
+    {
+        let start = label.range.start;
+        let primary = if is_primary(label) {
+            Some(least(self.primary, start))
+        } else {
+            self.primary
+        };
+        FileStart {
+            primary,
+            any: Some(least(self.any, start)),
+        }
     }
+
+    /// The byte at which the snippet starts: the least start of a primary label, or of any label where none is primary.
+    pub fn byte(self) -> usize
+        ensures { result ≡ start_byte self }
+    {
+        match self.primary {
+            Some(byte) => byte,
+            None => self.any.unwrap_or(0),
+        }
+    }
+}
+
+/// Where the snippet of each file of these labels starts, of which this was gathered. Refuses with `OutOfMemory`.
+pub fn file_starts<FileId: Copy + Eq>(
+    alloc: Global,
+    labels: &[Label<FileId>],
+    gathered: &Gathered<'_, FileId>,
+) -> Result<Vec<FileStart>, Error>
+    requires ids { gathered.now.ids.items ≡ file_ids FileId.eq (map label_of labels.now) }
+    requires places { gathered.now.places.items ≡ label_places FileId.eq gathered.now.ids.items (map label_of labels.now) }
+    ensures starts { IfOk result (λ starts. starts.items ≡ map (file_start FileId.eq (map label_of labels.now)) gathered.now.ids.items) }
+    ensures refused { OnErr result (IsErrOf result Error.OutOfMemory) }
+{
+    let unknown = FileStart {
+        primary: None,
+        any: None,
+    };
+    let mut starts = vec![in alloc; unknown; gathered.ids.len()]?;
+    for (place, label) in labels.iter().enumerate() {
+        let file = gathered.places[place];
+        starts[file] = starts[file].with(label);
+    }
+    Ok(starts)
 }
 
 /// The name of a file, and the location of a byte of it.
@@ -78,22 +116,6 @@ pub fn locus_at<'files, F: Files<'files>>(
     Ok(Locus { name, location })
 }
 
-/// The name of a file, and the location of the byte at which its snippet starts.
-///
-/// Refuses as the first of these lookups that refuses does, with `FormatError` where the `Display` of the name refuses, and with
-/// `OutOfMemory`.
-fn file_locus<'files, F: Files<'files>>(
-    alloc: Global,
-    files: &'files F,
-    id: F::FileId,
-    labels: &[Label<F::FileId>],
-) -> Result<Locus, Error>
-    ensures locus { IfOk result (λ locus. IsPlaceOfFile (labelled_file F.FileId.eq (F.file files.now) (map label_of labels.now) id) (place_of_given locus)) }
-    ensures refused { TellsNaming (first_refusal (F.refusal files.now) (asked_of id (locus_lookups F.FileId.eq (F.file files.now) (map label_of labels.now) id))) result }
-{
-    locus_at(alloc, files, id, locus_start(labels, id))
-}
-
 /// Looks up where the snippet of each file starts, and adds it to what is drawn of the file.
 ///
 /// Refuses as the first lookup of a name or a location that refuses does, with `FormatError` where the `Display` of a name
@@ -101,15 +123,14 @@ fn file_locus<'files, F: Files<'files>>(
 pub fn place_files<'files, 'e, 'd, F: Files<'files>>(
     alloc: Global,
     files: &'files F,
-    labels: &[Label<F::FileId>],
     plans: Vec<FilePlan<'e, 'd, F::FileId>>,
 ) -> Result<Vec<SheetFile<'e, 'd, F::FileId>>, Error>
-    ensures placed { IfOk result (λ placed. AllZip (IsPlacedPlan F.FileId.eq (F.file files.now) (map label_of labels.now)) plans.entry.items placed.items) }
-    ensures refused { TellsNaming (first_refusal (F.refusal files.now) (place_lookups F.FileId.eq (F.file files.now) (map label_of labels.now) plans.entry.items)) result }
+    ensures placed { IfOk result (λ placed. AllZip (IsPlacedPlan (F.file files.now)) plans.entry.items placed.items) }
+    ensures refused { TellsNaming (first_refusal (F.refusal files.now) (place_lookups plans.entry.items)) result }
 {
     let mut placed = Vec::new(alloc);
     for plan in plans {
-        let locus = file_locus(alloc, files, plan.id, labels)?;
+        let locus = locus_at(alloc, files, plan.id, plan.start.byte())?;
         placed.push(SheetFile {
             id: plan.id,
             locus,

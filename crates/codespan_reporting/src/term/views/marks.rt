@@ -9,6 +9,7 @@ use crate::term::renderer::{MultiLabel, SingleLabel};
 use crate::term::views::entry::{Entry, Says};
 use codespan_base::diagnostic::LabelStyle;
 use codespan_base::files::Error;
+use codespan_renderer::term::renderer::by_cells::LineCells;
 use std::alloc::Global;
 
 /// What a renderer is given of a line: the labels inside it, and the marks of those over several lines.
@@ -20,6 +21,8 @@ pub struct LineMarks<'d> {
     pub singles: Vec<SingleLabel<'d>>,
     /// The lane, the style and the mark of each of the others.
     pub multis: Vec<(usize, LabelStyle, MultiLabel<'d>)>,
+    /// The characters of the line, where it has labels inside it.
+    pub cells: LineCells,
 }
 
 impl<'d> LineMarks<'d> {
@@ -31,6 +34,7 @@ impl<'d> LineMarks<'d> {
         LineMarks {
             singles: Vec::new(alloc),
             multis: Vec::new(alloc),
+            cells: LineCells::new(alloc),
         }
     }
 

@@ -11,6 +11,7 @@ ghost use Rattle.codespan_reporting.specs.Inner.Plans.{ArePlans, planned_lookups
 
 use crate::term::views::gather::Gathered;
 use crate::term::views::groups::file_len;
+use crate::term::views::loci::FileStart;
 use crate::term::views::steps::{Step, Walk};
 use codespan_base::files::{Error, Files};
 use codespan_base::term::Layout;
@@ -21,13 +22,15 @@ use std::alloc::Global;
 pub struct FilePlan<'e, 'd, FileId> {
     /// What names the file.
     pub id: FileId,
+    /// Where its snippet starts.
+    pub start: FileStart,
     /// How many lanes it has.
     pub lane_count: usize,
     /// What is drawn of it, in order.
     pub steps: Vec<Step<'e, 'd>>,
 }
 
-/// What is drawn of each file, in the order of the files' first labels.
+/// What is drawn of each file, in the order of the files' first labels. `starts` has where the snippet of each starts.
 ///
 /// In the unbroken layout this asks for the numbers of the lines that are filled in. Refuses as the first of these lookups that refuses
 /// does, and with `OutOfMemory`.
@@ -35,12 +38,14 @@ pub fn plan_files<'files, 'e, 'd, F: Files<'files>>(
     alloc: Global,
     files: &'files F,
     layout: Layout,
+    starts: &[FileStart],
     gathered: &'e Gathered<'d, F::FileId>,
 ) -> Result<Vec<FilePlan<'e, 'd, F::FileId>>, Error>
     requires sorted { IsSortedBy is_below (map entry_of gathered.now.entries.items) }
     requires lines { AllByRecursion (IsOfFiles (F.file files.now) gathered.now.ids.items) gathered.now.entries.items }
     requires lanes { length gathered.now.lane_counts.items ≡ length gathered.now.ids.items }
-    ensures plans { IfOk result (λ plans. ArePlans layout (F.file files.now) (map entry_of gathered.now.entries.items) gathered.now.lane_counts.items 0 gathered.now.ids.items plans.items) }
+    requires starts { length starts.now ≡ length gathered.now.ids.items }
+    ensures plans { IfOk result (λ plans. ArePlans layout (F.file files.now) (map entry_of gathered.now.entries.items) gathered.now.lane_counts.items starts.now 0 gathered.now.ids.items plans.items) }
     ensures refused { Tells (first_refusal (F.refusal files.now) (planned_lookups layout (map entry_of gathered.now.entries.items) gathered.now.ids.items)) result }
 {
     let mut plans = Vec::new(alloc);
@@ -55,6 +60,7 @@ pub fn plan_files<'files, 'e, 'd, F: Files<'files>>(
         let steps = walk.steps(alloc, &gathered.entries[start..start + len])?;
         plans.push(FilePlan {
             id: *id,
+            start: starts[place],
             lane_count: gathered.lane_counts[place],
             steps,
         })?;

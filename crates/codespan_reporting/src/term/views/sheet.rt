@@ -7,7 +7,7 @@ ghost use Rattle.codespan_reporting.specs.Inner.GivenSheets.{IsGathered, IsPrepa
 
 use crate::term::renderer::Locus;
 use crate::term::views::gather::Gathered;
-use crate::term::views::loci::place_files;
+use crate::term::views::loci::{file_starts, place_files};
 use crate::term::views::padding::{drawn_padding, spanned_padding};
 use crate::term::views::plan::plan_files;
 use crate::term::views::steps::Step;
@@ -54,11 +54,12 @@ pub fn prepare<'files, 'e, 'd, F: Files<'files>>(
     ensures prepared { IfOk result (IsPrepared F.FileId.eq (F.file files.now) config.now (map label_of labels.now)) }
     ensures refused { TellsNaming (first_refusal (F.refusal files.now) (sheet_lookups config.now F.FileId.eq (F.file files.now) (F.refusal files.now) (map label_of labels.now))) result }
 {
-    let plans = plan_files(alloc, files, config.layout, gathered)?;
+    let starts = file_starts(alloc, labels, gathered)?;
+    let plans = plan_files(alloc, files, config.layout, &starts, gathered)?;
     let padding = match config.layout {
         Layout::Classic => spanned_padding(&gathered.entries),
         Layout::Unbroken => drawn_padding(&plans),
     };
-    let files = place_files(alloc, files, labels, plans)?;
+    let files = place_files(alloc, files, plans)?;
     Ok(Sheet { files, padding })
 }

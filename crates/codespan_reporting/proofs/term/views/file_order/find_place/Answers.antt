@@ -1,6 +1,6 @@
 use Rattle.std.proofs.Common.{sym, subst}
 use Rattle.std.proofs.lemmas.Bool.{ltb-true}
-use Rattle.codespan_reporting.specs.Inner.PlacedLabels.{IsAt}
+use Rattle.codespan_reporting.specs.Inner.PlacedLabels.{IsIdAt}
 use Rattle.codespan_reporting.proofs.FilePlaces.{at-get, guessed-place}
 use Rattle.codespan_reporting.proofs.term.views.file_order.find_place.Goals as goal
 
@@ -10,4 +10,4 @@ returns-in-Some g c =
     let other = c.in-Some.other.now in
     let found = c.in-Some.ensures.lookup in
     guessed-place g.FileId.PartialEq.eq g.met.FileId.Eq.laws ids c.args.last other c.args.id c.requires
-    (subst (IsAt ids c.args.last) (sym found.1) (at-get ids c.args.last other (ltb-true c.args.last _ (sym found.0)))) (sym c.if-eq.ensures)
+    (subst (IsIdAt ids c.args.last) (sym found.1) (at-get ids c.args.last other (ltb-true c.args.last _ (sym found.0)))) (sym c.if-eq.ensures)

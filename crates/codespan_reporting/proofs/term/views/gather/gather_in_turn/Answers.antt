@@ -9,7 +9,8 @@ use Rattle.codespan_reporting.specs.Inner.GivenEntries.{Adds, AddsOf, IsOfFiles}
 use Rattle.codespan_picture.specs.Picture.{label_of}
 use Rattle.codespan_reporting.specs.Inner.PlacedLabels.{entries_after, file_place}
 use Rattle.codespan_reporting.proofs.LabelFiles.{label_place-at}
-use Rattle.codespan_reporting.proofs.LabelsGathered.{gathered-none, gathered-all, gathered-more, gathered-refused, file-inside, lane-room}
+use Rattle.codespan_reporting.proofs.LabelsGathered.{gathered-none, gathered-all, gathered-more, gathered-refused, lane-room}
+use Rattle.codespan_reporting.proofs.LabelTurns.{file-inside}
 use Rattle.codespan_reporting.proofs.term.views.gather.gather_in_turn.Goals as goal
 
 -- a label takes one lane at most
@@ -39,8 +40,8 @@ index-lane-requires g c =
     let place : c.index-file.result.now ≡ file_place g.F.FileId.PartialEq.eq ids label.file_id =
     c.index-file.ensures ∙ ap (λ ns. get_or ns c.loop-place.place c.index-file.result.now) c.in_ok-of_labels.ensures.places
     ∙ label_place-at g.F.FileId.PartialEq.eq ids c.args.labels.now c.loop-place.place c.index-file.result.now label c.loop-place-test.true c.index-labels-place.is in
-    let inside = file-inside g.F.FileId.PartialEq.eq file g.met.F.FileId.Eq.laws one refusal c.args.config.now c.args.labels.now ids c.in_ok-of_labels.ensures.ids
-    c.loop-place.place label c.loop-place-test.true c.index-labels-place.is in
+    let inside = file-inside g.F.FileId.PartialEq.eq g.met.F.FileId.Eq.laws c.args.labels.now ids c.loop-place.place label
+    (record { are = c.in_ok-of_labels.ensures.ids; inside = c.loop-place-test.true; is = c.index-labels-place.is }) in
     let long : length lanes ≡ length ids = ap length c.loop-place.invariant.lanes_are ∙ length-map ids _ in
     omega (arith, inside, place, long, c.loop-place.lane_counts.ok.0)
 
@@ -56,8 +57,8 @@ index_mut-requires g c =
     let place : c.index-file.result.now ≡ file_place g.F.FileId.PartialEq.eq ids label.file_id =
     c.index-file.ensures ∙ ap (λ ns. get_or ns c.loop-place.place c.index-file.result.now) c.in_ok-of_labels.ensures.places
     ∙ label_place-at g.F.FileId.PartialEq.eq ids c.args.labels.now c.loop-place.place c.index-file.result.now label c.loop-place-test.true c.index-labels-place.is in
-    let inside = file-inside g.F.FileId.PartialEq.eq file g.met.F.FileId.Eq.laws one refusal c.args.config.now c.args.labels.now ids c.in_ok-of_labels.ensures.ids
-    c.loop-place.place label c.loop-place-test.true c.index-labels-place.is in
+    let inside = file-inside g.F.FileId.PartialEq.eq g.met.F.FileId.Eq.laws c.args.labels.now ids c.loop-place.place label
+    (record { are = c.in_ok-of_labels.ensures.ids; inside = c.loop-place-test.true; is = c.index-labels-place.is }) in
     let long : length lanes ≡ length ids = ap length c.loop-place.invariant.lanes_are ∙ length-map ids _ in
     omega (arith, inside, place, long, c.loop-place.lane_counts.ok.0)
 
@@ -75,8 +76,8 @@ overflow_add-lane g c =
     ∙ label_place-at g.F.FileId.PartialEq.eq ids c.args.labels.now c.loop-place.place c.index-file.result.now label c.loop-place-test.true c.index-labels-place.is in
     let room = lane-room g.F.FileId.PartialEq.eq file g.met.F.FileId.Eq.laws one refusal c.args.config.now c.args.labels.now ids c.in_ok-of_labels.ensures.ids
     c.loop-place.place label c.loop-place-test.true c.index-labels-place.is lanes c.loop-place.entries.items c.loop-place.invariant in
-    let inside = file-inside g.F.FileId.PartialEq.eq file g.met.F.FileId.Eq.laws one refusal c.args.config.now c.args.labels.now ids c.in_ok-of_labels.ensures.ids
-    c.loop-place.place label c.loop-place-test.true c.index-labels-place.is in
+    let inside = file-inside g.F.FileId.PartialEq.eq g.met.F.FileId.Eq.laws c.args.labels.now ids c.loop-place.place label
+    (record { are = c.in_ok-of_labels.ensures.ids; inside = c.loop-place-test.true; is = c.index-labels-place.is }) in
     let long : length lanes ≡ length ids = ap length c.loop-place.invariant.lanes_are ∙ length-map ids _ in
     let lane_is : c.index-lane.result.now ≡ get_or lanes c.index-file.result.now 0 = c.index-lane.ensures ∙ get_or_default_zero lanes c.index-file.result.now _ (omega (arith, inside, place, long)) in
     let lane : get_or lanes c.index-file.result.now 0 ≤ c.loop-place.place = subst (λ k. get_or lanes k 0 ≤ c.loop-place.place) (sym place) room in
@@ -96,8 +97,8 @@ loop-place-preserved g c =
     let place : c.index-file.result.now ≡ file_place g.F.FileId.PartialEq.eq ids label.file_id =
     c.index-file.ensures ∙ ap (λ ns. get_or ns c.loop-place.place c.index-file.result.now) c.in_ok-of_labels.ensures.places
     ∙ label_place-at g.F.FileId.PartialEq.eq ids c.args.labels.now c.loop-place.place c.index-file.result.now label c.loop-place-test.true c.index-labels-place.is in
-    let inside = file-inside g.F.FileId.PartialEq.eq file g.met.F.FileId.Eq.laws one refusal c.args.config.now c.args.labels.now ids c.in_ok-of_labels.ensures.ids
-    c.loop-place.place label c.loop-place-test.true c.index-labels-place.is in
+    let inside = file-inside g.F.FileId.PartialEq.eq g.met.F.FileId.Eq.laws c.args.labels.now ids c.loop-place.place label
+    (record { are = c.in_ok-of_labels.ensures.ids; inside = c.loop-place-test.true; is = c.index-labels-place.is }) in
     let long : length lanes ≡ length ids = ap length c.loop-place.invariant.lanes_are ∙ length-map ids _ in
     let lane_is : c.index-lane.result.now ≡ get_or lanes c.index-file.result.now 0 = c.index-lane.ensures ∙ get_or_default_zero lanes c.index-file.result.now _ (omega (arith, inside, place, long)) in
     gathered-more g.F.FileId.PartialEq.eq file g.met.F.FileId.Eq.laws one refusal c.args.config.now c.args.labels.now ids c.in_ok-of_labels.ensures.ids

@@ -1,12 +1,15 @@
-use Rattle.std.proofs.Common.{rules, ◌≡◌, ◌∷◌, [], ◌++◌, Err, length, map, refl, sym, ap, subst, ◌∙◌, append_assoc, append-nil, arith}
+use Rattle.std.proofs.Common.{rules, ◌≡◌, ◌∷◌, [], ◌++◌, None, Some, Err, length, refl, sym, ap, subst, ◌∙◌, append_assoc, append-nil, arith}
 use Rattle.std.specs.Vec.Iter.{into_iter_items}
 use Rattle.std.proofs.lemmas.Result.{err_from_is_err_and}
-use Rattle.codespan_picture.specs.Picture.{label_of}
+use Rattle.codespan_base.specs.FileModel.Lookup.{LocationAt, Name}
+use Rattle.codespan_picture.specs.Given.{place_of_given}
+use Rattle.codespan_picture.specs.Lookups.{asked_of, first_refusal}
+use Rattle.codespan_picture.specs.Placed.{IsPlaceIn}
 use Rattle.codespan_reporting.proofs.PlansPlaced.{ArePlaced, no_element, placed-more, placed-nothing, placed-refused}
 use Rattle.codespan_reporting.proofs.term.views.loci.place_files.Goals as goal
 
 pub loop-plan-init : goal.loop-plan-init
-loop-plan-init g c = (refl, placed-nothing g.F.FileId.PartialEq.eq (g.F.Files.file c.args.files.now) (g.F.Files.refusal c.args.files.now) (map label_of c.args.labels.now) _ c.new-placed.ensures.items, search rules)
+loop-plan-init g c = (refl, placed-nothing (g.F.Files.file c.args.files.now) (g.F.Files.refusal c.args.files.now) _ c.new-placed.ensures.items, search rules)
 
 pub returns-in_err-locus-clause-refused : goal.returns-in_err-locus-clause-refused
 returns-in_err-locus-clause-refused g c =
@@ -17,8 +20,9 @@ returns-in_err-locus-clause-refused g c =
     let whole : at.yielded ++ plan ∷ into_iter_items c.next.new.self ≡ c.args.plans.items =
     ap (λ rest. at.yielded ++ rest) (sym steps) ∙ at.invariant.0 ∙ c.into_iter-plan-iterator.ensures.into_iter_gives.0 in
     rw (p.1 ∙ ap Err p.2)
-    (λ memory display. placed-refused g.F.FileId.PartialEq.eq (g.F.Files.file c.args.files.now) (g.F.Files.refusal c.args.files.now) (map label_of c.args.labels.now)
-    at.yielded (into_iter_items c.next.new.self) c.args.plans.items _ plan _ at.invariant.1 whole (c.in_err-locus.ensures.refused memory display))
+    (λ memory display. placed-refused (g.F.Files.file c.args.files.now) (g.F.Files.refusal c.args.files.now)
+    at.yielded (into_iter_items c.next.new.self) c.args.plans.items _ plan _ at.invariant.1 whole
+    (subst (λ n. first_refusal (g.F.Files.refusal c.args.files.now) (asked_of plan.id (Name ∷ LocationAt n ∷ [])) ≡ Some c.in_err-locus.field-0.0) c.byte.ensures (c.in_err-locus.ensures.refused memory display)))
 
 pub loop-plan-preserved : goal.loop-plan-preserved
 loop-plan-preserved g c =
@@ -26,9 +30,10 @@ loop-plan-preserved g c =
     let plan = c.in-Some.plan in
     let steps : into_iter_items at.plan-iterator ≡ plan ∷ into_iter_items c.next.new.self = c.in-Some.ensures.steps.0 in (
       append_assoc at.yielded (plan ∷ []) _ ∙ rw (← steps) at.invariant.0,
-      placed-more g.F.FileId.PartialEq.eq (g.F.Files.file c.args.files.now) (g.F.Files.refusal c.args.files.now) (map label_of c.args.labels.now)
-          at.yielded _ _ plan _ at.invariant.1 (record { id_is = refl; lanes_are = refl; steps_are = refl; place = c.in_ok-locus.ensures.locus })
-          c.in_ok-push.ensures.items c.in_ok-locus.ensures.refused,
+      placed-more (g.F.Files.file c.args.files.now) (g.F.Files.refusal c.args.files.now)
+          at.yielded _ _ plan _ at.invariant.1 (record { id_is = refl; lanes_are = refl; steps_are = refl; place = subst (λ n. IsPlaceIn (g.F.Files.file c.args.files.now plan.id) n (place_of_given c.in_ok-locus.locus)) c.byte.ensures c.in_ok-locus.ensures.locus })
+          c.in_ok-push.ensures.items
+          (subst (λ n. first_refusal (g.F.Files.refusal c.args.files.now) (asked_of plan.id (Name ∷ LocationAt n ∷ [])) ≡ None) c.byte.ensures c.in_ok-locus.ensures.refused),
       let was = at.invariant.2 in
           let gone = c.in-Some.ensures.steps.1 in
           let short = ap length steps in
@@ -41,7 +46,7 @@ returns-clause-placed g c =
     let none = c.in-None.ensures.steps in
     let empty : into_iter_items at.plan-iterator ≡ [] = no_element _ (sym at.invariant.2 ∙ none.0) in
     let all = sym (append-nil at.yielded) ∙ rw empty at at.invariant.0 ∙ c.into_iter-plan-iterator.ensures.into_iter_gives.0 in
-    (subst (λ plans. ArePlaced g.F.FileId.PartialEq.eq (g.F.Files.file c.args.files.now) (g.F.Files.refusal c.args.files.now) (map label_of c.args.labels.now) plans at.placed.items) all at.invariant.1).are
+    (subst (λ plans. ArePlaced (g.F.Files.file c.args.files.now) (g.F.Files.refusal c.args.files.now) plans at.placed.items) all at.invariant.1).are
 
 pub returns-clause-refused : goal.returns-clause-refused
 returns-clause-refused g c =
@@ -49,4 +54,4 @@ returns-clause-refused g c =
     let none = c.in-None.ensures.steps in
     let empty : into_iter_items at.plan-iterator ≡ [] = no_element _ (sym at.invariant.2 ∙ none.0) in
     let all = sym (append-nil at.yielded) ∙ rw empty at at.invariant.0 ∙ c.into_iter-plan-iterator.ensures.into_iter_gives.0 in
-    (subst (λ plans. ArePlaced g.F.FileId.PartialEq.eq (g.F.Files.file c.args.files.now) (g.F.Files.refusal c.args.files.now) (map label_of c.args.labels.now) plans at.placed.items) all at.invariant.1).answered
+    (subst (λ plans. ArePlaced (g.F.Files.file c.args.files.now) (g.F.Files.refusal c.args.files.now) plans at.placed.items) all at.invariant.1).answered

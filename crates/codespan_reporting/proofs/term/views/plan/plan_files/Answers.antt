@@ -1,5 +1,5 @@
 use Rattle.std.proofs.Common.{◌+◌, ◌<◌, [], Err, length, map, take, drop, get_or, refl, sym, ap, ◌∙◌, subst, arith}
-use Rattle.std.proofs.lemmas.List.{take-append-drop}
+use Rattle.std.proofs.lemmas.List.{get_or_default, take-append-drop}
 use Rattle.std.proofs.lemmas.Result.{err_from_is_err_and}
 use Rattle.codespan_picture.specs.Lookups.{asked_of, first_refusal}
 use Rattle.codespan_reporting.specs.Inner.GivenEntries.{entry_of}
@@ -15,7 +15,7 @@ loop-place-init g c = record {
   inside = omega arith;
   left = from_file-first (map entry_of c.args.gathered.now.entries.items);
   planned = record {
-    plans = subst (ArePlans c.args.layout (g.F.Files.file c.args.files.now) (map entry_of c.args.gathered.now.entries.items) c.args.gathered.now.lane_counts.items 0 []) (sym c.new-plans.ensures.items) tt;
+    plans = subst (ArePlans c.args.layout (g.F.Files.file c.args.files.now) (map entry_of c.args.gathered.now.entries.items) c.args.gathered.now.lane_counts.items c.args.starts.now 0 []) (sym c.new-plans.ensures.items) tt;
     answered = refl;
   };
 }
@@ -74,7 +74,7 @@ returns-in_err-steps-clause-refused g c =
     let more = ids_more ids xs ys at n f id turn in
     let p = err_from_is_err_and c.from_residual.result c.from_residual.ensures.1 in
     rw (p.1 ∙ ap Err p.2)
-    (λ told. planned-refuses c.args.layout file es counts refusal f (take f ids) (take (f + 1) ids) id _ len more c.loop-place.invariant.planned
+    (λ told. planned-refuses c.args.layout file es counts c.args.starts.now refusal f (take f ids) (take (f + 1) ids) id _ len more c.loop-place.invariant.planned
     (drop (f + 1) ids) ids _ (sym (take-append-drop (f + 1) ids)) (sym asked ∙ c.in_err-steps.ensures.refused told))
 
 pub loop-place-preserved : goal.loop-place-preserved
@@ -108,11 +108,12 @@ loop-place-preserved g c =
     record {
       inside = next_inside ids xs ys at n f id turn;
       left = next_left ids xs ys at n f id turn;
-      planned = planned-more c.args.layout file es counts refusal f (take f ids) (take (f + 1) ids) id _ len more c.loop-place.invariant.planned _ _
+      planned = planned-more c.args.layout file es counts c.args.starts.now refusal f (take f ids) (take (f + 1) ids) id _ len more c.loop-place.invariant.planned _ _
           c.in_ok-push.ensures.items
           (record {
             id_is = refl;
             lanes_are = c.index.ensures;
+            start_is = get_or_default c.args.starts.now f _ _ (subst (λ m. f < m) (sym c.requires.starts) turn.there);
             adds = subst (AddsSteps c.args.layout (file id) [] _) (own_steps ids xs ys at n f id turn zs same) c.in_ok-steps.ensures.steps;
           })
           (sym asked ∙ c.in_ok-steps.ensures.refused);

@@ -1,5 +1,7 @@
-use Rattle.std.proofs.Common.{Some, None, refl, sym, ◌∙◌}
+use Rattle.std.proofs.Common.{◌+◌, Some, None, [], refl, sym, ◌∙◌, append-nil, drop, take}
+use Rattle.std.proofs.lemmas.List.{take-append-drop}
 use Rattle.codespan_renderer.proofs.Hanging.{none_trails}
+use Rattle.codespan_renderer.proofs.Pieces.{taken-dropped}
 use Rattle.codespan_renderer.proofs.term.renderer.messages.Messages.of.Goals.{in_default-via-in-Some+else-does_trail, in_default-via-in_default}
 use Rattle.codespan_renderer.proofs.term.renderer.messages.Messages.of.Goals as goal
 
@@ -10,3 +12,19 @@ returns-in_default-clause-hanging c =
           none_trails c.args.labels.now (Some w.in-Some.place) _ c.greatest_end.ensures w.in-Some.ensures.value (sym w.does_trail.ensures ∙ w.if-does_trail.false)
       | in_default-via-in_default w ↦ none_trails c.args.labels.now None _ c.greatest_end.ensures w.in_default.ensures.value refl
     ]
+
+pub returns-in-Some-clause-pieces : goal.returns-in-Some-clause-pieces
+returns-in-Some-clause-pieces c = record {
+  rest = drop c.in-Some.place c.args.labels.now;
+  begins = take-append-drop c.in-Some.place c.args.labels.now;
+  skipped = take (c.in-Some.place + 1) c.args.labels.now;
+  ends = taken-dropped (c.in-Some.place + 1) c.args.labels.now;
+}
+
+pub returns-in_default-clause-pieces : goal.returns-in_default-clause-pieces
+returns-in_default-clause-pieces c = record {
+  rest = [];
+  begins = append-nil c.args.labels.now;
+  skipped = c.args.labels.now;
+  ends = append-nil c.args.labels.now;
+}

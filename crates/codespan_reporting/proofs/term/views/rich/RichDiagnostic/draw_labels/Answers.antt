@@ -19,6 +19,15 @@ use Rattle.codespan_reporting.proofs.SheetPrepared.{labels-answered, labels-refu
 use Rattle.codespan_reporting.proofs.SnippetParts.{sends_at}
 use Rattle.codespan_reporting.proofs.term.views.rich.RichDiagnostic.draw_labels.Goals as goal
 
+pub prepare-requires : goal.prepare-requires
+prepare-requires g c κs = ((refl, tt), c.in_ok-gathered.ensures.gathered)
+
+pub draw_snippets-requires : goal.draw_snippets-requires
+draw_snippets-requires g c κs =
+    let labels : map label_of c.as_slice-labels.result.now ≡ labels_of (diagnostic_of c.args.self.now) = ap (map label_of) c.as_slice-labels.ensures.value in
+    let prepared = subst (λ ys. IsPrepared g.FileId.PartialEq.eq (g.F.Files.file c.args.files.now) (view_config_of c.args.self.now) ys c.in_ok-sheet.sheet) labels c.in_ok-sheet.ensures.prepared in
+    ((refl, (refl, (refl, tt))), prepared)
+
 pub returns-in_err-gathered-clause-draws : goal.returns-in_err-gathered-clause-draws
 returns-in_err-gathered-clause-draws g c =
     let file = g.F.Files.file c.args.files.now in

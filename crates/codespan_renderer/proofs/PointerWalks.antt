@@ -1,0 +1,94 @@
+-- A walk that finds the pointers of a line.
+use Rattle.std.proofs.Common.{◌≡◌, ℕ, ◌+◌, ◌<◌, ◌≤◌, List, [], ◌∷◌, ◌++◌, length, drop, get_or, Option, Some, None, refl, ◌∙◌, append_assoc, filter}
+use Rattle.codespan_base.specs.declared.diagnostic.LabelStyle.{LabelStyle}
+use Rattle.codespan_base.specs.Labels.{Labelled, has_message}
+use Rattle.codespan_picture.specs.declared.cells.Cell.{Cell}
+use Rattle.codespan_renderer.specs.declared.term.renderer.by_cells.sweep.Starts.{Starts}
+use Rattle.codespan_renderer.specs.declared.term.renderer.by_cells.pointers.Pointer.{Pointer}
+use Rattle.codespan_picture.specs.Given.{GivenLabel, all_labelled}
+use Rattle.codespan_renderer.specs.Inner.PointerLists.{pointer_under, pointers_in, HasPassed}
+use Rattle.codespan_picture.specs.Rows.{hanging}
+use Rattle.codespan_picture.specs.RowParts.{starts_in}
+use Rattle.codespan_renderer.specs.Inner.Runs.{best_from, pointer_found, AreHanging}
+use Rattle.codespan_renderer.proofs.Hanging.{pointer_is}
+use Rattle.codespan_picture.proofs.Spread.{AreSpread}
+use Rattle.codespan_renderer.proofs.Sweeping.{cells-step}
+
+-- two walks have met the labels of two lists that begin before these cells
+pub record IsPassing (before after : List GivenLabel) (s t : Starts) (left : List Cell) : Type 0 where
+  pub place : ℕ
+  pub column : ℕ
+  pub early : HasPassed place s
+  pub late : HasPassed place t
+  pub same_early : s.labels.now ≡ before
+  pub same_late : t.labels.now ≡ after
+  pub spread : AreSpread place column left
+
+-- at the next cell
+pub record IsPassingAt (before after : List GivenLabel) (s t : Starts) (c : Cell) (left : List Cell) : Type 0 where
+  pub some : 1 ≤ c.bytes
+  pub early : HasPassed c.place s
+  pub late : HasPassed c.place t
+  pub same_early : s.labels.now ≡ before
+  pub same_late : t.labels.now ≡ after
+  pub spread : AreSpread (c.place + c.bytes) (c.column + c.width) left
+
+pub passing-at : (before after : List GivenLabel) (s t : Starts) (cs : List Cell) (i : ℕ) (d : Cell) → i < length cs → IsPassing before after s t (drop i cs)
+    → IsPassingAt before after s t (get_or cs i d) (drop (i + 1) cs)
+passing-at before after s t cs i d h w =
+    let spread : AreSpread w.place w.column (get_or cs i d ∷ drop (i + 1) cs) = rw (cells-step cs i d h) at w.spread in
+    let here = spread.0 in
+    let at = spread.1 in
+    record {
+      some = spread.2;
+      early = rw here w.early;
+      late = rw here w.late;
+      same_early = w.same_early;
+      same_late = w.same_late;
+      spread = rw (here, at) spread.3;
+    }
+
+pub passing-more : (before after : List GivenLabel) (s t u v : Starts) (c : Cell) (left : List Cell) → IsPassingAt before after s t c left
+    → HasPassed (c.place + c.bytes) u → HasPassed (c.place + c.bytes) v → u.labels.now ≡ s.labels.now → v.labels.now ≡ t.labels.now
+    → IsPassing before after u v left
+passing-more before after s t u v c left w early late same same2 = record {
+  place = c.place + c.bytes;
+  column = c.column + c.width;
+  early = early;
+  late = late;
+  same_early = same ∙ w.same_early;
+  same_late = same2 ∙ w.same_late;
+  spread = w.spread;
+}
+
+-- the style that the two walks find
+pub found-style : (labels before after bs ds : List GivenLabel) (cs : List Cell) (i : ℕ) (d : Cell) (first second : Option LabelStyle) → AreHanging labels before after → bs ≡ before → ds ≡ after
+    → first ≡ best_from (starts_in (get_or cs i d)) None (filter has_message (all_labelled bs))
+    → second ≡ best_from (starts_in (get_or cs i d)) first (filter has_message (all_labelled ds))
+    → second ≡ pointer_found (hanging (all_labelled labels)) (get_or cs i d)
+found-style labels before after bs ds cs i d first second h e f p q = rw (q, p, e, f) (pointer_is labels before after (get_or cs i d) h)
+
+-- a pointer comes to those that were found
+pub found-some : (labels : List Labelled) (ps : List Pointer) (cs : List Cell) (i : ℕ) (d : Cell) (style : LabelStyle) → i < length cs
+    → pointer_found (hanging labels) (get_or cs i d) ≡ Some style
+    → (ps ++ pointer_under (get_or cs i d) style ∷ []) ++ pointers_in (hanging labels) (drop (i + 1) cs) ≡ ps ++ pointers_in (hanging labels) (drop i cs)
+found-some labels ps cs i d style h is = rw (cells-step cs i d h, is) (append_assoc ps (pointer_under (get_or cs i d) style ∷ []) (pointers_in (hanging labels) (drop (i + 1) cs)))
+
+-- none does
+pub found-none : (labels : List Labelled) (ps : List Pointer) (cs : List Cell) (i : ℕ) (d : Cell) → i < length cs
+    → pointer_found (hanging labels) (get_or cs i d) ≡ None
+    → ps ++ pointers_in (hanging labels) (drop (i + 1) cs) ≡ ps ++ pointers_in (hanging labels) (drop i cs)
+found-none labels ps cs i d h is = rw (cells-step cs i d h, is) refl
+
+-- both walks are at the line's start
+pub passing-start : (before after : List GivenLabel) (s t : Starts) (cs : List Cell) → HasPassed 0 s → HasPassed 0 t → s.labels.now ≡ before → t.labels.now ≡ after
+    → AreSpread 0 0 cs → IsPassing before after s t cs
+passing-start before after s t cs early late same_early same_late spread = record {
+  place = 0;
+  column = 0;
+  early = early;
+  late = late;
+  same_early = same_early;
+  same_late = same_late;
+  spread = spread;
+}

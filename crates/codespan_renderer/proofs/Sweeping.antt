@@ -1,0 +1,188 @@
+-- A walk over the characters of a line that meets its labels as they begin.
+use Rattle.std.proofs.Common.{◌≡◌, ℕ, ◌+◌, ◌<◌, ◌≤◌, max, Bool, true, false, ◌&&◌, ◌||◌, nat_lt, nat_le, List, [], ◌∷◌, length, drop, get_or, drop-cons, add-one, refl, sym, ap, ◌∙◌, arith}
+use Rattle.std.specs.Prelude.{if◌then◌else◌}
+use Rattle.std.proofs.lemmas.Bool.{and_parts}
+use Rattle.std.proofs.lemmas.Bool.Decides.{nat_tests}
+use Rattle.std.proofs.lemmas.Grind.{common_steps}
+use Rattle.codespan_base.specs.Labels.{Labelled}
+use Rattle.codespan_picture.specs.declared.cells.Cell.{Cell}
+use Rattle.std.specs.Char.{len_utf8}
+use Rattle.std.specs.Str.{chars}
+use Rattle.std.proofs.lemmas.Str.{len_utf8_bounds}
+use Rattle.codespan_renderer.specs.declared.term.renderer.by_cells.sweep.Sweep.{Sweep}
+use Rattle.codespan_picture.specs.Widths.{width_at}
+use Rattle.codespan_picture.specs.Cells.{cells_then, placeholder, cells, cells_to_end}
+use Rattle.codespan_picture.specs.Carets.{covers}
+use Rattle.codespan_picture.specs.Given.{GivenLabel, labelled, all_labelled}
+use Rattle.codespan_renderer.specs.Inner.Sweeps.{starts_from, is_covered, end_with, IsReached, HasMet}
+
+-- no label has been met
+pub reached-none : (passes : Labelled → Bool) (labels : List Labelled) (place : ℕ) → IsReached passes labels labels place 0
+reached-none passes labels place = record { is = λ c h some. (let none : nat_lt c.place 0 ≡ false = grind (arith, nat_tests) in rw none refl) }
+
+-- the walk goes on to a later place
+pub reached-later : (passes : Labelled → Bool) (labels left : List Labelled) (place later end : ℕ) → place ≤ later
+    → IsReached passes labels left place end → IsReached passes labels left later end
+reached-later passes labels left place later end far r = record { is = λ c h some. r.is c (omega arith) some }
+
+-- a label that begins before the character's end has a byte of it where it has one at all and ends past the character's place
+covers-begun : (x : Labelled) (c : Cell) → x.start < c.place + c.bytes → 1 ≤ c.bytes → covers x c ≡ (nat_lt x.start x.end && nat_lt c.place x.end)
+covers-begun x c h some = grind (arith, nat_tests)
+
+-- such a label is over the character where its end raises the greatest one past the character's place
+end-raised : (counts : Bool) (end : ℕ) (x : Labelled) (c : Cell) → x.start < c.place + c.bytes → 1 ≤ c.bytes
+    → nat_lt c.place (end_with counts end x) ≡ (nat_lt c.place end || (counts && covers x c))
+end-raised counts end x c h some = rw (covers-begun x c h some) (by_test counts (nat_lt x.start x.end))
+  where
+    by_test : (b d : Bool) → nat_lt c.place (if b && d then max end x.end else end) ≡ (nat_lt c.place end || (b && (d && nat_lt c.place x.end)))
+    by_test true true = grind (arith, nat_tests)
+    by_test true false = grind (arith, nat_tests)
+    by_test false d = grind (arith, nat_tests)
+
+or-assoc : (a b c : Bool) → (a || (b || c)) ≡ ((a || b) || c)
+or-assoc true b c = refl
+or-assoc false b c = refl
+
+-- the next label has begun
+pub reached-more : (passes : Labelled → Bool) (labels left rest : List Labelled) (x : Labelled) (place end : ℕ) → left ≡ x ∷ rest → x.start < place
+    → IsReached passes labels left place end → IsReached passes labels rest place (end_with (passes x) end x)
+reached-more passes labels left rest x place end step begun r = record {
+  is = λ c h some. r.is c h some
+      ∙ ap (λ (xs : List Labelled). nat_lt c.place end || is_covered passes xs c) step
+      ∙ or-assoc (nat_lt c.place end) (passes x && covers x c) (is_covered passes rest c)
+      ∙ ap (λ (b : Bool). b || is_covered passes rest c) (sym (end-raised (passes x) end x c (omega arith) some));
+}
+
+-- labels that begin from the character's end on have no byte of it
+uncovered : (passes : Labelled → Bool) (xs : List Labelled) (place : ℕ) (c : Cell) → starts_from place xs ≡ true → c.place + c.bytes ≤ place
+    → is_covered passes xs c ≡ false
+uncovered passes [] place c ordered past = refl
+uncovered passes (x ∷ xs) place c ordered past =
+    let parts = and_parts (nat_le place x.start) (starts_from x.start xs) ordered in
+    let low : place ≤ x.start = grind (arith, nat_tests) in
+    let here : covers x c ≡ false = grind (arith, nat_tests) in
+    rw (here, uncovered passes xs x.start c parts.1 (omega arith)) (by_test (passes x))
+  where
+    by_test : (b : Bool) → ((b && false) || false) ≡ false
+    by_test true = refl
+    by_test false = refl
+
+or-false : (b : Bool) → (b || false) ≡ b
+or-false true = refl
+or-false false = refl
+
+-- all labels that begin before the character's end have been met
+pub reached-here : (passes : Labelled → Bool) (labels left : List Labelled) (place end : ℕ) (c : Cell) → c.place + c.bytes ≡ place → 1 ≤ c.bytes
+    → starts_from place left ≡ true → IsReached passes labels left place end → is_covered passes labels c ≡ nat_lt c.place end
+reached-here passes labels left place end c ends some ordered r =
+    r.is c (omega arith) some
+    ∙ ap (λ (b : Bool). nat_lt c.place end || b) (uncovered passes left place c ordered (omega arith))
+    ∙ or-false (nat_lt c.place end)
+
+-- ---- labels in order
+
+-- a label of a list, and those after it in the same list
+pub labels-step : (ys xs : List GivenLabel) (i : ℕ) (d : GivenLabel) → ys ≡ xs → i < length xs
+    → all_labelled (drop i ys) ≡ labelled (get_or xs i d) ∷ all_labelled (drop (i + 1) ys)
+labels-step ys xs i d same h = rw (same, drop-cons xs i d h, add-one) refl
+
+-- they start from an earlier place on
+pub starts-lower : (xs : List Labelled) (low place : ℕ) → low ≤ place → starts_from place xs ≡ true → starts_from low xs ≡ true
+starts-lower [] low place h ordered = refl
+starts-lower (x ∷ xs) low place h ordered =
+    let parts = and_parts (nat_le place x.start) (starts_from x.start xs) ordered in
+    let here : nat_le low x.start ≡ true = (let far = parts.0 in grind (arith, nat_tests)) in
+    rw (here, parts.1) refl
+
+-- those after the first one
+pub starts-next : (low : ℕ) (left rest : List Labelled) (x : Labelled) → left ≡ x ∷ rest → starts_from low left ≡ true → starts_from low rest ≡ true
+starts-next low left rest x step ordered =
+    let parts = and_parts (nat_le low x.start) (starts_from x.start rest) (rw step at ordered) in
+    let far : low ≤ x.start = (let test = parts.0 in grind (arith, nat_tests)) in
+    starts-lower rest low x.start far parts.1
+
+-- the first one of those that are left begins no earlier than they do
+pub starts-first : (low : ℕ) (ys xs : List GivenLabel) (i : ℕ) (d : GivenLabel) → ys ≡ xs → i < length xs → starts_from low (all_labelled (drop i ys)) ≡ true
+    → low ≤ (get_or xs i d).1.start
+starts-first low ys xs i d same h ordered =
+    let x = labelled (get_or xs i d) in
+    let parts = and_parts (nat_le low x.start) (starts_from x.start (all_labelled (drop (i + 1) ys))) (rw (labels-step ys xs i d same h) at ordered) in
+    let test = parts.0 in grind (arith, nat_tests)
+
+-- those after one that has begun by a place
+pub starts-rest : (low : ℕ) (ys xs : List GivenLabel) (i : ℕ) (d : GivenLabel) (place : ℕ) → ys ≡ xs → i < length xs → (get_or xs i d).1.start < place
+    → starts_from low (all_labelled (drop i ys)) ≡ true → starts_from low (all_labelled (drop (i + 1) ys)) ≡ true
+starts-rest low ys xs i d place same h begun ordered =
+    starts-next low (all_labelled (drop i ys)) (all_labelled (drop (i + 1) ys)) (labelled (get_or xs i d)) (labels-step ys xs i d same h) ordered
+
+-- where it does not begin before a place, all begin there or later
+pub starts-past : (low : ℕ) (ys xs : List GivenLabel) (i place : ℕ) (d : GivenLabel) → ys ≡ xs → i < length xs
+    → nat_lt (labelled (get_or xs i d)).start place ≡ false → starts_from low (all_labelled (drop i ys)) ≡ true → starts_from place (all_labelled (drop i ys)) ≡ true
+starts-past low ys xs i place d same h late ordered =
+    let step = labels-step ys xs i d same h in
+    let x = labelled (get_or xs i d) in
+    let parts = and_parts (nat_le low x.start) (starts_from x.start (all_labelled (drop (i + 1) ys))) (rw step at ordered) in
+    let here : nat_le place x.start ≡ true = grind (arith, nat_tests) in
+    rw (step, here, parts.1) refl
+
+-- ---- a walk over cells
+
+-- cells of one byte at least, one after another from a place on
+abbrev pub Follow : ℕ → List Cell → Type 0
+Follow place [] = Unit {0}
+Follow place (c ∷ cs) = (c.place ≡ place) × (1 ≤ c.bytes) × Follow (place + c.bytes) cs
+
+-- the characters of a line, and what comes after the last one
+follow-then : (after : ℕ → ℕ → List Cell) (tab place column : ℕ) (codes : List ℕ) → ((p q : ℕ) → Follow p (after p q))
+    → Follow place (cells_then after tab place column codes)
+follow-then after tab place column [] last = last place column
+follow-then after tab place column (c ∷ cs) last =
+    (refl, omega (arith, (len_utf8_bounds c).0), follow-then after tab (place + len_utf8 c) (column + width_at tab column c) cs last)
+
+pub follow-to_end : (tab : ℕ) (text : List ℕ) → Follow 0 (cells_to_end tab text)
+follow-to_end tab text = follow-then placeholder tab 0 0 (chars text) (λ p q. (refl, omega arith, tt))
+
+pub follow-cells : (tab : ℕ) (text : List ℕ) → Follow 0 (cells tab text)
+follow-cells tab text = follow-then (λ _ _. []) tab 0 0 (chars text) (λ p q. tt)
+
+-- a walk has these cells still before it, and has met the labels that begin before the first of them
+pub record IsWalk (labels : List GivenLabel) (s : Sweep) (left : List Cell) : Type 0 where
+  pub place : ℕ
+  pub met : HasMet place s
+  pub same : s.labels.now ≡ labels
+  pub follow : Follow place left
+
+-- the next cell
+pub record IsTurn (labels : List GivenLabel) (s : Sweep) (c : Cell) (after : List Cell) : Type 0 where
+  pub some : 1 ≤ c.bytes
+  pub met : HasMet c.place s
+  pub same : s.labels.now ≡ labels
+  pub follow : Follow (c.place + c.bytes) after
+
+pub walk-turn : (labels : List GivenLabel) (s : Sweep) (left after : List Cell) (c : Cell) → left ≡ c ∷ after → IsWalk labels s left → IsTurn labels s c after
+walk-turn labels s left after c step w =
+    let follow : Follow w.place (c ∷ after) = rw step at w.follow in
+    let here = follow.0 in
+    record { some = follow.1; met = rw here w.met; same = w.same; follow = rw here follow.2 }
+
+-- one of the cells that are left
+pub cells-step : (cs : List Cell) (i : ℕ) (d : Cell) → i < length cs → drop i cs ≡ get_or cs i d ∷ drop (i + 1) cs
+cells-step cs i d h = rw (drop-cons cs i d h, add-one) refl
+
+-- all are left at the walk's start
+pub walk-start : (labels : List GivenLabel) (s : Sweep) (cs : List Cell) → HasMet 0 s → s.labels.now ≡ labels → Follow 0 cs → IsWalk labels s cs
+walk-start labels s cs met same follow = record { place = 0; met = met; same = same; follow = follow }
+
+-- the walk has met the labels that begin before the cell's end
+pub walk-more : (labels : List GivenLabel) (s t : Sweep) (c : Cell) (after : List Cell) → IsTurn labels s c after → HasMet (c.place + c.bytes) t → t.labels.now ≡ s.labels.now
+    → IsWalk labels t after
+walk-more labels s t c after turn met same = record { place = c.place + c.bytes; met = met; same = same ∙ turn.same; follow = turn.follow }
+
+-- none is left
+pub cells-none : (cs : List Cell) (i : ℕ) → length cs ≤ i → drop i cs ≡ []
+cells-none cs i h = grind (arith, common_steps)
+
+-- the next cell, at its place in the list
+pub turn-at : (labels : List GivenLabel) (s : Sweep) (cs : List Cell) (i : ℕ) (d : Cell) → i < length cs → IsWalk labels s (drop i cs)
+    → IsTurn labels s (get_or cs i d) (drop (i + 1) cs)
+turn-at labels s cs i d h w = walk-turn labels s (drop i cs) (drop (i + 1) cs) (get_or cs i d) (cells-step cs i d h) w

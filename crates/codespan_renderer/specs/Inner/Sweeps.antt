@@ -1,0 +1,40 @@
+-- A walk over the characters of a line that meets its labels as they begin.
+use Rattle.std.specs.Prelude.{◌≡◌, ℕ, ◌+◌, ◌≤◌, Bool, true, ◌||◌, ◌&&◌, nat_lt, nat_le, max, if◌then◌else◌, List, [], ◌∷◌, drop}
+use Rattle.std.specs.List.{list_any}
+use Rattle.codespan_base.specs.Labels.{Labelled, is_primary}
+use Rattle.codespan_picture.specs.declared.cells.Cell.{Cell}
+use Rattle.codespan_renderer.specs.declared.term.renderer.by_cells.sweep.Sweep.{Sweep}
+use Rattle.codespan_picture.specs.Carets.{covers}
+use Rattle.codespan_picture.specs.Given.{all_labelled}
+
+-- the labels start at this place or later, each no earlier than the one before it
+abbrev pub starts_from : ℕ → List Labelled → Bool
+starts_from least [] = true
+starts_from least (x ∷ xs) = nat_le least x.start && starts_from x.start xs
+
+-- the labels stand in the order of their starts
+abbrev pub starts_in_order : List Labelled → Bool
+starts_in_order xs = starts_from 0 xs
+
+-- one of the labels that pass has a byte of the character
+abbrev pub is_covered : (Labelled → Bool) → List Labelled → Cell → Bool
+is_covered passes xs c = list_any (λ x. passes x && covers x c) xs
+
+-- the greatest end with that of a label that counts; one with no byte has none
+abbrev pub end_with : Bool → ℕ → Labelled → ℕ
+end_with counts end x = if counts && nat_lt x.start x.end then max end x.end else end
+
+-- of a character that ends at this place or later: one of the labels that pass has a byte of it where it begins before the end, or where
+-- one of those that are left has
+pub record IsReached (passes : Labelled → Bool) (labels left : List Labelled) (place end : ℕ) : Type 0 where
+  pub is : (c : Cell) → place ≤ c.place + c.bytes → 1 ≤ c.bytes → is_covered passes labels c ≡ (nat_lt c.place end || is_covered passes left c)
+
+-- the labels that a walk has not met
+abbrev pub labels_left : Sweep → List Labelled
+labels_left s = all_labelled (drop s.next s.labels.now)
+
+-- a walk has met the labels that begin before this place
+pub record HasMet (place : ℕ) (s : Sweep) : Type 0 where
+  pub primary : IsReached is_primary (all_labelled s.labels.now) (labels_left s) place s.primary_end
+  pub any : IsReached (λ _. true) (all_labelled s.labels.now) (labels_left s) place s.end
+  pub ordered : starts_in_order (labels_left s) ≡ true

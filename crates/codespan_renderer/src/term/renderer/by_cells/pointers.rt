@@ -1,0 +1,277 @@
+//! The pointers under the carets of a line, and the messages that hang from them, from a list of pointers that is made once for a line.
+
+ghost use Rattle.std.specs.Prelude.{◌≡◌, ◌+◌, ◌^◌, ◌++◌, ◌<◌, ◌≤◌, filter, IfOk, IsErrOf, IsTrue, OnErr};
+ghost use Rattle.codespan_base.specs.Labels.{has_message};
+ghost use Rattle.codespan_base.specs.Streams.{newline};
+ghost use Rattle.codespan_base.specs.WriterLaw.{Sends};
+ghost use Rattle.codespan_picture.specs.Cells.{cells, width_of};
+ghost use Rattle.codespan_picture.specs.Given.{labelled, all_labelled};
+ghost use Rattle.codespan_renderer.specs.Inner.GivenLine.{look_of_given, line_of_given};
+ghost use Rattle.codespan_renderer.specs.Inner.PointerLists.{AreNarrow, pointer_under, pointers_in, pointers_before, spaced};
+ghost use Rattle.codespan_picture.specs.Rows.{hanging, hanging_rows};
+ghost use Rattle.codespan_picture.specs.RowParts.{cells_before, cells_up_to, greatest_start, pointers};
+ghost use Rattle.codespan_picture.specs.RowStreams.{pointer_row, hanging_row, stream_of_rows};
+ghost use Rattle.codespan_renderer.specs.Inner.Runs.{AreHanging, ArePieces, hanging_stream};
+ghost use Rattle.codespan_renderer.specs.Inner.Sweeps.{starts_in_order};
+
+use crate::term::renderer::SingleLabel;
+use crate::term::renderer::by_cells::sweep::Starts;
+use crate::term::renderer::carets::send_message;
+use crate::term::renderer::cells::Cell;
+use crate::term::renderer::line::{Line, Look};
+use crate::term::renderer::messages::Messages;
+use crate::term::renderer::parts::{send_newline, send_opening};
+use crate::term::renderer::pointers::{greatest_start, has_any_message, send_pointer};
+use crate::term::renderer::runs::send_blank_run;
+use codespan_base::diagnostic::LabelStyle;
+use codespan_base::files::Error;
+use codespan_base::term::WriteStyle;
+use std::io;
+
+/// A character from which labels hang.
+#[derive(Clone, Copy, Debug)]
+pub struct Pointer {
+    /// The byte of the line at which the character begins.
+    pub place: usize,
+    /// The cell in which the pointer stands: the first one of the character.
+    pub column: u128,
+    /// The cell from which blanks go on after it: the next one, or the same where the character owns none.
+    pub after: u128,
+    /// The best style of the labels that hang from it.
+    pub style: LabelStyle,
+}
+
+/// The pointers of the characters that begin before a place, with blanks between them and up to a column.
+pub fn send_spaced<W: WriteStyle>(
+    w: &mut W,
+    look: Look<'_>,
+    found: &[Pointer],
+    before: usize,
+    edge: u128,
+) -> io::Result<()>
+    ensures { Sends (W.sink w.old) (spaced (look_of_given look.entry) edge 0 (pointers_before before found.now)) result (W.sink w.new) }
+{
+    let mut column = 0u128;
+    for pointer in found {
+        if pointer.place < before {
+            let blank = pointer.column.saturating_sub(column);
+            send_pointer(w, look, blank, pointer.style)?;
+            column = pointer.after;
+        }
+    }
+    send_blank_run(w, edge.saturating_sub(column))
+}
+
+/// How many cells the characters take that begin at a place or before it.
+pub fn width_up_to(characters: &[Cell], text: &str, tab_width: usize, place: usize) -> u128
+    requires characters { characters.now ≡ cells tab_width text.now }
+    requires narrow { AreNarrow characters.now }
+    ensures { result ≡ width_of (cells_up_to place (cells tab_width text.now)) }
+{
+    let count = characters.partition_point(|cell| cell.place <= place);
+    match count.checked_sub(1) {
+        Some(last) => characters[last].column + characters[last].width as u128,
+        None => 0,
+    }
+}
+
+/// How many cells the characters take that begin before a place.
+#[tactic(auto, using(crate::proofs::Underlines::widths_before))]
+fn width_before(characters: &[Cell], text: &str, tab_width: usize, place: usize) -> u128
+    requires characters { characters.now ≡ cells tab_width text.now }
+    requires narrow { AreNarrow characters.now }
+    ensures { result ≡ width_of (cells_before place (cells tab_width text.now)) }
+{
+    match place.checked_sub(1) {
+        Some(last) => width_up_to(characters, text, tab_width, last),
+        None => 0,
+    }
+}
+
+/// Takes the pointers of the labels of a line that hang in place of those before. Refuses with `OutOfMemory`.
+pub fn find_pointers(
+    pointers: &mut Vec<Pointer>,
+    labels: &[SingleLabel<'_>],
+    messages: Messages<'_, '_>,
+    text: &str,
+    tab_width: usize,
+    characters: &[Cell],
+) -> Result<(), Error>
+    requires hanging { AreHanging labels.now messages.before.now messages.after.now }
+    requires before { IsTrue (starts_in_order (all_labelled messages.before.now)) }
+    requires after { IsTrue (starts_in_order (all_labelled messages.after.now)) }
+    requires characters { characters.now ≡ cells tab_width text.now }
+    requires narrow { AreNarrow characters.now }
+    ensures found { IfOk result (λ _. pointers.new.items ≡ pointers_in (hanging (all_labelled labels.now)) (cells tab_width text.now)) }
+    ensures refused { OnErr result (IsErrOf result Error.OutOfMemory) }
+{
+    let mut before = Starts::new(messages.before);
+    let mut after = Starts::new(messages.after);
+    pointers.clear();
+    for cell in characters {
+        let early = before.best_start(None, *cell);
+        if let Some(style) = after.best_start(early, *cell) {
+            pointers.push(pointer_under(*cell, style))?;
+        }
+    }
+    Ok(())
+}
+
+/// The pointers under a line.
+#[tactic(auto, using(codespan_base::proofs::Sends::sendings), unfolding(codespan_picture::specs::RowStreams::pointer_row))]
+pub fn send_pointer_row<W: WriteStyle>(
+    w: &mut W,
+    look: Look<'_>,
+    line: Line<'_, '_>,
+    characters: &[Cell],
+    found: &[Pointer],
+) -> io::Result<()>
+    requires characters { characters.now ≡ cells look.tab_width line.text.now }
+    requires narrow { AreNarrow characters.now }
+    requires found { found.now ≡ pointers_in (hanging (all_labelled line.labels.now)) (cells look.tab_width line.text.now) }
+    ensures { Sends (W.sink w.old) (pointer_row (look_of_given look.entry) (line_of_given line.entry) ++ newline) result (W.sink w.new) }
+{
+    send_opening(w, look, line)?;
+    send_all_pointers(w, look, line, characters, found)?;
+    send_newline(w)
+}
+
+/// All pointers of a line.
+fn send_all_pointers<W: WriteStyle>(
+    w: &mut W,
+    look: Look<'_>,
+    line: Line<'_, '_>,
+    characters: &[Cell],
+    found: &[Pointer],
+) -> io::Result<()>
+    requires characters { characters.now ≡ cells look.tab_width line.text.now }
+    requires narrow { AreNarrow characters.now }
+    requires found { found.now ≡ pointers_in (hanging (all_labelled line.labels.now)) (cells look.tab_width line.text.now) }
+    ensures { Sends (W.sink w.old) (pointers (look_of_given look.entry) (all_labelled line.entry.labels.now) (cells look.entry.tab_width line.entry.text.now)) result (W.sink w.new) }
+{
+    let edge = width_up_to(
+        characters,
+        line.text,
+        look.tab_width,
+        greatest_start(line.labels),
+    );
+    send_spaced(w, look, found, usize::MAX, edge)
+}
+
+/// The pointers of the characters of a line that begin before a place at which a label of it starts.
+fn send_pointers_before<W: WriteStyle>(
+    w: &mut W,
+    look: Look<'_>,
+    line: Line<'_, '_>,
+    characters: &[Cell],
+    found: &[Pointer],
+    before: usize,
+) -> io::Result<()>
+    requires characters { characters.now ≡ cells look.tab_width line.text.now }
+    requires narrow { AreNarrow characters.now }
+    requires found { found.now ≡ pointers_in (hanging (all_labelled line.labels.now)) (cells look.tab_width line.text.now) }
+    requires near { before ≤ greatest_start (all_labelled line.labels.now) }
+    ensures { Sends (W.sink w.old) (pointers (look_of_given look.entry) (all_labelled line.entry.labels.now) (cells_before before (cells look.entry.tab_width line.entry.text.now))) result (W.sink w.new) }
+{
+    let edge = width_before(characters, line.text, look.tab_width, before);
+    send_spaced(w, look, found, before, edge)
+}
+
+/// A message under its pointer.
+#[tactic(auto, using(codespan_base::proofs::Sends::sendings), unfolding(codespan_picture::specs::RowStreams::hanging_row))]
+pub fn send_hanging_row<W: WriteStyle>(
+    w: &mut W,
+    look: Look<'_>,
+    line: Line<'_, '_>,
+    characters: &[Cell],
+    found: &[Pointer],
+    label: &SingleLabel<'_>,
+) -> io::Result<()>
+    requires characters { characters.now ≡ cells look.tab_width line.text.now }
+    requires narrow { AreNarrow characters.now }
+    requires found { found.now ≡ pointers_in (hanging (all_labelled line.labels.now)) (cells look.tab_width line.text.now) }
+    requires near { (labelled label.now).start ≤ greatest_start (all_labelled line.labels.now) }
+    ensures { Sends (W.sink w.old) (hanging_row (look_of_given look.entry) (line_of_given line.entry) (labelled label.now) ++ newline) result (W.sink w.new) }
+{
+    send_opening(w, look, line)?;
+    send_pointers_before(w, look, line, characters, found, label.1.start)?;
+    send_message(w, look.severity, label)?;
+    send_newline(w)
+}
+
+/// The rows of the messages that hang among these labels, the last one first.
+pub fn send_hanging_rows<W: WriteStyle>(
+    w: &mut W,
+    look: Look<'_>,
+    line: Line<'_, '_>,
+    characters: &[Cell],
+    found: &[Pointer],
+    labels: &[SingleLabel<'_>],
+) -> io::Result<()>
+    requires characters { characters.now ≡ cells look.tab_width line.text.now }
+    requires narrow { AreNarrow characters.now }
+    requires found { found.now ≡ pointers_in (hanging (all_labelled line.labels.now)) (cells look.tab_width line.text.now) }
+    requires near { greatest_start (all_labelled labels.now) ≤ greatest_start (all_labelled line.labels.now) }
+    ensures { Sends (W.sink w.old) (hanging_stream (look_of_given look.entry) (line_of_given line.entry) (filter has_message (all_labelled labels.now))) result (W.sink w.new) }
+{
+    for label in labels.iter().rev() {
+        if label.2.is_empty() {
+            continue;
+        }
+        send_hanging_row(w, look, line, characters, found, label)?;
+    }
+    Ok(())
+}
+
+/// The pointers, and a row for each message that hangs.
+fn send_pointers_and_messages<W: WriteStyle>(
+    w: &mut W,
+    look: Look<'_>,
+    line: Line<'_, '_>,
+    messages: Messages<'_, '_>,
+    characters: &[Cell],
+    found: &[Pointer],
+) -> io::Result<()>
+    requires pieces { ArePieces line.labels.now messages.before.now messages.after.now }
+    requires characters { characters.now ≡ cells look.tab_width line.text.now }
+    requires narrow { AreNarrow characters.now }
+    requires found { found.now ≡ pointers_in (hanging (all_labelled line.labels.now)) (cells look.tab_width line.text.now) }
+    ensures { Sends (W.sink w.old) (pointer_row (look_of_given look.entry) (line_of_given line.entry) ++ newline ++ hanging_stream (look_of_given look.entry) (line_of_given line.entry) (filter has_message (all_labelled messages.entry.after.now)) ++ hanging_stream (look_of_given look.entry) (line_of_given line.entry) (filter has_message (all_labelled messages.entry.before.now))) result (W.sink w.new) }
+{
+    send_pointer_row(w, look, line, characters, found)?;
+    send_hanging_rows(w, look, line, characters, found, messages.after)?;
+    send_hanging_rows(w, look, line, characters, found, messages.before)
+}
+
+/// The pointers, and a row for each message that hangs, where one does.
+pub fn send_all_hanging<W: WriteStyle>(
+    w: &mut W,
+    look: Look<'_>,
+    line: Line<'_, '_>,
+    characters: &[Cell],
+    found: &[Pointer],
+) -> io::Result<()>
+    requires characters { characters.now ≡ cells look.tab_width line.text.now }
+    requires narrow { AreNarrow characters.now }
+    requires found { found.now ≡ pointers_in (hanging (all_labelled line.labels.now)) (cells look.tab_width line.text.now) }
+    ensures { Sends (W.sink w.old) (stream_of_rows (look_of_given look.entry) (hanging_rows (line_of_given line.entry) (hanging (all_labelled line.entry.labels.now)))) result (W.sink w.new) }
+{
+    let messages = Messages::of(line.labels);
+    if !has_any_message(messages.before) && !has_any_message(messages.after) {
+        return Ok(());
+    }
+    send_pointers_and_messages(w, look, line, messages, characters, found)
+}
+
+/// The pointer under a character.
+fn pointer_under(cell: Cell, style: LabelStyle) -> Pointer
+    requires { cell.column + cell.width < 2 ^ 128 }
+    ensures { result ≡ pointer_under cell style }
+{
+    Pointer {
+        place: cell.place,
+        column: cell.column,
+        after: cell.column + cell.width.min(1) as u128,
+        style,
+    }
+}

@@ -1,0 +1,154 @@
+//! A walk over the characters of a line that meets its labels as they begin.
+
+ghost use Rattle.std.specs.Prelude.{◌≡◌, ◌+◌, ◌<◌, ◌≤◌, ◌&&◌, IsTrue, nat_lt, length, true, if◌then◌else◌, max, filter};
+ghost use Rattle.std.specs.List.{slice_index_or};
+ghost use Rattle.codespan_base.specs.Labels.{has_message, is_primary};
+ghost use Rattle.codespan_picture.specs.Carets.{style_under};
+ghost use Rattle.codespan_picture.specs.Given.{labelled, all_labelled};
+ghost use Rattle.codespan_renderer.specs.Inner.PointerLists.{HasPassed};
+ghost use Rattle.codespan_picture.specs.RowParts.{starts_in};
+ghost use Rattle.codespan_renderer.specs.Inner.Runs.{best_from};
+ghost use Rattle.codespan_renderer.specs.Inner.Sweeps.{starts_in_order, is_covered, end_with, HasMet};
+
+use crate::term::renderer::SingleLabel;
+use crate::term::renderer::carets::better;
+use crate::term::renderer::cells::Cell;
+use codespan_base::diagnostic::LabelStyle;
+
+/// The labels of a line, as a walk over its characters meets them.
+#[derive(Clone, Copy)]
+pub struct Sweep<'row, 'd> {
+    /// The labels of the line, in the order of their starts.
+    labels: &'row [SingleLabel<'d>],
+    /// How many of them have begun.
+    next: usize,
+    /// The greatest end of the primary ones that have begun, 0 where there is none.
+    primary_end: usize,
+    /// The greatest end of all that have begun, 0 where there is none.
+    end: usize,
+}
+
+impl<'row, 'd> Sweep<'row, 'd> {
+    /// A walk that is at the line's start.
+    pub fn new(labels: &'row [SingleLabel<'d>]) -> Sweep<'row, 'd>
+        requires { IsTrue (starts_in_order (all_labelled labels.now)) }
+        ensures met { HasMet 0 result }
+        ensures labels { result.labels.now ≡ labels.now }
+    {
+        Sweep {
+            labels,
+            next: 0,
+            primary_end: 0,
+            end: 0,
+        }
+    }
+
+    /// The labels that begin before the character's end come to those that were met.
+    pub fn meet(&mut self, cell: Cell)
+        requires some { 1 ≤ cell.bytes }
+        requires met { HasMet cell.place self.old }
+        ensures met { HasMet (cell.place + cell.bytes) self.new }
+        ensures labels { self.new.labels.now ≡ self.old.labels.now }
+        ensures primary { is_covered is_primary (all_labelled self.new.labels.now) cell ≡ nat_lt cell.place self.new.primary_end }
+        ensures any { is_covered (λ _. true) (all_labelled self.new.labels.now) cell ≡ nat_lt cell.place self.new.end }
+    {
+        let labels = self.labels;
+        while self.next < labels.len() && begins_by(&labels[self.next], cell) {
+            self.admit(&labels[self.next]);
+            self.next += 1;
+        }
+    }
+
+    /// The style of the labels over the character, once those that begin before its end are met: a primary one goes first.
+    pub fn style_under(&mut self, cell: Cell) -> Option<LabelStyle>
+        requires some { 1 ≤ cell.bytes }
+        requires met { HasMet cell.place self.old }
+        ensures met { HasMet (cell.place + cell.bytes) self.new }
+        ensures labels { self.new.labels.now ≡ self.old.labels.now }
+        ensures style { result ≡ style_under (all_labelled self.old.labels.now) cell }
+    {
+        self.meet(cell);
+        if cell.place < self.primary_end {
+            Some(LabelStyle::Primary)
+        } else if cell.place < self.end {
+            Some(LabelStyle::Secondary)
+        } else {
+            None
+        }
+    }
+
+    /// Whether a primary label has a byte of the character, once those that begin before its end are met.
+    pub fn has_primary(&mut self, cell: Cell) -> bool
+        requires some { 1 ≤ cell.bytes }
+        requires met { HasMet cell.place self.old }
+        ensures met { HasMet (cell.place + cell.bytes) self.new }
+        ensures labels { self.new.labels.now ≡ self.old.labels.now }
+        ensures primary { result ≡ is_covered is_primary (all_labelled self.old.labels.now) cell }
+    {
+        self.meet(cell);
+        cell.place < self.primary_end
+    }
+
+    /// A label comes to those that have begun: one with no byte is over no character.
+    fn admit(&mut self, label: &SingleLabel<'_>)
+        ensures primary { self.new.primary_end ≡ end_with (is_primary (labelled label.now)) self.old.primary_end (labelled label.now) }
+        ensures any { self.new.end ≡ end_with true self.old.end (labelled label.now) }
+        ensures labels { self.new.labels.now ≡ self.old.labels.now }
+        ensures next { self.new.next ≡ self.old.next }
+    {
+        if label.1.start < label.1.end {
+            self.end = self.end.max(label.1.end);
+            if label.0 == LabelStyle::Primary {
+                self.primary_end = self.primary_end.max(label.1.end);
+            }
+        }
+    }
+}
+
+/// Labels of a line that have messages or none, as a walk over its characters meets their starts.
+#[derive(Clone, Copy)]
+pub struct Starts<'row, 'd> {
+    /// The labels, in the order of their starts.
+    labels: &'row [SingleLabel<'d>],
+    /// How many of them have begun.
+    next: usize,
+}
+
+impl<'row, 'd> Starts<'row, 'd> {
+    /// A walk that is at the line's start.
+    pub fn new(labels: &'row [SingleLabel<'d>]) -> Starts<'row, 'd>
+        requires { IsTrue (starts_in_order (all_labelled labels.now)) }
+        ensures passed { HasPassed 0 result }
+        ensures labels { result.labels.now ≡ labels.now }
+    {
+        Starts { labels, next: 0 }
+    }
+
+    /// The best style of what was found and of the labels with a message that start in the character.
+    pub fn best_start(&mut self, found: Option<LabelStyle>, cell: Cell) -> Option<LabelStyle>
+        requires some { 1 ≤ cell.bytes }
+        requires passed { HasPassed cell.place self.old }
+        ensures passed { HasPassed (cell.place + cell.bytes) self.new }
+        ensures labels { self.new.labels.now ≡ self.old.labels.now }
+        ensures best { result ≡ best_from (starts_in cell) found (filter has_message (all_labelled self.old.labels.now)) }
+    {
+        let labels = self.labels;
+        let mut best = found;
+        while self.next < labels.len() && begins_by(&labels[self.next], cell) {
+            let label = &labels[self.next];
+            if !label.2.is_empty() {
+                best = better(best, label.0);
+            }
+            self.next += 1;
+        }
+        best
+    }
+}
+
+/// Whether the label begins before the character's end.
+fn begins_by(label: &SingleLabel<'_>, cell: Cell) -> bool
+    requires { 1 ≤ cell.bytes }
+    ensures { result ≡ nat_lt (labelled label.now).start (cell.place + cell.bytes) }
+{
+    label.1.start.saturating_sub(cell.place) < cell.bytes
+}

@@ -1,0 +1,43 @@
+-- Labels gone over one after another, with the files of all of them at hand.
+use Rattle.std.proofs.Common.{◌≡◌, ℕ, ◌+◌, ◌<◌, Bool, true, List, [], ◌∷◌, ◌++◌, length, take, get_or, map, sym, ap, ◌∙◌, subst, arith}
+use Rattle.std.specs.Cmp.{IsEquivalence}
+use Rattle.std.proofs.lemmas.List.{get_or-map, length-map, map-append, take_more}
+use Rattle.codespan_base.specs.declared.diagnostic.Label.{Label}
+use Rattle.codespan_picture.specs.Picture.{label_of}
+use Rattle.codespan_picture.specs.Snippets.{InFile}
+use Rattle.codespan_reporting.specs.Inner.PlacedLabels.{file_ids, file_place}
+use Rattle.codespan_reporting.proofs.FileOrder.{file_ids-has, has}
+use Rattle.codespan_reporting.proofs.FilePlaces.{Differ, first_seen-differ}
+use Rattle.codespan_reporting.proofs.LabelPlaces.{has-place}
+
+-- the labels before a place
+abbrev pub before : {Id : Type 0} → List (Label Id) → ℕ → List (InFile Id)
+before labels place = map label_of (take place labels)
+
+-- the label is that at the place, and the ids are those of the files of all labels
+pub record IsLabelTurn {Id : Type 0} (same : Id → Id → Bool) (labels : List (Label Id)) (ids : List Id) (place : ℕ) (label : Label Id) : Type 0 where
+  pub are : ids ≡ file_ids same (map label_of labels)
+  pub inside : place < length labels
+  pub is : label ≡ get_or labels place label
+
+module _ {Id : Type 0} (same : Id → Id → Bool) (o : IsEquivalence same) (labels : List (Label Id)) (ids : List Id) (place : ℕ) (label : Label Id) (turn : IsLabelTurn same labels ids place label) where
+  -- the labels before the next place
+  pub before-more : before labels (place + 1) ≡ before labels place ++ label_of label ∷ []
+  before-more =
+      ap (map label_of) (take_more labels place label turn.inside ∙ ap (λ (l : Label Id). take place labels ++ l ∷ []) (sym turn.is)) ∙ map-append label_of (take place labels) (label ∷ [])
+
+  -- the label's file is one of those
+  pub has-file : has same o ids label.file_id ≡ true
+  has-file =
+      ap (λ (js : List Id). has same o js label.file_id) turn.are
+      ∙ ap (λ (l : Label Id). has same o (file_ids same (map label_of labels)) l.file_id) turn.is
+      ∙ ap (λ (x : InFile Id). has same o (file_ids same (map label_of labels)) x.id) (sym (get_or-map label_of labels place label (label_of label) turn.inside))
+      ∙ file_ids-has same o (map label_of labels) place (label_of label) (let inside = turn.inside in omega (arith, inside, length-map labels label_of))
+
+  -- its place is below their number
+  pub file-inside : file_place same ids label.file_id < length ids
+  file-inside = has-place same o ids label.file_id has-file
+
+  -- no two of the ids are the same
+  pub ids-differ : Differ same o ids
+  ids-differ = subst (Differ same o) (sym turn.are) (first_seen-differ same o (map (λ (x : InFile Id). x.id) (map label_of labels)))
