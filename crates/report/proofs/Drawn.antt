@@ -1,62 +1,57 @@
--- What is drawn of the diagnostic that is asked for.
-use Rattle.std.proofs.Common.{◌≡◌, ℕ, true, List, [], map, string_bytes, Some, refl, ap, ◌∙◌}
+-- What is drawn of what a diagnostic says.
+use Rattle.std.proofs.Common.{◌≡◌, ℕ, true, List, [], ◌∷◌, map, Some, Result, Ok, Err, IfOk, refl, ap, ◌∙◌}
 use Rattle.codespan_base.specs.declared.diagnostic.Diagnostic.{Diagnostic}
-use Rattle.codespan_base.specs.declared.diagnostic.Severity.{Severity}
-use Rattle.codespan_base.specs.declared.diagnostic.Severity.TheVariants.{Error}
+use Rattle.codespan_base.specs.declared.diagnostic.Label.{Label}
+use Rattle.codespan_base.specs.declared.files.error.Error.{Error}
 use Rattle.codespan_base.specs.declared.term.config.Config.{Config}
 use Rattle.codespan_base.specs.declared.term.config.DisplayStyle.{DisplayStyle}
 use Rattle.codespan_base.specs.Defaults.{default_config}
+use Rattle.codespan_base.specs.Diagnostics.{diagnostic_view, label_view}
 use Rattle.codespan_base.specs.FileModel.{FileModel}
 use Rattle.codespan_base.specs.Lookalikes.{IsConfig}
 use Rattle.codespan_base.specs.SimpleModel.{simple_file}
 use Rattle.codespan_base.specs.Streams.{Stream, text_of}
-use Rattle.codespan_reporting.specs.Headline.{IsDrawn}
+use Rattle.codespan_reporting.specs.Headline.{DrawsText, IsDrawn}
 use Rattle.codespan_reporting.specs.Lookups.{Refusals}
-use Rattle.codespan_reporting.specs.Picture.{heading_of, labels_of, notes_of, picture_in, styled_picture}
-use Rattle.codespan_reporting.specs.Rows.{Heading}
+use Rattle.codespan_reporting.specs.Picture.{heading_of, label_of, labels_of, notes_of, styled_picture}
 use Rattle.codespan_reporting.specs.Snippets.{InFile}
 use Rattle.codespan_picture.proofs.Alike.{styled_alike}
-use Rattle.report.specs.Drawings.{IsAsked, config_of, heading_of_request, labels_of_request, picture_text}
-use Rattle.report.specs.Requests.{RequestView}
+use Rattle.report.specs.Drawings.{config_of, heading_said, label_said, labels_said, picture_text}
 
 -- the same configurations, in another style
 restyled : (table config : Config) (style : DisplayStyle) → IsConfig table config → IsConfig (record table { display_style = style }) (record config { display_style = style })
 restyled table config style alike = record { chars = alike.chars; others = ap (λ (c : Config). record c { display_style = style }) alike.others }
 
-module _ (request : RequestView) (name source : List ℕ) where
-  -- the one file, whatever its id
-  abbrev file_at : Unit {0} → FileModel
-  file_at id = simple_file (Some name) source
+-- labels as pictures see them are those that are said
+labels_alike : (xs : List (Label (Unit {0}))) → map label_of xs ≡ map label_said (map label_view xs)
+labels_alike [] = refl
+labels_alike (x ∷ xs) = ap (λ rest. label_of x ∷ rest) (labels_alike xs)
 
-  -- the picture of a diagnostic with these parts
-  abbrev drawn_by : Config → Severity → Heading → List (InFile (Unit {0})) → List (List ℕ) → Stream
-  drawn_by config severity heading xs notes = styled_picture request.style config (λ i j. true) file_at severity heading xs notes
+module _ (style : DisplayStyle) (d : Diagnostic (Unit {0})) where
+  -- the file of a name and a source, whatever its id
+  abbrev file_at : List ℕ → List ℕ → Unit {0} → FileModel
+  file_at name source id = simple_file (Some name) source
 
-  -- the picture of the diagnostic is that of its severity, its heading and its label
-  picture_of_asked : (config : Config) (d : Diagnostic (Unit {0})) → IsAsked request d
-      → picture_in request.style config (λ i j. true) file_at d ≡ drawn_by config Error (heading_of_request request) (labels_of_request request) []
-  picture_of_asked config d asked =
-      ap (λ severity. drawn_by config severity (heading_of d) (labels_of d) (notes_of d)) asked.severity
-      ∙ ap (λ heading. drawn_by config Error heading (labels_of d) (notes_of d)) asked.heading
-      ∙ ap (λ labels. drawn_by config Error (heading_of_request request) labels (notes_of d)) asked.labels
-      ∙ ap (λ notes. drawn_by config Error (heading_of_request request) (labels_of_request request) (map string_bytes notes)) asked.notes
+  -- the picture of the diagnostic with these labels
+  abbrev drawn_by : Config → List ℕ → List ℕ → List (InFile (Unit {0})) → Stream
+  drawn_by config name source xs = styled_picture style config (λ i j. true) (file_at name source) d.severity (heading_of d) xs (notes_of d)
 
-  -- what is drawn by a configuration that looks like the default one, in the style that is asked for
-  text_of_asked : (config : Config) (refusal : Refusals (Unit {0})) (d : Diagnostic (Unit {0})) (text : List ℕ)
-      → IsConfig default_config config → IsAsked request d → IsDrawn (record config { display_style = request.style }) (λ i j. true) file_at refusal d text
-      → text ≡ text_of (drawn_by (config_of request) Error (heading_of_request request) (labels_of_request request) [])
-  text_of_asked config refusal d text alike asked drawn =
+  -- a text that is drawn of the diagnostic over a name and a source, by a configuration that looks like the default one, is the picture's
+  pub drawn_text : (name source : List ℕ) (config : Config) (refusal : Refusals (Unit {0})) (text : List ℕ)
+      → IsConfig default_config config → IsDrawn (record config { display_style = style }) (λ i j. true) (file_at name source) refusal d text
+      → (named held : List ℕ) → name ≡ named → source ≡ held → text ≡ picture_text style named held (diagnostic_view d)
+  unfolding picture_text
+  drawn_text name source config refusal text alike drawn named held n s =
       drawn.is (λ x has. refl)
-      ∙ ap text_of (picture_of_asked (record config { display_style = request.style }) d asked
-      ∙ styled_alike (config_of request) (record config { display_style = request.style }) (restyled default_config config request.style alike) request.style
-      (λ i j. true) file_at Error (heading_of_request request) (labels_of_request request) [])
+      ∙ ap text_of (styled_alike (config_of style) (record config { display_style = style }) (restyled default_config config style alike) style
+      (λ i j. true) (file_at name source) d.severity (heading_of d) (labels_of d) (notes_of d))
+      ∙ ap (λ m. text_of (drawn_by (config_of style) m source (labels_of d))) n
+      ∙ ap (λ m. text_of (drawn_by (config_of style) named m (labels_of d))) s
+      ∙ ap (λ xs. text_of (drawn_by (config_of style) named held xs)) (labels_alike d.labels.items)
 
--- a text that is drawn of the request's name and the source is the picture's
-pub drawn_text : (request : RequestView) (name source : List ℕ) (config : Config) (refusal : Refusals (Unit {0})) (d : Diagnostic (Unit {0})) (text : List ℕ)
-    → IsConfig default_config config → IsAsked request d → IsDrawn (record config { display_style = request.style }) (λ i j. true) (file_at request name source) refusal d text
-    → (held : List ℕ) → name ≡ request.name → source ≡ held → text ≡ picture_text request held
-unfolding picture_text
-drawn_text request name source config refusal d text alike asked drawn held named is =
-    text_of_asked request name source config refusal d text alike asked drawn
-    ∙ ap (λ n. text_of (drawn_by request n source (config_of request) Error (heading_of_request request) (labels_of_request request) [])) named
-    ∙ ap (λ s. text_of (drawn_by request request.name s (config_of request) Error (heading_of_request request) (labels_of_request request) [])) is
+  -- the same of what a call that answers a text did
+  pub drawn_result : {T : Type 0} (text : T → List ℕ) (name source : List ℕ) (config : Config) (refusal : Refusals (Unit {0})) (r : Result T Error)
+      → IsConfig default_config config → DrawsText (record config { display_style = style }) (λ i j. true) (file_at name source) refusal d text r
+      → (named held : List ℕ) → name ≡ named → source ≡ held → IfOk r (λ t. text t ≡ picture_text style named held (diagnostic_view d))
+  drawn_result text name source config refusal (Ok t) alike drawn named held n s = drawn_text name source config refusal (text t) alike drawn named held n s
+  drawn_result text name source config refusal (Err e) alike drawn named held n s = tt

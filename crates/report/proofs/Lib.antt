@@ -2,3 +2,4 @@ pub mod Drawn
 pub mod Numbers
 pub mod Outcomes
 pub mod Words
+pub mod ScriptCuts

@@ -1,43 +1,74 @@
 -- What the outcome of a run tells.
-use Rattle.std.proofs.Common.{◌≤◌, IfErr, OnOk, Result, refl, ◌≡◌, ◌≢◌, ℕ, List, Option, Some, None, Ok, Err, IfSome, IsErrOf, subst, arith}
+use Rattle.std.proofs.Common.{◌≤◌, IfErr, OnOk, Result, refl, ◌≡◌, ◌≢◌, ◌⊎◌, inl, inr, ℕ, List, Option, Some, None, Ok, Err, IfSome, IsErrOf, subst, sym, ◌∙◌, arith, string_bytes}
 use Rattle.std.specs.Str.{IsUtf8}
 use Rattle.report.specs.declared.fault.Fault.{Fault}
-use Rattle.report.specs.declared.fault.Fault.TheVariants.{WrongArguments, CannotReadInput, NotUtf8, Drawing, CannotWriteOutput}
-use Rattle.report.specs.Faults.{FaultTells, status_of}
-use Rattle.report.specs.Requests.{WhereKnown, request_of}
+use Rattle.report.specs.declared.fault.Fault.TheVariants.{WrongArguments, CannotReadInput, NotUtf8, Drawing, BadScript, CannotWriteOutput}
+use Rattle.report.specs.Drawings.{drawing_of}
+use Rattle.report.specs.Faults.{FaultTells, IfBadScript, IsStatusOf}
+use Rattle.report.specs.Requests.{AskedView, WhereKnown, asked_of}
 
--- the status is one of three
-pub status_at_most : (outcome : Result (Unit {0}) Fault) → status_of outcome ≤ 2
-status_at_most (Ok done) = omega arith
-status_at_most (Err WrongArguments) = omega arith
-status_at_most (Err CannotReadInput) = omega arith
-status_at_most (Err NotUtf8) = omega arith
-status_at_most (Err (Drawing error)) = omega arith
-status_at_most (Err CannotWriteOutput) = omega arith
+-- the status is one of four
+pub status_at_most : (outcome : Result (Unit {0}) Fault) (status : ℕ) → IsStatusOf outcome status → status ≤ 3
+status_at_most (Ok done) status is = omega arith
+status_at_most (Err WrongArguments) status is = omega arith
+status_at_most (Err CannotReadInput) status is = omega arith
+status_at_most (Err NotUtf8) status is = omega arith
+status_at_most (Err (Drawing error)) status is = omega arith
+status_at_most (Err (BadScript picture)) status is = elim is [ inl three ↦ omega arith | inr one ↦ omega arith ]
+status_at_most (Err CannotWriteOutput) status is = omega arith
 
 -- the status 2 is that of wrong arguments
-pub wrong_by_status : (outcome : Result (Unit {0}) Fault) → status_of outcome ≡ 2 → IsErrOf outcome WrongArguments
-wrong_by_status (Ok done) two = absurd (omega arith)
-wrong_by_status (Err WrongArguments) two = refl
-wrong_by_status (Err CannotReadInput) two = absurd (omega arith)
-wrong_by_status (Err NotUtf8) two = absurd (omega arith)
-wrong_by_status (Err (Drawing error)) two = absurd (omega arith)
-wrong_by_status (Err CannotWriteOutput) two = absurd (omega arith)
+pub wrong_by_status : (outcome : Result (Unit {0}) Fault) (status : ℕ) → IsStatusOf outcome status → status ≡ 2 → IsErrOf outcome WrongArguments
+wrong_by_status (Ok done) status is two = absurd (omega arith)
+wrong_by_status (Err WrongArguments) status is two = refl
+wrong_by_status (Err CannotReadInput) status is two = absurd (omega arith)
+wrong_by_status (Err NotUtf8) status is two = absurd (omega arith)
+wrong_by_status (Err (Drawing error)) status is two = absurd (omega arith)
+wrong_by_status (Err (BadScript picture)) status is two = absurd (elim is [ inl three ↦ omega arith | inr one ↦ omega arith ])
+wrong_by_status (Err CannotWriteOutput) status is two = absurd (omega arith)
+
+-- wrong arguments have the status 2
+pub status_of_wrong : (outcome : Result (Unit {0}) Fault) (status : ℕ) → IsStatusOf outcome status → IsErrOf outcome WrongArguments → status ≡ 2
+status_of_wrong (Ok done) status is wrong = absurd (cc wrong)
+status_of_wrong (Err fault) status is wrong = subst (λ (r : Result (Unit {0}) Fault). IsStatusOf r status) wrong is
 
 -- the status 0 is that of success
-pub success_by_status : (outcome : Result (Unit {0}) Fault) {X : Type 0} → status_of outcome ≡ 0 → OnOk outcome X → X
-success_by_status (Ok done) zero held = held
-success_by_status (Err WrongArguments) zero held = absurd (omega arith)
-success_by_status (Err CannotReadInput) zero held = absurd (omega arith)
-success_by_status (Err NotUtf8) zero held = absurd (omega arith)
-success_by_status (Err (Drawing error)) zero held = absurd (omega arith)
-success_by_status (Err CannotWriteOutput) zero held = absurd (omega arith)
+pub success_by_status : (outcome : Result (Unit {0}) Fault) (status : ℕ) {X : Type 0} → IsStatusOf outcome status → status ≡ 0 → OnOk outcome X → X
+success_by_status (Ok done) status is zero held = held
+success_by_status (Err WrongArguments) status is zero held = absurd (omega arith)
+success_by_status (Err CannotReadInput) status is zero held = absurd (omega arith)
+success_by_status (Err NotUtf8) status is zero held = absurd (omega arith)
+success_by_status (Err (Drawing error)) status is zero held = absurd (omega arith)
+success_by_status (Err (BadScript picture)) status is zero held = absurd (elim is [ inl three ↦ omega arith | inr one ↦ omega arith ])
+success_by_status (Err CannotWriteOutput) status is zero held = absurd (omega arith)
+
+-- the status 3 is that of a script's fault
+pub faulty_by_status : (outcome : Result (Unit {0}) Fault) (status : ℕ) {X : Type 0} → IsStatusOf outcome status → status ≡ 3
+    → ((picture : _) → outcome ≡ Err (BadScript picture) → X) → X
+faulty_by_status (Ok done) status is three follows = absurd (omega arith)
+faulty_by_status (Err WrongArguments) status is three follows = absurd (omega arith)
+faulty_by_status (Err CannotReadInput) status is three follows = absurd (omega arith)
+faulty_by_status (Err NotUtf8) status is three follows = absurd (omega arith)
+faulty_by_status (Err (Drawing error)) status is three follows = absurd (omega arith)
+faulty_by_status (Err (BadScript picture)) status is three follows = follows picture refl
+faulty_by_status (Err CannotWriteOutput) status is three follows = absurd (omega arith)
 
 -- at wrong arguments the output stays
 pub kept_at_wrong : (outcome : Result (Unit {0}) Fault) {X : Type 0} → IfErr outcome (λ fault. fault ≢ CannotWriteOutput → X)
     → IsErrOf outcome WrongArguments → X
 kept_at_wrong (Ok done) kept wrong = absurd (cc wrong)
 kept_at_wrong (Err fault) kept wrong = kept (λ output. cc (wrong, output))
+
+-- at a script's fault the output stays
+pub kept_at_faulty : (outcome : Result (Unit {0}) Fault) (status : ℕ) {X : Type 0} → IsStatusOf outcome status → status ≡ 3
+    → IfErr outcome (λ fault. fault ≢ CannotWriteOutput → X) → X
+kept_at_faulty (Ok done) status is three kept = absurd (omega arith)
+kept_at_faulty (Err WrongArguments) status is three kept = absurd (omega arith)
+kept_at_faulty (Err CannotReadInput) status is three kept = absurd (omega arith)
+kept_at_faulty (Err NotUtf8) status is three kept = absurd (omega arith)
+kept_at_faulty (Err (Drawing error)) status is three kept = absurd (omega arith)
+kept_at_faulty (Err (BadScript picture)) status is three kept = kept (λ output. cc output)
+kept_at_faulty (Err CannotWriteOutput) status is three kept = absurd (omega arith)
 
 -- what follows from a fact of two known values
 known_weaker : {A B : Type 0} (a : Option A) (b : Option B) (P Q : A → B → Type 0) → ((x : A) (y : B) → P x y → Q x y)
@@ -49,12 +80,58 @@ known_weaker (Some x) (Some y) P Q follows known = follows x y known
 -- where the source is not UTF-8 the output stays
 pub kept_at_not_utf8 : (words : List (List ℕ)) (bytes : Option (List ℕ)) (X : Type 0) (outcome : Result (Unit {0}) Fault)
     → OnOk outcome (WhereKnown words bytes (λ _ source. IsUtf8 source))
-    → IfErr outcome (λ fault. WhereKnown words bytes (λ _. FaultTells fault))
+    → IfErr outcome (λ fault. WhereKnown words bytes (FaultTells fault))
     → IfErr outcome (λ fault. fault ≢ CannotWriteOutput → X)
     → WhereKnown words bytes (λ _ source. ¬ (IsUtf8 source) → X)
 kept_at_not_utf8 words bytes X (Ok done) utf8 told kept =
-    known_weaker (request_of words) bytes (λ _ source. IsUtf8 source) (λ _ source. ¬ (IsUtf8 source) → X)
-    (λ request source is other. absurd (other is)) utf8
+    known_weaker (asked_of words) bytes (λ _ source. IsUtf8 source) (λ _ source. ¬ (IsUtf8 source) → X)
+    (λ asked source is other. absurd (other is)) utf8
 kept_at_not_utf8 words bytes X (Err fault) utf8 told kept =
-    known_weaker (request_of words) bytes (λ _. FaultTells fault) (λ _ source. ¬ (IsUtf8 source) → X)
-    (λ request source tells other. kept (λ output. other (subst (λ (f : Fault). FaultTells f source) output tells))) told
+    known_weaker (asked_of words) bytes (FaultTells fault) (λ _ source. ¬ (IsUtf8 source) → X)
+    (λ asked source tells other. kept (λ output. let wrote : FaultTells CannotWriteOutput asked source = subst (λ (f : Fault). FaultTells f asked source) output tells in other wrote.0)) told
+
+-- a script's fault that was told is the one of what was asked for
+pub told_at_faulty : (words : List (List ℕ)) (bytes : Option (List ℕ)) (outcome : Result (Unit {0}) Fault) (status : ℕ) (Told : List ℕ → Type 0)
+    → IsStatusOf outcome status → status ≡ 3
+    → IfErr outcome (λ fault. WhereKnown words bytes (FaultTells fault))
+    → IfErr outcome (λ fault. IfBadScript fault (λ picture. Told (string_bytes picture)))
+    → WhereKnown words bytes (λ asked source. (picture : List ℕ) × (drawing_of asked source ≡ Err picture) × Told picture)
+told_at_faulty words bytes (Ok done) status Told is three tells told = absurd (omega arith)
+told_at_faulty words bytes (Err WrongArguments) status Told is three tells told = absurd (omega arith)
+told_at_faulty words bytes (Err CannotReadInput) status Told is three tells told = absurd (omega arith)
+told_at_faulty words bytes (Err NotUtf8) status Told is three tells told = absurd (omega arith)
+told_at_faulty words bytes (Err (Drawing error)) status Told is three tells told = absurd (omega arith)
+told_at_faulty words bytes (Err (BadScript picture)) status Told is three tells told =
+    known_weaker (asked_of words) bytes (FaultTells (BadScript picture)) (λ asked source. (p : List ℕ) × (drawing_of asked source ≡ Err p) × Told p)
+    (λ asked source same. (string_bytes picture, same, told)) tells
+told_at_faulty words bytes (Err CannotWriteOutput) status Told is three tells told = absurd (omega arith)
+
+-- no drawing is both
+not_both : (drawing : Result (List ℕ) (List ℕ)) (good bad : List ℕ) → drawing ≡ Ok good → drawing ≡ Err bad → ⊥
+not_both drawing good bad is other = cc (is, other)
+
+-- the same of a fault
+faulty_fault : (fault : Fault) (status : ℕ) (X : Type 0) (asked : AskedView) (source picture : List ℕ) → IsStatusOf (Err fault) status → FaultTells fault asked source
+    → (fault ≢ CannotWriteOutput → X) → drawing_of asked source ≡ Err picture → ((status ≡ 3) ⊎ (status ≡ 1)) × X
+faulty_fault WrongArguments status X asked source picture is tells kept bad = absurd tells
+faulty_fault CannotReadInput status X asked source picture is tells kept bad = (inr is, kept (λ output. cc output))
+faulty_fault NotUtf8 status X asked source picture is tells kept bad = (inr is, kept (λ output. cc output))
+faulty_fault (Drawing error) status X asked source picture is tells kept bad = (inr is, kept (λ output. cc output))
+faulty_fault (BadScript told) status X asked source picture is tells kept bad = (is, kept (λ output. cc output))
+faulty_fault CannotWriteOutput status X asked source picture is tells kept bad = absurd (not_both (drawing_of asked source) tells.1.0 picture tells.1.1 bad)
+
+-- where the script has a fault, that is told or not, and the output stays
+pub faulty_status : (words : List (List ℕ)) (bytes : Option (List ℕ)) (outcome : Result (Unit {0}) Fault) (status : ℕ) (X : Type 0) (Wrote : List ℕ → Type 0)
+    → IsStatusOf outcome status
+    → OnOk outcome (WhereKnown words bytes (λ asked source. (picture : List ℕ) × (drawing_of asked source ≡ Ok picture) × Wrote picture))
+    → IfErr outcome (λ fault. WhereKnown words bytes (FaultTells fault))
+    → IfErr outcome (λ fault. fault ≢ CannotWriteOutput → X)
+    → WhereKnown words bytes (λ asked source. (picture : List ℕ) → drawing_of asked source ≡ Err picture → ((status ≡ 3) ⊎ (status ≡ 1)) × X)
+faulty_status words bytes (Ok done) status X Wrote is drawn tells kept =
+    known_weaker (asked_of words) bytes (λ asked source. (picture : List ℕ) × (drawing_of asked source ≡ Ok picture) × Wrote picture)
+    (λ asked source. (picture : List ℕ) → drawing_of asked source ≡ Err picture → ((status ≡ 3) ⊎ (status ≡ 1)) × X)
+    (λ asked source good picture bad. absurd (not_both (drawing_of asked source) good.0 picture good.1 bad)) drawn
+faulty_status words bytes (Err fault) status X Wrote is drawn tells kept =
+    known_weaker (asked_of words) bytes (FaultTells fault)
+    (λ asked source. (picture : List ℕ) → drawing_of asked source ≡ Err picture → ((status ≡ 3) ⊎ (status ≡ 1)) × X)
+    (λ asked source told picture bad. faulty_fault fault status X asked source picture is told kept bad) tells

@@ -1,7 +1,9 @@
 -- What the arguments ask for, word by word.
 use Rattle.std.proofs.Common.{◌≡◌, ℕ, ◌<◌, ◌≤◌, ◌⊎◌, inl, inr, List, [], ◌∷◌, length, get_or, map, Option, None, refl, ap, sym, ◌∙◌, arith}
 use Rattle.codespan_base.specs.declared.term.config.DisplayStyle.{DisplayStyle}
-use Rattle.report.specs.Requests.{number_of, request_of, style_of, with_parts}
+use Rattle.std.specs.Option.{option_map}
+use Rattle.report.specs.Requests.{asked_of, number_of, request_of, style_of, with_parts}
+use Rattle.report.specs.Requests.AskedView.{OneLabel, OfScript}
 
 -- five words are what stands at their places
 five_words : {A : Type 0} (xs : List A) (a b c d e : A) → 5 ≤ length xs → length xs < 6
@@ -39,3 +41,26 @@ words_ask text xs style name start end message least most p q r s t named first 
     ≡ request_of (text style ∷ text name ∷ text start ∷ text end ∷ text message ∷ []) =
     rw (x, y, z) refl in
     asked ∙ ap (λ l. request_of (map text l)) (sym five)
+
+-- two words are what stands at their places
+two_words : {A : Type 0} (xs : List A) (a b : A) → 2 ≤ length xs → length xs < 3 → a ≡ get_or xs 0 a → b ≡ get_or xs 1 b → xs ≡ a ∷ b ∷ []
+two_words [] a b least most p q = absurd (omega arith)
+two_words (v ∷ []) a b least most p q = absurd (omega arith)
+two_words (v ∷ w ∷ []) a b least most p q = cc
+two_words (v ∷ w ∷ x ∷ more) a b least most p q = absurd (omega arith)
+
+-- what two words ask for
+pub two_ask : {A : Type 0} (text : A → List ℕ) (xs : List A) (style name : A) → 2 ≤ length xs → length xs < 3
+    → style ≡ get_or xs 0 style → name ≡ get_or xs 1 name → (named : Option DisplayStyle) → named ≡ style_of (text style)
+    → option_map (λ s. OfScript s (text name)) named ≡ asked_of (map text xs)
+unfolding asked_of
+two_ask text xs style name least most p q named x =
+    ap (option_map (λ s. OfScript s (text name))) x ∙ ap (λ l. asked_of (map text l)) (sym (two_words xs style name least most p q))
+
+-- what another number of words asks for
+pub others_ask : {A : Type 0} (text : A → List ℕ) (xs : List A) → (length xs < 2) ⊎ (3 ≤ length xs) → asked_of (map text xs) ≡ option_map OneLabel (request_of (map text xs))
+unfolding asked_of
+others_ask text [] others = refl
+others_ask text (v ∷ []) others = refl
+others_ask text (v ∷ w ∷ []) others = absurd (elim others [ inl few ↦ omega arith | inr many ↦ omega arith ])
+others_ask text (v ∷ w ∷ x ∷ more) others = refl

@@ -1,47 +1,114 @@
--- What a request draws over a source.
-use Rattle.std.specs.Prelude.{◌≡◌, ℕ, true, List, [], ◌∷◌, Some, None}
-use Rattle.codespan_base.specs.declared.diagnostic.Diagnostic.{Diagnostic}
-use Rattle.codespan_base.specs.declared.diagnostic.LabelStyle.TheVariants.{Primary}
-use Rattle.codespan_base.specs.declared.diagnostic.Severity.TheVariants.{Error}
+-- What is drawn of a diagnostic over one file, and what a run draws.
+use Rattle.std.specs.Prelude.{◌≡◌, ℕ, true, List, [], ◌∷◌, map, Option, Some, None, Result, Ok, Err, codes, string_bytes}
+use Rattle.std.specs.declared.ops.Range.{Range}
+use Rattle.codespan_base.specs.declared.diagnostic.LabelStyle.TheVariants.{Primary, Secondary}
+use Rattle.codespan_base.specs.declared.diagnostic.Severity.TheVariants as severities
 use Rattle.codespan_base.specs.declared.term.config.Config.{Config}
-use Rattle.codespan_base.specs.FileModel.{FileModel}
-use Rattle.codespan_base.specs.SimpleModel.{simple_file}
-use Rattle.codespan_base.specs.Labels.{Labelled}
+use Rattle.codespan_base.specs.declared.term.config.DisplayStyle.{DisplayStyle}
 use Rattle.codespan_base.specs.Defaults.{default_config}
+use Rattle.codespan_base.specs.Diagnostics.{DiagnosticView, LabelView}
+use Rattle.codespan_base.specs.SimpleModel.{simple_file}
 use Rattle.codespan_base.specs.Streams.{bytes, text_of}
 use Rattle.codespan_reporting.specs.Rows.{Heading}
-use Rattle.codespan_reporting.specs.Picture.{labels_of, heading_of, styled_picture}
+use Rattle.codespan_reporting.specs.Picture.{styled_picture}
 use Rattle.codespan_reporting.specs.Snippets.{InFile}
-use Rattle.report.specs.Requests.{RequestView}
+use Rattle.report.specs.declared.fault.Fault as faults
+use Rattle.report.specs.declared.fault.Fault.TheVariants as fault
+use Rattle.report.specs.declared.script.Fault.{Fault}
+use Rattle.report.specs.declared.script.FaultNumber.{FaultNumber}
+use Rattle.report.specs.declared.script.FaultNumber.TheVariants.{UnknownWord, UnknownSeverity, BadNumber, RepeatedWord, MissingEnd}
+use Rattle.report.specs.Requests.{RequestView, AskedView}
+use Rattle.report.specs.Requests.AskedView.{OneLabel, OfScript}
+use Rattle.report.specs.Scripts.{ScriptView, read_script}
 
--- the file of the request's name and the source
-abbrev pub file_of : RequestView → List ℕ → FileModel
-file_of request source = simple_file (Some request.name) source
+-- ---- the picture of what a diagnostic says
 
--- the label that is asked for: a primary one with the message
-abbrev pub label_of : RequestView → Labelled
-label_of request = record { style = Primary; start = request.start; end = request.end; message = bytes request.message }
+-- what the header says
+abbrev pub heading_said : DiagnosticView (Unit {0}) → Heading
+heading_said said = record { code = said.code; message = said.message }
 
--- the labels: that one
-abbrev pub labels_of_request : RequestView → List (InFile (Unit {0}))
-labels_of_request request = record { id = tt; label = label_of request } ∷ []
+-- a label, as pictures see it
+abbrev pub label_said : LabelView (Unit {0}) → InFile (Unit {0})
+label_said label = record { id = label.file_id; label = record { style = label.style; start = label.range.start; end = label.range.end; message = bytes label.message } }
 
--- what the header says: the message, and no code
-abbrev pub heading_of_request : RequestView → Heading
-heading_of_request request = record { code = None; message = request.message }
+-- the labels in their order
+abbrev pub labels_said : DiagnosticView (Unit {0}) → List (InFile (Unit {0}))
+labels_said said = map label_said said.labels
 
--- what it is drawn by: the default configuration, in the style that is asked for
-abbrev pub config_of : RequestView → Config
-config_of request = record default_config { display_style = request.style }
+-- what it is drawn by: the default configuration, in this style
+abbrev pub config_of : DisplayStyle → Config
+config_of style = record default_config { display_style = style }
 
--- the text of the picture: an error with the one label
-unfoldable pub picture_text : RequestView → List ℕ → List ℕ
-picture_text request source =
-    text_of (styled_picture request.style (config_of request) (λ i j. true) (λ id. file_of request source) Error (heading_of_request request) (labels_of_request request) [])
+-- the text of the picture of what is said, in a style, over the file of a name and a source
+unfoldable pub picture_text : DisplayStyle → List ℕ → List ℕ → DiagnosticView (Unit {0}) → List ℕ
+picture_text style name source said =
+    text_of (styled_picture style (config_of style) (λ i j. true) (λ id. simple_file (Some name) source) said.severity (heading_said said) (labels_said said) said.notes)
 
--- the diagnostic is the one that is asked for
-pub record IsAsked (request : RequestView) (d : Diagnostic (Unit {0})) : Type 0 where
-  pub severity : d.severity ≡ Error
-  pub heading : heading_of d ≡ heading_of_request request
-  pub labels : labels_of d ≡ labels_of_request request
-  pub notes : d.notes.items ≡ []
+-- ---- what is said
+
+-- what a request says: an error with its message, and one primary label with the same
+abbrev pub said_of_request : RequestView → DiagnosticView (Unit {0})
+said_of_request request = record {
+  severity = severities.Error;
+  code = None;
+  message = request.message;
+  labels = record { style = Primary; file_id = tt; range = record { start = request.start; end = request.end }; message = request.message } ∷ [];
+  notes = [];
+}
+
+-- the code of a script's fault
+abbrev pub fault_code : FaultNumber → List ℕ
+fault_code UnknownWord = codes "S1"
+fault_code UnknownSeverity = codes "S2"
+fault_code BadNumber = codes "S3"
+fault_code RepeatedWord = codes "S4"
+fault_code MissingEnd = codes "S5"
+
+-- what is wrong
+abbrev pub fault_message : FaultNumber → List ℕ
+fault_message UnknownWord = codes "unknown word"
+fault_message UnknownSeverity = codes "unknown severity"
+fault_message BadNumber = codes "bad number"
+fault_message RepeatedWord = codes "repeated word"
+fault_message MissingEnd = codes "missing end of script"
+
+-- what its place is told
+abbrev pub fault_note : FaultNumber → List ℕ
+fault_note UnknownWord = codes "expected severity, code, message, primary, secondary or note"
+fault_note UnknownSeverity = codes "expected bug, error, warning, note or help"
+fault_note BadNumber = codes "expected a decimal number"
+fault_note RepeatedWord = codes "given again"
+fault_note MissingEnd = codes "expected ---"
+
+-- the label of the first place of a repeated word, if there is one
+abbrev pub first_place : Option (Range ℕ) → List (LabelView (Unit {0}))
+first_place None = []
+first_place (Some range) = record { style = Secondary; file_id = tt; range = range; message = codes "first given here" } ∷ []
+
+-- what a script's fault says: an error with its code, and a primary label at its place
+abbrev pub said_of_fault : Fault → DiagnosticView (Unit {0})
+said_of_fault fault = record {
+  severity = severities.Error;
+  code = Some (fault_code fault.number);
+  message = fault_message fault.number;
+  labels = record { style = Primary; file_id = tt; range = fault.range; message = fault_note fault.number } ∷ first_place fault.first;
+  notes = [];
+}
+
+-- ---- what a run draws
+
+-- what is drawn of an input that was read as a script: its diagnostic over its source, or its fault over the whole input
+abbrev pub drawing_of_script : DisplayStyle → List ℕ → List ℕ → Result ScriptView Fault → Result (List ℕ) (List ℕ)
+drawing_of_script style name input (Ok script) = Ok (picture_text style name script.source script.said)
+drawing_of_script style name input (Err fault) = Err (picture_text style (codes "script") input (said_of_fault fault))
+
+-- what is drawn of an input: `Ok` a picture for the output, `Err` the picture of a script's fault
+abbrev pub drawing_of : AskedView → List ℕ → Result (List ℕ) (List ℕ)
+drawing_of (OneLabel request) input = Ok (picture_text request.style request.name input (said_of_request request))
+drawing_of (OfScript style name) input = drawing_of_script style name input (read_script input)
+
+-- why nothing is drawn: a drawing was refused, or the script has the fault of this picture
+abbrev pub IsDrawRefusal : Result (List ℕ) (List ℕ) → faults.Fault → Type 0
+IsDrawRefusal drawing (fault.Drawing error) = Unit {0}
+IsDrawRefusal drawing (fault.BadScript picture) = drawing ≡ Err (string_bytes picture)
+IsDrawRefusal drawing _ = ⊥

@@ -1,32 +1,45 @@
 -- What a fault tells.
-use Rattle.std.specs.Prelude.{ℕ, List, ◌++◌, Option, Some, Result, Ok, Err, codes}
+use Rattle.std.specs.Prelude.{◌≡◌, ◌⊎◌, ℕ, List, ◌++◌, Option, Some, Result, Ok, Err, codes, string_bytes}
+use Rattle.std.specs.Global.{Global}
 use Rattle.std.specs.Option.{option_map}
+use Rattle.std.specs.declared.string.String.{String}
 use Rattle.std.specs.Str.{IsUtf8}
 use Rattle.codespan_base.specs.ErrorText.{error_text}
 use Rattle.report.specs.declared.fault.Fault.{Fault}
-use Rattle.report.specs.declared.fault.Fault.TheVariants.{WrongArguments, CannotReadInput, NotUtf8, Drawing, CannotWriteOutput}
+use Rattle.report.specs.declared.fault.Fault.TheVariants.{WrongArguments, CannotReadInput, NotUtf8, Drawing, BadScript, CannotWriteOutput}
+use Rattle.report.specs.Drawings.{drawing_of}
+use Rattle.report.specs.Requests.{AskedView}
 
--- the program's status: 0 where there is no fault, 2 for wrong arguments, and 1 for any other fault
-abbrev pub status_of : Result (Unit {0}) Fault → ℕ
-status_of (Ok done) = 0
-status_of (Err WrongArguments) = 2
-status_of (Err CannotReadInput) = 1
-status_of (Err NotUtf8) = 1
-status_of (Err (Drawing error)) = 1
-status_of (Err CannotWriteOutput) = 1
+-- the program's status: 0 where there is no fault, 2 for wrong arguments, 3 for a script's fault whose picture was told and 1 where it was not,
+-- and 1 for any other fault
+abbrev pub IsStatusOf : Result (Unit {0}) Fault → ℕ → Type 0
+IsStatusOf (Ok done) status = status ≡ 0
+IsStatusOf (Err WrongArguments) status = status ≡ 2
+IsStatusOf (Err CannotReadInput) status = status ≡ 1
+IsStatusOf (Err NotUtf8) status = status ≡ 1
+IsStatusOf (Err (Drawing error)) status = status ≡ 1
+IsStatusOf (Err (BadScript picture)) status = (status ≡ 3) ⊎ (status ≡ 1)
+IsStatusOf (Err CannotWriteOutput) status = status ≡ 1
 
--- the line of a fault, before its end; that of a drawing has the error's text
+-- the line of a fault, before its end; that of a drawing has the error's text, and that of a script its picture
 abbrev pub fault_text : Fault → Option (List ℕ)
 fault_text WrongArguments = Some (codes "usage: report STYLE NAME START END MESSAGE")
 fault_text CannotReadInput = Some (codes "report: cannot read input")
 fault_text NotUtf8 = Some (codes "report: input is not UTF-8")
 fault_text (Drawing error) = option_map (λ text. codes "report: " ++ text) (error_text error)
+fault_text (BadScript picture) = Some (string_bytes picture)
 fault_text CannotWriteOutput = Some (codes "report: cannot write output")
 
--- what a fault tells of the source of a request
-abbrev pub FaultTells : Fault → List ℕ → Type 0
-FaultTells WrongArguments source = ⊥
-FaultTells CannotReadInput source = Unit {0}
-FaultTells NotUtf8 source = ¬ (IsUtf8 source)
-FaultTells (Drawing error) source = Unit {0}
-FaultTells CannotWriteOutput source = IsUtf8 source
+-- what a fault tells of what is asked for and of the input
+abbrev pub FaultTells : Fault → AskedView → List ℕ → Type 0
+FaultTells WrongArguments asked input = ⊥
+FaultTells CannotReadInput asked input = Unit {0}
+FaultTells NotUtf8 asked input = ¬ (IsUtf8 input)
+FaultTells (Drawing error) asked input = Unit {0}
+FaultTells (BadScript picture) asked input = drawing_of asked input ≡ Err (string_bytes picture)
+FaultTells CannotWriteOutput asked input = IsUtf8 input × ((picture : List ℕ) × (drawing_of asked input ≡ Ok picture))
+
+-- the fact holds of the picture, where the fault is that of a script
+abbrev pub IfBadScript : Fault → (String Global → Type 0) → Type 0
+IfBadScript (BadScript picture) P = P picture
+IfBadScript _ P = Unit {0}

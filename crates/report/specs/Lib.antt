@@ -1,4 +1,10 @@
--- what is asked for, what it draws, and what faults tell
+-- what is asked for
 pub mod Requests
+-- scripts: their lines, their words, their faults, and what they say
+pub mod ScriptLines
+pub mod ScriptWords
+pub mod ScriptFaults
+pub mod Scripts
+-- what is drawn, and what faults tell
 pub mod Drawings
 pub mod Faults

@@ -4,6 +4,9 @@ use Rattle.std.specs.Str.{all_ascii_digits, bytes_eq}
 use Rattle.std.specs.Str.Parse.{digits_value}
 use Rattle.codespan_base.specs.declared.term.config.DisplayStyle.{DisplayStyle}
 use Rattle.codespan_base.specs.declared.term.config.DisplayStyle.TheVariants.{Rich, Medium, Short}
+use Rattle.std.specs.Option.{option_map}
+use Rattle.report.specs.declared.request.Asked.{Asked}
+use Rattle.report.specs.declared.request.Asked.TheVariants as variants
 use Rattle.report.specs.declared.request.Request.{Request}
 
 -- a request by its fields, its texts as bytes
@@ -46,11 +49,26 @@ with_parts name message (Some style) (Some start) None = None
 with_parts name message (Some style) None end = None
 with_parts name message None start end = None
 
--- what the arguments ask for: a style, a name, two numbers and a message
+-- the request of the arguments: a style, a name, two numbers and a message
 unfoldable pub request_of : List (List ℕ) → Option RequestView
 request_of (style ∷ name ∷ start ∷ end ∷ message ∷ []) = with_parts name message (style_of style) (number_of start) (number_of end)
 request_of _ = None
 
--- the fact holds of the request that the words ask for and of the bytes that the reader has, where both are known
-abbrev pub WhereKnown : List (List ℕ) → Option (List ℕ) → (RequestView → List ℕ → Type 0) → Type 0
-WhereKnown words bytes P = IfSome (request_of words) (λ request. IfSome bytes (P request))
+-- what a run is asked for: an error with one label over the input, or a script that the input begins with, in a style, over a file of a name
+pub data AskedView : Type 0 where
+  OneLabel : RequestView → AskedView
+  OfScript : DisplayStyle → List ℕ → AskedView
+
+-- what a run is asked for
+abbrev pub asked_view : Asked → AskedView
+asked_view (variants.OneLabel request) = OneLabel (request_view request)
+asked_view (variants.OfScript style name) = OfScript style name.now
+
+-- what the arguments ask for: two of them a script, and others what a request of one label is
+unfoldable pub asked_of : List (List ℕ) → Option AskedView
+asked_of (style ∷ name ∷ []) = option_map (λ s. OfScript s name) (style_of style)
+asked_of words = option_map OneLabel (request_of words)
+
+-- the fact holds of what the words ask for and of the bytes that the reader has, where both are known
+abbrev pub WhereKnown : List (List ℕ) → Option (List ℕ) → (AskedView → List ℕ → Type 0) → Type 0
+WhereKnown words bytes P = IfSome (asked_of words) (λ asked. IfSome bytes (P asked))

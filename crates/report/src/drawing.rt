@@ -1,41 +1,75 @@
-//! The picture of a request.
+//! The picture that a run is asked for.
 
-ghost use Rattle.std.specs.Prelude.{◌≡◌, IfOk, IfErr, string_bytes};
-ghost use Rattle.codespan_base.specs.Diagnostics.{IsTextRefusal};
-ghost use Rattle.codespan_base.specs.declared.files.error.Error.{Error};
-ghost use Rattle.report.specs.Drawings.{IsAsked, picture_text};
-ghost use Rattle.report.specs.Requests.{request_view};
+ghost use Rattle.std.specs.Prelude.{◌≡◌, IfOk, IfErr, Ok, string_bytes};
+ghost use Rattle.codespan_base.specs.Diagnostics.{diagnostic_view};
+ghost use Rattle.report.specs.Drawings.{drawing_of, drawing_of_script, picture_text, said_of_request, IsDrawRefusal};
+ghost use Rattle.report.specs.Requests.{asked_view, request_view};
+ghost use Rattle.report.specs.Scripts.{read_script};
 
 use crate::fault::Fault;
-use crate::request::Request;
-use codespan_reporting::diagnostic::{Diagnostic, Label};
+use crate::request::{Asked, Request};
+use crate::saying::{of_fault, of_request, of_script};
+use crate::script::{ScriptError, parse_script};
+use codespan_reporting::diagnostic::Diagnostic;
 use codespan_reporting::files::{Error, SimpleFile};
-use codespan_reporting::term::{Config, emit_into_string};
+use codespan_reporting::term::{Config, DisplayStyle, emit_into_string};
 use std::alloc::Global;
 
 /// The text of the picture that is asked for.
-pub fn draw(alloc: Global, request: &Request<'_>, source: &str) -> Result<String, Fault>
-    ensures text { IfOk result (λ text. string_bytes text ≡ picture_text (request_view request.now) source.now) }
-    ensures refused { IfErr result (λ fault. (error : Error) × (fault ≡ Fault.Drawing error)) }
+///
+/// Refuses with the picture of the first fault where a script is asked for and the input is none, and where a drawing was refused.
+pub fn draw(alloc: Global, asked: &Asked<'_>, input: &str) -> Result<String, Fault>
+    ensures text { IfOk result (λ text. drawing_of (asked_view asked.now) input.now ≡ Ok (string_bytes text)) }
+    ensures refused { IfErr result (IsDrawRefusal (drawing_of (asked_view asked.now) input.now)) }
 {
-    let file = SimpleFile::new(alloc, request.name, source)?;
-    let diagnostic = diagnostic(alloc, request)?;
-    let config = Config {
-        display_style: request.style,
-        ..Config::default()
-    };
-    Ok(emit_into_string(&config, &file, &diagnostic)?)
+    match asked {
+        Asked::OneLabel(request) => draw_request(alloc, request, input),
+        Asked::OfScript(style, name) => draw_script(alloc, *style, name, input),
+    }
 }
 
-/// An error with the message, and with one primary label that has the same message.
-fn diagnostic(alloc: Global, request: &Request<'_>) -> Result<Diagnostic<()>, Error>
-    ensures asked { IfOk result (IsAsked (request_view request.now)) }
-    ensures refused { IfErr result IsTextRefusal }
+/// The picture of a request over the input.
+fn draw_request(alloc: Global, request: &Request<'_>, input: &str) -> Result<String, Fault>
+    ensures text { IfOk result (λ text. drawing_of (asked_view (Asked.OneLabel request.now)) input.now ≡ Ok (string_bytes text)) }
+    ensures refused { IfErr result (IsDrawRefusal (drawing_of (asked_view (Asked.OneLabel request.now)) input.now)) }
 {
-    let label = Label::primary(alloc, (), request.start..request.end).with_message(
-        request.message,
-    )?;
-    Diagnostic::error(alloc)
-        .with_message(request.message)?
-        .with_label(label)
+    let diagnostic = of_request(alloc, request)?;
+    Ok(draw_over(alloc, request.style, request.name, input, &diagnostic)?)
+}
+
+/// The picture of what a script says over its source, or of its first fault over the whole input.
+fn draw_script(alloc: Global, style: DisplayStyle, name: &str, input: &str) -> Result<String, Fault>
+    ensures text { IfOk result (λ text. drawing_of_script style name.now input.now (read_script input.now) ≡ Ok (string_bytes text)) }
+    ensures refused { IfErr result (IsDrawRefusal (drawing_of_script style name.now input.now (read_script input.now))) }
+{
+    match parse_script(alloc, input) {
+        Ok(script) => {
+            let diagnostic = of_script(alloc, &script)?;
+            Ok(draw_over(alloc, style, name, script.source, &diagnostic)?)
+        }
+        Err(ScriptError::Fault(fault)) => {
+            let diagnostic = of_fault(alloc, fault)?;
+            let picture = draw_over(alloc, style, "script", input, &diagnostic)?;
+            Err(Fault::BadScript(picture))
+        }
+        Err(ScriptError::OutOfMemory) => Err(Fault::Drawing(Error::OutOfMemory)),
+    }
+}
+
+/// The picture of a diagnostic over the file of a name and a source.
+fn draw_over(
+    alloc: Global,
+    style: DisplayStyle,
+    name: &str,
+    source: &str,
+    diagnostic: &Diagnostic<()>,
+) -> Result<String, Error>
+    ensures { IfOk result (λ text. string_bytes text ≡ picture_text style name.now source.now (diagnostic_view diagnostic.now)) }
+{
+    let file = SimpleFile::new(alloc, name, source)?;
+    let config = Config {
+        display_style: style,
+        ..Config::default()
+    };
+    emit_into_string(&config, &file, diagnostic)
 }

@@ -20,6 +20,8 @@ pub enum Fault {
     NotUtf8,
     /// The drawing was refused.
     Drawing(Error),
+    /// The input is no script: the picture of its first fault.
+    BadScript(String),
     /// A write or the flush of the output was refused.
     CannotWriteOutput,
 }
@@ -56,6 +58,7 @@ impl fmt::Display for Fault {
             Fault::CannotReadInput => write!(f, "report: cannot read input"),
             Fault::NotUtf8 => write!(f, "report: input is not UTF-8"),
             Fault::Drawing(error) => write!(f, "report: {error}"),
+            Fault::BadScript(picture) => write!(f, "{picture}"),
             Fault::CannotWriteOutput => write!(f, "report: cannot write output"),
         }
     }

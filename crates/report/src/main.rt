@@ -1,13 +1,15 @@
 //! `report STYLE NAME START END MESSAGE` draws an error with one label over the source on standard input.
+//! `report STYLE NAME` draws what a script says that stands before the source there.
 //!
 //! `STYLE` is `rich`, `medium` or `short`. `START` and `END` are bytes of the source, in decimal digits: what the label covers. `NAME` is the
-//! file's name, and `MESSAGE` what both the error and the label say.
+//! file's name, and `MESSAGE` what both the error and the label say. [`script`] says what a script is.
 //!
-//! | status | what was done | one line on standard error |
+//! | status | what was done | standard error |
 //! |---|---|---|
-//! | 0 | the picture was written to standard output | none |
-//! | 1 | the input could not be read or was not UTF-8; the drawing, the output or memory for the arguments was refused | which of them |
-//! | 2 | nothing: the arguments are wrong | how it is called |
+//! | 0 | the picture was written to standard output | nothing |
+//! | 1 | the input could not be read or was not UTF-8; the drawing, the output or memory for the arguments was refused | one line: which of them |
+//! | 2 | nothing: the arguments are wrong | one line: how it is called |
+//! | 3 | nothing: the script has a fault | the picture of the fault, whole; where that is refused the status is 1 |
 //!
 //! Nothing is written to standard output unless the whole picture was drawn. Arguments that are not UTF-8 are wrong.
 #![tactic(auto)]
@@ -17,6 +19,10 @@ mod drawing;
 mod fault;
 mod request;
 mod run;
+mod saying;
+mod script;
+#[cfg(test)]
+mod script_tests;
 mod streams;
 #[cfg(test)]
 mod tests;

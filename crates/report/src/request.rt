@@ -41,6 +41,29 @@ impl<'args> Request<'args> {
     }
 }
 
+/// What a run is asked for.
+#[derive(Clone, Copy, Debug)]
+pub enum Asked<'args> {
+    /// An error with one label over the input.
+    OneLabel(Request<'args>),
+    /// What the script says that the input begins with, in a style, over the file of a name whose source follows the script.
+    OfScript(DisplayStyle, &'args str),
+}
+
+impl<'args> Asked<'args> {
+    ghost use Rattle.report.specs.Requests.{asked_of, asked_view};
+
+    /// What the arguments `STYLE NAME`, or those of a [`Request`], ask for; `None` where their number or form is another.
+    pub fn from_arguments(args: &'args [String]) -> Option<Asked<'args>>
+        ensures { option_map asked_view result ≡ asked_of (map string_bytes args.now) }
+    {
+        match args {
+            [style, name] => Some(Asked::OfScript(parse_style(style.as_str())?, name.as_str())),
+            _ => Some(Asked::OneLabel(Request::from_arguments(args)?)),
+        }
+    }
+}
+
 /// The style that is called `rich`, `medium` or `short`; `None` for any other word.
 #[tactic(auto, unfolding(crate::specs::Requests::style_of))]
 fn parse_style(text: &str) -> Option<DisplayStyle>
@@ -55,7 +78,7 @@ fn parse_style(text: &str) -> Option<DisplayStyle>
 }
 
 /// The number of one or more ASCII digits; `None` where there is another character, or the number does not fit.
-fn parse_number(text: &str) -> Option<usize>
+pub fn parse_number(text: &str) -> Option<usize>
     ensures { result ≡ number_of text.now }
 {
     if text.bytes().all(|byte| byte.is_ascii_digit()) {

@@ -1,22 +1,23 @@
 //! One run of the program.
 
-ghost use Rattle.std.specs.Prelude.{◌≡◌, ◌≢◌, ◌≤◌, ◌↔◌, None, IfErr, IsErrOf, OnOk, map, string_bytes};
+ghost use Rattle.std.specs.Prelude.{◌≡◌, ◌≢◌, ◌≤◌, ◌↔◌, ◌⊎◌, ℕ, List, None, Ok, Err, IfErr, IsErrOf, OnOk, map, string_bytes};
 ghost use Rattle.std.specs.Io.KnownBytes.{Appends, IsAtEnd};
 ghost use Rattle.std.specs.Str.{IsUtf8};
-ghost use Rattle.report.specs.Drawings.{picture_text};
-ghost use Rattle.report.specs.Faults.{FaultTells, status_of};
-ghost use Rattle.report.specs.Requests.{WhereKnown, request_of};
+ghost use Rattle.report.specs.Drawings.{drawing_of};
+ghost use Rattle.report.specs.Faults.{FaultTells, IfBadScript, IsStatusOf};
+ghost use Rattle.report.specs.Requests.{WhereKnown, asked_of};
 
 use crate::drawing::draw;
 use crate::fault::Fault;
-use crate::request::Request;
+use crate::request::Asked;
 use crate::streams::{read_source, write_text};
 use std::alloc::Global;
 use std::io::{Read, Write};
 
-/// Draws what the arguments ask for over the source that `input` has, and answers the program's status.
+/// Draws what the arguments ask for over the input, and answers the program's status.
 ///
-/// Where nothing is drawn, or the output is refused, it tells why, in one line to `faults`. A refusal of `faults` is ignored.
+/// Where nothing is drawn, or the output is refused, it tells why to `faults`: the fault of a script as its picture, and any other in one
+/// line. The status 3 is answered where a script's fault was told whole; any other refusal of `faults` is ignored.
 pub fn run<R: Read, W: Write, E: Write>(
     alloc: Global,
     args: &[String],
@@ -24,28 +25,40 @@ pub fn run<R: Read, W: Write, E: Write>(
     output: &mut W,
     faults: &mut E,
 ) -> u8
-    ensures status { result ≤ 2 }
-    ensures usage { (result ≡ 2) ↔ (request_of (map string_bytes args.now) ≡ None) }
+    ensures status { result ≤ 3 }
+    ensures usage { (result ≡ 2) ↔ (asked_of (map string_bytes args.now) ≡ None) }
     ensures unread { result ≡ 2 → input.new ≡ input.old }
     ensures unwritten { result ≡ 2 → output.new ≡ output.old }
     ensures silent { result ≡ 0 → faults.new ≡ faults.old }
     ensures read { result ≡ 0 → IsAtEnd (R.remaining input.new) }
-    ensures drawn { result ≡ 0 → WhereKnown (map string_bytes args.now) (R.remaining input.old) (λ request source.
-        Appends (W.contents output.old) (W.contents output.new) (picture_text request source)) }
+    ensures drawn { result ≡ 0 → WhereKnown (map string_bytes args.now) (R.remaining input.old) (λ asked source.
+        (picture : List ℕ) × (drawing_of asked source ≡ Ok picture) × Appends (W.contents output.old) (W.contents output.new) picture) }
     ensures utf8 { result ≡ 0 → WhereKnown (map string_bytes args.now) (R.remaining input.old) (λ _ source. IsUtf8 source) }
     ensures kept { WhereKnown (map string_bytes args.now) (R.remaining input.old) (λ _ source.
         ¬ (IsUtf8 source) → output.new ≡ output.old) }
+    ensures told { result ≡ 3 → WhereKnown (map string_bytes args.now) (R.remaining input.old) (λ asked source.
+        (picture : List ℕ) × (drawing_of asked source ≡ Err picture) × Appends (E.contents faults.old) (E.contents faults.new) picture) }
+    ensures faulty { WhereKnown (map string_bytes args.now) (R.remaining input.old) (λ asked source.
+        (picture : List ℕ) → drawing_of asked source ≡ Err picture → ((result ≡ 3) ⊎ (result ≡ 1)) × (output.new ≡ output.old)) }
+    ensures undrawn { result ≡ 3 → output.new ≡ output.old }
 {
     conclude(report(alloc, args, input, output), faults)
 }
 
-/// Tells the fault, if there is one, in one line, and answers the program's status. A refusal of `faults` is ignored.
+/// Tells the fault, if there is one, and answers the program's status: that of a script as its picture, and any other in one line.
+///
+/// A refusal of `faults` is ignored, but that a script's fault whose picture was refused has the status 1.
 pub fn conclude<E: Write>(outcome: Result<(), Fault>, faults: &mut E) -> u8
-    ensures status { result ≡ status_of outcome }
+    ensures status { IsStatusOf outcome result }
     ensures silent { OnOk outcome (faults.new ≡ faults.old) }
+    ensures told { result ≡ 3 → IfErr outcome (λ fault. IfBadScript fault (λ picture. Appends (E.contents faults.old) (E.contents faults.new) (string_bytes picture))) }
 {
     match outcome {
         Ok(()) => 0,
+        Err(Fault::BadScript(picture)) => match write_text(faults, picture.as_str()) {
+            Ok(()) => 3,
+            Err(_) => 1,
+        },
         Err(fault) => {
             let _ = fault.write_line(faults);
             match fault {
@@ -56,24 +69,24 @@ pub fn conclude<E: Write>(outcome: Result<(), Fault>, faults: &mut E) -> u8
     }
 }
 
-/// Reads the arguments and the source, draws, and writes.
+/// Reads the arguments and the input, draws, and writes.
 fn report<R: Read, W: Write>(
     alloc: Global,
     args: &[String],
     input: &mut R,
     output: &mut W,
 ) -> Result<(), Fault>
-    ensures usage { IsErrOf result Fault.WrongArguments ↔ (request_of (map string_bytes args.now) ≡ None) }
+    ensures usage { IsErrOf result Fault.WrongArguments ↔ (asked_of (map string_bytes args.now) ≡ None) }
     ensures unread { IsErrOf result Fault.WrongArguments → input.new ≡ input.old }
     ensures read { OnOk result (IsAtEnd (R.remaining input.new)) }
-    ensures drawn { OnOk result (WhereKnown (map string_bytes args.now) (R.remaining input.old) (λ request source.
-        Appends (W.contents output.old) (W.contents output.new) (picture_text request source))) }
+    ensures drawn { OnOk result (WhereKnown (map string_bytes args.now) (R.remaining input.old) (λ asked source.
+        (picture : List ℕ) × (drawing_of asked source ≡ Ok picture) × Appends (W.contents output.old) (W.contents output.new) picture)) }
     ensures utf8 { OnOk result (WhereKnown (map string_bytes args.now) (R.remaining input.old) (λ _ source. IsUtf8 source)) }
-    ensures told { IfErr result (λ fault. WhereKnown (map string_bytes args.now) (R.remaining input.old) (λ _. FaultTells fault)) }
+    ensures told { IfErr result (λ fault. WhereKnown (map string_bytes args.now) (R.remaining input.old) (FaultTells fault)) }
     ensures kept { IfErr result (λ fault. fault ≢ Fault.CannotWriteOutput → output.new ≡ output.old) }
 {
-    let request = Request::from_arguments(args).ok_or(Fault::WrongArguments)?;
+    let asked = Asked::from_arguments(args).ok_or(Fault::WrongArguments)?;
     let source = read_source(alloc, input)?;
-    let text = draw(alloc, &request, source.as_str())?;
+    let text = draw(alloc, &asked, source.as_str())?;
     write_text(output, text.as_str())
 }

@@ -20,7 +20,7 @@ const USAGE: &str = "usage: report STYLE NAME START END MESSAGE\n";
 
 /// An input that counts its reads, and refuses one of them.
 #[derive(Drop)]
-struct Input<'a> {
+pub struct Input<'a> {
     left: &'a [u8],
     reads: usize,
     refused_read: Option<usize>,
@@ -28,7 +28,7 @@ struct Input<'a> {
 
 impl<'a> Input<'a> {
     /// An input that refuses no read.
-    fn new(text: &'a [u8]) -> Self {
+    pub fn new(text: &'a [u8]) -> Self {
         Input {
             left: text,
             reads: 0,
@@ -50,16 +50,16 @@ impl Read for Input<'_> {
 
 /// An output that takes four bytes at a write, and refuses one write, or each flush.
 #[derive(Drop)]
-struct Output {
-    taken: Vec<u8>,
+pub struct Output {
+    pub taken: Vec<u8>,
     writes: usize,
-    refused_write: Option<usize>,
+    pub refused_write: Option<usize>,
     refuses_flush: bool,
 }
 
 impl Output {
     /// An output that refuses nothing.
-    fn new(alloc: Global) -> Self {
+    pub fn new(alloc: Global) -> Self {
         Output {
             taken: Vec::new(alloc),
             writes: 0,
@@ -69,7 +69,7 @@ impl Output {
     }
 
     /// What it has taken, as a text.
-    fn text(&self) -> &str {
+    pub fn text(&self) -> &str {
         match std::str::from_utf8(self.taken.as_slice()) {
             Ok(text) => text,
             Err(_) => "not UTF-8",
@@ -96,7 +96,7 @@ impl Write for Output {
 }
 
 /// The words as the program has them.
-fn arguments(alloc: Global, words: &[&str]) -> Result<Vec<String>, AllocError> {
+pub fn arguments(alloc: Global, words: &[&str]) -> Result<Vec<String>, AllocError> {
     words
         .iter()
         .map(|word| String::from_str(alloc, word))
@@ -105,14 +105,14 @@ fn arguments(alloc: Global, words: &[&str]) -> Result<Vec<String>, AllocError> {
 
 /// What a run answered and wrote.
 #[derive(Drop)]
-struct Outcome {
-    status: u8,
-    output: Output,
-    faults: Output,
+pub struct Outcome {
+    pub status: u8,
+    pub output: Output,
+    pub faults: Output,
 }
 
 /// A run over an input and an output that refuse nothing.
-fn ran(alloc: Global, words: &[&str], text: &[u8]) -> Result<Outcome, AllocError> {
+pub fn ran(alloc: Global, words: &[&str], text: &[u8]) -> Result<Outcome, AllocError> {
     let args = arguments(alloc, words)?;
     let mut output = Output::new(alloc);
     let mut faults = Output::new(alloc);

@@ -1,0 +1,102 @@
+-- What a script says.
+use Rattle.std.specs.Prelude.{◌≡◌, ℕ, List, [], ◌∷◌, map, Option, Some, None, Result, Ok, Err, codes, if◌then◌else◌, unwrap_or}
+use Rattle.std.specs.Borrow.{Bor}
+use Rattle.std.specs.List.{filter_map}
+use Rattle.std.specs.Option.{option_map, option_and_then}
+use Rattle.std.specs.Str.{bytes_eq}
+use Rattle.std.specs.declared.ops.Range.{Range}
+use Rattle.codespan_base.specs.Diagnostics.{DiagnosticView, LabelView}
+use Rattle.codespan_base.specs.declared.diagnostic.LabelStyle.{LabelStyle}
+use Rattle.codespan_base.specs.declared.diagnostic.LabelStyle.TheVariants as styles
+use Rattle.codespan_base.specs.declared.diagnostic.Severity.{Severity}
+use Rattle.codespan_base.specs.declared.diagnostic.Severity.TheVariants as severities
+use Rattle.report.specs.declared.script.Fault.{Fault}
+use Rattle.report.specs.declared.script.Script.{Script}
+use Rattle.report.specs.declared.script.words.Word.{Word}
+use Rattle.report.specs.declared.script.words.Word.TheVariants.{Primary, Secondary}
+use Rattle.report.specs.Requests.{number_of}
+use Rattle.report.specs.ScriptFaults.{given_line, fault_from, missing_end}
+use Rattle.report.specs.ScriptLines.{ScriptLine, lines_of, body, source_of, word_of, rest_of, field_of, past_blank}
+use Rattle.report.specs.ScriptWords.{word_named, severity_named}
+
+-- what a script says: a diagnostic of one file, and that file's source
+pub record ScriptView : Type 0 where
+  pub said : DiagnosticView (Unit {0})
+  pub source : List ℕ
+
+-- a label by its style, its range and its message's bytes
+abbrev pub labelled_view : LabelStyle × Range ℕ × Bor (List ℕ) → LabelView (Unit {0})
+labelled_view label = record { style = label.0; file_id = tt; range = label.1; message = label.2.now }
+
+-- a script by its fields, its texts as bytes
+abbrev pub script_view : Script → ScriptView
+script_view script = record {
+  said = record {
+    severity = script.severity;
+    code = option_map (λ code. code.now) script.code;
+    message = script.message.now;
+    labels = map labelled_view script.labels.items;
+    notes = map (λ note. note.now) script.notes.items;
+  };
+  source = script.source.now;
+}
+
+-- the rest of the first line that begins with the word
+abbrev pub rest_given : List ℕ → List ScriptLine → Option (List ℕ)
+rest_given word lines = option_map rest_of (given_line word lines)
+
+-- the severity that is given, an error without one
+unfoldable pub severity_given : List ScriptLine → Severity
+severity_given lines = unwrap_or (option_and_then severity_named (rest_given (codes "severity") lines)) severities.Error
+
+-- a label from the numbers of its start and its end
+abbrev pub with_ends : LabelStyle → List ℕ → Option ℕ → Option ℕ → Option (LabelView (Unit {0}))
+with_ends style message (Some start) (Some end) = Some (record { style = style; file_id = tt; range = record { start = start; end = end }; message = message })
+with_ends style message (Some start) None = None
+with_ends style message None end = None
+
+-- the label of a style that a rest states: its start, its end, and then its message
+abbrev pub labelled : LabelStyle → List ℕ → Option (LabelView (Unit {0}))
+labelled style rest = with_ends style (past_blank (past_blank rest)) (number_of (field_of rest)) (number_of (field_of (past_blank rest)))
+
+-- the label of a line with this word
+abbrev pub label_by_word : ScriptLine → Option Word → Option (LabelView (Unit {0}))
+label_by_word line (Some Primary) = labelled styles.Primary (rest_of line)
+label_by_word line (Some Secondary) = labelled styles.Secondary (rest_of line)
+label_by_word line _ = None
+
+-- the label of a line, if it states one
+unfoldable pub label_given : ScriptLine → Option (LabelView (Unit {0}))
+label_given line = label_by_word line (word_named (word_of line))
+
+-- all labels, in the order of their lines
+abbrev pub labels_given : List ScriptLine → List (LabelView (Unit {0}))
+labels_given lines = filter_map label_given lines
+
+-- the note of a line, if it states one
+abbrev pub note_given : ScriptLine → Option (List ℕ)
+note_given line = if bytes_eq (word_of line) (codes "note") then Some (rest_of line) else None
+
+-- all notes, in the order of their lines
+abbrev pub notes_given : List ScriptLine → List (List ℕ)
+notes_given lines = filter_map note_given lines
+
+-- what lines say
+abbrev pub diagnostic_of : List ScriptLine → DiagnosticView (Unit {0})
+diagnostic_of lines = record {
+  severity = severity_given lines;
+  code = rest_given (codes "code") lines;
+  message = unwrap_or (rest_given (codes "message") lines) [];
+  labels = labels_given lines;
+  notes = notes_given lines;
+}
+
+-- what is read of lines by their first fault and the source: the fault, else that the end is missing, else what they say
+abbrev pub read_lines : List ℕ → List ScriptLine → Option Fault → Option (List ℕ) → Result ScriptView Fault
+read_lines input lines (Some fault) source = Err fault
+read_lines input lines None None = Err (missing_end input)
+read_lines input lines None (Some source) = Ok (record { said = diagnostic_of lines; source = source })
+
+-- what an input says as a script, or its first fault
+unfoldable pub read_script : List ℕ → Result ScriptView Fault
+read_script input = read_lines input (body (lines_of input)) (fault_from [] (body (lines_of input))) (source_of input (lines_of input))

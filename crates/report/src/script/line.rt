@@ -1,0 +1,58 @@
+//! A line of a script, and its fields.
+
+ghost use Rattle.std.specs.Prelude.{◌+◌, ◌<◌, ◌^◌, length};
+
+use super::lines::cut;
+use std::ops::Range;
+
+/// A line of a script.
+#[derive(Clone, Copy, Debug)]
+pub(super) struct Line<'input> {
+    /// The byte of the input at which it starts.
+    pub(super) start: usize,
+    /// Its text, without its end.
+    pub(super) text: &'input str,
+    /// The byte of the input at which the next line starts, or the input's length.
+    pub(super) next: usize,
+    ghost fits: { start + length text.now < 2 ^ 64 },
+}
+
+impl<'input> Line<'input> {
+    ghost use Rattle.std.specs.Prelude.{◌≡◌, ◌≤◌};
+    ghost use Rattle.report.specs.ScriptLines.{line_view, range_at, word_of, rest_of, is_silent};
+
+    /// What stands before the first blank.
+    pub(super) fn word(&self) -> &'input str
+        ensures word { result.now ≡ word_of (line_view self.now) }
+        ensures short { length result.now ≤ length self.now.text.now }
+    {
+        cut(self.text).0
+    }
+
+    /// What follows the first blank.
+    pub(super) fn rest(&self) -> &'input str
+        ensures rest { result.now ≡ rest_of (line_view self.now) }
+        ensures short { length result.now ≤ length self.now.text.now }
+    {
+        cut(self.text).1
+    }
+
+    /// Whether the line is empty or begins with `#`.
+    pub(super) fn is_silent(&self) -> bool
+        ensures { result ≡ is_silent (line_view self.now) }
+    {
+        match self.text.as_bytes() {
+            [] => true,
+            [first, ..] => *first == b'#',
+        }
+    }
+
+    /// The range in the input of a field that begins the end `from` of the line.
+    pub(super) fn range_at(&self, from: &str, field: &str) -> Range<usize>
+        requires { (length field.now ≤ length from.now) × (length from.now ≤ length self.now.text.now) }
+        ensures { result ≡ range_at (line_view self.now) from.now field.now }
+    {
+        let start = self.start + self.text.len() - from.len();
+        start..start + field.len()
+    }
+}

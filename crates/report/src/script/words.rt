@@ -1,0 +1,54 @@
+//! The words of a script.
+
+ghost use Rattle.std.specs.Prelude.{◌≡◌};
+ghost use Rattle.report.specs.ScriptWords.{word_named, severity_named};
+
+use codespan_reporting::diagnostic::Severity;
+
+/// What a line begins with.
+#[derive(Clone, Copy, Debug, PartialEq, Eq)]
+pub enum Word {
+    /// The rest says how bad it is.
+    Severity,
+    /// The rest is the code.
+    Code,
+    /// The rest is the message.
+    Message,
+    /// The rest is a label of a cause.
+    Primary,
+    /// The rest is a label of what helps to see why.
+    Secondary,
+    /// The rest is a note.
+    Note,
+}
+
+/// The word that is spelled so; `None` for any other text.
+#[tactic(auto, unfolding(crate::specs::ScriptWords::word_named))]
+pub(super) fn parse_word(text: &str) -> Option<Word>
+    ensures { result ≡ word_named text.now }
+{
+    match text {
+        "severity" => Some(Word::Severity),
+        "code" => Some(Word::Code),
+        "message" => Some(Word::Message),
+        "primary" => Some(Word::Primary),
+        "secondary" => Some(Word::Secondary),
+        "note" => Some(Word::Note),
+        _ => None,
+    }
+}
+
+/// The severity that is called so; `None` for any other text.
+#[tactic(auto, unfolding(crate::specs::ScriptWords::severity_named))]
+pub(super) fn parse_severity(text: &str) -> Option<Severity>
+    ensures { result ≡ severity_named text.now }
+{
+    match text {
+        "bug" => Some(Severity::Bug),
+        "error" => Some(Severity::Error),
+        "warning" => Some(Severity::Warning),
+        "note" => Some(Severity::Note),
+        "help" => Some(Severity::Help),
+        _ => None,
+    }
+}
