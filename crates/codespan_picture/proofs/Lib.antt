@@ -2,3 +2,4 @@ pub mod Alike
 pub mod Rightmost
 pub mod HangingStarts
 pub mod Spread
+pub mod CaretEnds

@@ -1,5 +1,5 @@
 -- The carets under a line, run by run.
-use Rattle.std.proofs.Common.{◌≡◌, ℕ, ◌+◌, ◌≤◌, Bool, true, false, List, [], ◌∷◌, ◌++◌, Option, None, Some, refl, sym, ap, ◌∙◌, append_assoc, append-nil, add-zero, arith}
+use Rattle.std.proofs.Common.{◌≡◌, ℕ, ◌+◌, ◌≤◌, Bool, true, false, List, [], ◌∷◌, ◌++◌, Option, None, Some, refl, sym, ap, ◌∙◌, append_assoc, append-nil, add-zero, arith, le-ltb}
 use Rattle.std.specs.Prelude.{nat_lt}
 use Rattle.codespan_base.specs.declared.diagnostic.Severity.{Severity}
 use Rattle.codespan_base.specs.declared.diagnostic.LabelStyle.{LabelStyle}
@@ -11,7 +11,9 @@ use Rattle.codespan_picture.specs.Carets.{style_under, caret_for, greatest_end}
 use Rattle.codespan_picture.specs.Rows.{Look}
 use Rattle.codespan_picture.specs.RowParts.{change, styled, caret_glyphs, carets}
 use Rattle.codespan_renderer.specs.Inner.Runs.{caret_count, caret_run}
+use Rattle.codespan_picture.proofs.CaretEnds.{style_under-below}
 use Rattle.codespan_renderer.proofs.RowWords.{blanks-add, repeated-add, change-same, regroup}
+use Rattle.codespan_renderer.proofs.Sweeping.{Follow}
 
 -- the carets of the cells that are left
 abbrev glyphs_left : Look → List Labelled → Option LabelStyle → List Cell → Stream
@@ -105,3 +107,33 @@ carets-turn look labels was style run count c left cs l s n =
 pub carets-end : (look : Look) (labels : List Labelled) (was : Option LabelStyle) (run : ℕ) (left : List Cell)
     → left ≡ [] → caret_run look.chars was run ++ change look.severity was None ≡ carets_left look labels was run left
 carets-end look labels was run left e = rw e refl
+
+-- ---- past the greatest end
+
+not-none : (labels : List Labelled) (c : Cell) → greatest_end labels ≤ c.place → (style : Option LabelStyle) → style_under labels c ≡ style → style_under labels c ≡ None
+not-none labels c past None is = is
+not-none labels c past (Some style) is = let low = style_under-below labels c style is in absurd (omega arith)
+
+-- a character there has no label over it
+none-past : (labels : List Labelled) (c : Cell) → greatest_end labels ≤ c.place → style_under labels c ≡ None
+none-past labels c past = not-none labels c past (style_under labels c) refl
+
+-- and shows nothing
+glyphs-past : (chars : Chars) (end : ℕ) (c : Cell) → end ≤ c.place → caret_glyphs chars end None c ≡ []
+unfolding caret_glyphs
+glyphs-past chars end c past = let none : nat_lt c.place end ≡ false = le-ltb c.place end past in rw none refl
+
+-- where all characters begin there, the carets end
+glyphs_left-past : (look : Look) (labels : List Labelled) (was : Option LabelStyle) (place : ℕ) (cs : List Cell) → Follow place cs → greatest_end labels ≤ place
+    → glyphs_left look labels was cs ≡ change look.severity was None
+glyphs_left-past look labels was place [] follow past = refl
+glyphs_left-past look labels was place (c ∷ cs) follow past =
+    let there : greatest_end labels ≤ c.place = omega (arith, follow.0) in
+    rw (none-past labels c there, glyphs-past look.chars (greatest_end labels) c there, glyphs_left-past look labels None (place + c.bytes) cs follow.2 (omega arith), change-same look.severity None)
+    (append-nil (change look.severity was None ++ []) ∙ append-nil (change look.severity was None))
+
+-- the run that has begun is the last one
+pub carets-past : (look : Look) (labels : List Labelled) (was : Option LabelStyle) (run place : ℕ) (left : List Cell) → Follow place left → greatest_end labels ≤ place
+    → caret_run look.chars was run ++ change look.severity was None ≡ carets_left look labels was run left
+carets-past look labels was run place left follow past =
+    ap (λ (l : Stream). caret_run look.chars was run ++ l) (sym (glyphs_left-past look labels was place left follow past))

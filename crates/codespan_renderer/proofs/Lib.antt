@@ -7,6 +7,8 @@ pub mod CaretRuns
 pub mod Hanging
 pub mod Laying
 pub mod TextRuns
+pub mod PlainText
+pub mod SweptText
 pub mod Underlines
 pub mod Sweeping
 pub mod SweptCarets

@@ -1,5 +1,5 @@
 -- A walk that finds the pointers of a line.
-use Rattle.std.proofs.Common.{◌≡◌, ℕ, ◌+◌, ◌<◌, ◌≤◌, List, [], ◌∷◌, ◌++◌, length, drop, get_or, Option, Some, None, refl, ◌∙◌, append_assoc, filter}
+use Rattle.std.proofs.Common.{◌≡◌, ℕ, ◌+◌, ◌<◌, ◌≤◌, Bool, true, false, arith, List, [], ◌∷◌, ◌++◌, length, drop, get_or, Option, Some, None, refl, ◌∙◌, append_assoc, filter}
 use Rattle.codespan_base.specs.declared.diagnostic.LabelStyle.{LabelStyle}
 use Rattle.codespan_base.specs.Labels.{Labelled, has_message}
 use Rattle.codespan_picture.specs.declared.cells.Cell.{Cell}
@@ -8,7 +8,9 @@ use Rattle.codespan_renderer.specs.declared.term.renderer.by_cells.pointers.Poin
 use Rattle.codespan_picture.specs.Given.{GivenLabel, all_labelled}
 use Rattle.codespan_renderer.specs.Inner.PointerLists.{pointer_under, pointers_in, HasPassed}
 use Rattle.codespan_picture.specs.Rows.{hanging}
-use Rattle.codespan_picture.specs.RowParts.{starts_in}
+use Rattle.codespan_picture.specs.RowParts.{greatest_start, starts_in}
+use Rattle.codespan_picture.proofs.HangingStarts.{any-below, any-hanging, starts_in-low}
+use Rattle.std.specs.List.{list_any}
 use Rattle.codespan_renderer.specs.Inner.Runs.{best_from, pointer_found, AreHanging}
 use Rattle.codespan_renderer.proofs.Hanging.{pointer_is}
 use Rattle.codespan_picture.proofs.Spread.{AreSpread}
@@ -92,3 +94,31 @@ passing-start before after s t cs early late same_early same_late spread = recor
   same_late = same_late;
   spread = spread;
 }
+
+-- ---- past the greatest start
+
+-- the test of a character from which labels hang
+none-test : (labels : List Labelled) (c : Cell) (b : Bool) → greatest_start labels < c.place → list_any (starts_in c) (hanging labels) ≡ b → b ≡ false
+none-test labels c true past is =
+    let low = any-below 0 c.place (starts_in c) labels (λ x. starts_in-low c x) (any-hanging (starts_in c) labels is) in
+    absurd (omega arith)
+none-test labels c false past is = refl
+
+-- no label hangs from a character there
+none-past : (labels : List Labelled) (c : Cell) → greatest_start labels < c.place → pointer_found (hanging labels) c ≡ None
+none-past labels c past = rw (none-test labels c (list_any (starts_in c) (hanging labels)) past refl) refl
+
+-- where all characters begin there, there is no pointer
+pointers-past : (labels : List Labelled) (place column : ℕ) (cs : List Cell) → AreSpread place column cs → greatest_start labels < place → pointers_in (hanging labels) cs ≡ []
+pointers-past labels place column [] spread past = refl
+pointers-past labels place column (c ∷ cs) spread past =
+    let there : greatest_start labels < c.place = omega (arith, spread.0) in
+    rw (none-past labels c there) (pointers-past labels (place + c.bytes) (column + c.width) cs spread.3 (omega arith))
+
+-- the cell at a place of the list begins past the starts, and so do all that follow
+pub pointers-past-at : (labels before after : List GivenLabel) (s t : Starts) (last : ℕ) (cs : List Cell) (i : ℕ) (d : Cell) → i < length cs
+    → IsPassing before after s t (drop i cs) → last < (get_or cs i d).place → last ≡ greatest_start (all_labelled labels)
+    → pointers_in (hanging (all_labelled labels)) (drop i cs) ≡ []
+pointers-past-at labels before after s t last cs i d h w past e =
+    let spread : AreSpread w.place w.column (get_or cs i d ∷ drop (i + 1) cs) = rw (cells-step cs i d h) at w.spread in
+    pointers-past (all_labelled labels) w.place w.column (drop i cs) w.spread (omega (arith, e, past, spread.0))

@@ -9,7 +9,8 @@ use Rattle.std.proofs.lemmas.Bool.{le-leb, lt-leb, le-ltb}
 use Rattle.std.proofs.lemmas.Bool.Decides.{nat_tests}
 use Rattle.std.proofs.lemmas.Iterator.{YieldsList}
 use Rattle.std.proofs.lemmas.List.Sums.{sum_by-cons}
-use Rattle.codespan_base.specs.Labels.{LaneMark}
+use Rattle.codespan_base.specs.Labels.{LaneMark, Part, Top, Left, Bottom}
+use Rattle.codespan_base.specs.declared.term.config.chars.Chars.{Chars}
 use Rattle.codespan_base.specs.Streams.{Stream, bytes, newline, space}
 use Rattle.codespan_base.specs.WriterLaw.{Sink}
 use Rattle.codespan_base.proofs.Loops.{StillToCome}
@@ -20,7 +21,8 @@ use Rattle.codespan_picture.specs.Cells.{width_of, leading_whitespace}
 use Rattle.codespan_picture.specs.Given.{GivenMark, mark_of_given, part_of}
 use Rattle.codespan_renderer.specs.Inner.GivenLine.{given_lanes}
 use Rattle.codespan_picture.specs.Rows.{Look, Lanes, Line, UnderlineRow, has_underline}
-use Rattle.codespan_picture.specs.RowParts.{underline_lanes, underline_message, cells_before, cells_up_to}
+use Rattle.codespan_picture.specs.RowParts.{underline, underline_lanes, underline_message, cells_before, cells_up_to}
+use Rattle.codespan_renderer.specs.Inner.Underlines.{run_underline, run_width}
 use Rattle.codespan_picture.specs.RowStreams.{underline_row, stream_of_rows, later_notes}
 
 -- ---- the lanes of an underline row
@@ -46,6 +48,16 @@ underline_message-some [] e = absurd (omega arith)
 underline_message-some (b ∷ bs) e = refl
 
 pub ruleset underline_messages = (underline_message-none, underline_message-some)
+
+-- ---- the line of an underline
+
+-- an underline is that of the width of its line
+pub underline-runs : (chars : Chars) (style : LabelStyle) (width : ℕ) (cs : List Cell) (part : Part) → width ≡ run_width cs part
+    → underline chars style cs part ≡ run_underline chars style width part
+unfolding underline run_underline
+underline-runs chars style width cs (Top start) e = rw e refl
+underline-runs chars style width cs Left e = refl
+underline-runs chars style width cs (Bottom end message) e = rw e refl
 
 -- ---- the width up to a place
 

@@ -7,3 +7,4 @@ pub mod Runs
 pub mod PointerLists
 pub mod PrimaryMarks
 pub mod Sweeps
+pub mod Underlines

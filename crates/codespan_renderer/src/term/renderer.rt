@@ -13,6 +13,7 @@ mod messages;
 mod notes;
 mod parts;
 mod pointers;
+mod primary_marks;
 mod runs;
 mod source;
 mod underlines;

@@ -11,5 +11,6 @@ mod pointers;
 mod rows;
 mod sweep;
 mod text;
+mod underlines;
 
 pub use line_cells::LineCells;

@@ -87,6 +87,7 @@ impl<'text> Iterator for Cells<'text> {
 
     ghost remaining = { item_count cells_left };
 
+    #[inline(always)]
     fn next(&mut self) -> Option<Cell> {
         match self.chars.next() {
             Some(code) => {

@@ -1,6 +1,7 @@
 //! What the rows of a line are of.
 
 ghost use Rattle.std.specs.Prelude.{◌≡◌, IsTrue};
+ghost use Rattle.std.specs.Str.{IsUtf8};
 ghost use Rattle.codespan_picture.specs.Cells.{leading_whitespace, drawn_text, is_line_end};
 ghost use Rattle.codespan_picture.specs.Given.{lanes_in_order};
 
@@ -47,6 +48,7 @@ pub struct Line<'row, 'd> {
     /// What the labels over several lines do on it.
     pub lanes: Lanes<'row, 'd>,
     ghost measured: { leading ≡ leading_whitespace text.now },
+    ghost utf8: { ∥ IsUtf8 text.now ∥₁ },
 }
 
 /// The text of a line without the line feeds, carriage returns and NULs at its end.

@@ -1,15 +1,16 @@
 //! The row of a line's source, and all rows of a line.
 
-ghost use Rattle.std.specs.Prelude.{◌≡◌, ◌++◌, ◌&&◌, map};
+ghost use Rattle.std.specs.Prelude.{◌≡◌, ◌≤◌, ◌++◌, ◌&&◌, ◌==◌, map, true};
 ghost use Rattle.std.specs.List.{list_any};
 ghost use Rattle.codespan_base.specs.Labels.{LaneMark, is_primary, is_primary_style};
 ghost use Rattle.codespan_base.specs.Streams.{blanks, bytes, space, newline};
 ghost use Rattle.codespan_base.specs.WriterLaw.{Sends};
 ghost use Rattle.codespan_picture.specs.Carets.{covers};
-ghost use Rattle.codespan_picture.specs.Given.{all_labelled, mark_of_given, part_of};
+ghost use Rattle.codespan_picture.specs.Given.{all_labelled, mark_of_given};
 ghost use Rattle.codespan_renderer.specs.Inner.GivenLine.{look_of_given, line_of_given, lanes_of_given};
-ghost use Rattle.codespan_picture.specs.Rows.{caret_rows, rows_of};
-ghost use Rattle.codespan_picture.specs.RowParts.{border, change, coloured_text, leading_of, numbered_gutter, source_lanes, source_style, takes_in};
+ghost use Rattle.codespan_renderer.specs.Inner.PrimaryMarks.{AreMarksOf};
+ghost use Rattle.codespan_picture.specs.Rows.{Look as LookWord, caret_rows, rows_of};
+ghost use Rattle.codespan_picture.specs.RowParts.{border, change, coloured_text, leading_of, numbered_gutter, source_lanes, source_style};
 ghost use Rattle.codespan_picture.specs.RowStreams.{source_row, stream_of_rows};
 
 use crate::term::renderer::carets::{covers, send_caret_row};
@@ -20,26 +21,13 @@ use crate::term::renderer::parts::{
     send_border, send_change, send_newline, send_numbered_gutter, send_space,
 };
 use crate::term::renderer::pointers::send_all_hanging;
+use crate::term::renderer::primary_marks::PrimaryMarks;
 use crate::term::renderer::underlines::send_underlines;
 use crate::term::renderer::{MultiLabel, SingleLabel};
 use codespan_base::diagnostic::LabelStyle;
 use codespan_base::term::WriteStyle;
 use codespan_base::term::config::sending::{send, send_blanks};
 use std::io;
-
-/// Whether a label over several lines takes in the character.
-fn takes_in(cell: Cell, part: MultiLabel<'_>) -> bool
-    ensures { result ≡ takes_in cell (part_of part.entry) }
-{
-    match part {
-        MultiLabel::Top(start) => start <= cell.place,
-        MultiLabel::Left => true,
-        MultiLabel::Bottom(end, _) => match end.checked_sub(cell.place) {
-            Some(room) => cell.bytes <= room,
-            None => false,
-        },
-    }
-}
 
 /// Whether a primary label has a byte of the character.
 fn has_primary_label(labels: &[SingleLabel<'_>], cell: Cell) -> bool
@@ -53,27 +41,55 @@ fn has_primary_label(labels: &[SingleLabel<'_>], cell: Cell) -> bool
     false
 }
 
-/// Whether a primary label over several lines takes in the character.
-fn has_primary_mark(marks: &[(usize, LabelStyle, MultiLabel<'_>)], cell: Cell) -> bool
-    ensures { result ≡ list_any (λ (m : LaneMark). is_primary_style m.style && takes_in cell m.part) (map mark_of_given marks.now) }
+/// The style of a character of the source: primary where a primary label takes it in, of those over several lines by these marks.
+fn text_style(line: Line<'_, '_>, marks: PrimaryMarks, cell: Cell) -> Option<LabelStyle>
+    requires some { 1 ≤ cell.bytes }
+    requires marks { AreMarksOf (map mark_of_given line.lanes.marks.now) marks }
+    ensures { result ≡ source_style (line_of_given line.entry) cell }
 {
-    for mark in marks {
-        if mark.1 == LabelStyle::Primary && takes_in(cell, mark.2) {
+    if has_primary_label(line.labels, cell) || marks.take_in(cell) {
+        Some(LabelStyle::Primary)
+    } else {
+        None
+    }
+}
+
+/// Whether one of these labels is primary.
+fn has_primary(labels: &[SingleLabel<'_>]) -> bool
+    ensures { result ≡ list_any is_primary (all_labelled labels.now) }
+{
+    for label in labels {
+        if label.0 == LabelStyle::Primary {
             return true;
         }
     }
     false
 }
 
-/// The style of a character of the source: primary where a primary label takes it in.
-fn text_style(line: Line<'_, '_>, cell: Cell) -> Option<LabelStyle>
-    ensures { result ≡ source_style (line_of_given line.entry) cell }
+/// Whether one of these marks is primary.
+fn has_primary_mark(marks: &[(usize, LabelStyle, MultiLabel<'_>)]) -> bool
+    ensures { result ≡ list_any (λ (m : LaneMark). is_primary_style m.style) (map mark_of_given marks.now) }
 {
-    if has_primary_label(line.labels, cell) || has_primary_mark(line.lanes.marks, cell) {
-        Some(LabelStyle::Primary)
-    } else {
-        None
+    for mark in marks {
+        if mark.1 == LabelStyle::Primary {
+            return true;
+        }
     }
+    false
+}
+
+/// Whether the text has a tab.
+fn has_tab(text: &str) -> bool
+    ensures { result ≡ list_any (λ b. b == 9) text.now }
+{
+    text.as_bytes().contains(&b'\t')
+}
+
+/// Whether the text of a line is seen to be drawn as it stands: it has no tab, and no label of the line is primary.
+pub fn is_plain(line: Line<'_, '_>) -> bool
+    ensures { result ≡ true → (look : LookWord) → coloured_text look (line_of_given line.entry) ≡ bytes line.entry.text.now }
+{
+    !has_primary(line.labels) && !has_primary_mark(line.lanes.marks) && !has_tab(line.text)
 }
 
 /// The text of a line with a tab as blanks, and with marks where its style changes.
@@ -85,11 +101,12 @@ fn send_coloured_text<W: WriteStyle>(
     ensures { Sends (W.sink w.old) (coloured_text (look_of_given look.entry) (line_of_given line.entry)) result (W.sink w.new) }
 {
     let text = line.text.as_bytes();
+    let marks = PrimaryMarks::of(line.lanes.marks);
     let mut was = None;
     let mut start = 0;
     let mut end = 0;
     for cell in Cells::new(line.text, look.tab_width) {
-        let style = text_style(line, cell);
+        let style = text_style(line, marks, cell);
         let next = end + cell.bytes;
         if cell.code == '\t' {
             send_tab(w, look, &text[start..end], was, style, cell.width)?;
@@ -103,6 +120,17 @@ fn send_coloured_text<W: WriteStyle>(
         end = next;
     }
     end_text_run(w, look, &text[start..end], was, None)
+}
+
+/// The text of a line: at once where it is plain.
+fn send_text<W: WriteStyle>(w: &mut W, look: Look<'_>, line: Line<'_, '_>) -> io::Result<()>
+    ensures { Sends (W.sink w.old) (coloured_text (look_of_given look.entry) (line_of_given line.entry)) result (W.sink w.new) }
+{
+    if is_plain(line) {
+        send(w, line.text.as_bytes())
+    } else {
+        send_coloured_text(w, look, line)
+    }
 }
 
 /// The end of a run of text of one style, and the mark of the next.
@@ -153,7 +181,7 @@ fn send_source_row<W: WriteStyle>(w: &mut W, look: Look<'_>, line: Line<'_, '_>)
     ensures { Sends (W.sink w.old) (source_row (look_of_given look.entry) (line_of_given line.entry) ++ newline) result (W.sink w.new) }
 {
     send_source_lanes(w, look, line)?;
-    send_coloured_text(w, look, line)?;
+    send_text(w, look, line)?;
     send_newline(w)
 }
 

@@ -6,8 +6,9 @@ ghost use Rattle.codespan_base.specs.WriterLaw.{Sends};
 ghost use Rattle.codespan_picture.specs.Cells.{cells, width_of};
 ghost use Rattle.codespan_picture.specs.Given.{mark_of_given, part_of};
 ghost use Rattle.codespan_renderer.specs.Inner.GivenLine.{look_of_given, line_of_given, lanes_of_given};
+ghost use Rattle.codespan_renderer.specs.Inner.Underlines.{run_underline, run_width};
 ghost use Rattle.codespan_picture.specs.Rows.{has_underline, underline_rows};
-ghost use Rattle.codespan_picture.specs.RowParts.{border, gutter, leading_of, underline, underline_lanes, underline_message, start_caret, end_caret, cells_before, cells_up_to};
+ghost use Rattle.codespan_picture.specs.RowParts.{border, gutter, leading_of, underline_lanes, underline_message, start_caret, end_caret, cells_before, cells_up_to};
 ghost use Rattle.codespan_picture.specs.RowStreams.{underline_row, stream_of_rows};
 
 use crate::term::renderer::MultiLabel;
@@ -77,34 +78,37 @@ fn send_underline_message<W: WriteStyle>(w: &mut W, message: &str) -> io::Result
     send(w, message.as_bytes())
 }
 
-/// The line from the corner of a mark to its caret, the caret, and what the label says.
-#[tactic(auto, using(codespan_base::proofs::Sends::sendings), unfolding(codespan_picture::specs::RowParts::underline))]
-fn send_underline<W: WriteStyle>(
-    w: &mut W,
-    look: Look<'_>,
-    text: &str,
-    style: LabelStyle,
-    part: MultiLabel<'_>,
-) -> io::Result<()>
-    ensures { Sends (W.sink w.old) (underline look.entry.chars.now style (cells look.entry.tab_width text.now) (part_of part.entry)) result (W.sink w.new) }
+/// How many cells the line of a mark runs over, from its corner to its caret.
+fn run_width(text: &str, tab_width: usize, part: MultiLabel<'_>) -> u128
+    ensures { result ≡ run_width (cells tab_width text.now) (part_of part.entry) }
 {
     match part {
-        MultiLabel::Top(start) => {
-            send_run(
-                w,
-                look.chars.multi_top,
-                width_up_to(text, look.tab_width, start),
-            )?;
-            send_char(w, start_caret(look.chars, style))
+        MultiLabel::Top(start) => width_up_to(text, tab_width, start),
+        MultiLabel::Left => 0,
+        MultiLabel::Bottom(end, _) => width_before(text, tab_width, end),
+    }
+}
+
+/// The line from the corner of a mark to its caret, over so many cells, the caret, and what the label says.
+#[tactic(auto, using(codespan_base::proofs::Sends::sendings), unfolding(crate::specs::Inner::Underlines::run_underline))]
+fn send_underline<W: WriteStyle>(
+    w: &mut W,
+    chars: &Chars<'_>,
+    style: LabelStyle,
+    part: MultiLabel<'_>,
+    width: u128,
+) -> io::Result<()>
+    ensures { Sends (W.sink w.old) (run_underline chars.now style width (part_of part.entry)) result (W.sink w.new) }
+{
+    match part {
+        MultiLabel::Top(_) => {
+            send_run(w, chars.multi_top, width)?;
+            send_char(w, start_caret(chars, style))
         }
         MultiLabel::Left => Ok(()),
-        MultiLabel::Bottom(end, message) => {
-            send_run(
-                w,
-                look.chars.multi_bottom,
-                width_before(text, look.tab_width, end),
-            )?;
-            send_char(w, end_caret(look.chars, style))?;
+        MultiLabel::Bottom(_, message) => {
+            send_run(w, chars.multi_bottom, width)?;
+            send_char(w, end_caret(chars, style))?;
             send_underline_message(w, message)
         }
     }
@@ -131,25 +135,27 @@ fn send_underline_lanes<W: WriteStyle>(
     )
 }
 
-/// The underline of a mark.
-fn send_underline_row<W: WriteStyle>(
+/// The underline of a mark, whose line runs over so many cells.
+pub fn send_underline_row<W: WriteStyle>(
     w: &mut W,
     look: Look<'_>,
     line: Line<'_, '_>,
     mark: (usize, LabelStyle, MultiLabel<'_>),
+    width: u128,
 ) -> io::Result<()>
+    requires { width ≡ run_width (cells look.tab_width line.text.now) (part_of mark.2) }
     ensures { Sends (W.sink w.old) (underline_row (look_of_given look.entry) (line_of_given line.entry) (mark_of_given mark.entry) ++ newline) result (W.sink w.new) }
 {
     let (_, style, part) = mark;
     send_underline_lanes(w, look, line, mark)?;
     w.set_label(look.severity, style)?;
-    send_underline(w, look, line.text, style, part)?;
+    send_underline(w, look.chars, style, part, width)?;
     w.reset()?;
     send_newline(w)
 }
 
 /// Whether a mark has an underline row: a top corner that the source row draws has none.
-fn has_underline(leading: usize, part: MultiLabel<'_>) -> bool
+pub fn has_underline(leading: usize, part: MultiLabel<'_>) -> bool
     ensures { result ≡ has_underline leading (part_of part.entry) }
 {
     match part {
@@ -169,7 +175,8 @@ pub fn send_underlines<W: WriteStyle>(
 {
     for mark in line.lanes.marks {
         if has_underline(line.leading, mark.2) {
-            send_underline_row(w, look, line, *mark)?;
+            let width = run_width(line.text, look.tab_width, mark.2);
+            send_underline_row(w, look, line, *mark, width)?;
         }
     }
     Ok(())

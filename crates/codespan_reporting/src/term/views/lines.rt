@@ -130,7 +130,7 @@ impl<'page, 'files, F: Files<'files>> FileLines<'page, 'files, F> {
     {
         marks.refill(entries)?;
         let source = &self.text[line.start..line.end];
-        if marks.singles.is_empty() {
+        if !marks.have_places() {
             return renderer.render_snippet_source(
                 self.page.padding,
                 line.number,

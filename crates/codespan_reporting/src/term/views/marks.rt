@@ -61,4 +61,13 @@ impl<'d> LineMarks<'d> {
         }
         Ok(())
     }
+
+    /// Whether one of them has a place inside the line: carets, or the caret at the end of an underline.
+    pub fn have_places(&self) -> bool {
+        !self.singles.is_empty()
+            || self
+                .multis
+                .iter()
+                .any(|multi| !matches!(multi.2, MultiLabel::Left))
+    }
 }

@@ -12,7 +12,7 @@ ghost use Rattle.codespan_renderer.specs.Inner.Sweeps.{starts_in_order};
 
 use crate::term::renderer::SingleLabel;
 use crate::term::renderer::by_cells::sweep::Sweep;
-use crate::term::renderer::carets::{caret_count, end_caret_run, greatest_end, send_trailing};
+use crate::term::renderer::carets::{end_caret_run, greatest_end, send_trailing};
 use crate::term::renderer::cells::Cell;
 use crate::term::renderer::line::{Line, Look};
 use crate::term::renderer::messages::Messages;
@@ -37,13 +37,16 @@ pub fn send_carets<W: WriteStyle>(
     let mut was = None;
     let mut run = 0u128;
     for cell in cells {
+        if cell.place >= end {
+            break;
+        }
         let style = sweep.style_under(*cell);
         if style != was {
             end_caret_run(w, look, was, run, style)?;
             run = 0;
             was = style;
         }
-        run += caret_count(*cell, style, end) as u128;
+        run += cell.width as u128;
     }
     end_caret_run(w, look, was, run, None)
 }

@@ -122,6 +122,7 @@ fn fill_cells(all: &mut Vec<Cell>, text: &str, tab_width: usize) -> Result<(), E
     ensures refused { OnErr result (IsErrOf result Error.OutOfMemory) }
 {
     all.clear();
+    all.reserve(text.len() + 1)?;
     for cell in Cells::to_end(text, tab_width) {
         all.push(cell)?;
     }

@@ -77,7 +77,7 @@ pub fn width_up_to(characters: &[Cell], text: &str, tab_width: usize, place: usi
 
 /// How many cells the characters take that begin before a place.
 #[tactic(auto, using(crate::proofs::Underlines::widths_before))]
-fn width_before(characters: &[Cell], text: &str, tab_width: usize, place: usize) -> u128
+pub fn width_before(characters: &[Cell], text: &str, tab_width: usize, place: usize) -> u128
     requires characters { characters.now ≡ cells tab_width text.now }
     requires narrow { AreNarrow characters.now }
     ensures { result ≡ width_of (cells_before place (cells tab_width text.now)) }
@@ -107,8 +107,12 @@ pub fn find_pointers(
 {
     let mut before = Starts::new(messages.before);
     let mut after = Starts::new(messages.after);
+    let last = greatest_start(labels);
     pointers.clear();
     for cell in characters {
+        if cell.place > last {
+            return Ok(());
+        }
         let early = before.best_start(None, *cell);
         if let Some(style) = after.best_start(early, *cell) {
             pointers.push(pointer_under(*cell, style))?;

@@ -13,9 +13,9 @@ ghost use Rattle.codespan_renderer.specs.Inner.Sweeps.{starts_in_order};
 use crate::term::renderer::by_cells::carets::send_caret_row;
 use crate::term::renderer::by_cells::pointers::{Pointer, send_all_hanging};
 use crate::term::renderer::by_cells::text::send_source_row;
+use crate::term::renderer::by_cells::underlines::send_underlines;
 use crate::term::renderer::cells::Cell;
 use crate::term::renderer::line::{Line, Look};
-use crate::term::renderer::underlines::send_underlines;
 use codespan_base::term::WriteStyle;
 use std::io;
 
@@ -61,8 +61,8 @@ pub fn send_line<W: WriteStyle>(
     ensures { Sends (W.sink w.old) (stream_of_rows (look_of_given look.entry) (rows_of (line_of_given line.entry))) result (W.sink w.new) }
 {
     let characters = without_end(all, line.text, look.tab_width);
-    send_source_row(w, look, line)?;
+    send_source_row(w, look, line, characters)?;
     send_caret_rows(w, look, line, all)?;
     send_all_hanging(w, look, line, characters, found)?;
-    send_underlines(w, look, line)
+    send_underlines(w, look, line, characters)
 }

@@ -1,7 +1,7 @@
 use Rattle.std.proofs.Common.{rules, ◌≡◌, ◌+◌, ◌-◌, sym, subst, ap, ◌∙◌, arith}
 use Rattle.std.specs.Char.{encode_utf8}
 use Rattle.std.proofs.lemmas.Result.{err_from_is_err_and}
-use Rattle.std.proofs.lemmas.Str.{IsUtf8-had, length-encode}
+use Rattle.std.proofs.lemmas.Str.{IsUtf8-had, length-encode, len_utf8_bounds}
 use Rattle.codespan_base.specs.Streams.{Stream}
 use Rattle.codespan_base.proofs.Loops.{StillToCome, StillToCome-start, StillToCome-more, StillToCome-refused, StillToCome-last}
 use Rattle.codespan_picture.specs.Cells.{cells}
@@ -17,6 +17,11 @@ loop-cell-init g c =
     let all : cells_left c.into_iter-cell-iterator.result ≡ cells c.args.look.tab_width c.args.line.text.now =
     ap cells_left c.into_iter-cell-iterator.ensures.into_iter_gives ∙ made.cells in
     rw all record { coming = StillToCome-start _ _ _ (text-start _ _); over = over-start _ _ (IsUtf8-had _ made.utf8); ordered = omega arith; within = omega arith }
+
+pub text_style-style-requires : goal.text_style-style-requires
+text_style-style-requires g c =
+    let n = over-next c.args.look.tab_width c.args.line.text.now c.loop-cell.end c.in-Some.cell _ (cells_left c.next.new.self) c.in-Some.ensures.steps c.loop-cell.invariant.over in
+    record { some = omega (arith, n.bytes, (len_utf8_bounds c.in-Some.cell.code).0); marks = c.of-marks.ensures }
 
 pub overflow_add-next : goal.overflow_add-next
 overflow_add-next g c =

@@ -6,10 +6,10 @@ pub returns-in_err-send_source_lanes : goal.returns-in_err-send_source_lanes
 unfolding source_row
 returns-in_err-send_source_lanes g c = refused _ _ _ _ _ c.from_residual.ensures.1 (stopped-before _ (stopped-before _ c.in_err-send_source_lanes.ensures))
 
-pub returns-in_err-send_coloured_text : goal.returns-in_err-send_coloured_text
+pub returns-in_err-send_text : goal.returns-in_err-send_text
 unfolding source_row
-returns-in_err-send_coloured_text g c = refused _ _ _ _ _ c.from_residual-in_err-send_coloured_text.ensures.1 (stopped-before _ (stopped-then _ c.in_ok-send_source_lanes.ensures c.in_err-send_coloured_text.ensures))
+returns-in_err-send_text g c = refused _ _ _ _ _ c.from_residual-in_err-send_text.ensures.1 (stopped-before _ (stopped-then _ c.in_ok-send_source_lanes.ensures c.in_err-send_text.ensures))
 
 pub returns : goal.returns
 unfolding source_row
-returns g c = sends-last _ _ _ _ _ (came-then _ _ _ c.in_ok-send_source_lanes.ensures c.in_ok-send_coloured_text.ensures) c.send_newline.ensures
+returns g c = sends-last _ _ _ _ _ (came-then _ _ _ c.in_ok-send_source_lanes.ensures c.in_ok-send_text.ensures) c.send_newline.ensures

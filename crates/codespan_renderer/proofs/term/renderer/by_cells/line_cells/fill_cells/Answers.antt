@@ -11,7 +11,7 @@ loop-cell-init c =
     let made = c.to_end-cell-items.ensures in
     let all : cells_left c.into_iter-cell-iterator.result ≡ cells_to_end c.args.tab_width c.args.text.now =
     ap cells_left c.into_iter-cell-iterator.ensures.into_iter_gives ∙ made.cells in
-    rw (c.clear.ensures.items, all) record { taken = refl; laying = laying-to_end _ _ (IsUtf8-had _ made.utf8); narrow = narrow-none }
+    rw (c.reserve.ensures.items, c.clear.ensures.items, all) record { taken = refl; laying = laying-to_end _ _ (IsUtf8-had _ made.utf8); narrow = narrow-none }
 
 pub loop-cell-preserved : goal.loop-cell-preserved
 loop-cell-preserved c =

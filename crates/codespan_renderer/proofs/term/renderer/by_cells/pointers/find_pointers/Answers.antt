@@ -1,8 +1,8 @@
-use Rattle.std.proofs.Common.{◌<◌, ◌∙◌, length, refl, sym}
+use Rattle.std.proofs.Common.{◌<◌, ◌∙◌, ◌++◌, ap, append-nil, length, refl, sym}
 use Rattle.std.specs.Str.{chars}
 use Rattle.codespan_picture.specs.Given.{all_labelled}
 use Rattle.codespan_picture.proofs.Spread.{cells-spread}
-use Rattle.codespan_renderer.proofs.PointerWalks.{passing-start, passing-at, passing-more, found-style, found-some, found-none}
+use Rattle.codespan_renderer.proofs.PointerWalks.{passing-start, passing-at, passing-more, found-style, found-some, found-none, pointers-past-at}
 use Rattle.codespan_renderer.proofs.term.renderer.by_cells.pointers.find_pointers.Goals.{in-Some+in_ok-push, in_default}
 use Rattle.codespan_renderer.proofs.term.renderer.by_cells.pointers.find_pointers.Goals as goal
 
@@ -12,6 +12,12 @@ loop-cell-init c = record {
       (rw c.requires.characters (cells-spread c.args.tab_width 0 0 (chars c.args.text.now)));
   found = rw (c.clear.ensures.items, c.requires.characters) refl;
 }
+
+pub returns-then-cell-last-clause-found : goal.returns-then-cell-last-clause-found
+returns-then-cell-last-clause-found c =
+    let i = c.loop-cell.invariant in
+    let none = pointers-past-at c.args.labels.now _ _ _ _ c.greatest_start-last.result c.args.characters.now c.loop-cell.cell-index _ c.loop-cell-test.true i.walk c.if-cell-last.true c.greatest_start-last.ensures in
+    sym (append-nil c.loop-cell.pointers.items) ∙ ap (λ ps. c.loop-cell.pointers.items ++ ps) (sym none) ∙ i.found
 
 pub pointer_under-requires : goal.pointer_under-requires
 pointer_under-requires c = c.requires.narrow _ _ c.loop-cell-test.true

@@ -1,6 +1,5 @@
-use Rattle.std.proofs.Common.{◌≤◌, length}
+use Rattle.std.proofs.Common.{◌≤◌, drop, length}
 use Rattle.codespan_base.proofs.Loops.{StillToCome}
-use Rattle.codespan_renderer.specs.Inner.CellsLeft.{cells_left}
 use Rattle.codespan_renderer.specs.Inner.GivenLine.{look_of_given, line_of_given}
 use Rattle.codespan_picture.specs.RowParts.{coloured_text}
 use Rattle.codespan_renderer.proofs.Sweeping.{IsWalk}
@@ -10,9 +9,9 @@ use Rattle.codespan_renderer.proofs.term.renderer.by_cells.text.send_coloured_te
 abbrev pub invariant-loop-cell : goal.invariant-loop-cell
 invariant-loop-cell g l = record {
   coming : StillToCome (g.W.WriteStyle.sink l.fn.w) (coloured_text (look_of_given l.look) (line_of_given l.line))
-      (text_rest (look_of_given l.look) (line_of_given l.line) l.was (piece l.text l.start l.end) (cells_left l.cell-iterator)) (g.W.WriteStyle.sink l.w);
-  over : IsOver l.look.tab_width l.line.text.now l.end (cells_left l.cell-iterator);
-  walk : IsWalk l.line.labels.now l.sweep (cells_left l.cell-iterator);
+      (text_rest (look_of_given l.look) (line_of_given l.line) l.was (piece l.text l.start l.end) (drop l.cell-index l.characters)) (g.W.WriteStyle.sink l.w);
+  over : IsOver l.look.tab_width l.line.text.now l.end (drop l.cell-index l.characters);
+  walk : IsWalk l.line.labels.now l.sweep (drop l.cell-index l.characters);
   ordered : l.start ≤ l.end;
   within : l.end ≤ length l.line.text.now;
 }

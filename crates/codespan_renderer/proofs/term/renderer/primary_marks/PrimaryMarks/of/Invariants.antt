@@ -5,7 +5,7 @@ use Rattle.codespan_picture.specs.declared.cells.Cell.{Cell}
 use Rattle.codespan_picture.specs.Given.{mark_of_given}
 use Rattle.codespan_renderer.specs.Inner.PrimaryMarks.{is_marked}
 use Rattle.codespan_picture.specs.RowParts.{takes_in}
-use Rattle.codespan_renderer.proofs.term.renderer.by_cells.text.PrimaryMarks.of.Given as goal
+use Rattle.codespan_renderer.proofs.term.renderer.primary_marks.PrimaryMarks.of.Given as goal
 
 -- what is found and the marks that are left take in what all marks do
 abbrev pub invariant-loop-mark : goal.invariant-loop-mark

@@ -1,0 +1,79 @@
+//! What primary labels over several lines take in of one line.
+
+ghost use Rattle.std.specs.Prelude.{◌≡◌, ◌||◌, ◌≤◌, ℕ, map, nat_le};
+ghost use Rattle.codespan_picture.specs.declared.cells.Cell as cell;
+ghost use Rattle.codespan_picture.specs.Given.{mark_of_given, part_of};
+ghost use Rattle.codespan_picture.specs.RowParts.{takes_in};
+ghost use Rattle.codespan_renderer.specs.Inner.PrimaryMarks.{AreMarksOf, is_from, is_marked};
+
+use crate::term::renderer::MultiLabel;
+use crate::term::renderer::cells::Cell;
+use codespan_base::diagnostic::LabelStyle;
+
+/// What the primary labels over several lines take in of a line: all from a place on, and all before another.
+#[derive(Clone, Copy)]
+pub struct PrimaryMarks {
+    /// The least start of those that start on the line; 0 where one goes through it.
+    from: Option<usize>,
+    /// The greatest end of those that end on it, 0 where there is none.
+    to: usize,
+}
+
+impl PrimaryMarks {
+    /// What these marks take in.
+    pub fn of(marks: &[(usize, LabelStyle, MultiLabel<'_>)]) -> PrimaryMarks
+        ensures { AreMarksOf (map mark_of_given marks.now) result }
+    {
+        let mut found = PrimaryMarks { from: None, to: 0 };
+        for mark in marks {
+            if mark.1 == LabelStyle::Primary {
+                found = found.with(mark.2);
+            }
+        }
+        found
+    }
+
+    /// The same, and what one more mark takes in.
+    fn with(self, part: MultiLabel<'_>) -> PrimaryMarks
+        ensures { (c : cell.Cell) → 1 ≤ c.bytes → is_marked result c ≡ (is_marked self c || takes_in c (part_of part.entry)) }
+    {
+        match part {
+            MultiLabel::Top(start) => PrimaryMarks {
+                from: Some(least(self.from, start)),
+                to: self.to,
+            },
+            MultiLabel::Left => PrimaryMarks {
+                from: Some(0),
+                to: self.to,
+            },
+            MultiLabel::Bottom(end, _) => PrimaryMarks {
+                from: self.from,
+                to: self.to.max(end),
+            },
+        }
+    }
+
+    /// Whether one of them takes in the character.
+    pub fn take_in(self, cell: Cell) -> bool
+        ensures { result ≡ is_marked self cell }
+    {
+        let before = match self.to.checked_sub(cell.place) {
+            Some(room) => cell.bytes <= room,
+            None => false,
+        };
+        match self.from {
+            Some(start) => start <= cell.place || before,
+            None => before,
+        }
+    }
+}
+
+/// The lesser of two starts.
+fn least(from: Option<usize>, start: usize) -> usize
+    ensures { (place : ℕ) → nat_le result place ≡ (is_from from place || nat_le start place) }
+{
+    match from {
+        Some(other) => other.min(start),
+        None => start,
+    }
+}
