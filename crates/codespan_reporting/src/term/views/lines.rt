@@ -136,7 +136,7 @@ impl<'page, 'files, F: Files<'files>> FileLines<'page, 'files, F> {
                 line.number,
                 source,
                 self.page.severity,
-                &[],
+                marks.singles.as_slice(),
                 self.lane_count,
                 marks.multis.as_slice(),
             );
