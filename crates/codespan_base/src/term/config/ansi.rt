@@ -27,6 +27,13 @@ impl<W: Write> Ansi<W> {
     {
         Ansi { inner: writer }
     }
+
+    /// The writer that it writes to.
+    pub fn into_inner(self) -> W
+        ensures { result ≡ ansi_inner self }
+    {
+        self.inner
+    }
 }
 
 impl<W: Write> Write for Ansi<W> {

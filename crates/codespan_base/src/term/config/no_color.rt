@@ -23,6 +23,13 @@ impl<W: Write> NoColor<W> {
     {
         NoColor { inner: writer }
     }
+
+    /// The writer that it writes to.
+    pub fn into_inner(self) -> W
+        ensures { result ≡ no_color_inner self }
+    {
+        self.inner
+    }
 }
 
 impl<W: Write> Write for NoColor<W> {

@@ -37,6 +37,14 @@ impl<'a, W: WriteColor> StylesWriter<'a, W> {
         }
     }
 
+    /// The writer that it writes to.
+    pub fn into_inner(self) -> W
+        ensures { result ≡ styles_inner self.entry }
+    {
+        let StylesWriter { inner, .. } = self;
+        inner
+    }
+
     fn set_color(&mut self, spec: &ColorSpec) -> io::Result<()>
         ensures { Sends (styles_sink W.contents W.color_bytes W.reset_bytes self.old) (bytes (W.color_bytes spec.now))
             result (styles_sink W.contents W.color_bytes W.reset_bytes self.new) }
