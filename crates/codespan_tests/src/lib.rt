@@ -12,4 +12,6 @@ mod quick_start;
 #[cfg(test)]
 mod rows;
 #[cfg(test)]
+mod stopping;
+#[cfg(test)]
 mod writers;

@@ -11,6 +11,7 @@ mod several_lines;
 mod single_lines;
 mod small_lanes;
 mod small_pictures;
+mod stopping;
 mod styles;
 
 use codespan_reporting::diagnostic::{Diagnostic, Label};

@@ -4,6 +4,7 @@ mod flushing;
 mod stopping;
 
 use crate::pictures::drawing::without_sequences;
+use crate::rows::stopping::assert_rows_stop;
 use codespan_reporting::diagnostic::{LabelStyle, Severity};
 use codespan_reporting::files::{Error, Location};
 use codespan_reporting::term::renderer::{
@@ -85,7 +86,8 @@ impl<'a> Rows for Given<'a> {
     }
 }
 
-/// The rows are this text: plain, in no colours, and by escape sequences, once they are taken out.
+/// The rows are this text: plain, in no colours, and by escape sequences, once they are taken out; and a beginning of it where a writer
+/// stops.
 fn assert_rows<R: Rows>(
     rt: &impl Abort,
     alloc: Global,
@@ -108,7 +110,7 @@ fn assert_rows<R: Rows>(
         without_sequences(alloc, bytes.as_slice())?.as_slice(),
         want.as_bytes()
     );
-    Ok(())
+    assert_rows_stop(rt, alloc, config, rows, want)
 }
 
 #[test]

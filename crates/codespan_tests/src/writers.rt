@@ -70,11 +70,17 @@ fn every_mark_of_every_writer(rt: HostRuntime) -> Result<(), Fail> {
     let styles = Styles::default();
     let mut ansi = StylesWriter::new(Ansi::new(Vec::new(rt.alloc())), &styles);
     send_every_mark(&mut ansi)?;
-    assert_eq!(rt; ansi.into_inner().into_inner().as_slice(), ANSI_MARKS.as_bytes());
+    assert_eq!(rt;
+        ansi.into_inner().into_inner().as_slice(),
+        ANSI_MARKS.as_bytes()
+    );
 
     let mut no_color = StylesWriter::new(NoColor::new(Vec::new(rt.alloc())), &styles);
     send_every_mark(&mut no_color)?;
-    assert_eq!(rt; no_color.into_inner().into_inner().as_slice(), NO_MARKS.as_bytes());
+    assert_eq!(rt;
+        no_color.into_inner().into_inner().as_slice(),
+        NO_MARKS.as_bytes()
+    );
 
     let mut text = Vec::new(rt.alloc());
     send_every_mark(&mut StylesWriter::new(TagColor::new(&mut text), &styles))?;

@@ -1,5 +1,6 @@
 //! Diagnostics over files, as tables give them, with their pictures.
 
+use crate::pictures::stopping::{Drawn, assert_stops};
 use codespan_reporting::diagnostic::{Diagnostic, Label, LabelStyle, Severity};
 use codespan_reporting::files::{Error, Files, SimpleFiles};
 use codespan_reporting::term::{
@@ -83,7 +84,7 @@ pub fn diagnostic_of(alloc: Global, drawing: &Drawing<'_>) -> Result<Diagnostic<
     Ok(diagnostic)
 }
 
-/// Draws a diagnostic by every call that emits, plain and in colours.
+/// Draws a diagnostic by every call that emits, plain and in colours, and into writers that stop.
 pub fn assert_drawn(rt: &impl Abort, alloc: Global, drawing: Drawing<'_>) -> Result<(), Error> {
     let files = files_of(alloc, drawing.files)?;
     let diagnostic = diagnostic_of(alloc, &drawing)?;
@@ -99,7 +100,13 @@ pub fn assert_drawn(rt: &impl Abort, alloc: Global, drawing: Drawing<'_>) -> Res
     let mut bytes = Vec::new(alloc);
     emit(&mut bytes, config, &files, &diagnostic)?;
     assert_text(rt, bytes, &drawing);
-    assert_colours_change_no_text(rt, alloc, &drawing, &diagnostic)
+    assert_colours_change_no_text(rt, alloc, &drawing, &diagnostic)?;
+    let drawn = Drawn {
+        config,
+        files: &files,
+        diagnostic: &diagnostic,
+    };
+    assert_stops(rt, alloc, drawing.name, &drawn)
 }
 
 /// In no colours a diagnostic is drawn as its plain text, and so it is by escape sequences, once they are taken out.

@@ -1,6 +1,7 @@
 //! Writers that take little at a time, or stop.
 
-use crate::rows::{COLOURED, Given, draw_on};
+use crate::rows::{COLOURED, Given, Rows, draw_on};
+use crate::stopping::{Stop, Stopping, is_refused};
 use codespan_reporting::diagnostic::{Diagnostic, Label, LabelStyle, Severity};
 use codespan_reporting::files::{Error, SimpleFile};
 use codespan_reporting::term::renderer::{MultiLabel, Renderer};
@@ -8,61 +9,61 @@ use codespan_reporting::term::{
     Ansi, Config, NoColor, PlainWriter, Styles, StylesWriter, emit_to_io_write, emit_to_write_style,
 };
 use std::alloc::Global;
-use std::io;
-use std::io::{ErrorKind, Write};
+use std::process::Abort;
 use std::test::Fail;
 
-/// A writer that takes so many bytes at most at a time, and refuses after so many writes.
-#[derive(Drop)]
-struct Stopping {
-    text: Vec<u8>,
-    most: usize,
-    writes_left: usize,
-    writes_after: usize,
-}
-
-impl Stopping {
-    fn new(alloc: Global, most: usize, writes: usize) -> Stopping {
-        Stopping {
-            text: Vec::new(alloc),
-            most,
-            writes_left: writes,
-            writes_after: 0,
+/// Rows are refused with `Io` wherever their writer stops, plain and by escape sequences; what was written is a beginning, and no write
+/// follows the refused one.
+pub fn assert_rows_stop<R: Rows>(
+    rt: &impl Abort,
+    alloc: Global,
+    config: &Config<'_>,
+    rows: &R,
+    want: &str,
+) -> Result<(), Error> {
+    let styles = Styles::default();
+    let mut coloured = StylesWriter::new(Ansi::new(Vec::new(alloc)), &styles);
+    rows.draw(rt, &mut Renderer::new(&mut coloured, config))?;
+    let coloured = coloured.into_inner().into_inner();
+    for stop in [
+        Stop::Refuses,
+        Stop::IsInterrupted,
+        Stop::TakesNothing,
+        Stop::TakesOneByte,
+    ] {
+        for writes in 0..ENOUGH {
+            let mut plain = PlainWriter::new(Stopping::new(alloc, usize::MAX, writes, stop));
+            let answer = rows.draw(rt, &mut Renderer::new(&mut plain, config));
+            assert!(rt;
+                is_told(&plain.into_inner(), &answer, want.as_bytes()),
+                "{stop:?} {writes}"
+            );
+            let inner = Stopping::new(alloc, usize::MAX, writes, stop);
+            let mut w = StylesWriter::new(Ansi::new(inner), &styles);
+            let answer = rows.draw(rt, &mut Renderer::new(&mut w, config));
+            let inner = w.into_inner().into_inner();
+            assert!(rt;
+                is_told(&inner, &answer, coloured.as_slice()),
+                "{stop:?} {writes}"
+            );
+            if !inner.has_stopped() {
+                break;
+            }
         }
     }
+    Ok(())
 }
 
-impl Write for Stopping {
-    fn write(&mut self, buf: &[u8]) -> io::Result<usize> {
-        if self.writes_left == 0 {
-            self.writes_after = self.writes_after.saturating_add(1);
-            return Err(io::Error::from(ErrorKind::Interrupted));
-        }
-        self.writes_left -= 1;
-        let count = buf.len().min(self.most);
-        self.text.extend_from_slice(&buf[..count])?;
-        Ok(count)
-    }
-
-    fn flush(&mut self) -> io::Result<()> {
-        Ok(())
-    }
-}
-
-/// Whether a writer that stopped, or did not, holds what it should of the whole rows.
-fn is_right(inner: &Stopping, writes: usize, answer: Result<(), Error>, whole: &[u8]) -> bool {
-    let text = inner.text.as_slice();
-    let has_each_byte = inner.most > 1 || text.len() == writes.min(whole.len());
-    let is_told = match answer {
-        Ok(()) => text.len() == whole.len() && inner.writes_after == 0,
-        Err(Error::Io(_)) => text.len() < whole.len() && inner.writes_after == 1,
-        Err(_) => false,
-    };
-    whole.starts_with(text) && has_each_byte && is_told
+/// Whether a call told what its writer did, which holds what it should of the whole text.
+fn is_told(inner: &Stopping, answer: &Result<(), Error>, whole: &[u8]) -> bool {
+    is_refused(answer) == Some(inner.has_stopped()) && inner.is_right(answer.is_ok(), whole)
 }
 
 /// The rows of `coloured_label` without their colours.
 const PLAIN: &str = "1 │ abc\n  │  ^ m\n";
+
+/// More writes than any of these rows makes.
+const ENOUGH: usize = 100_000;
 
 #[test]
 fn writers_that_stop(rt: HostRuntime) -> Result<(), Fail> {
@@ -71,19 +72,23 @@ fn writers_that_stop(rt: HostRuntime) -> Result<(), Fail> {
     let given = Given::labelled("abc", &labels);
     for most in [1, 3, 100] {
         for writes in 0..100 {
-            let mut plain = PlainWriter::new(Stopping::new(rt.alloc(), most, writes));
-            let result = draw_on(&rt, &mut plain, given);
-            let inner = plain.into_inner();
+            let mut plain = PlainWriter::new(Stopping::new(
+                rt.alloc(),
+                most,
+                writes,
+                Stop::Refuses,
+            ));
+            let answer = draw_on(&rt, &mut plain, given);
             assert!(rt;
-                is_right(&inner, writes, result, PLAIN.as_bytes()),
+                is_told(&plain.into_inner(), &answer, PLAIN.as_bytes()),
                 "{most} {writes}"
             );
 
-            let mut inner = Stopping::new(rt.alloc(), most, writes);
+            let mut inner = Stopping::new(rt.alloc(), most, writes, Stop::Refuses);
             let mut w = StylesWriter::new(Ansi::new(&mut inner), &styles);
-            let result = draw_on(&rt, &mut w, given);
+            let answer = draw_on(&rt, &mut w, given);
             assert!(rt;
-                is_right(&inner, writes, result, COLOURED.as_bytes()),
+                is_told(&inner, &answer, COLOURED.as_bytes()),
                 "{most} {writes}"
             );
         }
@@ -96,7 +101,7 @@ fn endless_padding(rt: HostRuntime) -> Result<(), Fail> {
     let config = Config::default();
     let marks: [(usize, LabelStyle, MultiLabel<'_>); 0] = [];
     for (padding, lanes, want) in [(usize::MAX, 0, "          "), (0, usize::MAX, " │      ")] {
-        let mut plain = PlainWriter::new(Stopping::new(rt.alloc(), 1, 10));
+        let mut plain = PlainWriter::new(Stopping::new(rt.alloc(), 1, 10, Stop::Refuses));
         let mut renderer = Renderer::new(&mut plain, &config);
         let result = renderer.render_snippet_empty(padding, Severity::Error, lanes, &marks);
         assert!(rt; matches!(result, Err(Error::Io(_))));
@@ -116,13 +121,13 @@ fn endless_tab(rt: HostRuntime) -> Result<(), Fail> {
         tab_width: usize::MAX,
         ..Config::default()
     };
-    let mut inner = Stopping::new(alloc, 1, 40);
+    let mut inner = Stopping::new(alloc, 1, 40, Stop::Refuses);
     let refused = emit_to_io_write(&mut inner, &config, &file, &diagnostic);
     assert!(rt; matches!(refused, Err(Error::Io(_))));
     let held = "error: \n  ┌─ f:1:2\n  │\n1 │      ";
     assert_eq!(rt; inner.text.as_slice(), held.as_bytes());
     let styles = Styles::default();
-    let mut inner = Stopping::new(alloc, 1, 40);
+    let mut inner = Stopping::new(alloc, 1, 40, Stop::Refuses);
     let mut colourless = StylesWriter::new(NoColor::new(&mut inner), &styles);
     let refused = emit_to_write_style(&mut colourless, &config, &file, &diagnostic);
     assert!(rt; matches!(refused, Err(Error::Io(_))));

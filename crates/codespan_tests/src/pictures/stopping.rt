@@ -1,0 +1,91 @@
+//! Drawn rows into writers that take little at a time, or stop.
+
+use crate::stopping::{Stop, Stopping, is_refused};
+use crate::writers::example::TagWriter;
+use codespan_reporting::diagnostic::Diagnostic;
+use codespan_reporting::files::{Error, SimpleFiles};
+use codespan_reporting::term::{
+    Ansi, Config, Styles, StylesWriter, emit, emit_to_io_write, emit_to_write_style,
+};
+use std::alloc::Global;
+use std::io::Write;
+use std::process::Abort;
+
+/// The calls that emit to a writer: plain text, escape sequences, and the tags of a writer of one's own.
+#[derive(Clone, Copy, Debug)]
+enum Call {
+    IoWrite,
+    Emit,
+    Ansi,
+    Tags,
+}
+
+/// Each call with the ways in which its writer stops. Of the old name of a call one is enough; a tag is refused after its first byte.
+const CALLS: [(Call, Stop); 10] = [
+    (Call::IoWrite, Stop::Refuses),
+    (Call::IoWrite, Stop::IsInterrupted),
+    (Call::IoWrite, Stop::TakesNothing),
+    (Call::IoWrite, Stop::TakesOneByte),
+    (Call::Emit, Stop::Refuses),
+    (Call::Ansi, Stop::Refuses),
+    (Call::Ansi, Stop::IsInterrupted),
+    (Call::Ansi, Stop::TakesNothing),
+    (Call::Ansi, Stop::TakesOneByte),
+    (Call::Tags, Stop::TakesOneByte),
+];
+
+/// More writes than any drawing makes.
+const ENOUGH: usize = 100_000;
+
+/// A diagnostic, its files, and what it is drawn by.
+#[derive(Drop)]
+pub struct Drawn<'a, 'text> {
+    pub config: &'a Config<'text>,
+    pub files: &'a SimpleFiles<&'text str, &'text str>,
+    pub diagnostic: &'a Diagnostic<usize>,
+}
+
+/// Draws by a call.
+fn draw_by<W: Write>(call: Call, w: &mut W, drawn: &Drawn<'_, '_>) -> Result<(), Error> {
+    let styles = Styles::default();
+    match call {
+        Call::IoWrite => emit_to_io_write(w, drawn.config, drawn.files, drawn.diagnostic),
+        Call::Emit => emit(w, drawn.config, drawn.files, drawn.diagnostic),
+        Call::Ansi => {
+            let mut writer = StylesWriter::new(Ansi::new(w), &styles);
+            emit_to_write_style(&mut writer, drawn.config, drawn.files, drawn.diagnostic)
+        }
+        Call::Tags => {
+            let mut writer = TagWriter::new(w);
+            emit_to_write_style(&mut writer, drawn.config, drawn.files, drawn.diagnostic)
+        }
+    }
+}
+
+/// Each call writes all of a drawing a byte at a time; and wherever its writer stops, and however, it answers `Io`, what was written is
+/// a beginning, and no write follows the refused one.
+pub fn assert_stops(
+    rt: &impl Abort,
+    alloc: Global,
+    name: &str,
+    drawn: &Drawn<'_, '_>,
+) -> Result<(), Error> {
+    for (call, stop) in CALLS {
+        let mut whole = Vec::new(alloc);
+        draw_by(call, &mut whole, drawn)?;
+        let mut slow = Stopping::new(alloc, 1, ENOUGH, stop);
+        draw_by(call, &mut slow, drawn)?;
+        assert!(rt; slow.is_right(true, whole.as_slice()), "{name} {call:?}");
+        for writes in 0..ENOUGH {
+            let mut inner = Stopping::new(alloc, usize::MAX, writes, stop);
+            let answer = draw_by(call, &mut inner, drawn);
+            let is_told = is_refused(&answer) == Some(inner.has_stopped());
+            let is_right = inner.is_right(answer.is_ok(), whole.as_slice());
+            assert!(rt; is_told && is_right, "{name} {call:?} {stop:?} {writes}");
+            if !inner.has_stopped() {
+                break;
+            }
+        }
+    }
+    Ok(())
+}
