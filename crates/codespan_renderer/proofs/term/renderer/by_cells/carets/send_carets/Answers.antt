@@ -61,7 +61,7 @@ returns g c =
     let i = c.loop-cell.invariant in
     let look = look_of_given c.args.look in
     let end : caret_run look.chars c.loop-cell.was c.loop-cell.run ++ change look.severity c.loop-cell.was None
-            ≡ carets_left look (all_labelled c.args.labels.now) c.loop-cell.was c.loop-cell.run (drop c.loop-cell.cell-index c.args.cells.now) =
+    ≡ carets_left look (all_labelled c.args.labels.now) c.loop-cell.was c.loop-cell.run (drop c.loop-cell.cell-index c.args.cells.now) =
     elim c.loop-cell-test.branch [
       | else-loop-cell-test w ↦ carets-end look (all_labelled c.args.labels.now) c.loop-cell.was c.loop-cell.run _ (cells-none c.args.cells.now c.loop-cell.cell-index w.loop-cell-test.false)
       | then-loop-cell-test+then-cell-end w ↦ carets-past-at look c.args.labels.now c.loop-cell.sweep c.loop-cell.was c.loop-cell.run c.greatest_end-end.result c.args.cells.now c.loop-cell.cell-index blank_cell

@@ -64,21 +64,21 @@ loop-cell-preserved g c =
     let walk = walk-more c.args.line.labels.now c.loop-cell.sweep c.text_style-style.new.sweep _ _ (turn-at _ _ cells at blank_cell within i.walk) style.met style.labels in
     elim c.if-cell-eq9.branch [
       | then-cell-eq9+in_ok-send_tab w ↦ rw (w.w-is, w.was-is, w.start-is, w.end-is) record {
-          coming = rw nothing_yet (StillToCome-more _ _ _ _ _ _ _ i.coming w.in_ok-send_tab.ensures
-              (text-tab-at look line _ _ _ cells at blank_cell within style.style w.if-cell-eq9.true));
-          over = n.over;
-          walk = walk;
-          ordered = omega arith;
-          within = n.over.within;
-        }
+        coming = rw nothing_yet (StillToCome-more _ _ _ _ _ _ _ i.coming w.in_ok-send_tab.ensures
+            (text-tab-at look line _ _ _ cells at blank_cell within style.style w.if-cell-eq9.true));
+        over = n.over;
+        walk = walk;
+        ordered = omega arith;
+        within = n.over.within;
+      }
       | else-cell-eq9+then-ne+in_ok-end_text_run w ↦ rw (w.w-is, w.was-is, w.start-is, w.end-is) record {
-          coming = rw (begins, nothing) (StillToCome-more _ _ _ _ _ _ _ i.coming w.in_ok-end_text_run.ensures
-              (text-turn-at look line _ _ _ cells at blank_cell within style.style w.if-cell-eq9.false));
-          over = n.over;
-          walk = walk;
-          ordered = omega arith;
-          within = n.over.within;
-        }
+        coming = rw (begins, nothing) (StillToCome-more _ _ _ _ _ _ _ i.coming w.in_ok-end_text_run.ensures
+            (text-turn-at look line _ _ _ cells at blank_cell within style.style w.if-cell-eq9.false));
+        over = n.over;
+        walk = walk;
+        ordered = omega arith;
+        within = n.over.within;
+      }
       | else-cell-eq9+else-ne w ↦
           let same : c.loop-cell.was ≡ c.text_style-style.result = search rules in
           let rest = text-same-at look line c.loop-cell.was c.text_style-style.result (piece text c.loop-cell.start end) cells at blank_cell within style.style w.if-cell-eq9.false same in
