@@ -90,6 +90,11 @@ goes_past input start piece rest is =
     let long : length (drop start input) ≡ length piece + length (10 ∷ rest) = ap length is ∙ length-append piece (10 ∷ rest) in
     omega (arith, long, length-drop start input)
 
+-- and the newline is read there
+newline_after : (input : List ℕ) (start : ℕ) (piece rest : List ℕ) → drop start input ≡ piece ++ 10 ∷ rest → get_or input (start + length piece) 0 ≡ 10
+newline_after input start piece rest is =
+    sym (get_or-drop start input (length piece) 0) ∙ ap (λ xs. get_or xs (length piece) 0) is ∙ get_or_at piece 10 rest 0 (length piece) refl
+
 module _ (input : List ℕ) (utf8 : IsUtf8 input) where
   -- a line stands in the input where it starts
   abbrev Stands : ScriptLine → Type 0
@@ -139,7 +144,7 @@ module _ (input : List ℕ) (utf8 : IsUtf8 input) where
   -- a piece that ends where a newline stands
   piece_stands : (start : ℕ) (piece rest : List ℕ) → IsCharBoundary input start → drop start input ≡ piece ++ 10 ∷ rest → StandsAt input start piece
   piece_stands start piece rest cut is =
-      let newline : get_or input (start + length piece) 0 ≡ 10 = sym (get_or-drop start input (length piece) 0) ∙ ap (λ xs. get_or xs (length piece) 0) is ∙ get_or_at piece 10 rest 0 (length piece) refl in
+      let newline : get_or input (start + length piece) 0 ≡ 10 = newline_after input start piece rest is in
       record {
         starts = cut;
         ends = IsCharBoundary-before_ascii input (start + length piece) (goes_past input start piece rest is) (omega arith);
@@ -163,7 +168,7 @@ module _ (input : List ℕ) (utf8 : IsUtf8 input) where
       let rest : List ℕ = join_with_byte 10 (other ∷ more) in
       let past : start + length piece < length input = goes_past input start piece rest is in
       let stands = piece_stands start piece rest cut is in
-      let newline : get_or input (start + length piece) 0 ≡ 10 = sym (get_or-drop start input (length piece) 0) ∙ ap (λ xs. get_or xs (length piece) 0) is ∙ get_or_at piece 10 rest 0 (length piece) refl in (
+      let newline : get_or input (start + length piece) 0 ≡ 10 = newline_after input start piece rest is in (
         stripped_stands start piece stands,
         lines_stand (start + length piece + 1) (other ∷ more) (omega arith) (IsCharBoundary-after_ascii input (start + length piece) utf8 past (omega arith)) (left_after input start piece rest is),
       )
