@@ -1,13 +1,15 @@
 -- What `parse` reads of digits alone is their number.
-use Rattle.std.proofs.Common.{◌≡◌, ℕ, ◌<◌, ◌^◌, ◌&&◌, nat_lt, true, false, List, [], ◌∷◌, length, Option, Some, None, Result, Ok, Err, refl, ap, sym, ◌∙◌, if◌then◌else◌, arith}
+use Rattle.std.proofs.Common.{◌≡◌, ℕ, ◌<◌, ◌^◌, ◌&&◌, nat_lt, true, false, List, [], ◌∷◌, length, get_or, decimal, Option, Some, None, Result, Ok, Err, refl, ap, sym, ◌∙◌, if◌then◌else◌, arith}
 use Rattle.std.specs.Char.{is_ascii_digit}
+use Rattle.std.specs.Int.{IsInRange}
 use Rattle.std.specs.List.{list_all}
 use Rattle.std.specs.Result.{OkIff, result_ok}
 use Rattle.std.specs.Str.{all_ascii_digits}
 use Rattle.std.specs.Str.Parse.{ParsesUnsigned, digits_value}
 use Rattle.std.proofs.lemmas.Bool.Decides.{nat_tests}
+use Rattle.std.proofs.lemmas.Fmt.{decimal_is_IsNumeral, digits_decimal}
 use Rattle.std.proofs.lemmas.List.Recursion.{same_from_clauses}
-use Rattle.std.proofs.lemmas.Str.Parse.{IsNumeralModel, numerals_by_value, tells_all_ascii_digits, parse_digits}
+use Rattle.std.proofs.lemmas.Str.Parse.{IsNumeralModel, numerals_by_value, tells_all_ascii_digits, tells_by_index, parse_digits}
 use Rattle.report.specs.Requests.{number_of}
 
 -- `all` tells digits as the definition does
@@ -53,3 +55,23 @@ number_of-parsed [] r digits parsed = of_nothing r (parse_digits decimals 64 [] 
 number_of-parsed (d ∷ ds) r digits parsed =
     of_digits d ds r (parse_digits decimals 64 (d ∷ ds) r parsed digits)
     ∙ ap (λ b. if b && nat_lt (digits_value 10 (d ∷ ds)) (2 ^ 64) then Some (digits_value 10 (d ∷ ds)) else None) (sym digits)
+
+-- ---- decimal digits
+
+-- the number of digits that are there, where it fits
+number_of-digits : (ds : List ℕ) → 0 < length ds → all_ascii_digits ds ≡ true → digits_value 10 ds < 2 ^ 64 → number_of ds ≡ Some (digits_value 10 ds)
+unfolding number_of
+number_of-digits [] some digits fits = absurd (omega arith)
+number_of-digits (d ∷ ds) some digits fits =
+    ap (λ b. if b && nat_lt (digits_value 10 (d ∷ ds)) (2 ^ 64) then Some (digits_value 10 (d ∷ ds)) else None) digits
+    ∙ sym (fitting (digits_value 10 (d ∷ ds)) (digits_value 10 (d ∷ ds)) fits refl)
+
+-- the decimal digits of a number are that number
+pub number_of-decimal : (n : ℕ) → n < 2 ^ 64 → number_of (decimal n) ≡ Some n
+number_of-decimal n fits =
+    let is = decimal_is_IsNumeral n fits in
+    number_of-digits (decimal n) is.0.0 (digits_decimal decimals n fits) (rw is.1 fits) ∙ ap Some is.1
+
+-- and are digits
+pub digits_of_decimal : (n : ℕ) → n < 2 ^ 64 → (i : ℕ) → i < length (decimal n) → IsInRange 48 57 (get_or (decimal n) i 0)
+digits_of_decimal n fits = digits_decimal (numerals_by_value (λ ds. (i : ℕ) → i < length ds → IsInRange 48 57 (get_or ds i 0)) tells_by_index) n fits

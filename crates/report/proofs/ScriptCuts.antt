@@ -4,9 +4,9 @@ use Rattle.std.specs.List.{slice_split}
 use Rattle.std.specs.Str.Lines.{strip_carriage_return}
 use Rattle.std.proofs.lemmas.Bool.Decides.{nat_tests}
 use Rattle.std.proofs.lemmas.Grind.{common_steps}
-use Rattle.std.proofs.lemmas.List.{take_at, take_all, take_more, get_or_push, length-append, length_push}
+use Rattle.std.proofs.lemmas.List.{drop-drop, drop_at, take_at, take_all, take_more, get_or_push, length-append, length_push}
 use Rattle.std.proofs.lemmas.List.Splits.{length-slice_split}
-use Rattle.report.specs.ScriptLines.{ScriptLine, is_newline, lines_from}
+use Rattle.report.specs.ScriptLines.{is_newline, lines_from}
 
 -- no element of the list is c
 abbrev pub Lacks : ℕ → List ℕ → Type 0
@@ -84,3 +84,13 @@ no_return (x ∷ xs) none =
     let others : get_or (x ∷ xs) (length (x ∷ xs) - 1) 0 ≢ 13 = λ is. none (take (length (x ∷ xs) - 1) (x ∷ xs)) (ends_in_last (x ∷ xs) (omega arith) ∙ ap (λ b. take (length (x ∷ xs) - 1) (x ∷ xs) ++ b ∷ []) is) in
     let tested : (get_or (x ∷ xs) (length (x ∷ xs) - 1) 0 == 13) ≡ false = grind (arith, nat_tests) in
     sym (ap (λ b. if b then take (length (x ∷ xs) - 1) (x ∷ xs) else (x ∷ xs)) tested)
+
+-- what follows the first of two parts, and the one element between them
+pub past_one : (c : ℕ) (xs ys : List ℕ) → drop (length xs + 1) (xs ++ c ∷ ys) ≡ ys
+past_one c xs ys = sym (drop-drop 1 (length xs) (xs ++ c ∷ ys)) ∙ ap (drop 1) (drop_at xs (c ∷ ys) (length xs) refl)
+
+-- what is left of an input after the newline that ends a piece
+pub left_after : (input : List ℕ) (start : ℕ) (piece rest : List ℕ) → drop start input ≡ piece ++ 10 ∷ rest → drop (start + length piece + 1) input ≡ rest
+left_after input start piece rest is =
+    let at : start + length piece + 1 ≡ start + (length piece + 1) = omega arith in
+    ap (λ n. drop n input) at ∙ sym (drop-drop (length piece + 1) start input) ∙ ap (drop (length piece + 1)) is ∙ past_one 10 piece rest

@@ -17,6 +17,7 @@
 mod arguments;
 mod drawing;
 mod fault;
+mod laws;
 mod request;
 mod run;
 mod saying;

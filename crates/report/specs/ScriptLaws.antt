@@ -1,0 +1,27 @@
+-- What is read of a script that is written from its statements, and where the faults of an input lie.
+use Rattle.std.specs.Prelude.{◌≡◌, ℕ, ◌≤◌, List, length, Ok, IfErr, IfSome}
+use Rattle.std.specs.Str.{IsCharBoundary, IsUtf8}
+use Rattle.std.specs.declared.ops.Range.{Range}
+use Rattle.report.specs.declared.script.Fault.{Fault}
+use Rattle.report.specs.Scripts.{read_script}
+use Rattle.report.specs.Statements.{AreScript, Statement, said_by, written}
+
+-- a script that is written out from its statements is read as what they say
+abbrev pub ScriptReadsBack : List Statement → List ℕ → Type 0
+ScriptReadsBack statements source = AreScript statements → read_script (written statements source) ≡ Ok (record { said = said_by statements; source = source })
+
+-- the range does not end before it starts, and lies inside the input, between characters
+pub record LiesIn (input : List ℕ) (range : Range ℕ) : Type 0 where
+  pub in_order : range.start ≤ range.end
+  pub within : range.end ≤ length input
+  pub starts : IsCharBoundary input range.start
+  pub ends : IsCharBoundary input range.end
+
+-- the places of a fault lie inside the input
+pub record FaultLiesIn (input : List ℕ) (fault : Fault) : Type 0 where
+  pub place : LiesIn input fault.range
+  pub first : IfSome fault.first (LiesIn input)
+
+-- where an input that is UTF-8 is no script, the places of its fault lie inside it
+abbrev pub FaultsLieInside : List ℕ → Type 0
+FaultsLieInside input = IsUtf8 input → IfErr (read_script input) (FaultLiesIn input)
