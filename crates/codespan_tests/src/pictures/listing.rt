@@ -82,8 +82,8 @@ impl<'a, 'text: 'a> Files<'a> for Listing<'text> {
     ghost use Rattle.codespan_base.specs.FileModel.Lookup.{Name as NameLookup, Source as SourceLookup, LineIndex, LineNumber, ColumnNumber, LocationAt, LineRange};
     ghost use Rattle.codespan_base.specs.Lines.{line_starts_of};
     ghost use Rattle.codespan_base.specs.SimpleModel.{simple_file, simple_column, past_end};
-    ghost use Rattle.codespan_base.specs.Lemmas.Simple.{renumbered_lawful, simple_lawful, simple_past_end, text_fits, text_is_utf8};
-    ghost use Rattle.codespan_tests.specs.Listings.{is_at, is_from, refused_if, refused-past_end};
+    ghost use Rattle.codespan_base.specs.Lemmas.Simple.{or_refusal-past_end, renumbered_lawful, simple_lawful, simple_past_end, text_fits, text_is_utf8};
+    ghost use Rattle.codespan_tests.specs.Listings.{is_at, is_from, refused_if, refused_if-other};
 
     type FileId = ();
 
@@ -174,5 +174,5 @@ impl<'a, 'text: 'a> Files<'a> for Listing<'text> {
 
     // A line past the last is refused as there.
     ghost past_end = { λ s _ i. let text = (source_of s.file).now in let name = Some (name_of s.file).now in
-        refused-past_end (simple_file name text) i (past_end text i) (is_at s.refused.line_range i) 6 i (simple_past_end name text i) };
+        or_refusal-past_end (simple_file name text) i (past_end text i) _ (refused_if-other (is_at s.refused.line_range i) 6 i) (simple_past_end name text i) };
 }
