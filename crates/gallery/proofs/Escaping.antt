@@ -1,12 +1,12 @@
 -- What is read of escapes, and of escaped texts.
-use Rattle.std.proofs.Common.{◌≡◌, ◌<◌, ◌+◌, ℕ, List, [], ◌∷◌, ◌++◌, length, get_or, Option, Some, None, refl, sym, ◌∙◌, ap, subst, append_assoc, arith}
+use Rattle.std.proofs.Common.{◌≡◌, ◌<◌, ℕ, List, [], ◌∷◌, ◌++◌, Option, Some, None, refl, sym, ◌∙◌, ap, subst, append_assoc, arith}
 use Rattle.std.specs.Borrow.{Bor}
 use Rattle.std.specs.Prelude.{encode_utf8, MatchOption}
 use Rattle.std.specs.Option.{option_map}
 use Rattle.std.proofs.lemmas.Bool.Decides.{nat_tests}
 use Rattle.std.proofs.lemmas.Str.{char_from_byte}
 use Rattle.std.proofs.lemmas.Str.Pattern.{IsSplitOnceResult, split_after, split_parts}
-use Rattle.gallery.specs.Escapes.{Lacks, IsPlain, IsBraced, IsNumbered, ReadsNumbered, ReadsEscape, Unescapes, after_bytes, letter_said}
+use Rattle.gallery.specs.Escapes.{IsPlain, IsBraced, IsNumbered, ReadsNumbered, ReadsEscape, Unescapes, after_bytes, letter_said}
 use Rattle.gallery.specs.Escapes.Unescapes.{whole, broken, escaped}
 
 -- ---- letters

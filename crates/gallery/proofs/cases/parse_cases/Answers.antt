@@ -1,9 +1,8 @@
-use Rattle.std.proofs.Common.{◌≡◌, Bor, List, ℕ, map, refl, ap, sym, ◌∙◌, IfOk, IfErr, Ok}
+use Rattle.std.proofs.Common.{◌≡◌, Bor, List, ℕ, map, ap, ◌∙◌, Ok}
 use Rattle.std.specs.declared.alloc.AllocError.{AllocError}
 use Rattle.std.specs.Str.Lines.{lines}
 use Rattle.std.proofs.lemmas.Iterator.Consumers.{map_from_collect}
 use Rattle.std.proofs.lemmas.Iterator.Splits.{YieldsList-from_lines}
-use Rattle.gallery.specs.Cases.{IsFirstMistake, TakesLines}
 use Rattle.gallery.proofs.cases.parse_cases.Goals as goal
 
 pub returns-clause-cases : goal.returns-clause-cases

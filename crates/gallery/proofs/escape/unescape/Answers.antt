@@ -1,5 +1,5 @@
 use Rattle.std.specs.Prelude.{encode_utf8}
-use Rattle.std.proofs.Common.{rules, ◌++◌, ap, string_bytes, Some, None, inr, refl, sym, ◌∙◌}
+use Rattle.std.proofs.Common.{rules, ◌++◌, ap, string_bytes, inr, refl, ◌∙◌}
 use Rattle.gallery.proofs.Escaping.{none_said, one_more, all_said, nothing_said}
 use Rattle.gallery.proofs.escape.unescape.Goals as goal
 
