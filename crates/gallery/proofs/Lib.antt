@@ -1,0 +1,5 @@
+-- what is read of escapes, and of escaped texts
+pub mod Escaping
+-- the last case, and cases read line by line
+pub mod LastCase
+pub mod LineByLine

@@ -1,0 +1,31 @@
+-- The fields of a line.
+use Rattle.std.specs.Prelude.{ℕ, ◌==◌, Bool, true, List, [], ◌∷◌, Ok, Err}
+use Rattle.std.specs.List.{before_first, after_first}
+use Rattle.std.specs.Str.Parse.{ParsesUnsigned}
+use Rattle.gallery.specs.declared.fault.Mistake.{Mistake}
+use Rattle.gallery.specs.declared.fault.Mistake.TheVariants.{BadNumber}
+
+-- the byte at which a line is cut into fields: one space
+abbrev pub is_blank : ℕ → Bool
+is_blank b = b == 32
+
+-- the first field of a text: what stands before its first blank, or all of it
+abbrev pub field_of : List ℕ → List ℕ
+field_of text = before_first is_blank text
+
+-- what follows the first blank of a text, or nothing
+abbrev pub past_blank : List ℕ → List ℕ
+past_blank text = after_first is_blank text
+
+-- the text writes this number in decimal digits, before which a plus may stand
+abbrev pub IsNumber : List ℕ → ℕ → Type 0
+IsNumber text n = ParsesUnsigned {E = Mistake} 64 10 text (Ok n)
+
+-- the text writes no number, or one that does not fit
+abbrev pub IsNoNumber : List ℕ → Type 0
+IsNoNumber text = ParsesUnsigned {E = Mistake} 64 10 text (Err BadNumber)
+
+-- a line that says nothing: it is empty or begins with `#`
+abbrev pub is_silent : List ℕ → Bool
+is_silent [] = true
+is_silent (b ∷ bs) = b == 35

@@ -1,0 +1,55 @@
+-- All pictures, each under the name of its case.
+use Rattle.std.specs.Prelude.{◌≡◌, ℕ, ◌==◌, List, [], ◌∷◌, ◌++◌, codes, Result, Ok, Err, IfSome, if◌then◌else◌}
+use Rattle.std.specs.List.{flat_map}
+use Rattle.std.specs.Str.Lines.{lines}
+use Rattle.codespan_base.specs.declared.files.error.Error.{Error}
+use Rattle.codespan_base.specs.ErrorText.{error_text}
+use Rattle.gallery.specs.declared.case.Case.{Case}
+use Rattle.gallery.specs.declared.fault.Fault.{Fault}
+use Rattle.gallery.specs.declared.fault.Fault.TheVariants.{Line}
+use Rattle.gallery.specs.Cases.{TakesLines, IsFirstMistake}
+
+-- the line that a picture stands under
+abbrev pub title : List ℕ → List ℕ
+title name = codes "== " ++ name ++ 10 ∷ []
+
+-- a byte of a picture as it is shown: the escape character, the character of the number 0, the carriage return and the tab by a backslash
+abbrev pub shown_byte : ℕ → List ℕ
+shown_byte b =
+    if b == 27 then codes "\\e"
+    else if b == 0 then codes "\\0"
+    else if b == 13 then codes "\\r"
+    else if b == 9 then codes "\\t"
+    else b ∷ []
+
+-- a picture as it is shown
+abbrev pub shown : List ℕ → List ℕ
+shown picture = flat_map shown_byte picture
+
+-- what is told of a refusal: nothing where there is none, else a line with the error's text
+abbrev pub TellsRefusal : Result (Unit {0}) Error → List ℕ → Type 0
+TellsRefusal (Ok done) told = told ≡ []
+TellsRefusal (Err error) told = IfSome (error_text error) (λ text. told ≡ codes "refused: " ++ text ++ 10 ∷ [])
+
+-- what stands under a title: the picture as it is shown, and after it, where it was refused, a line that tells so
+pub record IsPictured (case : Case) (text : List ℕ) : Type 0 where
+  pub drawn : Result (Unit {0}) Error
+  pub picture : List ℕ
+  pub told : List ℕ
+  pub is : text ≡ shown picture ++ told
+  pub refusal : TellsRefusal drawn told
+
+-- the text has the cases in their order, each as its title and its picture
+abbrev pub IsGallery : List Case → List ℕ → Type 0
+IsGallery [] text = text ≡ []
+IsGallery (case ∷ cases) text =
+    (pictured : List ℕ) × (left : List ℕ) × (text ≡ title case.name.now ++ pictured ++ left) × IsPictured case pictured × IsGallery cases left
+
+-- the text is the gallery of the cases of an input
+abbrev pub IsDrawnFrom : List ℕ → List ℕ → Type 0
+IsDrawnFrom input gallery = (cases : List Case) × TakesLines (lines input) [] cases × IsGallery cases gallery
+
+-- what a fault tells of the input
+abbrev pub FaultTells : Fault → List ℕ → Type 0
+FaultTells (Line number mistake) input = IsFirstMistake (lines input) (Line number mistake)
+FaultTells _ input = Unit {0}

@@ -1,0 +1,119 @@
+-- What a line says.
+use Rattle.std.specs.Prelude.{◌≡◌, ◌⊎◌, ℕ, true, false, List, Option, Some, None, IsSomeAnd, codes, string_bytes}
+use Rattle.codespan_base.specs.declared.diagnostic.Label.{Label}
+use Rattle.codespan_base.specs.declared.diagnostic.LabelStyle.{LabelStyle}
+use Rattle.codespan_base.specs.declared.diagnostic.LabelStyle.TheVariants as styles
+use Rattle.gallery.specs.declared.fault.Mistake.{Mistake}
+use Rattle.gallery.specs.declared.fault.Mistake.TheVariants.{UnknownWord, UnknownName, BadNumber, BadEscape, NoCase, NoFile, OutOfMemory}
+use Rattle.gallery.specs.declared.statement.Context as contexts
+use Rattle.gallery.specs.declared.statement.Line.{Line}
+use Rattle.gallery.specs.declared.statement.Line.TheVariants.{Silent, Title, Said}
+use Rattle.gallery.specs.declared.statement.Statement.{Statement}
+use Rattle.gallery.specs.declared.statement.Statement.TheVariants as says
+use Rattle.gallery.specs.declared.words.Word.{Word}
+use Rattle.gallery.specs.declared.words.Word.TheVariants.{Table, File, Source, Number, Style, Layout, Tab, Context, Characters, Colours, Severity, Code, Message, Primary, Secondary, Note}
+use Rattle.gallery.specs.Escapes.{Unescapes}
+use Rattle.gallery.specs.Fields.{field_of, past_blank, IsNumber, IsNoNumber, is_silent}
+use Rattle.gallery.specs.Words.{word_named, table_named, style_named, layout_named, characters_named, colours_named, severity_named}
+
+-- ---- what a line says
+
+-- what follows the second blank of a text, and the third
+abbrev pub past_two : List ℕ → List ℕ
+past_two text = past_blank (past_blank text)
+
+abbrev pub past_three : List ℕ → List ℕ
+past_three text = past_blank (past_two text)
+
+-- the text says these bytes
+abbrev pub Spells : List ℕ → List ℕ → Type 0
+Spells text bytes = Unescapes text (Some bytes)
+
+-- the word of labels of a style
+abbrev pub style_word : LabelStyle → Word
+style_word styles.Primary = Primary
+style_word styles.Secondary = Secondary
+
+-- a rest gives the numbers of lines that are shown: after a first line, before a last one, before a label and after it
+pub record IsContext (rest : List ℕ) (context : contexts.Context) : Type 0 where
+  pub start : IsNumber (field_of rest) context.start
+  pub end : IsNumber (field_of (past_blank rest)) context.end
+  pub before : IsNumber (field_of (past_two rest)) context.before
+  pub after : IsNumber (past_three rest) context.after
+
+-- a rest gives a label: its file, where it starts, where it ends, and its message
+pub record IsLabel (rest : List ℕ) (label : Label ℕ) : Type 0 where
+  pub file : IsNumber (field_of rest) label.file_id
+  pub start : IsNumber (field_of (past_blank rest)) label.range.start
+  pub end : IsNumber (field_of (past_two rest)) label.range.end
+  pub message : Spells (past_three rest) (string_bytes label.message)
+
+-- what the word and the rest of a line say of a case
+abbrev pub Says : Option Word → List ℕ → Statement → Type 0
+Says word rest (says.Table table) = (word ≡ Some Table) × (table_named rest ≡ Some table)
+Says word rest (says.File name) = (word ≡ Some File) × Spells rest (string_bytes name)
+Says word rest (says.Source text) = (word ≡ Some Source) × Spells rest (string_bytes text)
+Says word rest (says.Number line number) = (word ≡ Some Number) × IsNumber (field_of rest) line × IsNumber (past_blank rest) number
+Says word rest (says.Style style) = (word ≡ Some Style) × (style_named rest ≡ Some style)
+Says word rest (says.Layout layout) = (word ≡ Some Layout) × (layout_named rest ≡ Some layout)
+Says word rest (says.Tab width) = (word ≡ Some Tab) × IsNumber rest width
+Says word rest (says.Context context) = (word ≡ Some Context) × IsContext rest context
+Says word rest (says.Characters set) = (word ≡ Some Characters) × (characters_named rest ≡ Some set)
+Says word rest (says.Colours in_colours) = (word ≡ Some Colours) × (colours_named rest ≡ Some in_colours)
+Says word rest (says.Severity severity) = (word ≡ Some Severity) × (severity_named rest ≡ Some severity)
+Says word rest (says.Code code) = (word ≡ Some Code) × Spells rest (string_bytes code)
+Says word rest (says.Message message) = (word ≡ Some Message) × Spells rest (string_bytes message)
+Says word rest (says.Label label) = (word ≡ Some (style_word label.style)) × IsLabel rest label
+Says word rest (says.Note note) = (word ≡ Some Note) × Spells rest (string_bytes note)
+
+-- what a line says: nothing, that a case of a name begins, or more of the last case
+abbrev pub LineSays : List ℕ → Line → Type 0
+LineSays line Silent = is_silent line ≡ true
+LineSays line (Title name) = (is_silent line ≡ false) × (field_of line ≡ codes "case") × (name.now ≡ past_blank line)
+LineSays line (Said statement) = (is_silent line ≡ false) × Says (word_named (field_of line)) (past_blank line) statement
+
+-- ---- what is wrong with a line
+
+-- the rest is none of the names that may follow its word
+abbrev pub IsUnnamed : List ℕ → Word → Type 0
+IsUnnamed rest Table = table_named rest ≡ None
+IsUnnamed rest Style = style_named rest ≡ None
+IsUnnamed rest Layout = layout_named rest ≡ None
+IsUnnamed rest Characters = characters_named rest ≡ None
+IsUnnamed rest Colours = colours_named rest ≡ None
+IsUnnamed rest Severity = severity_named rest ≡ None
+IsUnnamed rest _ = ⊥
+
+-- one of the first three fields of the rest is no number
+abbrev pub LacksOfThree : List ℕ → Type 0
+LacksOfThree rest = IsNoNumber (field_of rest) ⊎ (IsNoNumber (field_of (past_blank rest)) ⊎ IsNoNumber (field_of (past_two rest)))
+
+-- the rest lacks a number that has to follow its word
+abbrev pub LacksNumber : List ℕ → Word → Type 0
+LacksNumber rest Number = IsNoNumber (field_of rest) ⊎ IsNoNumber (past_blank rest)
+LacksNumber rest Tab = IsNoNumber rest
+LacksNumber rest Context = LacksOfThree rest ⊎ IsNoNumber (past_three rest)
+LacksNumber rest Primary = LacksOfThree rest
+LacksNumber rest Secondary = LacksOfThree rest
+LacksNumber rest _ = ⊥
+
+-- the text of the rest has a backslash that begins no escape
+abbrev pub IsBroken : List ℕ → Word → Type 0
+IsBroken rest File = Unescapes rest None
+IsBroken rest Source = Unescapes rest None
+IsBroken rest Code = Unescapes rest None
+IsBroken rest Message = Unescapes rest None
+IsBroken rest Note = Unescapes rest None
+IsBroken rest Primary = Unescapes (past_three rest) None
+IsBroken rest Secondary = Unescapes (past_three rest) None
+IsBroken rest _ = ⊥
+
+-- what is wrong with a line of this word and this rest, whatever stands before it
+abbrev pub IsWrong : Option Word → List ℕ → Mistake → Type 0
+IsWrong word rest UnknownWord = word ≡ None
+IsWrong word rest UnknownName = IsSomeAnd word (IsUnnamed rest)
+IsWrong word rest BadNumber = IsSomeAnd word (LacksNumber rest)
+IsWrong word rest BadEscape = IsSomeAnd word (IsBroken rest)
+IsWrong word rest NoCase = ⊥
+IsWrong word rest NoFile = ⊥
+IsWrong word rest OutOfMemory = Unit {0}

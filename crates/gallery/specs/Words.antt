@@ -1,0 +1,90 @@
+-- The words of lines, and the names that may follow them.
+use Rattle.std.specs.Prelude.{ℕ, Bool, true, false, List, Option, Some, None, codes, if◌then◌else◌}
+use Rattle.std.specs.Str.{bytes_eq}
+use Rattle.codespan_base.specs.declared.diagnostic.Severity as severities
+use Rattle.codespan_base.specs.declared.diagnostic.Severity.TheVariants as severity
+use Rattle.codespan_base.specs.declared.term.config.DisplayStyle.{DisplayStyle}
+use Rattle.codespan_base.specs.declared.term.config.DisplayStyle.TheVariants.{Rich, Medium, Short}
+use Rattle.codespan_base.specs.declared.term.config.Layout as layouts
+use Rattle.codespan_base.specs.declared.term.config.Layout.TheVariants.{Classic, Unbroken}
+use Rattle.codespan_base.specs.declared.term.config.chars.Chars.{Chars}
+use Rattle.codespan_base.specs.Characters.{box_drawing, ascii}
+use Rattle.gallery.specs.declared.case.Table as tables
+use Rattle.gallery.specs.declared.case.Table.TheVariants.{One, Several, Mapped}
+use Rattle.gallery.specs.declared.case.CharacterSet.{CharacterSet}
+use Rattle.gallery.specs.declared.case.CharacterSet.TheVariants as sets
+use Rattle.gallery.specs.declared.words.Word.{Word}
+use Rattle.gallery.specs.declared.words.Word.TheVariants.{Table, File, Source, Number, Style, Layout, Tab, Context, Characters, Colours, Severity, Code, Message, Primary, Secondary, Note}
+
+-- the word that is spelled so
+unfoldable pub word_named : List ℕ → Option Word
+word_named text =
+    if bytes_eq text (codes "table") then Some Table
+    else if bytes_eq text (codes "file") then Some File
+    else if bytes_eq text (codes "|") then Some Source
+    else if bytes_eq text (codes "number") then Some Number
+    else if bytes_eq text (codes "style") then Some Style
+    else if bytes_eq text (codes "layout") then Some Layout
+    else if bytes_eq text (codes "tab") then Some Tab
+    else if bytes_eq text (codes "context") then Some Context
+    else if bytes_eq text (codes "characters") then Some Characters
+    else if bytes_eq text (codes "colours") then Some Colours
+    else if bytes_eq text (codes "severity") then Some Severity
+    else if bytes_eq text (codes "code") then Some Code
+    else if bytes_eq text (codes "message") then Some Message
+    else if bytes_eq text (codes "primary") then Some Primary
+    else if bytes_eq text (codes "secondary") then Some Secondary
+    else if bytes_eq text (codes "note") then Some Note
+    else None
+
+-- the kind of table that is called so
+unfoldable pub table_named : List ℕ → Option tables.Table
+table_named text =
+    if bytes_eq text (codes "one") then Some One
+    else if bytes_eq text (codes "several") then Some Several
+    else if bytes_eq text (codes "mapped") then Some Mapped
+    else None
+
+-- the style that is called so
+unfoldable pub style_named : List ℕ → Option DisplayStyle
+style_named text =
+    if bytes_eq text (codes "rich") then Some Rich
+    else if bytes_eq text (codes "medium") then Some Medium
+    else if bytes_eq text (codes "short") then Some Short
+    else None
+
+-- the layout that is called so
+unfoldable pub layout_named : List ℕ → Option layouts.Layout
+layout_named text =
+    if bytes_eq text (codes "classic") then Some Classic
+    else if bytes_eq text (codes "unbroken") then Some Unbroken
+    else None
+
+-- the characters that are called so
+unfoldable pub characters_named : List ℕ → Option CharacterSet
+characters_named text =
+    if bytes_eq text (codes "box") then Some sets.Box
+    else if bytes_eq text (codes "ascii") then Some sets.Ascii
+    else None
+
+-- whether the colours that are called so are colours
+unfoldable pub colours_named : List ℕ → Option Bool
+colours_named text =
+    if bytes_eq text (codes "none") then Some false
+    else if bytes_eq text (codes "ansi") then Some true
+    else None
+
+-- the severity that is called so
+unfoldable pub severity_named : List ℕ → Option severities.Severity
+severity_named text =
+    if bytes_eq text (codes "bug") then Some severity.Bug
+    else if bytes_eq text (codes "error") then Some severity.Error
+    else if bytes_eq text (codes "warning") then Some severity.Warning
+    else if bytes_eq text (codes "note") then Some severity.Note
+    else if bytes_eq text (codes "help") then Some severity.Help
+    else None
+
+-- the characters of a set
+abbrev pub chars_of : CharacterSet → Chars
+chars_of sets.Box = box_drawing
+chars_of sets.Ascii = ascii

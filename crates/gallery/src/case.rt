@@ -1,0 +1,158 @@
+//! A case: what is drawn, over which files, and how.
+
+ghost use Rattle.std.specs.Prelude.{◌≡◌, ◌⊎◌, [], ◌∷◌, ◌++◌, map, OnOk, IfErr, string_bytes};
+ghost use Rattle.codespan_base.specs.Lookalikes.{IsChars};
+ghost use Rattle.gallery.specs.Cases.{IsNew, Takes, IsSource, GoesOn, file_view};
+ghost use Rattle.gallery.specs.Words.{chars_of};
+ghost use Rattle.gallery.specs.declared.fault.Mistake.TheVariants.{NoFile, OutOfMemory};
+
+use crate::fault::Mistake;
+use crate::statement::{Context, Statement};
+use codespan_reporting::diagnostic::Diagnostic;
+use codespan_reporting::term::{Chars, Config};
+use std::alloc::Global;
+
+/// The kind of table that the files of a case stand in.
+#[derive(Clone, Copy, Debug, PartialEq, Eq)]
+pub enum Table {
+    /// A `SimpleFile`.
+    One,
+    /// `SimpleFiles`.
+    Several,
+    /// A `MappedFile`.
+    Mapped,
+}
+
+/// The characters that a picture is drawn with.
+#[derive(Clone, Copy, Debug, PartialEq, Eq)]
+pub enum CharacterSet {
+    /// Those of box drawing.
+    Box,
+    /// ASCII alone.
+    Ascii,
+}
+
+impl CharacterSet {
+    /// The characters of this set.
+    pub fn chars<'chars>(self) -> Chars<'chars>
+        ensures { IsChars (chars_of self) result }
+    {
+        match self {
+            CharacterSet::Box => Chars::box_drawing(),
+            CharacterSet::Ascii => Chars::ascii(),
+        }
+    }
+}
+
+/// A file of a case.
+#[derive(Debug, Drop)]
+pub struct File {
+    /// The name that is shown.
+    pub name: String,
+    /// The text.
+    pub source: String,
+}
+
+/// A picture that is asked for.
+#[derive(Debug, Drop)]
+pub struct Case<'input> {
+    /// What the picture stands under.
+    pub name: &'input str,
+    /// What the files stand in.
+    pub table: Table,
+    /// The files in their order.
+    pub files: Vec<File>,
+    /// The lines whose numbers are set, by their indices from 0, with these numbers. Only a `MappedFile` has them.
+    pub numbers: Vec<(usize, usize)>,
+    /// What the picture looks like.
+    pub config: Config<'input>,
+    /// Whether it is drawn in colours.
+    pub in_colours: bool,
+    /// What it says.
+    pub said: Diagnostic<usize>,
+}
+
+impl<'input> Case<'input> {
+    /// A case of which no more is said than its name: an error with nothing to it, by the default configuration, without colours.
+    pub fn new(alloc: Global, name: &'input str) -> Case<'input>
+        ensures { IsNew name.now result }
+    {
+        Case {
+            name,
+            table: Table::Several,
+            files: Vec::new(alloc),
+            numbers: Vec::new(alloc),
+            config: Config::default(),
+            in_colours: false,
+            said: Diagnostic::error(alloc),
+        }
+    }
+
+    /// Takes in what a line says. A later line that says what an earlier one said already is the one that counts.
+    ///
+    /// Refuses with `NoFile` a part of a source where there is no file.
+    pub fn take(&mut self, statement: Statement) -> Result<(), Mistake>
+        ensures takes { OnOk result (Takes statement self.old self.new) }
+        ensures refused { IfErr result (λ mistake. (mistake ≡ OutOfMemory) ⊎ ((mistake ≡ NoFile) × IsSource statement × (self.old.files.items ≡ []))) }
+    {
+        match statement {
+            Statement::Table(table) => self.table = table,
+            Statement::File(name) => self.add_file(name)?,
+            Statement::Source(text) => self.add_source(text.as_str())?,
+            Statement::Number(line, number) => self.numbers.push((line, number))?,
+            Statement::Style(style) => self.config.display_style = style,
+            Statement::Layout(layout) => self.config.layout = layout,
+            Statement::Tab(width) => self.config.tab_width = width,
+            Statement::Context(context) => self.set_context(context),
+            Statement::Characters(set) => self.config.chars = set.chars(),
+            Statement::Colours(in_colours) => self.in_colours = in_colours,
+            Statement::Severity(severity) => self.said.severity = severity,
+            Statement::Code(code) => self.said.code = Some(code),
+            Statement::Message(message) => self.said.message = message,
+            Statement::Label(label) => self.said.labels.push(label)?,
+            Statement::Note(note) => self.said.notes.push(note)?,
+        }
+        Ok(())
+    }
+
+    /// Adds a file with an empty source.
+    fn add_file(&mut self, name: String) -> Result<(), Mistake>
+        ensures others { self.new ≡ record self.old { files = self.new.files } }
+        ensures files { OnOk result (map file_view self.new.files.items ≡ map file_view self.old.files.items ++ (string_bytes name, []) ∷ []) }
+        ensures refused { IfErr result (λ mistake. mistake ≡ OutOfMemory) }
+    {
+        let source = String::new(*self.files.allocator());
+        self.files.push(File { name, source })?;
+        Ok(())
+    }
+
+    /// Adds a text to the source of the last file.
+    fn add_source(&mut self, text: &str) -> Result<(), Mistake>
+        ensures others { self.new ≡ record self.old { files = self.new.files } }
+        ensures files { OnOk result (GoesOn text.now (map file_view self.old.files.items) (map file_view self.new.files.items)) }
+        ensures refused { IfErr result (λ mistake. (mistake ≡ OutOfMemory) ⊎ ((mistake ≡ NoFile) × (self.old.files.items ≡ []))) }
+    {
+        let Some(file) = self.files.last_mut() else {
+            return Err(Mistake::NoFile);
+        };
+        file.source.push_str(text)?;
+        Ok(())
+    }
+
+    /// Sets how many lines are shown around those of labels.
+    fn set_context(&mut self, context: Context)
+        ensures { self.new ≡ record self.old {
+          config = record self.old.config {
+            start_context_lines = context.start;
+            end_context_lines = context.end;
+            before_label_lines = context.before;
+            after_label_lines = context.after;
+          };
+        } }
+    {
+        self.config.start_context_lines = context.start;
+        self.config.end_context_lines = context.end;
+        self.config.before_label_lines = context.before;
+        self.config.after_label_lines = context.after;
+    }
+}

@@ -1,0 +1,70 @@
+//! Cases, as they are read.
+//!
+//! An input is a text of lines. A line begins with a word, which goes up to its first blank, one space; its rest is what follows that blank.
+//! Lines that are empty or begin with `#` say nothing. A line `case NAME` begins a case, of which the lines after it speak
+//! ([`Statement`] has their words); texts in these are escaped ([`unescape`] has the escapes).
+//!
+//! [`Statement`]: crate::statement::Statement
+//! [`unescape`]: crate::escape::unescape
+
+ghost use Rattle.std.specs.Prelude.{◌≡◌, [], map, OnOk, IfOk, IfErr};
+ghost use Rattle.std.specs.Str.Lines.{lines};
+ghost use Rattle.gallery.specs.Cases.{TakesLine, TakesLines, IsMistaken, IsFirstMistake, LastTakes, LastRefuses};
+
+use crate::case::Case;
+use crate::fault::{Fault, Mistake};
+use crate::statement::{Line, Statement, parse_line};
+use std::alloc::Global;
+
+/// The cases of an input, or the mistake of the first line that has one, with the line's number.
+///
+/// Refuses with `OutOfMemory` besides.
+pub fn parse_cases(alloc: Global, input: &str) -> Result<Vec<Case<'_>>, Fault>
+    ensures cases { IfOk result (λ cases. TakesLines (lines input.now) [] cases.items) }
+    ensures mistake { IfErr result (IsFirstMistake (lines input.now)) }
+{
+    let lines: Vec<&str> = input.lines().collect(alloc)?;
+    take_lines(alloc, lines.as_slice())
+}
+
+/// The cases of lines.
+fn take_lines<'input>(alloc: Global, lines: &[&'input str]) -> Result<Vec<Case<'input>>, Fault>
+    ensures cases { IfOk result (λ cases. TakesLines (map (λ line. line.now) lines.now) [] cases.items) }
+    ensures mistake { IfErr result (IsFirstMistake (map (λ line. line.now) lines.now)) }
+{
+    let mut cases = Vec::new(alloc);
+    for (index, line) in lines.iter().enumerate() {
+        if let Err(mistake) = take_line(alloc, &mut cases, line) {
+            return Err(Fault::Line(index + 1, mistake));
+        }
+    }
+    Ok(cases)
+}
+
+/// Takes in a line: it begins a case, or speaks of the last one, or says nothing.
+fn take_line<'input>(
+    alloc: Global,
+    cases: &mut Vec<Case<'input>>,
+    line: &'input str,
+) -> Result<(), Mistake>
+    ensures takes { OnOk result (TakesLine line.now cases.old.items cases.new.items) }
+    ensures mistake { IfErr result (IsMistaken line.now cases.old.items) }
+{
+    match parse_line(alloc, line)? {
+        Line::Silent => {}
+        Line::Title(name) => cases.push(Case::new(alloc, name))?,
+        Line::Said(statement) => take_in_last(cases, statement)?,
+    }
+    Ok(())
+}
+
+/// Takes in what a line says of the last case.
+fn take_in_last(cases: &mut Vec<Case<'_>>, statement: Statement) -> Result<(), Mistake>
+    ensures takes { OnOk result (LastTakes statement cases.old.items cases.new.items) }
+    ensures refused { IfErr result (LastRefuses statement cases.old.items) }
+{
+    match cases.last_mut() {
+        Some(case) => case.take(statement),
+        None => Err(Mistake::NoCase),
+    }
+}

@@ -1,0 +1,77 @@
+//! Texts whose odd characters are escaped.
+
+ghost use Rattle.std.specs.Prelude.{◌≡◌, ◌⊎◌, ℕ, ◌≤◌, ◌<◌, length, IfSome, MatchResult, Some, None, string_bytes};
+ghost use Rattle.std.specs.Option.{option_map};
+ghost use Rattle.gallery.specs.Escapes.{Unescapes, ReadsEscape, ReadsNumbered, IsNumbered};
+ghost use Rattle.gallery.specs.declared.fault.Mistake.TheVariants.{BadEscape, OutOfMemory};
+
+use crate::fault::Mistake;
+use std::alloc::Global;
+
+/// The text that an escaped one stands for.
+///
+/// | escape | stands for |
+/// |---|---|
+/// | `\n` | the newline |
+/// | `\r` | the carriage return |
+/// | `\t` | the tab |
+/// | `\0` | the character of the number 0 |
+/// | `\\` | the backslash |
+/// | `\u{HEX}` | the character of a number in hexadecimal digits |
+pub fn unescape(alloc: Global, text: &str) -> Result<String, Mistake>
+    ensures { MatchResult result (λ said. Unescapes text.now (Some (string_bytes said)))
+        (λ mistake. (mistake ≡ OutOfMemory) ⊎ ((mistake ≡ BadEscape) × Unescapes text.now None)) }
+{
+    let mut said = String::new(alloc);
+    let mut rest = text;
+    'escapes: while let Some((plain, escape)) = rest.split_once('\\') {
+        said.push_str(plain)?;
+        let Some((character, left)) = read_escape(escape) else {
+            return Err(Mistake::BadEscape);
+        };
+        said.push(character)?;
+        rest = left;
+    }
+    said.push_str(rest)?;
+    Ok(said)
+}
+
+/// The character of the escape that a text begins with, after its backslash, and what follows the escape.
+fn read_escape(text: &str) -> Option<(char, &str)>
+    ensures read { ReadsEscape text.now (option_map (λ read. (read.0, read.1.now)) result) }
+    ensures shorter { IfSome result (λ read. length read.1.now < length text.now) }
+{
+    let mut characters = text.chars();
+    let letter = characters.next()?;
+    let left = characters.as_str();
+    match letter {
+        'n' => Some(('\n', left)),
+        'r' => Some(('\r', left)),
+        't' => Some(('\t', left)),
+        '0' => Some(('\0', left)),
+        '\\' => Some(('\\', left)),
+        'u' => read_numbered(left),
+        _ => None,
+    }
+}
+
+/// The character whose number a text begins with, in braces, and what follows these.
+fn read_numbered(text: &str) -> Option<(char, &str)>
+    ensures read { ReadsNumbered text.now (option_map (λ read. (read.0, read.1.now)) result) }
+    ensures shorter { IfSome result (λ read. length read.1.now ≤ length text.now) }
+{
+    let braced = text.strip_prefix('{')?;
+    let (digits, left) = braced.split_once('}')?;
+    Some((numbered_character(digits)?, left))
+}
+
+/// The character of a number in hexadecimal digits, if it has one.
+fn numbered_character(digits: &str) -> Option<char>
+    ensures found { IfSome result (IsNumbered digits.now) }
+    ensures absent { result ≡ None → (c : ℕ) → ¬ (IsNumbered digits.now c) }
+{
+    match u32::from_str_radix(digits, 16) {
+        Ok(number) => char::from_u32(number),
+        Err(_) => None,
+    }
+}

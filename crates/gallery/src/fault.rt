@@ -1,0 +1,107 @@
+//! Why nothing was drawn.
+
+ghost use Rattle.std.specs.Prelude.{◌≡◌};
+ghost use Rattle.gallery.specs.declared.fault.Mistake.TheVariants as mistakes;
+ghost use Rattle.gallery.specs.declared.fault.Fault.TheVariants as faults;
+
+use std::alloc::{AllocError, AllocFailed};
+use std::io::Write;
+use std::{fmt, io};
+
+/// What is wrong with a line of the input.
+#[derive(Clone, Copy, Debug, PartialEq, Eq)]
+pub enum Mistake {
+    /// It begins with another word than those of cases.
+    UnknownWord,
+    /// Its rest is none of the names that may follow its word.
+    UnknownName,
+    /// A number is missing, or is none.
+    BadNumber,
+    /// A backslash of its text begins no escape.
+    BadEscape,
+    /// It stands before the first case.
+    NoCase,
+    /// It is a part of a source, and its case has no file yet.
+    NoFile,
+    /// The memory that it needs was refused.
+    OutOfMemory,
+}
+
+/// Why a run ends without its pictures.
+#[derive(Clone, Copy, Debug, PartialEq, Eq)]
+pub enum Fault {
+    /// A read was refused, or the memory that the input needs.
+    CannotReadInput,
+    /// The input is not UTF-8.
+    NotUtf8,
+    /// The line of this number, from 1, has a mistake.
+    Line(usize, Mistake),
+    /// The memory that the pictures need was refused.
+    OutOfMemory,
+    /// A write or the flush of the output was refused.
+    CannotWriteOutput,
+}
+
+impl Fault {
+    /// Writes the fault's line.
+    pub fn write_line<W: Write>(&self, faults: &mut W) -> io::Result<()> {
+        writeln!(faults, "{self}")
+    }
+}
+
+/// Memory was refused.
+impl From<AllocError> for Mistake {
+    ghost from_gives = { λ _ mistake. mistake ≡ mistakes.OutOfMemory };
+
+    fn from(_error: AllocError) -> Mistake {
+        Mistake::OutOfMemory
+    }
+}
+
+/// Memory was refused.
+impl<T: Drop> From<AllocFailed<T>> for Mistake {
+    ghost from_gives = { λ _ mistake. mistake ≡ mistakes.OutOfMemory };
+
+    fn from(_error: AllocFailed<T>) -> Mistake {
+        Mistake::OutOfMemory
+    }
+}
+
+/// Memory was refused.
+impl From<AllocError> for Fault {
+    ghost from_gives = { λ _ fault. fault ≡ faults.OutOfMemory };
+
+    fn from(_error: AllocError) -> Fault {
+        Fault::OutOfMemory
+    }
+}
+
+/// A few words.
+impl fmt::Display for Mistake {
+    fn fmt<W: fmt::Write>(&self, f: &mut fmt::Formatter<W>) -> fmt::Result {
+        match self {
+            Mistake::UnknownWord => write!(f, "unknown word"),
+            Mistake::UnknownName => write!(f, "unknown name"),
+            Mistake::BadNumber => write!(f, "bad number"),
+            Mistake::BadEscape => write!(f, "bad escape"),
+            Mistake::NoCase => write!(f, "no case before it"),
+            Mistake::NoFile => write!(f, "no file before it"),
+            Mistake::OutOfMemory => write!(f, "out of memory"),
+        }
+    }
+}
+
+/// One line, without its end.
+impl fmt::Display for Fault {
+    fn fmt<W: fmt::Write>(&self, f: &mut fmt::Formatter<W>) -> fmt::Result {
+        match self {
+            Fault::CannotReadInput => write!(f, "gallery: cannot read input"),
+            Fault::NotUtf8 => write!(f, "gallery: input is not UTF-8"),
+            Fault::Line(number, mistake) => write!(f, "gallery: line {number}: {mistake}"),
+            Fault::OutOfMemory => write!(f, "gallery: out of memory"),
+            Fault::CannotWriteOutput => write!(f, "gallery: cannot write output"),
+        }
+    }
+}
+
+impl std::error::Error for Fault {}

@@ -1,0 +1,169 @@
+//! What a line says.
+
+ghost use Rattle.std.specs.Prelude.{◌≡◌, Some, IfOk, IfErr};
+ghost use Rattle.std.specs.Option.{ok_or};
+ghost use Rattle.gallery.specs.Fields.{field_of, past_blank};
+ghost use Rattle.gallery.specs.Statements.{LineSays, Says, IsWrong, style_word};
+ghost use Rattle.gallery.specs.Words.{word_named};
+ghost use Rattle.gallery.specs.declared.fault.Mistake.TheVariants.{UnknownName};
+ghost use Rattle.gallery.specs.declared.words.Word.TheVariants as words;
+
+use crate::case::{CharacterSet, Table};
+use crate::escape::unescape;
+use crate::fault::Mistake;
+use crate::fields::{cut, cut_number, is_silent, parse_number};
+use crate::words::{
+    Word, parse_characters, parse_colours, parse_layout, parse_severity, parse_style, parse_table,
+    parse_word,
+};
+use codespan_reporting::diagnostic::{Label, LabelStyle, Severity};
+use codespan_reporting::term::{DisplayStyle, Layout};
+use std::alloc::Global;
+
+/// What a line says.
+#[derive(Debug, Drop)]
+pub enum Line<'input> {
+    /// Nothing: it is empty or begins with `#`.
+    Silent,
+    /// `case NAME`: a case of this name begins.
+    Title(&'input str),
+    /// More of the last case.
+    Said(Statement),
+}
+
+/// What a line says of a case.
+#[derive(Debug, Drop)]
+pub enum Statement {
+    /// `table KIND`: what its files stand in.
+    Table(Table),
+    /// `file NAME`: one more file.
+    File(String),
+    /// `| TEXT`: what the source of the last file goes on with.
+    Source(String),
+    /// `number LINE NUMBER`: the number of a line, by its index from 0.
+    Number(usize, usize),
+    /// `style NAME`: how much is drawn.
+    Style(DisplayStyle),
+    /// `layout NAME`: how numbers and lanes are laid out.
+    Layout(Layout),
+    /// `tab WIDTH`: the cells between tab stops.
+    Tab(usize),
+    /// `context START END BEFORE AFTER`: how many lines are shown around those of labels.
+    Context(Context),
+    /// `characters NAME`: what the picture is drawn with.
+    Characters(CharacterSet),
+    /// `colours NAME`: whether it is drawn in colours.
+    Colours(bool),
+    /// `severity NAME`: how bad it is.
+    Severity(Severity),
+    /// `code TEXT`: the code.
+    Code(String),
+    /// `message TEXT`: the message.
+    Message(String),
+    /// `primary FILE START END TEXT` or `secondary FILE START END TEXT`: one more label.
+    Label(Label<usize>),
+    /// `note TEXT`: one more note.
+    Note(String),
+}
+
+/// How many lines are shown around those of labels.
+#[derive(Clone, Copy, Debug, PartialEq, Eq)]
+pub struct Context {
+    /// After the first line of a label over several lines.
+    pub start: usize,
+    /// Before the last line of such a label.
+    pub end: usize,
+    /// Before the first line of a label.
+    pub before: usize,
+    /// After the last line of a label.
+    pub after: usize,
+}
+
+/// What a line says.
+pub fn parse_line<'input>(alloc: Global, line: &'input str) -> Result<Line<'input>, Mistake>
+    ensures says { IfOk result (LineSays line.now) }
+    ensures wrong { IfErr result (IsWrong (word_named (field_of line.now)) (past_blank line.now)) }
+{
+    if is_silent(line) {
+        return Ok(Line::Silent);
+    }
+    let (word, rest) = cut(line);
+    if word == "case" {
+        return Ok(Line::Title(rest));
+    }
+    let word = parse_word(word).ok_or(Mistake::UnknownWord)?;
+    Ok(Line::Said(parse_statement(alloc, word, rest)?))
+}
+
+/// What the word and the rest of a line say of a case.
+fn parse_statement(alloc: Global, word: Word, rest: &str) -> Result<Statement, Mistake>
+    ensures says { IfOk result (Says (Some word) rest.now) }
+    ensures wrong { IfErr result (IsWrong (Some word) rest.now) }
+{
+    match word {
+        Word::Table => Ok(Statement::Table(known(parse_table(rest))?)),
+        Word::File => Ok(Statement::File(unescape(alloc, rest)?)),
+        Word::Source => Ok(Statement::Source(unescape(alloc, rest)?)),
+        Word::Number => parse_line_number(rest),
+        Word::Style => Ok(Statement::Style(known(parse_style(rest))?)),
+        Word::Layout => Ok(Statement::Layout(known(parse_layout(rest))?)),
+        Word::Tab => Ok(Statement::Tab(parse_number(rest)?)),
+        Word::Context => parse_context(rest),
+        Word::Characters => Ok(Statement::Characters(known(parse_characters(rest))?)),
+        Word::Colours => Ok(Statement::Colours(known(parse_colours(rest))?)),
+        Word::Severity => Ok(Statement::Severity(known(parse_severity(rest))?)),
+        Word::Code => Ok(Statement::Code(unescape(alloc, rest)?)),
+        Word::Message => Ok(Statement::Message(unescape(alloc, rest)?)),
+        Word::Primary => parse_label(alloc, LabelStyle::Primary, rest),
+        Word::Secondary => parse_label(alloc, LabelStyle::Secondary, rest),
+        Word::Note => Ok(Statement::Note(unescape(alloc, rest)?)),
+    }
+}
+
+/// What a name stands for, where it is known.
+fn known<T: Drop>(named: Option<T>) -> Result<T, Mistake>
+    ensures { result ≡ ok_or named UnknownName }
+{
+    named.ok_or(Mistake::UnknownName)
+}
+
+/// The number of a line that a rest gives.
+fn parse_line_number(rest: &str) -> Result<Statement, Mistake>
+    ensures says { IfOk result (Says (Some words.Number) rest.now) }
+    ensures wrong { IfErr result (IsWrong (Some words.Number) rest.now) }
+{
+    let (line, left) = cut_number(rest)?;
+    Ok(Statement::Number(line, parse_number(left)?))
+}
+
+/// The context that a rest gives.
+fn parse_context(rest: &str) -> Result<Statement, Mistake>
+    ensures says { IfOk result (Says (Some words.Context) rest.now) }
+    ensures wrong { IfErr result (IsWrong (Some words.Context) rest.now) }
+{
+    let (start, left) = cut_number(rest)?;
+    let (end, left) = cut_number(left)?;
+    let (before, left) = cut_number(left)?;
+    Ok(Statement::Context(Context {
+        start,
+        end,
+        before,
+        after: parse_number(left)?,
+    }))
+}
+
+/// The label of a style that a rest gives.
+fn parse_label(alloc: Global, style: LabelStyle, rest: &str) -> Result<Statement, Mistake>
+    ensures says { IfOk result (Says (Some (style_word style)) rest.now) }
+    ensures wrong { IfErr result (IsWrong (Some (style_word style)) rest.now) }
+{
+    let (file_id, left) = cut_number(rest)?;
+    let (start, left) = cut_number(left)?;
+    let (end, left) = cut_number(left)?;
+    Ok(Statement::Label(Label {
+        style,
+        file_id,
+        range: start..end,
+        message: unescape(alloc, left)?,
+    }))
+}
