@@ -1,8 +1,7 @@
 -- The text of a caret row is its caret cells.
-use Rattle.std.proofs.Common.{◌≡◌, ℕ, zero, suc, suc-add, zero-add, ap₂, chars, ◌+◌, ◌<◌, ◌≤◌, max, min, Bool, true, false, ◌&&◌, cond, nat_lt, List, [], ◌∷◌, ◌++◌, map, filter, flat_map, fold, replicate, Option, Some, None, encode_utf8_all, refl, sym, ap, ◌∙◌, arith, add-zero, ltb-true, lt-ltb, ⊎_elim}
-use Rattle.std.specs.List.{range_with_len, list_any}
+use Rattle.std.proofs.Common.{◌≡◌, ℕ, zero, suc, suc-add, zero-add, ap₂, chars, ◌+◌, ◌<◌, ◌≤◌, Bool, true, false, cond, nat_lt, List, [], ◌∷◌, ◌++◌, map, filter, flat_map, replicate, Option, Some, None, encode_utf8_all, refl, sym, ap, ◌∙◌, arith, add-zero, lt-ltb}
+use Rattle.std.specs.List.{range_with_len}
 use Rattle.std.specs.Char.{len_utf8}
-use Rattle.std.proofs.lemmas.Bool.{and_parts, or_cases}
 use Rattle.std.proofs.lemmas.Bool.Decides.{nat_tests}
 use Rattle.std.proofs.lemmas.List.{map-append}
 use Rattle.std.proofs.lemmas.List.Sums.{sum_by-cons}
@@ -10,13 +9,13 @@ use Rattle.codespan_base.specs.declared.diagnostic.Severity.{Severity}
 use Rattle.codespan_base.specs.declared.diagnostic.LabelStyle.{LabelStyle}
 use Rattle.codespan_base.specs.declared.diagnostic.LabelStyle.TheVariants.{Primary, Secondary}
 use Rattle.codespan_base.specs.declared.term.config.chars.Chars.{Chars}
-use Rattle.codespan_base.specs.Labels.{Labelled, is_primary}
+use Rattle.codespan_base.specs.Labels.{Labelled}
 use Rattle.codespan_base.specs.Streams.{Stream, blanks, text_of}
 use Rattle.codespan_picture.specs.declared.cells.Cell.{Cell}
 use Rattle.codespan_picture.specs.Widths.{width_at}
 use Rattle.codespan_picture.specs.Cells.{cells_then, placeholder, width_of}
 use Rattle.codespan_picture.proofs.CaretEnds.{style_under-below}
-use Rattle.codespan_picture.specs.Carets.{covers, style_under, caret_for, greatest_end, caret_width, owns, style_at, caret_cells}
+use Rattle.codespan_picture.specs.Carets.{style_under, caret_for, greatest_end, caret_width, owns, style_at, caret_cells}
 use Rattle.codespan_laws.proofs.Texts.{text_of-append, encode_utf8_all-append, encode_utf8_all-blanks, text_of-blanks, text_of-one_mark, text_of-repeated}
 use Rattle.codespan_picture.specs.Rows.{Look, Line}
 use Rattle.codespan_picture.specs.RowParts.{line_cells_to_end, change, styled, caret_glyphs, carets}

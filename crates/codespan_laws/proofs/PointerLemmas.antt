@@ -1,32 +1,29 @@
 -- Pointers stand in the first cells of the characters in which hanging labels start.
-use Rattle.std.proofs.Common.{◌≡◌, ℕ, zero, suc, chars, ◌+◌, ◌-◌, ◌<◌, ◌≤◌, max, Bool, true, false, ◌&&◌, ◌||◌, ◌==◌, cond, nat_lt, nat_le, List, [], ◌∷◌, ◌++◌, map, filter, flat_map, fold, replicate, Option, Some, None, encode_utf8_all, refl, sym, subst, ap, ap₂, ◌∙◌, arith, append-nil, ⊎_elim}
+use Rattle.std.proofs.Common.{◌≡◌, ℕ, zero, suc, chars, ◌+◌, ◌-◌, ◌<◌, ◌≤◌, Bool, true, false, ◌&&◌, ◌==◌, cond, nat_lt, nat_le, List, [], ◌∷◌, ◌++◌, map, filter, flat_map, replicate, encode_utf8_all, refl, sym, ap, ap₂, ◌∙◌, arith, append-nil, ⊎_elim}
 use Rattle.std.specs.Prelude.{if◌then◌else◌, Contains}
 use Rattle.std.specs.List.{range_with_len, list_any}
-use Rattle.std.specs.Char.{len_utf8, encode_utf8}
-use Rattle.std.proofs.lemmas.Str.{len_utf8_bounds}
-use Rattle.std.proofs.lemmas.Bool.{or_cases, or_left, or_right}
+use Rattle.std.specs.Char.{encode_utf8}
+use Rattle.std.proofs.lemmas.Bool.{or_cases}
 use Rattle.std.proofs.lemmas.Bool.Decides.{nat_tests}
 use Rattle.std.proofs.lemmas.List.{map-append}
 use Rattle.std.proofs.lemmas.List.Sums.{sum_by-cons}
-use Rattle.std.proofs.lemmas.List.Folds.{list_any-append, list_any_at}
+use Rattle.std.proofs.lemmas.List.Folds.{list_any_at}
 use Rattle.std.proofs.Math.Bool.{and-false}
 use Rattle.codespan_base.specs.declared.diagnostic.Severity.{Severity}
 use Rattle.codespan_base.specs.declared.diagnostic.LabelStyle.{LabelStyle}
 use Rattle.codespan_base.specs.declared.term.config.chars.Chars.{Chars}
-use Rattle.codespan_base.specs.Labels.{Labelled, has_message}
+use Rattle.codespan_base.specs.Labels.{Labelled}
 use Rattle.codespan_base.specs.Streams.{LabelMark, Reset, one_mark, glyph, blanks, text_of}
 use Rattle.codespan_picture.specs.declared.cells.Cell.{Cell}
-use Rattle.codespan_picture.specs.Widths.{width_at}
-use Rattle.codespan_picture.specs.Cells.{cells_then, width_of}
-use Rattle.codespan_picture.specs.Carets.{greatest_end}
+use Rattle.codespan_picture.specs.Cells.{width_of}
 use Rattle.codespan_picture.specs.Lanes.{label_glyph}
 use Rattle.codespan_laws.specs.CaretLaws.{points_at, pointer_cells, StartsInWide, PointersAreCells}
-use Rattle.codespan_picture.specs.Rows.{Look, Line, Around, others, does_trail, rightmost, hanging_of, hanging}
+use Rattle.codespan_picture.specs.Rows.{Look, Line, hanging}
 use Rattle.codespan_picture.specs.RowParts.{starts_in, greatest_start, blanks_up_to, pointer_style, pointer_at, pointers, cells_before, line_cells}
 use Rattle.codespan_picture.specs.RowStreams.{pointer_row, hanging_row}
 use Rattle.codespan_laws.proofs.Texts.{text_of-append, text_of-one_mark, text_of-glyph, text_of-blanks, encode_utf8_all-append, encode_utf8_all-blanks}
 use Rattle.codespan_laws.proofs.CaretLemmas.{range_with_len-append, map-range_with_len, map-constant}
-use Rattle.codespan_picture.proofs.HangingStarts.{any-filter, any-hanging, any-below, starts_in-low}
+use Rattle.codespan_picture.proofs.HangingStarts.{any-hanging, any-below, starts_in-low}
 use Rattle.codespan_picture.proofs.Spread.{AreSpread, cells-spread, none-before}
 
 -- ---- members
