@@ -16,7 +16,7 @@ use Rattle.codespan_reporting.specs.Lookups.{Refusals}
 use Rattle.codespan_reporting.specs.Picture.{heading_of, label_of, labels_of, notes_of, styled_picture}
 use Rattle.codespan_reporting.specs.Snippets.{InFile}
 use Rattle.codespan_picture.proofs.Alike.{styled_alike}
-use Rattle.report.specs.Drawings.{config_of, heading_said, label_said, labels_said, picture_text}
+use Rattle.report.specs.Drawings.{config_of, label_said, picture_text}
 
 -- the same configurations, in another style
 restyled : (table config : Config) (style : DisplayStyle) → IsConfig table config → IsConfig (record table { display_style = style }) (record config { display_style = style })

@@ -1,5 +1,5 @@
 -- What the outcome of a run tells.
-use Rattle.std.proofs.Common.{◌≤◌, IfErr, OnOk, Result, refl, ◌≡◌, ◌≢◌, ◌⊎◌, inl, inr, ℕ, List, Option, Some, None, Ok, Err, IfSome, IsErrOf, subst, sym, ◌∙◌, arith, string_bytes}
+use Rattle.std.proofs.Common.{◌≤◌, IfErr, OnOk, Result, refl, ◌≡◌, ◌≢◌, ◌⊎◌, inl, inr, ℕ, List, Option, Some, None, Ok, Err, IfSome, IsErrOf, subst, arith, string_bytes}
 use Rattle.std.specs.Str.{IsUtf8}
 use Rattle.report.specs.declared.fault.Fault.{Fault}
 use Rattle.report.specs.declared.fault.Fault.TheVariants.{WrongArguments, CannotReadInput, NotUtf8, Drawing, BadScript, CannotWriteOutput}

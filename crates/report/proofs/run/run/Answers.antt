@@ -1,4 +1,3 @@
-use Rattle.std.proofs.Common.{subst, sym, ◌∙◌, ◌≤◌, ℕ}
 use Rattle.report.proofs.Outcomes.{faulty_status, kept_at_faulty, kept_at_not_utf8, kept_at_wrong, status_at_most, status_of_wrong, success_by_status, told_at_faulty, wrong_by_status}
 use Rattle.report.proofs.run.run.Goals as goal
 

@@ -1,4 +1,4 @@
-use Rattle.std.proofs.Common.{◌≡◌, ◌⊎◌, ◌<◌, ◌≤◌, length, string_bytes, Some, None, inl, inr, ap, sym, ◌∙◌, arith, rules, tests}
+use Rattle.std.proofs.Common.{◌⊎◌, ◌<◌, ◌≤◌, length, string_bytes, Some, None, inl, inr, ap, sym, ◌∙◌, arith, rules, tests}
 use Rattle.std.specs.Option.{option_map}
 use Rattle.report.proofs.Words.{others_ask, two_ask}
 use Rattle.report.specs.Requests.{asked_view, style_of}

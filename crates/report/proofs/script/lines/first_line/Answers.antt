@@ -1,7 +1,5 @@
-use Rattle.std.proofs.Common.{lit<, ◌∙◌, ◌∷◌, ◌-◌, Some, None, ap, length}
-use Rattle.std.specs.List.{slice_split}
+use Rattle.std.proofs.Common.{lit<, Some, None}
 use Rattle.std.proofs.lemmas.Str.Pattern.{split_parts}
-use Rattle.report.specs.ScriptLines.{is_newline, lines_from}
 use Rattle.report.proofs.ScriptCuts.{first_then, last_line}
 use Rattle.report.proofs.script.lines.first_line.Goals as goal
 

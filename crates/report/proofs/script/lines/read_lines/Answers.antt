@@ -1,4 +1,4 @@
-use Rattle.std.proofs.Common.{◌≡◌, ◌-◌, ◌++◌, ℕ, ap, drop, length, map, refl, sym, ◌∙◌, arith}
+use Rattle.std.proofs.Common.{◌≡◌, ◌-◌, ◌++◌, ap, drop, length, map, sym, ◌∙◌, arith}
 use Rattle.std.specs.List.{slice_split}
 use Rattle.report.specs.ScriptLines.{body, is_newline, line_view, lines_from, lines_of, source_of}
 use Rattle.report.proofs.script.lines.read_lines.Goals as goal
