@@ -3,3 +3,5 @@ pub mod Escaping
 -- the last case, and cases read line by line
 pub mod LastCase
 pub mod LineByLine
+-- pictures over a file that stands alone
+pub mod Alone

@@ -6,5 +6,6 @@ pub mod Escapes
 -- what a line says, and what it does to the cases before it
 pub mod Statements
 pub mod Cases
--- all pictures
+-- the picture of a case, and all pictures
+pub mod Pictures
 pub mod Galleries
