@@ -1,5 +1,7 @@
 //! Writers that take little at a time, or stop.
 
+ghost use Rattle.std.specs.Io.{WritesAtMost};
+
 use codespan_reporting::files::Error;
 use std::alloc::Global;
 use std::io;
@@ -59,7 +61,9 @@ impl Stopping {
     }
 
     /// Takes the first of these bytes, as many as it may.
-    fn take(&mut self, buf: &[u8], most: usize) -> io::Result<usize> {
+    fn take(&mut self, buf: &[u8], most: usize) -> io::Result<usize>
+        ensures { WritesAtMost result buf.now }
+    {
         let count = buf.len().min(most);
         self.text.extend_from_slice(&buf[..count])?;
         Ok(count)
