@@ -1,13 +1,9 @@
 -- All pictures, each under the name of its case.
 use Rattle.std.specs.Prelude.{◌≡◌, ℕ, ◌==◌, List, [], ◌∷◌, ◌++◌, codes, false, Result, Ok, Err, IfSome, OnOk, if◌then◌else◌}
 use Rattle.std.specs.List.{flat_map}
-use Rattle.std.specs.Str.Lines.{lines}
 use Rattle.codespan_base.specs.declared.files.error.Error.{Error}
 use Rattle.codespan_base.specs.ErrorText.{error_text}
 use Rattle.gallery.specs.declared.case.Case.{Case}
-use Rattle.gallery.specs.declared.fault.Fault.{Fault}
-use Rattle.gallery.specs.declared.fault.Fault.TheVariants.{Line}
-use Rattle.gallery.specs.Cases.{TakesLines, IsFirstMistake}
 use Rattle.gallery.specs.Pictures.{IsPicture}
 
 -- the line that a picture stands under
@@ -40,19 +36,10 @@ pub record IsPictured (case : Case) (text : List ℕ) : Type 0 where
   pub told : List ℕ
   pub is : text ≡ shown picture ++ told
   pub refusal : TellsRefusal drawn told
-  pub plain : case.in_colours ≡ false → OnOk drawn (IsPicture case.table case picture)
+  pub plain : case.in_colours ≡ false → OnOk drawn (IsPicture case picture)
 
 -- the text has the cases in their order, each as its title and its picture
 abbrev pub IsGallery : List Case → List ℕ → Type 0
 IsGallery [] text = text ≡ []
 IsGallery (case ∷ cases) text =
     (pictured : List ℕ) × (left : List ℕ) × (text ≡ title case.name.now ++ pictured ++ left) × IsPictured case pictured × IsGallery cases left
-
--- the text is the gallery of the cases of an input
-abbrev pub IsDrawnFrom : List ℕ → List ℕ → Type 0
-IsDrawnFrom input gallery = (cases : List Case) × TakesLines (lines input) [] cases × IsGallery cases gallery
-
--- what a fault tells of the input
-abbrev pub FaultTells : Fault → List ℕ → Type 0
-FaultTells (Line number mistake) input = IsFirstMistake (lines input) (Line number mistake)
-FaultTells _ input = Unit {0}

@@ -1,5 +1,5 @@
--- The picture of a case without colours.
-use Rattle.std.specs.Prelude.{◌≡◌, ℕ, nat_eq, true, List, [], ◌∷◌, ◌++◌, map, Option, Some}
+-- What is drawn of a case.
+use Rattle.std.specs.Prelude.{◌≡◌, ℕ, nat_eq, Bool, true, List, [], ◌∷◌, ◌++◌, map, Option, Some}
 use Rattle.std.specs.Borrow.{Bor}
 use Rattle.codespan_base.specs.declared.diagnostic.Diagnostic.{Diagnostic}
 use Rattle.codespan_base.specs.Diagnostics.{DiagnosticView, LabelView, diagnostic_view}
@@ -7,6 +7,7 @@ use Rattle.codespan_base.specs.declared.files.error.Error.{Error}
 use Rattle.codespan_base.specs.FileModel.{FileModel, Lookup}
 use Rattle.codespan_base.specs.MappedModel.{mapped_file, mapped_refusal, with_number}
 use Rattle.codespan_base.specs.SimpleModel.{simple_file, simple_refusal, table_file, table_refusal}
+use Rattle.codespan_picture.specs.Lookups.{Refusals}
 use Rattle.codespan_reporting.specs.Headline.{IsDrawn}
 use Rattle.gallery.specs.declared.case.Case.{Case}
 use Rattle.gallery.specs.declared.case.Table.{Table}
@@ -34,29 +35,37 @@ LentFile = Bor (List ℕ) × Bor (List ℕ)
 abbrev pub lent_view : LentFile → List ℕ × List ℕ
 lent_view file = (file.0.now, file.1.now)
 
--- the text is the picture of what a case says by the id of its only file, which is such a file of its name and its source
-pub record IsAlone (file : List ℕ → List ℕ → FileModel) (refusal : List ℕ → Lookup → Option Error) (case : Case) (text : List ℕ) : Type 0 where
+-- what may hold of a diagnostic, over files by their ids, with what their lookups are refused with
+abbrev pub Shown : Type 1
+Shown = (Id : Type 0) → (Id → Id → Bool) → (Id → FileModel) → Refusals Id → Diagnostic Id → Type 0
+
+-- this holds of what a case says by the id of its only file, which is such a file of its name and its source
+pub record IsAlone (file : List ℕ → List ℕ → FileModel) (refusal : List ℕ → Lookup → Option Error) (case : Case) (Holds : Shown) : Type 0 where
   pub name : List ℕ
   pub source : List ℕ
   pub said : Diagnostic (Unit {0})
   pub only : map file_view case.files.items ≡ (name, source) ∷ []
   pub same : diagnostic_view said ≡ alone (diagnostic_view case.said)
-  pub drawn : IsDrawn case.config (λ i j. true) (λ id. file name source) (λ id. refusal source) said text
+  pub holds : Holds (Unit {0}) (λ i j. true) (λ id. file name source) (λ id. refusal source) said
 
--- the text is the picture of what a case says over all its files
-pub record IsAmong (case : Case) (text : List ℕ) : Type 0 where
+-- this holds of what a case says over all its files
+pub record IsAmong (case : Case) (Holds : Shown) : Type 0 where
   pub files : List LentFile
   pub same : map lent_view files ≡ map file_view case.files.items
-  pub drawn : IsDrawn case.config nat_eq (table_file (λ name. Some name.now) (λ source. source.now) files) (table_refusal (λ source. source.now) files) case.said text
+  pub holds : Holds ℕ nat_eq (table_file (λ name. Some name.now) (λ source. source.now) files) (table_refusal (λ source. source.now) files) case.said
 
--- the text is the picture of a case in plain text, in the table that it asks for
-abbrev pub IsPicture : Table → Case → List ℕ → Type 0
-IsPicture One case text = IsAlone (λ name source. simple_file (Some name) source) simple_refusal case text
-IsPicture Several case text = IsAmong case text
-IsPicture Mapped case text =
+-- this holds of what a case says over its files, in the table that it asks for
+abbrev pub InTable : Table → Case → Shown → Type 0
+InTable One case Holds = IsAlone (λ name source. simple_file (Some name) source) simple_refusal case Holds
+InTable Several case Holds = IsAmong case Holds
+InTable Mapped case Holds =
     let numbers = with_numbers [] case.numbers.items in
-    IsAlone (λ name source. mapped_file (Some name) source numbers) (λ source. mapped_refusal source numbers) case text
+    IsAlone (λ name source. mapped_file (Some name) source numbers) (λ source. mapped_refusal source numbers) case Holds
+
+-- the text is the picture of a case in plain text
+abbrev pub IsPicture : Case → List ℕ → Type 0
+IsPicture case text = InTable case.table case (λ Id same file refusal said. IsDrawn case.config same file refusal said text)
 
 -- the picture of a case in plain text is added
 abbrev pub AddsPicture : Case → List ℕ → List ℕ → Type 0
-AddsPicture case old new = (text : List ℕ) × (new ≡ old ++ text) × IsPicture case.table case text
+AddsPicture case old new = (text : List ℕ) × (new ≡ old ++ text) × IsPicture case text

@@ -4,6 +4,7 @@ ghost use Rattle.std.specs.Prelude.{◌≡◌};
 ghost use Rattle.gallery.specs.declared.fault.Mistake.TheVariants as mistakes;
 ghost use Rattle.gallery.specs.declared.fault.Fault.TheVariants as faults;
 
+use codespan_reporting::files::Error;
 use std::alloc::{AllocError, AllocFailed};
 use std::io::Write;
 use std::{fmt, io};
@@ -27,15 +28,21 @@ pub enum Mistake {
     OutOfMemory,
 }
 
-/// Why a run ends without its pictures.
-#[derive(Clone, Copy, Debug, PartialEq, Eq)]
+/// Why a run ends without what it was asked for.
+#[derive(Debug, Drop)]
 pub enum Fault {
+    /// The arguments ask for nothing that is known.
+    WrongArguments,
     /// A read was refused, or the memory that the input needs.
     CannotReadInput,
     /// The input is not UTF-8.
     NotUtf8,
     /// The line of this number, from 1, has a mistake.
     Line(usize, Mistake),
+    /// No case has this name.
+    UnknownCase(String),
+    /// The picture of the case was refused.
+    Undrawn(Error),
     /// The memory that the pictures need was refused.
     OutOfMemory,
     /// A write or the flush of the output was refused.
@@ -95,9 +102,12 @@ impl fmt::Display for Mistake {
 impl fmt::Display for Fault {
     fn fmt<W: fmt::Write>(&self, f: &mut fmt::Formatter<W>) -> fmt::Result {
         match self {
+            Fault::WrongArguments => write!(f, "usage: gallery [svg NAME] < CASES"),
             Fault::CannotReadInput => write!(f, "gallery: cannot read input"),
             Fault::NotUtf8 => write!(f, "gallery: input is not UTF-8"),
             Fault::Line(number, mistake) => write!(f, "gallery: line {number}: {mistake}"),
+            Fault::UnknownCase(name) => write!(f, "gallery: no case {name}"),
+            Fault::Undrawn(error) => write!(f, "gallery: refused: {error}"),
             Fault::OutOfMemory => write!(f, "gallery: out of memory"),
             Fault::CannotWriteOutput => write!(f, "gallery: cannot write output"),
         }

@@ -1,47 +1,107 @@
 //! One run of the program.
 
-ghost use Rattle.std.specs.Prelude.{◌≡◌, ◌⊎◌, ℕ, List, [], OnOk, OnErr, IfErr, IfSome};
+ghost use Rattle.std.specs.Prelude.{◌≡◌, ◌≢◌, ◌≤◌, ◌↔◌, ◌⊎◌, ℕ, List, [], None, OnOk, OnErr, IfErr, IfOk, IfSome, IsErrOf, map, string_bytes};
 ghost use Rattle.std.specs.Io.KnownBytes.{Appends};
-ghost use Rattle.std.specs.Str.Lines.{lines};
-ghost use Rattle.gallery.specs.Cases.{IsFirstMistake};
-ghost use Rattle.gallery.specs.Galleries.{IsDrawnFrom, FaultTells};
+ghost use Rattle.std.specs.Option.{option_copied};
+ghost use Rattle.gallery.specs.Requests.{Answers, AnswersOf, FaultTells, IsStatusOf, RefusesOf, asked_of, case_named, request_view};
 
+use crate::case::Case;
 use crate::cases::parse_cases;
 use crate::fault::Fault;
 use crate::gallery::draw_cases;
+use crate::request::Request;
 use crate::streams::{read_input, write_bytes};
+use crate::svg::svg;
 use std::alloc::Global;
 use std::io::{Read, Write};
 
-/// Draws the cases of the input to the output, and answers the program's status: 0, or 1 where `faults` is told in one line why not.
+/// Draws what the arguments ask for of the cases of the input to the output, and answers the program's status: 0, or where `faults` is told
+/// in one line why not 2 for wrong arguments, and 1 for all else.
 ///
-/// Nothing is written to the output before all cases are drawn. A refusal of `faults` is ignored.
+/// Nothing is written to the output before all is drawn. A refusal of `faults` is ignored.
 pub fn run<R: Read, W: Write, E: Write>(
     alloc: Global,
+    args: &[String],
     input: &mut R,
     output: &mut W,
     faults: &mut E,
 ) -> u8
-    ensures status { (result ≡ 0) ⊎ (result ≡ 1) }
+    ensures status { result ≤ 2 }
+    ensures usage { (result ≡ 2) ↔ (asked_of (map string_bytes args.now) ≡ None) }
+    ensures unread { result ≡ 2 → input.new ≡ input.old }
+    ensures unwritten { result ≡ 2 → output.new ≡ output.old }
     ensures silent { result ≡ 0 → faults.new ≡ faults.old }
-    ensures drawn { result ≡ 0 → IfSome (R.remaining input.old) (λ text. (gallery : List ℕ) × IsDrawnFrom text gallery × Appends (W.contents output.old) (W.contents output.new) gallery) }
+    ensures drawn { result ≡ 0 → IfSome (asked_of (map string_bytes args.now)) (λ asked. IfSome (R.remaining input.old) (λ text.
+        (answer : List ℕ) × Answers asked text answer × Appends (W.contents output.old) (W.contents output.new) answer)) }
 {
-    match show(alloc, input, output) {
+    conclude(show(alloc, args, input, output), faults)
+}
+
+/// Tells the fault, if there is one, in one line, and answers the program's status. A refusal of `faults` is ignored.
+pub fn conclude<E: Write>(outcome: Result<(), Fault>, faults: &mut E) -> u8
+    ensures status { IsStatusOf outcome result }
+    ensures silent { OnOk outcome (faults.new ≡ faults.old) }
+{
+    match outcome {
         Ok(()) => 0,
         Err(fault) => {
             let _ = fault.write_line(faults);
-            1
+            match fault {
+                Fault::WrongArguments => 2,
+                _ => 1,
+            }
         }
     }
 }
 
-/// Reads the cases, draws them, and writes their pictures.
-fn show<R: Read, W: Write>(alloc: Global, input: &mut R, output: &mut W) -> Result<(), Fault>
-    ensures drawn { OnOk result (IfSome (R.remaining input.old) (λ text. (gallery : List ℕ) × IsDrawnFrom text gallery × Appends (W.contents output.old) (W.contents output.new) gallery)) }
-    ensures told { IfErr result (λ fault. IfSome (R.remaining input.old) (FaultTells fault)) }
+/// Reads the cases, draws what is asked for, and writes it.
+fn show<R: Read, W: Write>(
+    alloc: Global,
+    args: &[String],
+    input: &mut R,
+    output: &mut W,
+) -> Result<(), Fault>
+    ensures usage { IsErrOf result Fault.WrongArguments ↔ (asked_of (map string_bytes args.now) ≡ None) }
+    ensures unread { IsErrOf result Fault.WrongArguments → input.new ≡ input.old }
+    ensures drawn { OnOk result (IfSome (asked_of (map string_bytes args.now)) (λ asked. IfSome (R.remaining input.old) (λ text.
+        (answer : List ℕ) × Answers asked text answer × Appends (W.contents output.old) (W.contents output.new) answer))) }
+    ensures told { IfErr result (λ fault. IfSome (R.remaining input.old) (FaultTells (asked_of (map string_bytes args.now)) fault)) }
+    ensures kept { IfErr result (λ fault. fault ≢ Fault.CannotWriteOutput → output.new ≡ output.old) }
 {
+    let request = Request::from_arguments(args).ok_or(Fault::WrongArguments)?;
     let text = read_input(alloc, input)?;
     let cases = parse_cases(alloc, text.as_str())?;
-    let gallery = draw_cases(alloc, cases.as_slice())?;
-    write_bytes(output, gallery.as_slice())
+    let answer = answer(alloc, request, cases.as_slice())?;
+    write_bytes(output, answer.as_slice())
+}
+
+/// Draws what is asked for of cases.
+fn answer(alloc: Global, request: Request<'_>, cases: &[Case<'_>]) -> Result<Vec<u8>, Fault>
+    ensures answers { IfOk result (λ bytes. AnswersOf (request_view request.entry) cases.now bytes.items) }
+    ensures refuses { IfErr result (RefusesOf (request_view request.entry) cases.now) }
+{
+    match request {
+        Request::All => Ok(draw_cases(alloc, cases)?),
+        Request::Svg(name) => {
+            let Some(case) = named(cases, name) else {
+                return Err(Fault::UnknownCase(String::from_str(alloc, name)?));
+            };
+            match svg(alloc, case) {
+                Ok(document) => Ok(document.into_bytes()),
+                Err(error) => Err(Fault::Undrawn(error)),
+            }
+        }
+    }
+}
+
+/// The first case of a name.
+fn named<'cases, 'input>(cases: &'cases [Case<'input>], name: &str) -> Option<&'cases Case<'input>>
+    ensures { option_copied result ≡ case_named name.now cases.now }
+{
+    for case in cases {
+        if case.name == name {
+            return Some(case);
+        }
+    }
+    None
 }

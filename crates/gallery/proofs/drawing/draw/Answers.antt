@@ -1,25 +1,32 @@
-use Rattle.std.proofs.Common.{Bor, List, [], ℕ, ap, ◌∙◌}
 use Rattle.codespan_base.specs.FileTables.{name_of, source_of, mapped_name_of, mapped_source_of, settings_of}
-use Rattle.gallery.specs.Pictures.{with_numbers}
-use Rattle.gallery.proofs.Alone.{only_view, same_texts, one_added, mapped_added}
+use Rattle.codespan_reporting.specs.Headline.{IsDrawn}
+use Rattle.gallery.proofs.Alone.{done_follows, over_one, over_mapped}
 use Rattle.gallery.proofs.drawing.draw.Goals as goal
 
-pub returns-in_ok-said-in-One : goal.returns-in_ok-said-in-One
-returns-in_ok-said-in-One c = λ plain.
-    let name = name_of c.in_ok-files-in-One.files in
-    let source = source_of c.in_ok-files-in-One.files in
-    let view = same_texts c.in_ok-file-in-One.file.now name.now source.now
-    (ap (λ (text : Bor (List ℕ)). text.now) c.in_ok-files-in-One.ensures.name ∙ c.as_str.ensures.value)
-    (ap (λ (text : Bor (List ℕ)). text.now) c.in_ok-files-in-One.ensures.source ∙ c.as_str-in-One.ensures.value) in
-    one_added c.args.case.now name.now source.now c.in_ok-said-in-One.said
-    (only_view c.args.case.now.files.items c.as_slice.result.now c.in_ok-file-in-One.file.now name.now source.now c.as_slice.ensures.value c.in_ok-file-in-One.ensures view)
-    c.in_ok-said-in-One.ensures c.in-One.is c.draw_over.result c.args.picture.now.items c.draw_over.new.picture.items (c.draw_over.ensures plain)
+pub returns-in-One : goal.returns-in-One
+returns-in-One c = λ plain.
+    let case = c.args.case.now in
+    let files = c.in-One.files in
+    let are = rw c.in-One.is at c.in_ok-tables.ensures in
+    done_follows c.draw_over.result
+    (λ added. (
+      added.text,
+      added.whole,
+      over_one case (name_of files).now (source_of files).now c.in-One.said are.1
+          (λ Id same file refusal said. IsDrawn case.config same file refusal said added.text) are.0 added.drawn,
+    ))
+    (c.draw_over.ensures plain)
 
-pub returns-in_ok-said-in-Mapped : goal.returns-in_ok-said-in-Mapped
-returns-in_ok-said-in-Mapped c = λ plain.
-    let name = mapped_name_of c.in_ok-files-in-Mapped.files in
-    let source = mapped_source_of c.in_ok-files-in-Mapped.files in
-    mapped_added c.args.case.now name.now source.now c.in_ok-said-in-Mapped.said
-    (only_view c.args.case.now.files.items c.as_slice-in-Mapped.result.now c.in_ok-file-in-Mapped.file.now name.now source.now c.as_slice-in-Mapped.ensures.value c.in_ok-file-in-Mapped.ensures c.in_ok-files-in-Mapped.ensures.file)
-    c.in_ok-said-in-Mapped.ensures c.in-Mapped.is (settings_of c.in_ok-files-in-Mapped.files) (c.in_ok-files-in-Mapped.ensures.numbers ∙ ap (with_numbers []) c.as_slice-in-Mapped-2.ensures.value)
-    c.draw_over-in-Mapped.result c.args.picture.now.items c.draw_over-in-Mapped.new.picture.items (c.draw_over-in-Mapped.ensures plain)
+pub returns : goal.returns
+returns c = λ plain.
+    let case = c.args.case.now in
+    let files = c.in-Mapped.files in
+    let are = rw c.in-Mapped.is at c.in_ok-tables.ensures in
+    done_follows c.draw_over-in-Mapped.result
+    (λ added. (
+      added.text,
+      added.whole,
+      over_mapped case (mapped_name_of files).now (mapped_source_of files).now c.in-Mapped.said are.1
+          (λ Id same file refusal said. IsDrawn case.config same file refusal said added.text) are.0 (settings_of files) are.2 added.drawn,
+    ))
+    (c.draw_over-in-Mapped.ensures plain)

@@ -2,7 +2,7 @@ use Rattle.std.proofs.Common.{◌≡◌, [], drop}
 use Rattle.codespan_base.specs.FileTables.{mapped_name_of, mapped_source_of, settings_of}
 use Rattle.gallery.specs.Cases.{file_view}
 use Rattle.gallery.specs.Pictures.{with_numbers}
-use Rattle.gallery.proofs.drawing.mapped_file.Given as goal
+use Rattle.gallery.proofs.tables.mapped_file.Given as goal
 
 abbrev pub invariant-loop-line : goal.invariant-loop-line
 invariant-loop-line l = record {

@@ -1,0 +1,50 @@
+-- What is painted is the stream of the picture.
+use Rattle.std.proofs.Common.{◌≡◌, ℕ, Bool, true, List, ◌++◌, IsSome, None, Some, Result, Ok, Err, OnOk, refl, sym, ◌∙◌, ap}
+use Rattle.std.specs.List.{slice_get}
+use Rattle.std.specs.Option.{option_map_or}
+use Rattle.codespan_base.specs.declared.diagnostic.Diagnostic.{Diagnostic}
+use Rattle.codespan_base.specs.declared.files.error.Error.{Error}
+use Rattle.codespan_base.specs.declared.term.config.Config.{Config}
+use Rattle.codespan_base.specs.declared.term.config.DisplayStyle.{DisplayStyle}
+use Rattle.codespan_base.specs.declared.term.config.DisplayStyle.TheVariants.{Rich, Medium, Short}
+use Rattle.codespan_base.specs.FileModel.{FileModel}
+use Rattle.codespan_base.specs.SimpleModel.{missing_file, simple_file, table_file}
+use Rattle.codespan_base.specs.Streams.{Spelling, Stream, spelled}
+use Rattle.codespan_base.specs.WriterLaw.{Sink, is_told, sent, tells, gained}
+use Rattle.codespan_base.specs.Writers.{fresh_sink}
+use Rattle.codespan_picture.specs.Lookups.{AllAnswered, Refusals, lookups_in}
+use Rattle.codespan_reporting.specs.Headline.{DrawsTo, NamesAreStated, drawn_picture}
+use Rattle.gallery.specs.Pictures.{LentFile}
+
+module _ {Id : Type 0} (config : Config) (same : Id → Id → Bool) (file : Id → FileModel) (refusal : Refusals Id) (d : Diagnostic Id) where
+  -- a call that draws a style sends the stream of its picture, and no lookup was refused
+  pub drawn_stream : (style : DisplayStyle) (old new : Sink) (r : Result (Unit {0}) Error) → DrawsTo config same file refusal d style old r new
+      → NamesAreStated file d → is_told old ≡ true
+      → OnOk r (AllAnswered refusal (lookups_in style config same file refusal d) × (new ≡ sent old (drawn_picture config config same file refusal d style)))
+  drawn_stream Rich old new (Ok done) draws stated told = (draws.drawn.answered, draws.drawn.stream stated told)
+  drawn_stream Medium old new (Ok done) draws stated told = (draws.drawn.answered, draws.drawn.stream stated told)
+  drawn_stream Short old new (Ok done) draws stated told = (draws.drawn.answered, draws.drawn.stream stated told)
+  drawn_stream style old new (Err error) draws stated told = tt
+
+-- a fresh writer that told some bytes tells after them the stream that was sent
+pub told_after : (spelling : Spelling) (old new : Sink) (stream : Stream) (first last : List ℕ) → old ≡ fresh_sink spelling (Some first) → new ≡ sent old stream → new.held ≡ Some last
+    → last ≡ first ++ spelled spelling stream
+unfolding sent gained
+told_after spelling old new stream first last fresh came held =
+    let both : Some last ≡ gained old.held (spelled old.frame.spelling stream) = sym held ∙ ap (λ (s : Sink). s.held) came in
+    let is : Some last ≡ Some (first ++ spelled spelling stream) = both ∙ ap (λ (s : Sink). gained s.held (spelled s.frame.spelling stream)) fresh in
+    cc is
+
+-- a fresh writer tells its bytes
+pub fresh_told : (spelling : Spelling) (old : Sink) (first : List ℕ) → old ≡ fresh_sink spelling (Some first) → is_told old ≡ true
+unfolding is_told tells
+fresh_told spelling old first fresh = ap (λ (s : Sink). is_told s) fresh
+
+-- the names of the files of a table are stated
+pub stated_in_table : (files : List LentFile) (said : Diagnostic ℕ) → NamesAreStated (table_file (λ name. Some name.now) (λ source. source.now) files) said
+stated_in_table files said x contains = stated x.id
+  where
+    stated : (id : ℕ) → IsSome (table_file (λ name. Some name.now) (λ source. source.now) files id).name
+    stated id =
+        elim (slice_get files id) as (λ found. IsSome (option_map_or (λ (entry : LentFile). simple_file (Some entry.0.now) entry.1.now) found missing_file).name)
+        [ None ↦ refl | Some entry ↦ refl ]

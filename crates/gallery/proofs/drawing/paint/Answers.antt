@@ -1,0 +1,35 @@
+use Rattle.std.proofs.Common.{map, refl}
+use Rattle.codespan_base.specs.FileTables.{entries, name_of, source_of, mapped_name_of, mapped_source_of, settings_of}
+use Rattle.gallery.specs.Inks.{run_view}
+use Rattle.gallery.specs.Svg.{IsPaintedOver}
+use Rattle.gallery.proofs.Alone.{ok_follows, over_one, over_several, over_mapped}
+use Rattle.gallery.proofs.Painting.{stated_in_table}
+use Rattle.gallery.proofs.drawing.paint.Goals as goal
+
+pub returns-in-One : goal.returns-in-One
+returns-in-One c =
+    let case = c.args.case.now in
+    let files = c.in-One.files in
+    let are = rw c.in-One.is at c.in_ok-tables.ensures in
+    ok_follows c.paint_over.result
+    (λ runs. over_one case (name_of files).now (source_of files).now c.in-One.said are.1 (λ Id same file refusal said. IsPaintedOver case.config same file refusal said (map run_view runs.items)) are.0)
+    (c.paint_over.ensures (λ x contains. refl))
+
+pub returns-in-Several : goal.returns-in-Several
+returns-in-Several c =
+    let case = c.args.case.now in
+    let files = c.in-Several.files in
+    let are = rw c.in-Several.is at c.in_ok-tables.ensures in
+    ok_follows c.paint_over-in-Several.result
+    (λ runs. over_several case (entries files) (λ Id same file refusal said. IsPaintedOver case.config same file refusal said (map run_view runs.items)) are.0 are.1)
+    (c.paint_over-in-Several.ensures (stated_in_table (entries files) case.said))
+
+pub returns : goal.returns
+returns c =
+    let case = c.args.case.now in
+    let files = c.in-Mapped.files in
+    let are = rw c.in-Mapped.is at c.in_ok-tables.ensures in
+    ok_follows c.paint_over-in-Mapped.result
+    (λ runs. over_mapped case (mapped_name_of files).now (mapped_source_of files).now c.in-Mapped.said are.1
+    (λ Id same file refusal said. IsPaintedOver case.config same file refusal said (map run_view runs.items)) are.0 (settings_of files) are.2)
+    (c.paint_over-in-Mapped.ensures (λ x contains. refl))

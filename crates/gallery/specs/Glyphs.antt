@@ -1,0 +1,74 @@
+-- The characters of a picture, each in its ink, and the places where they stand.
+use Rattle.std.specs.Prelude.{ℕ, ◌+◌, ◌==◌, Bool, false, not, nat_le, ◌&&◌, List, [], ◌∷◌, map, max, Option, None, Some, unwrap_or, if◌then◌else◌}
+use Rattle.std.specs.List.{flat_map}
+use Rattle.std.specs.Str.{IsUtf8, chars}
+use Rattle.unicode_width.specs.Width.{char_width}
+use Rattle.gallery.specs.declared.glyphs.Glyph.{Glyph}
+use Rattle.gallery.specs.declared.places.Place.{Place}
+use Rattle.gallery.specs.Inks.{InkedText, ink_number}
+
+-- ---- glyphs
+
+-- each run is a text
+abbrev pub AreTexts : List InkedText → Type 0
+AreTexts [] = Unit {0}
+AreTexts (run ∷ runs) = IsUtf8 run.1 × AreTexts runs
+
+-- the characters of a run, each in the run's ink
+abbrev pub glyphs_of_run : InkedText → List Glyph
+glyphs_of_run run = map (λ c. record { character = c; ink = run.0 }) (chars run.1)
+
+-- the characters of runs
+abbrev pub glyphs_of : List InkedText → List Glyph
+glyphs_of runs = flat_map glyphs_of_run runs
+
+-- the cells that a glyph takes: what `unicode_width` gives its character, or none
+abbrev pub cells_of : Glyph → ℕ
+cells_of glyph = unwrap_or (char_width false glyph.character) 0
+
+-- a row ends here
+abbrev pub is_newline : Glyph → Bool
+is_newline glyph = glyph.character == 10
+
+-- ---- places
+
+-- where a picture starts
+abbrev pub start : Place
+start = record { row = 0; column = 0 }
+
+-- the place after a glyph: the start of the next row after a newline, else as many cells on as it takes
+abbrev pub after_glyph : Place → Glyph → Place
+after_glyph place glyph =
+    if is_newline glyph then record { row = place.row + 1; column = 0 } else record { row = place.row; column = place.column + cells_of glyph }
+
+-- the row where glyphs end, and the cells of the widest row, from a place on
+abbrev pub extent_from : Place → List Glyph → Place
+extent_from place [] = place
+extent_from place (glyph ∷ glyphs) =
+    let rest = extent_from (after_glyph place glyph) glyphs in
+    record { row = rest.row; column = max place.column rest.column }
+
+-- ---- glyphs that stand in one text
+
+-- the glyph takes one cell or none, and ends no row
+abbrev pub is_narrow : Glyph → Bool
+is_narrow glyph = not (is_newline glyph) && nat_le (cells_of glyph) 1
+
+-- the glyph stands in one text with the one before it: both are narrow, in one ink
+abbrev pub joins : Glyph → Glyph → Bool
+joins before glyph = is_narrow before && is_narrow glyph && ink_number before.ink == ink_number glyph.ink
+
+-- the glyph stands in one text with the one before it, if there is one
+abbrev pub follows : Option Glyph → Glyph → Bool
+follows None glyph = false
+follows (Some before) glyph = joins before glyph
+
+-- the first of the glyphs after it stands in one text with the glyph
+abbrev pub goes_on : Glyph → List Glyph → Bool
+goes_on glyph [] = false
+goes_on glyph (next ∷ glyphs) = joins glyph next
+
+-- the cells of the glyphs that follow this one in its text
+abbrev pub joined_cells : Glyph → List Glyph → ℕ
+joined_cells before [] = 0
+joined_cells before (glyph ∷ glyphs) = if joins before glyph then cells_of glyph + joined_cells glyph glyphs else 0

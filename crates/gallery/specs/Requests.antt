@@ -1,0 +1,63 @@
+-- What the arguments ask for, and what answers it.
+use Rattle.std.specs.Prelude.{◌≡◌, ℕ, List, [], ◌∷◌, codes, Option, Some, None, IsSomeAnd, Result, Ok, Err, string_bytes, if◌then◌else◌}
+use Rattle.std.specs.Str.{bytes_eq}
+use Rattle.std.specs.Str.Lines.{lines}
+use Rattle.gallery.specs.declared.case.Case.{Case}
+use Rattle.gallery.specs.declared.fault.Fault.{Fault}
+use Rattle.gallery.specs.declared.fault.Fault.TheVariants.{Line, OutOfMemory, Undrawn, UnknownCase, WrongArguments}
+use Rattle.gallery.specs.declared.request.Request.{Request}
+use Rattle.gallery.specs.declared.request.Request.TheVariants as requests
+use Rattle.gallery.specs.Cases.{IsFirstMistake, TakesLines}
+use Rattle.gallery.specs.Galleries.{IsGallery}
+use Rattle.gallery.specs.Svg.{IsSvg}
+
+-- what is asked for: all pictures, or the document of the case of a name
+pub data Asked : Type 0 where
+  All : Asked
+  Svg : List ℕ → Asked
+
+-- what arguments ask for: without any all pictures, and by `svg NAME` the document of that case; nothing by any others
+abbrev pub asked_of : List (List ℕ) → Option Asked
+asked_of [] = Some All
+asked_of (word ∷ []) = None
+asked_of (word ∷ name ∷ []) = if bytes_eq word (codes "svg") then Some (Svg name) else None
+asked_of (word ∷ name ∷ more ∷ rest) = None
+
+-- the first case of a name
+abbrev pub case_named : List ℕ → List Case → Option Case
+case_named name [] = None
+case_named name (case ∷ cases) = if bytes_eq case.name.now name then Some case else case_named name cases
+
+-- the same of a request
+abbrev pub request_view : Request → Asked
+request_view requests.All = All
+request_view (requests.Svg name) = Svg name.now
+
+-- the bytes are what is asked for of cases
+abbrev pub AnswersOf : Asked → List Case → List ℕ → Type 0
+AnswersOf All cases bytes = IsGallery cases bytes
+AnswersOf (Svg name) cases bytes = IsSomeAnd (case_named name cases) (λ case. IsSvg case bytes)
+
+-- the bytes are what is asked for of an input
+abbrev pub Answers : Asked → List ℕ → List ℕ → Type 0
+Answers asked input bytes = (cases : List Case) × TakesLines (lines input) [] cases × AnswersOf asked cases bytes
+
+-- why what is asked for of cases is refused: no case has the name, the drawing refused, or memory was refused
+abbrev pub RefusesOf : Asked → List Case → Fault → Type 0
+RefusesOf asked cases (UnknownCase name) = (asked ≡ Svg (string_bytes name)) × (case_named (string_bytes name) cases ≡ None)
+RefusesOf asked cases (Undrawn error) = Unit {0}
+RefusesOf asked cases OutOfMemory = Unit {0}
+RefusesOf asked cases _ = ⊥
+
+-- what a fault tells of the input: its first mistake, or that no case has the name that is asked for
+abbrev pub FaultTells : Option Asked → Fault → List ℕ → Type 0
+FaultTells asked (Line number mistake) input = IsFirstMistake (lines input) (Line number mistake)
+FaultTells asked (UnknownCase name) input =
+    (asked ≡ Some (Svg (string_bytes name))) × ((cases : List Case) × TakesLines (lines input) [] cases × (case_named (string_bytes name) cases ≡ None))
+FaultTells asked _ input = Unit {0}
+
+-- the status of an outcome
+abbrev pub IsStatusOf : Result (Unit {0}) Fault → ℕ → Type 0
+IsStatusOf (Ok done) status = status ≡ 0
+IsStatusOf (Err WrongArguments) status = status ≡ 2
+IsStatusOf (Err _) status = status ≡ 1

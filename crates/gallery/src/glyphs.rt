@@ -1,0 +1,118 @@
+//! The characters of a picture, each in its ink, and the cells that they take.
+
+ghost use Rattle.std.specs.Prelude.{◌≡◌, ◌≤◌, IfOk, length, map};
+ghost use Rattle.std.specs.Str.{IsUtf8};
+ghost use Rattle.gallery.specs.Glyphs.{AreTexts, cells_of, follows, glyphs_of, glyphs_of_run, goes_on, is_narrow, is_newline, joined_cells, joins};
+ghost use Rattle.gallery.specs.Inks.{run_view};
+
+use crate::inks::{Ink, Run};
+use codespan_reporting::files::Error;
+use std::alloc::Global;
+use std::str;
+use unicode_width::UnicodeWidthChar;
+
+/// A character in its ink.
+#[derive(Clone, Copy, Debug, PartialEq, Eq)]
+pub struct Glyph {
+    /// The character.
+    pub character: char,
+    /// What it is drawn in.
+    pub ink: Ink,
+}
+
+impl Glyph {
+    /// The cells that it takes: what `unicode_width` gives its character, or none.
+    pub fn cells(self) -> usize
+        ensures value { result ≡ cells_of self }
+        ensures bound { result ≤ 3 }
+    {
+        self.character.width().unwrap_or(0)
+    }
+
+    /// Whether a row ends with it.
+    pub fn ends_row(self) -> bool
+        ensures { result ≡ is_newline self }
+    {
+        self.character == '\n'
+    }
+
+    /// Whether it takes one cell or none, and ends no row.
+    fn is_narrow(self) -> bool
+        ensures { result ≡ is_narrow self }
+    {
+        !self.ends_row() && self.cells() <= 1
+    }
+
+    /// Whether the glyph after it stands in one text with it: both are narrow, in one ink.
+    fn joins(self, next: Glyph) -> bool
+        ensures { result ≡ joins self next }
+    {
+        self.is_narrow() && next.is_narrow() && self.ink == next.ink
+    }
+}
+
+/// Whether a glyph stands in one text with the one before it.
+pub fn follows(before: Option<Glyph>, glyph: Glyph) -> bool
+    ensures { result ≡ follows before glyph }
+{
+    match before {
+        Some(before) => before.joins(glyph),
+        None => false,
+    }
+}
+
+/// Whether the first of the glyphs after it stands in one text with a glyph.
+pub fn goes_on(glyph: Glyph, others: &[Glyph]) -> bool
+    ensures { result ≡ goes_on glyph others.now }
+{
+    match others {
+        [next, ..] => glyph.joins(*next),
+        [] => false,
+    }
+}
+
+/// The cells of the glyphs that stand in one text with the glyph before them.
+pub fn joined_cells(before: Glyph, others: &[Glyph]) -> u128
+    ensures value { result ≡ joined_cells before others.now }
+    ensures bound { result ≤ length others.now }
+{
+    let mut cells = 0;
+    let mut last = before;
+    for glyph in others {
+        if !last.joins(*glyph) {
+            return cells;
+        }
+        cells += glyph.cells() as u128;
+        last = *glyph;
+    }
+    cells
+}
+
+/// The characters of runs of text. Refuses with `FormatError` a text that is not UTF-8.
+pub fn glyphs(alloc: Global, runs: &[Run]) -> Result<Vec<Glyph>, Error>
+    ensures texts { IfOk result (λ glyphs. AreTexts (map run_view runs.now)) }
+    ensures glyphs { IfOk result (λ glyphs. glyphs.items ≡ glyphs_of (map run_view runs.now)) }
+{
+    let mut glyphs = Vec::new(alloc);
+    for run in runs {
+        let more = glyphs_in(alloc, run)?;
+        glyphs.extend_from_slice(more.as_slice())?;
+    }
+    Ok(glyphs)
+}
+
+/// The characters of a run of text.
+fn glyphs_in(alloc: Global, run: &Run) -> Result<Vec<Glyph>, Error>
+    ensures text { IfOk result (λ glyphs. IsUtf8 run.now.text.items) }
+    ensures glyphs { IfOk result (λ glyphs. glyphs.items ≡ glyphs_of_run (run_view run.now)) }
+{
+    let Ok(text) = str::from_utf8(run.text.as_slice()) else {
+        return Err(Error::FormatError);
+    };
+    let ink = run.ink;
+    Ok(
+        text.chars()
+            .map(|character| Glyph { character, ink })
+            .collect(alloc)?,
+    )
+}

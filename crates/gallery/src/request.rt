@@ -1,0 +1,28 @@
+//! What the arguments ask for.
+
+ghost use Rattle.std.specs.Prelude.{◌≡◌, map, string_bytes};
+ghost use Rattle.std.specs.Option.{option_map};
+
+/// What a run is asked for.
+#[derive(Clone, Copy, Debug)]
+pub enum Request<'args> {
+    /// All pictures.
+    All,
+    /// `svg NAME`: the SVG document of the case of this name.
+    Svg(&'args str),
+}
+
+impl<'args> Request<'args> {
+    ghost use Rattle.gallery.specs.Requests.{asked_of, request_view};
+
+    /// What arguments ask for; `None` where their number or their first word is another.
+    pub fn from_arguments(args: &'args [String]) -> Option<Request<'args>>
+        ensures { option_map request_view result ≡ asked_of (map string_bytes args.now) }
+    {
+        match args {
+            [] => Some(Request::All),
+            [word, name] if word.as_str() == "svg" => Some(Request::Svg(name.as_str())),
+            _ => None,
+        }
+    }
+}

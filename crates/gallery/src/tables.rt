@@ -1,0 +1,115 @@
+//! The files of a case, in the table that it asks for.
+
+ghost use Rattle.std.specs.Prelude.{◌≡◌, ◌∷◌, [], map, IfOk};
+ghost use Rattle.codespan_base.specs.Diagnostics.{diagnostic_view, label_view};
+ghost use Rattle.codespan_base.specs.FileTables.{entries, mapped_name_of, mapped_source_of, settings_of};
+ghost use Rattle.gallery.specs.Cases.{file_view};
+ghost use Rattle.gallery.specs.Pictures.{alone, label_alone, lent_view, with_numbers};
+ghost use Rattle.gallery.specs.Tables.{AreTables};
+
+use crate::case::{Case, File, Table};
+use codespan_reporting::diagnostic::{Diagnostic, Label};
+use codespan_reporting::files::{Error, MappedFile, SimpleFile, SimpleFiles};
+use std::alloc::Global;
+
+/// The files of a case, in the table that it asks for; where a file stands alone, with what the case says by its id.
+#[derive(Drop)]
+pub enum Tables<'case> {
+    /// A file that stands alone.
+    One(SimpleFile<&'case str, &'case str>, Diagnostic<()>),
+    /// All files; the case says what it says by their ids.
+    Several(SimpleFiles<&'case str, &'case str>),
+    /// A file that stands alone and has the numbers that are set.
+    Mapped(MappedFile<&'case str, &'case str>, Diagnostic<()>),
+}
+
+/// The files of a case, in the table that it asks for.
+///
+/// Refuses with `FileMissing` besides where a table of one file has another number of files, or a label in another file.
+pub fn tables_of<'case>(alloc: Global, case: &'case Case<'_>) -> Result<Tables<'case>, Error>
+    ensures { IfOk result (AreTables case.now) }
+{
+    match case.table {
+        Table::One => {
+            let file = only_file(case.files.as_slice())?;
+            let files = SimpleFile::new(alloc, file.name.as_str(), file.source.as_str())?;
+            Ok(Tables::One(files, in_one_file(alloc, &case.said)?))
+        }
+        Table::Several => Ok(Tables::Several(several_files(alloc, case.files.as_slice())?)),
+        Table::Mapped => {
+            let file = only_file(case.files.as_slice())?;
+            let files = mapped_file(alloc, file, case.numbers.as_slice())?;
+            Ok(Tables::Mapped(files, in_one_file(alloc, &case.said)?))
+        }
+    }
+}
+
+/// The file, where there is one and no other.
+fn only_file(files: &[File]) -> Result<&File, Error>
+    ensures { IfOk result (λ file. files.now ≡ file.now ∷ []) }
+{
+    match files {
+        [file] => Ok(file),
+        _ => Err(Error::FileMissing),
+    }
+}
+
+/// A table of the files.
+fn several_files(alloc: Global, files: &[File]) -> Result<SimpleFiles<&str, &str>, Error>
+    ensures { IfOk result (λ table. map lent_view (entries table) ≡ map file_view files.now) }
+{
+    let mut table = SimpleFiles::new(alloc);
+    for file in files {
+        table.add(file.name.as_str(), file.source.as_str())?;
+    }
+    Ok(table)
+}
+
+/// The file, with the numbers that are set.
+fn mapped_file<'case>(
+    alloc: Global,
+    file: &'case File,
+    numbers: &[(usize, usize)],
+) -> Result<MappedFile<&'case str, &'case str>, Error>
+    ensures file { IfOk result (λ mapped. ((mapped_name_of mapped).now, (mapped_source_of mapped).now) ≡ file_view file.now) }
+    ensures numbers { IfOk result (λ mapped. settings_of mapped ≡ with_numbers [] numbers.now) }
+{
+    let mut mapped = MappedFile::new(alloc, file.name.as_str(), file.source.as_str())?;
+    for (line, number) in numbers {
+        mapped.set_line(*line, *number)?;
+    }
+    Ok(mapped)
+}
+
+/// The same diagnostic, by the id of a file that stands alone.
+fn in_one_file(alloc: Global, said: &Diagnostic<usize>) -> Result<Diagnostic<()>, Error>
+    ensures { IfOk result (λ alike. diagnostic_view alike ≡ alone (diagnostic_view said.now)) }
+{
+    let said = said.clone()?;
+    let mut labels = Vec::new(alloc);
+    for label in said.labels.as_slice() {
+        labels.push(in_this_file(label)?)?;
+    }
+    Ok(Diagnostic {
+        severity: said.severity,
+        code: said.code,
+        message: said.message,
+        labels,
+        notes: said.notes,
+    })
+}
+
+/// The same label, by the id of a file that stands alone.
+fn in_this_file(label: &Label<usize>) -> Result<Label<()>, Error>
+    ensures { IfOk result (λ alike. label_view alike ≡ label_alone (label_view label.now)) }
+{
+    if label.file_id != 0 {
+        return Err(Error::FileMissing);
+    }
+    Ok(Label {
+        style: label.style,
+        file_id: (),
+        range: label.range.start..label.range.end,
+        message: label.message.clone()?,
+    })
+}
