@@ -1,10 +1,11 @@
 -- Cases, as they are read line by line.
-use Rattle.std.specs.Prelude.{◌≡◌, ◌⊎◌, ℕ, ◌+◌, false, List, [], ◌∷◌, ◌++◌, map, take, Some, None, slice_get, string_bytes}
+use Rattle.std.specs.Prelude.{◌≡◌, ◌⊎◌, ℕ, ◌+◌, List, [], ◌∷◌, ◌++◌, map, take, Some, None, slice_get, string_bytes}
 use Rattle.codespan_base.specs.declared.diagnostic.Severity.TheVariants as severities
 use Rattle.codespan_base.specs.Defaults.{default_config}
 use Rattle.codespan_base.specs.Diagnostics.{diagnostic_view}
 use Rattle.codespan_base.specs.Lookalikes.{IsChars, IsConfig}
 use Rattle.gallery.specs.declared.case.Case.{Case}
+use Rattle.gallery.specs.declared.case.Colours.TheVariants.{Plain}
 use Rattle.gallery.specs.declared.case.File.{File}
 use Rattle.gallery.specs.declared.case.Table.TheVariants.{Several}
 use Rattle.gallery.specs.declared.fault.Fault as faults
@@ -32,7 +33,7 @@ pub record IsNew (name : List ℕ) (case : Case) : Type 0 where
   pub files : case.files.items ≡ []
   pub numbers : case.numbers.items ≡ []
   pub config : IsConfig default_config case.config
-  pub in_colours : case.in_colours ≡ false
+  pub colours : case.colours ≡ Plain
   pub said : diagnostic_view case.said ≡ record { severity = severities.Error; code = None; message = []; labels = []; notes = [] }
 
 -- the text goes on with the source of the last file
@@ -61,7 +62,7 @@ Takes (says.Context context) old new = new ≡ record old {
   };
 }
 Takes (says.Characters set) old new = (new ≡ record old { config = record old.config { chars = new.config.chars } }) × IsChars (chars_of set) new.config.chars
-Takes (says.Colours in_colours) old new = new ≡ record old { in_colours = in_colours }
+Takes (says.Colours colours) old new = new ≡ record old { colours = colours }
 Takes (says.Severity severity) old new = new ≡ record old { said = record old.said { severity = severity } }
 Takes (says.Code code) old new = new ≡ record old { said = record old.said { code = Some code } }
 Takes (says.Message message) old new = new ≡ record old { said = record old.said { message = message } }

@@ -1,10 +1,12 @@
 -- All pictures, each under the name of its case.
-use Rattle.std.specs.Prelude.{◌≡◌, ℕ, ◌==◌, List, [], ◌∷◌, ◌++◌, codes, false, Result, Ok, Err, IfSome, OnOk, if◌then◌else◌}
+use Rattle.std.specs.Prelude.{◌≡◌, ℕ, ◌==◌, List, [], ◌∷◌, ◌++◌, codes, Result, Ok, Err, IfSome, OnOk, if◌then◌else◌}
 use Rattle.std.specs.List.{flat_map}
 use Rattle.codespan_base.specs.declared.files.error.Error.{Error}
 use Rattle.codespan_base.specs.ErrorText.{error_text}
 use Rattle.gallery.specs.declared.case.Case.{Case}
+use Rattle.gallery.specs.declared.case.Colours.TheVariants.{Plain, Svg}
 use Rattle.gallery.specs.Pictures.{IsPicture}
+use Rattle.gallery.specs.Svg.{IsSvg}
 
 -- the line that a picture stands under
 abbrev pub title : List ℕ → List ℕ
@@ -29,14 +31,15 @@ TellsRefusal (Ok done) told = told ≡ []
 TellsRefusal (Err error) told = IfSome (error_text error) (λ text. told ≡ codes "refused: " ++ text ++ 10 ∷ [])
 
 -- what stands under a title: what was drawn, as it is shown, and after it, where it was refused, a line that tells so; in plain text what was
--- drawn is the picture of the case
+-- drawn is the picture of the case, and as SVG the document that shows it
 pub record IsPictured (case : Case) (text : List ℕ) : Type 0 where
   pub drawn : Result (Unit {0}) Error
   pub picture : List ℕ
   pub told : List ℕ
   pub is : text ≡ shown picture ++ told
   pub refusal : TellsRefusal drawn told
-  pub plain : case.in_colours ≡ false → OnOk drawn (IsPicture case picture)
+  pub plain : case.colours ≡ Plain → OnOk drawn (IsPicture case picture)
+  pub document : case.colours ≡ Svg → OnOk drawn (IsSvg case picture)
 
 -- the text has the cases in their order, each as its title and its picture
 abbrev pub IsGallery : List Case → List ℕ → Type 0

@@ -138,3 +138,7 @@ pub record IsSvg (case : Case) (document : List ℕ) : Type 0 where
   pub painted : IsPainted case runs
   pub texts : AreTexts runs
   pub is : document ≡ svg_document (glyphs_of runs)
+
+-- the document that shows the picture of a case is added
+abbrev pub AddsSvg : Case → List ℕ → List ℕ → Type 0
+AddsSvg case old new = (document : List ℕ) × (new ≡ old ++ document) × IsSvg case document

@@ -1,5 +1,5 @@
 -- The words of lines, and the names that may follow them.
-use Rattle.std.specs.Prelude.{ℕ, Bool, true, false, List, Option, Some, None, codes, if◌then◌else◌}
+use Rattle.std.specs.Prelude.{ℕ, List, Option, Some, None, codes, if◌then◌else◌}
 use Rattle.std.specs.Str.{bytes_eq}
 use Rattle.codespan_base.specs.declared.diagnostic.Severity as severities
 use Rattle.codespan_base.specs.declared.diagnostic.Severity.TheVariants as severity
@@ -11,6 +11,8 @@ use Rattle.codespan_base.specs.declared.term.config.chars.Chars.{Chars}
 use Rattle.codespan_base.specs.Characters.{box_drawing, ascii}
 use Rattle.gallery.specs.declared.case.Table as tables
 use Rattle.gallery.specs.declared.case.Table.TheVariants.{One, Several, Mapped}
+use Rattle.gallery.specs.declared.case.Colours as colours
+use Rattle.gallery.specs.declared.case.Colours.TheVariants.{Plain, Ansi, Svg}
 use Rattle.gallery.specs.declared.case.CharacterSet.{CharacterSet}
 use Rattle.gallery.specs.declared.case.CharacterSet.TheVariants as sets
 use Rattle.gallery.specs.declared.words.Word.{Word}
@@ -67,11 +69,12 @@ characters_named text =
     else if bytes_eq text (codes "ascii") then Some sets.Ascii
     else None
 
--- whether the colours that are called so are colours
-unfoldable pub colours_named : List ℕ → Option Bool
+-- the way to show colours that is called so
+unfoldable pub colours_named : List ℕ → Option colours.Colours
 colours_named text =
-    if bytes_eq text (codes "none") then Some false
-    else if bytes_eq text (codes "ansi") then Some true
+    if bytes_eq text (codes "none") then Some Plain
+    else if bytes_eq text (codes "ansi") then Some Ansi
+    else if bytes_eq text (codes "svg") then Some Svg
     else None
 
 -- the severity that is called so

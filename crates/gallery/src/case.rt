@@ -44,6 +44,17 @@ impl CharacterSet {
     }
 }
 
+/// How a picture shows its colours.
+#[derive(Clone, Copy, Debug, PartialEq, Eq)]
+pub enum Colours {
+    /// Not at all.
+    Plain,
+    /// By escape sequences.
+    Ansi,
+    /// As an SVG document.
+    Svg,
+}
+
 /// A file of a case.
 #[derive(Debug, Drop)]
 pub struct File {
@@ -66,8 +77,8 @@ pub struct Case<'input> {
     pub numbers: Vec<(usize, usize)>,
     /// What the picture looks like.
     pub config: Config<'input>,
-    /// Whether it is drawn in colours.
-    pub in_colours: bool,
+    /// How it shows its colours.
+    pub colours: Colours,
     /// What it says.
     pub said: Diagnostic<usize>,
 }
@@ -83,7 +94,7 @@ impl<'input> Case<'input> {
             files: Vec::new(alloc),
             numbers: Vec::new(alloc),
             config: Config::default(),
-            in_colours: false,
+            colours: Colours::Plain,
             said: Diagnostic::error(alloc),
         }
     }
@@ -105,7 +116,7 @@ impl<'input> Case<'input> {
             Statement::Tab(width) => self.config.tab_width = width,
             Statement::Context(context) => self.set_context(context),
             Statement::Characters(set) => self.config.chars = set.chars(),
-            Statement::Colours(in_colours) => self.in_colours = in_colours,
+            Statement::Colours(colours) => self.colours = colours,
             Statement::Severity(severity) => self.said.severity = severity,
             Statement::Code(code) => self.said.code = Some(code),
             Statement::Message(message) => self.said.message = message,

@@ -1,12 +1,13 @@
 //! The picture of a case, by the calls that users have.
 
-ghost use Rattle.std.specs.Prelude.{◌≡◌, IfOk, OnOk, false, map};
+ghost use Rattle.std.specs.Prelude.{◌≡◌, IfOk, OnOk, map};
+ghost use Rattle.gallery.specs.declared.case.Colours.TheVariants.{Plain};
 ghost use Rattle.codespan_reporting.specs.Headline.{IsAppended, NamesAreStated};
 ghost use Rattle.gallery.specs.Inks.{run_view};
 ghost use Rattle.gallery.specs.Pictures.{AddsPicture};
 ghost use Rattle.gallery.specs.Svg.{IsPainted, IsPaintedOver};
 
-use crate::case::Case;
+use crate::case::{Case, Colours};
 use crate::inks::{Inks, Run};
 use crate::tables::{Tables, tables_of};
 use codespan_reporting::diagnostic::Diagnostic;
@@ -14,11 +15,11 @@ use codespan_reporting::files::{Error, Files};
 use codespan_reporting::term::{Ansi, Styles, StylesWriter, emit_into_string, emit_to_write_style};
 use std::alloc::Global;
 
-/// Draws a case over its files, in colours or none.
+/// Draws a case over its files as text: plain, or in colours by escape sequences.
 ///
 /// Refuses with `FileMissing` besides where a table of one file has another number of files, or a label in another file.
 pub fn draw(alloc: Global, case: &Case<'_>, picture: &mut Vec<u8>) -> Result<(), Error>
-    ensures { case.now.in_colours ≡ false → OnOk result (AddsPicture case.now picture.old.items picture.new.items) }
+    ensures { case.now.colours ≡ Plain → OnOk result (AddsPicture case.now picture.old.items picture.new.items) }
 {
     let tables = tables_of(alloc, case)?;
     match &tables {
@@ -28,24 +29,24 @@ pub fn draw(alloc: Global, case: &Case<'_>, picture: &mut Vec<u8>) -> Result<(),
     }
 }
 
-/// Draws a case over its files, in colours or none.
+/// Draws a case over its files as text: plain, or in colours by escape sequences.
 fn draw_over<'files, F: Files<'files>>(
     case: &Case<'_>,
     files: &'files F,
     said: &Diagnostic<F::FileId>,
     picture: &mut Vec<u8>,
 ) -> Result<(), Error>
-    ensures { case.now.in_colours ≡ false
+    ensures { case.now.colours ≡ Plain
         → OnOk result (IsAppended case.now.config F.FileId.eq (F.file files.now) (F.refusal files.now) said.now picture.old.items picture.new.items) }
 {
-    if case.in_colours {
-        let styles = Styles::default();
-        let mut writer = StylesWriter::new(Ansi::new(picture), &styles);
-        emit_to_write_style(&mut writer, &case.config, files, said)
-    } else {
+    if case.colours == Colours::Plain {
         let text = emit_into_string(&case.config, files, said)?;
         picture.extend_from_slice(text.as_bytes())?;
         Ok(())
+    } else {
+        let styles = Styles::default();
+        let mut writer = StylesWriter::new(Ansi::new(picture), &styles);
+        emit_to_write_style(&mut writer, &case.config, files, said)
     }
 }
 

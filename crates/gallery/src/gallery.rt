@@ -1,10 +1,14 @@
 //! All pictures, each under the name of its case.
 
 ghost use Rattle.std.specs.Prelude.{◌≡◌, ℕ, List, ◌++◌, IfOk, OnOk};
+ghost use Rattle.gallery.specs.declared.case.Colours.TheVariants.{Plain, Svg};
+ghost use Rattle.gallery.specs.Pictures.{AddsPicture};
+ghost use Rattle.gallery.specs.Svg.{AddsSvg};
 ghost use Rattle.gallery.specs.Galleries.{title, shown, IsPictured, IsGallery, TellsRefusal};
 
-use crate::case::Case;
+use crate::case::{Case, Colours};
 use crate::drawing::draw;
+use crate::svg::svg;
 use codespan_reporting::files::Error;
 use std::alloc::{AllocError, Global};
 
@@ -35,9 +39,26 @@ fn add_picture(alloc: Global, gallery: &mut Vec<u8>, case: &Case<'_>) -> Result<
     ensures { OnOk result ((pictured : List ℕ) × (gallery.new.items ≡ gallery.old.items ++ pictured) × IsPictured case.now pictured) }
 {
     let mut picture = Vec::new(alloc);
-    let drawn = draw(alloc, case, &mut picture);
+    let drawn = draw_as_asked(alloc, case, &mut picture);
     add_shown(gallery, picture.as_slice())?;
     add_refusal(alloc, gallery, drawn)
+}
+
+/// Draws a case as it asks: as text, or as an SVG document.
+///
+/// Refuses as [`draw`] does.
+fn draw_as_asked(alloc: Global, case: &Case<'_>, picture: &mut Vec<u8>) -> Result<(), Error>
+    ensures plain { case.now.colours ≡ Plain → OnOk result (AddsPicture case.now picture.old.items picture.new.items) }
+    ensures document { case.now.colours ≡ Svg → OnOk result (AddsSvg case.now picture.old.items picture.new.items) }
+{
+    match case.colours {
+        Colours::Plain | Colours::Ansi => draw(alloc, case, picture),
+        Colours::Svg => {
+            let document = svg(alloc, case)?;
+            picture.extend_from_slice(document.as_bytes())?;
+            Ok(())
+        }
+    }
 }
 
 /// Adds a line with the refusal of a picture, if it was refused.

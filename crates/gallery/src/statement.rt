@@ -8,7 +8,7 @@ ghost use Rattle.gallery.specs.Words.{word_named};
 ghost use Rattle.gallery.specs.declared.fault.Mistake.TheVariants.{UnknownName};
 ghost use Rattle.gallery.specs.declared.words.Word.TheVariants as words;
 
-use crate::case::{CharacterSet, Table};
+use crate::case::{CharacterSet, Colours, Table};
 use crate::escape::unescape;
 use crate::fault::Mistake;
 use crate::fields::{cut, cut_number, is_silent, parse_number};
@@ -52,8 +52,8 @@ pub enum Statement {
     Context(Context),
     /// `characters NAME`: what the picture is drawn with.
     Characters(CharacterSet),
-    /// `colours NAME`: whether it is drawn in colours.
-    Colours(bool),
+    /// `colours NAME`: how it shows its colours.
+    Colours(Colours),
     /// `severity NAME`: how bad it is.
     Severity(Severity),
     /// `code TEXT`: the code.

@@ -3,7 +3,7 @@
 ghost use Rattle.std.specs.Prelude.{◌≡◌};
 ghost use Rattle.gallery.specs.Words.{word_named, table_named, style_named, layout_named, characters_named, colours_named, severity_named};
 
-use crate::case::{CharacterSet, Table};
+use crate::case::{CharacterSet, Colours, Table};
 use codespan_reporting::diagnostic::Severity;
 use codespan_reporting::term::{DisplayStyle, Layout};
 
@@ -28,7 +28,7 @@ pub enum Word {
     Context,
     /// What a picture is drawn with.
     Characters,
-    /// Whether it is drawn in colours.
+    /// How it shows its colours.
     Colours,
     /// How bad it is.
     Severity,
@@ -120,14 +120,15 @@ pub fn parse_characters(text: &str) -> Option<CharacterSet>
     }
 }
 
-/// Whether the colours that are called so are colours; `None` for any other text.
+/// The way to show colours that is called so; `None` for any other text.
 #[tactic(auto, unfolding(crate::specs::Words::colours_named))]
-pub fn parse_colours(text: &str) -> Option<bool>
+pub fn parse_colours(text: &str) -> Option<Colours>
     ensures { result ≡ colours_named text.now }
 {
     match text {
-        "none" => Some(false),
-        "ansi" => Some(true),
+        "none" => Some(Colours::Plain),
+        "ansi" => Some(Colours::Ansi),
+        "svg" => Some(Colours::Svg),
         _ => None,
     }
 }
