@@ -1,0 +1,107 @@
+"""The cases of the gallery, and what the comparison program says of them."""
+import re
+import subprocess
+
+LETTERS = {'n': '\n', 'r': '\r', 't': '\t', '0': '\0', '\\': '\\'}
+THEIRS = {**LETTERS, 's': ' ', 'e': ''}
+CONTEXT = ('start', 'end', 'before', 'after')
+
+
+def unescaped(text, letters=LETTERS):
+    """The text that an escaped one stands for."""
+    def said(match):
+        escape = match.group(1)
+        return chr(int(escape[2:-1], 16)) if escape.startswith('u{') else letters[escape]
+    return re.sub(r'\\(u\{[0-9a-fA-F]+\}|[^u]|$)', said, text)
+
+
+def field(text):
+    """A text as a field of the comparison program."""
+    spelled = ''.join(c if '!' <= c <= '~' and c != '\\' else '\\u{%x}' % ord(c) for c in text)
+    return spelled or '\\e'
+
+
+class Case:
+    """A case as it is read."""
+
+    def __init__(self, name):
+        self.name, self.table, self.files, self.numbers = name, 'several', [], []
+        self.looks = {'style': 'rich', 'layout': 'classic', 'colours': 'none'}
+        self.config = {'tab': 4, 'chars': 'box', 'start': 3, 'end': 1, 'before': 0, 'after': 0}
+        self.severity, self.code, self.message, self.labels, self.notes = 'error', None, '', [], []
+
+    def take(self, word, rest):
+        """Takes in a line."""
+        if word == 'table':
+            self.table = rest
+        elif word == 'file':
+            self.files.append([unescaped(rest), ''])
+        elif word == '|':
+            self.files[-1][1] += unescaped(rest)
+        elif word == 'number':
+            self.numbers.append([int(number) for number in rest.split(' ')])
+        elif word in self.looks:
+            self.looks[word] = rest
+        elif word == 'tab':
+            self.config['tab'] = int(rest)
+        elif word == 'context':
+            self.config.update(zip(CONTEXT, map(int, rest.split(' '))))
+        elif word == 'characters':
+            self.config['chars'] = rest
+        elif word == 'severity':
+            self.severity = rest
+        elif word == 'code':
+            self.code = unescaped(rest)
+        elif word == 'message':
+            self.message = unescaped(rest)
+        elif word in ('primary', 'secondary'):
+            at, start, end, text = (rest + ' ').split(' ', 3)
+            self.labels.append((word, int(at), int(start), int(end), unescaped(text[:-1])))
+        elif word == 'note':
+            self.notes.append(unescaped(rest))
+        else:
+            raise ValueError(word)
+
+    def rows(self):
+        """The case as the comparison program reads it."""
+        if self.table != 'several':
+            assert len(self.files) == 1 and all(label[1] == 0 for label in self.labels), self.name
+        config = ' '.join('%s=%s' % setting for setting in self.config.items())
+        yield from ('case ' + self.name, 'style ' + self.looks['style'], 'layout ' + self.looks['layout'])
+        yield from ('config ' + config, 'color ' + ('none' if self.looks['colours'] == 'none' else 'ansi'))
+        for name, source in self.files:
+            yield 'file %s %s' % (field(name), field(source))
+        if self.table == 'mapped':
+            yield 'mapped 0'
+            yield from ('number 0 %d %d' % tuple(number) for number in self.numbers)
+        yield 'severity ' + self.severity
+        if self.code is not None:
+            yield 'code ' + field(self.code)
+        yield 'message ' + field(self.message)
+        for style, at, start, end, text in self.labels:
+            yield 'label %s %d %d %d %s' % (style, at, start, end, field(text))
+        yield from ('note ' + field(note) for note in self.notes)
+        yield 'end'
+
+
+def read_cases(text):
+    """The cases of an input."""
+    cases = []
+    for line in text.split('\n'):
+        line = line[:-1] if line.endswith('\r') else line
+        if line and not line.startswith('#'):
+            word, _, rest = line.partition(' ')
+            cases.append(Case(rest)) if word == 'case' else cases[-1].take(word, rest)
+    return cases
+
+
+def outcomes(oracle, cases):
+    """What the comparison program says of each case: `ok` and the picture, or `err`, the error and what was drawn before it."""
+    rows = ''.join(row + '\n' for case in cases for row in case.rows())
+    answer = subprocess.run([oracle, '--impl', 'ported'], input=rows.encode(), stdout=subprocess.PIPE, check=True).stdout.decode()
+    said = answer.splitlines()
+    assert said[::2] == ['case ' + case.name for case in cases]
+    for case, outcome in zip(cases, said[1::2]):
+        kind, *texts = outcome.split(' ')
+        assert kind in ('ok', 'err'), (case.name, outcome)
+        yield kind, [unescaped(text, THEIRS) for text in texts]

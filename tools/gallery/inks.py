@@ -1,0 +1,90 @@
+"""Pictures in colours: read from escape sequences, written as SVG documents, and read back from these."""
+import re
+import unicodedata
+import xml.etree.ElementTree
+
+SHOWN = {'\x1b': '\\e', '\0': '\\0', '\r': '\\r', '\t': '\\t'}
+ENTITIES = {'&': '&amp;', '<': '&lt;', '>': '&gt;'}
+SHADES = ('#6e7681', '#ff7b72', '#7ee787', '#e3b341', '#79c0ff', '#d2a8ff', '#56d4dd', '#b1bac4')
+PLAIN = (None, False)
+FONT = 'font-family="DejaVu Sans Mono, Menlo, Consolas, monospace" font-size="15" fill="#e6edf3" xml:space="preserve"'
+
+
+def glyphs(text):
+    """The characters of a text with escape sequences, each with its ink: the shade of its colour, if it has one, and whether it is bold."""
+    ink = PLAIN
+    for part in re.split('(\x1b\\[[0-9;]*m)', text):
+        sequence = re.fullmatch('\x1b\\[(?:(0)|(1)|3([0-7])|38;5;([0-9]+))m', part)
+        if not sequence:
+            yield from ((c, ink) for c in part)
+            continue
+        reset, bold, colour, bright = sequence.groups()
+        shade = SHADES[int(colour)] if colour else SHADES[int(bright) - 8] if bright else ink[0]
+        ink = PLAIN if reset else (shade, ink[1] or bool(bold))
+
+
+def cells(c):
+    """The cells that a character takes."""
+    if unicodedata.category(c) in ('Cc', 'Mn', 'Me', 'Cf'):
+        return 0
+    return 2 if unicodedata.east_asian_width(c) in 'WF' else 1
+
+
+def placed(characters):
+    """Glyphs with the row and the column where each stands; newlines are left out."""
+    row = column = 0
+    for c, ink in characters:
+        if c == '\n':
+            row, column = row + 1, 0
+        else:
+            yield row, column, c, ink
+            column += cells(c)
+
+
+def texts(characters):
+    """The glyphs that stand in one text each: those of a row that follow one another in one ink and take one cell or none; others stand alone."""
+    joined = []
+    for glyph in placed(characters):
+        if joined and not (joined[-1][0] == glyph[0] and joined[-1][3] == glyph[3] and cells(joined[-1][2]) < 2 and cells(glyph[2]) < 2):
+            yield joined
+            joined = []
+        joined.append(glyph)
+    if joined:
+        yield joined
+
+
+def held(c):
+    """A character as XML holds it."""
+    other = '\ufffd' if c < ' ' or c in '\ufffe\uffff' else c
+    return ENTITIES.get(c) or SHOWN.get(c) or other
+
+
+def element(joined):
+    """A text of a document."""
+    row, column, _, (shade, bold) = joined[0]
+    place = 'x="%d" y="%d" textLength="%d"' % (12 + 9 * column, 25 + 18 * row, 9 * sum(cells(glyph[2]) for glyph in joined))
+    ink = (' fill="%s"' % shade if shade else '') + (' font-weight="bold"' if bold else '')
+    return '<text %s%s>%s</text>' % (place, ink, ''.join(held(glyph[2]) for glyph in joined))
+
+
+def document(characters):
+    """The SVG document that shows glyphs."""
+    last = sum(c == '\n' for c, _ in characters)
+    rows = [''] * (last + 1)
+    for joined in texts(characters):
+        rows[joined[0][0]] += element(joined)
+    columns = max([column + cells(c) for _, column, c, _ in placed(characters)], default=0)
+    size = (24 + 9 * columns, 24 + 18 * last)
+    head = '<svg xmlns="http://www.w3.org/2000/svg" width="%d" height="%d" viewBox="0 0 %d %d" %s>\n' % (*size, *size, FONT)
+    return head + '<rect width="100%" height="100%" rx="6" fill="#161b22"/>\n' + '\n'.join(rows) + '</svg>\n'
+
+
+def shown(text):
+    """The glyphs of a document with their rows and columns, as a reader of XML finds them."""
+    for part in xml.etree.ElementTree.fromstring(text).iter('{http://www.w3.org/2000/svg}text'):
+        row, column = (int(part.get('y')) - 25) / 18, (int(part.get('x')) - 12) / 9
+        ink = (part.get('fill'), part.get('font-weight') == 'bold')
+        for c in part.text:
+            yield row, column, c, ink
+            column += cells(c)
+        assert column * 9 + 12 == int(part.get('x')) + int(part.get('textLength')), part.attrib
