@@ -92,7 +92,7 @@ impl Write for Inks {
 
     ghost contents = { λ inks. Some (told inks) };
 
-    /// Adds to the text of the last run.
+    /// Adds to the text of the last run. Refuses where there is none; [`Inks::new`] begins one.
     fn write(&mut self, buf: &[u8]) -> io::Result<usize> {
         let Some(run) = self.runs.last_mut() else {
             return Err(io::Error::from(ErrorKind::Other));
