@@ -35,6 +35,10 @@ repeat-add {A = A} (suc k) n xs =
     let e : suc k + n ≡ suc (k + n) = omega arith in
     ap (λ (m : ℕ). repeat m xs) e ∙ ap (λ (l : List A). xs ++ l) (repeat-add k n xs) ∙ sym (append_assoc xs (repeat k xs) (repeat n xs))
 
+-- one copy, and then the others that are left
+pub repeat-left : {A : Type 0} (i n : ℕ) (xs : List A) → i < n → repeat (n - i) xs ≡ xs ++ repeat (n - (i + 1)) xs
+repeat-left i n xs h = let e : n - i ≡ suc (n - (i + 1)) = omega arith in ap (λ (m : ℕ). repeat m xs) e
+
 -- no bytes
 bytes-nil : bytes [] ≡ []
 unfolding bytes
@@ -56,6 +60,11 @@ take-repeat k n bs h =
     let e : n ≡ k + (n - k) = omega arith in
     let f : repeat n bs ≡ repeat k bs ++ repeat (n - k) bs = ap (λ (m : ℕ). repeat m bs) e ∙ repeat-add k (n - k) bs in
     ap (take (k * length bs)) f ∙ ap (λ (m : ℕ). take m (repeat k bs ++ repeat (n - k) bs)) (sym (length-repeat k bs)) ∙ take-append_seam (repeat k bs) (repeat (n - k) bs)
+
+-- copies of a character's bytes are the character many times
+pub repeated-copies : (n c : ℕ) (bs : List ℕ) → bs ≡ encode_utf8 c → repeated n c ≡ repeat n (bytes bs)
+unfolding repeated glyph
+repeated-copies n c bs is = ap (λ (l : List ℕ). repeat n (bytes l)) (sym is)
 
 -- a run that begins with k copies holds the first k of them
 pub repeated-next : (k n c : ℕ) (g run : List ℕ) → g ≡ encode_utf8 c → k ≤ n → take (k * length g) run ≡ repeat k g → repeated n c ≡ bytes (take (k * length g) run) ++ repeated (n - k) c

@@ -1,19 +1,21 @@
 -- A walk over marks in order gives each lane its mark.
-use Rattle.std.proofs.Common.{◌≡◌, ℕ, suc, zero, ◌+◌, ◌-◌, ◌<◌, ◌≤◌, Bool, true, false, eqb, leb, ltb, ◌&&◌, List, [], ◌∷◌, ◌++◌, map, length, get_or, drop, None, Some, refl, sym, ap, ◌∙◌, arith, add-one, drop-cons}
+use Rattle.std.proofs.Common.{◌≡◌, ℕ, suc, zero, ◌+◌, ◌-◌, ◌<◌, ◌≤◌, Bool, true, false, cond, eqb, leb, ltb, ◌&&◌, List, [], ◌∷◌, ◌++◌, map, length, get_or, drop, None, Some, refl, sym, ap, ◌∙◌, arith, add-one, drop-cons, max}
 use Rattle.std.specs.Prelude.{IsTrue, flat_map}
 use Rattle.std.specs.List.{range_with_len}
 use Rattle.std.specs.Option.{option_map}
 use Rattle.std.proofs.lemmas.Bool.{ne_eqb, eq-eqb, eqb-true, le-leb, false≢true}
 use Rattle.std.proofs.lemmas.Bool.Decides.{nat_tests}
 use Rattle.std.proofs.lemmas.Grind.{common_steps}
-use Rattle.codespan_base.specs.Streams.{Stream}
+use Rattle.std.proofs.lemmas.List.{append_assoc}
+use Rattle.codespan_base.specs.Streams.{Stream, blanks, bytes}
 use Rattle.codespan_renderer.specs.declared.term.renderer.lanes.LaneRow.{LaneRow as GivenRow}
 use Rattle.codespan_picture.specs.Given.{GivenMark, mark_of_given, lanes_of, lanes_in_order}
 use Rattle.codespan_renderer.specs.Inner.GivenLine.{given_lane, given_lanes, row_of_given}
 use Rattle.codespan_renderer.specs.Inner.MarksLeft.{mark_here, marks_after}
-use Rattle.codespan_picture.specs.Lanes.{ascend_from, mark_in, row_shape, row_crossing}
+use Rattle.codespan_picture.specs.Lanes.{ascend_from, filling, lane_cells, mark_in, row_shape, row_crossing}
 use Rattle.codespan_picture.specs.Rows.{Look, Lanes}
 use Rattle.codespan_picture.specs.RowParts.{lane_of}
+use Rattle.codespan_renderer.proofs.RowWords.{blanks-add}
 
 -- ---- the first of the marks that are left
 
@@ -119,6 +121,54 @@ walk-next look leading row i n marks h = let e : n - i ≡ suc (n - (i + 1)) = o
 
 pub walk-end : (look : Look) (leading : ℕ) (row : GivenRow) (i n : ℕ) (marks : List GivenMark) → n ≤ i → walk look leading row i (n - i) marks ≡ []
 walk-end look leading row i n marks h = let e : n - i ≡ 0 = omega arith in rw e refl
+
+-- a lane without a mark, and without a line through it, is blank
+blank-lane : (look : Look) (leading : ℕ) (row : GivenRow) (lane : ℕ) → row_crossing (row_of_given row) lane ≡ None → given_lane look leading row lane None ≡ blanks 2
+unfolding given_lane lane_of lane_cells filling
+blank-lane look leading row lane clear = rw clear refl
+
+-- where no mark is taken all are left
+left-all : (marks : List GivenMark) (lane : ℕ) → mark_here marks lane ≡ None → marks_after marks lane ≡ marks
+left-all [] lane none = refl
+left-all (m ∷ ms) lane none = by (eqb m.0 lane) none
+  where
+    by : (b : Bool) → cond b (Some m) None ≡ None → cond b ms (m ∷ ms) ≡ m ∷ ms
+    by false h = refl
+    by true h = cc
+
+-- no blanks in front
+none-first : (s : Stream) → s ≡ blanks 0 ++ s
+unfolding blanks bytes
+none-first s = refl
+
+-- the walk goes past blank lanes
+pub walk-past : (look : Look) (leading : ℕ) (row : GivenRow) (marks : List GivenMark) (n lane rest : ℕ)
+    → ((k : ℕ) → lane ≤ k → k < lane + n → row_crossing (row_of_given row) k ≡ None) → ((k : ℕ) → lane ≤ k → k < lane + n → mark_here marks k ≡ None)
+    → walk look leading row lane (n + rest) marks ≡ blanks (n + n) ++ walk look leading row (lane + n) rest marks
+walk-past look leading row marks zero lane rest clear bare =
+    let a : 0 + rest ≡ rest = omega arith in
+    let b : lane + 0 ≡ lane = omega arith in
+    (λ i. walk look leading row (sym b i) (a i) marks) ∙ none-first (walk look leading row (lane + 0) rest marks)
+walk-past look leading row marks (suc n) lane rest clear bare =
+    let a : suc n + rest ≡ suc (n + rest) = omega arith in
+    let b : lane + 1 + n ≡ lane + suc n = omega arith in
+    let two : 2 + (n + n) ≡ suc n + suc n = omega arith in
+    let none : mark_here marks lane ≡ None = bare lane (omega arith) (omega arith) in
+    ap (λ k. walk look leading row lane k marks) a
+    ∙ (λ i. given_lane look leading row lane (none i) ++ walk look leading row (lane + 1) (n + rest) (left-all marks lane none i))
+    ∙ (λ i. blank-lane look leading row lane (clear lane (omega arith) (omega arith)) i
+    ++ walk-past look leading row marks n (lane + 1) rest (λ k low high. clear k (omega arith) (omega arith)) (λ k low high. bare k (omega arith) (omega arith)) i)
+    ∙ sym (append_assoc (blanks 2) (blanks (n + n)) (walk look leading row (lane + 1 + n) rest marks))
+    ∙ (λ i. (sym (blanks-add 2 (n + n)) ∙ ap blanks two) i ++ walk look leading row (b i) rest marks)
+
+-- the blank lanes up to that of the next mark are sent at once
+pub walk-blank : (look : Look) (leading : ℕ) (row : GivenRow) (marks : List GivenMark) (count lane until blank : ℕ) → lane < count → until ≤ count → lane + blank ≤ max lane until
+    → ((k : ℕ) → lane ≤ k → k < lane + blank → row_crossing (row_of_given row) k ≡ None) → ((k : ℕ) → k < until → mark_here marks k ≡ None)
+    → walk look leading row lane (count - lane) marks ≡ blanks (blank + blank) ++ walk look leading row (lane + blank) (count - (lane + blank)) marks
+walk-blank look leading row marks count lane until blank inside high within clear bare =
+    let e : count - lane ≡ blank + (count - (lane + blank)) = omega arith in
+    ap (λ n. walk look leading row lane n marks) e
+    ∙ walk-past look leading row marks blank lane (count - (lane + blank)) clear (λ k low below. bare k (omega arith))
 
 walk_is : (look : Look) (leading : ℕ) (row : GivenRow) (count : ℕ) (whole : Lanes) (lane n : ℕ) (marks : List GivenMark)
     → ((k : ℕ) → lane ≤ k → mark_in whole.marks k ≡ mark_in (map mark_of_given marks) k) → IsTrue (ascend_from count lane (map mark_of_given marks))

@@ -26,6 +26,11 @@ pub gutter_is : (n : ℕ) → gutter n ≡ blanks n ++ space
 unfolding gutter blanks
 gutter_is n = ap bytes (sym (replicate-append-replicate n 1 32)) ∙ bytes-append (replicate n 32) (replicate 1 32)
 
+-- these are one run
+pub gutter_blanks : (n : ℕ) → gutter n ≡ blanks (n + 1)
+unfolding gutter blanks
+gutter_blanks n = refl
+
 -- the lanes of each kind of row are those of that kind
 pub source_lanes_are : (look : Look) (leading : ℕ) (lanes : Lanes) → given_lanes look leading Source lanes ≡ source_lanes look leading lanes
 unfolding given_lanes source_lanes

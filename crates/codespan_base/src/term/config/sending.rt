@@ -15,6 +15,9 @@ const RUN: usize = 64;
 /// Blanks, to be written at once.
 static BLANKS: [u8; RUN] = [b' '; RUN];
 
+/// The copies of one character that are written without a run.
+const FEW: usize = 2;
+
 /// The digits of the greatest usize.
 const DIGITS: usize = 20;
 
@@ -34,6 +37,7 @@ pub fn send<W: WriteStyle>(w: &mut W, text: &[u8]) -> io::Result<()>
 }
 
 /// Writes one character in UTF-8. Refuses as [`send`] does.
+#[inline(always)]
 pub fn send_char<W: WriteStyle>(w: &mut W, c: char) -> io::Result<()>
     ensures { Sends (W.sink w.old) (glyph c) result (W.sink w.new) }
 {
@@ -60,6 +64,9 @@ pub fn send_repeated<W: WriteStyle>(w: &mut W, c: char, count: usize) -> io::Res
 {
     let mut buffer = [0u8; 4];
     let glyph = c.encode_utf8(&mut buffer).as_bytes();
+    if count <= FEW {
+        return send_copies(w, glyph, count);
+    }
     let copies = count.min(RUN / glyph.len());
     let mut run = [0u8; RUN];
     fill(&mut run, glyph, copies);
@@ -69,6 +76,16 @@ pub fn send_repeated<W: WriteStyle>(w: &mut W, c: char, count: usize) -> io::Res
         left -= copies;
     }
     send(w, &run[..left * glyph.len()])
+}
+
+/// Writes some bytes so many times, one copy after another.
+fn send_copies<W: WriteStyle>(w: &mut W, text: &[u8], count: usize) -> io::Result<()>
+    ensures { Sends (W.sink w.old) (repeat count (bytes text.now)) result (W.sink w.new) }
+{
+    for _ in 0..count {
+        send(w, text)?;
+    }
+    Ok(())
 }
 
 /// Fills the front of the run with copies of the bytes.

@@ -1,6 +1,6 @@
 //! The lanes of a row, left of the text.
 
-ghost use Rattle.std.specs.Prelude.{◌≡◌, ◌&&◌, ◌++◌, drop};
+ghost use Rattle.std.specs.Prelude.{◌≡◌, ◌+◌, ◌<◌, ◌≤◌, ◌&&◌, ◌++◌, ℕ, None, drop, max};
 ghost use Rattle.std.specs.Option.{option_map};
 ghost use Rattle.codespan_base.specs.WriterLaw.{Sends};
 ghost use Rattle.codespan_picture.specs.Given.{mark_of_given, part_of};
@@ -105,6 +105,7 @@ fn corner_line(chars: &Chars<'_>, part: MultiLabel<'_>) -> char
 }
 
 /// A lane's part before its own character: blanks, or the line of a corner that stands to the left.
+#[inline(always)]
 fn send_filling<W: WriteStyle>(
     w: &mut W,
     look: Look<'_>,
@@ -124,6 +125,7 @@ fn send_filling<W: WriteStyle>(
 }
 
 /// The two characters of a lane that is no gap: what fills it, and its own character.
+#[inline(always)]
 fn send_filled<W: WriteStyle>(
     w: &mut W,
     look: Look<'_>,
@@ -139,6 +141,7 @@ fn send_filled<W: WriteStyle>(
 
 /// The two characters of a lane.
 #[tactic(auto, unfolding(codespan_picture::specs::Lanes::lane_cells))]
+#[inline(always)]
 fn send_lane_cells<W: WriteStyle>(
     w: &mut W,
     look: Look<'_>,
@@ -197,6 +200,35 @@ fn take_mark<'d>(
     (None, next)
 }
 
+/// The lane of the next mark, or the number of lanes where no mark is left.
+fn next_lane(lanes: Lanes<'_, '_>, next: usize) -> usize
+    ensures bare { (lane : ℕ) → lane < result → mark_here (drop next lanes.entry.marks.now) lane ≡ None }
+    ensures within { result ≤ lanes.entry.count }
+{
+    if next < lanes.marks.len() {
+        lanes.marks[next].0.min(lanes.count)
+    } else {
+        lanes.count
+    }
+}
+
+/// How many blank lanes are sent at once at most.
+const AT_ONCE: usize = 32;
+
+/// How many lanes from one on, up to that of the next mark, are blank: no line runs through them from a corner. No more than are sent at
+/// once.
+fn blank_lanes(row: LaneRow<'_>, lane: usize, until: usize) -> usize
+    ensures bare { (other : ℕ) → lane ≤ other → other < lane + result → row_crossing (row_of_given row.entry) other ≡ None }
+    ensures within { lane + result ≤ max lane until }
+    ensures few { result ≤ 32 }
+{
+    let end = match row {
+        LaneRow::Underline(turning, _, _) => until.min(turning.saturating_add(1)),
+        _ => until,
+    };
+    end.saturating_sub(lane).min(AT_ONCE)
+}
+
 /// The lanes of a row, from left to right.
 pub fn send_lanes<W: WriteStyle>(
     w: &mut W,
@@ -208,10 +240,18 @@ pub fn send_lanes<W: WriteStyle>(
     ensures { Sends (W.sink w.old) (given_lanes (look_of_given look.entry) leading row.entry (lanes_of_given lanes.entry)) result (W.sink w.new) }
 {
     let mut next = 0;
-    for lane in 0..lanes.count {
-        let (mark, after) = take_mark(lanes.marks, next, lane);
-        send_lane(w, look, leading, row, lane, mark)?;
-        next = after;
+    let mut lane = 0;
+    while lane < lanes.count {
+        let blank = blank_lanes(row, lane, next_lane(lanes, next));
+        if blank > 0 {
+            send_blanks(w, blank + blank)?;
+            lane += blank;
+        } else {
+            let (mark, after) = take_mark(lanes.marks, next, lane);
+            send_lane(w, look, leading, row, lane, mark)?;
+            next = after;
+            lane += 1;
+        }
     }
     Ok(())
 }

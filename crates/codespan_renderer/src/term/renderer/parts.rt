@@ -31,13 +31,18 @@ pub fn send_space<W: WriteStyle>(w: &mut W) -> io::Result<()>
     send(w, b" ")
 }
 
-/// Blanks in place of a line number.
+/// Blanks in place of a line number, and one after it.
 #[tactic(auto, using(codespan_base::proofs::Sends::sendings, crate::proofs::RowWords::gutter_is))]
 pub fn send_gutter<W: WriteStyle>(w: &mut W, padding: usize) -> io::Result<()>
     ensures { Sends (W.sink w.old) (gutter padding) result (W.sink w.new) }
 {
-    send_blanks(w, padding)?;
-    send_space(w)
+    match padding.checked_add(1) {
+        Some(count) => send_blanks(w, count),
+        None => {
+            send_blanks(w, padding)?;
+            send_space(w)
+        }
+    }
 }
 
 /// How many digits a number has in decimal; 0 has one.
@@ -88,6 +93,7 @@ pub fn send_break_border<W: WriteStyle>(w: &mut W, chars: &Chars<'_>) -> io::Res
 }
 
 /// One character in a label's style.
+#[inline(always)]
 pub fn send_label_glyph<W: WriteStyle>(
     w: &mut W,
     severity: Severity,

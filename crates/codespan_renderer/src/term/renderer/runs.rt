@@ -11,6 +11,7 @@ use std::io;
 const MOST: u128 = usize::MAX as u128;
 
 /// Writes so many blanks.
+#[inline(always)]
 pub fn send_blank_run<W: WriteStyle>(w: &mut W, count: u128) -> io::Result<()>
     ensures { Sends (W.sink w.old) (blanks count) result (W.sink w.new) }
 {

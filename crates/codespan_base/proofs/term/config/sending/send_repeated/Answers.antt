@@ -1,8 +1,11 @@
 use Rattle.std.proofs.Common.{arith, refl, ◌∙◌}
 use Rattle.std.proofs.lemmas.Result.{err_from_is_err_and}
 use Rattle.codespan_base.proofs.Loops.{StillToCome-start, StillToCome-more, StillToCome-refused, StillToCome-last}
-use Rattle.codespan_base.proofs.Repeats.{repeated-next, repeated-front}
+use Rattle.codespan_base.proofs.Repeats.{repeated-copies, repeated-front, repeated-next}
 use Rattle.codespan_base.proofs.term.config.sending.send_repeated.Goals as goal
+
+pub returns-then-count-le-FEW : goal.returns-then-count-le-FEW
+returns-then-count-le-FEW g c = rw (repeated-copies c.args.count c.args.c _ (c.as_bytes-glyph.ensures.value ∙ c.encode_utf8.ensures.value)) c.send_copies.ensures
 
 pub loop-left-init : goal.loop-left-init
 loop-left-init g c = record { within = omega arith; sent = StillToCome-start _ _ _ refl }
