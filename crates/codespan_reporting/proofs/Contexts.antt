@@ -1,6 +1,6 @@
 -- The lines that a label asks for, one after another.
 use Rattle.std.proofs.Common.{◌≡◌, ℕ, zero, suc, ◌+◌, ◌-◌, ◌^◌, ◌<◌, ◌≤◌, Bool, true, false, not, ◌&&◌, ◌||◌, List, [], ◌∷◌, ◌++◌, length, Option, Some, None, refl, sym, ap, ◌∙◌, arith, ⊎_elim, true≢false}
-use Rattle.std.specs.Prelude.{nat_lt, nat_le, if◌then◌else◌, filter, flat_map, max, min}
+use Rattle.std.specs.Prelude.{nat_lt, nat_le, if◌then◌else◌, filter, flat_map, fold, max, min}
 use Rattle.std.specs.List.{range_with_len}
 use Rattle.std.proofs.lemmas.Bool.{le-leb, lt-leb, lt-ltb, cases_Bool, cases_lt}
 use borrow.Author.Tests.{le-ltb}
@@ -15,10 +15,14 @@ use Rattle.codespan_base.specs.Labels.{Labelled, first_line, last_line}
 use Rattle.codespan_base.specs.Lemmas.Lines.{lines_have_indices, lines_within_text}
 use Rattle.codespan_reporting.specs.Inner.Entries.{Entry, LabelPlace, entries_of, line_entries}
 use Rattle.codespan_reporting.specs.declared.term.views.entry.Entry.{Entry as GivenEntry}
+use Rattle.codespan_reporting.specs.declared.term.views.gather.FoundLines.{FoundLines}
+use Rattle.codespan_reporting.specs.Inner.FileLookups.{refusal_in}
 use Rattle.codespan_reporting.specs.Inner.GivenEntries.{Adds, entries_on, lookups_on}
-use Rattle.codespan_picture.specs.Lookups.{Refusals, asked_lines, asked_of, ends_context, first_refusal, is_asked, line_refusal, of_line, probe}
-use Rattle.codespan_picture.specs.Padding.{spans_line}
+use Rattle.codespan_reporting.specs.Inner.SpannedDigits.{digits_on, label_digits}
+use Rattle.codespan_picture.specs.Lookups.{Refusals, asked_lines, asked_of, ends_context, first_refusal, is_around, is_asked, line_refusal, of_line, probe}
+use Rattle.codespan_picture.specs.Padding.{digit_count, spans, spans_line}
 use Rattle.codespan_laws.proofs.CaretLemmas.{range_with_len-append}
+use Rattle.codespan_laws.proofs.Greatest.{greatest-append}
 use Rattle.codespan_reporting.proofs.Gathering.{Adds-as, Adds-both, Adds-none}
 use Rattle.codespan_reporting.proofs.Refusals.{first_refusal-none, first_refusal-some}
 
@@ -85,7 +89,7 @@ near_after s e b a l low high near = grind (arith, common_steps)
 module _ {Id : Type 0} (refusal : Refusals Id) (id : Id) (config : Config) (f : FileModel) (x : Labelled) where
   -- what some lookups of the file are refused with
   abbrev refused : List Lookup → Option Error
-  refused ls = first_refusal refusal (asked_of id ls)
+  refused = refusal_in refusal id
 
   -- what is said of the lines below this one
   abbrev pub entries_below : LabelPlace → ℕ → List Entry
@@ -94,6 +98,10 @@ module _ {Id : Type 0} (refusal : Refusals Id) (id : Id) (config : Config) (f : 
   -- what is asked of them
   abbrev pub lookups_below : ℕ → List Lookup
   lookups_below n = flat_map (lookups_on config f x) (range_with_len 0 n)
+
+  -- the digits of those that it spans
+  abbrev pub digits_below : ℕ → List ℕ
+  digits_below n = flat_map (digits_on f x) (range_with_len 0 n)
 
   -- all that is asked for
   abbrev pub all_lookups : List Lookup
@@ -118,19 +126,36 @@ module _ {Id : Type 0} (refusal : Refusals Id) (id : Id) (config : Config) (f : 
   refused_then : (ls ms : List Lookup) (e : Error) → refused ls ≡ Some e → refused (ls ++ ms) ≡ Some e
   refused_then ls ms e some = ap (first_refusal refusal) (map-append (λ l. (id, l)) ls ms) ∙ first_refusal-some refusal (asked_of id ls) (asked_of id ms) e some
 
-  -- the lines below this one are done with: the file has them, what the label says of them is there, and no lookup was refused
-  pub record GathersLines (P : GivenEntry → Type 0) (at : LabelPlace) (old new : List GivenEntry) (n : ℕ) : Type 0 where
+  -- a line that is not asked for is not spanned
+  no_digits : (l : ℕ) → is_asked config f x l ≡ false → digits_on f x l ≡ []
+  no_digits l skipped = ap (λ (b : Bool). if b then digit_count (f.number l) ∷ [] else []) (neither (spans f x l) (is_around config (first_line f x) (last_line f x) l) skipped)
+    where
+      neither : (a b : Bool) → (a || b) ≡ false → a ≡ false
+      neither false b h = refl
+      neither true b h = h
+
+  -- the lines below this one are done with: the file has them, what the label says of them is there, those that it spans have room, and
+  -- no lookup was refused
+  pub record GathersLines (P : GivenEntry → Type 0) (at : LabelPlace) (old new : FoundLines) (n : ℕ) : Type 0 where
     pub within : n ≤ line_count f
-    pub added : Adds P old new (entries_below at n)
+    pub added : Adds P old.entries.items new.entries.items (entries_below at n)
+    pub counted : new.padding ≡ fold max old.padding (digits_below n)
     pub answered : refused (lookups_below n) ≡ None
+
+  -- all lines are done with
+  pub record GathersLabel (P : GivenEntry → Type 0) (at : LabelPlace) (old new : FoundLines) : Type 0 where
+    pub added : Adds P old.entries.items new.entries.items (entries_of config f at x)
+    pub counted : new.padding ≡ fold max old.padding (label_digits f x)
+    pub answered : refused all_lookups ≡ None
 
   module _ (P : GivenEntry → Type 0) (at : LabelPlace) where
     -- no line below the first one that is near enough
-    pub gathered-start : (xs : List GivenEntry) (n : ℕ) → last_line f x < line_count f → n ≤ last_line f x → n ≤ first_line f x - config.before_label_lines
+    pub gathered-start : (xs : FoundLines) (n : ℕ) → last_line f x < line_count f → n ≤ last_line f x → n ≤ first_line f x - config.before_label_lines
         → GathersLines P at xs xs n
     gathered-start xs n inside low far = record {
       within = omega arith;
-      added = Adds-as P xs xs [] _ (gives_none (entries_on config f x at) 0 n (λ l _ high. no_entries at l (too_far l (omega arith)))) (Adds-none P xs);
+      added = Adds-as P xs.entries.items xs.entries.items [] _ (gives_none (entries_on config f x at) 0 n (λ l _ high. no_entries at l (too_far l (omega arith)))) (Adds-none P xs.entries.items);
+      counted = sym (ap (fold max xs.padding) (gives_none (digits_on f x) 0 n (λ l _ high. no_digits l (too_far l (omega arith)))));
       answered = ap refused (gives_none (lookups_on config f x) 0 n (λ l _ high. no_lookups l (too_far l (omega arith))));
     }
       where
@@ -138,13 +163,15 @@ module _ {Id : Type 0} (refusal : Refusals Id) (id : Id) (config : Config) (f : 
         too_far l below = below_both (first_line f x) (last_line f x) config.before_label_lines config.after_label_lines l (omega arith) (omega arith)
 
     -- one more line
-    pub gathered-step : (xs ys zs : List GivenEntry) (n : ℕ) → first_line f x < line_count f → last_line f x < line_count f
+    pub gathered-step : (xs ys zs : FoundLines) (n : ℕ) → first_line f x < line_count f → last_line f x < line_count f
         → n ≤ max (last_line f x + config.after_label_lines) (first_line f x)
-        → GathersLines P at xs ys n → (is_asked config f x n ≡ true → n < line_count f) → Adds P ys zs (entries_on config f x at n) → refused (lookups_on config f x n) ≡ None
+        → GathersLines P at xs ys n → (is_asked config f x n ≡ true → n < line_count f) → Adds P ys.entries.items zs.entries.items (entries_on config f x at n)
+        → zs.padding ≡ fold max ys.padding (digits_on f x n) → refused (lookups_on config f x n) ≡ None
         → GathersLines P at xs zs (n + 1)
-    gathered-step xs ys zs n first last near g inside adds none = record {
+    gathered-step xs ys zs n first last near g inside adds counts none = record {
       within = ⊎_elim (λ asked. let k = inside asked in omega arith) (λ skipped. further skipped) (cases_Bool (is_asked config f x n));
-      added = Adds-as P xs zs _ _ (gives_more (entries_on config f x at) n) (Adds-both P xs ys zs _ _ g.added adds);
+      added = Adds-as P _ _ _ _ (gives_more (entries_on config f x at) n) (Adds-both P _ _ _ _ _ g.added adds);
+      counted = counts ∙ ap (λ k. fold max k (digits_on f x n)) g.counted ∙ sym (greatest-append xs.padding (digits_below n) (digits_on f x n)) ∙ sym (ap (fold max xs.padding) (gives_more (digits_on f x) n));
       answered = ap refused (gives_more (lookups_on config f x) n) ∙ answered_then (lookups_below n) (lookups_on config f x n) g.answered ∙ none;
     }
       where
@@ -157,47 +184,53 @@ module _ {Id : Type 0} (refusal : Refusals Id) (id : Id) (config : Config) (f : 
 
     -- all that the label says
     all_said : (n : ℕ) → n ≤ line_count f → ((l : ℕ) → n ≤ l → l < line_count f → is_asked config f x l ≡ false)
-        → (entries_of config f at x ≡ entries_below at n) × (flat_map of_line (asked_lines config f x) ≡ lookups_below n)
+        → (entries_of config f at x ≡ entries_below at n) × (flat_map of_line (asked_lines config f x) ≡ lookups_below n) × (label_digits f x ≡ digits_below n)
     all_said n within skipped = (
       gives_filtered (line_entries config f at x) (is_asked config f x) (range_with_len 0 (line_count f))
           ∙ gives_same (entries_on config f x at) n (line_count f) within (λ l low high. no_entries at l (skipped l low high)),
       gives_filtered of_line (is_asked config f x) (range_with_len 0 (line_count f))
           ∙ gives_same (lookups_on config f x) n (line_count f) within (λ l low high. no_lookups l (skipped l low high)),
+      gives_same (digits_on f x) n (line_count f) within (λ l low high. no_digits l (skipped l low high)),
     )
 
+    -- the lines that are done with are all
+    gathered-up : (xs ys : FoundLines) (n : ℕ) → GathersLines P at xs ys n → entries_of config f at x ≡ entries_below at n → flat_map of_line (asked_lines config f x) ≡ lookups_below n
+        → label_digits f x ≡ digits_below n → probe config f (refusal id) x ≡ [] → GathersLabel P at xs ys
+    gathered-up xs ys n g said asked digits no_probe = record {
+      added = Adds-as P _ _ _ _ said g.added;
+      counted = g.counted ∙ sym (ap (fold max xs.padding) digits);
+      answered = ap refused (ap (λ (ls : List Lookup). flat_map of_line (asked_lines config f x) ++ ls) no_probe ∙ append-nil _ ∙ asked) ∙ g.answered;
+    }
+
     -- the end of the lines that are near enough
-    gathered-end : (xs ys : List GivenEntry) (n : ℕ) → GathersLines P at xs ys n → first_line f x < n → last_line f x + config.after_label_lines < n
-        → Adds P xs ys (entries_of config f at x) × (refused all_lookups ≡ None)
+    gathered-end : (xs ys : FoundLines) (n : ℕ) → GathersLines P at xs ys n → first_line f x < n → last_line f x + config.after_label_lines < n
+        → GathersLabel P at xs ys
     gathered-end xs ys n g first far =
         let all = all_said n g.within (λ l low high. above_both (first_line f x) (last_line f x) config.before_label_lines config.after_label_lines l (omega arith) (omega arith)) in
         let unreached : nat_le (line_count f) (last_line f x + config.after_label_lines) ≡ false = lt-leb _ _ (omega (arith, g.within)) in
         let no_probe : probe config f (refusal id) x ≡ [] =
-        ap (λ (b : Bool). if b && not (ends_context (refusal id (LineRange (line_count f)))) then LineRange (line_count f) ∷ [] else []) unreached in (
-          Adds-as P xs ys _ _ all.0 g.added,
-          ap refused (ap (λ (ls : List Lookup). flat_map of_line (asked_lines config f x) ++ ls) no_probe ∙ append-nil _ ∙ all.1) ∙ g.answered,
-        )
+        ap (λ (b : Bool). if b && not (ends_context (refusal id (LineRange (line_count f)))) then LineRange (line_count f) ∷ [] else []) unreached in
+        gathered-up xs ys n g all.0 all.1 all.2 no_probe
 
     -- the end of the file
-    pub gathered-context : (xs ys : List GivenEntry) (n : ℕ) → GathersLines P at xs ys n → line_count f ≤ n → ends_context (refusal id (LineRange n)) ≡ true
-        → Adds P xs ys (entries_of config f at x) × (refused all_lookups ≡ None)
+    pub gathered-context : (xs ys : FoundLines) (n : ℕ) → GathersLines P at xs ys n → line_count f ≤ n → ends_context (refusal id (LineRange n)) ≡ true
+        → GathersLabel P at xs ys
     gathered-context xs ys n g past ends =
         let here : n ≡ line_count f = omega (arith, g.within) in
         let all = all_said n g.within (λ l low high. absurd (omega arith)) in
         let ended : ends_context (refusal id (LineRange (line_count f))) ≡ true = ap (λ k. ends_context (refusal id (LineRange k))) (sym here) ∙ ends in
         let no_probe : probe config f (refusal id) x ≡ [] =
         ap (λ (b : Bool). if nat_le (line_count f) (last_line f x + config.after_label_lines) && not b then LineRange (line_count f) ∷ [] else []) ended
-        ∙ neither (nat_le (line_count f) (last_line f x + config.after_label_lines)) in (
-          Adds-as P xs ys _ _ all.0 g.added,
-          ap refused (ap (λ (ls : List Lookup). flat_map of_line (asked_lines config f x) ++ ls) no_probe ∙ append-nil _ ∙ all.1) ∙ g.answered,
-        )
+        ∙ neither (nat_le (line_count f) (last_line f x + config.after_label_lines)) in
+        gathered-up xs ys n g all.0 all.1 all.2 no_probe
       where
         neither : (b : Bool) → (if b && false then LineRange (line_count f) ∷ [] else []) ≡ []
         neither true = refl
         neither false = refl
 
     -- the end of all indices
-    gathered-whole : (xs ys : List GivenEntry) (n : ℕ) → GathersLines P at xs ys n → n ≡ 2 ^ 64 → IsLawful f → RefusesPastEnd f n (refusal id (LineRange n))
-        → Adds P xs ys (entries_of config f at x) × (refused all_lookups ≡ None)
+    gathered-whole : (xs ys : FoundLines) (n : ℕ) → GathersLines P at xs ys n → n ≡ 2 ^ 64 → IsLawful f → RefusesPastEnd f n (refusal id (LineRange n))
+        → GathersLabel P at xs ys
     gathered-whole xs ys n g all law past_end =
         let past : line_count f ≤ n = omega (arith, all, lines_have_indices f law) in
         gathered-context xs ys n g past (too_large (refusal id (LineRange n)) ((past_end (is_there f.there refl)).1 past))
@@ -221,15 +254,15 @@ module _ {Id : Type 0} (refusal : Refusals Id) (id : Id) (config : Config) (f : 
             absurd (omega (arith, none, all, g.within, lines_within_text f law))
 
     -- the end of the context, or of all indices
-    pub gathered-reach : (xs ys : List GivenEntry) (n : ℕ) → GathersLines P at xs ys n → first_line f x < n → min (last_line f x + config.after_label_lines + 1) (2 ^ 64) ≤ n → n ≤ 2 ^ 64
-        → IsLawful f → RefusesPastEnd f n (refusal id (LineRange n)) → Adds P xs ys (entries_of config f at x) × (refused all_lookups ≡ None)
+    pub gathered-reach : (xs ys : FoundLines) (n : ℕ) → GathersLines P at xs ys n → first_line f x < n → min (last_line f x + config.after_label_lines + 1) (2 ^ 64) ≤ n → n ≤ 2 ^ 64
+        → IsLawful f → RefusesPastEnd f n (refusal id (LineRange n)) → GathersLabel P at xs ys
     gathered-reach xs ys n g first far below law past_end =
         ⊎_elim (λ (h : last_line f x + config.after_label_lines < n). gathered-end xs ys n g first h)
         (λ (h : n ≤ last_line f x + config.after_label_lines). gathered-whole xs ys n g (omega (arith, h, far, below)) law past_end)
         (cases_lt (last_line f x + config.after_label_lines) n)
 
     -- a line whose lookups are refused
-    pub gathered-refused : (xs ys : List GivenEntry) (n : ℕ) (e : Error) → first_line f x < line_count f → last_line f x < line_count f → GathersLines P at xs ys n → is_asked config f x n ≡ true
+    pub gathered-refused : (xs ys : FoundLines) (n : ℕ) (e : Error) → first_line f x < line_count f → last_line f x < line_count f → GathersLines P at xs ys n → is_asked config f x n ≡ true
         → line_refusal f (refusal id) (last_line f x) n ≡ Some e → refused all_lookups ≡ Some e
     gathered-refused xs ys n e first last g asked told =
         ⊎_elim (λ (h : n < line_count f). before_end h) (λ (h : line_count f ≤ n). at_end (omega (arith, g.within))) (cases_lt n (line_count f))

@@ -1,10 +1,10 @@
--- The walk over entries in order takes the steps of the shown lines, from the first on.
-use Rattle.std.proofs.Common.{◌≡◌, ℕ, zero, suc, ◌+◌, ◌<◌, ◌≤◌, Bool, true, false, cond, ◌==◌, nat_lt, List, [], ◌∷◌, ◌++◌, take, drop, filter, Option, Some, None, ⊎_elim, refl, sym, ◌∙◌, ap, subst, arith, true≢false}
+-- The walk over entries in order takes the steps of the lines that have entries, from the first on.
+use Rattle.std.proofs.Common.{◌≡◌, ℕ, zero, suc, ◌+◌, ◌<◌, ◌≤◌, Bool, true, false, cond, ◌==◌, nat_lt, List, [], ◌∷◌, ◌++◌, take, drop, filter, Option, Some, None, ⊎_elim, refl, sym, ◌∙◌, ap, subst, arith}
 use Rattle.std.specs.List.{prefix_len, range_with_len, AllByRecursion}
 use Rattle.std.proofs.lemmas.Bool.{cases_Bool, eqb-true, eqb-false, eq-eqb, ltb-true, ltb-false, lt-ltb, le-ltb}
-use Rattle.std.proofs.lemmas.List.{append-nil}
-use Rattle.codespan_reporting.specs.Inner.Entries.{Entry, tells_shown, is_on_line}
-use Rattle.codespan_reporting.specs.Inner.Steps.{Step, Draw, join_group, groups, marks_of, gap, gap_after, walk, steps_of}
+use Rattle.codespan_picture.specs.Snippets.{has_any}
+use Rattle.codespan_reporting.specs.Inner.Entries.{Entry, is_on_line}
+use Rattle.codespan_reporting.specs.Inner.Steps.{Step, join_group, groups, without_shown, steps_to, walk, steps_of}
 use Rattle.codespan_laws.proofs.SortedLists.{all-weaker, all-filter, filter-whole, filter-nothing}
 
 -- ---- groups
@@ -142,112 +142,42 @@ groups-by_line (suc n) a xs h low high =
 
 -- ---- the walk over groups of lines
 
--- the first entry of a group says that its line is shown
-abbrev pub starts_shown : List Entry → Bool
-starts_shown [] = false
-starts_shown (x ∷ g) = tells_shown x
-
--- a group that does not say so is all marks
-marks-hidden : (g : List Entry) → starts_shown g ≡ false → marks_of g ≡ g
-marks-hidden [] h = refl
-marks-hidden (x ∷ g) h = rw h refl
-
--- the marks of the line after the last shown one
-abbrev pub marks_next : (ℕ → List Entry) → Option ℕ → List Entry
-marks_next m None = []
-marks_next m (Some c) = m (c + 1)
-
--- the steps of these shown lines, where each line has these marks and `was` is shown before them
+-- the steps of these shown lines, where each has these entries and `was` is shown before them
 abbrev pub steps_after : (ℕ → List Entry) → Option ℕ → List ℕ → List Step
 steps_after m was [] = []
-steps_after m was (d ∷ ds) = gap_after was d (marks_next m was) (m d) ++ (Draw d (m d) ∷ steps_after m (Some d) ds)
+steps_after m was (d ∷ ds) = steps_to was d (m d) ++ steps_after m (Some d) ds
 
 module _ (given : ℕ → List Entry) (on : (l : ℕ) → AllByRecursion (λ e. e.line ≡ l) (given l)) where
-  -- a line's marks
-  abbrev line_marks : ℕ → List Entry
-  line_marks l = marks_of (given l)
+  -- a line's entries of labels
+  abbrev own : ℕ → List Entry
+  own l = without_shown (given l)
 
-  -- whether it is shown
-  abbrev says_shown : ℕ → Bool
-  says_shown l = starts_shown (given l)
+  -- whether it has entries
+  abbrev is_given : ℕ → Bool
+  is_given l = has_any (given l)
 
-  -- what the walk has skipped before line a, since the shown line c, is what a fill of one line needs
-  record IsSkipped (c a : ℕ) (skipped : List Entry) : Type 0 where
-    before : c < a
-    next : a ≡ c + 1 → skipped ≡ []
-    one : a ≡ c + 2 → skipped ≡ line_marks (c + 1)
-
-  -- one more line is skipped
-  skip-more : (c a : ℕ) (skipped : List Entry) → IsSkipped c a skipped → says_shown a ≡ false → IsSkipped c (a + 1) (skipped ++ given a)
-  skip-more c a skipped k f = record {
-    before = let q : c < a = k.before in omega arith;
-    next = λ e. absurd (let q : c < a = k.before in omega arith);
-    one = λ e. let e1 : a ≡ c + 1 = omega arith in ap (λ (z : List Entry). z ++ given a) (k.next e1) ∙ sym (marks-hidden (given a) f) ∙ ap line_marks e1;
-  }
-
-  -- nothing is skipped right after a shown line
-  skip-none : (a : ℕ) → IsSkipped a (a + 1) []
-  skip-none a = record { before = omega arith; next = λ _. refl; one = λ e. absurd (omega arith) }
-
-  -- the gap needs no more of what is skipped
-  gap-same : (c a : ℕ) (skipped : List Entry) → IsSkipped c a skipped → gap c a skipped (line_marks a) ≡ gap c a (line_marks (c + 1)) (line_marks a)
-  gap-same c a skipped k =
-      ⊎_elim
-      (λ t. let e : a ≡ c + 2 = eqb-true a (c + 2) t in ap (λ (z : List Entry). gap c a z (line_marks a)) (k.one e))
-      (λ f. rw f refl)
-      (cases_Bool (a == c + 2))
-
-  -- the walk skips a line that is not shown
-  walk-hidden : (was : Option ℕ) (a : ℕ) (skipped : List Entry) (gs : List (List Entry)) → says_shown a ≡ false
-      → walk was skipped (some_group (given a) gs) ≡ walk was (skipped ++ given a) gs
-  walk-hidden was a skipped gs = hidden (given a)
+  -- the walk takes the lines that have entries
+  walk-lines : (was : Option ℕ) (n a : ℕ) → walk was (groups_on given (range_with_len a n)) ≡ steps_after own was (filter is_given (range_with_len a n))
+  walk-lines was zero a = refl
+  walk-lines was (suc n) a = by_group (λ w. walk-lines w n (a + 1)) (given a) refl (on a)
     where
-      hidden : (g : List Entry) → starts_shown g ≡ false → walk was skipped (some_group g gs) ≡ walk was (skipped ++ g) gs
-      hidden [] f = ap (λ (z : List Entry). walk was z gs) (sym (append-nil skipped))
-      hidden (x ∷ g) f = rw f refl
+      gs : List (List Entry)
+      gs = groups_on given (range_with_len (a + 1) n)
 
-  -- the walk takes a shown line
-  walk-shown : (was : Option ℕ) (a : ℕ) (skipped : List Entry) (gs : List (List Entry)) → says_shown a ≡ true
-      → walk was skipped (some_group (given a) gs) ≡ gap_after was a skipped (line_marks a) ++ (Draw a (line_marks a) ∷ walk (Some a) [] gs)
-  walk-shown was a skipped gs = shown (given a) (on a)
-    where
-      shown : (g : List Entry) → AllByRecursion (λ e. e.line ≡ a) g → starts_shown g ≡ true
-          → walk was skipped (some_group g gs) ≡ gap_after was a skipped (marks_of g) ++ (Draw a (marks_of g) ∷ walk (Some a) [] gs)
-      shown [] o t = absurd (true≢false (sym t))
-      shown (x ∷ g) o t =
-          subst (λ l. walk was skipped ((x ∷ g) ∷ gs) ≡ gap_after was l skipped (marks_of (x ∷ g)) ++ (Draw l (marks_of (x ∷ g)) ∷ walk (Some l) [] gs)) o.0 (rw t refl)
+      ls : List ℕ
+      ls = filter is_given (range_with_len (a + 1) n)
 
-  -- the walk after a shown line
-  walk-after : (n a c : ℕ) (skipped : List Entry) → IsSkipped c a skipped
-      → walk (Some c) skipped (groups_on given (range_with_len a n)) ≡ steps_after line_marks (Some c) (filter says_shown (range_with_len a n))
-  walk-after zero a c skipped k = refl
-  walk-after (suc n) a c skipped k =
-      let gs = groups_on given (range_with_len (a + 1) n) in
-      let rest = filter says_shown (range_with_len (a + 1) n) in
-      ⊎_elim
-      (λ t. walk-shown (Some c) a skipped gs t
-      ∙ ap (λ (r : List Step). gap c a skipped (line_marks a) ++ (Draw a (line_marks a) ∷ r)) (walk-after n (a + 1) a [] (skip-none a))
-      ∙ ap (λ (r : List Step). r ++ (Draw a (line_marks a) ∷ steps_after line_marks (Some a) rest)) (gap-same c a skipped k)
-      ∙ rw t refl)
-      (λ f. walk-hidden (Some c) a skipped gs f ∙ walk-after n (a + 1) c (skipped ++ given a) (skip-more c a skipped k f) ∙ rw f refl)
-      (cases_Bool (says_shown a))
+      by_group : ((w : Option ℕ) → walk w gs ≡ steps_after own w ls) → (g : List Entry) → given a ≡ g → AllByRecursion (λ e. e.line ≡ a) g
+          → walk was (some_group g gs) ≡ steps_after own was (cond (has_any g) (a ∷ ls) ls)
+      by_group rest [] e o = rest was
+      by_group rest (x ∷ g) e o =
+          (λ i. steps_to was (o.0 i) (without_shown (sym e i)) ++ walk (Some (o.0 i)) gs)
+          ∙ ap (λ (r : List Step). steps_to was a (own a) ++ r) (rest (Some a))
 
-  -- the walk from the start
-  walk-start : (n a : ℕ) (skipped : List Entry) → walk None skipped (groups_on given (range_with_len a n)) ≡ steps_after line_marks None (filter says_shown (range_with_len a n))
-  walk-start zero a skipped = refl
-  walk-start (suc n) a skipped =
-      let gs = groups_on given (range_with_len (a + 1) n) in
-      ⊎_elim
-      (λ t. walk-shown None a skipped gs t
-      ∙ ap (λ (r : List Step). Draw a (line_marks a) ∷ r) (walk-after n (a + 1) a [] (skip-none a))
-      ∙ rw t refl)
-      (λ f. walk-hidden None a skipped gs f ∙ walk-start n (a + 1) (skipped ++ given a) ∙ rw f refl)
-      (cases_Bool (says_shown a))
-
--- the steps of entries whose lines do not fall, and are all below n, are those of the shown lines
+-- the steps of entries whose lines do not fall, and are all below n, are those of the lines that have entries
 pub steps-by_line : (n : ℕ) (xs : List Entry) → IsRising (λ e. e.line) xs → AllByRecursion (λ e. e.line < n) xs
-    → steps_of xs ≡ steps_after (λ l. marks_of (filter (is_on_line l) xs)) None (filter (λ l. starts_shown (filter (is_on_line l) xs)) (range_with_len 0 n))
+    → steps_of xs ≡ steps_after (λ l. without_shown (filter (is_on_line l) xs)) None (filter (λ l. has_any (filter (is_on_line l) xs)) (range_with_len 0 n))
 steps-by_line n xs h high =
-    ap (walk None []) (groups-by_line n 0 xs h (all-weaker (λ e. e.line < n) (λ e. 0 ≤ e.line) (λ e _. omega arith) xs high)
+    ap (walk None) (groups-by_line n 0 xs h (all-weaker (λ e. e.line < n) (λ e. 0 ≤ e.line) (λ e _. omega arith) xs high)
     (all-weaker (λ e. e.line < n) (λ e. e.line < 0 + n) (λ e q. omega arith) xs high))
-    ∙ walk-start (λ l. filter (is_on_line l) xs) (λ l. all-on_line l xs) n 0 []
+    ∙ walk-lines (λ l. filter (is_on_line l) xs) (λ l. all-on_line l xs) None n 0

@@ -1,31 +1,33 @@
 -- From all entries of a diagnostic in order the walk makes, for each file, the rows of its snippet.
-use Rattle.std.proofs.Common.{◌≡◌, ℕ, zero, suc, ◌+◌, ◌<◌, ◌≤◌, Bool, true, false, cond, ◌==◌, nat_lt, ◌&&◌, ◌||◌, List, [], ◌∷◌, ◌++◌, drop, map, filter, reverse, Option, Some, None, ⊎_elim, refl, sym, ◌∙◌, ap, subst, arith}
+use Rattle.std.proofs.Common.{◌≡◌, ℕ, suc, ◌+◌, ◌<◌, ◌≤◌, Bool, true, false, cond, ◌==◌, ◌&&◌, List, [], ◌∷◌, ◌++◌, drop, map, filter, reverse, Option, Some, None, refl, sym, ◌∙◌, ap, subst, arith, true≢false}
 use Rattle.std.specs.Cmp.{IsEquivalence}
-use Rattle.std.specs.List.{prefix_len, list_any, filter_map, cons_option, range_with_len, AllByRecursion}
+use Rattle.std.specs.List.{prefix_len, list_any, cons_option, range_with_len, AllByRecursion}
 use Rattle.std.specs.List.Sorted.{IsPermutation, IsSortedBy}
-use Rattle.std.proofs.lemmas.Bool.{cases_Bool, eqb-true, eqb-false, ne_eqb, lt-ltb}
+use Rattle.std.proofs.lemmas.Bool.{eqb-true}
+use Rattle.std.proofs.lemmas.List.{append-nil}
 use Rattle.std.proofs.lemmas.List.Elements.{filter_map-append, filter_agree, recursion_from_All, All-from_recursion}
 use Rattle.std.proofs.lemmas.List.Sorted.{All-permutation, list_any-IsPermutation}
 use Rattle.codespan_base.specs.declared.term.config.Config.{Config}
 use Rattle.codespan_base.specs.FileModel.{FileModel, line_count}
-use Rattle.codespan_base.specs.Labels.{Labelled, LaneMark, is_single, first_line, last_line, drawn_label, single_labels, multi_labels, marks_on, sorted}
-use Rattle.codespan_reporting.specs.Inner.Entries.{Entry, Says, Shown, Single, Multi, kind_of, is_below, tells_shown, is_on_line, is_of_file}
+use Rattle.codespan_base.specs.Labels.{Labelled, is_single, first_line, drawn_label, single_labels, sorted}
+use Rattle.codespan_reporting.specs.Inner.Entries.{Entry, Says, Shown, Single, kind_of, is_below, tells_shown, is_on_line, is_of_file}
+use Rattle.codespan_reporting.specs.Inner.Lanes.{file_lanes}
 use Rattle.codespan_picture.specs.Lines as lines
 use Rattle.codespan_picture.specs.Lines.{drawn_lines}
 use Rattle.codespan_picture.specs.Lookups.{filled_lines}
 use Rattle.codespan_reporting.specs.Inner.PlacedLabels.{IsIdAt, file_ids, file_place, all_entries}
-use Rattle.codespan_picture.specs.Snippets.{InFile, LabelledFile, labelled_file, lane_count, line_at, drawing, rows_after}
-use Rattle.codespan_reporting.specs.Inner.Steps.{marks_of, steps_of, single_of, multi_of, singles_in, multis_in, line_of_group, rows_of_steps, fills_of, lines_of_steps, do_fit, does_step_fit}
-use Rattle.codespan_picture.specs.Lanes.{ascend_from}
-use Rattle.codespan_reporting.proofs.EntryGroups.{IsRising, starts_shown, steps_after, steps-by_line, all-on_line}
-use Rattle.codespan_reporting.proofs.EntryMarks as marks
-use Rattle.codespan_reporting.proofs.EntryMarks.{entry_with, marks_from, marks-ascend, marks-climb, says_range, is_of_range}
-use Rattle.codespan_reporting.proofs.EntryOrder.{below_order, line_rises, kind_rises, IsOn, singles-ascend}
+use Rattle.codespan_picture.specs.Snippets.{InFile, LabelledFile, labelled_file, line_at, drawing, rows_after, has_any}
+use Rattle.codespan_reporting.specs.Inner.Steps.{without_shown, steps_of, single_of, singles_in, line_of_group, rows_of_steps, fills_of, lines_of_steps, does_step_fit}
+use Rattle.codespan_reporting.proofs.EntryGroups.{IsRising, steps_after, steps-by_line, all-on_line}
+use Rattle.codespan_reporting.proofs.EntryLines as entry_lines
+use Rattle.codespan_reporting.proofs.EntryLines.{says_range, is_of_range}
+use Rattle.codespan_reporting.proofs.EntryOrder.{below_order, line_rises, IsOn, singles-ascend}
 use Rattle.codespan_reporting.proofs.FilePlaces.{file_place-at}
+use Rattle.codespan_reporting.proofs.LaneMarks.{lane_marks-on, file_lanes-count}
 use Rattle.codespan_laws.proofs.FillLemmas.{drawing_of_shown, none_past}
 use Rattle.codespan_reporting.proofs.LabelEntries.{is_kind}
 use Rattle.codespan_laws.proofs.OrderSorts.{has_range, ascending-same, sorted-ascends, sorted-keeps}
-use Rattle.codespan_laws.proofs.SortedLists.{Rises, Falls, Climbs, all-weaker, all-filter, all-both, all-pass, any-nothing, filter-filter, filter-reverse, any-filtered, reverse-cons, rises-filter, rises-from_sorted, filter-sorted_climbs, filter-sorted_falls}
+use Rattle.codespan_laws.proofs.SortedLists.{Rises, Falls, all-weaker, all-filter, all-both, all-pass, filter-filter, filter-reverse, any-filtered, reverse-cons, rises-filter, rises-from_sorted, filter-sorted_falls}
 use Rattle.codespan_renderer.specs.Inner.Sweeps.{starts_in_order}
 use Rattle.codespan_reporting.proofs.MarkOrder.{ascends-starts}
 use Rattle.codespan_reporting.proofs.StepLines.{steps-drawing, steps-fit, steps-lines, steps-fills}
@@ -33,42 +35,16 @@ use Rattle.codespan_reporting.proofs.StepLines.{steps-drawing, steps-fit, steps-
 -- ---- what a group says
 
 -- what is shown says nothing of labels
-marks-said : {Y : Type 0} (h : Says → Option Y) → h Shown ≡ None → (g : List Entry)
-    → filter_map (λ (e : Entry). h e.says) (marks_of g) ≡ filter_map (λ (e : Entry). h e.says) g
-marks-said h none [] = refl
-marks-said {Y} h none (x ∷ xs) = by_says x.says refl (marks-said h none xs)
+singles-said : (g : List Entry) → singles_in (without_shown g) ≡ singles_in g
+singles-said [] = refl
+singles-said (x ∷ xs) = by_says x.says (singles-said xs)
   where
-    rest : List Y
-    rest = filter_map (λ (e : Entry). h e.says) xs
-
-    whole : (b : Bool) → (kind_of x.says == 0) ≡ b → b ≡ false → filter_map (λ (e : Entry). h e.says) (marks_of (x ∷ xs)) ≡ cons_option (h x.says) rest
-    whole b e f = ap (λ t. filter_map (λ (d : Entry). h d.says) (drop (cond t (1 + prefix_len tells_shown xs) 0) (x ∷ xs))) (e ∙ f)
-
-    by_says : (s : Says) → x.says ≡ s → filter_map (λ (e : Entry). h e.says) (marks_of xs) ≡ rest
-        → filter_map (λ (e : Entry). h e.says) (marks_of (x ∷ xs)) ≡ cons_option (h x.says) rest
-    by_says Shown e again =
-        let k : 1 + prefix_len tells_shown xs ≡ suc (prefix_len tells_shown xs) = omega arith in
-        ap (λ s. filter_map (λ (d : Entry). h d.says) (drop (cond (kind_of s == 0) (1 + prefix_len tells_shown xs) 0) (x ∷ xs))) e
-        ∙ ap (λ i. filter_map (λ (d : Entry). h d.says) (drop i (x ∷ xs))) k
-        ∙ again ∙ sym (ap (λ o. cons_option o rest) (ap h e ∙ none))
-    by_says (Single p y) e again = whole false (ap (λ s. kind_of s == 0) e) refl
-    by_says (Multi m) e again = whole false (ap (λ s. kind_of s == 0) e) refl
-
--- the marks of a group are those of its entries that say so
-multis-kind : (es : List Entry) → multis_in (filter (is_kind 2) es) ≡ multis_in es
-multis-kind [] = refl
-multis-kind (x ∷ xs) = by_says x.says (multis-kind xs)
-  where
-    by_says : (s : Says) → multis_in (filter (is_kind 2) xs) ≡ multis_in xs
-        → multis_in (cond (kind_of s == 2) (record x { says = s } ∷ filter (is_kind 2) xs) (filter (is_kind 2) xs)) ≡ cons_option (multi_of s) (multis_in xs)
-    by_says Shown rest = rest
-    by_says (Single p y) rest = rest
-    by_says (Multi m) rest = ap (λ (r : List LaneMark). m ∷ r) rest
-
--- entries of marks have these marks
-multis-of_marks : (own_file : FileModel) (l f : ℕ) (ms : List LaneMark) → multis_in (map (entry_with own_file l f) ms) ≡ ms
-multis-of_marks own_file l f [] = refl
-multis-of_marks own_file l f (m ∷ ms) = ap (λ (r : List LaneMark). m ∷ r) (multis-of_marks own_file l f ms)
+    by_says : (s : Says) → singles_in (without_shown xs) ≡ singles_in xs
+        → singles_in (without_shown (record x { says = s } ∷ xs)) ≡ cons_option (single_of s) (singles_in xs)
+    by_says Shown rest =
+        let more : 1 + prefix_len tells_shown xs ≡ suc (prefix_len tells_shown xs) = omega arith in
+        ap (λ i. singles_in (drop i (record x { says = Shown } ∷ xs))) more ∙ rest
+    by_says (Single p y) rest = refl
 
 -- the labels of a range are those of its entries
 singles-of_range : (start end : ℕ) (es : List Entry) → filter (has_range start end) (singles_in es) ≡ singles_in (filter (is_of_range start end) es)
@@ -86,7 +62,6 @@ singles-of_range start end (x ∷ xs) = by_says x.says (singles-of_range start e
         ≡ singles_in (cond (says_range start end (single_of s)) (record x { says = s } ∷ filter (is_of_range start end) xs) (filter (is_of_range start end) xs))
     by_says Shown rest = rest
     by_says (Single p y) rest = by_test p y (has_range start end y) rest
-    by_says (Multi m) rest = rest
 
 -- they are entries of labels inside the line
 range-kind : (start end : ℕ) (es : List Entry) → filter (is_of_range start end) (filter (is_kind 1) es) ≡ filter (is_of_range start end) es
@@ -95,7 +70,6 @@ range-kind start end es = filter-filter (is_of_range start end) (is_kind 1) es �
     by_says : (s : Says) → ((kind_of s == 1) && says_range start end (single_of s)) ≡ says_range start end (single_of s)
     by_says Shown = refl
     by_says (Single p y) = refl
-    by_says (Multi m) = refl
 
 -- the labels of entries from the end
 singles-reverse : (es : List Entry) → singles_in (reverse es) ≡ reverse (singles_in es)
@@ -105,12 +79,18 @@ singles-reverse (x ∷ xs) =
     ∙ ap (λ (r : List Labelled). r ++ singles_in (x ∷ [])) (singles-reverse xs) ∙ by_option (single_of x.says)
   where
     by_option : (o : Option Labelled) → reverse (singles_in xs) ++ cons_option o [] ≡ reverse (cons_option o (singles_in xs))
-    by_option None = nothing (reverse (singles_in xs))
-      where
-        nothing : (ys : List Labelled) → ys ++ [] ≡ ys
-        nothing [] = refl
-        nothing (y ∷ ys) = ap (λ (r : List Labelled). y ∷ r) (nothing ys)
+    by_option None = append-nil (reverse (singles_in xs))
     by_option (Some y) = sym (reverse-cons y (singles_in xs))
+
+-- a list has an element where one passes a test that all pass
+has_any-any : (es : List Entry) → has_any es ≡ list_any (λ _. true) es
+has_any-any [] = refl
+has_any-any (x ∷ xs) = refl
+
+-- a list that has no element is empty
+nothing-left : (g : List Entry) → has_any g ≡ false → without_shown g ≡ []
+nothing-left [] h = refl
+nothing-left (x ∷ g) h = absurd (true≢false h)
 
 -- ---- entries in order
 
@@ -122,26 +102,6 @@ lines-rise f (x ∷ xs) h a = (
       (all-both (λ y. y.file ≡ f) (λ y. is_below y x ≡ false) xs h.1 a.0),
   lines-rise f xs h.1 a.1,
 )
-
--- the kinds of a line's entries do not fall
-kinds-rise : (f l : ℕ) (es : List Entry) → AllByRecursion (IsOn f l) es → Rises is_below es → IsRising (λ e. kind_of e.says) es
-kinds-rise f l [] h a = tt
-kinds-rise f l (x ∷ xs) h a = (
-  all-weaker (λ y. IsOn f l y × (is_below y x ≡ false)) (λ y. kind_of x.says ≤ kind_of y.says)
-      (λ y b. kind_rises x y (h.0.0 ∙ sym b.0.0) (h.0.1 ∙ sym b.0.1) b.1) xs (all-both (IsOn f l) (λ y. is_below y x ≡ false) xs h.1 a.0),
-  kinds-rise f l xs h.1 a.1,
-)
-
--- the first of them says that the line is shown, where some entry does
-starts-any : (es : List Entry) → IsRising (λ e. kind_of e.says) es → starts_shown es ≡ list_any tells_shown es
-starts-any [] h = refl
-starts-any (x ∷ xs) h =
-    ⊎_elim
-    (λ (t : tells_shown x ≡ true). t ∙ sym (ap (λ b. b || list_any tells_shown xs) t))
-    (λ (t : tells_shown x ≡ false). let ne : kind_of x.says ≡ 0 → ⊥ = eqb-false (kind_of x.says) 0 t in
-    t ∙ sym (ap (λ b. b || list_any tells_shown xs) t
-    ∙ any-nothing tells_shown xs (all-weaker (λ e. kind_of x.says ≤ kind_of e.says) (λ e. tells_shown e ≡ false) (λ e q. ne_eqb (kind_of e.says) 0 (λ z. ne (omega arith))) xs h.0)))
-    (cases_Bool (tells_shown x))
 
 -- ---- the entries of a file
 
@@ -166,6 +126,10 @@ module _ {Id : Type 0} (same : Id → Id → Bool) (file : Id → FileModel) (o 
   abbrev bucket : ℕ → List Entry
   bucket l = filter (is_on_line l) part
 
+  -- and those of labels among them
+  abbrev own : ℕ → List Entry
+  own l = without_shown (bucket l)
+
   -- the file's place is that of its labels
   place : (i : Id) → (file_place same (file_ids same xs) i == f) ≡ same id i
   place = file_place-at same o xs f id at
@@ -186,7 +150,7 @@ module _ {Id : Type 0} (same : Id → Id → Bool) (file : Id → FileModel) (o 
   part-below : AllByRecursion (λ e. e.line < line_count (file id)) part
   part-below =
       let IsInside : (e : Entry) → Type 0 = λ e. is_of_file f e ≡ true → e.line < line_count (file id) in
-      let given : AllByRecursion IsInside all = marks.entries-below same file o config (file_ids same xs) f id place model (some_line id) xs [] in
+      let given : AllByRecursion IsInside all = entry_lines.entries-below same file config (file_ids same xs) f id place model (some_line id) xs [] in
       let whole : AllByRecursion IsInside entries = recursion_from_All IsInside entries (All-permutation IsInside all entries perm (All-from_recursion IsInside all given)) in
       all-weaker (λ e. (is_of_file f e ≡ true) × IsInside e) (λ e. e.line < line_count (file id)) (λ e h. h.1 h.0) part
       (all-both (λ e. is_of_file f e ≡ true) IsInside part (all-pass (is_of_file f) entries) (all-filter IsInside (is_of_file f) entries whole))
@@ -213,55 +177,39 @@ module _ {Id : Type 0} (same : Id → Id → Bool) (file : Id → FileModel) (o 
 
   -- what the labels say of a line
   abbrev said : ℕ → List Entry
-  said l = marks.said_after same file o config (file_ids same xs) f id place model (some_line id) l [] xs
+  said l = entry_lines.said_after same file config (file_ids same xs) f id place model (some_line id) l [] xs
 
   -- the entries of a line as they were given
   given-said : (l : ℕ) → filter (is_on_line l) (filter (is_of_file f) all) ≡ said l
-  given-said l = marks.all-said same file o config (file_ids same xs) f id place model (some_line id) l xs []
+  given-said l = entry_lines.all-said same file config (file_ids same xs) f id place model (some_line id) l xs []
 
   -- ---- the labels of a line
 
-  -- the marks of labels over several lines
-  multis-are : (l : ℕ) → multis_in (marks_of (bucket l)) ≡ marks_on (file id) s.labels l
-  multis-are l =
-      marks-said multi_of refl (bucket l)
-      ∙ sym (multis-kind (bucket l))
-      ∙ ap multis_in (picked l (is_kind 2) entries ∙ filter-sorted_climbs is_below below_order all entries perm up (pick l (is_kind 2)) climbs ∙ given)
-      ∙ multis-of_marks (file id) l f (marks_from (file id) l 0 (multi_labels (file id) s.labels))
-    where
-      given : filter (pick l (is_kind 2)) all ≡ map (entry_with (file id) l f) (marks_from (file id) l 0 (multi_labels (file id) s.labels))
-      given =
-          sym (picked l (is_kind 2) all) ∙ ap (filter (is_kind 2)) (given-said l)
-          ∙ marks.all-multis same file o config (file_ids same xs) f id place model (some_line id) l xs []
-
-      climbs : Climbs is_below (filter (pick l (is_kind 2)) all)
-      climbs = subst (Climbs is_below) (sym given) (marks-climb (file id) l f 0 (multi_labels (file id) s.labels))
-
   -- the labels inside the line
-  singles-are : (l : ℕ) → singles_in (marks_of (bucket l)) ≡ single_labels (file id) s.labels l
+  singles-are : (l : ℕ) → singles_in (own l) ≡ single_labels (file id) s.labels l
   singles-are l =
-      marks-said single_of refl (bucket l)
+      singles-said (bucket l)
       ∙ ascending-same (singles_in (bucket l)) (sorted turned) (singles-ascend f l (bucket l) (bucket-on l) (bucket-rises l)) (sorted-ascends turned)
       (λ start end. ranges start end ∙ sym (sorted-keeps start end turned))
     where
-      own : List Labelled
-      own = map (drawn_label (file id)) (filter (λ x. is_single (file id) x && (first_line (file id) x == l)) s.labels)
+      drawn : List Labelled
+      drawn = map (drawn_label (file id)) (filter (λ x. is_single (file id) x && (first_line (file id) x == l)) s.labels)
 
       turned : List Labelled
-      turned = reverse own
+      turned = reverse drawn
 
       from : List Entry
-      from = marks.singles_from same file o config (file_ids same xs) f id place model (some_line id) l 0 xs
+      from = entry_lines.singles_from same file config (file_ids same xs) f id place model (some_line id) l 0 xs
 
       given : (start end : ℕ) → filter (pick l (is_of_range start end)) all ≡ filter (is_of_range start end) from
       given start end =
           sym (picked l (is_of_range start end) all) ∙ ap (filter (is_of_range start end)) (given-said l)
           ∙ sym (range-kind start end (said l))
-          ∙ ap (filter (is_of_range start end)) (marks.all-singles same file o config (file_ids same xs) f id place model (some_line id) l xs [] 0 refl)
+          ∙ ap (filter (is_of_range start end)) (entry_lines.all-singles same file config (file_ids same xs) f id place model (some_line id) l xs [] 0 refl)
 
       falls : (start end : ℕ) → Falls is_below (filter (pick l (is_of_range start end)) all)
       falls start end =
-          subst (Falls is_below) (sym (given start end)) (marks.singles-fall same file o config (file_ids same xs) f id place model (some_line id) l start end 0 xs)
+          subst (Falls is_below) (sym (given start end)) (entry_lines.singles-fall same file config (file_ids same xs) f id place model (some_line id) l start end 0 xs)
 
       ranges : (start end : ℕ) → filter (has_range start end) (singles_in (bucket l)) ≡ filter (has_range start end) turned
       ranges start end =
@@ -271,87 +219,64 @@ module _ {Id : Type 0} (same : Id → Id → Bool) (file : Id → FileModel) (o 
           ∙ ap (λ (r : List Entry). reverse r) (given start end))
           ∙ singles-reverse (filter (is_of_range start end) from)
           ∙ ap (λ (r : List Labelled). reverse r) (sym (singles-of_range start end from)
-          ∙ ap (filter (has_range start end)) (marks.singles-labels same file o config (file_ids same xs) f id place model (some_line id) l 0 xs))
-          ∙ sym (filter-reverse (has_range start end) own)
+          ∙ ap (filter (has_range start end)) (entry_lines.singles-labels same file config (file_ids same xs) f id place model (some_line id) l 0 xs))
+          ∙ sym (filter-reverse (has_range start end) drawn)
 
   -- a line is drawn with what its labels do on it
-  line-is : (l : ℕ) → line_of_group (file id) (lane_count s) l (marks_of (bucket l)) ≡ line_at s l
-  line-is l = λ i. record (line_at s l) { labels = singles-are l i; lanes = record (line_at s l).lanes { marks = multis-are l i } }
+  line-is : (l : ℕ) → line_of_group (file id) (file_lanes s) l (own l) ≡ line_at s l
+  line-is l = λ i. record (line_at s l) { labels = singles-are l i; lanes = record { count = file_lanes-count s i; marks = lane_marks-on s l i } }
 
   -- ---- shown lines
 
-  -- a line is shown where its entries say so
-  shown-is : (l : ℕ) → l < line_count (file id) → starts_shown (bucket l) ≡ lines.is_shown config (file id) s.labels l
-  shown-is l h =
-      let inside : nat_lt l (line_count (file id)) ≡ true = lt-ltb l (line_count (file id)) h in
-      let shows_line : (x : Labelled) → Bool = λ x. lines.shows config (first_line (file id) x) (last_line (file id) x) l in
-      starts-any (bucket l) (kinds-rise f l (bucket l) (bucket-on l) (bucket-rises l))
-      ∙ any-picked l tells_shown entries ∙ sym (list_any-IsPermutation (pick l tells_shown) all entries perm) ∙ sym (any-picked l tells_shown all)
-      ∙ ap (list_any tells_shown) (given-said l)
-      ∙ marks.any-said same file o config (file_ids same xs) f id place model (some_line id) l inside xs []
-      ∙ sym (ap (λ b. b && list_any shows_line s.labels) inside)
+  -- the line is shown
+  abbrev is_shown : ℕ → Bool
+  is_shown l = lines.is_shown config (file id) s.labels l
+
+  -- a line has entries just where it is shown
+  shown-is : (l : ℕ) → has_any (bucket l) ≡ is_shown l
+  shown-is l =
+      has_any-any (bucket l)
+      ∙ any-picked l (λ _. true) entries ∙ sym (list_any-IsPermutation (pick l (λ _. true)) all entries perm) ∙ sym (any-picked l (λ _. true) all)
+      ∙ ap (list_any (λ _. true)) (given-said l)
+      ∙ entry_lines.any-said same file config (file_ids same xs) f id place model (some_line id) l xs []
+
+  -- no label is inside a line that is not shown
+  hidden-bare : (l : ℕ) → is_shown l ≡ false → own l ≡ []
+  hidden-bare l h = nothing-left (bucket l) (shown-is l ∙ h)
 
   -- the shown lines
   abbrev shown : List ℕ
-  shown = filter (lines.is_shown config (file id) s.labels) (range_with_len 0 (line_count (file id)))
-
-  -- they are those whose entries say so
-  shown-are : filter (λ l. starts_shown (bucket l)) (range_with_len 0 (line_count (file id))) ≡ shown
-  shown-are = each (line_count (file id)) 0 (omega arith)
-    where
-      each : (n a : ℕ) → a + n ≤ line_count (file id)
-          → filter (λ l. starts_shown (bucket l)) (range_with_len a n) ≡ filter (lines.is_shown config (file id) s.labels) (range_with_len a n)
-      each zero a h = refl
-      each (suc n) a h =
-          ap (λ b. cond b (a ∷ filter (λ l. starts_shown (bucket l)) (range_with_len (a + 1) n)) (filter (λ l. starts_shown (bucket l)) (range_with_len (a + 1) n)))
-          (shown-is a (omega arith))
-          ∙ ap (λ (r : List ℕ). cond (lines.is_shown config (file id) s.labels a) (a ∷ r) r) (each n (a + 1) (omega arith))
+  shown = filter is_shown (range_with_len 0 (line_count (file id)))
 
   -- the steps are those of the shown lines
-  steps-are : steps_of part ≡ steps_after (λ l. marks_of (bucket l)) None shown
+  steps-are : steps_of part ≡ steps_after own None shown
   steps-are =
       steps-by_line (line_count (file id)) part (lines-rise f part part-file part-rises) part-below
-      ∙ ap (steps_after (λ l. marks_of (bucket l)) None) shown-are
+      ∙ (λ i. steps_after own None (filter (λ l. shown-is l i) (range_with_len 0 (line_count (file id)))))
 
   -- ---- the snippet
 
   -- the steps make the rows of the snippet
-  pub snippet-rows : rows_of_steps s.file (lane_count s) (steps_of part) ≡ rows_after s None (drawn_lines config s.file s.labels)
+  pub snippet-rows : rows_of_steps s.file (file_lanes s) (steps_of part) ≡ rows_after s None (drawn_lines config s.file s.labels)
   snippet-rows =
-      ap (rows_of_steps (file id) (lane_count s)) steps-are
-      ∙ steps-drawing (file id) (lane_count s) (λ l. marks_of (bucket l)) None shown
+      ap (rows_of_steps (file id) (file_lanes s)) steps-are
+      ∙ steps-drawing (file id) (file_lanes s) own is_shown hidden-bare (line_count (file id))
       ∙ (λ i. drawing (λ l. line-is l i) None shown)
       ∙ sym (drawing_of_shown config s)
 
   -- they fill in the lines that are drawn and not shown
   pub snippet-fills : fills_of (steps_of part) ≡ filled_lines config s
-  snippet-fills =
-      ap fills_of steps-are
-      ∙ steps-fills (λ l. marks_of (bucket l)) (lines.is_shown config (file id) s.labels) (line_count (file id)) (none_past config s)
+  snippet-fills = ap fills_of steps-are ∙ steps-fills own is_shown (line_count (file id)) (none_past config s)
 
   -- they draw the drawn lines
   pub snippet-lines : lines_of_steps (steps_of part) ≡ drawn_lines config s.file s.labels
-  snippet-lines =
-      ap lines_of_steps steps-are
-      ∙ steps-lines (λ l. marks_of (bucket l)) (lines.is_shown config (file id) s.labels) (line_count (file id)) (none_past config s)
+  snippet-lines = ap lines_of_steps steps-are ∙ steps-lines own is_shown (line_count (file id)) (none_past config s)
 
-  -- a line's marks stand in the order of their lanes
-  lanes-ascend : (l : ℕ) → ascend_from (lane_count s) 0 (multis_in (marks_of (bucket l))) ≡ true
-  lanes-ascend l =
-      ap (ascend_from (lane_count s) 0) (multis-are l)
-      ∙ marks-ascend (file id) l (lane_count s) 0 0 (multi_labels (file id) s.labels) (omega arith) (omega arith)
-
-  -- its labels in that of their starts
-  starts-ascend : (l : ℕ) → starts_in_order (singles_in (marks_of (bucket l))) ≡ true
+  -- a line's labels stand in the order of their starts
+  starts-ascend : (l : ℕ) → starts_in_order (singles_in (own l)) ≡ true
   starts-ascend l =
-      ap starts_in_order (marks-said single_of refl (bucket l))
-      ∙ ascends-starts (singles_in (bucket l)) (singles-ascend f l (bucket l) (bucket-on l) (bucket-rises l))
-
-  marks-fit : (l : ℕ) → do_fit (lane_count s) (marks_of (bucket l)) ≡ true
-  marks-fit l = rw (lanes-ascend l, starts-ascend l) refl
+      ap starts_in_order (singles-said (bucket l)) ∙ ascends-starts (singles_in (bucket l)) (singles-ascend f l (bucket l) (bucket-on l) (bucket-rises l))
 
   -- so do those of each step
-  pub snippet-fits : AllByRecursion (λ step. does_step_fit (lane_count s) step ≡ true) (steps_of part)
-  snippet-fits =
-      subst (AllByRecursion (λ step. does_step_fit (lane_count s) step ≡ true)) (sym steps-are)
-      (steps-fit (lane_count s) (λ l. marks_of (bucket l)) marks-fit None shown)
+  pub snippet-fits : AllByRecursion (λ step. does_step_fit step ≡ true) (steps_of part)
+  snippet-fits = subst (AllByRecursion (λ step. does_step_fit step ≡ true)) (sym steps-are) (steps-fit own starts-ascend None shown)

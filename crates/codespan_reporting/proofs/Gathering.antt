@@ -1,17 +1,19 @@
 -- Entries that are added, one after another.
-use Rattle.std.proofs.Common.{◌≡◌, ℕ, Bool, true, false, List, [], ◌∷◌, ◌++◌, Option, Some, None, refl, sym, ap, ◌∙◌}
-use Rattle.std.specs.Prelude.{map, ◌==◌, if◌then◌else◌}
+use Rattle.std.proofs.Common.{◌≡◌, ℕ, Bool, true, false, List, [], ◌++◌, Option, Some, refl, sym, subst, ap, ◌∙◌}
+use Rattle.std.specs.Prelude.{map, ◌==◌, ◌&&◌, if◌then◌else◌}
 use borrow.Author.Tests.{eqb-true}
-use Rattle.std.specs.Option.{option_map}
+use Rattle.std.specs.List.{AllByRecursion}
+use Rattle.std.specs.List.Sorted.{IsPermutation}
 use Rattle.std.proofs.lemmas.List.{append-nil, append_assoc, map-append}
+use Rattle.std.proofs.lemmas.List.Elements.{All-from_recursion, recursion_from_All}
+use Rattle.std.proofs.lemmas.List.Sorted.{All-permutation}
 use Rattle.codespan_base.specs.declared.term.config.Config.{Config}
 use Rattle.codespan_base.specs.FileModel.{FileModel, line_start}
-use Rattle.codespan_base.specs.Labels.{Labelled, LaneMark, drawn_label, first_line, from_line_start, last_line, mark_of, part_on}
+use Rattle.codespan_base.specs.Labels.{Labelled, drawn_label, first_line, from_line_start, last_line}
 use Rattle.codespan_reporting.specs.declared.term.views.entry.Entry.{Entry as GivenEntry}
 use Rattle.codespan_reporting.specs.declared.term.views.entry.SourceLine.{SourceLine}
-use Rattle.codespan_reporting.specs.Inner.Entries.{Entry, LabelPlace, Says, Shown, Single, Multi, line_entries, mark_entries, shown_entries, entry_of_mark, entry_on}
-use Rattle.codespan_reporting.specs.Inner.GivenEntries.{Adds, IsLineOf, entry_of, said, says_at}
-use Rattle.codespan_picture.specs.Lines.{shows}
+use Rattle.codespan_reporting.specs.Inner.Entries.{Entry, LabelPlace, Says, Single, line_entries, said, says_on}
+use Rattle.codespan_reporting.specs.Inner.GivenEntries.{Adds, IsLineOf, entry_of, says_at}
 use Rattle.codespan_laws.proofs.SortedLists.{all-append}
 
 module _ (P : GivenEntry → Type 0) where
@@ -32,52 +34,33 @@ module _ (P : GivenEntry → Type 0) where
   pub Adds-as : (xs ys : List GivenEntry) (es fs : List Entry) → fs ≡ es → Adds P xs ys es → Adds P xs ys fs
   Adds-as xs ys es fs same a = record { more = a.more; whole = a.whole; say = a.say ∙ sym same; each = a.each }
 
+-- what was gathered says this
+pub gathered-says : (P : GivenEntry → Type 0) (gathered : List GivenEntry) (es : List Entry) → Adds P [] gathered es → map entry_of gathered ≡ es
+gathered-says P gathered es adds = ap (map entry_of) adds.whole ∙ adds.say
+
+-- what holds of what was gathered holds of the same entries in another order
+pub gathered-each : (P : GivenEntry → Type 0) (gathered entries : List GivenEntry) (es : List Entry) → Adds P [] gathered es → IsPermutation gathered entries → AllByRecursion P entries
+gathered-each P gathered entries es adds perm =
+    recursion_from_All P entries (All-permutation P gathered entries perm (All-from_recursion P gathered (subst (AllByRecursion P) (sym adds.whole) adds.each)))
+
 module _ (config : Config) (f : FileModel) (at : LabelPlace) (x : Labelled) where
-  -- an entry, where something is said
-  by_says : (l : ℕ) (b c : Bool) (drawn here : Labelled) (m : Option LaneMark) → (c ≡ true → drawn ≡ here)
-      → (if b then (if c then entry_on config f at x l (Single at.place drawn) ∷ [] else []) else entry_of_mark config f at x l m)
-      ≡ said at.file l (if b then (if c then Some (Single at.place here) else None) else option_map Multi m)
-  by_says l true true drawn here m same = ap (λ (d : Labelled). entry_on config f at x l (Single at.place d) ∷ []) (same refl)
-  by_says l true false drawn here m same = refl
-  by_says l false c drawn here None same = refl
-  by_says l false c drawn here (Some m) same = refl
+  -- the carets that a label has on its line are those of the line's start
+  by_says : (b c : Bool) (drawn here : Labelled) (shown : Option Says) → (c ≡ true → drawn ≡ here)
+      → (if b && c then Some (Single at.place drawn) else shown) ≡ (if b && c then Some (Single at.place here) else shown)
+  by_says true true drawn here shown same = ap (λ (d : Labelled). Some (Single at.place d)) (same refl)
+  by_says true false drawn here shown same = refl
+  by_says false c drawn here shown same = refl
 
-  -- what a label has on a line of its file, by the indices of its lines
-  said_marks : (line : SourceLine) → IsLineOf f line
-      → mark_entries config f at x line.index ≡ said at.file line.index (says_at at (first_line f x) (last_line f x) line.index line.start x)
-  said_marks line is =
-      by_says line.index (first_line f x == last_line f x) (first_line f x == line.index) (drawn_label f x) (from_line_start (line_start f line.index) x) (mark_of at.lane x (part_on f line.index x))
+  -- what a label says of a line of its file, by the indices of its lines
+  says_on-is : (line : SourceLine) → IsLineOf f line → says_on config f at x line.index ≡ says_at config at (first_line f x) (last_line f x) line.index line.start x
+  says_on-is line is =
+      by_says (first_line f x == last_line f x) (first_line f x == line.index) (drawn_label f x) (from_line_start (line_start f line.index) x) _
       (λ t. ap (λ k. from_line_start (line_start f k) x) (eqb-true (first_line f x) line.index t))
-      ∙ ap (λ start. said at.file line.index (says_at at (first_line f x) (last_line f x) line.index start x)) (sym is.range_is.start_is)
-
-  -- that a line is shown
-  said_shown : (l : ℕ) (o : Option Says) → o ≡ (if shows config (first_line f x) (last_line f x) l then Some Shown else None)
-      → shown_entries config f at x l ≡ said at.file l o
-  said_shown l o is = by (shows config (first_line f x) (last_line f x) l) ∙ ap (said at.file l) (sym is)
-    where
-      by : (b : Bool) → (if b then entry_on config f at x l Shown ∷ [] else []) ≡ said at.file l (if b then Some Shown else None)
-      by true = refl
-      by false = refl
+      ∙ ap (λ start. says_at config at (first_line f x) (last_line f x) line.index start x) (sym is.range_is.start_is)
 
   -- what a label says of a line
-  pub Adds-line : (P : GivenEntry → Type 0) (line : SourceLine) (lines_first lines_last : ℕ) (shown marked : Option Says) (xs ys zs : List GivenEntry)
-      → first_line f x ≡ lines_first → last_line f x ≡ lines_last → IsLineOf f line
-      → shown ≡ (if shows config lines_first lines_last line.index then Some Shown else None)
-      → marked ≡ says_at at lines_first lines_last line.index line.start x
-      → Adds P xs ys (said at.file line.index shown) → Adds P ys zs (said at.file line.index marked) → Adds P xs zs (line_entries config f at x line.index)
-  Adds-line P line first last shown marked xs ys zs is_first is_last is is_shown is_marked a b =
-      let l = line.index in
-      let s = first_line f x in
-      let same_shown : shown_entries config f at x l ≡ said at.file l shown =
-      said_shown l shown (is_shown ∙ ap (λ k. shown_where k last l) (sym is_first) ∙ ap (λ k. shown_where s k l) (sym is_last)) in
-      let same_marked : mark_entries config f at x l ≡ said at.file l marked =
-      said_marks line is
-      ∙ ap (λ k. said at.file l (says_at at k (last_line f x) l line.start x)) is_first
-      ∙ ap (λ k. said at.file l (says_at at first k l line.start x)) is_last
-      ∙ ap (said at.file l) (sym is_marked) in
-      Adds-as P xs zs _ _
-      (ap (λ (es : List Entry). es ++ mark_entries config f at x l) same_shown ∙ ap (λ (es : List Entry). said at.file l shown ++ es) same_marked)
-      (Adds-both P xs ys zs _ _ a b)
-    where
-      shown_where : ℕ → ℕ → ℕ → Option Says
-      shown_where s e l = if shows config s e l then Some Shown else None
+  pub said-line : (line : SourceLine) (first last : ℕ) (says : Option Says) → first_line f x ≡ first → last_line f x ≡ last → IsLineOf f line
+      → says ≡ says_at config at first last line.index line.start x → line_entries config f at x line.index ≡ said at.file line.index says
+  said-line line first last says is_first is_last is is_says =
+      ap (said at.file line.index) (says_on-is line is
+      ∙ (λ i. says_at config at (is_first i) (is_last i) line.index line.start x) ∙ sym is_says)

@@ -1,13 +1,13 @@
 -- The walk over entries as a view holds them.
-use Rattle.std.proofs.Common.{◌≡◌, ℕ, ◌+◌, ◌-◌, ◌<◌, ◌≤◌, List, [], ◌∷◌, ◌++◌, map, length, take, drop, get_or, slice_range, Option, Some, sym, ◌∙◌, ap, arith}
+use Rattle.std.proofs.Common.{◌≡◌, ℕ, ◌+◌, ◌-◌, ◌<◌, ◌≤◌, List, ◌++◌, map, length, take, drop, get_or, Option, Some, sym, ◌∙◌, ap, arith}
 use Rattle.std.specs.List.{prefix_len}
 use Rattle.std.proofs.lemmas.List.{drop-map, take-map, length-map, get_or-map}
 use Rattle.codespan_reporting.specs.declared.term.views.entry.Entry.{Entry as GivenEntry}
 use Rattle.codespan_reporting.specs.Inner.Entries.{Entry, tells_shown, is_on_line}
 use Rattle.codespan_reporting.specs.Inner.GivenEntries.{entry_of}
-use Rattle.codespan_reporting.specs.Inner.Steps.{Step, Draw, groups, walk, gap_after, steps_to}
+use Rattle.codespan_reporting.specs.Inner.Steps.{Step, groups, walk, steps_to}
 use Rattle.codespan_reporting.proofs.FileParts.{next_part, prefix-map}
-use Rattle.codespan_reporting.proofs.GroupSteps.{IsGroup, part, without, next_group, steps-shown, steps-hidden, slice_range-more, slice_range-none}
+use Rattle.codespan_reporting.proofs.GroupSteps.{IsGroup, part, without, next_group, steps-next}
 
 -- a part of what is mapped
 cut-of_map : {X Y : Type 0} (f : X → Y) (n k : ℕ) (xs : List X) → take n (drop k (map f xs)) ≡ map f (take n (drop k xs))
@@ -68,40 +68,19 @@ shown-given : (m : ℕ) (g : List GivenEntry) → m ≡ prefix_len (λ e. tells_
 shown-given m g is = is ∙ sym (prefix-map entry_of tells_shown g)
 
 -- the steps up to a shown line: what stands before it, and the line itself
-abbrev pub shown_steps : List GivenEntry → ℕ → ℕ → ℕ → ℕ → GivenEntry → Option ℕ → List Step
-shown_steps xs at n m from d was =
-    steps_to was (index_at xs at d) (given (slice_range xs from at)) (given (given_without m (next_part xs at n)))
+abbrev pub shown_steps : List GivenEntry → ℕ → ℕ → ℕ → GivenEntry → Option ℕ → List Step
+shown_steps xs at n m d was = steps_to was (index_at xs at d) (given (given_without m (next_part xs at n)))
 
--- the steps of the entries that are left, where so many of them were skipped
-abbrev pub steps_left : List GivenEntry → ℕ → ℕ → Option ℕ → List Step
-steps_left xs from at was = walk was (slice_range (given xs) from at) (groups (drop at (given xs)))
+-- the steps of the entries that are left
+abbrev pub steps_left : List GivenEntry → ℕ → Option ℕ → List Step
+steps_left xs at was = walk was (groups (drop at (given xs)))
 
--- a line that is shown is next: the steps up to it, and then the others
-pub given-shown : (xs : List GivenEntry) (at n m from : ℕ) (d : GivenEntry) (was : Option ℕ) → IsCounted xs at n d
-    → m ≡ prefix_len (λ e. tells_shown (entry_of e)) (next_part xs at n) → length (given_without m (next_part xs at n)) < length (next_part xs at n)
-    → steps_left xs from at was
-    ≡ shown_steps xs at n m from d was ++ steps_left xs (at + length (next_part xs at n)) (at + length (next_part xs at n)) (Some (index_at xs at d))
-given-shown xs at n m from d was counted is less =
+-- a line is next: the steps up to it, and then the others
+pub given-shown : (xs : List GivenEntry) (at n m : ℕ) (d : GivenEntry) (was : Option ℕ) → IsCounted xs at n d
+    → m ≡ prefix_len (λ e. tells_shown (entry_of e)) (next_part xs at n)
+    → steps_left xs at was ≡ shown_steps xs at n m d was ++ steps_left xs (at + length (next_part xs at n)) (Some (index_at xs at d))
+given-shown xs at n m d was counted is =
     let g = given_group xs at n d counted in
     let own : without m (part (given xs) at n) ≡ given (given_without m (next_part xs at n)) = ap (without m) g.group ∙ without-given m (next_part xs at n) in
-    let own_length : length (without m (part (given xs) at n)) ≡ length (given_without m (next_part xs at n)) = ap length own ∙ length-map (given_without m (next_part xs at n)) entry_of in
-    let skipped : slice_range (given xs) from at ≡ given (slice_range xs from at) = cut-of_map entry_of (at - from) from xs in
-    let ends : slice_range (given xs) (at + length (next_part xs at n)) (at + length (next_part xs at n)) ≡ [] = slice_range-none (given xs) (at + length (next_part xs at n)) in
-    let opened = steps-shown (given xs) at n m (entry_of d) was (slice_range (given xs) from at) g.next
-    (shown-given m (next_part xs at n) is ∙ ap (prefix_len tells_shown) (sym g.group)) (omega (arith, own_length, g.long, less)) in
-    opened
-    ∙ (λ i. (gap_after was (g.line i) (skipped i) (own i) ++ Draw (g.line i) (own i) ∷ [])
-    ++ walk (Some (g.line i)) (sym ends i) (groups (drop (at + g.long i) (given xs))))
-
--- a line that is not shown is next: its entries are skipped
-pub given-hidden : (xs : List GivenEntry) (at n m from : ℕ) (d : GivenEntry) (was : Option ℕ) → IsCounted xs at n d
-    → m ≡ prefix_len (λ e. tells_shown (entry_of e)) (next_part xs at n) → length (next_part xs at n) ≤ length (given_without m (next_part xs at n)) → from ≤ at
-    → steps_left xs from at was ≡ steps_left xs from (at + length (next_part xs at n)) was
-given-hidden xs at n m from d was counted is more order =
-    let g = given_group xs at n d counted in
-    let own : without m (part (given xs) at n) ≡ given (given_without m (next_part xs at n)) = ap (without m) g.group ∙ without-given m (next_part xs at n) in
-    let own_length : length (without m (part (given xs) at n)) ≡ length (given_without m (next_part xs at n)) = ap length own ∙ length-map (given_without m (next_part xs at n)) entry_of in
-    steps-hidden (given xs) at n m (entry_of d) was (slice_range (given xs) from at) _ g.next
-    (shown-given m (next_part xs at n) is ∙ ap (prefix_len tells_shown) (sym g.group)) (omega (arith, own_length, g.long, more))
-    (slice_range-more (given xs) from at n order (omega (arith, counted.inside, length-map xs entry_of)) g.next.len)
-    ∙ (λ i. walk was (slice_range (given xs) from (at + g.long i)) (groups (drop (at + g.long i) (given xs))))
+    steps-next (given xs) at n m (entry_of d) was g.next (shown-given m (next_part xs at n) is ∙ ap (prefix_len tells_shown) (sym g.group))
+    ∙ (λ i. steps_to was (g.line i) (own i) ++ walk (Some (g.line i)) (groups (drop (at + g.long i) (given xs))))

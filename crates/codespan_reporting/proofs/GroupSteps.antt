@@ -1,12 +1,12 @@
 -- The walk over entries in order, group by group.
-use Rattle.std.proofs.Common.{◌≡◌, ℕ, zero, suc, ◌+◌, ◌-◌, ◌<◌, ◌≤◌, true, false, List, [], ◌∷◌, ◌++◌, length, take, drop, get_or, slice_range, Option, Some, ⊎_elim, refl, sym, ◌∙◌, ap, subst, arith, length-drop}
+use Rattle.std.proofs.Common.{◌≡◌, ℕ, zero, suc, ◌+◌, ◌-◌, ◌<◌, ◌≤◌, true, List, [], ◌∷◌, ◌++◌, length, take, drop, get_or, Option, Some, refl, sym, ◌∙◌, ap, subst, arith, length-drop}
 use Rattle.std.specs.List.{prefix_len}
 use Rattle.std.proofs.Math.Nat.{add-sub_cancel_left}
-use Rattle.std.proofs.Math.Seq.{take-add, take-length}
-use Rattle.std.proofs.lemmas.List.{get_or-drop, length-take-le, append_assoc, drop-drop}
-use Rattle.std.proofs.lemmas.Bool.{cases_Bool, eq-eqb}
+use Rattle.std.proofs.Math.Seq.{take-length}
+use Rattle.std.proofs.lemmas.List.{get_or-drop, length-take-le, drop-drop}
+use Rattle.std.proofs.lemmas.Bool.{eq-eqb}
 use Rattle.codespan_reporting.specs.Inner.Entries.{Entry, tells_shown, is_on_line}
-use Rattle.codespan_reporting.specs.Inner.Steps.{Draw, groups, marks_of, gap_after, walk}
+use Rattle.codespan_reporting.specs.Inner.Steps.{groups, without_shown, steps_to, walk}
 use Rattle.codespan_reporting.proofs.EntryGroups.{groups-cons}
 
 -- ---- groups
@@ -34,32 +34,11 @@ prefix_len-some (x ∷ xs) d l some is = subst (λ n. 0 < prefix_len (is_on_line
 
 -- ---- the walk
 
--- a group of a line that is shown
-walk-shown : (was : Option ℕ) (skipped group : List Entry) (gs : List (List Entry)) (d : Entry) (l : ℕ) → (get_or group 0 d).line ≡ l
-    → length (marks_of group) < length group
-    → walk was skipped (group ∷ gs) ≡ gap_after was l skipped (marks_of group) ++ (Draw l (marks_of group) ∷ walk (Some l) [] gs)
-walk-shown was skipped [] gs d l is less = absurd (omega arith)
-walk-shown was skipped (x ∷ group) gs d l is less =
-    ⊎_elim
-    (λ t. rw (← is) (rw t refl))
-    (λ f. absurd (omega (arith, less, ap (λ n. length (drop n (x ∷ group))) (none f))))
-    (cases_Bool (tells_shown x))
-  where
-    none : tells_shown x ≡ false → prefix_len tells_shown (x ∷ group) ≡ 0
-    none f = rw f refl
-
--- a group of a line that is not
-walk-hidden : (was : Option ℕ) (skipped group : List Entry) (gs : List (List Entry)) → 0 < length group → length group ≤ length (marks_of group)
-    → walk was skipped (group ∷ gs) ≡ walk was (skipped ++ group) gs
-walk-hidden was skipped [] gs some more = absurd (omega arith)
-walk-hidden was skipped (x ∷ group) gs some more =
-    ⊎_elim
-    (λ t. absurd (omega (arith, more, fewer t)))
-    (λ f. rw f refl)
-    (cases_Bool (tells_shown x))
-  where
-    fewer : tells_shown x ≡ true → length (marks_of (x ∷ group)) ≤ length group
-    fewer t = simp length-drop (rw t (omega arith))
+-- a group that is not empty
+walk-group : (was : Option ℕ) (group : List Entry) (gs : List (List Entry)) (d : Entry) (l : ℕ) → (get_or group 0 d).line ≡ l → 0 < length group
+    → walk was (group ∷ gs) ≡ steps_to was l (without_shown group) ++ walk (Some l) gs
+walk-group was [] gs d l is some = absurd (omega arith)
+walk-group was (x ∷ group) gs d l is some = λ i. steps_to was (is i) (without_shown (x ∷ group)) ++ walk (Some (is i)) gs
 
 -- ---- the walk by places
 
@@ -111,49 +90,14 @@ next_group xs at n d inside is' le' =
       line = ap (λ (g : List Entry). (get_or g 0 d).line) front ∙ ap (λ (e : Entry). e.line) (get_or-take-first n (drop at xs) d some) ∙ line_is;
     }
 
--- a line that is shown is next: the steps up to it, and then the others
-pub steps-shown : (xs : List Entry) (at n m : ℕ) (d : Entry) (was : Option ℕ) (skipped : List Entry) → IsGroup xs at n d
-    → m ≡ prefix_len tells_shown (part xs at n) → length (without m (part xs at n)) < length (part xs at n)
-    → walk was skipped (groups (drop at xs))
-    ≡ (gap_after was (get_or xs at d).line skipped (without m (part xs at n)) ++ Draw (get_or xs at d).line (without m (part xs at n)) ∷ [])
-    ++ walk (Some (get_or xs at d).line) [] (groups (drop (at + length (part xs at n)) xs))
-steps-shown xs at n m d was skipped next is less =
+-- a line is next: the steps up to it, and then the others
+pub steps-next : (xs : List Entry) (at n m : ℕ) (d : Entry) (was : Option ℕ) → IsGroup xs at n d → m ≡ prefix_len tells_shown (part xs at n)
+    → walk was (groups (drop at xs))
+    ≡ steps_to was (get_or xs at d).line (without m (part xs at n)) ++ walk (Some (get_or xs at d).line) (groups (drop (at + length (part xs at n)) xs))
+steps-next xs at n m d was next is =
     let l = (get_or xs at d).line in
     let rest = groups (drop (at + length (part xs at n)) xs) in
-    let own : without m (part xs at n) ≡ marks_of (part xs at n) = without-drop m (part xs at n) ∙ ap (λ i. drop i (part xs at n)) is in
-    let gap = gap_after was l skipped (without m (part xs at n)) in
-    let draw = Draw l (without m (part xs at n)) in
-    let after = walk (Some l) [] rest in
-    ap (walk was skipped) next.first
-    ∙ subst (λ (ms : List Entry). walk was skipped (part xs at n ∷ rest) ≡ gap_after was l skipped ms ++ (Draw l ms ∷ after)) (sym own)
-    (walk-shown was skipped (part xs at n) rest d l next.line (subst (λ (ms : List Entry). length ms < length (part xs at n)) own less))
-    ∙ sym (append_assoc gap (draw ∷ []) after)
-
--- a line that is not shown is next: its entries are skipped
-pub steps-hidden : (xs : List Entry) (at n m : ℕ) (d : Entry) (was : Option ℕ) (skipped joined : List Entry) → IsGroup xs at n d
-    → m ≡ prefix_len tells_shown (part xs at n) → length (part xs at n) ≤ length (without m (part xs at n))
-    → joined ≡ skipped ++ part xs at n
-    → walk was skipped (groups (drop at xs)) ≡ walk was joined (groups (drop (at + length (part xs at n)) xs))
-steps-hidden xs at n m d was skipped joined next is more joins =
-    let rest = groups (drop (at + length (part xs at n)) xs) in
     let some : 0 < length (part xs at n) = omega (arith, next.len, next.some) in
-    let own : without m (part xs at n) ≡ marks_of (part xs at n) = without-drop m (part xs at n) ∙ ap (λ i. drop i (part xs at n)) is in
-    ap (walk was skipped) next.first
-    ∙ walk-hidden was skipped (part xs at n) rest some (subst (λ (ms : List Entry). length (part xs at n) ≤ length ms) own more)
-    ∙ ap (λ (es : List Entry). walk was es rest) (sym joins)
-
--- the entries between two places and then the next group
-pub slice_range-more : (xs : List Entry) (from at n : ℕ) → from ≤ at → at ≤ length xs → length (part xs at n) ≡ n
-    → slice_range xs from (at + length (part xs at n)) ≡ slice_range xs from at ++ part xs at n
-slice_range-more xs from at n order inside long =
-    let cancelled : at + n - at ≡ n = add-sub_cancel_left at n in
-    let back : from + (at - from) ≡ at = omega arith in
-    let both : at + length (part xs at n) - from ≡ (at - from) + n = omega (arith, long) in
-    ap (λ i. take i (drop from xs)) both
-    ∙ take-add (at - from) n (drop from xs)
-    ∙ ap (λ (r : List Entry). take (at - from) (drop from xs) ++ r)
-    (ap (λ (r : List Entry). take n r) (drop-drop (at - from) from xs ∙ ap (λ i. drop i xs) back) ∙ ap (λ i. take i (drop at xs)) (sym cancelled))
-
--- between a place and itself stands nothing
-pub slice_range-none : (xs : List Entry) (at : ℕ) → slice_range xs at at ≡ []
-slice_range-none xs at = let none : at - at ≡ 0 = omega arith in ap (λ i. take i (drop at xs)) none
+    let own : without_shown (part xs at n) ≡ without m (part xs at n) = ap (λ i. drop i (part xs at n)) (sym is) ∙ sym (without-drop m (part xs at n)) in
+    ap (walk was) next.first ∙ walk-group was (part xs at n) rest d l next.line some
+    ∙ ap (λ (es : List Entry). steps_to was l es ++ walk (Some l) rest) own

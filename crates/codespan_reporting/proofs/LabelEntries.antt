@@ -1,19 +1,17 @@
 -- What the entries of one label say of one line.
-use Rattle.std.proofs.Common.{◌≡◌, ◌≢◌, ℕ, zero, suc, ◌+◌, ◌-◌, ◌<◌, Bool, true, false, cond, ◌==◌, nat_lt, nat_le, ◌&&◌, ◌||◌, List, [], ◌∷◌, ◌++◌, filter, flat_map, Option, Some, None, ⊎_elim, refl, sym, ◌∙◌, ap, arith}
-use Rattle.std.specs.Prelude.{is_some}
+use Rattle.std.proofs.Common.{◌≡◌, ◌≢◌, ℕ, zero, suc, ◌+◌, ◌<◌, Bool, true, false, cond, ◌==◌, nat_lt, nat_le, ◌&&◌, ◌||◌, List, [], ◌∷◌, ◌++◌, filter, flat_map, Some, None, ⊎_elim, refl, sym, ◌∙◌, ap, arith}
 use Rattle.std.specs.List.{list_any, range_with_len, AllByRecursion}
 use Rattle.std.proofs.lemmas.Bool.{cases_Bool, cases_eq, cond_both, eq-eqb, ne_eqb}
 use Rattle.std.proofs.lemmas.Bool.Decides.{nat_tests}
+use Rattle.std.proofs.Math.Bool.{and-false}
 use Rattle.std.proofs.lemmas.List.{append-nil}
 use Rattle.std.proofs.lemmas.List.Elements.{filter-append}
 use Rattle.codespan_base.specs.declared.term.config.Config.{Config}
-use Rattle.codespan_base.specs.FileModel.{FileModel, line_count, line_start}
-use Rattle.codespan_base.specs.Labels.{Labelled, LaneMark, Part, Top, Left, Bottom, first_line, last_line, is_single, drawn_label, part_on, mark_of}
-use Rattle.codespan_reporting.specs.Inner.Entries.{Entry, Says, Shown, Single, Multi, LabelPlace, kind_of, tells_shown, is_on_line, entry_on, entry_of_mark, line_entries, entries_of}
-use Rattle.codespan_reporting.specs.Inner.GivenPadding.{is_mark}
+use Rattle.codespan_base.specs.FileModel.{FileModel, line_count}
+use Rattle.codespan_base.specs.Labels.{Labelled, first_line, last_line, is_single, drawn_label}
+use Rattle.codespan_reporting.specs.Inner.Entries.{Entry, Says, Shown, Single, LabelPlace, kind_of, is_on_line, entry_on, line_entries, entries_of, said}
 use Rattle.codespan_picture.specs.Lines.{shows}
 use Rattle.codespan_picture.specs.Lookups.{is_around, is_asked}
-use Rattle.codespan_picture.specs.Padding.{spans}
 use Rattle.codespan_laws.proofs.SortedLists.{all-append, filter-whole, filter-nothing, all-weaker}
 
 -- the entry is of this kind
@@ -111,39 +109,29 @@ module _ (config : Config) where
   not_first : (s e l : ℕ) → asks s e l ≡ false → (s == l) ≡ false
   not_first s e l h = grind (arith, nat_tests)
 
-  -- it does not end on another one
-  not_last : (s e l : ℕ) → asks s e l ≡ false → (e == l) ≡ false
-  not_last s e l h = grind (arith, nat_tests)
-
-  -- it does not go through another one
-  not_between : (s e l : ℕ) → asks s e l ≡ false → (nat_lt s l && nat_lt l e) ≡ false
-  not_between s e l h = grind (arith, nat_tests)
-
--- a label inside a line has carets on it, one over several lines a mark on its ends and between them
-spanned : (s e l : ℕ) → cond (s == e) (s == l) ((s == l) || (e == l) || (nat_lt s l && nat_lt l e)) ≡ ((l == s) || (l == e) || (nat_le s l && nat_le l e))
-spanned s e l = grind (arith, nat_tests)
+  -- it shows the line that it begins on
+  own_shown : (s e l : ℕ) → (s == l) ≡ true → shows config s e l ≡ true
+  own_shown s e l h = grind (arith, nat_tests)
 
 -- ---- the entries of a label
 
 module _ (config : Config) (f : FileModel) (at : LabelPlace) (x : Labelled) where
+  -- its carets on a line
+  abbrev carets : ℕ → Entry
+  carets l = entry_on config f at x l (Single at.place (drawn_label f x))
+
+  -- what it says of a line, where it is inside the line and where it shows it
+  abbrev said_where : ℕ → Bool → Bool → List Entry
+  said_where l a b = said at.file l (cond a (Some (Single at.place (drawn_label f x))) (cond b (Some Shown) None))
+
   -- what holds of each entry that it can give of a line
   each-of_line : (P : Entry → Type 0) (l : ℕ) → ((s : Says) → P (entry_on config f at x l s)) → AllByRecursion P (line_entries config f at x l)
-  each-of_line P l h = by_tests (shows config (first_line f x) (last_line f x) l) (is_single f x) (first_line f x == l) (mark_of at.lane x (part_on f l x))
+  each-of_line P l h = by_tests (is_single f x && (first_line f x == l)) (shows config (first_line f x) (last_line f x) l)
     where
-      by_mark : (o : Option LaneMark) → AllByRecursion P (entry_of_mark config f at x l o)
-      by_mark None = tt
-      by_mark (Some m) = (h (Multi m), tt)
-
-      by_kind : (b c : Bool) (o : Option LaneMark)
-          → AllByRecursion P (cond b (cond c (entry_on config f at x l (Single at.place (drawn_label f x)) ∷ []) []) (entry_of_mark config f at x l o))
-      by_kind true true o = (h (Single at.place (drawn_label f x)), tt)
-      by_kind true false o = tt
-      by_kind false c o = by_mark o
-
-      by_tests : (a b c : Bool) (o : Option LaneMark)
-          → AllByRecursion P (cond a (entry_on config f at x l Shown ∷ []) [] ++ cond b (cond c (entry_on config f at x l (Single at.place (drawn_label f x)) ∷ []) []) (entry_of_mark config f at x l o))
-      by_tests true b c o = (h Shown, by_kind b c o)
-      by_tests false b c o = by_kind b c o
+      by_tests : (a b : Bool) → AllByRecursion P (said_where l a b)
+      by_tests true b = (h (Single at.place (drawn_label f x)), tt)
+      by_tests false true = (h Shown, tt)
+      by_tests false false = tt
 
   -- its entries are of its file
   pub all-of_file : AllByRecursion (λ e. e.file ≡ at.file) (entries_of config f at x)
@@ -155,28 +143,12 @@ module _ (config : Config) (f : FileModel) (at : LabelPlace) (x : Labelled) wher
   all-below = all-range (λ e. e.line < line_count f) (line_entries config f at x) (is_asked config f x) (line_count f) 0
       (λ l k. each-of_line (λ e. e.line < line_count f) l (λ s. omega arith))
 
-  -- a label has no mark on a line that is none of its own
-  part-none : (l : ℕ) → (first_line f x == l) ≡ false → (last_line f x == l) ≡ false → (nat_lt (first_line f x) l && nat_lt l (last_line f x)) ≡ false
-      → part_on f l x ≡ None
-  part-none l a b c = rw (a, b, c) refl
-
   -- it says nothing of a line that it does not ask for
   not_asked : (l : ℕ) → is_asked config f x l ≡ false → line_entries config f at x l ≡ []
   not_asked l h =
-      let s = first_line f x in
-      let e = last_line f x in
-      let hidden : shows config s e l ≡ false = not_shown config s e l h in
-      let a : (s == l) ≡ false = not_first config s e l h in
-      let b : (e == l) ≡ false = not_last config s e l h in
-      let c : (nat_lt s l && nat_lt l e) ≡ false = not_between config s e l h in
-      ap (λ t. cond t (entry_on config f at x l Shown ∷ []) [] ++ (cond (is_single f x) (cond (s == l) (entry_on config f at x l (Single at.place (drawn_label f x)) ∷ []) []) (entry_of_mark config f at x l (mark_of at.lane x (part_on f l x))))) hidden
-      ∙ ap (λ t. cond (is_single f x) (cond t (entry_on config f at x l (Single at.place (drawn_label f x)) ∷ []) []) (entry_of_mark config f at x l (mark_of at.lane x (part_on f l x)))) a
-      ∙ ap (λ o. cond (is_single f x) [] (entry_of_mark config f at x l (mark_of at.lane x o))) (part-none l a b c)
-      ∙ neither (is_single f x)
-    where
-      neither : (t : Bool) → cond {A = List Entry} t [] [] ≡ []
-      neither true = refl
-      neither false = refl
+      let a : shows config (first_line f x) (last_line f x) l ≡ false = not_shown config (first_line f x) (last_line f x) l h in
+      let b : (first_line f x == l) ≡ false = not_first config (first_line f x) (last_line f x) l h in
+      (λ i. said_where l (is_single f x && b i) (a i)) ∙ ap (λ t. said_where l t false) (and-false (is_single f x))
 
   -- of a line that the file has its entries are what it says of the line
   pub entries-of_line : (l : ℕ) → filter (is_on_line l) (entries_of config f at x) ≡ cond (nat_lt l (line_count f)) (line_entries config f at x l) []
@@ -200,75 +172,21 @@ module _ (config : Config) (f : FileModel) (at : LabelPlace) (x : Labelled) wher
   -- ---- the kinds of its entries of a line
 
   -- those of a label inside the line
-  pub singles-of_line : (l : ℕ) → filter (is_kind 1) (line_entries config f at x l)
-      ≡ cond (is_single f x && (first_line f x == l)) (entry_on config f at x l (Single at.place (drawn_label f x)) ∷ []) []
-  singles-of_line l = by_tests (shows config (first_line f x) (last_line f x) l) (is_single f x) (first_line f x == l) (mark_of at.lane x (part_on f l x))
+  pub singles-of_line : (l : ℕ) → filter (is_kind 1) (line_entries config f at x l) ≡ cond (is_single f x && (first_line f x == l)) (carets l ∷ []) []
+  singles-of_line l = by_tests (is_single f x && (first_line f x == l)) (shows config (first_line f x) (last_line f x) l)
     where
-      by_tests : (a b c : Bool) (o : Option LaneMark)
-          → filter (is_kind 1) (cond a (entry_on config f at x l Shown ∷ []) [] ++ cond b (cond c (entry_on config f at x l (Single at.place (drawn_label f x)) ∷ []) []) (entry_of_mark config f at x l o))
-          ≡ cond (b && c) (entry_on config f at x l (Single at.place (drawn_label f x)) ∷ []) []
-      by_tests true true true o = refl
-      by_tests true true false o = refl
-      by_tests true false c None = refl
-      by_tests true false c (Some m) = refl
-      by_tests false true true o = refl
-      by_tests false true false o = refl
-      by_tests false false c None = refl
-      by_tests false false c (Some m) = refl
+      by_tests : (a b : Bool) → filter (is_kind 1) (said_where l a b) ≡ cond a (carets l ∷ []) []
+      by_tests true b = refl
+      by_tests false true = refl
+      by_tests false false = refl
 
-  -- those of a label over several lines
-  pub multis-of_line : (l : ℕ) → filter (is_kind 2) (line_entries config f at x l)
-      ≡ cond (is_single f x) [] (entry_of_mark config f at x l (mark_of at.lane x (part_on f l x)))
-  multis-of_line l = by_tests (shows config (first_line f x) (last_line f x) l) (is_single f x) (first_line f x == l) (mark_of at.lane x (part_on f l x))
+  -- it says something of the lines that it shows: a label inside a line shows that line
+  pub any-of_line : (l : ℕ) → list_any (λ _. true) (line_entries config f at x l) ≡ shows config (first_line f x) (last_line f x) l
+  any-of_line l = by_tests (is_single f x) (first_line f x == l) (shows config (first_line f x) (last_line f x) l) (own_shown config (first_line f x) (last_line f x) l)
     where
-      by_tests : (a b c : Bool) (o : Option LaneMark)
-          → filter (is_kind 2) (cond a (entry_on config f at x l Shown ∷ []) [] ++ cond b (cond c (entry_on config f at x l (Single at.place (drawn_label f x)) ∷ []) []) (entry_of_mark config f at x l o))
-          ≡ cond b [] (entry_of_mark config f at x l o)
-      by_tests true true true o = refl
-      by_tests true true false o = refl
-      by_tests true false c None = refl
-      by_tests true false c (Some m) = refl
-      by_tests false true true o = refl
-      by_tests false true false o = refl
-      by_tests false false c None = refl
-      by_tests false false c (Some m) = refl
-
-  -- whether one of them says that the line is shown
-  pub shown-of_line : (l : ℕ) → list_any tells_shown (line_entries config f at x l) ≡ shows config (first_line f x) (last_line f x) l
-  shown-of_line l = by_tests (shows config (first_line f x) (last_line f x) l) (is_single f x) (first_line f x == l) (mark_of at.lane x (part_on f l x))
-    where
-      by_tests : (a b c : Bool) (o : Option LaneMark)
-          → list_any tells_shown (cond a (entry_on config f at x l Shown ∷ []) [] ++ cond b (cond c (entry_on config f at x l (Single at.place (drawn_label f x)) ∷ []) []) (entry_of_mark config f at x l o)) ≡ a
-      by_tests true b c o = refl
-      by_tests false true true o = refl
-      by_tests false true false o = refl
-      by_tests false false c None = refl
-      by_tests false false c (Some m) = refl
-
-  -- whether one of them is a mark
-  pub marked-of_line : (l : ℕ) → list_any is_mark (line_entries config f at x l) ≡ spans f x l
-  marked-of_line l =
-      by_tests (shows config (first_line f x) (last_line f x) l) (is_single f x) (first_line f x == l) (mark_of at.lane x (part_on f l x))
-      ∙ ap (cond (is_single f x) (first_line f x == l)) (by_part (part_on f l x) ∙ by_ends (first_line f x == l) (last_line f x == l) (nat_lt (first_line f x) l && nat_lt l (last_line f x)))
-      ∙ spanned (first_line f x) (last_line f x) l
-    where
-      by_tests : (a b c : Bool) (o : Option LaneMark)
-          → list_any is_mark (cond a (entry_on config f at x l Shown ∷ []) [] ++ cond b (cond c (entry_on config f at x l (Single at.place (drawn_label f x)) ∷ []) []) (entry_of_mark config f at x l o)) ≡ cond b c (is_some o)
-      by_tests true true true o = refl
-      by_tests true true false o = refl
-      by_tests true false c None = refl
-      by_tests true false c (Some m) = refl
-      by_tests false true true o = refl
-      by_tests false true false o = refl
-      by_tests false false c None = refl
-      by_tests false false c (Some m) = refl
-
-      by_part : (o : Option Part) → is_some (mark_of at.lane x o) ≡ is_some o
-      by_part None = refl
-      by_part (Some part) = refl
-
-      by_ends : (a b c : Bool) → is_some (cond a (Some (Top (x.start - line_start f l))) (cond b (Some (Bottom (x.end - line_start f l) x.message)) (cond c (Some Left) None))) ≡ (a || b || c)
-      by_ends true b c = refl
-      by_ends false true c = refl
-      by_ends false false true = refl
-      by_ends false false false = refl
+      by_tests : (a b c : Bool) → (b ≡ true → c ≡ true) → list_any (λ _. true) (said_where l (a && b) c) ≡ c
+      by_tests true true c own = sym (own refl)
+      by_tests true false true own = refl
+      by_tests true false false own = refl
+      by_tests false b true own = refl
+      by_tests false b false own = refl

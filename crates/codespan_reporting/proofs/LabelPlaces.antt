@@ -1,19 +1,32 @@
 -- The places and lanes of labels, one label after another.
-use Rattle.std.proofs.Common.{◌≡◌, ℕ, ◌+◌, ◌<◌, Bool, true, false, not, ◌&&◌, ◌||◌, cond, List, [], ◌∷◌, ◌++◌, length, get_or, set, map, refl, sym, ap, ◌∙◌, arith, ⊎_elim, true≢false}
-use Rattle.std.specs.Prelude.{count_by, if◌then◌else◌}
+use Rattle.std.proofs.Common.{◌≡◌, ◌<◌, Bool, true, false, not, ◌||◌, cond, List, [], ◌∷◌, ◌++◌, length, get_or, set, map, refl, sym, ap, ◌∙◌, arith, ⊎_elim, true≢false}
+use Rattle.std.specs.Prelude.{filter, if◌then◌else◌}
 use Rattle.std.specs.Cmp.{IsEquivalence}
 use Rattle.std.specs.List.{AllByRecursion}
 use Rattle.std.proofs.lemmas.Bool.{cases_Bool}
-use Rattle.std.proofs.lemmas.List.{append-nil, append_assoc}
-use Rattle.std.proofs.lemmas.List.Sums.{sum_by-append, sum_by-cons}
+use Rattle.std.proofs.lemmas.List.{append-nil, append_assoc, map-append}
+use Rattle.std.proofs.lemmas.List.Elements.{filter-append}
 use Rattle.codespan_base.specs.declared.term.config.Config.{Config}
 use Rattle.codespan_base.specs.FileModel.{FileModel}
-use Rattle.codespan_base.specs.Labels.{is_single}
+use Rattle.codespan_base.specs.Labels.{Labelled, is_single, multi_labels}
 use Rattle.codespan_reporting.specs.Inner.Entries.{Entry, entries_of}
-use Rattle.codespan_reporting.specs.Inner.PlacedLabels.{file_place, is_multi_of, lane_after, place_after, entries_after}
+use Rattle.codespan_reporting.specs.Inner.Lanes.{Lane, file_lanes, lane_of, lanes_in}
+use Rattle.codespan_reporting.specs.Inner.PlacedLabels.{file_place, place_after, entries_after}
 use Rattle.codespan_picture.specs.Snippets.{InFile}
 use Rattle.codespan_reporting.proofs.FileOrder.{has}
 use Rattle.codespan_reporting.proofs.FilePlaces.{Differ, place-here, place-later}
+
+-- the lane that a label takes, where it is over several lines
+abbrev pub label_lanes : FileModel → Labelled → List Lane
+label_lanes f x = map (lane_of f) (multi_labels f (x ∷ []))
+
+-- a label inside one line takes none
+pub label_lanes-none : (f : FileModel) (x : Labelled) → is_single f x ≡ true → label_lanes f x ≡ []
+label_lanes-none f x single = ap (λ b. map (lane_of f) (cond (not b) (x ∷ []) [])) single
+
+-- another one takes its own
+pub label_lanes-one : (f : FileModel) (x : Labelled) → is_single f x ≡ false → label_lanes f x ≡ lane_of f x ∷ []
+label_lanes-one f x multi = ap (λ b. map (lane_of f) (cond (not b) (x ∷ []) [])) multi
 
 module _ {Id : Type 0} (same : Id → Id → Bool) (o : IsEquivalence same) where
   -- an id that is the same as that of one of these has a place among them
@@ -54,27 +67,41 @@ module _ {Id : Type 0} (same : Id → Id → Bool) (o : IsEquivalence same) wher
         (cases_Bool (same j i))
 
   module _ (file : Id → FileModel) where
-    -- equal ids have one lane next
-    pub lane_after-alike : (before : List (InFile Id)) (i j : Id) → same i j ≡ true → lane_after same file before i ≡ lane_after same file before j
-    lane_after-alike before i j t = λ k. count_by (λ y. o.congr i j y.id t k && not (is_single (file y.id) y.label)) before
+    -- equal ids have the same lanes
+    pub lanes_in-alike : ((i j : Id) → same i j ≡ true → file i ≡ file j) → (before : List (InFile Id)) (i j : Id) → same i j ≡ true → lanes_in same file before i ≡ lanes_in same file before j
+    lanes_in-alike one_file before i j t = λ k. file_lanes (record {
+      file = one_file i j t k;
+      labels = map (λ (x : InFile Id). x.label) (filter (λ (x : InFile Id). o.congr i j x.id t k) before);
+    })
 
-    -- the lane after one more label
-    pub lane_after-more : (before : List (InFile Id)) (x : InFile Id) (id : Id)
-        → lane_after same file (before ++ x ∷ []) id ≡ lane_after same file before id + (if same id x.id then (if is_single (file x.id) x.label then 0 else 1) else 0)
-    lane_after-more before x id =
-        omega (arith, sum_by-append (λ y. cond {A = ℕ} (is_multi_of same file id y) 1 0) before (x ∷ []), sum_by-cons (λ y. cond {A = ℕ} (is_multi_of same file id y) 1 0) x [], by (same id x.id) (is_single (file x.id) x.label))
+    -- the lanes with one more label
+    pub lanes_in-more : (before : List (InFile Id)) (x : InFile Id) (id : Id)
+        → lanes_in same file (before ++ x ∷ []) id ≡ lanes_in same file before id ++ (if same id x.id then label_lanes (file id) x.label else [])
+    lanes_in-more before x id =
+        ap (λ (xs : List (InFile Id)). file_lanes (record { file = file id; labels = map (λ (y : InFile Id). y.label) xs })) (filter-append (λ (y : InFile Id). same id y.id) before (x ∷ []))
+        ∙ by_same (same id x.id)
       where
-        by : (b c : Bool) → cond {A = ℕ} (b && not c) 1 0 ≡ (if b then (if c then 0 else 1) else 0)
-        by true true = refl
-        by true false = refl
-        by false c = refl
+        own : List (InFile Id)
+        own = filter (λ (y : InFile Id). same id y.id) before
+
+        labels : List Labelled
+        labels = map (λ (y : InFile Id). y.label) own
+
+        by_same : (b : Bool) → file_lanes (record { file = file id; labels = map (λ (y : InFile Id). y.label) (own ++ (cond b (x ∷ []) [])) })
+            ≡ lanes_in same file before id ++ (if b then label_lanes (file id) x.label else [])
+        by_same true =
+            ap (λ (ls : List Labelled). file_lanes (record { file = file id; labels = ls })) (map-append (λ (y : InFile Id). y.label) own (x ∷ []))
+            ∙ ap (map (lane_of (file id))) (filter-append (λ y. not (is_single (file id) y)) labels (x.label ∷ []))
+            ∙ map-append (lane_of (file id)) (multi_labels (file id) labels) (multi_labels (file id) (x.label ∷ []))
+        by_same false =
+            ap (λ (xs : List (InFile Id)). file_lanes (record { file = file id; labels = map (λ (y : InFile Id). y.label) xs })) (append-nil own) ∙ sym (append-nil _)
 
     -- what the labels say, with one more
     pub entries_after-more : (config : Config) (ids : List Id) (before xs : List (InFile Id)) (x : InFile Id)
-        → entries_after same file config ids before (xs ++ x ∷ []) ≡ entries_after same file config ids before xs ++ entries_of config (file x.id) (place_after same file ids (before ++ xs) x) x.label
+        → entries_after same file config ids before (xs ++ x ∷ []) ≡ entries_after same file config ids before xs ++ entries_of config (file x.id) (place_after same ids (before ++ xs) x) x.label
     entries_after-more config ids before [] x =
-        append-nil _ ∙ ap (λ (ys : List (InFile Id)). entries_of config (file x.id) (place_after same file ids ys x) x.label) (sym (append-nil before))
+        append-nil _ ∙ ap (λ (ys : List (InFile Id)). entries_of config (file x.id) (place_after same ids ys x) x.label) (sym (append-nil before))
     entries_after-more config ids before (y ∷ ys) x =
-        ap (λ (es : List Entry). entries_of config (file y.id) (place_after same file ids before y) y.label ++ es) (entries_after-more config ids (before ++ y ∷ []) ys x)
-        ∙ sym (append_assoc (entries_of config (file y.id) (place_after same file ids before y) y.label) (entries_after same file config ids (before ++ y ∷ []) ys) (entries_of config (file x.id) (place_after same file ids ((before ++ y ∷ []) ++ ys) x) x.label))
-        ∙ ap (λ (zs : List (InFile Id)). entries_after same file config ids before (y ∷ ys) ++ entries_of config (file x.id) (place_after same file ids zs x) x.label) (append_assoc before (y ∷ []) ys)
+        ap (λ (es : List Entry). entries_of config (file y.id) (place_after same ids before y) y.label ++ es) (entries_after-more config ids (before ++ y ∷ []) ys x)
+        ∙ sym (append_assoc (entries_of config (file y.id) (place_after same ids before y) y.label) (entries_after same file config ids (before ++ y ∷ []) ys) (entries_of config (file x.id) (place_after same ids ((before ++ y ∷ []) ++ ys) x) x.label))
+        ∙ ap (λ (zs : List (InFile Id)). entries_after same file config ids before (y ∷ ys) ++ entries_of config (file x.id) (place_after same ids zs x) x.label) (append_assoc before (y ∷ []) ys)

@@ -1,78 +1,57 @@
 -- What the labels of a diagnostic say, gathered one label after another.
-use Rattle.std.proofs.Common.{◌≡◌, ℕ, ◌+◌, ◌<◌, ◌≤◌, Bool, true, false, List, [], ◌∷◌, ◌++◌, length, take, drop, get_or, set, map, Option, Some, None, refl, sym, ap, ◌∙◌, subst, arith}
-use Rattle.std.specs.Prelude.{◌==◌, flat_map, replicate, if◌then◌else◌}
+use Rattle.std.proofs.Common.{◌≡◌, ℕ, ◌+◌, ◌<◌, ◌≤◌, Bool, true, List, [], ◌∷◌, ◌++◌, length, take, drop, get_or, set, map, Some, None, refl, sym, ap, ◌∙◌, subst, arith}
+use Rattle.std.specs.Prelude.{flat_map, fold, max, replicate, if◌then◌else◌}
 use Rattle.std.specs.Cmp.{IsEquivalence}
 use Rattle.std.specs.List.{AllByRecursion}
 use Rattle.std.proofs.lemmas.Bool.{eq-eqb}
 use Rattle.std.proofs.lemmas.Grind.{flat_map-append}
-use Rattle.std.proofs.lemmas.List.{append-nil, length-map, length-take-le, map-append, take-append-drop, take_all}
-use Rattle.std.proofs.lemmas.List.Sums.{count_by-le-length}
+use Rattle.std.proofs.lemmas.List.{append-nil, length-map, length-take-le, map-append, set-get_or, take-append-drop, take_all}
 use Rattle.codespan_base.specs.declared.term.config.Config.{Config}
 use Rattle.codespan_base.specs.declared.diagnostic.Label.{Label}
 use Rattle.codespan_base.specs.declared.files.error.Error.{Error}
 use Rattle.codespan_base.specs.FileModel.{FileModel}
-use Rattle.codespan_base.specs.Labels.{Labelled, LaneMark, is_single, mark_of, part_on, first_line, last_line, drawn_label}
 use Rattle.codespan_reporting.specs.declared.term.views.entry.Entry.{Entry as GivenEntry}
-use Rattle.codespan_reporting.specs.Inner.Entries.{Entry, LabelPlace, Shown, Single, entries_of, entry_of_mark, entry_on, line_entries, mark_entries, shown_entries}
+use Rattle.codespan_reporting.specs.declared.term.views.gather.FoundLines.{FoundLines}
+use Rattle.codespan_reporting.specs.Inner.Entries.{Entry, LabelPlace, entries_of}
 use Rattle.codespan_reporting.specs.Inner.GivenEntries.{Adds, AddsOf, IsLineOf, IsOfFiles, entry_of}
-use Rattle.codespan_picture.specs.Lines.{shows}
-use Rattle.codespan_picture.specs.Lookups.{Refusals, asked_lines, asked_of, first_refusal, label_asked, label_lookups, of_label}
+use Rattle.codespan_reporting.specs.Inner.Lanes.{Lane, lanes_in}
+use Rattle.codespan_picture.specs.Lookups.{Refusals, asked_of, first_refusal, label_asked, label_lookups, of_label}
 use Rattle.codespan_picture.specs.Picture.{label_of}
-use Rattle.codespan_reporting.specs.Inner.PlacedLabels.{IsIdAt, entries_after, file_ids, file_place, is_multi_of, lane_after, place_after}
+use Rattle.codespan_reporting.specs.Inner.PlacedLabels.{IsIdAt, entries_after, file_ids, file_place, label_places, place_after}
+use Rattle.codespan_reporting.specs.Inner.SpannedDigits.{all_digits, label_digits}
 use Rattle.codespan_picture.specs.Snippets.{InFile}
+use Rattle.codespan_laws.proofs.Greatest.{greatest-append}
+use Rattle.codespan_laws.proofs.SortedLists.{all-both, all-mapped, all-weaker}
 use Rattle.codespan_reporting.proofs.FilePlaces.{file_place-at}
 use Rattle.codespan_reporting.proofs.Gathering.{Adds-as, Adds-both}
-use Rattle.codespan_reporting.proofs.LabelPlaces.{entries_after-more, kept-at, lane_after-alike, lane_after-more, set-at}
-use Rattle.codespan_reporting.proofs.LabelTurns.{IsLabelTurn, before, before-more, has-file, ids-differ}
+use Rattle.codespan_reporting.proofs.LabelEntries.{all-of_file}
+use Rattle.codespan_reporting.proofs.LabelPlaces.{entries_after-more, kept-at, label_lanes, lanes_in-alike, lanes_in-more, set-at}
+use Rattle.codespan_reporting.proofs.LabelFiles.{label_place-at}
+use Rattle.codespan_reporting.proofs.LabelTurns.{IsLabelTurn, before, before-more, file-inside, has-file, ids-differ}
 use Rattle.codespan_reporting.proofs.Refusals.{first_refusal-none, first_refusal-some}
-use Rattle.codespan_laws.proofs.SortedLists.{all-append, all-both, all-mapped, all-weaker}
 
--- ---- all entries of a label are of its file
+-- no file has a lane before the first label
+none-are : {X : Type 0} (xs : List X) → map {B = List Lane} (λ _. []) xs ≡ replicate (length xs) []
+none-are [] = refl
+none-are (x ∷ xs) = ap (λ (lanes : List (List Lane)). [] ∷ lanes) (none-are xs)
 
-module _ (config : Config) (f : FileModel) (at : LabelPlace) (x : Labelled) where
-  -- all of these are
-  abbrev Own : List Entry → Type 0
-  Own es = AllByRecursion (λ (e : Entry). e.file ≡ at.file) es
+-- where a label takes no lane the lanes stay
+pub lanes-stay : (lanes : List (List Lane)) (at : ℕ) (own : List Lane) → own ≡ [] → lanes ≡ set lanes at (get_or lanes at [] ++ own)
+lanes-stay lanes at own none = sym (set-get_or lanes at []) ∙ ap (set lanes at) (sym (append-nil (get_or lanes at []))) ∙ ap (λ (ls : List Lane). set lanes at (get_or lanes at [] ++ ls)) (sym none)
 
-  own_shown : (l : ℕ) → Own (shown_entries config f at x l)
-  own_shown l = by (shows config (first_line f x) (last_line f x) l)
-    where
-      by : (b : Bool) → Own (if b then entry_on config f at x l Shown ∷ [] else [])
-      by true = (refl, tt)
-      by false = tt
-
-  own_marks : (l : ℕ) → Own (mark_entries config f at x l)
-  own_marks l = by (is_single f x) (first_line f x == l) (mark_of at.lane x (part_on f l x))
-    where
-      by : (b c : Bool) (m : Option LaneMark) → Own (if b then (if c then entry_on config f at x l (Single at.place (drawn_label f x)) ∷ [] else []) else entry_of_mark config f at x l m)
-      by true true m = (refl, tt)
-      by true false m = tt
-      by false c None = tt
-      by false c (Some m) = (refl, tt)
-
-  own_lines : (ls : List ℕ) → Own (flat_map (line_entries config f at x) ls)
-  own_lines [] = tt
-  own_lines (l ∷ ls) =
-      all-append (λ (e : Entry). e.file ≡ at.file) (line_entries config f at x l) (flat_map (line_entries config f at x) ls)
-      (all-append (λ (e : Entry). e.file ≡ at.file) (shown_entries config f at x l) (mark_entries config f at x l) (own_shown l) (own_marks l)) (own_lines ls)
-
--- as many zeros as there are elements
-zeros-are : {X : Type 0} (xs : List X) → map {B = ℕ} (λ _. 0) xs ≡ replicate (length xs) 0
-zeros-are [] = refl
-zeros-are (x ∷ xs) = ap (λ (ns : List ℕ). 0 ∷ ns) (zeros-are xs)
-
--- the labels before this place are done with: the next lanes are counted, what the labels say is there, and no lookup was refused
-pub record AreGathered {Id : Type 0} (same : Id → Id → Bool) (file : Id → FileModel) (refusal : Refusals Id) (config : Config) (labels : List (Label Id)) (ids : List Id)
-    (place : ℕ) (lanes : List ℕ) (entries : List GivenEntry) : Type 0 where
-  pub lanes_are : lanes ≡ map (lane_after same file (before labels place)) ids
-  pub added : Adds (IsOfFiles file ids) [] entries (entries_after same file config ids [] (before labels place))
-  pub answered : first_refusal refusal (label_lookups config file refusal (before labels place)) ≡ None
+-- these labels are done with: their lanes and what they say are there, the lines that they span have room, and no lookup was refused
+pub record AreGathered {Id : Type 0} (same : Id → Id → Bool) (file : Id → FileModel) (refusal : Refusals Id) (config : Config) (ids : List Id)
+    (done : List (InFile Id)) (lanes : List (List Lane)) (found : FoundLines) : Type 0 where
+  pub lanes_are : lanes ≡ map (lanes_in same file done) ids
+  pub added : Adds (IsOfFiles file ids) [] found.entries.items (entries_after same file config ids [] done)
+  pub counted : found.padding ≡ fold max 0 (all_digits file done)
+  pub answered : first_refusal refusal (label_lookups config file refusal done) ≡ None
 
 module _ {Id : Type 0} (same : Id → Id → Bool) (file : Id → FileModel) (o : IsEquivalence same) (one_file : (i j : Id) → same i j ≡ true → file i ≡ file j)
     (refusal : Refusals Id) (config : Config) (labels : List (Label Id)) (ids : List Id) (are : ids ≡ file_ids same (map label_of labels)) where
   -- the labels before this place are done with
-  abbrev Are : ℕ → List ℕ → List GivenEntry → Type 0
-  Are = AreGathered same file refusal config labels ids
+  abbrev Are : ℕ → List (List Lane) → FoundLines → Type 0
+  Are place = AreGathered same file refusal config ids (before labels place)
 
   module _ (place : ℕ) (label : Label Id) (inside : place < length labels) (is : label ≡ get_or labels place label) where
     -- it is the label's turn
@@ -87,16 +66,12 @@ module _ {Id : Type 0} (same : Id → Id → Bool) (file : Id → FileModel) (o 
     before-length : length (before labels place) ≡ place
     before-length = length-map (take place labels) label_of ∙ length-take-le place labels (omega arith)
 
-    -- its lane is below its place
-    pub lane-is : (lanes : List ℕ) (entries : List GivenEntry) → Are place lanes entries
-        → get_or lanes (file_place same ids label.file_id) 0 ≡ lane_after same file (before labels place) label.file_id
-    lane-is lanes entries g =
-        ap (λ (ns : List ℕ). get_or ns (file_place same ids label.file_id) 0) g.lanes_are
-        ∙ kept-at same o (lane_after same file (before labels place)) (lane_after-alike same o file (before labels place)) ids label.file_id 0 (has-file same o labels ids place label turn)
-
-    pub lane-room : (lanes : List ℕ) (entries : List GivenEntry) → Are place lanes entries → get_or lanes (file_place same ids label.file_id) 0 ≤ place
-    lane-room lanes entries g =
-        omega (arith, lane-is lanes entries g, before-length, count_by-le-length (is_multi_of same file label.file_id) (before labels place))
+    -- the lanes that are kept at its file's place are those of its file
+    lanes-kept : (lanes : List (List Lane)) (found : FoundLines) → Are place lanes found
+        → get_or lanes (file_place same ids label.file_id) [] ≡ lanes_in same file (before labels place) label.file_id
+    lanes-kept lanes found g =
+        ap (λ (all : List (List Lane)). get_or all (file_place same ids label.file_id) []) g.lanes_are
+        ∙ kept-at same o (lanes_in same file (before labels place)) (lanes_in-alike same o file one_file (before labels place)) ids label.file_id [] (has-file same o labels ids place label turn)
 
     -- an entry of the label's file is one of the files with these ids
     of_files : (e : GivenEntry) → IsLineOf (file label.file_id) e.line → e.file ≡ file_place same ids label.file_id → IsOfFiles file ids e
@@ -108,24 +83,24 @@ module _ {Id : Type 0} (same : Id → Id → Bool) (file : Id → FileModel) (o 
         subst (λ (f : FileModel). IsLineOf f e.line) (sym (one_file id label.file_id alike)) is_line
 
     -- where the label is
-    abbrev here : List ℕ → LabelPlace
-    here lanes = record { file = file_place same ids label.file_id; place = place; lane = get_or lanes (file_place same ids label.file_id) 0 }
+    abbrev here : LabelPlace
+    here = record { file = file_place same ids label.file_id; place = place }
 
     -- that is what comes after the labels before it
-    here-is : (lanes : List ℕ) (entries : List GivenEntry) → Are place lanes entries → here lanes ≡ place_after same file ids (before labels place) (label_of label)
-    here-is lanes entries g = λ i. record { file = file_place same ids label.file_id; place = sym before-length i; lane = lane-is lanes entries g i }
+    here-is : here ≡ place_after same ids (before labels place) (label_of label)
+    here-is = λ i. record { file = file_place same ids label.file_id; place = sym before-length i }
 
     -- what the label says was added
-    added-more : (lanes : List ℕ) (entries more : List GivenEntry) → Are place lanes entries
-        → AddsOf (file label.file_id) entries more (entries_of config (file label.file_id) (here lanes) (label_of label).label)
-        → Adds (IsOfFiles file ids) [] more (entries_after same file config ids [] (before labels (place + 1)))
-    added-more lanes entries more g adds =
+    added-more : (lanes : List (List Lane)) (found more : FoundLines) → Are place lanes found
+        → AddsOf (file label.file_id) found.entries.items more.entries.items (entries_of config (file label.file_id) here (label_of label).label)
+        → Adds (IsOfFiles file ids) [] more.entries.items (entries_after same file config ids [] (before labels (place + 1)))
+    added-more lanes found more g adds =
         let f = file label.file_id in
         let x = (label_of label).label in
         let own : AllByRecursion (λ (e : GivenEntry). e.file ≡ file_place same ids label.file_id) adds.more =
         all-mapped entry_of (λ (e : Entry). e.file ≡ file_place same ids label.file_id) adds.more
-        (subst (λ (es : List Entry). AllByRecursion (λ (e : Entry). e.file ≡ file_place same ids label.file_id) es) (sym adds.say) (own_lines config f (here lanes) x (asked_lines config f x))) in
-        let widened : Adds (IsOfFiles file ids) entries more (entries_of config f (here lanes) x) = record {
+        (subst (λ (es : List Entry). AllByRecursion (λ (e : Entry). e.file ≡ file_place same ids label.file_id) es) (sym adds.say) (all-of_file config f here x)) in
+        let widened : Adds (IsOfFiles file ids) found.entries.items more.entries.items (entries_of config f here x) = record {
           more = adds.more;
           whole = adds.whole;
           say = adds.say;
@@ -133,45 +108,78 @@ module _ {Id : Type 0} (same : Id → Id → Bool) (file : Id → FileModel) (o 
               all-weaker (λ (e : GivenEntry). IsLineOf f e.line × (e.file ≡ file_place same ids label.file_id)) (IsOfFiles file ids) (λ e h. of_files e h.0 h.1) adds.more
               (all-both (λ e. IsLineOf f e.line) (λ e. e.file ≡ file_place same ids label.file_id) adds.more adds.each own);
         } in
-        Adds-as (IsOfFiles file ids) [] more _ _
+        Adds-as (IsOfFiles file ids) [] _ _ _
         (ap (entries_after same file config ids []) one_more
         ∙ entries_after-more same o file config ids [] (before labels place) (label_of label)
-        ∙ ap (λ (at : LabelPlace). entries_after same file config ids [] (before labels place) ++ entries_of config f at x) (sym (here-is lanes entries g)))
-        (Adds-both (IsOfFiles file ids) [] entries more _ _ g.added widened)
+        ∙ ap (λ (at : LabelPlace). entries_after same file config ids [] (before labels place) ++ entries_of config f at x) (sym here-is))
+        (Adds-both (IsOfFiles file ids) [] _ _ _ _ g.added widened)
 
-    -- the lane of the next label after this one
-    lane-more : (j : Id) → lane_after same file (before labels (place + 1)) j
-        ≡ lane_after same file (before labels place) j + (if same j label.file_id then (if is_single (file label.file_id) (label_of label).label then 0 else 1) else 0)
-    lane-more j = ap (λ xs. lane_after same file xs j) one_more ∙ lane_after-more same o file (before labels place) (label_of label) j
+    -- the lines that it spans have room
+    counted-more : (lanes : List (List Lane)) (found more : FoundLines) → Are place lanes found
+        → more.padding ≡ fold max found.padding (label_digits (file label.file_id) (label_of label).label) → more.padding ≡ fold max 0 (all_digits file (before labels (place + 1)))
+    counted-more lanes found more g counts =
+        let digits : InFile Id → List ℕ = λ x. label_digits (file x.id) x.label in
+        counts ∙ ap (λ n. fold max n (digits (label_of label))) g.counted
+        ∙ sym (greatest-append 0 (all_digits file (before labels place)) (digits (label_of label)))
+        ∙ ap (λ (ns : List ℕ). fold max 0 (all_digits file (before labels place) ++ ns)) (sym (append-nil (digits (label_of label))))
+        ∙ ap (fold max 0) (sym (flat_map-append digits (before labels place) (label_of label ∷ [])))
+        ∙ ap (λ xs. fold max 0 (all_digits file xs)) (sym one_more)
 
-    -- one more label
-    pub gathered-more : (lanes next : List ℕ) (entries more : List GivenEntry) → Are place lanes entries
-        → AddsOf (file label.file_id) entries more (entries_of config (file label.file_id) (here lanes) (label_of label).label)
-        → next ≡ set lanes (file_place same ids label.file_id) (get_or lanes (file_place same ids label.file_id) 0 + (if is_single (file label.file_id) (label_of label).label then 0 else 1))
+    -- the lanes of a file after this label
+    lanes-more : (j : Id) → lanes_in same file (before labels (place + 1)) j
+        ≡ lanes_in same file (before labels place) j ++ (if same j label.file_id then label_lanes (file j) (label_of label).label else [])
+    lanes-more j = ap (λ xs. lanes_in same file xs j) one_more ∙ lanes_in-more same o file (before labels place) (label_of label) j
+
+    -- the label's file has its lane too, and no other file's lanes change
+    lanes-next : (lanes next : List (List Lane)) (found : FoundLines) → Are place lanes found
+        → next ≡ set lanes (file_place same ids label.file_id) (get_or lanes (file_place same ids label.file_id) [] ++ label_lanes (file label.file_id) (label_of label).label)
+        → next ≡ map (lanes_in same file (before labels (place + 1))) ids
+    lanes-next lanes next found g changed =
+        let own = label_lanes (file label.file_id) (label_of label).label in
+        changed ∙ (λ i. set (g.lanes_are i) (file_place same ids label.file_id) (lanes-kept lanes found g i ++ own))
+        ∙ set-at same o (lanes_in same file (before labels place)) (lanes_in same file (before labels (place + 1))) label.file_id _
+        (λ j t. lanes-more j
+        ∙ ap (λ (b : Bool). lanes_in same file (before labels place) j ++ (if b then label_lanes (file j) (label_of label).label else [])) t
+        ∙ (λ i. lanes_in-alike same o file one_file (before labels place) j label.file_id t i ++ label_lanes (one_file j label.file_id t i) (label_of label).label))
+        (λ j f. lanes-more j
+        ∙ ap (λ (b : Bool). lanes_in same file (before labels place) j ++ (if b then label_lanes (file j) (label_of label).label else [])) f ∙ append-nil _)
+        ids (ids-differ same o labels ids place label turn) (has-file same o labels ids place label turn)
+
+    -- the place of the label's file that was looked up
+    pub place-found : (places : List ℕ) (at : ℕ) → places ≡ label_places same ids (map label_of labels) → at ≡ get_or places place at → at ≡ file_place same ids label.file_id
+    place-found places at made found = found ∙ ap (λ ns. get_or ns place at) made ∙ label_place-at same ids labels place at label inside is
+
+    -- it is below the number of the files
+    pub place-inside : (lanes : List (List Lane)) (found : FoundLines) (at : ℕ) → Are place lanes found → at ≡ file_place same ids label.file_id → at < length lanes
+    place-inside lanes found at g here =
+        let low = file-inside same o labels ids place label turn in
+        let long : length lanes ≡ length ids = ap length g.lanes_are ∙ length-map ids _ in
+        omega (arith, low, here, long)
+
+    -- one more label, whose file is at this place
+    pub gathered-more : (at : ℕ) → at ≡ file_place same ids label.file_id → (lanes next : List (List Lane)) (found more : FoundLines) → Are place lanes found
+        → AddsOf (file label.file_id) found.entries.items more.entries.items (entries_of config (file label.file_id) (record { file = at; place = place }) (label_of label).label)
+        → more.padding ≡ fold max found.padding (label_digits (file label.file_id) (label_of label).label)
+        → next ≡ set lanes at (get_or lanes at [] ++ label_lanes (file label.file_id) (label_of label).label)
         → first_refusal refusal (asked_of label.file_id (of_label config (file label.file_id) (refusal label.file_id) (label_of label).label)) ≡ None
         → Are (place + 1) next more
-    gathered-more lanes next entries more g adds counted none =
-        let m : ℕ = if is_single (file label.file_id) (label_of label).label then 0 else 1 in
-        record {
-          lanes_are =
-              counted ∙ (λ i. set (g.lanes_are i) (file_place same ids label.file_id) (lane-is lanes entries g i + m))
-              ∙ set-at same o (lane_after same file (before labels place)) (lane_after same file (before labels (place + 1))) label.file_id _
-              (λ j t. lane-more j ∙ ap (λ (b : Bool). lane_after same file (before labels place) j + (if b then m else 0)) t ∙ ap (λ n. n + m) (lane_after-alike same o file (before labels place) j label.file_id t))
-              (λ j f. lane-more j ∙ ap (λ (b : Bool). lane_after same file (before labels place) j + (if b then m else 0)) f ∙ omega arith)
-              ids (ids-differ same o labels ids place label turn) (has-file same o labels ids place label turn);
-          added = added-more lanes entries more g adds;
-          answered =
-              ap (λ xs. first_refusal refusal (label_lookups config file refusal xs)) one_more
-              ∙ ap (first_refusal refusal) (flat_map-append (label_asked config file refusal) (before labels place) (label_of label ∷ []))
-              ∙ first_refusal-none refusal (label_lookups config file refusal (before labels place)) _ g.answered
-              ∙ ap (first_refusal refusal) (append-nil (label_asked config file refusal (label_of label))) ∙ none;
-        }
+    gathered-more at is_at lanes next found more g adds counts changed none = record {
+      lanes_are = lanes-next lanes next found g (subst (λ k. next ≡ set lanes k (get_or lanes k [] ++ label_lanes (file label.file_id) (label_of label).label)) is_at changed);
+      added = added-more lanes found more g
+          (subst (λ k. AddsOf (file label.file_id) found.entries.items more.entries.items (entries_of config (file label.file_id) (record { file = k; place = place }) (label_of label).label)) is_at adds);
+      counted = counted-more lanes found more g counts;
+      answered =
+          ap (λ xs. first_refusal refusal (label_lookups config file refusal xs)) one_more
+          ∙ ap (first_refusal refusal) (flat_map-append (label_asked config file refusal) (before labels place) (label_of label ∷ []))
+          ∙ first_refusal-none refusal (label_lookups config file refusal (before labels place)) _ g.answered
+          ∙ ap (first_refusal refusal) (append-nil (label_asked config file refusal (label_of label))) ∙ none;
+    }
 
     -- a label whose lookups are refused
-    pub gathered-refused : (lanes : List ℕ) (entries : List GivenEntry) (e : Error) → Are place lanes entries
+    pub gathered-refused : (lanes : List (List Lane)) (found : FoundLines) (e : Error) → Are place lanes found
         → first_refusal refusal (asked_of label.file_id (of_label config (file label.file_id) (refusal label.file_id) (label_of label).label)) ≡ Some e
         → first_refusal refusal (label_lookups config file refusal (map label_of labels)) ≡ Some e
-    gathered-refused lanes entries e g some =
+    gathered-refused lanes found e g some =
         let rest = map label_of (drop (place + 1) labels) in
         let whole : map label_of labels ≡ (before labels place ++ label_of label ∷ []) ++ rest =
         ap (map label_of) (sym (take-append-drop (place + 1) labels)) ∙ map-append label_of (take (place + 1) labels) (drop (place + 1) labels)
@@ -185,17 +193,15 @@ module _ {Id : Type 0} (same : Id → Id → Bool) (file : Id → FileModel) (o 
         ∙ ap (first_refusal refusal) (append-nil (label_asked config file refusal (label_of label))) ∙ some)
 
   -- before the first label
-  pub gathered-none : (lanes : List ℕ) → lanes ≡ replicate (length ids) 0 → Are 0 lanes []
-  gathered-none lanes zeros = record { lanes_are = zeros ∙ sym (zeros-are ids); added = record { more = []; whole = refl; say = refl; each = tt }; answered = refl }
+  pub gathered-none : (lanes : List (List Lane)) (found : FoundLines) → lanes ≡ replicate (length ids) [] → found.entries.items ≡ [] → found.padding ≡ 0 → Are 0 lanes found
+  gathered-none lanes found empty no_entry no_room = record {
+    lanes_are = empty ∙ sym (none-are ids);
+    added = record { more = []; whole = no_entry; say = refl; each = tt };
+    counted = no_room;
+    answered = refl;
+  }
 
   -- after the last one
-  pub gathered-all : (place : ℕ) (lanes : List ℕ) (entries : List GivenEntry) → length labels ≤ place → Are place lanes entries
-      → (lanes ≡ map (lane_after same file (map label_of labels)) ids)
-      × Adds (IsOfFiles file ids) [] entries (entries_after same file config ids [] (map label_of labels))
-      × (first_refusal refusal (label_lookups config file refusal (map label_of labels)) ≡ None)
-  gathered-all place lanes entries past g =
-      let all : before labels place ≡ map label_of labels = ap (map label_of) (take_all place labels past) in (
-        g.lanes_are ∙ ap (λ xs. map (lane_after same file xs) ids) all,
-        Adds-as (IsOfFiles file ids) [] entries _ _ (ap (entries_after same file config ids []) (sym all)) g.added,
-        ap (λ xs. first_refusal refusal (label_lookups config file refusal xs)) (sym all) ∙ g.answered,
-      )
+  pub gathered-all : (place : ℕ) (lanes : List (List Lane)) (found : FoundLines) → length labels ≤ place → Are place lanes found
+      → AreGathered same file refusal config ids (map label_of labels) lanes found
+  gathered-all place lanes found past g = subst (λ xs. AreGathered same file refusal config ids (map label_of xs) lanes found) (take_all place labels past) g

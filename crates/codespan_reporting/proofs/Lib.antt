@@ -7,7 +7,7 @@ pub mod StepLines
 pub mod EntryOrder
 pub mod LabelEntries
 pub mod FilePlaces
-pub mod EntryMarks
+pub mod EntryLines
 pub mod EntryPicture
 pub mod FileParts
 pub mod Gathering
@@ -19,6 +19,7 @@ pub mod LabelTurns
 pub mod LabelsGathered
 pub mod Askings
 pub mod MarkOrder
+pub mod LaneMarks
 pub mod StepsFound
 pub mod StyleCalls
 pub mod GroupSteps
@@ -31,7 +32,7 @@ pub mod PlansFound
 pub mod PlanPadding
 pub mod PlansPlaced
 pub mod StepsDrawn
-pub mod EntryPadding
+pub mod SpannedRoom
 pub mod NoteRows
 pub mod SheetPrepared
 pub mod RichParts

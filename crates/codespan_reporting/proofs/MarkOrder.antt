@@ -1,25 +1,19 @@
--- The lanes and the labels of a line as they are given and as they are defined.
-use Rattle.std.proofs.Common.{◌≡◌, ℕ, ◌≤◌, false, true, nat_le, List, [], ◌∷◌, map, refl, ap, ◌∙◌, arith}
+-- The labels of a line in the order of their starts.
+use Rattle.std.proofs.Common.{◌≡◌, ℕ, ◌≤◌, false, true, nat_le, List, [], ◌∷◌, refl, ap, ◌∙◌, arith}
 use Rattle.std.specs.List.{AllByRecursion}
-use Rattle.std.proofs.lemmas.Bool.{and_parts}
 use Rattle.std.proofs.lemmas.Bool.Decides.{nat_tests}
 use Rattle.codespan_base.specs.Labels.{Labelled, stands_before}
-use Rattle.codespan_picture.specs.Given.{GivenLabel, GivenMark, all_labelled, mark_of_given, lanes_in_order}
-use Rattle.codespan_picture.specs.Lanes.{ascend_from}
+use Rattle.codespan_picture.specs.Given.{GivenLabel, all_labelled}
 use Rattle.codespan_laws.proofs.OrderSorts.{Ascends}
 use Rattle.codespan_laws.proofs.SortedLists.{all-weaker}
 use Rattle.codespan_renderer.specs.Inner.Sweeps.{starts_from, starts_in_order}
 use Rattle.codespan_reporting.specs.Inner.Entries.{Entry}
-use Rattle.codespan_reporting.specs.Inner.Steps.{singles_in, multis_in, do_fit}
+use Rattle.codespan_reporting.specs.Inner.Steps.{singles_in}
 
--- a renderer may be given the marks of entries that fit
-pub lanes_fit : (count : ℕ) (ms : List GivenMark) (es : List Entry) → map mark_of_given ms ≡ multis_in es → do_fit count es ≡ true → lanes_in_order count ms ≡ true
-lanes_fit count ms es same fit = ap (ascend_from count 0) same ∙ (and_parts (ascend_from count 0 (multis_in es)) (starts_in_order (singles_in es)) fit).0
-
--- and their labels
-pub starts_fit : (count : ℕ) (xs : List GivenLabel) (es : List Entry) → all_labelled xs ≡ singles_in es → do_fit count es ≡ true
+-- a renderer may be given the labels of entries in order
+pub starts_fit : (xs : List GivenLabel) (es : List Entry) → all_labelled xs ≡ singles_in es → starts_in_order (singles_in es) ≡ true
     → starts_in_order (all_labelled xs) ≡ true
-starts_fit count xs es same fit = ap starts_in_order same ∙ (and_parts (ascend_from count 0 (multis_in es)) (starts_in_order (singles_in es)) fit).1
+starts_fit xs es same fit = ap starts_in_order same ∙ fit
 
 -- ---- labels by their ranges
 

@@ -16,7 +16,7 @@ use Rattle.codespan_picture.specs.Lines.{drawn_lines}
 use Rattle.codespan_picture.specs.Lookups.{Refusals, asked_of, filled_lines, locus_lookups, numbers_for_padding, of_filled}
 use Rattle.codespan_picture.specs.Padding.{digit_count, digits_of, numbered_lines, padding_of}
 use Rattle.codespan_picture.specs.Placed.{IsPlaceIn}
-use Rattle.codespan_picture.specs.Snippets.{InFile, LabelledFile, labelled_file, labelled_files, lane_count, locus_start, rows_after}
+use Rattle.codespan_picture.specs.Snippets.{InFile, LabelledFile, labelled_file, labelled_files, locus_start, rows_after}
 use Rattle.codespan_reporting.specs.declared.term.views.gather.Gathered.{Gathered}
 use Rattle.codespan_reporting.specs.declared.term.views.loci.FileStart.{FileStart}
 use Rattle.codespan_reporting.specs.declared.term.views.plan.FilePlan.{FilePlan}
@@ -25,41 +25,41 @@ use Rattle.codespan_reporting.specs.declared.term.views.steps.Step.{Step as Give
 use Rattle.codespan_reporting.specs.declared.term.views.steps.Step.TheVariants as given
 use Rattle.codespan_reporting.specs.Inner.Entries.{Entry}
 use Rattle.codespan_reporting.specs.Inner.GivenSheets.{IsGathered, IsPlacedPlan, IsPrepared, IsSheetFile, ids_of}
-use Rattle.codespan_reporting.specs.Inner.GivenEntries.{IsOfFiles, entry_of}
-use Rattle.codespan_reporting.specs.Inner.GivenPadding.{marked_digits}
+use Rattle.codespan_reporting.specs.Inner.GivenEntries.{entry_of}
+use Rattle.codespan_reporting.specs.Inner.Lanes.{Lane, all_lanes_given, file_lanes, lanes_given, lanes_in}
 use Rattle.codespan_reporting.specs.declared.term.views.sheet.Sheet.{Sheet}
 use Rattle.codespan_reporting.specs.Inner.GivenSteps.{IsStepIn, IsStepOf, asked_by, asked_by_all, asked_with, numbers_asked, step_of}
 use Rattle.codespan_reporting.specs.Inner.Loci.{file_start, place_lookups, start_byte}
-use Rattle.codespan_reporting.specs.Inner.PlacedLabels.{IsIdAt, file_ids, lane_after}
+use Rattle.codespan_reporting.specs.Inner.PlacedLabels.{IsIdAt, file_ids}
 use Rattle.codespan_reporting.specs.Inner.Plans.{ArePlans, IsPlan, plan_digits, planned_lookups, step_digits, steps_at}
 use Rattle.codespan_reporting.specs.Inner.StepDrawing.{DoFit}
 use Rattle.codespan_reporting.specs.Inner.Steps.{Step, fill_of, fills_of, line_of_step, lines_of_steps, rows_of_steps}
-use Rattle.codespan_reporting.proofs.EntryPadding.{by_place-same, spanned-room}
+use Rattle.codespan_reporting.proofs.PlansFound.{by_place-same}
+use Rattle.codespan_reporting.proofs.SpannedRoom.{spanned-room}
 use Rattle.codespan_reporting.proofs.EntryPicture.{snippet-fills, snippet-fits, snippet-lines, snippet-rows}
 use Rattle.codespan_reporting.proofs.LocusStarts.{start-is}
-use Rattle.codespan_reporting.proofs.SheetDrawing.{lanes-count}
 
 -- ---- one step
 
 -- a step in a layout is one of the file
 step_of-file : (layout : Layout) (f : FileModel) (g : GivenStep) → IsStepIn layout f g → IsStepOf f g
-step_of-file layout f (given.Shown line marks) is = is
-step_of-file Classic f (given.Filled index number marks) is = subst (λ (o : Option ℕ). IfSome o (λ known. known ≡ f.number index)) (sym is) tt
-step_of-file Unbroken f (given.Filled index number marks) is = subst (λ (o : Option ℕ). IfSome o (λ known. known ≡ f.number index)) (sym is) refl
-step_of-file layout f (given.Break marks) is = tt
+step_of-file layout f (given.Shown line singles) is = is
+step_of-file Classic f (given.Filled index number) is = subst (λ (o : Option ℕ). IfSome o (λ known. known ≡ f.number index)) (sym is) tt
+step_of-file Unbroken f (given.Filled index number) is = subst (λ (o : Option ℕ). IfSome o (λ known. known ≡ f.number index)) (sym is) refl
+step_of-file layout f (given.Break next) is = is
 
 -- it asks for what the layout asks for of the line that it fills in
 step-asks : (layout : Layout) (f : FileModel) (g : GivenStep) → IsStepIn layout f g → asked_by g ≡ flat_map (of_filled layout) (fill_of (step_of g))
-step-asks layout f (given.Shown line marks) is = refl
-step-asks Classic f (given.Filled index number marks) is = ap (λ (o : Option ℕ). asked_with o index) is
-step-asks Unbroken f (given.Filled index number marks) is = ap (λ (o : Option ℕ). asked_with o index) is
-step-asks layout f (given.Break marks) is = refl
+step-asks layout f (given.Shown line singles) is = refl
+step-asks Classic f (given.Filled index number) is = ap (λ (o : Option ℕ). asked_with o index) is
+step-asks Unbroken f (given.Filled index number) is = ap (λ (o : Option ℕ). asked_with o index) is
+step-asks layout f (given.Break next) is = refl
 
 -- in the unbroken layout the digits of its number are those of its line's
 step-digits : (f : FileModel) (g : GivenStep) → IsStepIn Unbroken f g → step_digits g ≡ map (λ l. digit_count (f.number l)) (line_of_step (step_of g))
-step-digits f (given.Shown line marks) is = ap (λ n. digit_count n ∷ []) is.number_is
-step-digits f (given.Filled index number marks) is = ap (λ (o : Option ℕ). step_digits (given.Filled index o marks)) is
-step-digits f (given.Break marks) is = refl
+step-digits f (given.Shown line singles) is = ap (λ n. digit_count n ∷ []) is.number_is
+step-digits f (given.Filled index number) is = ap (λ (o : Option ℕ). step_digits (given.Filled index o)) is
+step-digits f (given.Break next) is = refl
 
 -- ---- steps
 
@@ -94,11 +94,11 @@ at-map make (j ∷ js) (suc k) id d at = at-map make js k id d at
 
 -- the plan of a file is that of its labels: its lanes, where it starts, what its steps draw, and what they ask for
 pub record IsFilePlan {Id : Type 0} (config : Config) (s : LabelledFile) (plan : FilePlan Id) : Type 0 where
-  pub lanes_are : plan.lane_count ≡ lane_count s
+  pub lanes_are : lanes_given plan.lanes.now ≡ file_lanes s
   pub starts : start_byte plan.start ≡ locus_start s.labels
   pub each : AllByRecursion (IsStepOf s.file) plan.steps.items
-  pub fits : DoFit (lane_count s) (map step_of plan.steps.items)
-  pub rows : rows_of_steps s.file (lane_count s) (map step_of plan.steps.items) ≡ rows_after s None (drawn_lines config s.file s.labels)
+  pub fits : DoFit (map step_of plan.steps.items)
+  pub rows : rows_of_steps s.file (file_lanes s) (map step_of plan.steps.items) ≡ rows_after s None (drawn_lines config s.file s.labels)
   pub asked : asked_by_all plan.steps.items ≡ flat_map (of_filled config.layout) (filled_lines config s)
 
 -- in the unbroken layout the numbers of drawn lines count
@@ -118,8 +118,8 @@ module _ {Id : Type 0} (same : Id → Id → Bool) (file : Id → FileModel) (ta
   es = map entry_of gathered.entries.items
 
   -- its lanes
-  abbrev counts : List ℕ
-  counts = gathered.lane_counts.items
+  abbrev lanes : List (List Lane)
+  lanes = all_lanes_given gathered.lanes.items
 
   -- a file with its labels
   abbrev labelled : Id → LabelledFile
@@ -140,7 +140,7 @@ module _ {Id : Type 0} (same : Id → Id → Bool) (file : Id → FileModel) (ta
       by_layout Classic id = refl
       by_layout Unbroken id = refl
 
-  module _ (k : ℕ) (id : Id) (at : IsIdAt (file_ids same xs) k id) (plan : FilePlan Id) (is : IsPlan config.layout file es counts starts k id plan) where
+  module _ (k : ℕ) (id : Id) (at : IsIdAt (file_ids same xs) k id) (plan : FilePlan Id) (is : IsPlan config.layout file es lanes starts k id plan) where
     -- its steps
     steps-are : map step_of plan.steps.items ≡ steps_at es k
     steps-are = ap (map step_of) is.adds.whole ∙ is.adds.are
@@ -152,13 +152,15 @@ module _ {Id : Type 0} (same : Id → Id → Bool) (file : Id → FileModel) (ta
     -- the plan is that of the file
     file-plan : IsFilePlan config (labelled id) plan
     file-plan = record {
-      lanes_are = is.lanes_are ∙ ap (λ (ns : List ℕ). get_or ns k plan.lane_count) (all.lanes_are ∙ ap (map (lane_after same file xs)) all.ids_are) ∙ at-map (lane_after same file xs) (file_ids same xs) k id plan.lane_count at ∙ lanes-count same file table.one_file id xs;
+      lanes_are =
+          is.lanes_are ∙ ap (λ (own : List (List Lane)). get_or own k (lanes_given plan.lanes.now)) (all.lanes_are ∙ ap (map (lanes_in same file xs)) all.ids_are)
+          ∙ at-map (lanes_in same file xs) (file_ids same xs) k id (lanes_given plan.lanes.now) at;
       starts =
           ap start_byte (is.start_is ∙ ap (λ (ss : List FileStart). get_or ss k plan.start) (starts_are ∙ ap (map (file_start same xs)) all.ids_are) ∙ at-map (file_start same xs) (file_ids same xs) k id plan.start at)
           ∙ start-is same file id xs;
       each = steps_of-file config.layout (file id) plan.steps.items steps-in;
-      fits = subst (DoFit (lane_count (labelled id))) (sym steps-are) (snippet-fits same file table.equivalence table.one_file table.some_line config xs es all.permutation all.sorted k id at);
-      rows = ap (rows_of_steps (file id) (lane_count (labelled id))) steps-are ∙ snippet-rows same file table.equivalence table.one_file table.some_line config xs es all.permutation all.sorted k id at;
+      fits = subst DoFit (sym steps-are) (snippet-fits same file table.equivalence table.one_file table.some_line config xs es all.permutation all.sorted k id at);
+      rows = ap (rows_of_steps (file id) (file_lanes (labelled id))) steps-are ∙ snippet-rows same file table.equivalence table.one_file table.some_line config xs es all.permutation all.sorted k id at;
       asked = steps-ask config.layout (file id) plan.steps.items steps-in ∙ ap (λ (steps : List Step). flat_map (of_filled config.layout) (fills_of steps)) steps-are
           ∙ ap (λ (ls : List ℕ). flat_map (of_filled config.layout) ls) (snippet-fills same file table.equivalence table.one_file table.some_line config xs es all.permutation all.sorted k id at);
     }
@@ -187,14 +189,14 @@ module _ {Id : Type 0} (same : Id → Id → Bool) (file : Id → FileModel) (ta
   all_at = λ i id h. let e : i ≡ 0 + i = omega arith in subst (λ n. IsIdAt (file_ids same xs) n id) e h
 
   -- the ids of plans
-  ids-from : (k : ℕ) (ids : List Id) (plans : List (FilePlan Id)) → ArePlans config.layout file es counts starts k ids plans → map (λ (p : FilePlan Id). p.id) plans ≡ ids
+  ids-from : (k : ℕ) (ids : List Id) (plans : List (FilePlan Id)) → ArePlans config.layout file es lanes starts k ids plans → map (λ (p : FilePlan Id). p.id) plans ≡ ids
   ids-from k [] [] h = refl
   ids-from k [] (p ∷ ps) h = absurd h
   ids-from k (id ∷ ids) [] h = absurd h
   ids-from k (id ∷ ids) (p ∷ ps) h = λ i. h.0.id_is i ∷ ids-from (k + 1) ids ps h.1 i
 
   -- plans are those of their files
-  plans-from : (k : ℕ) (ids : List Id) (plans : List (FilePlan Id)) → AreAt k ids → ArePlans config.layout file es counts starts k ids plans
+  plans-from : (k : ℕ) (ids : List Id) (plans : List (FilePlan Id)) → AreAt k ids → ArePlans config.layout file es lanes starts k ids plans
       → AllByRecursion (λ (p : FilePlan Id). IsFilePlan config (labelled p.id) p) plans
   plans-from k [] [] at h = tt
   plans-from k [] (p ∷ ps) at h = absurd h
@@ -205,7 +207,7 @@ module _ {Id : Type 0} (same : Id → Id → Bool) (file : Id → FileModel) (ta
   )
 
   -- in the unbroken layout their digits are those that the padding has room for
-  digits-from : config.layout ≡ Unbroken → (k : ℕ) (ids : List Id) (plans : List (FilePlan Id)) → AreAt k ids → ArePlans config.layout file es counts starts k ids plans
+  digits-from : config.layout ≡ Unbroken → (k : ℕ) (ids : List Id) (plans : List (FilePlan Id)) → AreAt k ids → ArePlans config.layout file es lanes starts k ids plans
       → flat_map plan_digits plans ≡ flat_map (λ id. digits_of (labelled id) (numbered_lines config (labelled id))) ids
   digits-from unbroken k [] [] at h = refl
   digits-from unbroken k [] (p ∷ ps) at h = absurd h
@@ -213,10 +215,10 @@ module _ {Id : Type 0} (same : Id → Id → Bool) (file : Id → FileModel) (ta
   digits-from unbroken k (id ∷ ids) (p ∷ ps) at h =
       λ i. file-digits k id (are_at-here k id ids at) p h.0 unbroken i ++ digits-from unbroken (k + 1) ids ps (are_at-next k id ids at) h.1 i
 
-  module _ (plans : List (FilePlan Id)) (found : ArePlans config.layout file es counts starts 0 gathered.ids.items plans) where
+  module _ (plans : List (FilePlan Id)) (found : ArePlans config.layout file es lanes starts 0 gathered.ids.items plans) where
     -- they are in the order of the files
-    are : ArePlans config.layout file es counts starts 0 (file_ids same xs) plans
-    are = subst (λ (ids : List Id). ArePlans config.layout file es counts starts 0 ids plans) all.ids_are found
+    are : ArePlans config.layout file es lanes starts 0 (file_ids same xs) plans
+    are = subst (λ (ids : List Id). ArePlans config.layout file es lanes starts 0 ids plans) all.ids_are found
 
     -- the ids of all plans
     pub plan_ids : map (λ (p : FilePlan Id). p.id) plans ≡ file_ids same xs
@@ -226,15 +228,13 @@ module _ {Id : Type 0} (same : Id → Id → Bool) (file : Id → FileModel) (ta
     pub file_plans : AllByRecursion (λ (p : FilePlan Id). IsFilePlan config (labelled p.id) p) plans
     file_plans = plans-from 0 (file_ids same xs) plans all_at are
 
-    -- in the classic layout the marks tell the room for numbers
-    pub marked-room : config.layout ≡ Classic → (padding : ℕ) → padding ≡ fold max 0 (marked_digits gathered.entries.items) → padding ≡ padding_of config (labelled_files same file xs)
-    marked-room classic padding is =
-        is ∙ spanned-room same file table.equivalence table.one_file table.some_line config xs gathered.entries.items
-        (subst (λ (ids : List Id). AllByRecursion (IsOfFiles file ids) gathered.entries.items) all.ids_are all.lines) all.permutation classic
+    -- in the classic layout the labels tell the room for numbers
+    pub spanned-padding : config.layout ≡ Classic → (padding : ℕ) → padding ≡ gathered.padding → padding ≡ padding_of config (labelled_files same file xs)
+    spanned-padding classic padding is = is ∙ all.padding_is ∙ spanned-room same file table.equivalence table.one_file config xs classic
 
     -- in the unbroken layout the plans do
-    pub drawn-room : config.layout ≡ Unbroken → (padding : ℕ) → padding ≡ fold max 0 (flat_map plan_digits plans) → padding ≡ padding_of config (labelled_files same file xs)
-    drawn-room unbroken padding is =
+    pub drawn-padding : config.layout ≡ Unbroken → (padding : ℕ) → padding ≡ fold max 0 (flat_map plan_digits plans) → padding ≡ padding_of config (labelled_files same file xs)
+    drawn-padding unbroken padding is =
         is ∙ ap (fold max 0) (digits-from unbroken 0 (file_ids same xs) plans all_at are
         ∙ sym (flat_map-map (λ (s : LabelledFile). digits_of s (numbered_lines config s)) labelled (file_ids same xs)))
 
@@ -245,11 +245,11 @@ module _ {Id : Type 0} (same : Id → Id → Bool) (file : Id → FileModel) (co
   sheet_file : (p : FilePlan Id) (f : SheetFile Id) → IsPlacedPlan file p f → IsFilePlan config (labelled_file same file xs p.id) p → IsSheetFile config (labelled_file same file xs f.id) f
   sheet_file p f placed plan =
       subst (λ (id : Id). IsSheetFile config (labelled_file same file xs id) f) (sym placed.id_is) (record {
-        lanes_are = placed.lanes_are ∙ plan.lanes_are;
+        lanes_are = ap lanes_given placed.lanes_are ∙ plan.lanes_are;
         place = subst (λ n. IsPlaceIn (file p.id) n (place_of_given f.locus)) plan.starts placed.place;
         each = subst (AllByRecursion (IsStepOf (file p.id))) (sym placed.steps_are) plan.each;
-        fits = subst (λ (gs : List GivenStep). DoFit (lane_count (labelled_file same file xs p.id)) (map step_of gs)) (sym placed.steps_are) plan.fits;
-        rows = ap (λ (gs : List GivenStep). rows_of_steps (file p.id) (lane_count (labelled_file same file xs p.id)) (map step_of gs)) placed.steps_are ∙ plan.rows;
+        fits = subst (λ (gs : List GivenStep). DoFit (map step_of gs)) (sym placed.steps_are) plan.fits;
+        rows = ap (λ (gs : List GivenStep). rows_of_steps (file p.id) (file_lanes (labelled_file same file xs p.id)) (map step_of gs)) placed.steps_are ∙ plan.rows;
         asked = ap asked_by_all placed.steps_are ∙ plan.asked;
       })
 

@@ -1,10 +1,10 @@
 -- The files' plans that a loop finds, one after another.
-use Rattle.std.proofs.Common.{◌≡◌, ℕ, suc, ◌+◌, ◌-◌, ◌<◌, ◌≤◌, true, List, [], ◌∷◌, ◌++◌, length, get_or, take, drop, map, filter, Some, None, sym, ap, ◌∙◌, subst, arith}
-use Rattle.std.specs.Prelude.{All}
+use Rattle.std.proofs.Common.{◌≡◌, ℕ, suc, ◌+◌, ◌-◌, ◌<◌, ◌≤◌, true, List, [], ◌∷◌, ◌++◌, length, get_or, take, drop, map, filter, Some, None, refl, sym, ap, ◌∙◌, subst, arith, Vec, Global}
+use Rattle.std.specs.Prelude.{All, flat_map}
 use Rattle.std.specs.List.{AllByRecursion, prefix_len}
 use Rattle.std.specs.List.Sorted.{IsSortedBy}
 use Rattle.std.proofs.lemmas.Bool.{eqb-true}
-use Rattle.std.proofs.lemmas.List.{append-nil, append_assoc, length-take-le, take_more}
+use Rattle.std.proofs.lemmas.List.{append-nil, append_assoc, get_or-map, length-take-le, take_more}
 use Rattle.std.proofs.lemmas.List.Elements.{All-from_recursion}
 use Rattle.codespan_base.specs.declared.files.error.Error.{Error}
 use Rattle.codespan_base.specs.declared.term.config.Layout.{Layout}
@@ -16,6 +16,8 @@ use Rattle.codespan_reporting.specs.declared.term.views.plan.FilePlan.{FilePlan}
 use Rattle.codespan_reporting.specs.Inner.Entries.{Entry, is_below, is_of_file}
 use Rattle.codespan_reporting.specs.Inner.GivenEntries.{IsLineOf, IsOfFiles, entry_of}
 use Rattle.codespan_reporting.specs.Inner.GivenSteps.{numbers_asked}
+use Rattle.codespan_reporting.specs.declared.term.views.lanes.Lane.{Lane as GivenLane}
+use Rattle.codespan_reporting.specs.Inner.Lanes.{Lane, all_lanes_given, lanes_given}
 use Rattle.codespan_reporting.specs.Inner.PlacedLabels.{IsIdAt}
 use Rattle.codespan_reporting.specs.Inner.Plans.{ArePlans, IsPlan, by_place, planned_lookups, steps_at}
 use Rattle.codespan_reporting.specs.Inner.Steps.{fills_of, steps_of}
@@ -41,6 +43,16 @@ by_place-more {Id} {A} give f ids more id len is =
     let e : 0 + length ids ≡ f = omega (arith, len) in
     ap (by_place give 0) is ∙ by_place-append give 0 ids (id ∷ [])
     ∙ ap (λ (r : List A). by_place give 0 ids ++ r) (append-nil (give (0 + length ids) id) ∙ ap (λ n. give n id) e)
+
+-- ids that give the same at their places
+pub by_place-same : {Id A : Type 0} (give : ℕ → Id → List A) (each : Id → List A) (k : ℕ) (js : List Id) → ((i : ℕ) (id : Id) → IsIdAt js i id → give (k + i) id ≡ each id)
+    → by_place give k js ≡ flat_map each js
+by_place-same give each k [] same = refl
+by_place-same {Id} {A} give each k (j ∷ js) same =
+    let none : k + 0 ≡ k = omega arith in
+    ap (λ (r : List A). r ++ by_place give (k + 1) js) (ap (λ n. give n j) (sym none) ∙ same 0 j refl)
+    ∙ ap (λ (r : List A). each j ++ r)
+    (by_place-same give each (k + 1) js (λ i id at. let e : k + 1 + i ≡ k + suc i = omega arith in ap (λ n. give n id) e ∙ same (suc i) id at))
 
 module _ {Id : Type 0} (file : Id → FileModel) where
   -- a file's part of the entries is of lines that the file has
@@ -106,16 +118,22 @@ module _ {Id : Type 0} (ids : List Id) (xs ys : List GivenEntry) (at n f : ℕ) 
 
 -- ---- plans
 
-module _ {Id : Type 0} (layout : Layout) (file : Id → FileModel) (es : List Entry) (lane_counts : List ℕ) (starts : List FileStart) where
+-- the lanes at a place, as a slice
+pub lanes-at : (all : List (Vec GivenLane Global)) (k : ℕ) (own : Vec GivenLane Global) (slice : List GivenLane) → k < length all → own ≡ get_or all k own → slice ≡ own.items
+    → lanes_given slice ≡ get_or (all_lanes_given all) k (lanes_given slice)
+lanes-at all k own slice inside found same =
+    ap lanes_given same ∙ ap (λ (v : Vec GivenLane Global). lanes_given v.items) found ∙ sym (get_or-map (λ (v : Vec GivenLane Global). lanes_given v.items) all k own (lanes_given slice) inside)
+
+module _ {Id : Type 0} (layout : Layout) (file : Id → FileModel) (es : List Entry) (lanes : List (List Lane)) (starts : List FileStart) where
   -- plans from a place on, and then others
-  plans-append : (k : ℕ) (ids js : List Id) (ps qs : List (FilePlan Id)) → ArePlans layout file es lane_counts starts k ids ps → ArePlans layout file es lane_counts starts (k + length ids) js qs
-      → ArePlans layout file es lane_counts starts k (ids ++ js) (ps ++ qs)
-  plans-append k [] js [] qs h more = let e : k + 0 ≡ k = omega arith in subst (λ n. ArePlans layout file es lane_counts starts n js qs) e more
+  plans-append : (k : ℕ) (ids js : List Id) (ps qs : List (FilePlan Id)) → ArePlans layout file es lanes starts k ids ps → ArePlans layout file es lanes starts (k + length ids) js qs
+      → ArePlans layout file es lanes starts k (ids ++ js) (ps ++ qs)
+  plans-append k [] js [] qs h more = let e : k + 0 ≡ k = omega arith in subst (λ n. ArePlans layout file es lanes starts n js qs) e more
   plans-append k [] js (p ∷ ps) qs h more = absurd h
   plans-append k (id ∷ ids) js [] qs h more = absurd h
   plans-append k (id ∷ ids) js (p ∷ ps) qs h more =
       let e : k + suc (length ids) ≡ k + 1 + length ids = omega arith in
-      (h.0, plans-append (k + 1) ids js ps qs h.1 (subst (λ n. ArePlans layout file es lane_counts starts n js qs) e more))
+      (h.0, plans-append (k + 1) ids js ps qs h.1 (subst (λ n. ArePlans layout file es lanes starts n js qs) e more))
 
   module _ (refusal : Refusals Id) where
     -- the lookups of the numbers of a file's lines
@@ -124,7 +142,7 @@ module _ {Id : Type 0} (layout : Layout) (file : Id → FileModel) (es : List En
 
     -- the plans of these files are found, and their lookups were answered
     pub record ArePlanned (ids : List Id) (now : List (FilePlan Id)) : Type 0 where
-      pub plans : ArePlans layout file es lane_counts starts 0 ids now
+      pub plans : ArePlans layout file es lanes starts 0 ids now
       pub answered : first_refusal refusal (planned_lookups layout es ids) ≡ None
 
     module _ (f : ℕ) (ids more : List Id) (id : Id) (now : List (FilePlan Id)) (len : length ids ≡ f) (is : more ≡ ids ++ id ∷ []) (before : ArePlanned ids now) where
@@ -133,14 +151,14 @@ module _ {Id : Type 0} (layout : Layout) (file : Id → FileModel) (es : List En
       asked-more = ap (first_refusal refusal) (by_place-more asked_at f ids more id len is) ∙ first_refusal-none refusal (planned_lookups layout es ids) (asked_at f id) before.answered
 
       -- one more file
-      pub planned-more : (new : List (FilePlan Id)) (plan : FilePlan Id) → new ≡ now ++ plan ∷ [] → IsPlan layout file es lane_counts starts f id plan
+      pub planned-more : (new : List (FilePlan Id)) (plan : FilePlan Id) → new ≡ now ++ plan ∷ [] → IsPlan layout file es lanes starts f id plan
           → first_refusal refusal (asked_at f id) ≡ None → ArePlanned more new
       planned-more new plan whole own answered = record {
         plans =
             let place : f ≡ 0 + length ids = omega (arith, len) in
-            subst (λ js. ArePlans layout file es lane_counts starts 0 js new) (sym is)
-            (subst (ArePlans layout file es lane_counts starts 0 (ids ++ id ∷ [])) (sym whole)
-            (plans-append 0 ids (id ∷ []) now (plan ∷ []) before.plans (subst (λ n. IsPlan layout file es lane_counts starts n id plan) place own, tt)));
+            subst (λ js. ArePlans layout file es lanes starts 0 js new) (sym is)
+            (subst (ArePlans layout file es lanes starts 0 (ids ++ id ∷ [])) (sym whole)
+            (plans-append 0 ids (id ∷ []) now (plan ∷ []) before.plans (subst (λ n. IsPlan layout file es lanes starts n id plan) place own, tt)));
         answered = asked-more ∙ answered;
       }
 

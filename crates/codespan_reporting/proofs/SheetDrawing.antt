@@ -1,20 +1,17 @@
 -- The snippets of a sheet, one after another.
-use Rattle.std.proofs.Common.{◌≡◌, ℕ, zero, suc, ◌+◌, ◌-◌, ◌<◌, ◌≤◌, Bool, true, false, ◌&&◌, ◌||◌, not, List, [], ◌∷◌, ◌++◌, length, drop, get_or, map, Option, None, Result, Ok, Err, refl, sym, ap, ◌∙◌, arith, cond, lt-ltb}
-use Rattle.std.specs.Prelude.{filter, flat_map, nat_lt, if◌then◌else◌}
+use Rattle.std.proofs.Common.{◌≡◌, ℕ, zero, suc, ◌+◌, ◌-◌, ◌<◌, ◌≤◌, Bool, true, false, ◌||◌, List, [], ◌∷◌, ◌++◌, length, drop, get_or, map, Option, None, Result, Ok, Err, refl, sym, ap, ◌∙◌, arith, lt-ltb}
+use Rattle.std.specs.Prelude.{flat_map, nat_lt, if◌then◌else◌}
 use Rattle.std.proofs.Math.Seq.{drop-cons}
 use Rattle.std.proofs.lemmas.Grind.{common_steps, flat_map-append}
 use Rattle.std.proofs.lemmas.List.{append-nil, append_assoc, get_or-map, length-drop, length-map}
-use Rattle.std.proofs.lemmas.List.Sums.{sum_by-cons}
 use Rattle.codespan_base.specs.declared.term.config.Config.{Config}
 use Rattle.codespan_base.specs.declared.files.error.Error.{Error}
 use Rattle.codespan_base.specs.FileModel.{FileModel, Lookup, or_refusal}
-use Rattle.codespan_base.specs.Labels.{Labelled, is_single, multi_labels}
 use Rattle.codespan_base.specs.Streams.{Stream, newline}
 use Rattle.codespan_base.specs.WriterLaw.{Sink}
 use Rattle.codespan_reporting.specs.Inner.Asking.{SendsAsking}
 use Rattle.codespan_picture.specs.Placed.{placed_snippet, placed_snippets}
 use Rattle.codespan_picture.specs.Lookups.{Refusals, asked_of, first_refusal, snippet_lookups}
-use Rattle.codespan_reporting.specs.Inner.PlacedLabels.{lane_after, is_multi_of}
 use Rattle.codespan_picture.specs.Rows.{EmptyRow, Look, Place, Row, StartRow}
 use Rattle.codespan_picture.specs.RowStreams.{stream_of, stream_of_rows}
 use Rattle.codespan_picture.specs.Snippets.{InFile, LabelledFile, bare_lanes, is_followed, labelled_file, lane_count}
@@ -23,9 +20,11 @@ use Rattle.codespan_picture.specs.Given.{place_of_given}
 use Rattle.codespan_reporting.specs.Inner.GivenSheets.{IsSheetFile, ids_of, places_of}
 use Rattle.codespan_reporting.specs.Inner.GivenSnippets.{lookups_with, rows_in}
 use Rattle.codespan_reporting.specs.Inner.GivenSteps.{step_of}
+use Rattle.codespan_reporting.specs.Inner.Lanes.{lane_given}
 use Rattle.codespan_reporting.specs.Inner.Steps.{rows_of_steps}
 use Rattle.codespan_reporting.specs.declared.term.views.sheet.SheetFile.{SheetFile}
 use Rattle.codespan_reporting.proofs.Askings.{asking_as, asking_cut, asking_nothing, asking_then, first_refusal-append}
+use Rattle.codespan_reporting.proofs.LaneMarks.{file_lanes-count}
 
 -- the elements from one on: that one, and those after it
 pub drop-one : {X : Type 0} (xs : List X) (k : ℕ) (x : X) → k < length xs → x ≡ get_or xs k x → drop k xs ≡ x ∷ drop (k + 1) xs
@@ -42,29 +41,6 @@ drop-end (x ∷ xs) (suc k) past = drop-end xs k (omega arith)
 -- the streams of rows, one after the other
 pub rows-two : (look : Look) (a b : List Row) → stream_of_rows look (a ++ b) ≡ stream_of_rows look a ++ stream_of_rows look b
 rows-two look a b = flat_map-append (λ r. stream_of look r ++ newline) a b
-
--- the number of lanes of a file is the next lane after all labels
-pub lanes-count : {Id : Type 0} (same : Id → Id → Bool) (file : Id → FileModel) → ((i j : Id) → same i j ≡ true → file i ≡ file j)
-    → (id : Id) (xs : List (InFile Id)) → lane_after same file xs id ≡ lane_count (labelled_file same file xs id)
-lanes-count same file one id [] = refl
-lanes-count {Id} same file one id (x ∷ xs) =
-    sum_by-cons (λ (y : InFile Id). cond {A = ℕ} (is_multi_of same file id y) 1 0) x xs
-    ∙ ap (λ n. cond {A = ℕ} (is_multi_of same file id x) 1 0 + n) (lanes-count same file one id xs)
-    ∙ by (same id x.id) (λ t. one id x.id t)
-  where
-    own : List Labelled
-    own = map (λ (y : InFile Id). y.label) (filter (λ (y : InFile Id). same id y.id) xs)
-
-    by_lines : (b : Bool) → cond {A = ℕ} (not b) 1 0 + length (multi_labels (file id) own) ≡ length (if not b then x.label ∷ multi_labels (file id) own else multi_labels (file id) own)
-    by_lines true = omega arith
-    by_lines false = omega arith
-
-    by : (b : Bool) → (b ≡ true → file id ≡ file x.id)
-        → cond {A = ℕ} (b && not (is_single (file x.id) x.label)) 1 0 + length (multi_labels (file id) own)
-        ≡ length (multi_labels (file id) (map (λ (y : InFile Id). y.label) (if b then x ∷ filter (λ (y : InFile Id). same id y.id) xs else filter (λ (y : InFile Id). same id y.id) xs)))
-    by true same_file =
-        ap (λ (f : FileModel). cond {A = ℕ} (not (is_single f x.label)) 1 0 + length (multi_labels (file id) own)) (sym (same_file refl)) ∙ by_lines (is_single (file id) x.label)
-    by false same_file = omega arith
 
 module _ {Id : Type 0} (same : Id → Id → Bool) (file : Id → FileModel) (refusal : Refusals Id) (config : Config) (xs : List (InFile Id)) (ids : List Id)
     (has_notes : Bool) (look : Look) (places : List Place) where
@@ -182,11 +158,15 @@ module _ {Id : Type 0} (same : Id → Id → Bool) (file : Id → FileModel) (co
   abbrev own : LabelledFile
   own = labelled_file same file xs f.id
 
+  -- it has as many lanes as its file
+  count : length f.lanes.now ≡ lane_count own
+  count = sym (length-map f.lanes.now lane_given) ∙ ap length is.lanes_are ∙ file_lanes-count own
+
   -- its rows
   rows-are : (followed : Bool) → rows_in f (file f.id) followed ≡ placed_snippet config followed (place_of_given f.locus) own
   rows-are followed =
-      (λ i. (StartRow (place_of_given f.locus) ∷ EmptyRow (record { count = is.lanes_are i; marks = [] }) ∷ []) ++ rows_of_steps (file f.id) (is.lanes_are i) (map step_of f.steps.items)
-      ++ (if followed then EmptyRow (record { count = is.lanes_are i; marks = [] }) ∷ [] else []))
+      (λ i. (StartRow (place_of_given f.locus) ∷ EmptyRow (record { count = count i; marks = [] }) ∷ []) ++ rows_of_steps (file f.id) (is.lanes_are i) (map step_of f.steps.items)
+      ++ (if followed then EmptyRow (record { count = count i; marks = [] }) ∷ [] else []))
       ∙ ap (λ (r : List Row). (StartRow (place_of_given f.locus) ∷ EmptyRow (bare_lanes own) ∷ []) ++ r ++ (if followed then EmptyRow (bare_lanes own) ∷ [] else [])) is.rows
 
   -- the call draws its snippet, and makes its lookups

@@ -1,38 +1,36 @@
 -- What was gathered and prepared is that of the labels, and what refuses it.
-use Rattle.std.proofs.Common.{◌≡◌, ℕ, Bool, List, [], map, flat_map, Option, Some, None, Vec, Global, sym, subst, ◌∙◌, ap, append_assoc}
-use Rattle.std.specs.List.{AllByRecursion}
+use Rattle.std.proofs.Common.{◌≡◌, Bool, List, map, flat_map, Option, Some, None, Vec, Global, sym, ◌∙◌, ap, append_assoc}
 use Rattle.std.specs.List.Sorted.{IsPermutation, IsSortedBy}
 use Rattle.codespan_base.specs.declared.files.error.Error.{Error}
 use Rattle.codespan_base.specs.declared.term.config.Config.{Config}
 use Rattle.codespan_base.specs.FileModel.{FileModel, Lookup, or_refusal}
 use Rattle.codespan_picture.specs.Lookups.{Refusals, asked_of, early_lookups, first_refusal, label_lookups, locus_lookups, numbers_for_padding}
 use Rattle.codespan_picture.specs.Snippets.{InFile}
+use Rattle.codespan_reporting.specs.declared.term.views.entry.Entry.{Entry as GivenEntry}
 use Rattle.codespan_reporting.specs.declared.term.views.gather.Gathered.{Gathered}
 use Rattle.codespan_reporting.specs.declared.term.views.plan.FilePlan.{FilePlan}
 use Rattle.codespan_reporting.specs.Inner.Entries.{is_below}
-use Rattle.codespan_reporting.specs.Inner.GivenEntries.{Adds, IsOfFiles, entry_of}
-use Rattle.codespan_reporting.specs.Inner.GivenSheets.{IsGathered, sheet_lookups}
+use Rattle.codespan_reporting.specs.Inner.GivenEntries.{IsOfFiles, entry_of}
+use Rattle.codespan_reporting.specs.Inner.GivenSheets.{IsGathered, IsGatheredInTurn, sheet_lookups}
 use Rattle.codespan_reporting.specs.Inner.Loci.{place_lookups}
-use Rattle.codespan_reporting.specs.Inner.PlacedLabels.{all_entries, file_ids, label_places, lane_after}
+use Rattle.codespan_reporting.specs.Inner.PlacedLabels.{all_entries, file_ids}
 use Rattle.codespan_reporting.proofs.Askings.{first_refusal-append}
-use Rattle.codespan_reporting.proofs.EntryPadding.{gathered-each, gathered-says}
+use Rattle.codespan_reporting.proofs.Gathering.{gathered-each, gathered-says}
 use Rattle.codespan_reporting.proofs.FileParts.{gathered-sorted}
 use Rattle.codespan_reporting.proofs.Refusals.{first_refusal-some}
 
 module _ {Id : Type 0} (same : Id → Id → Bool) (file : Id → FileModel) (config : Config) (xs : List (InFile Id)) where
   -- what was gathered, put in order
-  pub gathered-in_order : (was now : Gathered Id) → now.ids ≡ was.ids → now.places ≡ was.places → now.lane_counts ≡ was.lane_counts
-      → was.ids.items ≡ file_ids same xs → was.places.items ≡ label_places same was.ids.items xs → was.lane_counts.items ≡ map (lane_after same file xs) was.ids.items
-      → Adds (IsOfFiles file was.ids.items) [] was.entries.items (all_entries same file config xs) → IsPermutation was.entries.items now.entries.items → IsSortedBy is_below (map entry_of now.entries.items)
-      → IsGathered same file config xs now
-  gathered-in_order was now same_ids same_places same_lanes are places lanes adds perm up = record {
-    ids_are = ap (λ (v : Vec Id Global). v.items) same_ids ∙ are;
-    places_are = ap (λ (v : Vec ℕ Global). v.items) same_places ∙ places ∙ ap (λ (v : Vec Id Global). label_places same v.items xs) (sym same_ids);
-    lanes_are = ap (λ (v : Vec ℕ Global). v.items) same_lanes ∙ lanes ∙ ap (λ (v : Vec Id Global). map (lane_after same file xs) v.items) (sym same_ids);
+  pub gathered-in_order : (was : Gathered Id) (entries : Vec GivenEntry Global) → IsGatheredInTurn same file config xs was → IsPermutation was.entries.items entries.items → IsSortedBy is_below (map entry_of entries.items)
+      → IsGathered same file config xs (record was { entries = entries })
+  gathered-in_order was entries g perm up = record {
+    ids_are = g.ids_are;
+    places_are = g.places_are;
+    lanes_are = g.lanes_are;
     sorted = up;
-    permutation = gathered-sorted (all_entries same file config xs) was.entries.items now.entries.items (gathered-says (IsOfFiles file was.ids.items) was.entries.items (all_entries same file config xs) adds) perm;
-    lines = subst (λ (v : Vec Id Global). AllByRecursion (IsOfFiles file v.items) now.entries.items) (sym same_ids)
-        (gathered-each (IsOfFiles file was.ids.items) was.entries.items now.entries.items (all_entries same file config xs) adds perm);
+    permutation = gathered-sorted (all_entries same file config xs) was.entries.items entries.items (gathered-says (IsOfFiles file was.ids.items) was.entries.items (all_entries same file config xs) g.adds) perm;
+    lines = gathered-each (IsOfFiles file was.ids.items) was.entries.items entries.items (all_entries same file config xs) g.adds perm;
+    padding_is = g.padding_is;
   }
 
   module _ (refusal : Refusals Id) where

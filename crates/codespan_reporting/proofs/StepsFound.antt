@@ -1,5 +1,5 @@
 -- Steps that a walk over entries finds, one after another, and the lookups of numbers with them.
-use Rattle.std.proofs.Common.{◌≡◌, ℕ, List, [], ◌++◌, Option, None, Some, refl, sym, subst, ap, ◌∙◌, append-nil, append_assoc}
+use Rattle.std.proofs.Common.{◌≡◌, ℕ, List, [], ◌++◌, Option, None, Some, refl, sym, ap, ◌∙◌, append-nil, append_assoc}
 use Rattle.std.proofs.lemmas.List.{map-append}
 use Rattle.std.proofs.lemmas.Grind.{flat_map-append}
 use Rattle.codespan_base.specs.declared.files.error.Error.{Error}
@@ -61,10 +61,6 @@ module _ {Id : Type 0} (refusal : Refusals Id) (id : Id) (layout : Layout) where
     -- nothing is found yet
     pub left_all : (rest : List Step) (now : List GivenStep) → rest ≡ whole → now ≡ [] → StepsLeft f whole rest now
     left_all rest now same none = record { taken = []; is_whole = same; adds = adds_nothing layout f [] now none; answered = ap (λ (ls : List Lookup). first_refusal refusal (asked_of id ls)) (numbers_asked-nothing layout) }
-
-    -- the same steps are left in other words
-    pub left_as : (rest next : List Step) (now : List GivenStep) → rest ≡ next → StepsLeft f whole rest now → StepsLeft f whole next now
-    left_as rest next now same left = subst (λ (steps : List Step). StepsLeft f whole steps now) same left
 
     module _ (rest steps next : List Step) (now : List GivenStep) (same : rest ≡ steps ++ next) (left : StepsLeft f whole rest now) where
       -- these come next

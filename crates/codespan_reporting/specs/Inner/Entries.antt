@@ -1,18 +1,17 @@
 -- What labels say of lines, and the order in which a picture takes it.
-use Rattle.std.specs.Prelude.{ℕ, Bool, ◌==◌, List, [], ◌∷◌, ◌++◌, flat_map, Option, Some, None, if◌then◌else◌}
+use Rattle.std.specs.Prelude.{ℕ, Bool, ◌==◌, ◌&&◌, List, [], ◌∷◌, flat_map, Option, Some, None, if◌then◌else◌}
 use Rattle.std.specs.Ordering.{is_lt, nat_cmp, ordering_then}
 use Rattle.std.specs.declared.cmp.Ordering.{Ordering}
 use Rattle.codespan_base.specs.declared.term.config.Config.{Config}
 use Rattle.codespan_base.specs.FileModel.{FileModel}
-use Rattle.codespan_base.specs.Labels.{Labelled, LaneMark, first_line, last_line, is_single, drawn_label, mark_of, part_on}
+use Rattle.codespan_base.specs.Labels.{Labelled, first_line, last_line, is_single, drawn_label}
 use Rattle.codespan_picture.specs.Lines.{shows}
 use Rattle.codespan_picture.specs.Lookups.{asked_lines}
 
--- a line is shown, a label inside it has carets on it, or a label over several lines has a mark on it
+-- a line is shown, or a label inside it has carets on it, and so it is shown too
 pub data Says : Type 0 where
   Shown : Says
   Single : (place : ℕ) (label : Labelled) → Says
-  Multi : (mark : LaneMark) → Says
 
 -- what is said of a line of a file; the file by its place among those of the picture
 pub record Entry : Type 0 where
@@ -22,31 +21,27 @@ pub record Entry : Type 0 where
 
 -- ---- the order of entries
 
--- what is shown comes first, then the labels inside the line, then those over several lines
+-- what is shown comes first, then the labels inside the line
 abbrev pub kind_of : Says → ℕ
 kind_of Shown = 0
 kind_of (Single place label) = 1
-kind_of (Multi mark) = 2
 
--- the start of a label inside the line, or the lane of another
+-- the start of a label inside the line
 abbrev pub first_of : Says → ℕ
 first_of Shown = 0
 first_of (Single place label) = label.start
-first_of (Multi mark) = mark.lane
 
 -- the end of a label inside the line
 abbrev pub second_of : Says → ℕ
 second_of Shown = 0
 second_of (Single place label) = label.end
-second_of (Multi mark) = 0
 
 -- the place of a label inside the line
 abbrev pub place_in_list : Says → ℕ
 place_in_list Shown = 0
 place_in_list (Single place label) = place
-place_in_list (Multi mark) = 0
 
--- by kind; labels inside a line by their ranges, of equal ranges the one given last first; the others by lane
+-- by kind; labels inside a line by their ranges, of equal ranges the one given last first
 abbrev pub says_cmp : Says → Says → Ordering
 says_cmp x y =
     ordering_then (nat_cmp (kind_of x) (kind_of y))
@@ -78,36 +73,30 @@ is_of_file f e = e.file == f
 
 -- ---- what a label says of the lines of its file
 
--- where a label is among those of a diagnostic: the place of its file, its own place, and the lane that it has where it is over several lines
+-- the entry of a line of which something is said
+abbrev pub said : ℕ → ℕ → Option Says → List Entry
+said file l None = []
+said file l (Some says) = record { file = file; line = l; says = says } ∷ []
+
+-- where a label is among those of a diagnostic: the place of its file, and its own place
 pub record LabelPlace : Type 0 where
   pub file : ℕ
   pub place : ℕ
-  pub lane : ℕ
 
 module _ (config : Config) (f : FileModel) (at : LabelPlace) (x : Labelled) where
   -- an entry of its file
   abbrev pub entry_on : ℕ → Says → Entry
   entry_on l says = record { file = at.file; line = l; says = says }
 
-  -- that the line is shown
-  abbrev pub shown_entries : ℕ → List Entry
-  shown_entries l = if shows config (first_line f x) (last_line f x) l then entry_on l Shown ∷ [] else []
+  -- what it says of a line: the carets of a label inside the line, or that another line is shown
+  abbrev pub says_on : ℕ → Option Says
+  says_on l =
+      if is_single f x && (first_line f x == l) then Some (Single at.place (drawn_label f x))
+      else if shows config (first_line f x) (last_line f x) l then Some Shown else None
 
-  -- the mark of a label over several lines
-  abbrev pub entry_of_mark : ℕ → Option LaneMark → List Entry
-  entry_of_mark l None = []
-  entry_of_mark l (Some m) = entry_on l (Multi m) ∷ []
-
-  -- the carets of a label inside the line, or the mark of another
-  abbrev pub mark_entries : ℕ → List Entry
-  mark_entries l =
-      if is_single f x
-      then (if first_line f x == l then entry_on l (Single at.place (drawn_label f x)) ∷ [] else [])
-      else entry_of_mark l (mark_of at.lane x (part_on f l x))
-
-  -- what it says of a line
+  -- its entry of a line of which it says something
   abbrev pub line_entries : ℕ → List Entry
-  line_entries l = shown_entries l ++ mark_entries l
+  line_entries l = said at.file l (says_on l)
 
   -- what it says of all lines that it has looked up
   abbrev pub entries_of : List Entry

@@ -1,18 +1,17 @@
 -- Entries as a view holds them.
-use Rattle.std.specs.Prelude.{◌≡◌, ℕ, ◌==◌, List, [], ◌∷◌, ◌++◌, map, Option, Some, None, if◌then◌else◌}
-use Rattle.std.specs.Option.{option_map}
+use Rattle.std.specs.Prelude.{◌≡◌, ℕ, ◌==◌, ◌&&◌, List, [], ◌++◌, map, Option, Some, None, if◌then◌else◌}
 use Rattle.std.specs.List.{AllByRecursion}
 use Rattle.codespan_base.specs.declared.term.config.Config.{Config}
 use Rattle.codespan_base.specs.FileModel.{FileModel, IsLineRange, Lookup}
-use Rattle.codespan_base.specs.Labels.{Labelled, from_line_start, mark_of, part_at}
+use Rattle.codespan_base.specs.Labels.{Labelled, from_line_start}
 use Rattle.codespan_base.specs.Streams.{bytes}
 use Rattle.codespan_reporting.specs.declared.term.views.entry.Entry.{Entry as GivenEntry}
 use Rattle.codespan_reporting.specs.declared.term.views.entry.Says.{Says as GivenSays}
 use Rattle.codespan_reporting.specs.declared.term.views.entry.Says.TheVariants as given
 use Rattle.codespan_reporting.specs.declared.term.views.entry.SourceLine.{SourceLine}
 use Rattle.codespan_reporting.specs.declared.term.views.gather.LabelPlace.{LabelPlace as GivenPlace}
-use Rattle.codespan_reporting.specs.Inner.Entries.{Entry, LabelPlace, Says, Shown, Single, Multi, line_entries}
-use Rattle.codespan_picture.specs.Given.{part_of}
+use Rattle.codespan_reporting.specs.Inner.Entries.{Entry, LabelPlace, Says, Shown, Single, line_entries}
+use Rattle.codespan_picture.specs.Lines.{shows}
 use Rattle.codespan_picture.specs.Lookups.{is_asked, of_line}
 use Rattle.codespan_reporting.specs.Inner.PlacedLabels.{IsIdAt}
 
@@ -20,7 +19,6 @@ use Rattle.codespan_reporting.specs.Inner.PlacedLabels.{IsIdAt}
 abbrev pub says_of : GivenSays → Says
 says_of given.Shown = Shown
 says_of (given.Single place style start end message) = Single place (record { style = style; start = start; end = end; message = bytes message.now })
-says_of (given.Multi lane style mark) = Multi (record { lane = lane; style = style; part = part_of mark })
 
 -- an entry
 abbrev pub entry_of : GivenEntry → Entry
@@ -30,6 +28,10 @@ entry_of e = record { file = e.file; line = e.line.index; says = says_of e.says 
 pub record IsLineOf (f : FileModel) (line : SourceLine) : Type 0 where
   pub number_is : line.number ≡ f.number line.index
   pub range_is : IsLineRange f line.index (record { start = line.start; end = line.end })
+
+-- the line is that of this index in the file
+abbrev pub IsLineAt : FileModel → ℕ → SourceLine → Type 0
+IsLineAt f l line = (line.index ≡ l) × IsLineOf f line
 
 -- the entry's line is one of its file, of those with these ids
 abbrev pub IsOfFiles : {Id : Type 0} → (Id → FileModel) → List Id → GivenEntry → Type 0
@@ -48,19 +50,12 @@ AddsOf f old new entries = Adds (λ e. IsLineOf f e.line) old new entries
 
 -- where a label is among those of a diagnostic
 abbrev pub label_place : GivenPlace → LabelPlace
-label_place at = record { file = at.file; place = at.place; lane = at.lane }
+label_place at = record { file = at.file; place = at.place }
 
--- what a label from line `s` to line `e` has on line `l`, which starts at this byte: carets, a mark, or nothing
-abbrev pub says_at : LabelPlace → ℕ → ℕ → ℕ → ℕ → Labelled → Option Says
-says_at at s e l start x =
-    if s == e
-    then (if s == l then Some (Single at.place (from_line_start start x)) else None)
-    else option_map Multi (mark_of at.lane x (part_at s e l start x))
-
--- the entry of a line of which something is said
-abbrev pub said : ℕ → ℕ → Option Says → List Entry
-said file l None = []
-said file l (Some says) = record { file = file; line = l; says = says } ∷ []
+-- what a label from line `s` to line `e` says of line `l`, which starts at this byte
+abbrev pub says_at : Config → LabelPlace → ℕ → ℕ → ℕ → ℕ → Labelled → Option Says
+says_at config at s e l start x =
+    if (s == e) && (s == l) then Some (Single at.place (from_line_start start x)) else if shows config s e l then Some Shown else None
 
 module _ (config : Config) (f : FileModel) (x : Labelled) where
   -- the lookups of a line, where the label asks for it

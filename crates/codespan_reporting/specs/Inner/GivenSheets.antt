@@ -1,25 +1,28 @@
 -- What a view knows before it draws: what labels say of lines, in order, and the files of the picture with what is drawn of them.
-use Rattle.std.specs.Prelude.{◌≡◌, Bool, List, ◌++◌, flat_map, map, None}
+use Rattle.std.specs.Prelude.{◌≡◌, Bool, List, [], ◌++◌, flat_map, fold, map, max, Option, None}
 use Rattle.std.specs.List.{AllByRecursion}
 use Rattle.std.specs.List.Sorted.{IsPermutation, IsSortedBy}
+use Rattle.codespan_base.specs.declared.files.error.Error.{Error}
 use Rattle.codespan_base.specs.declared.term.config.Config.{Config}
 use Rattle.codespan_base.specs.FileModel.{FileModel, Lookup}
 use Rattle.codespan_picture.specs.Given.{place_of_given}
 use Rattle.codespan_picture.specs.Lines.{drawn_lines}
-use Rattle.codespan_picture.specs.Lookups.{Refusals, asked_of, filled_lines, locus_lookups, numbers_for_padding, of_filled}
+use Rattle.codespan_picture.specs.Lookups.{Refusals, asked_of, filled_lines, first_refusal, locus_lookups, numbers_for_padding, of_filled}
 use Rattle.codespan_picture.specs.Padding.{padding_of}
 use Rattle.codespan_picture.specs.Placed.{IsPlaceIn, IsPlaceOfFile}
 use Rattle.codespan_picture.specs.Rows.{Place}
-use Rattle.codespan_picture.specs.Snippets.{InFile, LabelledFile, labelled_file, labelled_files, lane_count, rows_after}
+use Rattle.codespan_picture.specs.Snippets.{InFile, LabelledFile, labelled_file, labelled_files, rows_after}
 use Rattle.codespan_reporting.specs.declared.term.views.gather.Gathered.{Gathered}
 use Rattle.codespan_reporting.specs.declared.term.views.plan.FilePlan.{FilePlan}
 use Rattle.codespan_reporting.specs.declared.term.views.sheet.Sheet.{Sheet}
 use Rattle.codespan_reporting.specs.declared.term.views.sheet.SheetFile.{SheetFile}
 use Rattle.codespan_reporting.specs.Inner.Entries.{is_below}
-use Rattle.codespan_reporting.specs.Inner.GivenEntries.{IsOfFiles, entry_of}
+use Rattle.codespan_reporting.specs.Inner.GivenEntries.{Adds, IsOfFiles, entry_of}
 use Rattle.codespan_reporting.specs.Inner.GivenSteps.{IsStepOf, asked_by_all, step_of}
+use Rattle.codespan_reporting.specs.Inner.Lanes.{all_lanes_given, file_lanes, lanes_given, lanes_in}
 use Rattle.codespan_reporting.specs.Inner.Loci.{start_byte}
-use Rattle.codespan_reporting.specs.Inner.PlacedLabels.{all_entries, file_ids, label_places, lane_after}
+use Rattle.codespan_reporting.specs.Inner.PlacedLabels.{all_entries, file_ids, label_places}
+use Rattle.codespan_reporting.specs.Inner.SpannedDigits.{all_digits}
 use Rattle.codespan_reporting.specs.Inner.StepDrawing.{DoFit}
 use Rattle.codespan_reporting.specs.Inner.Steps.{rows_of_steps}
 
@@ -33,29 +36,38 @@ ids_of {Id} files = map (λ (f : SheetFile Id). f.id) files
 
 -- the file of a picture is that of its labels: its lanes, where its snippet starts, what its steps draw, and what they ask for
 pub record IsSheetFile {Id : Type 0} (config : Config) (s : LabelledFile) (f : SheetFile Id) : Type 0 where
-  pub lanes_are : f.lane_count ≡ lane_count s
+  pub lanes_are : lanes_given f.lanes.now ≡ file_lanes s
   pub place : IsPlaceOfFile s (place_of_given f.locus)
   pub each : AllByRecursion (IsStepOf s.file) f.steps.items
-  pub fits : DoFit (lane_count s) (map step_of f.steps.items)
-  pub rows : rows_of_steps s.file (lane_count s) (map step_of f.steps.items) ≡ rows_after s None (drawn_lines config s.file s.labels)
+  pub fits : DoFit (map step_of f.steps.items)
+  pub rows : rows_of_steps s.file (file_lanes s) (map step_of f.steps.items) ≡ rows_after s None (drawn_lines config s.file s.labels)
   pub asked : asked_by_all f.steps.items ≡ flat_map (of_filled config.layout) (filled_lines config s)
 
 -- a plan, with the place at which the file's snippet starts
 pub record IsPlacedPlan {Id : Type 0} (file : Id → FileModel) (plan : FilePlan Id) (placed : SheetFile Id) : Type 0 where
   pub id_is : placed.id ≡ plan.id
-  pub lanes_are : placed.lane_count ≡ plan.lane_count
+  pub lanes_are : placed.lanes.now ≡ plan.lanes.now
   pub steps_are : placed.steps.items ≡ plan.steps.items
   pub place : IsPlaceIn (file plan.id) (start_byte plan.start) (place_of_given placed.locus)
 
 module _ {Id : Type 0} (same : Id → Id → Bool) (file : Id → FileModel) where
+  -- this was gathered of these labels, one after another
+  pub record IsGatheredInTurn (config : Config) (xs : List (InFile Id)) (gathered : Gathered Id) : Type 0 where
+    pub ids_are : gathered.ids.items ≡ file_ids same xs
+    pub places_are : gathered.places.items ≡ label_places same gathered.ids.items xs
+    pub lanes_are : all_lanes_given gathered.lanes.items ≡ map (lanes_in same file xs) gathered.ids.items
+    pub adds : Adds (IsOfFiles file gathered.ids.items) [] gathered.entries.items (all_entries same file config xs)
+    pub padding_is : gathered.padding ≡ fold max 0 (all_digits file xs)
+
   -- this was gathered of these labels, and is in order
   pub record IsGathered (config : Config) (xs : List (InFile Id)) (gathered : Gathered Id) : Type 0 where
     pub ids_are : gathered.ids.items ≡ file_ids same xs
     pub places_are : gathered.places.items ≡ label_places same gathered.ids.items xs
-    pub lanes_are : gathered.lane_counts.items ≡ map (lane_after same file xs) gathered.ids.items
+    pub lanes_are : all_lanes_given gathered.lanes.items ≡ map (lanes_in same file xs) gathered.ids.items
     pub sorted : IsSortedBy is_below (map entry_of gathered.entries.items)
     pub permutation : IsPermutation (all_entries same file config xs) (map entry_of gathered.entries.items)
     pub lines : AllByRecursion (IsOfFiles file gathered.ids.items) gathered.entries.items
+    pub padding_is : gathered.padding ≡ fold max 0 (all_digits file xs)
 
   -- the sheet is that of these labels
   pub record IsPrepared (config : Config) (xs : List (InFile Id)) (sheet : Sheet Id) : Type 0 where
@@ -68,3 +80,7 @@ abbrev pub sheet_lookups : {Id : Type 0} → Config → (Id → Id → Bool) →
 sheet_lookups config same file refusal xs =
     flat_map (λ id. asked_of id (numbers_for_padding config same file refusal xs config.layout id)) (file_ids same xs)
     ++ flat_map (λ id. asked_of id (locus_lookups same file xs id)) (file_ids same xs)
+
+-- what these lookups are refused with
+abbrev pub sheet_refusal : {Id : Type 0} → Config → (Id → Id → Bool) → (Id → FileModel) → Refusals Id → List (InFile Id) → Option Error
+sheet_refusal config same file refusal xs = first_refusal refusal (sheet_lookups config same file refusal xs)

@@ -1,26 +1,39 @@
 -- Snippets as a view holds them.
-use Rattle.std.specs.Prelude.{Bool, List, [], ◌∷◌, ◌++◌, map, if◌then◌else◌}
+use Rattle.std.specs.Prelude.{Bool, List, [], ◌∷◌, ◌++◌, length, map, if◌then◌else◌, Result}
+use Rattle.codespan_base.specs.declared.files.error.Error.{Error}
 use Rattle.codespan_base.specs.FileModel.{FileModel, Lookup}
 use Rattle.codespan_base.specs.FileModel.Lookup.{Source}
+use Rattle.codespan_base.specs.WriterLaw.{Sink}
 use Rattle.codespan_picture.specs.Given.{place_of_given}
+use Rattle.codespan_picture.specs.Lookups.{Refusals}
 use Rattle.codespan_picture.specs.Rows.{Row, StartRow, EmptyRow}
+use Rattle.codespan_renderer.specs.declared.term.renderer.Renderer.{Renderer}
+use Rattle.codespan_reporting.specs.declared.term.views.lines.Page.{Page}
 use Rattle.codespan_reporting.specs.declared.term.views.sheet.SheetFile.{SheetFile}
+use Rattle.codespan_reporting.specs.Inner.FileLookups.{refusal_in}
 use Rattle.codespan_reporting.specs.Inner.GivenSteps.{asked_by_all, step_of}
+use Rattle.codespan_reporting.specs.Inner.Lanes.{lanes_given}
+use Rattle.codespan_reporting.specs.Inner.Rendering.{DrawsRowsAsking}
 use Rattle.codespan_reporting.specs.Inner.Steps.{rows_of_steps}
 
 module _ {Id : Type 0} (file : SheetFile Id) where
   -- its first rows
   abbrev pub start_rows : List Row
-  start_rows = StartRow (place_of_given file.locus) ∷ EmptyRow (record { count = file.lane_count; marks = [] }) ∷ []
+  start_rows = StartRow (place_of_given file.locus) ∷ EmptyRow (record { count = length file.lanes.now; marks = [] }) ∷ []
 
   -- the row after it, where something follows
   abbrev pub end_rows : Bool → List Row
-  end_rows is_followed = if is_followed then EmptyRow (record { count = file.lane_count; marks = [] }) ∷ [] else []
+  end_rows is_followed = if is_followed then EmptyRow (record { count = length file.lanes.now; marks = [] }) ∷ [] else []
 
   -- all of its rows
   abbrev pub rows_in : FileModel → Bool → List Row
-  rows_in f is_followed = start_rows ++ rows_of_steps f file.lane_count (map step_of file.steps.items) ++ end_rows is_followed
+  rows_in f is_followed = start_rows ++ rows_of_steps f (lanes_given file.lanes.now) (map step_of file.steps.items) ++ end_rows is_followed
 
   -- its lookups
   abbrev pub lookups_with : List Lookup
   lookups_with = Source ∷ asked_by_all file.steps.items
+
+-- the call draws the snippet of a file, with a row after it where something follows, and makes its lookups
+abbrev pub DrawsSnippet : {W F Id : Type 0} → (W → Sink) → (F → Id → FileModel) → (F → Refusals Id) → Page F → SheetFile Id → Bool → Renderer W → Result (Unit {0}) Error → Renderer W → Type 0
+DrawsSnippet sink file refusal page f is_followed =
+    DrawsRowsAsking sink (refusal_in (refusal page.files.now) f.id (lookups_with f)) page.severity page.padding (rows_in f (file page.files.now f.id) is_followed)

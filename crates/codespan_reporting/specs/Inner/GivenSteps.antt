@@ -9,21 +9,20 @@ use Rattle.codespan_reporting.specs.declared.term.views.steps.Gap.{Gap}
 use Rattle.codespan_reporting.specs.declared.term.views.steps.Gap.TheVariants.{Nothing, Line, Lines}
 use Rattle.codespan_reporting.specs.declared.term.views.steps.Step.{Step as GivenStep}
 use Rattle.codespan_reporting.specs.declared.term.views.steps.Step.TheVariants as given
-use Rattle.codespan_reporting.specs.Inner.Entries.{Entry}
 use Rattle.codespan_reporting.specs.Inner.GivenEntries.{IsLineOf, entry_of}
 use Rattle.codespan_reporting.specs.Inner.Steps.{Step, Draw, Fill, Break}
 
 -- a step
 abbrev pub step_of : GivenStep → Step
-step_of (given.Shown line marks) = Draw line.index (map entry_of marks.now)
-step_of (given.Filled index number marks) = Fill index (map entry_of marks.now)
-step_of (given.Break marks) = Break (map entry_of marks.now)
+step_of (given.Shown line singles) = Draw line.index (map entry_of singles.now)
+step_of (given.Filled index number) = Fill index
+step_of (given.Break next) = Break next.index
 
--- what stands in a gap, with the entries that were skipped and the marks of the line after it
-abbrev pub gap_steps : Gap → List Entry → List Entry → List Step
-gap_steps Nothing skipped marks = []
-gap_steps (Line l) skipped marks = Fill l skipped ∷ []
-gap_steps Lines skipped marks = Break marks ∷ []
+-- what stands in a gap before this line
+abbrev pub gap_steps : Gap → ℕ → List Step
+gap_steps Nothing d = []
+gap_steps (Line l) d = Fill l ∷ []
+gap_steps Lines d = Break d ∷ []
 
 -- the number of a line that is filled in is known before the header in the unbroken layout
 abbrev pub known_number : Layout → ℕ → Option ℕ
@@ -46,25 +45,25 @@ asked_with number l = LineRange l ∷ number_asked number l
 
 -- what is asked for when a step is drawn
 abbrev pub asked_by : GivenStep → List Lookup
-asked_by (given.Shown line marks) = []
-asked_by (given.Filled index number marks) = asked_with number index
-asked_by (given.Break marks) = []
+asked_by (given.Shown line singles) = []
+asked_by (given.Filled index number) = asked_with number index
+asked_by (given.Break next) = []
 
 -- what is asked for when steps are drawn
 abbrev pub asked_by_all : List GivenStep → List Lookup
 asked_by_all steps = flat_map asked_by steps
 
--- the step is one of the file: its line is, and a number that is known is the line's
+-- the step is one of the file: its line is, or the line after it, and a number that is known is the line's
 abbrev pub IsStepOf : FileModel → GivenStep → Type 0
-IsStepOf f (given.Shown line marks) = IsLineOf f line
-IsStepOf f (given.Filled index number marks) = IfSome number (λ known. known ≡ f.number index)
-IsStepOf f (given.Break marks) = Unit {0}
+IsStepOf f (given.Shown line singles) = IsLineOf f line
+IsStepOf f (given.Filled index number) = IfSome number (λ known. known ≡ f.number index)
+IsStepOf f (given.Break next) = IsLineOf f next
 
 -- the step is one of the file in a layout, which says what numbers are known
 abbrev pub IsStepIn : Layout → FileModel → GivenStep → Type 0
-IsStepIn layout f (given.Shown line marks) = IsLineOf f line
-IsStepIn layout f (given.Filled index number marks) = number ≡ known_number layout (f.number index)
-IsStepIn layout f (given.Break marks) = Unit {0}
+IsStepIn layout f (given.Shown line singles) = IsLineOf f line
+IsStepIn layout f (given.Filled index number) = number ≡ known_number layout (f.number index)
+IsStepIn layout f (given.Break next) = IsLineOf f next
 
 -- steps of the file were added, which are these
 pub record AddsSteps (layout : Layout) (f : FileModel) (old new : List GivenStep) (steps : List Step) : Type 0 where

@@ -1,9 +1,9 @@
 -- The labels of a diagnostic among each other: their files, their places and their lanes.
-use Rattle.std.specs.Prelude.{◌≡◌, ℕ, zero, suc, Bool, false, not, ◌&&◌, List, [], ◌∷◌, ◌++◌, length, count_by, map}
+use Rattle.std.specs.Prelude.{◌≡◌, ℕ, zero, suc, Bool, false, List, [], ◌∷◌, ◌++◌, length, map}
 use Rattle.std.specs.List.{AllByRecursion, position_or_len}
 use Rattle.codespan_base.specs.declared.term.config.Config.{Config}
 use Rattle.codespan_base.specs.FileModel.{FileModel}
-use Rattle.codespan_base.specs.Labels.{is_single, first_seen}
+use Rattle.codespan_base.specs.Labels.{first_seen}
 use Rattle.codespan_reporting.specs.Inner.Entries.{Entry, LabelPlace, entries_of}
 use Rattle.codespan_picture.specs.Snippets.{InFile}
 
@@ -31,19 +31,11 @@ module _ {Id : Type 0} (same : Id → Id → Bool) where
   AreApart [] = Unit {0}
   AreApart (j ∷ js) = AllByRecursion (λ k. same j k ≡ false) js × AreApart js
 
+  -- where a label is that comes after these
+  abbrev pub place_after : List Id → List (InFile Id) → InFile Id → LabelPlace
+  place_after ids before x = record { file = file_place ids x.id; place = length before }
+
   module _ (file : Id → FileModel) where
-    -- the label is of this file and over several lines
-    abbrev pub is_multi_of : Id → InFile Id → Bool
-    is_multi_of id y = same id y.id && not (is_single (file y.id) y.label)
-
-    -- the lane of the next such label after these
-    abbrev pub lane_after : List (InFile Id) → Id → ℕ
-    lane_after before id = count_by (is_multi_of id) before
-
-    -- where a label is that comes after these
-    abbrev pub place_after : List Id → List (InFile Id) → InFile Id → LabelPlace
-    place_after ids before x = record { file = file_place ids x.id; place = length before; lane = lane_after before x.id }
-
     -- what these labels say, after those before them
     abbrev pub entries_after : Config → List Id → List (InFile Id) → List (InFile Id) → List Entry
     entries_after config ids before [] = []

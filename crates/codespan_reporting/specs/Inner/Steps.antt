@@ -1,20 +1,20 @@
 -- The steps that entries in order make: lines that are drawn, lines that are filled in, and breaks.
-use Rattle.std.specs.Prelude.{ℕ, ◌+◌, Bool, ◌==◌, ◌&&◌, List, [], ◌∷◌, ◌++◌, flat_map, drop, Option, Some, None, if◌then◌else◌}
+use Rattle.std.specs.Prelude.{ℕ, ◌+◌, Bool, true, ◌==◌, List, [], ◌∷◌, ◌++◌, flat_map, drop, Option, Some, None, if◌then◌else◌}
 use Rattle.std.specs.List.{prefix_len, filter_map}
 use Rattle.codespan_base.specs.FileModel.{FileModel, line_text}
-use Rattle.codespan_base.specs.Labels.{Labelled, LaneMark}
+use Rattle.codespan_base.specs.Labels.{Labelled}
 use Rattle.codespan_picture.specs.Cells.{drawn_text}
-use Rattle.codespan_picture.specs.Lanes.{ascend_from}
 use Rattle.codespan_picture.specs.Lines.{is_broken}
 use Rattle.codespan_picture.specs.Rows.{Line, Row, BreakRow, rows_of}
 use Rattle.codespan_renderer.specs.Inner.Sweeps.{starts_in_order}
-use Rattle.codespan_reporting.specs.Inner.Entries.{Entry, Says, Shown, Single, Multi, tells_shown}
+use Rattle.codespan_reporting.specs.Inner.Entries.{Entry, Says, Shown, Single, tells_shown}
+use Rattle.codespan_reporting.specs.Inner.Lanes.{Lane, lanes_on}
 
--- a line is drawn with its marks, a line between two shown ones is filled in with its marks, or lines are left out before one with these marks
+-- a line is drawn with the labels inside it, a line between two shown ones is filled in, or lines are left out before a line
 pub data Step : Type 0 where
-  Draw : (line : ℕ) (marks : List Entry) → Step
-  Fill : (line : ℕ) (marks : List Entry) → Step
-  Break : (marks : List Entry) → Step
+  Draw : (line : ℕ) (singles : List Entry) → Step
+  Fill : (line : ℕ) → Step
+  Break : (next : ℕ) → Step
 
 -- ---- the walk over entries in order
 
@@ -30,34 +30,31 @@ groups [] = []
 groups (x ∷ xs) = join_group x (groups xs)
 
 -- a group without those in front that say that the line is shown
-abbrev pub marks_of : List Entry → List Entry
-marks_of g = drop (prefix_len tells_shown g) g
+abbrev pub without_shown : List Entry → List Entry
+without_shown g = drop (prefix_len tells_shown g) g
 
 -- what stands between two shown lines: the one line between them, a break, or nothing
-abbrev pub gap : ℕ → ℕ → List Entry → List Entry → List Step
-gap c d skipped marks = if d == c + 2 then Fill (c + 1) skipped ∷ [] else if is_broken c d then Break marks ∷ [] else []
+abbrev pub gap : ℕ → ℕ → List Step
+gap c d = if d == c + 2 then Fill (c + 1) ∷ [] else if is_broken c d then Break d ∷ [] else []
 
 -- nothing stands before the first shown line
-abbrev pub gap_after : Option ℕ → ℕ → List Entry → List Entry → List Step
-gap_after None d skipped marks = []
-gap_after (Some c) d skipped marks = gap c d skipped marks
+abbrev pub gap_after : Option ℕ → ℕ → List Step
+gap_after None d = []
+gap_after (Some c) d = gap c d
 
 -- the steps up to a shown line: what stands before it, and the line itself
-abbrev pub steps_to : Option ℕ → ℕ → List Entry → List Entry → List Step
-steps_to was d skipped marks = gap_after was d skipped marks ++ Draw d marks ∷ []
+abbrev pub steps_to : Option ℕ → ℕ → List Entry → List Step
+steps_to was d singles = gap_after was d ++ Draw d singles ∷ []
 
--- the steps of these groups, where `was` is the last shown line, and these entries were skipped since then
-abbrev pub walk : Option ℕ → List Entry → List (List Entry) → List Step
-walk was skipped [] = []
-walk was skipped ([] ∷ gs) = walk was skipped gs
-walk was skipped ((x ∷ g) ∷ gs) =
-    if tells_shown x
-    then gap_after was x.line skipped (marks_of (x ∷ g)) ++ (Draw x.line (marks_of (x ∷ g)) ∷ walk (Some x.line) [] gs)
-    else walk was (skipped ++ (x ∷ g)) gs
+-- the steps of these groups, each of which is of a shown line, where `was` is the last shown line before them
+abbrev pub walk : Option ℕ → List (List Entry) → List Step
+walk was [] = []
+walk was ([] ∷ gs) = walk was gs
+walk was ((x ∷ g) ∷ gs) = steps_to was x.line (without_shown (x ∷ g)) ++ walk (Some x.line) gs
 
 -- the steps of the entries of one file
 abbrev pub steps_of : List Entry → List Step
-steps_of es = walk None [] (groups es)
+steps_of es = walk None (groups es)
 
 -- ---- what steps draw
 
@@ -65,37 +62,26 @@ steps_of es = walk None [] (groups es)
 abbrev pub single_of : Says → Option Labelled
 single_of Shown = None
 single_of (Single place x) = Some x
-single_of (Multi m) = None
-
--- its mark, where it is over several lines
-abbrev pub multi_of : Says → Option LaneMark
-multi_of Shown = None
-multi_of (Single place x) = None
-multi_of (Multi m) = Some m
 
 -- the labels inside the line
 abbrev pub singles_in : List Entry → List Labelled
 singles_in es = filter_map (λ (e : Entry). single_of e.says) es
 
--- the marks of the others
-abbrev pub multis_in : List Entry → List LaneMark
-multis_in es = filter_map (λ (e : Entry). multi_of e.says) es
-
-module _ (f : FileModel) (count : ℕ) where
-  -- a line of the file, with so many lanes and these marks
+module _ (f : FileModel) (lanes : List Lane) where
+  -- a line of the file, with these labels inside it
   abbrev pub line_of_group : ℕ → List Entry → Line
   line_of_group l es = record {
     number = f.number l;
     text = drawn_text (line_text f l);
     labels = singles_in es;
-    lanes = record { count = count; marks = multis_in es };
+    lanes = lanes_on f lanes l;
   }
 
   -- the rows of a step
   abbrev pub rows_of_step : Step → List Row
   rows_of_step (Draw l es) = rows_of (line_of_group l es)
-  rows_of_step (Fill l es) = rows_of (line_of_group l es)
-  rows_of_step (Break es) = BreakRow (record { count = count; marks = multis_in es }) ∷ []
+  rows_of_step (Fill l) = rows_of (line_of_group l [])
+  rows_of_step (Break l) = BreakRow (lanes_on f lanes l) ∷ []
 
   -- the rows of all
   abbrev pub rows_of_steps : List Step → List Row
@@ -106,8 +92,8 @@ module _ (f : FileModel) (count : ℕ) where
 -- the line of a step that fills one in
 abbrev pub fill_of : Step → List ℕ
 fill_of (Draw l es) = []
-fill_of (Fill l es) = l ∷ []
-fill_of (Break es) = []
+fill_of (Fill l) = l ∷ []
+fill_of (Break l) = []
 
 -- the lines that are filled in
 abbrev pub fills_of : List Step → List ℕ
@@ -116,21 +102,17 @@ fills_of steps = flat_map fill_of steps
 -- the line of a step that draws one
 abbrev pub line_of_step : Step → List ℕ
 line_of_step (Draw l es) = l ∷ []
-line_of_step (Fill l es) = l ∷ []
-line_of_step (Break es) = []
+line_of_step (Fill l) = l ∷ []
+line_of_step (Break l) = []
 
 -- the lines that are drawn
 abbrev pub lines_of_steps : List Step → List ℕ
 lines_of_steps steps = flat_map line_of_step steps
 
--- ---- marks and labels in order
+-- ---- labels in order
 
--- the entries' marks are in the order of so many lanes, and their labels in that of their starts
-abbrev pub do_fit : ℕ → List Entry → Bool
-do_fit count es = ascend_from count 0 (multis_in es) && starts_in_order (singles_in es)
-
--- those of a step are
-abbrev pub does_step_fit : ℕ → Step → Bool
-does_step_fit count (Draw l es) = do_fit count es
-does_step_fit count (Fill l es) = do_fit count es
-does_step_fit count (Break es) = do_fit count es
+-- the labels of a step are in the order of their starts
+abbrev pub does_step_fit : Step → Bool
+does_step_fit (Draw l es) = starts_in_order (singles_in es)
+does_step_fit (Fill l) = true
+does_step_fit (Break l) = true

@@ -5,6 +5,7 @@ mod file_order;
 mod gather;
 mod groups;
 mod label_lines;
+mod lanes;
 mod lines;
 mod loci;
 mod marks;

@@ -1,6 +1,5 @@
 //! What labels say of lines.
 
-use crate::term::renderer::MultiLabel;
 use codespan_base::diagnostic::LabelStyle;
 
 /// A line of a file, as its lookups gave it.
@@ -21,7 +20,7 @@ pub struct SourceLine {
 pub enum Says<'d> {
     /// The line is shown.
     Shown,
-    /// The label is inside the line. Its range is in bytes from the line's start, and at least one byte long.
+    /// The label is inside the line, which is shown. Its range is in bytes from the line's start, and at least one byte long.
     Single {
         /// The label's place in the diagnostic's list, counted from 0.
         place: usize,
@@ -33,15 +32,6 @@ pub enum Says<'d> {
         end: usize,
         /// Its message.
         message: &'d str,
-    },
-    /// The label is over several lines, and has a mark on this one.
-    Multi {
-        /// The label's lane.
-        lane: usize,
-        /// Its style.
-        style: LabelStyle,
-        /// What it does on the line.
-        mark: MultiLabel<'d>,
     },
 }
 

@@ -1,26 +1,28 @@
 //! What labels say of lines, gathered in one vector.
 
-ghost use Rattle.std.specs.Prelude.{◌≡◌, ◌≢◌, ◌+◌, ◌^◌, ◌<◌, ◌≤◌, ◌++◌, [], true, false, None, if◌then◌else◌, map, flat_map, slice_index, slice_set, vec_len, IfErr, IfOk, IfSome, OnOk, OnErr, IsErrOf};
+ghost use Rattle.std.specs.Prelude.{◌≡◌, ◌≢◌, ◌<◌, [], true, false, None, map, length, replicate, IfErr, IfOk, IfSome, OnOk, OnErr, IsErrOf};
 ghost use Rattle.std.specs.Option.{option_map};
-ghost use Rattle.codespan_base.specs.FileModel.{FileModel, Tells, line_count};
-ghost use Rattle.codespan_base.specs.FileModel.Lookup.{LineRange};
-ghost use Rattle.codespan_base.specs.Labels.{first_line, from_line_start, is_single, last_line, part_at};
-ghost use Rattle.codespan_picture.specs.Given.{part_of};
-ghost use Rattle.codespan_reporting.specs.Inner.Entries.{Single, line_entries, entries_of};
-ghost use Rattle.codespan_reporting.specs.Inner.GivenEntries.{Adds, AddsOf, IsLineOf, IsOfFiles, entries_on, label_place, lookups_on, said, says_at, says_of};
-ghost use Rattle.codespan_reporting.specs.Inner.GivenSheets.{IsGathered};
-ghost use Rattle.codespan_picture.specs.Lookups.{asked_lines, asked_of, ends_context, first_refusal, is_asked, label_lookups, line_refusal, of_label, of_line, probe};
+ghost use Rattle.codespan_base.specs.FileModel.{Tells};
+ghost use Rattle.codespan_base.specs.Labels.{from_line_start};
+ghost use Rattle.codespan_picture.specs.Lookups.{of_line};
 ghost use Rattle.codespan_picture.specs.Picture.{label_of};
-ghost use Rattle.codespan_reporting.specs.Inner.PlacedLabels.{all_entries, file_ids, label_places, lane_after};
+ghost use Rattle.codespan_reporting.specs.Inner.AskedLabels.{AddsLine, EndsBefore, FindsLine, FindsLines, HasAskedLine, MakesRoom, MakesRoomForLine, RefusesLine, asked_as, asked_label, label_refusal, labels_refusal, lines_refusal, refusal_at, refusal_on, says_by};
+ghost use Rattle.codespan_reporting.specs.Inner.Entries.{Single};
+ghost use Rattle.codespan_reporting.specs.Inner.FileLookups.{refusal_in};
+ghost use Rattle.codespan_reporting.specs.Inner.GivenEntries.{IsLineAt, IsLineOf, says_of};
+ghost use Rattle.codespan_reporting.specs.Inner.GivenSheets.{IsGathered, IsGatheredInTurn};
+ghost use Rattle.codespan_reporting.specs.Inner.LabelLines.{line_of_end, line_of_start};
+ghost use Rattle.codespan_reporting.specs.Inner.Lanes.{all_lanes_given, lane_added, lane_given};
 
-use crate::term::renderer::MultiLabel;
 use crate::term::views::entry::{Entry, Says, SourceLine};
 use crate::term::views::file_order::label_files;
 use crate::term::views::label_lines::{LabelLines, label_lines};
+use crate::term::views::lanes::Lane;
 use crate::term::views::sort::sort;
 use codespan_base::diagnostic::Label;
 use codespan_base::files::{Error, Files};
 use codespan_base::term::Config;
+use codespan_renderer::term::renderer::count_digits;
 use std::alloc::Global;
 
 /// Where a label is among those of a diagnostic.
@@ -30,30 +32,15 @@ pub struct LabelPlace {
     pub file: usize,
     /// Its own place in the list of labels, counted from 0.
     pub place: usize,
-    /// The lane that it has where it is over several lines.
-    pub lane: usize,
 }
 
-/// What a label over several lines does on a line, if it does anything there.
-fn multi_mark<'d, FileId>(
-    label: &'d Label<FileId>,
-    lines: LabelLines,
-    line: SourceLine,
-) -> Option<MultiLabel<'d>>
-    ensures { option_map part_of result ≡ part_at lines.first lines.last line.index line.start (label_of label.now).label }
-{
-    if line.index == lines.first {
-        Some(MultiLabel::Top(label.range.start.saturating_sub(line.start)))
-    } else if line.index == lines.last {
-        Some(MultiLabel::Bottom(
-            label.range.end.saturating_sub(line.start),
-            label.message.as_str(),
-        ))
-    } else if lines.first < line.index && line.index < lines.last {
-        Some(MultiLabel::Left)
-    } else {
-        None
-    }
+/// What labels say of the lines that they ask for.
+#[derive(Drop)]
+pub struct FoundLines<'d> {
+    /// What they say of them.
+    pub entries: Vec<Entry<'d>>,
+    /// How many digits the longest number has of the lines that they span; 0 where there is none.
+    pub padding: usize,
 }
 
 /// What a label inside one line says of it.
@@ -69,45 +56,6 @@ fn single_says<FileId>(label: &Label<FileId>, place: usize, line_start: usize) -
         end: end.max(start.saturating_add(1)),
         message: label.message.as_str(),
     }
-}
-
-/// What a label has on a line: carets, a mark in its lane, or nothing.
-fn mark_says<'d, FileId>(
-    at: LabelPlace,
-    label: &'d Label<FileId>,
-    lines: LabelLines,
-    line: SourceLine,
-) -> Option<Says<'d>>
-    ensures { option_map says_of result ≡ says_at (label_place at) lines.first lines.last line.index line.start (label_of label.now).label }
-{
-    if !lines.is_single() {
-        return multi_mark(label, lines, line).map(|mark| Says::Multi {
-            lane: at.lane,
-            style: label.style,
-            mark,
-        });
-    }
-    if line.index == lines.first {
-        Some(single_says(label, at.place, line.start))
-    } else {
-        None
-    }
-}
-
-/// Adds an entry where something is said of a line.
-fn push_said<'d>(
-    file: usize,
-    line: SourceLine,
-    says: Option<Says<'d>>,
-    entries: &mut Vec<Entry<'d>>,
-) -> Result<(), Error>
-    ensures added { OnOk result ((f : FileModel) → IsLineOf f line → AddsOf f entries.old.items entries.new.items (said file line.index (option_map says_of says.entry))) }
-    ensures refused { OnErr result (IsErrOf result Error.OutOfMemory) }
-{
-    if let Some(says) = says {
-        entries.push(Entry { file, line, says })?;
-    }
-    Ok(())
 }
 
 /// How the lines of a label are asked for.
@@ -126,10 +74,10 @@ struct Asking<'a, 'c, 'files, F> {
 impl<'a, 'c, 'files, F: Files<'files>> Asking<'a, 'c, 'files, F> {
     /// A line that the label asks for. After the label's last line, `None` says that the file ends before it.
     fn find_line(&self, id: F::FileId, index: usize) -> Result<Option<SourceLine>, Error>
-        ensures found { IfOk result (λ found. IfSome found (λ line. (line.index ≡ index) × IsLineOf (F.file self.now.files.now id) line)) }
-        ensures answered { IfOk result (λ found. IfSome found (λ _. first_refusal (F.refusal self.now.files.now) (asked_of id (of_line index)) ≡ None)) }
-        ensures ended { IfOk result (λ found. found ≡ None → (line_count (F.file self.now.files.now id) ≤ index) × (ends_context (F.refusal self.now.files.now id (LineRange index)) ≡ true)) }
-        ensures refused { Tells (line_refusal (F.file self.now.files.now id) (F.refusal self.now.files.now id) self.now.lines.last index) result }
+        ensures found { IfOk result (λ found. IfSome found (λ line. IsLineAt (F.file self.now.files.now id) index line)) }
+        ensures answered { IfOk result (λ found. IfSome found (λ _. refusal_in (F.refusal self.now.files.now) id (of_line index) ≡ None)) }
+        ensures ended { IfOk result (λ found. found ≡ None → EndsBefore F.file F.refusal self.now id index) }
+        ensures refused { Tells (refusal_at F.file F.refusal self.now id index) result }
     {
         let range = match self.files.line_range(id, index) {
             Ok(range) => range,
@@ -145,30 +93,39 @@ impl<'a, 'c, 'files, F: Files<'files>> Asking<'a, 'c, 'files, F> {
         }))
     }
 
-    /// Adds what the label says of a line: that the line is shown, and what the label has on it.
+    /// What the label says of a line: its carets, where it is inside the line, or else that the line is shown, if the label shows it.
+    fn says_of_line<'d>(&self, label: &'d Label<F::FileId>, line: SourceLine) -> Option<Says<'d>>
+        ensures { option_map says_of result ≡ says_by self.now label.now line }
+    {
+        if self.lines.is_single() && self.lines.first == line.index {
+            Some(single_says(label, self.at.place, line.start))
+        } else if self.lines.shows(self.config, line.index) {
+            Some(Says::Shown)
+        } else {
+            None
+        }
+    }
+
+    /// Adds what the label says of a line.
     fn push_line<'d>(
         &self,
         label: &'d Label<F::FileId>,
         line: SourceLine,
         entries: &mut Vec<Entry<'d>>,
     ) -> Result<(), Error>
-        requires first { first_line (F.file self.now.files.now label.now.file_id) (label_of label.now).label ≡ self.now.lines.first }
-        requires last { last_line (F.file self.now.files.now label.now.file_id) (label_of label.now).label ≡ self.now.lines.last }
+        requires first { line_of_start (F.file self.now.files.now) label.now ≡ self.now.lines.first }
+        requires last { line_of_end (F.file self.now.files.now) label.now ≡ self.now.lines.last }
         requires line { IsLineOf (F.file self.now.files.now label.now.file_id) line }
-        ensures added { OnOk result (AddsOf (F.file self.now.files.now label.now.file_id) entries.old.items entries.new.items (line_entries self.now.config.now (F.file self.now.files.now label.now.file_id) (label_place self.now.at) (label_of label.now).label line.index)) }
+        ensures added { OnOk result (AddsLine (asked_as F.file F.refusal self.now label.now) entries.old.items entries.new.items line.index) }
         ensures refused { OnErr result (IsErrOf result Error.OutOfMemory) }
     {
-        let shown = self
-            .lines
-            .shows(self.config, line.index)
-            .then_some(Says::Shown);
-        push_said(self.at.file, line, shown, entries)?;
-        push_said(
-            self.at.file,
-            line,
-            mark_says(self.at, label, self.lines, line),
-            entries,
-        )?;
+        if let Some(says) = self.says_of_line(label, line) {
+            entries.push(Entry {
+                file: self.at.file,
+                line,
+                says,
+            })?;
+        }
         Ok(())
     }
 
@@ -178,23 +135,28 @@ impl<'a, 'c, 'files, F: Files<'files>> Asking<'a, 'c, 'files, F> {
         &self,
         label: &'d Label<F::FileId>,
         index: usize,
-        entries: &mut Vec<Entry<'d>>,
+        found: &mut FoundLines<'d>,
     ) -> Result<bool, Error>
-        requires first { first_line (F.file self.now.files.now label.now.file_id) (label_of label.now).label ≡ self.now.lines.first }
-        requires last { last_line (F.file self.now.files.now label.now.file_id) (label_of label.now).label ≡ self.now.lines.last }
-        ensures inside { IfOk result (λ goes_on. goes_on ≡ true → is_asked self.now.config.now (F.file self.now.files.now label.now.file_id) (label_of label.now).label index ≡ true → index < line_count (F.file self.now.files.now label.now.file_id)) }
-        ensures added { IfOk result (λ goes_on. goes_on ≡ true → AddsOf (F.file self.now.files.now label.now.file_id) entries.old.items entries.new.items (entries_on self.now.config.now (F.file self.now.files.now label.now.file_id) (label_of label.now).label (label_place self.now.at) index)) }
-        ensures answered { IfOk result (λ goes_on. goes_on ≡ true → first_refusal (F.refusal self.now.files.now) (asked_of label.now.file_id (lookups_on self.now.config.now (F.file self.now.files.now label.now.file_id) (label_of label.now).label index)) ≡ None) }
-        ensures ended { IfOk result (λ goes_on. goes_on ≡ false → (entries.new.items ≡ entries.old.items) × (line_count (F.file self.now.files.now label.now.file_id) ≤ index) × (ends_context (F.refusal self.now.files.now label.now.file_id (LineRange index)) ≡ true)) }
-        ensures refused { IfErr result (λ e. e ≢ Error.OutOfMemory → (is_asked self.now.config.now (F.file self.now.files.now label.now.file_id) (label_of label.now).label index ≡ true) × (line_refusal (F.file self.now.files.now label.now.file_id) (F.refusal self.now.files.now label.now.file_id) self.now.lines.last index ≡ Some e)) }
+        requires first { line_of_start (F.file self.now.files.now) label.now ≡ self.now.lines.first }
+        requires last { line_of_end (F.file self.now.files.now) label.now ≡ self.now.lines.last }
+        ensures inside { IfOk result (λ goes_on. goes_on ≡ true → HasAskedLine (asked_as F.file F.refusal self.now label.now) index) }
+        ensures added { IfOk result (λ goes_on. goes_on ≡ true → FindsLine (asked_as F.file F.refusal self.now label.now) found.old found.new index) }
+        ensures padding { IfOk result (λ goes_on. goes_on ≡ true → MakesRoomForLine (asked_as F.file F.refusal self.now label.now) found.old found.new index) }
+        ensures answered { IfOk result (λ goes_on. goes_on ≡ true → refusal_on (asked_as F.file F.refusal self.now label.now) index ≡ None) }
+        ensures ended { IfOk result (λ goes_on. goes_on ≡ false → (found.new ≡ found.old) × EndsBefore F.file F.refusal self.now label.now.file_id index) }
+        ensures refused { IfErr result (λ e. e ≢ Error.OutOfMemory → RefusesLine F.file F.refusal self.now label.now index e) }
     {
-        if !self.lines.spans(index) && !self.lines.is_around(self.config, index) {
+        let is_spanned = self.lines.spans(index);
+        if !is_spanned && !self.lines.is_around(self.config, index) {
             return Ok(true);
         }
         let Some(line) = self.find_line(label.file_id, index)? else {
             return Ok(false);
         };
-        self.push_line(label, line, entries)?;
+        if is_spanned {
+            found.padding = count_digits(line.number).max(found.padding);
+        }
+        self.push_line(label, line, &mut found.entries)?;
         Ok(true)
     }
 
@@ -202,18 +164,19 @@ impl<'a, 'c, 'files, F: Files<'files>> Asking<'a, 'c, 'files, F> {
     fn gather_lines<'d>(
         &self,
         label: &'d Label<F::FileId>,
-        entries: &mut Vec<Entry<'d>>,
+        found: &mut FoundLines<'d>,
     ) -> Result<(), Error>
-        requires first { first_line (F.file self.now.files.now label.now.file_id) (label_of label.now).label ≡ self.now.lines.first }
-        requires last { last_line (F.file self.now.files.now label.now.file_id) (label_of label.now).label ≡ self.now.lines.last }
-        ensures added { OnOk result (AddsOf (F.file self.now.files.now label.now.file_id) entries.old.items entries.new.items (entries_of self.now.config.now (F.file self.now.files.now label.now.file_id) (label_place self.now.at) (label_of label.now).label)) }
-        ensures refused { Tells (first_refusal (F.refusal self.now.files.now) (asked_of label.now.file_id (flat_map of_line (asked_lines self.now.config.now (F.file self.now.files.now label.now.file_id) (label_of label.now).label) ++ probe self.now.config.now (F.file self.now.files.now label.now.file_id) (F.refusal self.now.files.now label.now.file_id) (label_of label.now).label))) result }
+        requires first { line_of_start (F.file self.now.files.now) label.now ≡ self.now.lines.first }
+        requires last { line_of_end (F.file self.now.files.now) label.now ≡ self.now.lines.last }
+        ensures added { OnOk result (FindsLines (asked_as F.file F.refusal self.now label.now) found.old found.new) }
+        ensures padding { OnOk result (MakesRoom (asked_as F.file F.refusal self.now label.now) found.old found.new) }
+        ensures refused { Tells (lines_refusal (asked_as F.file F.refusal self.now label.now)) result }
     {
         let lines = self.lines;
         let first = lines.first.saturating_sub(self.config.before_label_lines);
         let last = lines.last.saturating_add(self.config.after_label_lines);
         for index in first.min(lines.last)..=last.max(lines.first) {
-            if !self.gather_line(label, index, entries)? {
+            if !self.gather_line(label, index, found)? {
                 return Ok(());
             }
         }
@@ -221,17 +184,19 @@ impl<'a, 'c, 'files, F: Files<'files>> Asking<'a, 'c, 'files, F> {
     }
 }
 
-/// Asks for the lines of a label, and adds what it says of them. Gives how many lanes it takes: one where it is over several lines.
+/// Asks for the lines of a label, and adds what it says of them. Gives the lines that it starts and ends on.
 fn gather_label<'files, 'd, F: Files<'files>>(
     files: &'files F,
     config: &Config<'_>,
     at: LabelPlace,
     label: &'d Label<F::FileId>,
-    entries: &mut Vec<Entry<'d>>,
-) -> Result<usize, Error>
-    ensures added { OnOk result (AddsOf (F.file files.now label.now.file_id) entries.old.items entries.new.items (entries_of config.now (F.file files.now label.now.file_id) (label_place at) (label_of label.now).label)) }
-    ensures lanes { IfOk result (λ lanes. lanes ≡ (if is_single (F.file files.now label.now.file_id) (label_of label.now).label then 0 else 1)) }
-    ensures refused { Tells (first_refusal (F.refusal files.now) (asked_of label.now.file_id (of_label config.now (F.file files.now label.now.file_id) (F.refusal files.now label.now.file_id) (label_of label.now).label))) result }
+    found: &mut FoundLines<'d>,
+) -> Result<LabelLines, Error>
+    ensures first { IfOk result (λ lines. lines.first ≡ line_of_start (F.file files.now) label.now) }
+    ensures last { IfOk result (λ lines. lines.last ≡ line_of_end (F.file files.now) label.now) }
+    ensures added { OnOk result (FindsLines (asked_label F.file F.refusal files.now config.now at label.now) found.old found.new) }
+    ensures padding { OnOk result (MakesRoom (asked_label F.file F.refusal files.now config.now at label.now) found.old found.new) }
+    ensures refused { Tells (label_refusal (asked_label F.file F.refusal files.now config.now at label.now)) result }
 {
     let lines = label_lines(files, label)?;
     let asking = Asking {
@@ -240,8 +205,8 @@ fn gather_label<'files, 'd, F: Files<'files>>(
         at,
         lines,
     };
-    asking.gather_lines(label, entries)?;
-    Ok(if lines.is_single() { 0 } else { 1 })
+    asking.gather_lines(label, found)?;
+    Ok(lines)
 }
 
 /// What the labels of a diagnostic say of lines.
@@ -251,10 +216,12 @@ pub struct Gathered<'d, FileId> {
     pub ids: Vec<FileId>,
     /// For each label the place of its file among these, counted from 0.
     pub places: Vec<usize>,
-    /// How many lanes each of these files has.
-    pub lane_counts: Vec<usize>,
+    /// For each of these files its labels over several lines, in the order of their lanes.
+    pub lanes: Vec<Vec<Lane<'d>>>,
     /// What the labels say, in their order.
     pub entries: Vec<Entry<'d>>,
+    /// How many digits the longest number has of the lines that labels span; 0 where there is none.
+    pub padding: usize,
 }
 
 /// Asks for the lines of all labels, and gathers what the labels say of them, in the order of the picture.
@@ -267,7 +234,7 @@ pub fn gather<'files, 'd, F: Files<'files>>(
     labels: &'d [Label<F::FileId>],
 ) -> Result<Gathered<'d, F::FileId>, Error>
     ensures gathered { IfOk result (IsGathered F.FileId.eq (F.file files.now) config.now (map label_of labels.now)) }
-    ensures refused { Tells (first_refusal (F.refusal files.now) (label_lookups config.now (F.file files.now) (F.refusal files.now) (map label_of labels.now))) result }
+    ensures refused { Tells (labels_refusal config.now (F.file files.now) (F.refusal files.now) (map label_of labels.now)) result }
 {
     let mut gathered = gather_in_turn(alloc, files, config, labels)?;
     sort(&mut gathered.entries);
@@ -281,26 +248,50 @@ fn gather_in_turn<'files, 'd, F: Files<'files>>(
     config: &Config<'_>,
     labels: &'d [Label<F::FileId>],
 ) -> Result<Gathered<'d, F::FileId>, Error>
-    ensures ids { IfOk result (λ gathered. gathered.ids.items ≡ file_ids F.FileId.eq (map label_of labels.now)) }
-    ensures places { IfOk result (λ gathered. gathered.places.items ≡ label_places F.FileId.eq gathered.ids.items (map label_of labels.now)) }
-    ensures lanes { IfOk result (λ gathered. gathered.lane_counts.items ≡ map (lane_after F.FileId.eq (F.file files.now) (map label_of labels.now)) gathered.ids.items) }
-    ensures entries { IfOk result (λ gathered. Adds (IsOfFiles (F.file files.now) gathered.ids.items) [] gathered.entries.items (all_entries F.FileId.eq (F.file files.now) config.now (map label_of labels.now))) }
-    ensures refused { Tells (first_refusal (F.refusal files.now) (label_lookups config.now (F.file files.now) (F.refusal files.now) (map label_of labels.now))) result }
+    ensures gathered { IfOk result (IsGatheredInTurn F.FileId.eq (F.file files.now) config.now (map label_of labels.now)) }
+    ensures refused { Tells (labels_refusal config.now (F.file files.now) (F.refusal files.now) (map label_of labels.now)) result }
 {
     let of_labels = label_files(alloc, labels)?;
-    let mut lane_counts = vec![in alloc; 0; of_labels.ids.len()]?;
-    let mut entries = Vec::new(alloc);
+    let mut lanes = no_lanes(alloc, of_labels.ids.len())?;
+    let mut found = FoundLines {
+        entries: Vec::new(alloc),
+        padding: 0,
+    };
     for (place, label) in labels.iter().enumerate() {
         let file = of_labels.places[place];
-        let lane = lane_counts[file];
-        let at = LabelPlace { file, place, lane };
-        let lanes = gather_label(files, config, at, label, &mut entries)?;
-        lane_counts[file] = lane + lanes;
+        let at = LabelPlace { file, place };
+        let lines = gather_label(files, config, at, label, &mut found)?;
+        if !lines.is_single() {
+            push_lane(&mut lanes, file, Lane::of(label, lines))?;
+        }
     }
     Ok(Gathered {
         ids: of_labels.ids,
         places: of_labels.places,
-        lane_counts,
-        entries,
+        lanes,
+        entries: found.entries,
+        padding: found.padding,
     })
+}
+
+/// No lane yet for each of so many files. Refuses with `OutOfMemory`.
+fn no_lanes<'d>(alloc: Global, file_count: usize) -> Result<Vec<Vec<Lane<'d>>>, Error>
+    ensures lanes { IfOk result (λ lanes. all_lanes_given lanes.items ≡ replicate file_count []) }
+    ensures refused { OnErr result (IsErrOf result Error.OutOfMemory) }
+{
+    let mut lanes = Vec::new(alloc);
+    for _ in 0..file_count {
+        lanes.push(Vec::new(alloc))?;
+    }
+    Ok(lanes)
+}
+
+/// Adds the next lane of a file. Refuses with `OutOfMemory`.
+fn push_lane<'d>(lanes: &mut Vec<Vec<Lane<'d>>>, file: usize, lane: Lane<'d>) -> Result<(), Error>
+    requires file { file < length lanes.old.items }
+    ensures added { OnOk result (all_lanes_given lanes.new.items ≡ lane_added (all_lanes_given lanes.old.items) file (lane_given lane.entry)) }
+    ensures refused { OnErr result (IsErrOf result Error.OutOfMemory) }
+{
+    lanes[file].push(lane)?;
+    Ok(())
 }

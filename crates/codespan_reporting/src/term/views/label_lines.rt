@@ -1,13 +1,11 @@
 //! The lines of a label, and what it says of lines.
 
-ghost use Rattle.std.specs.Prelude.{◌≡◌, ◌∷◌, [], ◌+◌, ◌==◌, ◌&&◌, ◌||◌, nat_lt, nat_le, IfOk};
+ghost use Rattle.std.specs.Prelude.{◌≡◌, ◌==◌, IfOk};
 ghost use Rattle.codespan_base.specs.FileModel.{Tells};
-ghost use Rattle.codespan_base.specs.FileModel.Lookup.{LineIndex};
-ghost use Rattle.codespan_base.specs.Labels.{first_line, last_line};
 ghost use Rattle.codespan_picture.specs.Lines.{shows};
-ghost use Rattle.codespan_picture.specs.Lookups.{asked_of, first_refusal, is_around};
+ghost use Rattle.codespan_picture.specs.Lookups.{is_around};
 ghost use Rattle.codespan_picture.specs.Padding.{spans_line};
-ghost use Rattle.codespan_picture.specs.Picture.{label_of};
+ghost use Rattle.codespan_reporting.specs.Inner.LabelLines.{ends_refusal, is_near_end, line_of_end, line_of_start};
 
 use codespan_base::diagnostic::Label;
 use codespan_base::files::{Error, Files};
@@ -57,7 +55,7 @@ impl LabelLines {
 
     /// Whether the line is between the label's ends, and near one of them.
     fn is_near_end(self, config: &Config<'_>, index: usize) -> bool
-        ensures { result ≡ (nat_lt self.first index && nat_lt index self.last && (nat_le index (self.first + config.now.start_context_lines) || nat_le self.last (index + config.now.end_context_lines))) }
+        ensures { result ≡ is_near_end config.now self.first self.last index }
     {
         self.first < index
             && index < self.last
@@ -71,9 +69,9 @@ pub fn label_lines<'files, F: Files<'files>>(
     files: &'files F,
     label: &Label<F::FileId>,
 ) -> Result<LabelLines, Error>
-    ensures first { IfOk result (λ lines. lines.first ≡ first_line (F.file files.now label.now.file_id) (label_of label.now).label) }
-    ensures last { IfOk result (λ lines. lines.last ≡ last_line (F.file files.now label.now.file_id) (label_of label.now).label) }
-    ensures refused { Tells (first_refusal (F.refusal files.now) (asked_of label.now.file_id (LineIndex label.now.range.start ∷ LineIndex label.now.range.end ∷ []))) result }
+    ensures first { IfOk result (λ lines. lines.first ≡ line_of_start (F.file files.now) label.now) }
+    ensures last { IfOk result (λ lines. lines.last ≡ line_of_end (F.file files.now) label.now) }
+    ensures refused { Tells (ends_refusal (F.refusal files.now) label.now) result }
 {
     Ok(LabelLines {
         first: files.line_index(label.file_id, label.range.start)?,

@@ -3,15 +3,17 @@
 ghost use Rattle.std.specs.Prelude.{◌≡◌, [], IfOk, IfSome, IsTrue, map};
 ghost use Rattle.std.specs.List.{AllByRecursion};
 ghost use Rattle.codespan_base.specs.FileModel.{Tells};
-ghost use Rattle.codespan_picture.specs.Lookups.{asked_of, first_refusal};
-ghost use Rattle.codespan_renderer.specs.Renderers.{writer_of, config_of, SameRenderer};
-ghost use Rattle.codespan_reporting.specs.Inner.GivenEntries.{IsLineOf, entry_of};
+ghost use Rattle.codespan_renderer.specs.Renderers.{SameRenderer};
+ghost use Rattle.codespan_reporting.specs.Inner.FileLookups.{refusal_in};
+ghost use Rattle.codespan_reporting.specs.Inner.GivenEntries.{IsLineAt, IsLineOf, entry_of};
 ghost use Rattle.codespan_reporting.specs.Inner.GivenSteps.{IsStepOf, asked_by, asked_by_all, asked_with, step_of};
-ghost use Rattle.codespan_reporting.specs.Inner.StepDrawing.{DoFit, DrawsStep, DrawsSteps};
-ghost use Rattle.codespan_reporting.specs.Inner.Steps.{Draw, Break, do_fit, does_step_fit};
+ghost use Rattle.codespan_reporting.specs.Inner.StepDrawing.{DoFit, DrawsStep, DrawsSteps, drawn_file};
+ghost use Rattle.codespan_renderer.specs.Inner.Sweeps.{starts_in_order};
+ghost use Rattle.codespan_reporting.specs.Inner.Steps.{Draw, Break, does_step_fit, singles_in};
 
 use crate::term::renderer::Renderer;
 use crate::term::views::entry::{Entry, SourceLine};
+use crate::term::views::lanes::Lane;
 use crate::term::views::marks::LineMarks;
 use crate::term::views::steps::Step;
 use codespan_base::diagnostic::Severity;
@@ -31,33 +33,33 @@ pub struct Page<'files, F> {
 
 /// A file whose lines are drawn.
 #[derive(Drop)]
-pub struct FileLines<'page, 'files, F: Files<'files>> {
+pub struct FileLines<'page, 'd, 'files, F: Files<'files>> {
     /// What it shares with other files.
     pub page: &'page Page<'files, F>,
     /// What names the file.
     pub id: F::FileId,
     /// Its text.
     pub text: &'page str,
-    /// How many lanes it has.
-    pub lane_count: usize,
+    /// Its labels over several lines, in the order of their lanes.
+    pub lanes: &'page [Lane<'d>],
 }
 
-impl<'page, 'files, F: Files<'files>> FileLines<'page, 'files, F> {
+impl<'page, 'd, 'files, F: Files<'files>> FileLines<'page, 'd, 'files, F> {
     /// Draws what these steps show, in their order.
     ///
     /// Refuses as the first lookup of a line between two shown ones that refuses does, with `OutOfMemory` where a growth is refused, and
     /// with `Io` where the writer refuses. What is written then is a beginning.
-    pub fn draw_steps<'d, W: WriteStyle>(
+    pub fn draw_steps<W: WriteStyle>(
         &self,
         renderer: &mut Renderer<'_, '_, W>,
         marks: &mut LineMarks<'d>,
         steps: &[Step<'_, 'd>],
     ) -> Result<(), Error>
-        requires text { self.now.text.now ≡ (F.file self.now.page.now.files.now self.now.id).text }
-        requires steps { AllByRecursion (IsStepOf (F.file self.now.page.now.files.now self.now.id)) steps.now }
-        requires fits { DoFit self.now.lane_count (map step_of steps.now) }
+        requires text { self.now.text.now ≡ (drawn_file F.file self.now).text }
+        requires steps { AllByRecursion (IsStepOf (drawn_file F.file self.now)) steps.now }
+        requires fits { DoFit (map step_of steps.now) }
         ensures same { SameRenderer renderer.old renderer.new }
-        ensures draws { DrawsSteps F.file F.refusal self.now (config_of renderer.old) (asked_by_all steps.now) (map step_of steps.now) (W.sink (writer_of renderer.old)) result (W.sink (writer_of renderer.new)) }
+        ensures draws { DrawsSteps W.sink F.file F.refusal self.now (asked_by_all steps.now) (map step_of steps.now) renderer.old result renderer.new }
     {
         for step in steps {
             self.draw_step(renderer, marks, step)?;
@@ -67,38 +69,34 @@ impl<'page, 'files, F: Files<'files>> FileLines<'page, 'files, F> {
 
     /// Draws what a step shows. Refuses as the lookups of a line between two shown ones do, with `OutOfMemory` where a growth is refused,
     /// and with `Io` where the writer refuses. What is written then is a beginning.
-    fn draw_step<'d, W: WriteStyle>(
+    fn draw_step<W: WriteStyle>(
         &self,
         renderer: &mut Renderer<'_, '_, W>,
         marks: &mut LineMarks<'d>,
         step: &Step<'_, 'd>,
     ) -> Result<(), Error>
-        requires text { self.now.text.now ≡ (F.file self.now.page.now.files.now self.now.id).text }
-        requires step { IsStepOf (F.file self.now.page.now.files.now self.now.id) step.now }
-        requires fits { IsTrue (does_step_fit self.now.lane_count (step_of step.now)) }
+        requires text { self.now.text.now ≡ (drawn_file F.file self.now).text }
+        requires step { IsStepOf (drawn_file F.file self.now) step.now }
+        requires fits { IsTrue (does_step_fit (step_of step.now)) }
         ensures same { SameRenderer renderer.old renderer.new }
-        ensures draws { DrawsStep F.file F.refusal self.now (config_of renderer.old) (asked_by step.now) (step_of step.now) (W.sink (writer_of renderer.old)) result (W.sink (writer_of renderer.new)) }
+        ensures draws { DrawsStep W.sink F.file F.refusal self.now (asked_by step.now) (step_of step.now) renderer.old result renderer.new }
     {
         match step {
-            Step::Shown { line, marks: own } => self.draw_line(renderer, marks, *line, *own),
-            Step::Filled {
-                index,
-                number,
-                marks: own,
-            } => {
+            Step::Shown { line, singles } => self.draw_line(renderer, marks, *line, *singles),
+            Step::Filled { index, number } => {
                 let line = self.find_line(*index, *number)?;
-                self.draw_line(renderer, marks, line, *own)
+                self.draw_line(renderer, marks, line, &[])
             }
-            Step::Break { marks: own } => self.draw_break(renderer, marks, *own),
+            Step::Break { next } => self.draw_break(renderer, marks, *next),
         }
     }
 
     /// A line between two that are shown. `number` is its number, where that is known. Refuses as the lookup of its range does, and then,
     /// where the number is not known, as that of its number.
     fn find_line(&self, index: usize, number: Option<usize>) -> Result<SourceLine, Error>
-        requires number { IfSome number (λ known. known ≡ (F.file self.now.page.now.files.now self.now.id).number index) }
-        ensures line { IfOk result (λ line. (line.index ≡ index) × IsLineOf (F.file self.now.page.now.files.now self.now.id) line) }
-        ensures refused { Tells (first_refusal (F.refusal self.now.page.now.files.now) (asked_of self.now.id (asked_with number index))) result }
+        requires number { IfSome number (λ known. known ≡ (drawn_file F.file self.now).number index) }
+        ensures line { IfOk result (λ line. IsLineAt (drawn_file F.file self.now) index line) }
+        ensures refused { Tells (refusal_in (F.refusal self.now.page.now.files.now) self.now.id (asked_with number index)) result }
     {
         let range = self.page.files.line_range(self.id, index)?;
         let number = match number {
@@ -113,22 +111,22 @@ impl<'page, 'files, F: Files<'files>> FileLines<'page, 'files, F> {
         })
     }
 
-    /// Draws a line with the labels and marks of these entries. Refuses with `OutOfMemory` before anything is written, and with
-    /// `Io` where the writer refuses.
-    fn draw_line<'d, W: WriteStyle>(
+    /// Draws a line with the marks of the file's lanes and the labels of these entries. Refuses with `OutOfMemory` before anything is
+    /// written, and with `Io` where the writer refuses.
+    fn draw_line<W: WriteStyle>(
         &self,
         renderer: &mut Renderer<'_, '_, W>,
         marks: &mut LineMarks<'d>,
         line: SourceLine,
         entries: &[Entry<'d>],
     ) -> Result<(), Error>
-        requires text { self.now.text.now ≡ (F.file self.now.page.now.files.now self.now.id).text }
-        requires line { IsLineOf (F.file self.now.page.now.files.now self.now.id) line }
-        requires fits { IsTrue (do_fit self.now.lane_count (map entry_of entries.now)) }
+        requires text { self.now.text.now ≡ (drawn_file F.file self.now).text }
+        requires line { IsLineOf (drawn_file F.file self.now) line }
+        requires fits { IsTrue (starts_in_order (singles_in (map entry_of entries.now))) }
         ensures same { SameRenderer renderer.old renderer.new }
-        ensures draws { DrawsStep F.file F.refusal self.now (config_of renderer.old) [] (Draw line.index (map entry_of entries.now)) (W.sink (writer_of renderer.old)) result (W.sink (writer_of renderer.new)) }
+        ensures draws { DrawsStep W.sink F.file F.refusal self.now [] (Draw line.index (map entry_of entries.now)) renderer.old result renderer.new }
     {
-        marks.refill(entries)?;
+        marks.refill(self.lanes, line, entries)?;
         let source = &self.text[line.start..line.end];
         if !marks.have_places() {
             return renderer.render_snippet_source(
@@ -137,7 +135,7 @@ impl<'page, 'files, F: Files<'files>> FileLines<'page, 'files, F> {
                 source,
                 self.page.severity,
                 marks.singles.as_slice(),
-                self.lane_count,
+                self.lanes.len(),
                 marks.multis.as_slice(),
             );
         }
@@ -151,28 +149,28 @@ impl<'page, 'files, F: Files<'files>> FileLines<'page, 'files, F> {
             source,
             self.page.severity,
             marks.singles.as_slice(),
-            self.lane_count,
+            self.lanes.len(),
             marks.multis.as_slice(),
         )
     }
 
-    /// Draws a break before a line with the marks of these entries. Refuses with `OutOfMemory` before anything is written, and with
-    /// `Io` where the writer refuses.
-    fn draw_break<'d, W: WriteStyle>(
+    /// Draws a break before this line, with the marks of the file's lanes on it. Refuses with `OutOfMemory` before anything is written, and
+    /// with `Io` where the writer refuses.
+    fn draw_break<W: WriteStyle>(
         &self,
         renderer: &mut Renderer<'_, '_, W>,
         marks: &mut LineMarks<'d>,
-        entries: &[Entry<'d>],
+        next: SourceLine,
     ) -> Result<(), Error>
-        requires fits { IsTrue (do_fit self.now.lane_count (map entry_of entries.now)) }
+        requires next { IsLineOf (drawn_file F.file self.now) next }
         ensures same { SameRenderer renderer.old renderer.new }
-        ensures draws { DrawsStep F.file F.refusal self.now (config_of renderer.old) [] (Break (map entry_of entries.now)) (W.sink (writer_of renderer.old)) result (W.sink (writer_of renderer.new)) }
+        ensures draws { DrawsStep W.sink F.file F.refusal self.now [] (Break next.index) renderer.old result renderer.new }
     {
-        marks.refill(entries)?;
+        marks.refill(self.lanes, next, &[])?;
         renderer.render_snippet_break(
             self.page.padding,
             self.page.severity,
-            self.lane_count,
+            self.lanes.len(),
             marks.multis.as_slice(),
         )
     }

@@ -134,7 +134,7 @@ pub fn place_files<'files, 'e, 'd, F: Files<'files>>(
         placed.push(SheetFile {
             id: plan.id,
             locus,
-            lane_count: plan.lane_count,
+            lanes: plan.lanes,
             steps: plan.steps,
         })?;
     }

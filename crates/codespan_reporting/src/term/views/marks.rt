@@ -3,10 +3,12 @@
 ghost use Rattle.std.specs.Prelude.{◌≡◌, [], IfOk, OnErr, IsErrOf, map};
 ghost use Rattle.codespan_picture.specs.Given.{all_labelled, mark_of_given};
 ghost use Rattle.codespan_reporting.specs.Inner.GivenEntries.{entry_of};
-ghost use Rattle.codespan_reporting.specs.Inner.Steps.{singles_in, multis_in};
+ghost use Rattle.codespan_reporting.specs.Inner.Lanes.{lane_marks, lanes_given};
+ghost use Rattle.codespan_reporting.specs.Inner.Steps.{singles_in};
 
 use crate::term::renderer::{MultiLabel, SingleLabel};
-use crate::term::views::entry::{Entry, Says};
+use crate::term::views::entry::{Entry, Says, SourceLine};
+use crate::term::views::lanes::Lane;
 use codespan_base::diagnostic::LabelStyle;
 use codespan_base::files::Error;
 use codespan_renderer::term::renderer::by_cells::LineCells;
@@ -38,28 +40,20 @@ impl<'d> LineMarks<'d> {
         }
     }
 
-    /// Takes the labels and marks of these entries, in their order, in place of those before. Refuses with `OutOfMemory`.
-    pub fn refill(&mut self, entries: &[Entry<'d>]) -> Result<(), Error>
+    /// Takes what labels do on a line in place of what was there: the marks of these lanes, and the labels of these entries, in their order.
+    /// Refuses with `OutOfMemory`.
+    pub fn refill(
+        &mut self,
+        lanes: &[Lane<'d>],
+        line: SourceLine,
+        entries: &[Entry<'d>],
+    ) -> Result<(), Error>
         ensures singles { IfOk result (λ _. all_labelled self.new.singles.items ≡ singles_in (map entry_of entries.now)) }
-        ensures multis { IfOk result (λ _. map mark_of_given self.new.multis.items ≡ multis_in (map entry_of entries.now)) }
+        ensures multis { IfOk result (λ _. map mark_of_given self.new.multis.items ≡ lane_marks (lanes_given lanes.now) line.index line.start) }
         ensures refused { OnErr result (IsErrOf result Error.OutOfMemory) }
     {
-        self.singles.clear();
-        self.multis.clear();
-        for entry in entries {
-            match entry.says {
-                Says::Shown => {}
-                Says::Single {
-                    place: _,
-                    style,
-                    start,
-                    end,
-                    message,
-                } => self.singles.push((style, start..end, message))?,
-                Says::Multi { lane, style, mark } => self.multis.push((lane, style, mark))?,
-            }
-        }
-        Ok(())
+        fill_multis(&mut self.multis, lanes, line)?;
+        fill_singles(&mut self.singles, entries)
     }
 
     /// Whether one of them has a place inside the line: carets, or the caret at the end of an underline.
@@ -70,4 +64,43 @@ impl<'d> LineMarks<'d> {
                 .iter()
                 .any(|multi| !matches!(multi.2, MultiLabel::Left))
     }
+}
+
+/// Takes the marks of these lanes on a line in place of those before. Refuses with `OutOfMemory`.
+fn fill_multis<'d>(
+    multis: &mut Vec<(usize, LabelStyle, MultiLabel<'d>)>,
+    lanes: &[Lane<'d>],
+    line: SourceLine,
+) -> Result<(), Error>
+    ensures multis { IfOk result (λ _. map mark_of_given multis.new.items ≡ lane_marks (lanes_given lanes.now) line.index line.start) }
+    ensures refused { OnErr result (IsErrOf result Error.OutOfMemory) }
+{
+    multis.clear();
+    for (place, lane) in lanes.iter().enumerate() {
+        if let Some(mark) = lane.mark(line) {
+            multis.push((place, lane.style, mark))?;
+        }
+    }
+    Ok(())
+}
+
+/// Takes the labels of these entries, in their order, in place of those before. Refuses with `OutOfMemory`.
+fn fill_singles<'d>(singles: &mut Vec<SingleLabel<'d>>, entries: &[Entry<'d>]) -> Result<(), Error>
+    ensures singles { IfOk result (λ _. all_labelled singles.new.items ≡ singles_in (map entry_of entries.now)) }
+    ensures refused { OnErr result (IsErrOf result Error.OutOfMemory) }
+{
+    singles.clear();
+    for entry in entries {
+        match entry.says {
+            Says::Shown => {}
+            Says::Single {
+                place: _,
+                style,
+                start,
+                end,
+                message,
+            } => singles.push((style, start..end, message))?,
+        }
+    }
+    Ok(())
 }

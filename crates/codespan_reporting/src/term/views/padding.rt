@@ -1,27 +1,11 @@
 //! The room for line numbers.
 
 ghost use Rattle.std.specs.Prelude.{◌≡◌, flat_map, fold, max};
-ghost use Rattle.codespan_reporting.specs.Inner.GivenPadding.{marked_digits};
 ghost use Rattle.codespan_reporting.specs.Inner.Plans.{plan_digits, step_digits};
 
-use crate::term::views::entry::Entry;
-use crate::term::views::groups::is_shown;
 use crate::term::views::plan::FilePlan;
 use crate::term::views::steps::Step;
 use codespan_renderer::term::renderer::count_digits;
-
-/// How many digits the longest number has of the lines with marks of labels; 0 where there is none.
-pub fn spanned_padding(entries: &[Entry<'_>]) -> usize
-    ensures { result ≡ fold max 0 (marked_digits entries.now) }
-{
-    let mut padding = 0;
-    for entry in entries {
-        if !is_shown(entry) {
-            padding = count_digits(entry.line.number).max(padding);
-        }
-    }
-    padding
-}
 
 /// How many digits the longest number has of the lines that are drawn of all files; 0 where none is drawn.
 pub fn drawn_padding<FileId>(plans: &[FilePlan<'_, '_, FileId>]) -> usize

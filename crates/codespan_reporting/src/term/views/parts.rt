@@ -1,15 +1,14 @@
 //! What both views draw: a header, and notes.
 
-ghost use Rattle.std.specs.Prelude.{◌++◌, IfErr};
+ghost use Rattle.std.specs.Prelude.{IfErr};
 ghost use Rattle.std.specs.Option.{option_map};
 ghost use Rattle.codespan_base.specs.Errors.{IsIo};
-ghost use Rattle.codespan_base.specs.Streams.{newline};
-ghost use Rattle.codespan_base.specs.WriterLaw.{Sends};
 ghost use Rattle.codespan_picture.specs.Given.{place_of_given};
-ghost use Rattle.codespan_picture.specs.Picture.{look_of, heading_of, notes_of};
-ghost use Rattle.codespan_picture.specs.RowStreams.{header_row, stream_of_rows};
+ghost use Rattle.codespan_picture.specs.Picture.{notes_of};
 ghost use Rattle.codespan_picture.specs.Snippets.{note_rows};
-ghost use Rattle.codespan_renderer.specs.Renderers.{writer_of, config_of, SameRenderer};
+ghost use Rattle.codespan_renderer.specs.Renderers.{SameRenderer};
+ghost use Rattle.codespan_reporting.specs.Inner.Rendering.{DrawsRows, SendsStream};
+ghost use Rattle.codespan_reporting.specs.Inner.ViewDrawing.{header_line};
 
 use crate::term::renderer::{Locus, Renderer};
 use codespan_base::diagnostic::Diagnostic;
@@ -23,7 +22,7 @@ pub fn draw_header<FileId, W: WriteStyle>(
     locus: Option<&Locus>,
 ) -> Result<(), Error>
     ensures same { SameRenderer renderer.old renderer.new }
-    ensures sends { Sends (W.sink (writer_of renderer.old)) (header_row diagnostic.now.severity (option_map (λ at. place_of_given at.now) locus.entry) (heading_of diagnostic.now) ++ newline) result (W.sink (writer_of renderer.new)) }
+    ensures sends { SendsStream W.sink (header_line diagnostic.now (option_map (λ at. place_of_given at.now) locus.entry)) renderer.old result renderer.new }
     ensures io { IfErr result IsIo }
 {
     renderer.render_header(
@@ -41,7 +40,7 @@ pub fn draw_notes<FileId, W: WriteStyle>(
     padding: usize,
 ) -> Result<(), Error>
     ensures same { SameRenderer renderer.old renderer.new }
-    ensures sends { Sends (W.sink (writer_of renderer.old)) (stream_of_rows (look_of (config_of renderer.old) diagnostic.now.severity padding) (note_rows (notes_of diagnostic.now))) result (W.sink (writer_of renderer.new)) }
+    ensures sends { DrawsRows W.sink diagnostic.now.severity padding (note_rows (notes_of diagnostic.now)) renderer.old result renderer.new }
     ensures io { IfErr result IsIo }
 {
     for note in &diagnostic.notes {

@@ -4,13 +4,13 @@ ghost use Rattle.std.specs.Prelude.{◌≡◌, IfOk, length, map};
 ghost use Rattle.std.specs.List.{AllByRecursion};
 ghost use Rattle.std.specs.List.Sorted.{IsSortedBy};
 ghost use Rattle.codespan_base.specs.FileModel.{Tells};
-ghost use Rattle.codespan_picture.specs.Lookups.{first_refusal};
 ghost use Rattle.codespan_reporting.specs.Inner.Entries.{is_below};
 ghost use Rattle.codespan_reporting.specs.Inner.GivenEntries.{IsOfFiles, entry_of};
-ghost use Rattle.codespan_reporting.specs.Inner.Plans.{ArePlans, planned_lookups};
+ghost use Rattle.codespan_reporting.specs.Inner.Plans.{ArePlansOf, plans_refusal};
 
 use crate::term::views::gather::Gathered;
 use crate::term::views::groups::file_len;
+use crate::term::views::lanes::Lane;
 use crate::term::views::loci::FileStart;
 use crate::term::views::steps::{Step, Walk};
 use codespan_base::files::{Error, Files};
@@ -24,8 +24,8 @@ pub struct FilePlan<'e, 'd, FileId> {
     pub id: FileId,
     /// Where its snippet starts.
     pub start: FileStart,
-    /// How many lanes it has.
-    pub lane_count: usize,
+    /// Its labels over several lines, in the order of their lanes.
+    pub lanes: &'e [Lane<'d>],
     /// What is drawn of it, in order.
     pub steps: Vec<Step<'e, 'd>>,
 }
@@ -43,10 +43,10 @@ pub fn plan_files<'files, 'e, 'd, F: Files<'files>>(
 ) -> Result<Vec<FilePlan<'e, 'd, F::FileId>>, Error>
     requires sorted { IsSortedBy is_below (map entry_of gathered.now.entries.items) }
     requires lines { AllByRecursion (IsOfFiles (F.file files.now) gathered.now.ids.items) gathered.now.entries.items }
-    requires lanes { length gathered.now.lane_counts.items ≡ length gathered.now.ids.items }
+    requires lanes { length gathered.now.lanes.items ≡ length gathered.now.ids.items }
     requires starts { length starts.now ≡ length gathered.now.ids.items }
-    ensures plans { IfOk result (λ plans. ArePlans layout (F.file files.now) (map entry_of gathered.now.entries.items) gathered.now.lane_counts.items starts.now 0 gathered.now.ids.items plans.items) }
-    ensures refused { Tells (first_refusal (F.refusal files.now) (planned_lookups layout (map entry_of gathered.now.entries.items) gathered.now.ids.items)) result }
+    ensures plans { IfOk result (λ plans. ArePlansOf layout (F.file files.now) starts.now gathered.now plans.items) }
+    ensures refused { Tells (plans_refusal layout (F.refusal files.now) gathered.now) result }
 {
     let mut plans = Vec::new(alloc);
     let mut start = 0;
@@ -61,7 +61,7 @@ pub fn plan_files<'files, 'e, 'd, F: Files<'files>>(
         plans.push(FilePlan {
             id: *id,
             start: starts[place],
-            lane_count: gathered.lane_counts[place],
+            lanes: gathered.lanes[place].as_slice(),
             steps,
         })?;
         start += len;

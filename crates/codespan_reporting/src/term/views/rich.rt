@@ -1,20 +1,15 @@
 //! Rich style: a diagnostic over the lines that its labels speak of.
 
-ghost use Rattle.std.specs.Prelude.{◌≡◌, ◌<◌, ◌++◌, ◌∷◌, [], IfErr, None, length};
+ghost use Rattle.std.specs.Prelude.{◌≡◌, ◌<◌, IfErr, length};
 ghost use Rattle.codespan_base.specs.Errors.{IsIo};
-ghost use Rattle.codespan_base.specs.Streams.{newline};
-ghost use Rattle.codespan_base.specs.WriterLaw.{Sends};
-ghost use Rattle.codespan_reporting.specs.Inner.Asking.{SendsAsking};
-ghost use Rattle.codespan_reporting.specs.Inner.GivenSheets.{IsPrepared, places_of};
 ghost use Rattle.codespan_laws.specs.Meanings.{MeansLabels};
-ghost use Rattle.codespan_reporting.specs.Headline.{DrawsRich};
-ghost use Rattle.codespan_picture.specs.Lookups.{first_refusal, late_lookups};
-ghost use Rattle.codespan_picture.specs.Picture.{look_of, heading_of, labels_of, notes_of};
+ghost use Rattle.codespan_picture.specs.Picture.{labels_of, notes_of};
+ghost use Rattle.codespan_picture.specs.Snippets.{has_any};
 ghost use Rattle.codespan_renderer.specs.Renderers.{writer_of, config_of, SameRenderer};
-ghost use Rattle.codespan_picture.specs.Placed.{placed_snippets};
-ghost use Rattle.codespan_picture.specs.Rows.{BlankRow};
-ghost use Rattle.codespan_picture.specs.RowStreams.{header_row, stream_of_rows};
-ghost use Rattle.codespan_picture.specs.Snippets.{has_any, labelled_files, note_rows};
+ghost use Rattle.codespan_reporting.specs.Headline.{DrawsRich};
+ghost use Rattle.codespan_reporting.specs.Inner.GivenSheets.{IsPrepared};
+ghost use Rattle.codespan_reporting.specs.Inner.Rendering.{DrawsRows, SendsStream};
+ghost use Rattle.codespan_reporting.specs.Inner.ViewDrawing.{DrawsSnippets, DrawsView, bare_picture, closing_rows};
 
 use crate::term::renderer::Renderer;
 use crate::term::views::gather::gather;
@@ -91,7 +86,7 @@ impl<'diagnostic, 'config, FileId: Copy + Eq> RichDiagnostic<'diagnostic, 'confi
         FileId: 'files,
         requires { 0 < length (diagnostic_of self.now).labels.items }
         ensures same { SameRenderer renderer.old renderer.new }
-        ensures draws { DrawsRich (config_of renderer.old) (view_config_of self.now) FileId.eq (F.file files.now) (F.refusal files.now) (diagnostic_of self.now) (W.sink (writer_of renderer.old)) result (W.sink (writer_of renderer.new)) }
+        ensures draws { DrawsView W.sink F.file F.refusal files.now FileId.eq self.now renderer.old result renderer.new }
     {
         let diagnostic = self.diagnostic;
         let alloc = *diagnostic.labels.allocator();
@@ -116,7 +111,7 @@ impl<'diagnostic, 'config, FileId: Copy + Eq> RichDiagnostic<'diagnostic, 'confi
         FileId: 'files,
         requires { IsPrepared FileId.eq (F.file files.now) (view_config_of self.now) (labels_of (diagnostic_of self.now)) sheet.now }
         ensures same { SameRenderer renderer.old renderer.new }
-        ensures draws { SendsAsking (first_refusal (F.refusal files.now) (late_lookups (view_config_of self.now) FileId.eq (F.file files.now) (F.refusal files.now) (labels_of (diagnostic_of self.now)))) (W.sink (writer_of renderer.old)) (stream_of_rows (look_of (config_of renderer.old) (diagnostic_of self.now).severity sheet.now.padding) (placed_snippets (view_config_of self.now) (has_any (notes_of (diagnostic_of self.now))) (places_of sheet.now.files.items) (labelled_files FileId.eq (F.file files.now) (labels_of (diagnostic_of self.now))))) result (W.sink (writer_of renderer.new)) }
+        ensures draws { DrawsSnippets W.sink F.file F.refusal files.now FileId.eq self.now sheet.now renderer.old result renderer.new }
     {
         let diagnostic = self.diagnostic;
         let page = Page {
@@ -148,7 +143,7 @@ fn draw_closing<FileId, W: WriteStyle>(
     padding: usize,
 ) -> Result<(), Error>
     ensures same { SameRenderer renderer.old renderer.new }
-    ensures sends { Sends (W.sink (writer_of renderer.old)) (stream_of_rows (look_of (config_of renderer.old) diagnostic.now.severity padding) (note_rows (notes_of diagnostic.now) ++ BlankRow ∷ [])) result (W.sink (writer_of renderer.new)) }
+    ensures sends { DrawsRows W.sink diagnostic.now.severity padding (closing_rows diagnostic.now) renderer.old result renderer.new }
     ensures io { IfErr result IsIo }
 {
     draw_notes(diagnostic, renderer, padding)?;
@@ -161,7 +156,7 @@ fn draw_bare<FileId, W: WriteStyle>(
     renderer: &mut Renderer<'_, '_, W>,
 ) -> Result<(), Error>
     ensures same { SameRenderer renderer.old renderer.new }
-    ensures sends { Sends (W.sink (writer_of renderer.old)) (header_row diagnostic.now.severity None (heading_of diagnostic.now) ++ newline ++ stream_of_rows (look_of (config_of renderer.old) diagnostic.now.severity 0) (note_rows (notes_of diagnostic.now) ++ BlankRow ∷ [])) result (W.sink (writer_of renderer.new)) }
+    ensures sends { SendsStream W.sink (bare_picture diagnostic.now (config_of renderer.old)) renderer.old result renderer.new }
     ensures io { IfErr result IsIo }
 {
     draw_header(diagnostic, renderer, None)?;

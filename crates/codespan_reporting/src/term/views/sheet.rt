@@ -1,14 +1,15 @@
 //! All that is known of a picture before its header is drawn.
 
 ghost use Rattle.std.specs.Prelude.{IfOk, map};
-ghost use Rattle.codespan_picture.specs.Lookups.{TellsNaming, first_refusal};
+ghost use Rattle.codespan_picture.specs.Lookups.{TellsNaming};
 ghost use Rattle.codespan_picture.specs.Picture.{label_of};
-ghost use Rattle.codespan_reporting.specs.Inner.GivenSheets.{IsGathered, IsPrepared, sheet_lookups};
+ghost use Rattle.codespan_reporting.specs.Inner.GivenSheets.{IsGathered, IsPrepared, sheet_refusal};
 
 use crate::term::renderer::Locus;
 use crate::term::views::gather::Gathered;
+use crate::term::views::lanes::Lane;
 use crate::term::views::loci::{file_starts, place_files};
-use crate::term::views::padding::{drawn_padding, spanned_padding};
+use crate::term::views::padding::drawn_padding;
 use crate::term::views::plan::plan_files;
 use crate::term::views::steps::Step;
 use codespan_base::diagnostic::Label;
@@ -23,8 +24,8 @@ pub struct SheetFile<'e, 'd, FileId> {
     pub id: FileId,
     /// Where its snippet starts.
     pub locus: Locus,
-    /// How many lanes it has.
-    pub lane_count: usize,
+    /// Its labels over several lines, in the order of their lanes.
+    pub lanes: &'e [Lane<'d>],
     /// What is drawn of it, in order.
     pub steps: Vec<Step<'e, 'd>>,
 }
@@ -52,12 +53,12 @@ pub fn prepare<'files, 'e, 'd, F: Files<'files>>(
 ) -> Result<Sheet<'e, 'd, F::FileId>, Error>
     requires { IsGathered F.FileId.eq (F.file files.now) config.now (map label_of labels.now) gathered.now }
     ensures prepared { IfOk result (IsPrepared F.FileId.eq (F.file files.now) config.now (map label_of labels.now)) }
-    ensures refused { TellsNaming (first_refusal (F.refusal files.now) (sheet_lookups config.now F.FileId.eq (F.file files.now) (F.refusal files.now) (map label_of labels.now))) result }
+    ensures refused { TellsNaming (sheet_refusal config.now F.FileId.eq (F.file files.now) (F.refusal files.now) (map label_of labels.now)) result }
 {
     let starts = file_starts(alloc, labels, gathered)?;
     let plans = plan_files(alloc, files, config.layout, &starts, gathered)?;
     let padding = match config.layout {
-        Layout::Classic => spanned_padding(&gathered.entries),
+        Layout::Classic => gathered.padding,
         Layout::Unbroken => drawn_padding(&plans),
     };
     let files = place_files(alloc, files, plans)?;

@@ -5,8 +5,7 @@ ghost use Rattle.codespan_base.specs.declared.term.config.DisplayStyle.TheVarian
 ghost use Rattle.codespan_picture.specs.Picture.{label_of, labels_of};
 ghost use Rattle.codespan_renderer.specs.Renderers.{writer_of, config_of, SameRenderer};
 ghost use Rattle.codespan_reporting.specs.Headline.{DrawsShort};
-ghost use Rattle.codespan_reporting.specs.Inner.Headers.{DrawsHeaders};
-ghost use Rattle.codespan_picture.specs.Snippets.{primary_of};
+ghost use Rattle.codespan_reporting.specs.Inner.ViewDrawing.{DrawsHeadersOf, DrawsInStyle};
 
 use crate::term::renderer::Renderer;
 use crate::term::views::loci::{is_primary, locus_at};
@@ -76,7 +75,7 @@ fn draw_medium<'files, F: Files<'files>, W: WriteStyle>(
     renderer: &mut Renderer<'_, '_, W>,
 ) -> Result<(), Error>
     ensures same { SameRenderer renderer.old renderer.new }
-    ensures draws { DrawsShort (config_of renderer.old) F.FileId.eq (F.file files.now) (F.refusal files.now) diagnostic.now Medium (W.sink (writer_of renderer.old)) result (W.sink (writer_of renderer.new)) }
+    ensures draws { DrawsInStyle W.sink F.file F.refusal files.now F.FileId.eq Medium diagnostic.now renderer.old result renderer.new }
 {
     draw_headers(files, diagnostic, renderer)?;
     draw_notes(diagnostic, renderer, 0)
@@ -89,7 +88,7 @@ fn draw_headers<'files, F: Files<'files>, W: WriteStyle>(
     renderer: &mut Renderer<'_, '_, W>,
 ) -> Result<(), Error>
     ensures same { SameRenderer renderer.old renderer.new }
-    ensures draws { DrawsShort (config_of renderer.old) F.FileId.eq (F.file files.now) (F.refusal files.now) diagnostic.now Short (W.sink (writer_of renderer.old)) result (W.sink (writer_of renderer.new)) }
+    ensures draws { DrawsInStyle W.sink F.file F.refusal files.now F.FileId.eq Short diagnostic.now renderer.old result renderer.new }
 {
     if draw_located(files, diagnostic, renderer)? {
         Ok(())
@@ -105,7 +104,7 @@ fn draw_located<'files, F: Files<'files>, W: WriteStyle>(
     renderer: &mut Renderer<'_, '_, W>,
 ) -> Result<bool, Error>
     ensures same { SameRenderer renderer.old renderer.new }
-    ensures draws { DrawsHeaders (config_of renderer.old) (F.file files.now) (F.refusal files.now) diagnostic.now (primary_of (labels_of diagnostic.now)) (W.sink (writer_of renderer.old)) result (W.sink (writer_of renderer.new)) }
+    ensures draws { DrawsHeadersOf W.sink F.file F.refusal files.now diagnostic.now (labels_of diagnostic.now) renderer.old result renderer.new }
 {
     let mut is_located = false;
     for label in &diagnostic.labels {
@@ -122,7 +121,7 @@ fn draw_if_primary<'files, F: Files<'files>, W: WriteStyle>(
     label: &Label<F::FileId>,
 ) -> Result<bool, Error>
     ensures same { SameRenderer renderer.old renderer.new }
-    ensures draws { DrawsHeaders (config_of renderer.old) (F.file files.now) (F.refusal files.now) diagnostic.now (primary_of (label_of label.now ∷ [])) (W.sink (writer_of renderer.old)) result (W.sink (writer_of renderer.new)) }
+    ensures draws { DrawsHeadersOf W.sink F.file F.refusal files.now diagnostic.now (label_of label.now ∷ []) renderer.old result renderer.new }
 {
     if !is_primary(label) {
         return Ok(false);

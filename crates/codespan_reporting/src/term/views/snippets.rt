@@ -3,14 +3,10 @@
 ghost use Rattle.std.specs.Prelude.{IfErr, map};
 ghost use Rattle.std.specs.List.{AllByRecursion};
 ghost use Rattle.codespan_base.specs.Errors.{IsIo};
-ghost use Rattle.codespan_base.specs.WriterLaw.{Sends};
-ghost use Rattle.codespan_picture.specs.Lookups.{asked_of, first_refusal};
-ghost use Rattle.codespan_picture.specs.Picture.{look_of};
-ghost use Rattle.codespan_picture.specs.RowStreams.{stream_of_rows};
-ghost use Rattle.codespan_renderer.specs.Renderers.{writer_of, config_of, SameRenderer};
-ghost use Rattle.codespan_reporting.specs.Inner.Asking.{SendsAsking};
-ghost use Rattle.codespan_reporting.specs.Inner.GivenSnippets.{end_rows, lookups_with, rows_in, start_rows};
+ghost use Rattle.codespan_renderer.specs.Renderers.{SameRenderer};
+ghost use Rattle.codespan_reporting.specs.Inner.GivenSnippets.{DrawsSnippet, end_rows, start_rows};
 ghost use Rattle.codespan_reporting.specs.Inner.GivenSteps.{IsStepOf, step_of};
+ghost use Rattle.codespan_reporting.specs.Inner.Rendering.{DrawsRows};
 ghost use Rattle.codespan_reporting.specs.Inner.StepDrawing.{DoFit};
 
 use crate::term::renderer::Renderer;
@@ -29,11 +25,11 @@ fn draw_start<F, FileId, W: WriteStyle>(
     file: &SheetFile<'_, '_, FileId>,
 ) -> Result<(), Error>
     ensures same { SameRenderer renderer.old renderer.new }
-    ensures sends { Sends (W.sink (writer_of renderer.old)) (stream_of_rows (look_of (config_of renderer.old) page.now.severity page.now.padding) (start_rows file.now)) result (W.sink (writer_of renderer.new)) }
+    ensures sends { DrawsRows W.sink page.now.severity page.now.padding (start_rows file.now) renderer.old result renderer.new }
     ensures io { IfErr result IsIo }
 {
     renderer.render_snippet_start(page.padding, &file.locus)?;
-    renderer.render_snippet_empty(page.padding, page.severity, file.lane_count, &[])
+    renderer.render_snippet_empty(page.padding, page.severity, file.lanes.len(), &[])
 }
 
 /// The row after a snippet, where something follows.
@@ -44,11 +40,11 @@ fn draw_end<F, FileId, W: WriteStyle>(
     is_followed: bool,
 ) -> Result<(), Error>
     ensures same { SameRenderer renderer.old renderer.new }
-    ensures sends { Sends (W.sink (writer_of renderer.old)) (stream_of_rows (look_of (config_of renderer.old) page.now.severity page.now.padding) (end_rows file.now is_followed)) result (W.sink (writer_of renderer.new)) }
+    ensures sends { DrawsRows W.sink page.now.severity page.now.padding (end_rows file.now is_followed) renderer.old result renderer.new }
     ensures io { IfErr result IsIo }
 {
     if is_followed {
-        renderer.render_snippet_empty(page.padding, page.severity, file.lane_count, &[])
+        renderer.render_snippet_empty(page.padding, page.severity, file.lanes.len(), &[])
     } else {
         Ok(())
     }
@@ -66,9 +62,9 @@ pub fn draw_snippet<'files, 'd, F: Files<'files>, W: WriteStyle>(
     is_followed: bool,
 ) -> Result<(), Error>
     requires steps { AllByRecursion (IsStepOf (F.file page.now.files.now file.now.id)) file.now.steps.items }
-    requires fits { DoFit file.now.lane_count (map step_of file.now.steps.items) }
+    requires fits { DoFit (map step_of file.now.steps.items) }
     ensures same { SameRenderer renderer.old renderer.new }
-    ensures draws { SendsAsking (first_refusal (F.refusal page.now.files.now) (asked_of file.now.id (lookups_with file.now))) (W.sink (writer_of renderer.old)) (stream_of_rows (look_of (config_of renderer.old) page.now.severity page.now.padding) (rows_in file.now (F.file page.now.files.now file.now.id) is_followed)) result (W.sink (writer_of renderer.new)) }
+    ensures draws { DrawsSnippet W.sink F.file F.refusal page.now file.now is_followed renderer.old result renderer.new }
 {
     let source = page.files.source(file.id)?;
     draw_start(page, renderer, file)?;
@@ -76,7 +72,7 @@ pub fn draw_snippet<'files, 'd, F: Files<'files>, W: WriteStyle>(
         page,
         id: file.id,
         text: source.as_str(),
-        lane_count: file.lane_count,
+        lanes: file.lanes,
     };
     lines.draw_steps(renderer, marks, &file.steps)?;
     draw_end(page, renderer, file, is_followed)

@@ -23,7 +23,7 @@ fn compare(left: &Entry<'_>, right: &Entry<'_>) -> Ordering
 }
 
 /// The order of what is said of a line: that it is shown, then labels inside it by their ranges, and of equal ranges the one given last
-/// first, then labels over several lines by their lanes.
+/// first.
 fn compare_says(left: &Says<'_>, right: &Says<'_>) -> Ordering
     ensures { result ≡ says_cmp (says_of left.now) (says_of right.now) }
 {
@@ -45,19 +45,17 @@ fn compare_says(left: &Says<'_>, right: &Says<'_>) -> Ordering
             .cmp(other_start)
             .then(end.cmp(other_end))
             .then(other_place.cmp(place)),
-        (Says::Multi { lane, .. }, Says::Multi { lane: other, .. }) => lane.cmp(other),
         _ => kind(left).cmp(&kind(right)),
     }
 }
 
-/// 0 where the line is shown, 1 for a label inside it, 2 for one over several lines.
+/// 0 where the line is shown, 1 for a label inside it.
 fn kind(says: &Says<'_>) -> usize
     ensures { result ≡ kind_of (says_of says.now) }
 {
     match says {
         Says::Shown => 0,
         Says::Single { .. } => 1,
-        Says::Multi { .. } => 2,
     }
 }
 

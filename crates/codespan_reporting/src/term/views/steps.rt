@@ -1,12 +1,11 @@
 //! What is drawn of a file, step by step: lines that are shown, lines between two that are, and breaks.
 
-ghost use Rattle.std.specs.Prelude.{◌≡◌, ◌∷◌, [], All, IfOk, List, OnOk, map};
+ghost use Rattle.std.specs.Prelude.{◌≡◌, ◌∷◌, [], All, IfOk, OnOk, map};
 ghost use Rattle.codespan_base.specs.FileModel.{Tells};
-ghost use Rattle.codespan_picture.specs.Lookups.{asked_of, first_refusal};
-ghost use Rattle.codespan_reporting.specs.Inner.Entries.{Entry as EntryWord};
 ghost use Rattle.codespan_reporting.specs.Inner.GivenEntries.{IsLineOf, entry_of};
-ghost use Rattle.codespan_reporting.specs.Inner.GivenSteps.{AddsSteps, gap_steps, known_number, numbers_asked};
+ghost use Rattle.codespan_reporting.specs.Inner.GivenSteps.{gap_steps, known_number};
 ghost use Rattle.codespan_reporting.specs.Inner.Steps.{fills_of, gap_after, steps_of, steps_to};
+ghost use Rattle.codespan_reporting.specs.Inner.Walks.{AddsWalked, numbers_refusal, walked_file};
 
 use crate::term::views::entry::{Entry, SourceLine};
 use crate::term::views::groups::{line_len, shown_len};
@@ -14,29 +13,27 @@ use codespan_base::files::{Error, Files};
 use codespan_base::term::Layout;
 use std::alloc::Global;
 
-/// What is drawn of a file at once. The entries of a step are what labels do there, in order.
+/// What is drawn of a file at once.
 #[derive(Clone, Copy)]
 pub enum Step<'e, 'd> {
     /// A line that is shown.
     Shown {
         /// The line.
         line: SourceLine,
-        /// What labels do on it.
-        marks: &'e [Entry<'d>],
+        /// The entries of the labels inside it, in order.
+        singles: &'e [Entry<'d>],
     },
-    /// The one line between two that are shown.
+    /// The one line between two that are shown. No label is inside it.
     Filled {
         /// The line's index, counted from 0.
         index: usize,
         /// The line's number, as users see it, where it is known before the header.
         number: Option<usize>,
-        /// What labels do on it.
-        marks: &'e [Entry<'d>],
     },
     /// A break: two lines or more are left out.
     Break {
-        /// What labels do on the line after it.
-        marks: &'e [Entry<'d>],
+        /// The shown line after it.
+        next: SourceLine,
     },
 }
 
@@ -53,7 +50,7 @@ pub enum Gap {
 
 /// What stands before the shown line of this index, where `last` is the index of the line that is shown before it.
 pub fn gap_before(last: Option<usize>, index: usize) -> Gap
-    ensures { (skipped marks : List EntryWord) → gap_after last index skipped marks ≡ gap_steps result skipped marks }
+    ensures { gap_after last index ≡ gap_steps result index }
 {
     let Some(last) = last else {
         return Gap::Nothing;
@@ -66,17 +63,6 @@ pub fn gap_before(last: Option<usize>, index: usize) -> Gap
     } else {
         Gap::Nothing
     }
-}
-
-/// A line that is shown, with what labels do on it, and what they do on the lines before it that are not shown.
-#[derive(Clone, Copy)]
-pub struct ShownLine<'e, 'd> {
-    /// The line.
-    pub line: SourceLine,
-    /// The entries since the line that is shown before it.
-    pub skipped: &'e [Entry<'d>],
-    /// What labels do on it.
-    pub marks: &'e [Entry<'d>],
 }
 
 /// A walk over what labels say of the lines of one file.
@@ -94,8 +80,8 @@ impl<'files, F: Files<'files>> Walk<'files, F> {
     /// The number of a line that is filled in, where it has to be known before the header: in the unbroken layout. Refuses as its
     /// lookup does.
     fn known_number(&self, index: usize) -> Result<Option<usize>, Error>
-        ensures number { IfOk result (λ number. number ≡ known_number self.now.layout ((F.file self.now.files.now self.now.id).number index)) }
-        ensures refused { Tells (first_refusal (F.refusal self.now.files.now) (asked_of self.now.id (numbers_asked self.now.layout (index ∷ [])))) result }
+        ensures number { IfOk result (λ number. number ≡ known_number self.now.layout ((walked_file F.file self.now).number index)) }
+        ensures refused { Tells (numbers_refusal F.refusal self.now (index ∷ [])) result }
     {
         match self.layout {
             Layout::Classic => Ok(None),
@@ -103,89 +89,67 @@ impl<'files, F: Files<'files>> Walk<'files, F> {
         }
     }
 
-    /// Adds the step that a gap makes: the one line in it, with the entries that were skipped, or a break, with the marks of the line
-    /// after it. Refuses as the lookup of a number does, and with `OutOfMemory`.
+    /// Adds the step that a gap before this line makes: the one line in it, or a break. Refuses as the lookup of a number does, and with
+    /// `OutOfMemory`.
     fn push_gap<'e, 'd>(
         &self,
         gap: Gap,
-        skipped: &'e [Entry<'d>],
-        marks: &'e [Entry<'d>],
+        next: SourceLine,
         steps: &mut Vec<Step<'e, 'd>>,
     ) -> Result<(), Error>
-        ensures added { OnOk result (AddsSteps self.now.layout (F.file self.now.files.now self.now.id) steps.old.items steps.new.items (gap_steps gap (map entry_of skipped.now) (map entry_of marks.now))) }
-        ensures refused { Tells (first_refusal (F.refusal self.now.files.now) (asked_of self.now.id (numbers_asked self.now.layout (fills_of (gap_steps gap (map entry_of skipped.now) (map entry_of marks.now)))))) result }
+        requires next { IsLineOf (walked_file F.file self.now) next }
+        ensures added { OnOk result (AddsWalked F.file self.now steps.old.items steps.new.items (gap_steps gap next.index)) }
+        ensures refused { Tells (numbers_refusal F.refusal self.now (fills_of (gap_steps gap next.index))) result }
     {
         match gap {
             Gap::Nothing => {}
             Gap::Line(index) => {
                 let number = self.known_number(index)?;
-                steps.push(Step::Filled {
-                    index,
-                    number,
-                    marks: skipped,
-                })?;
+                steps.push(Step::Filled { index, number })?;
             }
-            Gap::Lines => steps.push(Step::Break { marks })?,
+            Gap::Lines => steps.push(Step::Break { next })?,
         }
         Ok(())
     }
 
-    /// Adds the steps up to a shown line: what stands before it, and the line itself. Refuses as the lookup of a number does, and with
-    /// `OutOfMemory`.
+    /// Adds the steps up to a shown line: what stands before it, and the line itself with the entries of the labels inside it. Refuses as
+    /// the lookup of a number does, and with `OutOfMemory`.
     fn push_shown<'e, 'd>(
         &self,
         last: Option<usize>,
-        shown: ShownLine<'e, 'd>,
+        line: SourceLine,
+        singles: &'e [Entry<'d>],
         steps: &mut Vec<Step<'e, 'd>>,
     ) -> Result<(), Error>
-        requires line { IsLineOf (F.file self.now.files.now self.now.id) shown.line }
-        ensures added { OnOk result (AddsSteps self.now.layout (F.file self.now.files.now self.now.id) steps.old.items steps.new.items (steps_to last shown.entry.line.index (map entry_of shown.entry.skipped.now) (map entry_of shown.entry.marks.now))) }
-        ensures refused { Tells (first_refusal (F.refusal self.now.files.now) (asked_of self.now.id (numbers_asked self.now.layout (fills_of (steps_to last shown.entry.line.index (map entry_of shown.entry.skipped.now) (map entry_of shown.entry.marks.now)))))) result }
+        requires line { IsLineOf (walked_file F.file self.now) line }
+        ensures added { OnOk result (AddsWalked F.file self.now steps.old.items steps.new.items (steps_to last line.index (map entry_of singles.now))) }
+        ensures refused { Tells (numbers_refusal F.refusal self.now (fills_of (steps_to last line.index (map entry_of singles.now)))) result }
     {
-        let before = gap_before(last, shown.line.index);
-        self.push_gap(before, shown.skipped, shown.marks, steps)?;
-        steps.push(Step::Shown {
-            line: shown.line,
-            marks: shown.marks,
-        })?;
+        self.push_gap(gap_before(last, line.index), line, steps)?;
+        steps.push(Step::Shown { line, singles })?;
         Ok(())
     }
 
-    /// The steps of the file, whose entries these are, in order: each line that is shown, a line between two that are, and breaks.
+    /// The steps of the file, whose entries these are, in order: each line that has entries, a line between two that have, and breaks.
     /// Refuses as the first lookup of a number that refuses does, and with `OutOfMemory`.
     pub fn steps<'e, 'd>(
         &self,
         alloc: Global,
         entries: &'e [Entry<'d>],
     ) -> Result<Vec<Step<'e, 'd>>, Error>
-        requires lines { All (λ e. IsLineOf (F.file self.now.files.now self.now.id) e.line) entries.now }
-        ensures steps { IfOk result (λ steps. AddsSteps self.now.layout (F.file self.now.files.now self.now.id) [] steps.items (steps_of (map entry_of entries.now))) }
-        ensures refused { Tells (first_refusal (F.refusal self.now.files.now) (asked_of self.now.id (numbers_asked self.now.layout (fills_of (steps_of (map entry_of entries.now)))))) result }
+        requires lines { All (λ e. IsLineOf (walked_file F.file self.now) e.line) entries.now }
+        ensures steps { IfOk result (λ steps. AddsWalked F.file self.now [] steps.items (steps_of (map entry_of entries.now))) }
+        ensures refused { Tells (numbers_refusal F.refusal self.now (fills_of (steps_of (map entry_of entries.now)))) result }
     {
         let mut steps = Vec::new(alloc);
         let mut last = None;
-        let mut from = 0;
         let mut at = 0;
         while at < entries.len() {
             let line = entries[at].line;
             let group = &entries[at..at + line_len(&entries[at..], line.index)];
-            let end = at + group.len();
-            let marks = &group[shown_len(group)..];
-            if marks.len() < group.len() {
-                let skipped = &entries[from..at];
-                self.push_shown(
-                    last,
-                    ShownLine {
-                        line,
-                        skipped,
-                        marks,
-                    },
-                    &mut steps,
-                )?;
-                last = Some(line.index);
-                from = end;
-            }
-            at = end;
+            self.push_shown(last, line, &group[shown_len(group)..], &mut steps)?;
+            last = Some(line.index);
+            at += group.len();
         }
         Ok(steps)
     }

@@ -4,10 +4,11 @@ use Rattle.std.proofs.lemmas.Result.{err_from_is_err_and}
 use Rattle.codespan_picture.specs.Lookups.{asked_of, first_refusal}
 use Rattle.codespan_reporting.specs.Inner.GivenEntries.{entry_of}
 use Rattle.codespan_reporting.specs.Inner.GivenSteps.{AddsSteps, numbers_asked}
+use Rattle.codespan_reporting.specs.Inner.Lanes.{all_lanes_given}
 use Rattle.codespan_reporting.specs.Inner.Plans.{ArePlans}
 use Rattle.codespan_reporting.specs.Inner.Steps.{fills_of}
 use Rattle.codespan_reporting.proofs.FileParts.{from_file-first}
-use Rattle.codespan_reporting.proofs.PlansFound.{IsTurn, ids_before, ids_more, next_inside, next_left, own_lines, own_steps, planned-more, planned-refuses}
+use Rattle.codespan_reporting.proofs.PlansFound.{IsTurn, ids_before, ids_more, lanes-at, next_inside, next_left, own_lines, own_steps, planned-more, planned-refuses}
 use Rattle.codespan_reporting.proofs.term.views.plan.plan_files.Goals as goal
 
 pub loop-place-init : goal.loop-place-init
@@ -15,7 +16,7 @@ loop-place-init g c = record {
   inside = omega arith;
   left = from_file-first (map entry_of c.args.gathered.now.entries.items);
   planned = record {
-    plans = subst (ArePlans c.args.layout (g.F.Files.file c.args.files.now) (map entry_of c.args.gathered.now.entries.items) c.args.gathered.now.lane_counts.items c.args.starts.now 0 []) (sym c.new-plans.ensures.items) tt;
+    plans = subst (ArePlans c.args.layout (g.F.Files.file c.args.files.now) (map entry_of c.args.gathered.now.entries.items) (all_lanes_given c.args.gathered.now.lanes.items) c.args.starts.now 0 []) (sym c.new-plans.ensures.items) tt;
     answered = refl;
   };
 }
@@ -67,14 +68,14 @@ returns-in_err-steps-clause-refused g c =
     let zs = c.deref-in-loop-place.result.now in
     let same = c.deref-in-loop-place.ensures.value in
     let es = map entry_of xs in
-    let counts = c.args.gathered.now.lane_counts.items in
+    let lanes = (all_lanes_given c.args.gathered.now.lanes.items) in
     let refusal = g.F.Files.refusal c.args.files.now in
     let asked = ap (λ steps. first_refusal refusal (asked_of id (numbers_asked c.args.layout (fills_of steps)))) (own_steps ids xs ys at n f id turn zs same) in
     let len = ids_before ids xs ys at n f id turn in
     let more = ids_more ids xs ys at n f id turn in
     let p = err_from_is_err_and c.from_residual.result c.from_residual.ensures.1 in
     rw (p.1 ∙ ap Err p.2)
-    (λ told. planned-refuses c.args.layout file es counts c.args.starts.now refusal f (take f ids) (take (f + 1) ids) id _ len more c.loop-place.invariant.planned
+    (λ told. planned-refuses c.args.layout file es lanes c.args.starts.now refusal f (take f ids) (take (f + 1) ids) id _ len more c.loop-place.invariant.planned
     (drop (f + 1) ids) ids _ (sym (take-append-drop (f + 1) ids)) (sym asked ∙ c.in_err-steps.ensures.refused told))
 
 pub loop-place-preserved : goal.loop-place-preserved
@@ -100,7 +101,7 @@ loop-place-preserved g c =
     let zs = c.deref-in-loop-place.result.now in
     let same = c.deref-in-loop-place.ensures.value in
     let es = map entry_of xs in
-    let counts = c.args.gathered.now.lane_counts.items in
+    let lanes = (all_lanes_given c.args.gathered.now.lanes.items) in
     let refusal = g.F.Files.refusal c.args.files.now in
     let asked = ap (λ steps. first_refusal refusal (asked_of id (numbers_asked c.args.layout (fills_of steps)))) (own_steps ids xs ys at n f id turn zs same) in
     let len = ids_before ids xs ys at n f id turn in
@@ -108,11 +109,11 @@ loop-place-preserved g c =
     record {
       inside = next_inside ids xs ys at n f id turn;
       left = next_left ids xs ys at n f id turn;
-      planned = planned-more c.args.layout file es counts c.args.starts.now refusal f (take f ids) (take (f + 1) ids) id _ len more c.loop-place.invariant.planned _ _
+      planned = planned-more c.args.layout file es lanes c.args.starts.now refusal f (take f ids) (take (f + 1) ids) id _ len more c.loop-place.invariant.planned _ _
           c.in_ok-push.ensures.items
           (record {
             id_is = refl;
-            lanes_are = c.index.ensures;
+            lanes_are = lanes-at c.args.gathered.now.lanes.items f _ _ (subst (λ m. f < m) (sym c.requires.lanes) turn.there) c.index.ensures c.as_slice.ensures.value;
             start_is = get_or_default c.args.starts.now f _ _ (subst (λ m. f < m) (sym c.requires.starts) turn.there);
             adds = subst (AddsSteps c.args.layout (file id) [] _) (own_steps ids xs ys at n f id turn zs same) c.in_ok-steps.ensures.steps;
           })

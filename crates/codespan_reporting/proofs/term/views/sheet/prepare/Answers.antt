@@ -1,3 +1,4 @@
+use contract.Lifetimes.{Lfts}
 use Rattle.std.proofs.Common.{rules, ◌≡◌, Err, length, map, max, refl, sym, ap, ◌∙◌}
 use Rattle.std.specs.Prelude.{flat_map, fold}
 use Rattle.std.proofs.lemmas.List.{length-map}
@@ -6,29 +7,33 @@ use Rattle.codespan_picture.specs.Lookups.{asked_of, locus_lookups}
 use Rattle.codespan_picture.specs.Picture.{label_of}
 use Rattle.codespan_picture.specs.Padding.{padding_of}
 use Rattle.codespan_picture.specs.Snippets.{labelled_files}
-use Rattle.codespan_reporting.specs.Inner.GivenPadding.{marked_digits}
 use Rattle.codespan_reporting.specs.Inner.Plans.{plan_digits}
 use Rattle.codespan_reporting.proofs.Askings.{or_refusal-answered}
-use Rattle.codespan_reporting.proofs.PlanFiles.{AreFiles, drawn-room, file_plans, marked-room, numbers-are, places-are, plan_ids, sheet-prepared}
+use Rattle.codespan_reporting.proofs.PlanFiles.{AreFiles, drawn-padding, file_plans, spanned-padding, numbers-are, places-are, plan_ids, sheet-prepared}
 use Rattle.codespan_reporting.proofs.SheetPrepared.{numbers-refused, sheet-is}
+use Rattle.codespan_reporting.proofs.term.views.sheet.prepare.Given.{Over}
 use Rattle.codespan_reporting.proofs.term.views.sheet.prepare.Goals.{in-Classic, in-Unbroken}
 use Rattle.codespan_reporting.proofs.term.views.sheet.prepare.Goals as goal
+
+-- the files are lawful, and equal ids name one file
+are_files : (g : Over) (κs : Lfts 10) → g.claim κs → (files : g.row.F.Denot) → AreFiles g.F.FileId.PartialEq.eq (g.F.Files.file files)
+are_files g κs claim files = record {
+  equivalence = g.met.F.FileId.Eq.laws;
+  one_file = λ i j same. ((g.met.F.Files κs claim).same_file files i j same).0;
+  some_line = λ i. ((g.met.F.Files κs claim).lawful files i).some_line;
+}
 
 pub plan_files-requires : goal.plan_files-requires
 plan_files-requires g c κs =
     let starts = ap length (c.deref.ensures.value ∙ c.in_ok-starts.ensures.starts) ∙ length-map c.args.gathered.now.ids.items _ in
-    ((refl, tt), (c.requires.sorted, (c.requires.lines, (ap length c.requires.lanes_are ∙ length-map c.args.gathered.now.ids.items _, starts))))
+    let lanes = sym (length-map c.args.gathered.now.lanes.items _) ∙ ap length c.requires.lanes_are ∙ length-map c.args.gathered.now.ids.items _ in
+    ((refl, tt), (c.requires.sorted, (c.requires.lines, (lanes, starts))))
 
 pub returns-in_err-plans-clause-refused : goal.returns-in_err-plans-clause-refused
 returns-in_err-plans-clause-refused g c =
     let file = g.F.Files.file c.args.files.now in
     let same = g.F.FileId.PartialEq.eq in
-    let claim : g.claim c.lifetimes = search rules in
-    let table : AreFiles same file = record {
-      equivalence = g.met.F.FileId.Eq.laws;
-      one_file = λ i j t. ((g.met.F.Files c.lifetimes claim).same_file c.args.files.now i j t).0;
-      some_line = λ i. ((g.met.F.Files c.lifetimes claim).lawful c.args.files.now i).some_line;
-    } in
+    let table = are_files g c.lifetimes (search rules) c.args.files.now in
     let config = c.args.config.now in
     let xs = map label_of c.args.labels.now in
     let refusal = g.F.Files.refusal c.args.files.now in
@@ -41,12 +46,7 @@ pub returns-in_err-files-clause-refused : goal.returns-in_err-files-clause-refus
 returns-in_err-files-clause-refused g c =
     let file = g.F.Files.file c.args.files.now in
     let same = g.F.FileId.PartialEq.eq in
-    let claim : g.claim c.lifetimes = search rules in
-    let table : AreFiles same file = record {
-      equivalence = g.met.F.FileId.Eq.laws;
-      one_file = λ i j t. ((g.met.F.Files c.lifetimes claim).same_file c.args.files.now i j t).0;
-      some_line = λ i. ((g.met.F.Files c.lifetimes claim).lawful c.args.files.now i).some_line;
-    } in
+    let table = are_files g c.lifetimes (search rules) c.args.files.now in
     let config = c.args.config.now in
     let xs = map label_of c.args.labels.now in
     let refusal = g.F.Files.refusal c.args.files.now in
@@ -64,20 +64,15 @@ pub returns-clause-prepared : goal.returns-clause-prepared
 returns-clause-prepared g c =
     let file = g.F.Files.file c.args.files.now in
     let same = g.F.FileId.PartialEq.eq in
-    let claim : g.claim c.lifetimes = search rules in
-    let table : AreFiles same file = record {
-      equivalence = g.met.F.FileId.Eq.laws;
-      one_file = λ i j t. ((g.met.F.Files c.lifetimes claim).same_file c.args.files.now i j t).0;
-      some_line = λ i. ((g.met.F.Files c.lifetimes claim).lawful c.args.files.now i).some_line;
-    } in
+    let table = are_files g c.lifetimes (search rules) c.args.files.now in
     let config = c.args.config.now in
     let xs = map label_of c.args.labels.now in
     let gathered = c.args.gathered.now in
     let plans = c.in_ok-plans.plans.items in
     let found = c.in_ok-plans.ensures.plans in
     let room : c.match-config.padding ≡ padding_of config (labelled_files same file xs) = elim c.match-config.branch [
-      | in-Classic w ↦ marked-room same file table config xs gathered c.requires c.deref.result.now (c.deref.ensures.value ∙ c.in_ok-starts.ensures.starts) plans found w.in-Classic.is _ (w.padding-is ∙ w.spanned_padding-padding.ensures ∙ ap (λ es. fold max 0 (marked_digits es)) w.deref-in-Classic.ensures.value)
-      | in-Unbroken w ↦ drawn-room same file table config xs gathered c.requires c.deref.result.now (c.deref.ensures.value ∙ c.in_ok-starts.ensures.starts) plans found w.in-Unbroken.is _ (w.padding-is ∙ w.drawn_padding-padding.ensures ∙ ap (λ ps. fold max 0 (flat_map plan_digits ps)) w.deref-in-Unbroken.ensures.value)
+      | in-Classic w ↦ spanned-padding same file table config xs gathered c.requires c.deref.result.now (c.deref.ensures.value ∙ c.in_ok-starts.ensures.starts) plans found w.in-Classic.is _ w.padding-is
+      | in-Unbroken w ↦ drawn-padding same file table config xs gathered c.requires c.deref.result.now (c.deref.ensures.value ∙ c.in_ok-starts.ensures.starts) plans found w.in-Unbroken.is _ (w.padding-is ∙ w.drawn_padding-padding.ensures ∙ ap (λ ps. fold max 0 (flat_map plan_digits ps)) w.deref-in-Unbroken.ensures.value)
     ] in
     sheet-prepared same file config xs plans _ (plan_ids same file table config xs gathered c.requires c.deref.result.now (c.deref.ensures.value ∙ c.in_ok-starts.ensures.starts) plans found) (file_plans same file table config xs gathered c.requires c.deref.result.now (c.deref.ensures.value ∙ c.in_ok-starts.ensures.starts) plans found)
     c.in_ok-files.ensures.placed room
@@ -86,12 +81,7 @@ pub returns-clause-refused : goal.returns-clause-refused
 returns-clause-refused g c =
     let file = g.F.Files.file c.args.files.now in
     let same = g.F.FileId.PartialEq.eq in
-    let claim : g.claim c.lifetimes = search rules in
-    let table : AreFiles same file = record {
-      equivalence = g.met.F.FileId.Eq.laws;
-      one_file = λ i j t. ((g.met.F.Files c.lifetimes claim).same_file c.args.files.now i j t).0;
-      some_line = λ i. ((g.met.F.Files c.lifetimes claim).lawful c.args.files.now i).some_line;
-    } in
+    let table = are_files g c.lifetimes (search rules) c.args.files.now in
     let config = c.args.config.now in
     let xs = map label_of c.args.labels.now in
     let refusal = g.F.Files.refusal c.args.files.now in

@@ -12,6 +12,7 @@ use Rattle.codespan_reporting.specs.Inner.GivenSnippets.{end_rows, start_rows}
 use Rattle.codespan_reporting.specs.declared.term.views.steps.Step.{Step}
 use Rattle.codespan_reporting.specs.Inner.Asking.{SendsAsking}
 use Rattle.codespan_reporting.specs.Inner.GivenSteps.{IsStepOf, asked_by_all, step_of}
+use Rattle.codespan_reporting.specs.Inner.Lanes.{lanes_given}
 use Rattle.codespan_reporting.specs.Inner.StepDrawing.{DoFit}
 use Rattle.codespan_reporting.specs.Inner.Steps.{rows_of_steps}
 use Rattle.codespan_reporting.proofs.Askings.{asking_as_stream, asking_at, asking_refused_before}
@@ -23,8 +24,8 @@ draw_steps-requires g c κs =
     let file = c.args.file.now in
     let f = g.F.Files.file c.args.page.now.files.now file.id in
     let steps = sym c.deref.ensures.value in (
-      (refl, (refl, tt)),
-      (search rules, (subst (AllByRecursion (IsStepOf f)) steps c.requires.steps, subst (λ (l : List Step). DoFit file.lane_count (map step_of l)) steps c.requires.fits)),
+      (refl, (refl, (refl, tt))),
+      (search rules, (subst (AllByRecursion (IsStepOf f)) steps c.requires.steps, subst (λ (l : List Step). DoFit (map step_of l)) steps c.requires.fits)),
     )
 
 pub returns-in_err-source-clause-draws : goal.returns-in_err-source-clause-draws
@@ -42,7 +43,7 @@ returns-in_err-draw_start-clause-draws g c =
     let refusal = g.F.Files.refusal page.files.now in
     let f = g.F.Files.file page.files.now file.id in
     let look = look_of (config_of c.args.renderer.now) page.severity page.padding in
-    let rows : List Row = rows_of_steps f file.lane_count (map step_of file.steps.items) in
+    let rows : List Row = rows_of_steps f (lanes_given file.lanes.now) (map step_of file.steps.items) in
     let p = err_from_is_err_and c.from_residual-in_err-draw_start.result c.from_residual-in_err-draw_start.ensures.1 in
     rw (p.1 ∙ ap Err p.2)
     (asking_as_stream _ _ _ _ _ (Err _) (sym (rows-three look (start_rows file) rows (end_rows file c.args.is_followed)))
@@ -56,13 +57,13 @@ returns-in_err-draw_steps-clause-draws g c =
     let refusal = g.F.Files.refusal page.files.now in
     let f = g.F.Files.file page.files.now file.id in
     let look = look_of (config_of c.args.renderer.now) page.severity page.padding in
-    let rows : List Row = rows_of_steps f file.lane_count (map step_of file.steps.items) in
+    let rows : List Row = rows_of_steps f (lanes_given file.lanes.now) (map step_of file.steps.items) in
     let e = c.in_err-draw_steps.field-0.0 in
     let p = err_from_is_err_and c.from_residual-in_err-draw_steps.result c.from_residual-in_err-draw_steps.ensures.1 in
     let t = g.W.WriteStyle.sink (writer_of c.draw_start.new.renderer) in
     let u = g.W.WriteStyle.sink (writer_of c.draw_steps.new.renderer) in
     let drawn = subst (λ (steps : List Step). SendsAsking (first_refusal refusal (asked_of file.id (asked_by_all steps))) t
-    (stream_of_rows (look_of (config_of c.draw_start.new.renderer) page.severity page.padding) (rows_of_steps f file.lane_count (map step_of steps))) (Err e) u) c.deref.ensures.value c.in_err-draw_steps.ensures.draws in
+    (stream_of_rows (look_of (config_of c.draw_start.new.renderer) page.severity page.padding) (rows_of_steps f (lanes_given file.lanes.now) (map step_of steps))) (Err e) u) c.deref.ensures.value c.in_err-draw_steps.ensures.draws in
     rw (p.1 ∙ ap Err p.2)
     (asking_as_stream _ _ _ _ _ (Err e) (sym (rows-three look (start_rows file) rows (end_rows file c.args.is_followed)))
     (stopped-in_lines (refusal file.id Source) (first_refusal refusal (asked_of file.id (asked_by_all file.steps.items))) _ _ _ _ _ c.in_ok-source.ensures.refused
@@ -76,13 +77,13 @@ returns-clause-draws g c =
     let refusal = g.F.Files.refusal page.files.now in
     let f = g.F.Files.file page.files.now file.id in
     let look = look_of (config_of c.args.renderer.now) page.severity page.padding in
-    let rows : List Row = rows_of_steps f file.lane_count (map step_of file.steps.items) in
+    let rows : List Row = rows_of_steps f (lanes_given file.lanes.now) (map step_of file.steps.items) in
     let first = c.in_ok-draw_start.ensures.same.config in
     let second = c.in_ok-draw_steps.ensures.same.config in
     let t = g.W.WriteStyle.sink (writer_of c.draw_start.new.renderer) in
     let u = g.W.WriteStyle.sink (writer_of c.draw_steps.new.renderer) in
     let drawn = subst (λ (steps : List Step). SendsAsking (first_refusal refusal (asked_of file.id (asked_by_all steps))) t
-    (stream_of_rows (look_of (config_of c.draw_start.new.renderer) page.severity page.padding) (rows_of_steps f file.lane_count (map step_of steps))) (Ok tt) u) c.deref.ensures.value c.in_ok-draw_steps.ensures.draws in
+    (stream_of_rows (look_of (config_of c.draw_start.new.renderer) page.severity page.padding) (rows_of_steps f (lanes_given file.lanes.now) (map step_of steps))) (Ok tt) u) c.deref.ensures.value c.in_ok-draw_steps.ensures.draws in
     asking_as_stream _ _ _ _ _ c.draw_end.result (sym (rows-three look (start_rows file) rows (end_rows file c.args.is_followed)))
     (drawn-to_end (refusal file.id Source) (first_refusal refusal (asked_of file.id (asked_by_all file.steps.items))) _ _ _ _ _ c.in_ok-source.ensures.refused
     _ _ _ _ c.draw_end.result c.in_ok-draw_start.ensures.sends

@@ -1,13 +1,12 @@
-use Rattle.std.proofs.Common.{rules, ◌≡◌, None, ◌++◌, flat_map, ◌+◌, ◌-◌, ◌<◌, ◌≤◌, Err, ap, ◌∙◌, arith}
+use Rattle.std.proofs.Common.{rules, ◌+◌, ◌-◌, ◌<◌, ◌≤◌, Err, ap, ◌∙◌, arith}
 use Rattle.std.proofs.lemmas.Result.{err_from_is_err_and}
 use Rattle.codespan_base.specs.FileModel.{line_count}
 use Rattle.codespan_base.specs.Labels.{first_line, last_line}
 use Rattle.codespan_base.specs.Lemmas.Lines.{line_of_below}
-use Rattle.codespan_reporting.specs.Inner.Entries.{entries_of}
-use Rattle.codespan_reporting.specs.Inner.GivenEntries.{AddsOf, IsLineOf, label_place}
-use Rattle.codespan_picture.specs.Lookups.{asked_lines, asked_of, first_refusal, line_refusal, of_line, probe}
+use Rattle.codespan_reporting.specs.Inner.GivenEntries.{IsLineOf, label_place}
+use Rattle.codespan_picture.specs.Lookups.{line_refusal}
 use Rattle.codespan_picture.specs.Picture.{label_of}
-use Rattle.codespan_reporting.proofs.Contexts.{GathersLines, gathered-start, gathered-context, gathered-reach, gathered-refused, gathered-step}
+use Rattle.codespan_reporting.proofs.Contexts.{GathersLabel, GathersLines, gathered-start, gathered-context, gathered-reach, gathered-refused, gathered-step}
 use Rattle.codespan_reporting.proofs.term.views.gather.Asking.gather_lines.Given.{Over}
 use Rattle.codespan_reporting.proofs.term.views.gather.Asking.gather_lines.Goals.{Else-not-branch}
 use Rattle.codespan_reporting.proofs.term.views.gather.Asking.gather_lines.Goals as goal
@@ -38,26 +37,30 @@ returns-in_err-gather_line-clause-refused g c =
     (line_of_below f.starts x.start some) (line_of_below f.starts x.end some) c.loop-index.invariant refused.0
     (ap (λ k. line_refusal f (refusal id) k c.loop-index.index) c.requires.last ∙ refused.1))
 
-pub returns-then-not-branch-clause-added : goal.returns-then-not-branch-clause-added
-returns-then-not-branch-clause-added g c =
+-- the file has no more lines
+no_more : (g : Over) (c : goal.Then-not-branch g)
+    → let f = g.F.Files.file c.args.self.now.files.now c.args.label.now.file_id in
+    GathersLabel (g.F.Files.refusal c.args.self.now.files.now) c.args.label.now.file_id c.args.self.now.config.now f (label_of c.args.label.now).label (λ e. IsLineOf f e.line) (label_place c.args.self.now.at) c.args.found.now c.gather_line.new.found
+no_more g c =
     let id = c.args.label.now.file_id in
     let f = g.F.Files.file c.args.self.now.files.now id in
     let ended = c.in_ok-gather_line.ensures.ended c.if-not-branch.true in
     rw ended.0 (gathered-context (g.F.Files.refusal c.args.self.now.files.now) id c.args.self.now.config.now f (label_of c.args.label.now).label (λ e. IsLineOf f e.line) (label_place c.args.self.now.at) _ _ _
-    c.loop-index.invariant ended.1 ended.2).0
+    c.loop-index.invariant ended.1.0 ended.1.1)
+
+pub returns-then-not-branch-clause-added : goal.returns-then-not-branch-clause-added
+returns-then-not-branch-clause-added g c = (no_more g c).added
+
+pub returns-then-not-branch-clause-padding : goal.returns-then-not-branch-clause-padding
+returns-then-not-branch-clause-padding g c = (no_more g c).counted
 
 pub returns-then-not-branch-clause-refused : goal.returns-then-not-branch-clause-refused
-returns-then-not-branch-clause-refused g c =
-    let id = c.args.label.now.file_id in
-    let f = g.F.Files.file c.args.self.now.files.now id in
-    let ended = c.in_ok-gather_line.ensures.ended c.if-not-branch.true in
-    (gathered-context (g.F.Files.refusal c.args.self.now.files.now) id c.args.self.now.config.now f (label_of c.args.label.now).label (λ e. IsLineOf f e.line) (label_place c.args.self.now.at) _ _ _
-    c.loop-index.invariant ended.1 ended.2).1
+returns-then-not-branch-clause-refused g c = (no_more g c).answered
 
 -- one more line is done with
 one_more : (g : Over) (c : goal.Else-not-branch g)
     → let f = g.F.Files.file c.args.self.now.files.now c.args.label.now.file_id in
-    GathersLines (g.F.Files.refusal c.args.self.now.files.now) c.args.label.now.file_id c.args.self.now.config.now f (label_of c.args.label.now).label (λ e. IsLineOf f e.line) (label_place c.args.self.now.at) c.args.entries.now.items c.gather_line.new.entries.items (c.loop-index.index + 1)
+    GathersLines (g.F.Files.refusal c.args.self.now.files.now) c.args.label.now.file_id c.args.self.now.config.now f (label_of c.args.label.now).label (λ e. IsLineOf f e.line) (label_place c.args.self.now.at) c.args.found.now c.gather_line.new.found (c.loop-index.index + 1)
 one_more g c =
     let id = c.args.label.now.file_id in
     let f = g.F.Files.file c.args.self.now.files.now id in
@@ -68,7 +71,7 @@ one_more g c =
     gathered-step (g.F.Files.refusal c.args.self.now.files.now) id c.args.self.now.config.now f x (λ e. IsLineOf f e.line) (label_place c.args.self.now.at) _ _ _ _
     (line_of_below f.starts x.start some) (line_of_below f.starts x.end some)
     (omega (arith, c.loop-index-test.true, c.max-index-end.ensures, c.saturating_add-last.ensures, c.requires.first, c.requires.last))
-    c.loop-index.invariant (c.in_ok-gather_line.ensures.inside on) (c.in_ok-gather_line.ensures.added on) (c.in_ok-gather_line.ensures.answered on)
+    c.loop-index.invariant (c.in_ok-gather_line.ensures.inside on) (c.in_ok-gather_line.ensures.added on) (c.in_ok-gather_line.ensures.padding on) (c.in_ok-gather_line.ensures.answered on)
 
 pub loop-index-preserved : goal.loop-index-preserved
 loop-index-preserved g c = one_more g (goal.at.loop-index-preserved g c).Else-not-branch
@@ -79,8 +82,7 @@ all_done : (g : Over) (c : goal.Else-not-branch g) → c.max-index-end.result �
     let f = g.F.Files.file c.args.self.now.files.now id in
     let x = (label_of c.args.label.now).label in
     let refusal = g.F.Files.refusal c.args.self.now.files.now in
-    AddsOf f c.args.entries.now.items c.gather_line.new.entries.items (entries_of c.args.self.now.config.now f (label_place c.args.self.now.at) x)
-    × (first_refusal refusal (asked_of id (flat_map of_line (asked_lines c.args.self.now.config.now f x) ++ probe c.args.self.now.config.now f (refusal id) x)) ≡ None)
+    GathersLabel refusal id c.args.self.now.config.now f x (λ e. IsLineOf f e.line) (label_place c.args.self.now.at) c.args.found.now c.gather_line.new.found
 all_done g c at_last =
     let id = c.args.label.now.file_id in
     let f = g.F.Files.file c.args.self.now.files.now id in
@@ -94,7 +96,10 @@ all_done g c at_last =
     (files.lawful c.args.self.now.files.now id) (files.past_end c.args.self.now.files.now id _)
 
 pub returns-else-not-branch-clause-added : goal.returns-else-not-branch-clause-added
-returns-else-not-branch-clause-added g c = (all_done g (goal.at.returns-else-not-branch-clause-added g c).Else-not-branch (search rules)).0
+returns-else-not-branch-clause-added g c = (all_done g (goal.at.returns-else-not-branch-clause-added g c).Else-not-branch (search rules)).added
+
+pub returns-else-not-branch-clause-padding : goal.returns-else-not-branch-clause-padding
+returns-else-not-branch-clause-padding g c = (all_done g (goal.at.returns-else-not-branch-clause-padding g c).Else-not-branch (search rules)).counted
 
 pub returns-else-not-branch-clause-refused : goal.returns-else-not-branch-clause-refused
-returns-else-not-branch-clause-refused g c = (all_done g (goal.at.returns-else-not-branch-clause-refused g c).Else-not-branch (search rules)).1
+returns-else-not-branch-clause-refused g c = (all_done g (goal.at.returns-else-not-branch-clause-refused g c).Else-not-branch (search rules)).answered

@@ -7,4 +7,4 @@ use Rattle.codespan_reporting.proofs.term.views.gather.Asking.gather_lines.Given
 abbrev pub invariant-loop-index : goal.invariant-loop-index
 invariant-loop-index g l =
     let f = g.F.Files.file l.self.files.now l.label.file_id in
-    GathersLines (g.F.Files.refusal l.self.files.now) l.label.file_id l.self.config.now f (label_of l.label).label (λ e. IsLineOf f e.line) (label_place l.self.at) l.initial.entries.items l.entries.items l.index
+    GathersLines (g.F.Files.refusal l.self.files.now) l.label.file_id l.self.config.now f (label_of l.label).label (λ e. IsLineOf f e.line) (label_place l.self.at) l.initial.found l.found l.index

@@ -1,9 +1,8 @@
 use Rattle.std.proofs.Common.{map, None, ap, ◌∙◌}
 use Rattle.std.proofs.lemmas.Result.{err_from_is_err_and}
 use Rattle.codespan_picture.specs.Given.{mark_of_given}
-use Rattle.codespan_reporting.specs.Inner.GivenEntries.{entry_of}
 use Rattle.codespan_reporting.proofs.Askings.{asking_no_memory, out_of_memory}
-use Rattle.codespan_reporting.proofs.MarkOrder.{lanes_fit}
+use Rattle.codespan_reporting.proofs.LaneMarks.{lanes_fit}
 use Rattle.codespan_reporting.proofs.term.views.lines.FileLines.draw_break.Goals as goal
 
 pub returns-in_err-refill-clause-draws : goal.returns-in_err-refill-clause-draws
@@ -12,5 +11,4 @@ returns-in_err-refill-clause-draws g c =
     rw p.1 (asking_no_memory None _ _ _ (out_of_memory _ _ p.2 c.in_err-refill.ensures.refused))
 
 pub render_snippet_break-requires : goal.render_snippet_break-requires
-render_snippet_break-requires g c =
-    lanes_fit _ _ (map entry_of c.args.entries.now) (ap (map mark_of_given) c.as_slice.ensures.value ∙ c.in_ok-refill.ensures.multis) c.requires.fits
+render_snippet_break-requires g c = lanes_fit c.args.self.now.lanes.now c.args.next.index c.args.next.start _ (ap (map mark_of_given) c.as_slice.ensures.value ∙ c.in_ok-refill.ensures.multis)

@@ -1,6 +1,8 @@
-use Rattle.std.proofs.Common.{None}
+use Rattle.std.proofs.Common.{map, None, ap, ◌∙◌}
 use Rattle.std.proofs.lemmas.Result.{err_from_is_err_and}
+use Rattle.codespan_picture.specs.Given.{mark_of_given}
 use Rattle.codespan_reporting.proofs.Askings.{asking_no_memory, out_of_memory}
+use Rattle.codespan_reporting.proofs.LaneMarks.{lanes_fit}
 use Rattle.codespan_reporting.proofs.term.views.lines.FileLines.draw_line.Goals as goal
 
 pub returns-in_err-refill-clause-draws : goal.returns-in_err-refill-clause-draws
@@ -12,3 +14,11 @@ pub returns-in_err-refill-2-clause-draws : goal.returns-in_err-refill-2-clause-d
 returns-in_err-refill-2-clause-draws g c =
     let p = err_from_is_err_and c.from_residual-in_err-refill-2.result c.from_residual-in_err-refill-2.ensures.1 in
     rw p.1 (asking_no_memory None _ _ _ (out_of_memory _ _ p.2 c.in_err-refill-2.ensures.refused))
+
+pub render_snippet_source-requires : goal.render_snippet_source-requires
+render_snippet_source-requires g c =
+    lanes_fit c.args.self.now.lanes.now c.args.line.index c.args.line.start _ (ap (map mark_of_given) c.as_slice-then-not-have_places.ensures.value ∙ c.in_ok-refill.ensures.multis)
+
+pub render-requires-clause-lanes : goal.render-requires-clause-lanes
+render-requires-clause-lanes g c =
+    lanes_fit c.args.self.now.lanes.now c.args.line.index c.args.line.start _ (ap (map mark_of_given) c.as_slice-4.ensures.value ∙ c.in_ok-refill.ensures.multis)

@@ -20,13 +20,13 @@ draw_step-requires g c κs =
     let steps = c.args.steps.now in
     let f = g.F.Files.file lines.page.now.files.now lines.id in
     let i = c.loop-step.step-index in (
-      (refl, (refl, tt)),
+      (refl, (refl, (refl, tt))),
       (
         c.requires.text,
         (
           All-from_recursion (IsStepOf f) steps c.requires.steps i _ c.loop-step-test.true,
-          All-from_recursion (λ step. does_step_fit lines.lane_count (step_of step) ≡ true) steps
-              (all-mapped step_of (λ step. does_step_fit lines.lane_count step ≡ true) steps c.requires.fits) i _ c.loop-step-test.true,
+          All-from_recursion (λ step. does_step_fit (step_of step) ≡ true) steps
+              (all-mapped step_of (λ step. does_step_fit step ≡ true) steps c.requires.fits) i _ c.loop-step-test.true,
         ),
       ),
     )

@@ -13,8 +13,6 @@ use Rattle.codespan_picture.specs.Snippets.{has_any, is_followed, labelled_file}
 use Rattle.codespan_renderer.specs.Renderers.{config_of}
 use Rattle.codespan_reporting.specs.declared.term.views.sheet.SheetFile.{SheetFile}
 use Rattle.codespan_reporting.specs.Inner.GivenSheets.{IsSheetFile, ids_of, places_of}
-use Rattle.codespan_reporting.specs.Inner.GivenSteps.{step_of}
-use Rattle.codespan_reporting.specs.Inner.StepDrawing.{DoFit}
 use Rattle.codespan_reporting.specs.Views.{diagnostic_of, view_config_of}
 use Rattle.codespan_reporting.proofs.Askings.{asking_as, asking_at}
 use Rattle.codespan_reporting.proofs.SheetDrawing.{drawn-file, followed-at, id-at, id-inside, left-cut, left-end, left-next, left-start, place-at, place-inside}
@@ -36,7 +34,7 @@ draw_snippet-requires g c κs =
     let inside : k < length sheet.files.items = subst (λ (fs : List (SheetFile g.row.FileId.Denot)). k < length fs) c.deref-file-items.ensures.value c.loop-place-test.true in
     let at = c.file-item.is ∙ ap (λ fs. get_or fs k f) c.deref-file-items.ensures.value in
     let is = subst (λ h. IsSheetFile config (labelled_file same file xs h.id) h) (sym at) (All-from_recursion (λ h. IsSheetFile config (labelled_file same file xs h.id) h) sheet.files.items c.requires.files_are k f inside) in
-    ((refl, tt), (is.each, subst (λ n. DoFit n (map step_of f.steps.items)) (sym is.lanes_are) is.fits))
+    ((refl, tt), (is.each, is.fits))
 
 pub returns-in_err-draw_snippet-clause-draws : goal.returns-in_err-draw_snippet-clause-draws
 returns-in_err-draw_snippet-clause-draws g c =

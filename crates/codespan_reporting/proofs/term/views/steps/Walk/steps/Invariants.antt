@@ -8,9 +8,8 @@ use Rattle.codespan_reporting.proofs.term.views.steps.Walk.steps.Given as goal
 -- some steps are found, and the walk over the entries that are left makes the rest
 abbrev pub invariant-loop-at : goal.invariant-loop-at
 invariant-loop-at g l = record {
-  order : l.from ≤ l.at;
   within : l.at ≤ length l.entries;
-  left : StepsLeft (g.F.Files.refusal l.self.files.now) l.self.id l.self.layout (g.F.Files.file l.self.files.now l.self.id) (steps_of (map entry_of l.entries)) (steps_left l.entries l.from l.at l.last) l.steps.items;
+  left : StepsLeft (g.F.Files.refusal l.self.files.now) l.self.id l.self.layout (g.F.Files.file l.self.files.now l.self.id) (steps_of (map entry_of l.entries)) (steps_left l.entries l.at l.last) l.steps.items;
 }
 
 abbrev pub decreases-loop-at : goal.decreases-loop-at

@@ -1,0 +1,242 @@
+-- What the entries of all labels say of one line of one file.
+use Rattle.std.proofs.Common.{◌≡◌, ℕ, ◌+◌, ◌<◌, ◌≤◌, Bool, true, false, cond, ◌==◌, nat_lt, ◌&&◌, ◌||◌, List, [], ◌∷◌, ◌++◌, length, map, filter, Option, Some, None, ⊎_elim, refl, sym, ◌∙◌, ap, subst, arith, length-append}
+use Rattle.std.specs.List.{list_any, AllByRecursion}
+use Rattle.std.proofs.lemmas.Bool.{cases_Bool, eqb-true, eq-eqb, ltb-false}
+use Rattle.std.proofs.lemmas.Bool.Decides.{nat_tests}
+use Rattle.std.proofs.lemmas.List.Elements.{filter-append}
+use Rattle.std.proofs.lemmas.List.Folds.{list_any-append}
+use Rattle.std.proofs.Math.Bool.{and-false}
+use Rattle.codespan_base.specs.declared.term.config.Config.{Config}
+use Rattle.codespan_base.specs.FileModel.{FileModel, line_count}
+use Rattle.codespan_base.specs.Labels.{Labelled, first_line, last_line, is_single, drawn_label}
+use Rattle.codespan_reporting.specs.Inner.Entries.{Entry, Single, LabelPlace, is_below, is_on_line, is_of_file, line_entries, entries_of}
+use Rattle.codespan_picture.specs.Lines.{shows}
+use Rattle.codespan_reporting.specs.Inner.PlacedLabels.{file_place, place_after, entries_after}
+use Rattle.codespan_picture.specs.Snippets.{InFile}
+use Rattle.codespan_reporting.specs.Inner.Steps.{single_of, singles_in}
+use Rattle.codespan_reporting.proofs.EntryOrder.{place_below}
+use Rattle.codespan_reporting.proofs.LabelEntries.{is_kind, all-of_file, all-below, entries-of_line, singles-of_line, any-of_line}
+use Rattle.codespan_laws.proofs.OrderSorts.{has_range}
+use Rattle.codespan_laws.proofs.RangeLemmas.{line_of-below}
+use Rattle.codespan_laws.proofs.SortedLists.{Falls, all-append, all-weaker, filter-whole, filter-nothing}
+
+-- ---- ranges
+
+-- the label that is said has this range
+abbrev pub says_range : ℕ → ℕ → Option Labelled → Bool
+says_range start end None = false
+says_range start end (Some x) = has_range start end x
+
+-- the entry is of a label with this range
+abbrev pub is_of_range : ℕ → ℕ → Entry → Bool
+is_of_range start end e = says_range start end (single_of e.says)
+
+-- ---- the labels of a file among those of a diagnostic
+
+module _ {Id : Type 0} (same : Id → Id → Bool) (file : Id → FileModel) (config : Config)
+    (ids : List Id) (f : ℕ) (id : Id) (place : (i : Id) → (file_place same ids i == f) ≡ same id i)
+    (one_file : (i : Id) → same id i ≡ true → file i ≡ file id) (some_line : 0 < line_count (file id)) where
+  -- the file
+  abbrev own_file : FileModel
+  own_file = file id
+
+  -- the labels that are of the file
+  abbrev own : List (InFile Id) → List (InFile Id)
+  own xs = filter (λ (x : InFile Id). same id x.id) xs
+
+  -- they, without their ids
+  abbrev pub labels_in : List (InFile Id) → List Labelled
+  labels_in xs = map (λ (x : InFile Id). x.label) (own xs)
+
+  -- ---- lines of the file
+
+  -- a label is on lines that the file has
+  ends-below : (x : Labelled) → (first_line own_file x < line_count own_file) × (last_line own_file x < line_count own_file)
+  ends-below x = (line_of-below own_file.starts x.start some_line, line_of-below own_file.starts x.end some_line)
+
+  -- its entries of the file are of such lines
+  pub entries-below : (xs before : List (InFile Id)) → AllByRecursion (λ e. is_of_file f e ≡ true → e.line < line_count own_file) (entries_after same file config ids before xs)
+  entries-below [] before = tt
+  entries-below (x ∷ xs) before =
+      all-append (λ e. is_of_file f e ≡ true → e.line < line_count own_file)
+      (entries_of config (file x.id) (place_after same ids before x) x.label) (entries_after same file config ids (before ++ x ∷ []) xs)
+      (⊎_elim
+      (λ (t : same id x.id ≡ true). all-weaker (λ e. e.line < line_count (file x.id)) (λ e. is_of_file f e ≡ true → e.line < line_count own_file)
+      (λ e h _. subst (λ m. e.line < line_count m) (one_file x.id t) h)
+      (entries_of config (file x.id) (place_after same ids before x) x.label)
+      (all-below config (file x.id) (place_after same ids before x) x.label))
+      (λ (t : same id x.id ≡ false). all-weaker (λ e. e.file ≡ file_place same ids x.id) (λ e. is_of_file f e ≡ true → e.line < line_count own_file)
+      (λ e h k. absurd (other x t e h k))
+      (entries_of config (file x.id) (place_after same ids before x) x.label)
+      (all-of_file config (file x.id) (place_after same ids before x) x.label))
+      (cases_Bool (same id x.id)))
+      (entries-below xs (before ++ x ∷ []))
+    where
+      other : (x : InFile Id) → same id x.id ≡ false → (e : Entry) → e.file ≡ file_place same ids x.id → is_of_file f e ≡ true → ⊥
+      other x t e h k = let both = sym k ∙ ap (λ i. i == f) h ∙ place x.id ∙ t in cc
+
+  module _ (l : ℕ) where
+    -- where a label of the file is after these
+    abbrev place_at : List (InFile Id) → LabelPlace
+    place_at before = record { file = f; place = length before }
+
+    -- what a label says of the line
+    abbrev said_by : List (InFile Id) → InFile Id → List Entry
+    said_by before x = cond (same id x.id && nat_lt l (line_count own_file)) (line_entries config own_file (place_at before) x.label l) []
+
+    -- what labels after these say of the line
+    abbrev pub said_after : List (InFile Id) → List (InFile Id) → List Entry
+    said_after before [] = []
+    said_after before (x ∷ xs) = said_by before x ++ said_after (before ++ x ∷ []) xs
+
+    -- a label's entries of the line of the file
+    one-said : (before : List (InFile Id)) (x : InFile Id)
+        → filter (is_on_line l) (filter (is_of_file f) (entries_of config (file x.id) (place_after same ids before x) x.label)) ≡ said_by before x
+    one-said before x =
+        ⊎_elim
+        (λ (t : same id x.id ≡ true).
+        let at : file_place same ids x.id ≡ f = eqb-true (file_place same ids x.id) f (place x.id ∙ t) in
+        ap (filter (is_on_line l)) (filter-whole (is_of_file f) es (all-weaker (λ e. e.file ≡ file_place same ids x.id) (λ e. is_of_file f e ≡ true) (λ e h. eq-eqb e.file f (h ∙ at)) es of))
+        ∙ (λ i. filter (is_on_line l) (entries_of config (one_file x.id t i) (record { file = at i; place = length before }) x.label))
+        ∙ entries-of_line config own_file (place_at before) x.label l
+        ∙ sym (ap (λ b. cond (b && nat_lt l (line_count own_file)) (line_entries config own_file (place_at before) x.label l) []) t))
+        (λ (t : same id x.id ≡ false).
+        ap (filter (is_on_line l)) (filter-nothing (is_of_file f) es (all-weaker (λ e. e.file ≡ file_place same ids x.id) (λ e. is_of_file f e ≡ false) (λ e h. ap (λ i. i == f) h ∙ place x.id ∙ t) es of))
+        ∙ sym (ap (λ b. cond (b && nat_lt l (line_count own_file)) (line_entries config own_file (place_at before) x.label l) []) t))
+        (cases_Bool (same id x.id))
+      where
+        es : List Entry
+        es = entries_of config (file x.id) (place_after same ids before x) x.label
+
+        of : AllByRecursion (λ e. e.file ≡ file_place same ids x.id) es
+        of = all-of_file config (file x.id) (place_after same ids before x) x.label
+
+    -- all entries of the line of the file
+    pub all-said : (xs before : List (InFile Id)) → filter (is_on_line l) (filter (is_of_file f) (entries_after same file config ids before xs)) ≡ said_after before xs
+    all-said [] before = refl
+    all-said (x ∷ xs) before =
+        let es = entries_of config (file x.id) (place_after same ids before x) x.label in
+        let rest = entries_after same file config ids (before ++ x ∷ []) xs in
+        ap (filter (is_on_line l)) (filter-append (is_of_file f) es rest)
+        ∙ filter-append (is_on_line l) (filter (is_of_file f) es) (filter (is_of_file f) rest)
+        ∙ ap (λ (r : List Entry). r ++ filter (is_on_line l) (filter (is_of_file f) rest)) (one-said before x)
+        ∙ ap (λ (r : List Entry). said_by before x ++ r) (all-said xs (before ++ x ∷ []))
+
+    -- ---- labels inside the line
+
+    -- the label is inside the line
+    abbrev on : Labelled → Bool
+    on x = is_single own_file x && (first_line own_file x == l)
+
+    -- no label is on a line past the last
+    on-outside : (x : Labelled) → nat_lt l (line_count own_file) ≡ false → on x ≡ false
+    on-outside x h =
+        let e = ends-below x in
+        let low : first_line own_file x < line_count own_file = e.0 in
+        let high : line_count own_file ≤ l = ltb-false l (line_count own_file) h in
+        let no : (first_line own_file x == l) ≡ false = grind (arith, nat_tests) in
+        ap (λ b. is_single own_file x && b) no ∙ and-false (is_single own_file x)
+
+    -- the entry of a label at this place
+    abbrev single_at : ℕ → Labelled → Entry
+    single_at k x = record { file = f; line = l; says = Single k (drawn_label own_file x) }
+
+    -- the entries of the labels inside the line, where their places begin here
+    abbrev pub singles_from : ℕ → List (InFile Id) → List Entry
+    singles_from k [] = []
+    singles_from k (x ∷ xs) = cond (same id x.id && on x.label) (single_at k x.label ∷ []) [] ++ singles_from (k + 1) xs
+
+    -- the entry of one of them
+    one-single : (before : List (InFile Id)) (x : InFile Id) → filter (is_kind 1) (said_by before x) ≡ cond (same id x.id && on x.label) (single_at (length before) x.label ∷ []) []
+    one-single before x = by_tests (same id x.id) (nat_lt l (line_count own_file)) refl
+      where
+        by_tests : (s t : Bool) → nat_lt l (line_count own_file) ≡ t
+            → filter (is_kind 1) (cond (s && t) (line_entries config own_file (place_at before) x.label l) []) ≡ cond (s && on x.label) (single_at (length before) x.label ∷ []) []
+        by_tests false t h = refl
+        by_tests true true h = singles-of_line config own_file (place_at before) x.label l
+        by_tests true false h = sym (ap (λ b. cond b (single_at (length before) x.label ∷ []) []) (on-outside x.label h))
+
+    -- the entries of all of them
+    pub all-singles : (xs before : List (InFile Id)) (k : ℕ) → length before ≡ k → filter (is_kind 1) (said_after before xs) ≡ singles_from k xs
+    all-singles [] before k e = refl
+    all-singles (x ∷ xs) before k e =
+        let one = length-append before (x ∷ []) in
+        let more : length (before ++ x ∷ []) ≡ k + 1 = omega (arith, one, e) in
+        filter-append (is_kind 1) (said_by before x) (said_after (before ++ x ∷ []) xs)
+        ∙ ap (λ (r : List Entry). r ++ filter (is_kind 1) (said_after (before ++ x ∷ []) xs)) (one-single before x ∙ ap (λ n. cond (same id x.id && on x.label) (single_at n x.label ∷ []) []) e)
+        ∙ ap (λ (r : List Entry). cond (same id x.id && on x.label) (single_at k x.label ∷ []) [] ++ r) (all-singles xs (before ++ x ∷ []) (k + 1) more)
+
+    -- the labels of those entries
+    pub singles-labels : (k : ℕ) (xs : List (InFile Id)) → singles_in (singles_from k xs) ≡ map (drawn_label own_file) (filter on (labels_in xs))
+    singles-labels k [] = refl
+    singles-labels k (x ∷ xs) = by_tests (same id x.id) (on x.label) refl (singles-labels (k + 1) xs)
+      where
+        by_tests : (s t : Bool) → on x.label ≡ t → singles_in (singles_from (k + 1) xs) ≡ map (drawn_label own_file) (filter on (labels_in xs))
+            → singles_in (cond (s && on x.label) (single_at k x.label ∷ []) [] ++ singles_from (k + 1) xs)
+            ≡ map (drawn_label own_file) (filter on (map (λ (y : InFile Id). y.label) (cond s (x ∷ own xs) (own xs))))
+        by_tests false t h rest = rest
+        by_tests true t h rest = by_test (on x.label)
+          where
+            by_test : (b : Bool) → singles_in (cond b (single_at k x.label ∷ []) [] ++ singles_from (k + 1) xs)
+                ≡ map (drawn_label own_file) (cond b (x.label ∷ filter on (labels_in xs)) (filter on (labels_in xs)))
+            by_test true = ap (λ (r : List Labelled). drawn_label own_file x.label ∷ r) rest
+            by_test false = rest
+
+    -- later labels of a range are below
+    singles-below : (start end k j : ℕ) (a : Labelled) → k < j → has_range start end (drawn_label own_file a) ≡ true → (xs : List (InFile Id))
+        → AllByRecursion (λ e. is_below e (single_at k a) ≡ true) (filter (is_of_range start end) (singles_from j xs))
+    singles-below start end k j a h t [] = tt
+    singles-below start end k j a h t (x ∷ xs) = by_test (same id x.id && on x.label) (singles-below start end k (j + 1) a (omega arith) t xs)
+      where
+        IsLower : Entry → Type 0
+        IsLower e = is_below e (single_at k a) ≡ true
+
+        by_range : (b : Bool) → has_range start end (drawn_label own_file x.label) ≡ b → AllByRecursion IsLower (filter (is_of_range start end) (singles_from (j + 1) xs))
+            → AllByRecursion IsLower (cond b (single_at j x.label ∷ filter (is_of_range start end) (singles_from (j + 1) xs)) (filter (is_of_range start end) (singles_from (j + 1) xs)))
+        by_range true u rest =
+            let c = drawn_label own_file a in
+            let d = drawn_label own_file x.label in
+            let same_start : c.start ≡ d.start = grind (arith, nat_tests) in
+            let same_end : c.end ≡ d.end = grind (arith, nat_tests) in
+            (place_below f l k j c d same_start same_end h, rest)
+        by_range false u rest = rest
+
+        by_test : (b : Bool) → AllByRecursion IsLower (filter (is_of_range start end) (singles_from (j + 1) xs))
+            → AllByRecursion IsLower (filter (is_of_range start end) (cond b (single_at j x.label ∷ []) [] ++ singles_from (j + 1) xs))
+        by_test true rest = by_range (has_range start end (drawn_label own_file x.label)) refl rest
+        by_test false rest = rest
+
+    -- the entries of the labels of a range fall
+    pub singles-fall : (start end k : ℕ) (xs : List (InFile Id)) → Falls is_below (filter (is_of_range start end) (singles_from k xs))
+    singles-fall start end k [] = tt
+    singles-fall start end k (x ∷ xs) = by_test (same id x.id && on x.label) (singles-fall start end (k + 1) xs)
+      where
+        by_range : (b : Bool) → has_range start end (drawn_label own_file x.label) ≡ b → Falls is_below (filter (is_of_range start end) (singles_from (k + 1) xs))
+            → Falls is_below (cond b (single_at k x.label ∷ filter (is_of_range start end) (singles_from (k + 1) xs)) (filter (is_of_range start end) (singles_from (k + 1) xs)))
+        by_range true u rest = (singles-below start end k (k + 1) x.label (omega arith) u xs, rest)
+        by_range false u rest = rest
+
+        by_test : (b : Bool) → Falls is_below (filter (is_of_range start end) (singles_from (k + 1) xs))
+            → Falls is_below (filter (is_of_range start end) (cond b (single_at k x.label ∷ []) [] ++ singles_from (k + 1) xs))
+        by_test true rest = by_range (has_range start end (drawn_label own_file x.label)) refl rest
+        by_test false rest = rest
+
+    -- ---- lines of which something is said
+
+    -- something is said of the lines that the file has and that some label shows
+    pub any-said : (xs before : List (InFile Id)) → list_any (λ _. true) (said_after before xs)
+        ≡ (nat_lt l (line_count own_file) && list_any (λ x. shows config (first_line own_file x) (last_line own_file x) l) (labels_in xs))
+    any-said [] before = sym (and-false (nat_lt l (line_count own_file)))
+    any-said (x ∷ xs) before =
+        list_any-append (λ _. true) (said_by before x) (said_after (before ++ x ∷ []) xs)
+        ∙ ap (λ b. list_any (λ _. true) (said_by before x) || b) (any-said xs (before ++ x ∷ []))
+        ∙ by_tests (same id x.id) (nat_lt l (line_count own_file))
+      where
+        shows_line : Labelled → Bool
+        shows_line y = shows config (first_line own_file y) (last_line own_file y) l
+
+        by_tests : (s t : Bool) → (list_any (λ _. true) (cond (s && t) (line_entries config own_file (place_at before) x.label l) []) || (t && list_any shows_line (labels_in xs)))
+            ≡ (t && list_any shows_line (map (λ (y : InFile Id). y.label) (cond s (x ∷ own xs) (own xs))))
+        by_tests false t = refl
+        by_tests true false = refl
+        by_tests true true = ap (λ b. b || list_any shows_line (labels_in xs)) (any-of_line config own_file (place_at before) x.label l)

@@ -1,0 +1,171 @@
+-- The room for the numbers of the lines that labels span is that of the picture in the classic layout.
+use Rattle.std.proofs.Common.{◌≡◌, ℕ, zero, suc, ◌+◌, ◌<◌, ◌≤◌, Bool, true, false, ◌&&◌, ◌||◌, max, List, [], ◌∷◌, ◌++◌, length, get_or, map, filter, flat_map, ⊎_elim, refl, sym, ◌∙◌, ap, subst, arith}
+use Rattle.std.specs.Prelude.{Contains, fold, if◌then◌else◌}
+use Rattle.std.specs.Cmp.{IsEquivalence}
+use Rattle.std.specs.List.{AllByRecursion, list_any, range_with_len}
+use Rattle.std.proofs.lemmas.Bool.{and_parts, cases_Bool, cases_eq, eq-eqb, true≢false}
+use Rattle.std.proofs.lemmas.List.Elements.{recursion_from_All}
+use Rattle.std.proofs.lemmas.List.Folds.{flat_map-map, list_any_at}
+use Rattle.codespan_base.specs.declared.term.config.Config.{Config}
+use Rattle.codespan_base.specs.declared.term.config.Layout.TheVariants.{Classic}
+use Rattle.codespan_base.specs.FileModel.{FileModel, line_count}
+use Rattle.codespan_base.specs.Labels.{Labelled}
+use Rattle.codespan_picture.specs.Padding.{digit_count, digits_of, numbered_lines, padding_of, spanned_lines, spans}
+use Rattle.codespan_picture.specs.Snippets.{InFile, LabelledFile, labelled_file, labelled_files}
+use Rattle.codespan_reporting.specs.Inner.PlacedLabels.{IsIdAt, file_ids, file_place}
+use Rattle.codespan_reporting.specs.Inner.SpannedDigits.{all_digits, digits_on, label_digits}
+use Rattle.codespan_laws.proofs.Greatest.{greatest-any, greatest-append, greatest-same}
+use Rattle.codespan_laws.proofs.PaddingLemmas.{contains-filter, contains-range, numbered-fits}
+use Rattle.codespan_laws.proofs.RefillLemmas.{any-map}
+use Rattle.codespan_laws.proofs.SortedLists.{all-append, any-filtered}
+use Rattle.codespan_reporting.proofs.FileOrder.{file_ids-has}
+use Rattle.codespan_reporting.proofs.FilePlaces.{at-get, file_place-at}
+use Rattle.codespan_reporting.proofs.LabelPlaces.{has-place}
+
+-- ---- ids and lines
+
+-- the id at a place is one of them, whatever it stands for
+place-contained : {Id X : Type 0} (h : Id → X) (ids : List Id) (f : ℕ) (id : Id) → IsIdAt ids f id → Contains (map h ids) (h id)
+place-contained h [] f id at = absurd at
+place-contained h (j ∷ js) zero id at = (0, omega arith, ap h at)
+place-contained h (j ∷ js) (suc f) id at = let c = place-contained h js f id at in let low : c.0 < length (map h js) = c.1 in (suc c.0, omega (arith, low), c.2)
+
+-- what holds of all that each id gives
+all-places : {Id A : Type 0} (P : A → Type 0) (each : Id → List A) (js : List Id) → ((i : ℕ) (id : Id) → IsIdAt js i id → AllByRecursion P (each id)) → AllByRecursion P (flat_map each js)
+all-places P each [] h = tt
+all-places P each (j ∷ js) h = all-append P (each j) (flat_map each js) (h 0 j refl) (all-places P each js (λ i id at. h (suc i) id at))
+
+-- what holds of all that the lines of a range give which pass a test
+all-lines : (P : ℕ → Type 0) (give : ℕ → ℕ) (p : ℕ → Bool) (n a : ℕ) → ((l : ℕ) → l < a + n → p l ≡ true → P (give l)) → AllByRecursion P (map give (filter p (range_with_len a n)))
+all-lines P give p zero a h = tt
+all-lines P give p (suc n) a h =
+    let rest = all-lines P give p n (a + 1) (λ l k. h l (omega arith)) in
+    ⊎_elim
+    (λ (t : p a ≡ true). rw t (h a (omega arith) t, rest))
+    (λ (t : p a ≡ false). rw t rest)
+    (cases_Bool (p a))
+
+-- what holds of all that each element gives
+all-given : {X A : Type 0} (P : A → Type 0) (give : X → List A) (xs : List X) → AllByRecursion (λ x. AllByRecursion P (give x)) xs → AllByRecursion P (flat_map give xs)
+all-given P give [] h = tt
+all-given P give (x ∷ xs) h = all-append P (give x) (flat_map give xs) h.0 (all-given P give xs h.1)
+
+-- ---- the greatest of two lists
+
+-- what is not above that of the first
+in-first : (n : ℕ) (a b : List ℕ) → n ≤ fold max 0 a → n ≤ fold max 0 (a ++ b)
+in-first n a b h = omega (arith, h, greatest-append 0 a b, greatest-any (fold max 0 a) b)
+
+-- what is not above that of the second
+in-second : (n : ℕ) (a b : List ℕ) → n ≤ fold max 0 b → n ≤ fold max 0 (a ++ b)
+in-second n a b h = omega (arith, h, greatest-append 0 a b, greatest-any (fold max 0 a) b)
+
+-- ---- the lines of one label
+
+module _ (f : FileModel) (x : Labelled) where
+  -- where each number has room, all have
+  digits-fit : (m n a : ℕ) → ((l : ℕ) → l < a + n → spans f x l ≡ true → digit_count (f.number l) ≤ m) → AllByRecursion (λ d. d ≤ m) (flat_map (digits_on f x) (range_with_len a n))
+  digits-fit m zero a h = tt
+  digits-fit m (suc n) a h =
+      all-append (λ d. d ≤ m) (digits_on f x a) (flat_map (digits_on f x) (range_with_len (a + 1) n)) (here (spans f x a) (h a (omega arith))) (digits-fit m n (a + 1) (λ l k. h l (omega arith)))
+    where
+      here : (b : Bool) → (b ≡ true → digit_count (f.number a) ≤ m) → AllByRecursion (λ d. d ≤ m) (if b then digit_count (f.number a) ∷ [] else [])
+      here true fits = (fits refl, tt)
+      here false fits = tt
+
+  -- the number of a line that is spanned is counted
+  line-counted : (l n a : ℕ) → a ≤ l → l < a + n → spans f x l ≡ true → digit_count (f.number l) ≤ fold max 0 (flat_map (digits_on f x) (range_with_len a n))
+  line-counted l zero a low high t = absurd (omega arith)
+  line-counted l (suc n) a low high t =
+      ⊎_elim
+      (λ (e : a ≡ l). in-first (digit_count (f.number l)) (digits_on f x a) (flat_map (digits_on f x) (range_with_len (a + 1) n)) (here a e))
+      (λ (ne : a ≡ l → ⊥). in-second (digit_count (f.number l)) (digits_on f x a) (flat_map (digits_on f x) (range_with_len (a + 1) n)) (line-counted l n (a + 1) (omega arith) (omega arith) t))
+      (cases_eq a l)
+    where
+      here : (k : ℕ) → k ≡ l → digit_count (f.number l) ≤ fold max 0 (digits_on f x k)
+      here k e =
+          let one : fold max 0 (digits_on f x l) ≡ max 0 (digit_count (f.number l)) = ap (λ (b : Bool). fold max 0 (if b then digit_count (f.number l) ∷ [] else [])) t in
+          subst (λ i. digit_count (f.number l) ≤ fold max 0 (digits_on f x i)) (sym e) (omega (arith, one))
+
+-- ---- all labels
+
+module _ {Id : Type 0} (same : Id → Id → Bool) (file : Id → FileModel) (o : IsEquivalence same) (one_file : (i j : Id) → same i j ≡ true → file i ≡ file j)
+    (config : Config) (xs : List (InFile Id)) (classic : config.layout ≡ Classic) where
+  -- the ids of the files
+  abbrev ids : List Id
+  ids = file_ids same xs
+
+  -- a file with its labels
+  abbrev labelled : Id → LabelledFile
+  labelled = labelled_file same file xs
+
+  -- the room of the picture
+  abbrev room : ℕ
+  room = padding_of config (labelled_files same file xs)
+
+  -- in the classic layout the numbers of spanned lines count
+  numbered-spanned : (s : LabelledFile) → numbered_lines config s ≡ spanned_lines s
+  numbered-spanned s = ap (λ v. numbered_lines (record config { layout = v }) s) classic
+
+  -- whether some label of a file spans a line
+  spans-any : (id : Id) (l : ℕ) → list_any (λ x. spans (file id) x l) (labelled id).labels ≡ list_any (λ (x : InFile Id). same id x.id && spans (file id) x.label l) xs
+  spans-any id l =
+      any-map (λ x. spans (file id) x l) (λ (x : InFile Id). x.label) (filter (λ (x : InFile Id). same id x.id) xs)
+      ∙ any-filtered (λ (x : InFile Id). spans (file id) x.label l) (λ (x : InFile Id). same id x.id) xs
+
+  -- the number of a line that a label spans has room
+  line-fits : (k : ℕ) (d : InFile Id) → k < length xs → (l : ℕ) → l < line_count (file (get_or xs k d).id) → spans (file (get_or xs k d).id) (get_or xs k d).label l ≡ true
+      → digit_count ((file (get_or xs k d).id).number l) ≤ room
+  line-fits k d inside l low t =
+      let y = get_or xs k d in
+      let f = file_place same ids y.id in
+      let id = get_or ids f y.id in
+      let at : IsIdAt ids f id = at-get ids f y.id (has-place same o ids y.id (file_ids-has same o xs k d inside)) in
+      let alike : same id y.id ≡ true = sym (file_place-at same o xs f id at y.id) ∙ eq-eqb f f refl in
+      let model : file y.id ≡ file id = sym (one_file id y.id alike) in
+      let here : spans (file id) y.label l ≡ true = subst (λ m. spans m y.label l ≡ true) model t in
+      let own : (same id y.id && spans (file id) y.label l) ≡ true = ap (λ b. b && spans (file id) y.label l) alike ∙ here in
+      let any = spans-any id l ∙ list_any_at (λ (x : InFile Id). same id x.id && spans (file id) x.label l) xs k d inside own in
+      let count : l < line_count (file id) = subst (λ m. l < line_count m) model low in
+      subst (λ m. digit_count (m.number l) ≤ room) (sym model)
+      (numbered-fits config (labelled_files same file xs) (labelled id) l (place-contained labelled ids f id at)
+      (subst (λ ls. Contains ls l) (sym (numbered-spanned (labelled id)))
+      (contains-filter (λ n. list_any (λ x. spans (file id) x n) (labelled id).labels) l (range_with_len 0 (line_count (file id))) any
+      (contains-range 0 (line_count (file id)) l (omega arith) (omega (arith, count))))))
+
+  -- so have those of all lines of labels
+  labels-fit : AllByRecursion (λ n. n ≤ room) (all_digits file xs)
+  labels-fit =
+      all-given (λ n. n ≤ room) (λ (x : InFile Id). label_digits (file x.id) x.label) xs
+      (recursion_from_All (λ (x : InFile Id). AllByRecursion (λ n. n ≤ room) (label_digits (file x.id) x.label)) xs
+      (λ k d inside. digits-fit (file (get_or xs k d).id) (get_or xs k d).label room (line_count (file (get_or xs k d).id)) 0
+      (λ l low t. line-fits k d inside l (omega (arith, low)) t)))
+
+  -- the number of a line that some label of the file spans is counted
+  some-counted : (id : Id) (l : ℕ) → l < line_count (file id) → (ys : List (InFile Id)) → list_any (λ (x : InFile Id). same id x.id && spans (file id) x.label l) ys ≡ true
+      → digit_count ((file id).number l) ≤ fold max 0 (all_digits file ys)
+  some-counted id l low [] any = absurd (true≢false (sym any))
+  some-counted id l low (y ∷ ys) any =
+      ⊎_elim
+      (λ (t : (same id y.id && spans (file id) y.label l) ≡ true).
+      let parts = and_parts (same id y.id) (spans (file id) y.label l) t in
+      in-first (digit_count ((file id).number l)) (label_digits (file y.id) y.label) (all_digits file ys)
+      (subst (λ m. digit_count ((file id).number l) ≤ fold max 0 (label_digits m y.label)) (one_file id y.id parts.0)
+      (line-counted (file id) y.label l (line_count (file id)) 0 (omega arith) (omega (arith, low)) parts.1)))
+      (λ (t : (same id y.id && spans (file id) y.label l) ≡ false).
+      in-second (digit_count ((file id).number l)) (label_digits (file y.id) y.label) (all_digits file ys)
+      (some-counted id l low ys (sym (ap (λ b. b || list_any (λ (x : InFile Id). same id x.id && spans (file id) x.label l) ys) t) ∙ any)))
+      (cases_Bool (same id y.id && spans (file id) y.label l))
+
+  -- so is that of each spanned line of the picture
+  lines-counted : AllByRecursion (λ n. n ≤ fold max 0 (all_digits file xs)) (flat_map (λ (s : LabelledFile). digits_of s (numbered_lines config s)) (labelled_files same file xs))
+  lines-counted =
+      subst (AllByRecursion (λ n. n ≤ fold max 0 (all_digits file xs))) (sym (flat_map-map (λ (s : LabelledFile). digits_of s (numbered_lines config s)) labelled ids))
+      (all-places (λ n. n ≤ fold max 0 (all_digits file xs)) (λ id. digits_of (labelled id) (numbered_lines config (labelled id))) ids
+      (λ f id at. subst (λ ls. AllByRecursion (λ n. n ≤ fold max 0 (all_digits file xs)) (digits_of (labelled id) ls)) (sym (numbered-spanned (labelled id)))
+      (all-lines (λ n. n ≤ fold max 0 (all_digits file xs)) (λ l. digit_count ((file id).number l)) (λ l. list_any (λ x. spans (file id) x l) (labelled id).labels)
+      (line_count (file id)) 0 (λ l low t. some-counted id l (omega (arith, low)) xs (sym (spans-any id l) ∙ t)))))
+
+  -- the greatest digit count of the lines of labels is the padding
+  pub spanned-room : fold max 0 (all_digits file xs) ≡ room
+  spanned-room = greatest-same (all_digits file xs) (flat_map (λ (s : LabelledFile). digits_of s (numbered_lines config s)) (labelled_files same file xs)) labels-fit lines-counted

@@ -1,0 +1,111 @@
+-- Labels whose lines are asked for, one after another.
+use Rattle.std.specs.Prelude.{◌≡◌, ℕ, ◌<◌, ◌≤◌, true, List, ◌++◌, flat_map, fold, max, Option, Some}
+use Rattle.codespan_base.specs.declared.diagnostic.Label.{Label}
+use Rattle.codespan_base.specs.declared.files.error.Error.{Error}
+use Rattle.codespan_base.specs.declared.term.config.Config.{Config}
+use Rattle.codespan_base.specs.FileModel.{FileModel, line_count}
+use Rattle.codespan_base.specs.FileModel.Lookup.{LineRange}
+use Rattle.codespan_base.specs.Labels.{Labelled}
+use Rattle.codespan_picture.specs.Lookups.{Refusals, asked_lines, ends_context, first_refusal, is_asked, label_lookups, line_refusal, of_label, of_line, probe}
+use Rattle.codespan_picture.specs.Picture.{label_of}
+use Rattle.codespan_picture.specs.Snippets.{InFile}
+use Rattle.codespan_reporting.specs.declared.term.views.entry.Entry.{Entry as GivenEntry}
+use Rattle.codespan_reporting.specs.declared.term.views.entry.SourceLine.{SourceLine}
+use Rattle.codespan_reporting.specs.declared.term.views.gather.Asking.{Asking}
+use Rattle.codespan_reporting.specs.declared.term.views.gather.FoundLines.{FoundLines}
+use Rattle.codespan_reporting.specs.declared.term.views.gather.LabelPlace.{LabelPlace as GivenPlace}
+use Rattle.codespan_reporting.specs.Inner.Entries.{LabelPlace, Says, entries_of, line_entries}
+use Rattle.codespan_reporting.specs.Inner.FileLookups.{refusal_in}
+use Rattle.codespan_reporting.specs.Inner.GivenEntries.{AddsOf, entries_on, label_place, lookups_on, says_at}
+use Rattle.codespan_reporting.specs.Inner.SpannedDigits.{digits_on, label_digits}
+
+-- what the lookups of these labels are refused with
+abbrev pub labels_refusal : {Id : Type 0} → Config → (Id → FileModel) → Refusals Id → List (InFile Id) → Option Error
+labels_refusal config file refusal xs = first_refusal refusal (label_lookups config file refusal xs)
+
+-- a label in its file, with what the file refuses, the configuration that it is asked for by, and its place among the labels of the diagnostic
+pub record AskedLabel (Id : Type 0) : Type 0 where
+  pub id : Id
+  pub file : FileModel
+  pub refusal : Refusals Id
+  pub config : Config
+  pub at : LabelPlace
+  pub label : Labelled
+
+-- a label of files that is asked for by a configuration
+abbrev pub asked_label : {F Id : Type 0} → (F → Id → FileModel) → (F → Refusals Id) → F → Config → GivenPlace → Label Id → AskedLabel Id
+asked_label file refusal files config at label = record {
+  id = label.file_id;
+  file = file files label.file_id;
+  refusal = refusal files;
+  config = config;
+  at = label_place at;
+  label = (label_of label).label;
+}
+
+-- the label of an asking
+abbrev pub asked_as : {F Id : Type 0} → (F → Id → FileModel) → (F → Refusals Id) → Asking F → Label Id → AskedLabel Id
+asked_as file refusal asking label = asked_label file refusal asking.files.now asking.config.now asking.at label
+
+module _ {Id : Type 0} (x : AskedLabel Id) where
+  -- ---- one line
+
+  -- it asks for the line
+  abbrev pub AsksFor : ℕ → Type 0
+  AsksFor l = is_asked x.config x.file x.label l ≡ true
+
+  -- the file has the line, where the label asks for it
+  abbrev pub HasAskedLine : ℕ → Type 0
+  HasAskedLine l = AsksFor l → l < line_count x.file
+
+  -- what it says of a line was added
+  abbrev pub AddsLine : List GivenEntry → List GivenEntry → ℕ → Type 0
+  AddsLine old new l = AddsOf x.file old new (line_entries x.config x.file x.at x.label l)
+
+  -- what it says of a line was found, where it asks for the line
+  abbrev pub FindsLine : FoundLines → FoundLines → ℕ → Type 0
+  FindsLine old new l = AddsOf x.file old.entries.items new.entries.items (entries_on x.config x.file x.label x.at l)
+
+  -- the padding has grown as far as the number of a line needs, where it spans the line
+  abbrev pub MakesRoomForLine : FoundLines → FoundLines → ℕ → Type 0
+  MakesRoomForLine old new l = new.padding ≡ fold max old.padding (digits_on x.file x.label l)
+
+  -- what the lookups of a line are refused with, where it asks for the line
+  abbrev pub refusal_on : ℕ → Option Error
+  refusal_on l = refusal_in x.refusal x.id (lookups_on x.config x.file x.label l)
+
+  -- ---- all of its lines
+
+  -- what it says of lines was found
+  abbrev pub FindsLines : FoundLines → FoundLines → Type 0
+  FindsLines old new = AddsOf x.file old.entries.items new.entries.items (entries_of x.config x.file x.at x.label)
+
+  -- the padding has grown as far as the numbers of the lines that it spans need
+  abbrev pub MakesRoom : FoundLines → FoundLines → Type 0
+  MakesRoom old new = new.padding ≡ fold max old.padding (label_digits x.file x.label)
+
+  -- what the lookups of the lines that it asks for are refused with
+  abbrev pub lines_refusal : Option Error
+  lines_refusal = refusal_in x.refusal x.id (flat_map of_line (asked_lines x.config x.file x.label) ++ probe x.config x.file (x.refusal x.id) x.label)
+
+  -- what its lookups are refused with, those of the lines of its ends first
+  abbrev pub label_refusal : Option Error
+  label_refusal = refusal_in x.refusal x.id (of_label x.config x.file (x.refusal x.id) x.label)
+
+-- what a label says of a line, by the lines of its ends
+abbrev pub says_by : {F Id : Type 0} → Asking F → Label Id → SourceLine → Option Says
+says_by asking label line =
+    says_at asking.config.now (label_place asking.at) asking.lines.first asking.lines.last line.index line.start (label_of label).label
+
+module _ {F Id : Type 0} (file : F → Id → FileModel) (refusal : F → Refusals Id) (asking : Asking F) where
+  -- the file ends before a line, and the line's range is refused as past the end
+  abbrev pub EndsBefore : Id → ℕ → Type 0
+  EndsBefore id l = (line_count (file asking.files.now id) ≤ l) × (ends_context (refusal asking.files.now id (LineRange l)) ≡ true)
+
+  -- what a line of the file is refused with
+  abbrev pub refusal_at : Id → ℕ → Option Error
+  refusal_at id l = line_refusal (file asking.files.now id) (refusal asking.files.now id) asking.lines.last l
+
+  -- the label asks for a line, which is refused with this error
+  abbrev pub RefusesLine : Label Id → ℕ → Error → Type 0
+  RefusesLine label l e = AsksFor (asked_as file refusal asking label) l × (refusal_at label.file_id l ≡ Some e)

@@ -1,0 +1,19 @@
+-- The digits of the numbers of the lines that labels span, for the room that line numbers have in the classic layout.
+use Rattle.std.specs.Prelude.{ℕ, List, [], ◌∷◌, flat_map, if◌then◌else◌}
+use Rattle.std.specs.List.{range_with_len}
+use Rattle.codespan_base.specs.FileModel.{FileModel, line_count}
+use Rattle.codespan_base.specs.Labels.{Labelled}
+use Rattle.codespan_picture.specs.Padding.{digit_count, spans}
+use Rattle.codespan_picture.specs.Snippets.{InFile}
+
+-- those of a line's number, where the label spans it
+abbrev pub digits_on : FileModel → Labelled → ℕ → List ℕ
+digits_on f x l = if spans f x l then digit_count (f.number l) ∷ [] else []
+
+-- those of all lines of a label
+abbrev pub label_digits : FileModel → Labelled → List ℕ
+label_digits f x = flat_map (digits_on f x) (range_with_len 0 (line_count f))
+
+-- those of all labels
+abbrev pub all_digits : {Id : Type 0} → (Id → FileModel) → List (InFile Id) → List ℕ
+all_digits {Id} file xs = flat_map (λ (x : InFile Id). label_digits (file x.id) x.label) xs

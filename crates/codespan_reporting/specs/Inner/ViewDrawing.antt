@@ -1,0 +1,70 @@
+-- What the views draw by a renderer.
+use Rattle.std.specs.Prelude.{Bool, List, [], ◌∷◌, ◌++◌, Option, None, Result}
+use Rattle.codespan_base.specs.declared.diagnostic.Diagnostic.{Diagnostic}
+use Rattle.codespan_base.specs.declared.files.error.Error.{Error}
+use Rattle.codespan_base.specs.declared.term.config.Config.{Config}
+use Rattle.codespan_base.specs.declared.term.config.DisplayStyle.{DisplayStyle}
+use Rattle.codespan_base.specs.FileModel.{FileModel}
+use Rattle.codespan_base.specs.Streams.{Stream, newline}
+use Rattle.codespan_base.specs.WriterLaw.{Sink}
+use Rattle.codespan_picture.specs.Lookups.{Refusals, first_refusal, late_lookups}
+use Rattle.codespan_picture.specs.Picture.{heading_of, labels_of, look_of, notes_of}
+use Rattle.codespan_picture.specs.Placed.{placed_snippets}
+use Rattle.codespan_picture.specs.Rows.{BlankRow, Place, Row}
+use Rattle.codespan_picture.specs.RowStreams.{header_row, stream_of_rows}
+use Rattle.codespan_picture.specs.Snippets.{InFile, has_any, labelled_files, note_rows, primary_of}
+use Rattle.codespan_renderer.specs.declared.term.renderer.Renderer.{Renderer}
+use Rattle.codespan_renderer.specs.Renderers.{config_of, writer_of}
+use Rattle.codespan_reporting.specs.declared.term.views.rich.RichDiagnostic.{RichDiagnostic}
+use Rattle.codespan_reporting.specs.declared.term.views.sheet.Sheet.{Sheet}
+use Rattle.codespan_reporting.specs.Headline.{DrawsRich, DrawsShort}
+use Rattle.codespan_reporting.specs.Views.{diagnostic_of, view_config_of}
+use Rattle.codespan_reporting.specs.Inner.GivenSheets.{places_of}
+use Rattle.codespan_reporting.specs.Inner.Headers.{DrawsHeaders}
+use Rattle.codespan_reporting.specs.Inner.Rendering.{DrawsRowsAsking}
+
+-- ---- parts
+
+module _ {Id : Type 0} (d : Diagnostic Id) where
+  -- the header, after this place where one is given, with the end of its row
+  abbrev pub header_line : Option Place → Stream
+  header_line place = header_row d.severity place (heading_of d) ++ newline
+
+  -- the last rows of a rich picture: the notes, and an empty one
+  abbrev pub closing_rows : List Row
+  closing_rows = note_rows (notes_of d) ++ BlankRow ∷ []
+
+  -- a rich picture without labels
+  abbrev pub bare_picture : Config → Stream
+  bare_picture config = header_row d.severity None (heading_of d) ++ newline ++ stream_of_rows (look_of config d.severity 0) closing_rows
+
+-- ---- calls
+
+module _ {W F Id : Type 0} (sink : W → Sink) (file : F → Id → FileModel) (refusal : F → Refusals Id) (files : F) where
+  -- the call draws the headers of those of these labels that are primary, and answers whether there is one
+  abbrev pub DrawsHeadersOf : Diagnostic Id → List (InFile Id) → Renderer W → Result Bool Error → Renderer W → Type 0
+  DrawsHeadersOf d xs old r new =
+      DrawsHeaders (config_of old) (file files) (refusal files) d (primary_of xs) (sink (writer_of old)) r (sink (writer_of new))
+
+  module _ (same : Id → Id → Bool) where
+    -- the call draws a diagnostic in short or medium style
+    abbrev pub DrawsInStyle : DisplayStyle → Diagnostic Id → Renderer W → Result (Unit {0}) Error → Renderer W → Type 0
+    DrawsInStyle style d old r new =
+        DrawsShort (config_of old) same (file files) (refusal files) d style (sink (writer_of old)) r (sink (writer_of new))
+
+    module _ (view : RichDiagnostic Id) where
+      -- the call draws the picture of a rich view
+      abbrev pub DrawsView : Renderer W → Result (Unit {0}) Error → Renderer W → Type 0
+      DrawsView old r new =
+          DrawsRich (config_of old) (view_config_of view) same (file files) (refusal files) (diagnostic_of view) (sink (writer_of old)) r (sink (writer_of new))
+
+      -- what the lookups after its header are refused with
+      abbrev pub late_refusal : Option Error
+      late_refusal = first_refusal (refusal files) (late_lookups (view_config_of view) same (file files) (refusal files) (labels_of (diagnostic_of view)))
+
+      -- the call draws its snippets, which start where a sheet says, and makes their lookups
+      abbrev pub DrawsSnippets : Sheet Id → Renderer W → Result (Unit {0}) Error → Renderer W → Type 0
+      DrawsSnippets sheet =
+          let d = diagnostic_of view in
+          DrawsRowsAsking sink late_refusal d.severity sheet.padding
+          (placed_snippets (view_config_of view) (has_any (notes_of d)) (places_of sheet.files.items) (labelled_files same (file files) (labels_of d)))
