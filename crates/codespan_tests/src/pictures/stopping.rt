@@ -5,23 +5,25 @@ use crate::writers::example::TagWriter;
 use codespan_reporting::diagnostic::Diagnostic;
 use codespan_reporting::files::{Error, SimpleFiles};
 use codespan_reporting::term::{
-    Ansi, Config, Styles, StylesWriter, emit, emit_to_io_write, emit_to_write_style,
+    Ansi, Config, DisplayStyle, Renderer, RichDiagnostic, ShortDiagnostic, Styles, StylesWriter,
+    WriteStyle, emit, emit_to_io_write, emit_to_write_style,
 };
 use std::alloc::Global;
 use std::io::Write;
 use std::process::Abort;
 
-/// The calls that emit to a writer: plain text, escape sequences, and the tags of a writer of one's own.
+/// What draws to a writer: the calls that emit, as plain text, escape sequences, and the tags of a writer of one's own; and a view alone.
 #[derive(Clone, Copy, Debug)]
 enum Call {
     IoWrite,
     Emit,
     Ansi,
     Tags,
+    View,
 }
 
 /// Each call with the ways in which its writer stops. Of the old name of a call one is enough; a tag is refused after its first byte.
-const CALLS: [(Call, Stop); 10] = [
+const CALLS: [(Call, Stop); 12] = [
     (Call::IoWrite, Stop::Refuses),
     (Call::IoWrite, Stop::IsInterrupted),
     (Call::IoWrite, Stop::TakesNothing),
@@ -32,6 +34,8 @@ const CALLS: [(Call, Stop); 10] = [
     (Call::Ansi, Stop::TakesNothing),
     (Call::Ansi, Stop::TakesOneByte),
     (Call::Tags, Stop::TakesOneByte),
+    (Call::View, Stop::Refuses),
+    (Call::View, Stop::TakesOneByte),
 ];
 
 /// More writes than any drawing makes.
@@ -58,6 +62,26 @@ fn draw_by<W: Write>(call: Call, w: &mut W, drawn: &Drawn<'_, '_>) -> Result<(),
         Call::Tags => {
             let mut writer = TagWriter::new(w);
             emit_to_write_style(&mut writer, drawn.config, drawn.files, drawn.diagnostic)
+        }
+        Call::View => {
+            let mut writer = StylesWriter::new(Ansi::new(w), &styles);
+            draw_by_view(&mut writer, drawn)
+        }
+    }
+}
+
+/// Draws by the view of the style.
+fn draw_by_view<W: WriteStyle>(w: &mut W, drawn: &Drawn<'_, '_>) -> Result<(), Error> {
+    let mut renderer = Renderer::new(w, drawn.config);
+    match drawn.config.display_style {
+        DisplayStyle::Rich => {
+            RichDiagnostic::new(drawn.diagnostic, drawn.config).render(drawn.files, &mut renderer)
+        }
+        DisplayStyle::Medium => {
+            ShortDiagnostic::new(drawn.diagnostic, true).render(drawn.files, &mut renderer)
+        }
+        DisplayStyle::Short => {
+            ShortDiagnostic::new(drawn.diagnostic, false).render(drawn.files, &mut renderer)
         }
     }
 }
