@@ -1,6 +1,11 @@
 """The cases of the gallery, and what the comparison program says of them."""
+import pathlib
 import re
 import subprocess
+
+ROOT = pathlib.Path(__file__).resolve().parents[2]
+PICTURES = ROOT / 'docs/pictures'
+GALLERY = ROOT / 'crates/gallery'
 
 LETTERS = {'n': '\n', 'r': '\r', 't': '\t', '0': '\0', '\\': '\\'}
 THEIRS = {**LETTERS, 's': ' ', 'e': ''}
@@ -105,3 +110,14 @@ def outcomes(oracle, cases):
         kind, *texts = outcome.split(' ')
         assert kind in ('ok', 'err'), (case.name, outcome)
         yield kind, [unescaped(text, THEIRS) for text in texts]
+
+
+def section(name):
+    """What stands under a name in the stored output."""
+    text = '\n' + (GALLERY / 'stdout').read_bytes().decode()
+    return text.split('\n== %s\n' % name, 1)[1].split('\n== ', 1)[0].rstrip('\n') + '\n'
+
+
+def svg_cases():
+    """The cases whose colours are `svg`."""
+    return [case for case in read_cases((GALLERY / 'stdin').read_bytes().decode()) if case.looks['colours'] == 'svg']
