@@ -129,7 +129,7 @@ module _ {Id : Type 0} (same : Id → Id → Bool) (file : Id → FileModel) (ta
   pub numbers-are : (refusal : Refusals Id) → planned_lookups config.layout es gathered.ids.items
       ≡ flat_map (λ id. asked_of id (numbers_for_padding config same file refusal xs config.layout id)) (file_ids same xs)
   numbers-are refusal =
-      ap (planned_lookups config.layout es) all.ids_are
+      ap (planned_lookups config.layout es) all.files.ids_are
       ∙ by_place-same (λ k id. asked_of id (numbers_asked config.layout (fills_of (steps_at es k)))) (λ id. asked_of id (numbers_for_padding config same file refusal xs config.layout id)) 0 (file_ids same xs)
       (λ i id at. let e : 0 + i ≡ i = omega arith in
       ap (λ k. asked_of id (numbers_asked config.layout (fills_of (steps_at es k)))) e
@@ -153,10 +153,10 @@ module _ {Id : Type 0} (same : Id → Id → Bool) (file : Id → FileModel) (ta
     file-plan : IsFilePlan config (labelled id) plan
     file-plan = record {
       lanes_are =
-          is.lanes_are ∙ ap (λ (own : List (List Lane)). get_or own k (lanes_given plan.lanes.now)) (all.lanes_are ∙ ap (map (lanes_in same file xs)) all.ids_are)
+          is.lanes_are ∙ ap (λ (own : List (List Lane)). get_or own k (lanes_given plan.lanes.now)) (all.files.lanes_are ∙ ap (map (lanes_in same file xs)) all.files.ids_are)
           ∙ at-map (lanes_in same file xs) (file_ids same xs) k id (lanes_given plan.lanes.now) at;
       starts =
-          ap start_byte (is.start_is ∙ ap (λ (ss : List FileStart). get_or ss k plan.start) (starts_are ∙ ap (map (file_start same xs)) all.ids_are) ∙ at-map (file_start same xs) (file_ids same xs) k id plan.start at)
+          ap start_byte (is.start_is ∙ ap (λ (ss : List FileStart). get_or ss k plan.start) (starts_are ∙ ap (map (file_start same xs)) all.files.ids_are) ∙ at-map (file_start same xs) (file_ids same xs) k id plan.start at)
           ∙ start-is same file id xs;
       each = steps_of-file config.layout (file id) plan.steps.items steps-in;
       fits = subst DoFit (sym steps-are) (snippet-fits same file table.equivalence table.one_file table.some_line config xs es all.permutation all.sorted k id at);
@@ -218,7 +218,7 @@ module _ {Id : Type 0} (same : Id → Id → Bool) (file : Id → FileModel) (ta
   module _ (plans : List (FilePlan Id)) (found : ArePlans config.layout file es lanes starts 0 gathered.ids.items plans) where
     -- they are in the order of the files
     are : ArePlans config.layout file es lanes starts 0 (file_ids same xs) plans
-    are = subst (λ (ids : List Id). ArePlans config.layout file es lanes starts 0 ids plans) all.ids_are found
+    are = subst (λ (ids : List Id). ArePlans config.layout file es lanes starts 0 ids plans) all.files.ids_are found
 
     -- the ids of all plans
     pub plan_ids : map (λ (p : FilePlan Id). p.id) plans ≡ file_ids same xs
@@ -230,7 +230,7 @@ module _ {Id : Type 0} (same : Id → Id → Bool) (file : Id → FileModel) (ta
 
     -- in the classic layout the labels tell the room for numbers
     pub spanned-padding : config.layout ≡ Classic → (padding : ℕ) → padding ≡ gathered.padding → padding ≡ padding_of config (labelled_files same file xs)
-    spanned-padding classic padding is = is ∙ all.padding_is ∙ spanned-room same file table.equivalence table.one_file config xs classic
+    spanned-padding classic padding is = is ∙ all.files.padding_is ∙ spanned-room same file table.equivalence table.one_file config xs classic
 
     -- in the unbroken layout the plans do
     pub drawn-padding : config.layout ≡ Unbroken → (padding : ℕ) → padding ≡ fold max 0 (flat_map plan_digits plans) → padding ≡ padding_of config (labelled_files same file xs)

@@ -24,13 +24,10 @@ module _ {Id : Type 0} (same : Id → Id → Bool) (file : Id → FileModel) (co
   pub gathered-in_order : (was : Gathered Id) (entries : Vec GivenEntry Global) → IsGatheredInTurn same file config xs was → IsPermutation was.entries.items entries.items → IsSortedBy is_below (map entry_of entries.items)
       → IsGathered same file config xs (record was { entries = entries })
   gathered-in_order was entries g perm up = record {
-    ids_are = g.ids_are;
-    places_are = g.places_are;
-    lanes_are = g.lanes_are;
+    files = record { ids_are = g.files.ids_are; places_are = g.files.places_are; lanes_are = g.files.lanes_are; padding_is = g.files.padding_is };
     sorted = up;
     permutation = gathered-sorted (all_entries same file config xs) was.entries.items entries.items (gathered-says (IsOfFiles file was.ids.items) was.entries.items (all_entries same file config xs) g.adds) perm;
     lines = gathered-each (IsOfFiles file was.ids.items) was.entries.items entries.items (all_entries same file config xs) g.adds perm;
-    padding_is = g.padding_is;
   }
 
   module _ (refusal : Refusals Id) where

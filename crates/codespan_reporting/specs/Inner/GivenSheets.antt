@@ -51,23 +51,24 @@ pub record IsPlacedPlan {Id : Type 0} (file : Id → FileModel) (plan : FilePlan
   pub place : IsPlaceIn (file plan.id) (start_byte plan.start) (place_of_given placed.locus)
 
 module _ {Id : Type 0} (same : Id → Id → Bool) (file : Id → FileModel) where
-  -- this was gathered of these labels, one after another
-  pub record IsGatheredInTurn (config : Config) (xs : List (InFile Id)) (gathered : Gathered Id) : Type 0 where
+  -- the files of these labels were gathered: their ids, in which file each label is, the lanes of each, and the room for the numbers of lines
+  pub record AreFilesGathered (xs : List (InFile Id)) (gathered : Gathered Id) : Type 0 where
     pub ids_are : gathered.ids.items ≡ file_ids same xs
     pub places_are : gathered.places.items ≡ label_places same gathered.ids.items xs
     pub lanes_are : all_lanes_given gathered.lanes.items ≡ map (lanes_in same file xs) gathered.ids.items
-    pub adds : Adds (IsOfFiles file gathered.ids.items) [] gathered.entries.items (all_entries same file config xs)
     pub padding_is : gathered.padding ≡ fold max 0 (all_digits file xs)
+
+  -- this was gathered of these labels, one after another
+  pub record IsGatheredInTurn (config : Config) (xs : List (InFile Id)) (gathered : Gathered Id) : Type 0 where
+    pub files : AreFilesGathered xs gathered
+    pub adds : Adds (IsOfFiles file gathered.ids.items) [] gathered.entries.items (all_entries same file config xs)
 
   -- this was gathered of these labels, and is in order
   pub record IsGathered (config : Config) (xs : List (InFile Id)) (gathered : Gathered Id) : Type 0 where
-    pub ids_are : gathered.ids.items ≡ file_ids same xs
-    pub places_are : gathered.places.items ≡ label_places same gathered.ids.items xs
-    pub lanes_are : all_lanes_given gathered.lanes.items ≡ map (lanes_in same file xs) gathered.ids.items
+    pub files : AreFilesGathered xs gathered
     pub sorted : IsSortedBy is_below (map entry_of gathered.entries.items)
     pub permutation : IsPermutation (all_entries same file config xs) (map entry_of gathered.entries.items)
     pub lines : AllByRecursion (IsOfFiles file gathered.ids.items) gathered.entries.items
-    pub padding_is : gathered.padding ≡ fold max 0 (all_digits file xs)
 
   -- the sheet is that of these labels
   pub record IsPrepared (config : Config) (xs : List (InFile Id)) (sheet : Sheet Id) : Type 0 where

@@ -96,12 +96,14 @@ returns-clause-gathered g c =
     let ids = c.in_ok-of_labels.of_labels.ids.items in
     let done = all_done g c in
     record {
-      ids_are = c.in_ok-of_labels.ensures.ids;
-      places_are = c.in_ok-of_labels.ensures.places;
-      lanes_are = done.lanes_are;
+      files = record {
+        ids_are = c.in_ok-of_labels.ensures.ids;
+        places_are = c.in_ok-of_labels.ensures.places;
+        lanes_are = done.lanes_are;
+        padding_is = done.counted;
+      };
       adds = subst (λ js. Adds (IsOfFiles file ids) [] c.loop-place.found.entries.items (entries_after g.F.FileId.PartialEq.eq file c.args.config.now js [] (map label_of c.args.labels.now)))
           c.in_ok-of_labels.ensures.ids done.added;
-      padding_is = done.counted;
     }
 
 pub returns-clause-refused : goal.returns-clause-refused

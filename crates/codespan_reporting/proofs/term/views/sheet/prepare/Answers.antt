@@ -26,7 +26,7 @@ are_files g κs claim files = record {
 pub plan_files-requires : goal.plan_files-requires
 plan_files-requires g c κs =
     let starts = ap length (c.deref.ensures.value ∙ c.in_ok-starts.ensures.starts) ∙ length-map c.args.gathered.now.ids.items _ in
-    let lanes = sym (length-map c.args.gathered.now.lanes.items _) ∙ ap length c.requires.lanes_are ∙ length-map c.args.gathered.now.ids.items _ in
+    let lanes = sym (length-map c.args.gathered.now.lanes.items _) ∙ ap length c.requires.files.lanes_are ∙ length-map c.args.gathered.now.ids.items _ in
     ((refl, tt), (c.requires.sorted, (c.requires.lines, (lanes, starts))))
 
 pub returns-in_err-plans-clause-refused : goal.returns-in_err-plans-clause-refused
