@@ -220,7 +220,7 @@ const AT_ONCE: usize = 32;
 fn blank_lanes(row: LaneRow<'_>, lane: usize, until: usize) -> usize
     ensures bare { (other : ℕ) → lane ≤ other → other < lane + result → row_crossing (row_of_given row.entry) other ≡ None }
     ensures within { lane + result ≤ max lane until }
-    ensures few { result ≤ 32 }
+    ensures few { result ≤ AT_ONCE }
 {
     let end = match row {
         LaneRow::Underline(turning, _, _) => until.min(turning.saturating_add(1)),
