@@ -8,8 +8,10 @@ use Rattle.std.proofs.lemmas.List.{append-nil, append_assoc, map-append}
 use Rattle.std.proofs.lemmas.List.Elements.{filter-append}
 use Rattle.codespan_base.specs.declared.term.config.Config.{Config}
 use Rattle.codespan_base.specs.FileModel.{FileModel}
-use Rattle.codespan_base.specs.Labels.{Labelled, is_single, multi_labels}
+use Rattle.codespan_base.specs.Labels.{Labelled, first_line, is_single, last_line, multi_labels}
+use Rattle.codespan_reporting.specs.declared.term.views.label_lines.LabelLines.{LabelLines}
 use Rattle.codespan_reporting.specs.Inner.Entries.{Entry, entries_of}
+use Rattle.codespan_reporting.specs.Inner.LabelledFiles.{lanes_by}
 use Rattle.codespan_reporting.specs.Inner.Lanes.{Lane, file_lanes, lane_of, lanes_in}
 use Rattle.codespan_reporting.specs.Inner.PlacedLabels.{file_place, place_after, entries_after}
 use Rattle.codespan_picture.specs.Snippets.{InFile}
@@ -20,13 +22,13 @@ use Rattle.codespan_reporting.proofs.FilePlaces.{Differ, place-here, place-later
 abbrev pub label_lanes : FileModel → Labelled → List Lane
 label_lanes f x = map (lane_of f) (multi_labels f (x ∷ []))
 
--- a label inside one line takes none
-pub label_lanes-none : (f : FileModel) (x : Labelled) → is_single f x ≡ true → label_lanes f x ≡ []
-label_lanes-none f x single = ap (λ b. map (lane_of f) (cond (not b) (x ∷ []) [])) single
-
--- another one takes its own
-pub label_lanes-one : (f : FileModel) (x : Labelled) → is_single f x ≡ false → label_lanes f x ≡ lane_of f x ∷ []
-label_lanes-one f x multi = ap (λ b. map (lane_of f) (cond (not b) (x ∷ []) [])) multi
+-- that is the one by the lines that it starts and ends on
+pub lanes_by-are : (f : FileModel) (x : Labelled) (lines : LabelLines) → lines.first ≡ first_line f x → lines.last ≡ last_line f x → lanes_by lines x ≡ label_lanes f x
+lanes_by-are f x lines first last = (λ i. lanes_by (record { first = first i; last = last i }) x) ∙ by (is_single f x)
+  where
+    by : (b : Bool) → (if b then [] else lane_of f x ∷ []) ≡ map (lane_of f) (cond (not b) (x ∷ []) [])
+    by true = refl
+    by false = refl
 
 module _ {Id : Type 0} (same : Id → Id → Bool) (o : IsEquivalence same) where
   -- an id that is the same as that of one of these has a place among them

@@ -1,20 +1,24 @@
 -- What the labels of a diagnostic say, gathered one label after another.
 use Rattle.std.proofs.Common.{◌≡◌, ℕ, ◌+◌, ◌<◌, ◌≤◌, Bool, true, List, [], ◌∷◌, ◌++◌, length, take, drop, get_or, set, map, Some, None, refl, sym, ap, ◌∙◌, subst, arith}
-use Rattle.std.specs.Prelude.{flat_map, fold, max, replicate, if◌then◌else◌}
+use Rattle.std.specs.Prelude.{flat_map, fold, max, if◌then◌else◌}
 use Rattle.std.specs.Cmp.{IsEquivalence}
 use Rattle.std.specs.List.{AllByRecursion}
 use Rattle.std.proofs.lemmas.Bool.{eq-eqb}
 use Rattle.std.proofs.lemmas.Grind.{flat_map-append}
-use Rattle.std.proofs.lemmas.List.{append-nil, length-map, length-take-le, map-append, set-get_or, take-append-drop, take_all}
+use Rattle.std.proofs.lemmas.List.{append-nil, length-map, length-take-le, map-append, take-append-drop, take_all}
 use Rattle.codespan_base.specs.declared.term.config.Config.{Config}
 use Rattle.codespan_base.specs.declared.diagnostic.Label.{Label}
 use Rattle.codespan_base.specs.declared.files.error.Error.{Error}
 use Rattle.codespan_base.specs.FileModel.{FileModel}
 use Rattle.codespan_reporting.specs.declared.term.views.entry.Entry.{Entry as GivenEntry}
+use Rattle.codespan_reporting.specs.declared.term.views.file_order.LabelledFile.{LabelledFile as GivenFile}
 use Rattle.codespan_reporting.specs.declared.term.views.gather.FoundLines.{FoundLines}
+use Rattle.codespan_reporting.specs.declared.term.views.loci.FileStart.{FileStart}
 use Rattle.codespan_reporting.specs.Inner.Entries.{Entry, LabelPlace, entries_of}
 use Rattle.codespan_reporting.specs.Inner.GivenEntries.{Adds, AddsOf, IsLineOf, IsOfFiles, entry_of}
+use Rattle.codespan_reporting.specs.Inner.LabelledFiles.{IsTold, all_lanes_given, ids_given, lanes_told, start_told, starts_given}
 use Rattle.codespan_reporting.specs.Inner.Lanes.{Lane, lanes_in}
+use Rattle.codespan_reporting.specs.Inner.Loci.{file_start, no_start}
 use Rattle.codespan_picture.specs.Lookups.{Refusals, asked_of, first_refusal, label_asked, label_lookups, of_label}
 use Rattle.codespan_picture.specs.Picture.{label_of}
 use Rattle.codespan_reporting.specs.Inner.PlacedLabels.{IsIdAt, entries_after, file_ids, file_place, label_places, place_after}
@@ -27,22 +31,16 @@ use Rattle.codespan_reporting.proofs.Gathering.{Adds-as, Adds-both}
 use Rattle.codespan_reporting.proofs.LabelEntries.{all-of_file}
 use Rattle.codespan_reporting.proofs.LabelPlaces.{entries_after-more, kept-at, label_lanes, lanes_in-alike, lanes_in-more, set-at}
 use Rattle.codespan_reporting.proofs.LabelFiles.{label_place-at}
+use Rattle.codespan_reporting.proofs.LocusStarts.{starts-set}
 use Rattle.codespan_reporting.proofs.LabelTurns.{IsLabelTurn, before, before-more, file-inside, has-file, ids-differ}
 use Rattle.codespan_reporting.proofs.Refusals.{first_refusal-none, first_refusal-some}
 
--- no file has a lane before the first label
-none-are : {X : Type 0} (xs : List X) → map {B = List Lane} (λ _. []) xs ≡ replicate (length xs) []
-none-are [] = refl
-none-are (x ∷ xs) = ap (λ (lanes : List (List Lane)). [] ∷ lanes) (none-are xs)
-
--- where a label takes no lane the lanes stay
-pub lanes-stay : (lanes : List (List Lane)) (at : ℕ) (own : List Lane) → own ≡ [] → lanes ≡ set lanes at (get_or lanes at [] ++ own)
-lanes-stay lanes at own none = sym (set-get_or lanes at []) ∙ ap (set lanes at) (sym (append-nil (get_or lanes at []))) ∙ ap (λ (ls : List Lane). set lanes at (get_or lanes at [] ++ ls)) (sym none)
-
--- these labels are done with: their lanes and what they say are there, the lines that they span have room, and no lookup was refused
+-- these labels are done with: each file has what they tell, what they say is there, the lines that they span have room, and no lookup was refused
 pub record AreGathered {Id : Type 0} (same : Id → Id → Bool) (file : Id → FileModel) (refusal : Refusals Id) (config : Config) (ids : List Id)
-    (done : List (InFile Id)) (lanes : List (List Lane)) (found : FoundLines) : Type 0 where
-  pub lanes_are : lanes ≡ map (lanes_in same file done) ids
+    (done : List (InFile Id)) (files : List (GivenFile Id)) (found : FoundLines) : Type 0 where
+  pub ids_are : ids_given files ≡ ids
+  pub starts_are : starts_given files ≡ map (file_start same done) ids
+  pub lanes_are : all_lanes_given files ≡ map (lanes_in same file done) ids
   pub added : Adds (IsOfFiles file ids) [] found.entries.items (entries_after same file config ids [] done)
   pub counted : found.padding ≡ fold max 0 (all_digits file done)
   pub answered : first_refusal refusal (label_lookups config file refusal done) ≡ None
@@ -50,7 +48,7 @@ pub record AreGathered {Id : Type 0} (same : Id → Id → Bool) (file : Id → 
 module _ {Id : Type 0} (same : Id → Id → Bool) (file : Id → FileModel) (o : IsEquivalence same) (one_file : (i j : Id) → same i j ≡ true → file i ≡ file j)
     (refusal : Refusals Id) (config : Config) (labels : List (Label Id)) (ids : List Id) (are : ids ≡ file_ids same (map label_of labels)) where
   -- the labels before this place are done with
-  abbrev Are : ℕ → List (List Lane) → FoundLines → Type 0
+  abbrev Are : ℕ → List (GivenFile Id) → FoundLines → Type 0
   Are place = AreGathered same file refusal config ids (before labels place)
 
   module _ (place : ℕ) (label : Label Id) (inside : place < length labels) (is : label ≡ get_or labels place label) where
@@ -67,9 +65,9 @@ module _ {Id : Type 0} (same : Id → Id → Bool) (file : Id → FileModel) (o 
     before-length = length-map (take place labels) label_of ∙ length-take-le place labels (omega arith)
 
     -- the lanes that are kept at its file's place are those of its file
-    lanes-kept : (lanes : List (List Lane)) (found : FoundLines) → Are place lanes found
-        → get_or lanes (file_place same ids label.file_id) [] ≡ lanes_in same file (before labels place) label.file_id
-    lanes-kept lanes found g =
+    lanes-kept : (files : List (GivenFile Id)) (found : FoundLines) → Are place files found
+        → get_or (all_lanes_given files) (file_place same ids label.file_id) [] ≡ lanes_in same file (before labels place) label.file_id
+    lanes-kept files found g =
         ap (λ (all : List (List Lane)). get_or all (file_place same ids label.file_id) []) g.lanes_are
         ∙ kept-at same o (lanes_in same file (before labels place)) (lanes_in-alike same o file one_file (before labels place)) ids label.file_id [] (has-file same o labels ids place label turn)
 
@@ -91,10 +89,10 @@ module _ {Id : Type 0} (same : Id → Id → Bool) (file : Id → FileModel) (o 
     here-is = λ i. record { file = file_place same ids label.file_id; place = sym before-length i }
 
     -- what the label says was added
-    added-more : (lanes : List (List Lane)) (found more : FoundLines) → Are place lanes found
+    added-more : (files : List (GivenFile Id)) (found more : FoundLines) → Are place files found
         → AddsOf (file label.file_id) found.entries.items more.entries.items (entries_of config (file label.file_id) here (label_of label).label)
         → Adds (IsOfFiles file ids) [] more.entries.items (entries_after same file config ids [] (before labels (place + 1)))
-    added-more lanes found more g adds =
+    added-more files found more g adds =
         let f = file label.file_id in
         let x = (label_of label).label in
         let own : AllByRecursion (λ (e : GivenEntry). e.file ≡ file_place same ids label.file_id) adds.more =
@@ -115,9 +113,9 @@ module _ {Id : Type 0} (same : Id → Id → Bool) (file : Id → FileModel) (o 
         (Adds-both (IsOfFiles file ids) [] _ _ _ _ g.added widened)
 
     -- the lines that it spans have room
-    counted-more : (lanes : List (List Lane)) (found more : FoundLines) → Are place lanes found
+    counted-more : (files : List (GivenFile Id)) (found more : FoundLines) → Are place files found
         → more.padding ≡ fold max found.padding (label_digits (file label.file_id) (label_of label).label) → more.padding ≡ fold max 0 (all_digits file (before labels (place + 1)))
-    counted-more lanes found more g counts =
+    counted-more files found more g counts =
         let digits : InFile Id → List ℕ = λ x. label_digits (file x.id) x.label in
         counts ∙ ap (λ n. fold max n (digits (label_of label))) g.counted
         ∙ sym (greatest-append 0 (all_digits file (before labels place)) (digits (label_of label)))
@@ -131,12 +129,12 @@ module _ {Id : Type 0} (same : Id → Id → Bool) (file : Id → FileModel) (o 
     lanes-more j = ap (λ xs. lanes_in same file xs j) one_more ∙ lanes_in-more same o file (before labels place) (label_of label) j
 
     -- the label's file has its lane too, and no other file's lanes change
-    lanes-next : (lanes next : List (List Lane)) (found : FoundLines) → Are place lanes found
-        → next ≡ set lanes (file_place same ids label.file_id) (get_or lanes (file_place same ids label.file_id) [] ++ label_lanes (file label.file_id) (label_of label).label)
-        → next ≡ map (lanes_in same file (before labels (place + 1))) ids
-    lanes-next lanes next found g changed =
+    lanes-next : (files next : List (GivenFile Id)) (found : FoundLines) → Are place files found
+        → all_lanes_given next ≡ lanes_told (all_lanes_given files) (file_place same ids label.file_id) (label_lanes (file label.file_id) (label_of label).label)
+        → all_lanes_given next ≡ map (lanes_in same file (before labels (place + 1))) ids
+    lanes-next files next found g changed =
         let own = label_lanes (file label.file_id) (label_of label).label in
-        changed ∙ (λ i. set (g.lanes_are i) (file_place same ids label.file_id) (lanes-kept lanes found g i ++ own))
+        changed ∙ (λ i. set (g.lanes_are i) (file_place same ids label.file_id) (lanes-kept files found g i ++ own))
         ∙ set-at same o (lanes_in same file (before labels place)) (lanes_in same file (before labels (place + 1))) label.file_id _
         (λ j t. lanes-more j
         ∙ ap (λ (b : Bool). lanes_in same file (before labels place) j ++ (if b then label_lanes (file j) (label_of label).label else [])) t
@@ -150,24 +148,28 @@ module _ {Id : Type 0} (same : Id → Id → Bool) (file : Id → FileModel) (o 
     place-found places at made found = found ∙ ap (λ ns. get_or ns place at) made ∙ label_place-at same ids labels place at label inside is
 
     -- it is below the number of the files
-    pub place-inside : (lanes : List (List Lane)) (found : FoundLines) (at : ℕ) → Are place lanes found → at ≡ file_place same ids label.file_id → at < length lanes
-    place-inside lanes found at g here =
+    pub place-inside : (files : List (GivenFile Id)) (found : FoundLines) (at : ℕ) → Are place files found → at ≡ file_place same ids label.file_id → at < length files
+    place-inside files found at g here =
         let low = file-inside same o labels ids place label turn in
-        let long : length lanes ≡ length ids = ap length g.lanes_are ∙ length-map ids _ in
+        let long : length files ≡ length ids = sym (length-map files _) ∙ ap length g.ids_are in
         omega (arith, low, here, long)
 
     -- one more label, whose file is at this place
-    pub gathered-more : (at : ℕ) → at ≡ file_place same ids label.file_id → (lanes next : List (List Lane)) (found more : FoundLines) → Are place lanes found
+    pub gathered-more : (at : ℕ) → at ≡ file_place same ids label.file_id → (files next : List (GivenFile Id)) (found more : FoundLines) → Are place files found
         → AddsOf (file label.file_id) found.entries.items more.entries.items (entries_of config (file label.file_id) (record { file = at; place = place }) (label_of label).label)
         → more.padding ≡ fold max found.padding (label_digits (file label.file_id) (label_of label).label)
-        → next ≡ set lanes at (get_or lanes at [] ++ label_lanes (file label.file_id) (label_of label).label)
+        → ids_given next ≡ ids_given files
+        → starts_given next ≡ start_told (starts_given files) at (label_of label).label
+        → all_lanes_given next ≡ lanes_told (all_lanes_given files) at (label_lanes (file label.file_id) (label_of label).label)
         → first_refusal refusal (asked_of label.file_id (of_label config (file label.file_id) (refusal label.file_id) (label_of label).label)) ≡ None
         → Are (place + 1) next more
-    gathered-more at is_at lanes next found more g adds counts changed none = record {
-      lanes_are = lanes-next lanes next found g (subst (λ k. next ≡ set lanes k (get_or lanes k [] ++ label_lanes (file label.file_id) (label_of label).label)) is_at changed);
-      added = added-more lanes found more g
+    gathered-more at is_at files next found more g adds counts kept started laned none = record {
+      ids_are = kept ∙ g.ids_are;
+      starts_are = starts-set same o labels ids place label turn (starts_given files) g.starts_are no_start (starts_given next) (started ∙ ap (λ k. start_told (starts_given files) k (label_of label).label) is_at);
+      lanes_are = lanes-next files next found g (laned ∙ ap (λ k. lanes_told (all_lanes_given files) k (label_lanes (file label.file_id) (label_of label).label)) is_at);
+      added = added-more files found more g
           (subst (λ k. AddsOf (file label.file_id) found.entries.items more.entries.items (entries_of config (file label.file_id) (record { file = k; place = place }) (label_of label).label)) is_at adds);
-      counted = counted-more lanes found more g counts;
+      counted = counted-more files found more g counts;
       answered =
           ap (λ xs. first_refusal refusal (label_lookups config file refusal xs)) one_more
           ∙ ap (first_refusal refusal) (flat_map-append (label_asked config file refusal) (before labels place) (label_of label ∷ []))
@@ -176,10 +178,10 @@ module _ {Id : Type 0} (same : Id → Id → Bool) (file : Id → FileModel) (o 
     }
 
     -- a label whose lookups are refused
-    pub gathered-refused : (lanes : List (List Lane)) (found : FoundLines) (e : Error) → Are place lanes found
+    pub gathered-refused : (files : List (GivenFile Id)) (found : FoundLines) (e : Error) → Are place files found
         → first_refusal refusal (asked_of label.file_id (of_label config (file label.file_id) (refusal label.file_id) (label_of label).label)) ≡ Some e
         → first_refusal refusal (label_lookups config file refusal (map label_of labels)) ≡ Some e
-    gathered-refused lanes found e g some =
+    gathered-refused files found e g some =
         let rest = map label_of (drop (place + 1) labels) in
         let whole : map label_of labels ≡ (before labels place ++ label_of label ∷ []) ++ rest =
         ap (map label_of) (sym (take-append-drop (place + 1) labels)) ∙ map-append label_of (take (place + 1) labels) (drop (place + 1) labels)
@@ -193,15 +195,27 @@ module _ {Id : Type 0} (same : Id → Id → Bool) (file : Id → FileModel) (o 
         ∙ ap (first_refusal refusal) (append-nil (label_asked config file refusal (label_of label))) ∙ some)
 
   -- before the first label
-  pub gathered-none : (lanes : List (List Lane)) (found : FoundLines) → lanes ≡ replicate (length ids) [] → found.entries.items ≡ [] → found.padding ≡ 0 → Are 0 lanes found
-  gathered-none lanes found empty no_entry no_room = record {
-    lanes_are = empty ∙ sym (none-are ids);
+  pub gathered-none : (files : List (GivenFile Id)) (found : FoundLines) → ids_given files ≡ ids → starts_given files ≡ map (λ _. no_start) (ids_given files)
+      → all_lanes_given files ≡ map (λ _. []) (ids_given files) → found.entries.items ≡ [] → found.padding ≡ 0 → Are 0 files found
+  gathered-none files found named unknown bare no_entry no_room = record {
+    ids_are = named;
+    starts_are = unknown ∙ ap (map (λ _. no_start)) named;
+    lanes_are = bare ∙ ap (map (λ _. [])) named;
     added = record { more = []; whole = no_entry; say = refl; each = tt };
     counted = no_room;
     answered = refl;
   }
 
   -- after the last one
-  pub gathered-all : (place : ℕ) (lanes : List (List Lane)) (found : FoundLines) → length labels ≤ place → Are place lanes found
-      → AreGathered same file refusal config ids (map label_of labels) lanes found
-  gathered-all place lanes found past g = subst (λ xs. AreGathered same file refusal config ids (map label_of xs) lanes found) (take_all place labels past) g
+  pub gathered-all : (place : ℕ) (files : List (GivenFile Id)) (found : FoundLines) → length labels ≤ place → Are place files found
+      → AreGathered same file refusal config ids (map label_of labels) files found
+  gathered-all place files found past g = subst (λ xs. AreGathered same file refusal config ids (map label_of xs) files found) (take_all place labels past) g
+
+-- each file has what the labels tell of it
+pub each-told : {Id : Type 0} (same : Id → Id → Bool) (file : Id → FileModel) (xs : List (InFile Id)) (files : List (GivenFile Id))
+    → starts_given files ≡ map (file_start same xs) (ids_given files) → all_lanes_given files ≡ map (lanes_in same file xs) (ids_given files) → AllByRecursion (IsTold same file xs) files
+each-told same file xs [] starts lanes = tt
+each-told same file xs (f ∷ fs) starts lanes = (
+  record { start_is = ap (λ (ss : List FileStart). get_or ss 0 f.start) starts; lanes_are = ap (λ (ls : List (List Lane)). get_or ls 0 []) lanes },
+  each-told same file xs fs (ap (drop 1) starts) (ap (drop 1) lanes),
+)

@@ -1,6 +1,6 @@
 -- The least start of a file's labels, and the places at which snippets start.
-use Rattle.std.proofs.Common.{◌≡◌, ℕ, ◌+◌, Bool, true, false, cond, not, ◌&&◌, ◌||◌, List, [], ◌∷◌, ◌++◌, length, get_or, set, map, filter, Option, Some, None, refl, sym, ap, ◌∙◌, append-nil}
-use Rattle.std.specs.Prelude.{IfSome, string_bytes, min, replicate, unwrap_or, if◌then◌else◌}
+use Rattle.std.proofs.Common.{◌≡◌, ℕ, ◌+◌, Bool, true, false, cond, not, ◌&&◌, ◌||◌, List, [], ◌∷◌, ◌++◌, get_or, set, map, filter, Option, Some, None, refl, sym, ap, ◌∙◌, append-nil}
+use Rattle.std.specs.Prelude.{IfSome, string_bytes, min, unwrap_or, if◌then◌else◌}
 use Rattle.std.specs.Cmp.{IsEquivalence}
 use Rattle.std.proofs.lemmas.List.{map-append}
 use Rattle.std.proofs.lemmas.List.Elements.{filter-append}
@@ -149,15 +149,6 @@ start-alike {Id} same o xs i j t = λ k. record { primary = least_if_any (starts
   where
     starts : (only : Bool) → label_starts same i only xs ≡ label_starts same j only xs
     starts only = λ k. map (λ (y : InFile Id). y.label.start) (filter (λ (y : InFile Id). o.congr i j y.id t k && (not only || is_primary y.label)) xs)
-
--- no label tells where a file starts
-pub starts-none : {Id : Type 0} (same : Id → Id → Bool) (ids : List Id) (starts : List FileStart) (unknown : FileStart) → unknown.primary ≡ None → unknown.any ≡ None
-    → starts ≡ replicate (length ids) unknown → starts ≡ map (file_start same []) ids
-starts-none {Id} same ids starts unknown primary any is = is ∙ by ids
-  where
-    by : (js : List Id) → replicate (length js) unknown ≡ map (file_start same []) js
-    by [] = refl
-    by (j ∷ js) = λ i. record { primary = primary i; any = any i } ∷ by js i
 
 module _ {Id : Type 0} (same : Id → Id → Bool) (o : IsEquivalence same) (labels : List (Label Id)) (ids : List Id) (place : ℕ) (label : Label Id) (turn : IsLabelTurn same labels ids place label)
     (starts : List FileStart) (are : starts ≡ map (file_start same (before labels place)) ids) where

@@ -1,5 +1,5 @@
 -- The plans of files: what their steps draw and ask for is what the pictures of the files show.
-use Rattle.std.proofs.Common.{◌≡◌, ℕ, zero, suc, ◌+◌, ◌<◌, Bool, true, List, [], ◌∷◌, ◌++◌, get_or, map, max, Option, None, refl, sym, subst, ap, ◌∙◌, arith}
+use Rattle.std.proofs.Common.{◌≡◌, ℕ, suc, ◌+◌, ◌<◌, Bool, true, List, [], ◌∷◌, ◌++◌, map, max, Option, None, refl, sym, subst, ap, ◌∙◌, arith}
 use Rattle.std.specs.Prelude.{IfSome, flat_map, fold}
 use Rattle.std.specs.Cmp.{IsEquivalence}
 use Rattle.std.specs.List.{AllByRecursion, AllZip}
@@ -18,7 +18,7 @@ use Rattle.codespan_picture.specs.Padding.{digit_count, digits_of, numbered_line
 use Rattle.codespan_picture.specs.Placed.{IsPlaceIn}
 use Rattle.codespan_picture.specs.Snippets.{InFile, LabelledFile, labelled_file, labelled_files, locus_start, rows_after}
 use Rattle.codespan_reporting.specs.declared.term.views.gather.Gathered.{Gathered}
-use Rattle.codespan_reporting.specs.declared.term.views.loci.FileStart.{FileStart}
+use Rattle.codespan_reporting.specs.declared.term.views.file_order.LabelledFile.{LabelledFile as GivenFile}
 use Rattle.codespan_reporting.specs.declared.term.views.plan.FilePlan.{FilePlan}
 use Rattle.codespan_reporting.specs.declared.term.views.sheet.SheetFile.{SheetFile}
 use Rattle.codespan_reporting.specs.declared.term.views.steps.Step.{Step as GivenStep}
@@ -26,10 +26,11 @@ use Rattle.codespan_reporting.specs.declared.term.views.steps.Step.TheVariants a
 use Rattle.codespan_reporting.specs.Inner.Entries.{Entry}
 use Rattle.codespan_reporting.specs.Inner.GivenSheets.{IsGathered, IsPlacedPlan, IsPrepared, IsSheetFile, ids_of}
 use Rattle.codespan_reporting.specs.Inner.GivenEntries.{entry_of}
-use Rattle.codespan_reporting.specs.Inner.Lanes.{Lane, all_lanes_given, file_lanes, lanes_given, lanes_in}
+use Rattle.codespan_reporting.specs.Inner.LabelledFiles.{IsTold, ids_given}
+use Rattle.codespan_reporting.specs.Inner.Lanes.{file_lanes, lanes_given}
 use Rattle.codespan_reporting.specs.declared.term.views.sheet.Sheet.{Sheet}
 use Rattle.codespan_reporting.specs.Inner.GivenSteps.{IsStepIn, IsStepOf, asked_by, asked_by_all, asked_with, numbers_asked, step_of}
-use Rattle.codespan_reporting.specs.Inner.Loci.{file_start, place_lookups, start_byte}
+use Rattle.codespan_reporting.specs.Inner.Loci.{place_lookups, start_byte}
 use Rattle.codespan_reporting.specs.Inner.PlacedLabels.{IsIdAt, file_ids}
 use Rattle.codespan_reporting.specs.Inner.Plans.{ArePlans, IsPlan, plan_digits, planned_lookups, step_digits, steps_at}
 use Rattle.codespan_reporting.specs.Inner.StepDrawing.{DoFit}
@@ -82,20 +83,12 @@ steps-digits f (g ∷ gs) h =
     (λ i. step-digits f g h.0 i ++ steps-digits f gs h.1 i)
     ∙ sym (map-append (λ l. digit_count (f.number l)) (line_of_step (step_of g)) (lines_of_steps (map step_of gs)))
 
--- ---- a place
-
--- what the id at a place is made into
-at-map : {Id A : Type 0} (make : Id → A) (ids : List Id) (k : ℕ) (id : Id) (d : A) → IsIdAt ids k id → get_or (map make ids) k d ≡ make id
-at-map make [] k id d at = absurd at
-at-map make (j ∷ js) zero id d at = ap make at
-at-map make (j ∷ js) (suc k) id d at = at-map make js k id d at
-
 -- ---- plans
 
 -- the plan of a file is that of its labels: its lanes, where it starts, what its steps draw, and what they ask for
 pub record IsFilePlan {Id : Type 0} (config : Config) (s : LabelledFile) (plan : FilePlan Id) : Type 0 where
-  pub lanes_are : lanes_given plan.lanes.now ≡ file_lanes s
-  pub starts : start_byte plan.start ≡ locus_start s.labels
+  pub lanes_are : lanes_given plan.file.now.lanes.items ≡ file_lanes s
+  pub starts : start_byte plan.file.now.start ≡ locus_start s.labels
   pub each : AllByRecursion (IsStepOf s.file) plan.steps.items
   pub fits : DoFit (map step_of plan.steps.items)
   pub rows : rows_of_steps s.file (file_lanes s) (map step_of plan.steps.items) ≡ rows_after s None (drawn_lines config s.file s.labels)
@@ -111,22 +104,17 @@ pub record AreFiles {Id : Type 0} (same : Id → Id → Bool) (file : Id → Fil
   pub one_file : (i j : Id) → same i j ≡ true → file i ≡ file j
   pub some_line : (i : Id) → 0 < line_count (file i)
 
-module _ {Id : Type 0} (same : Id → Id → Bool) (file : Id → FileModel) (table : AreFiles same file) (config : Config) (xs : List (InFile Id)) (gathered : Gathered Id) (all : IsGathered same file config xs gathered)
-    (starts : List FileStart) (starts_are : starts ≡ map (file_start same xs) gathered.ids.items) where
+module _ {Id : Type 0} (same : Id → Id → Bool) (file : Id → FileModel) (table : AreFiles same file) (config : Config) (xs : List (InFile Id)) (gathered : Gathered Id) (all : IsGathered same file config xs gathered) where
   -- its entries
   abbrev es : List Entry
   es = map entry_of gathered.entries.items
-
-  -- its lanes
-  abbrev lanes : List (List Lane)
-  lanes = all_lanes_given gathered.lanes.items
 
   -- a file with its labels
   abbrev labelled : Id → LabelledFile
   labelled = labelled_file same file xs
 
   -- the numbers that are asked for before the header are those of the padding
-  pub numbers-are : (refusal : Refusals Id) → planned_lookups config.layout es gathered.ids.items
+  pub numbers-are : (refusal : Refusals Id) → planned_lookups config.layout es (ids_given gathered.files.items)
       ≡ flat_map (λ id. asked_of id (numbers_for_padding config same file refusal xs config.layout id)) (file_ids same xs)
   numbers-are refusal =
       ap (planned_lookups config.layout es) all.files.ids_are
@@ -140,37 +128,33 @@ module _ {Id : Type 0} (same : Id → Id → Bool) (file : Id → FileModel) (ta
       by_layout Classic id = refl
       by_layout Unbroken id = refl
 
-  module _ (k : ℕ) (id : Id) (at : IsIdAt (file_ids same xs) k id) (plan : FilePlan Id) (is : IsPlan config.layout file es lanes starts k id plan) where
+  module _ (k : ℕ) (f : GivenFile Id) (at : IsIdAt (file_ids same xs) k f.id) (told : IsTold same file xs f) (plan : FilePlan Id) (is : IsPlan config.layout file es k f plan) where
     -- its steps
     steps-are : map step_of plan.steps.items ≡ steps_at es k
     steps-are = ap (map step_of) is.adds.whole ∙ is.adds.are
 
     -- they are in the layout
-    steps-in : AllByRecursion (IsStepIn config.layout (file id)) plan.steps.items
-    steps-in = subst (AllByRecursion (IsStepIn config.layout (file id))) (sym is.adds.whole) is.adds.each
+    steps-in : AllByRecursion (IsStepIn config.layout (file f.id)) plan.steps.items
+    steps-in = subst (AllByRecursion (IsStepIn config.layout (file f.id))) (sym is.adds.whole) is.adds.each
 
     -- the plan is that of the file
-    file-plan : IsFilePlan config (labelled id) plan
+    file-plan : IsFilePlan config (labelled f.id) plan
     file-plan = record {
-      lanes_are =
-          is.lanes_are ∙ ap (λ (own : List (List Lane)). get_or own k (lanes_given plan.lanes.now)) (all.files.lanes_are ∙ ap (map (lanes_in same file xs)) all.files.ids_are)
-          ∙ at-map (lanes_in same file xs) (file_ids same xs) k id (lanes_given plan.lanes.now) at;
-      starts =
-          ap start_byte (is.start_is ∙ ap (λ (ss : List FileStart). get_or ss k plan.start) (starts_are ∙ ap (map (file_start same xs)) all.files.ids_are) ∙ at-map (file_start same xs) (file_ids same xs) k id plan.start at)
-          ∙ start-is same file id xs;
-      each = steps_of-file config.layout (file id) plan.steps.items steps-in;
-      fits = subst DoFit (sym steps-are) (snippet-fits same file table.equivalence table.one_file table.some_line config xs es all.permutation all.sorted k id at);
-      rows = ap (rows_of_steps (file id) (file_lanes (labelled id))) steps-are ∙ snippet-rows same file table.equivalence table.one_file table.some_line config xs es all.permutation all.sorted k id at;
-      asked = steps-ask config.layout (file id) plan.steps.items steps-in ∙ ap (λ (steps : List Step). flat_map (of_filled config.layout) (fills_of steps)) steps-are
-          ∙ ap (λ (ls : List ℕ). flat_map (of_filled config.layout) ls) (snippet-fills same file table.equivalence table.one_file table.some_line config xs es all.permutation all.sorted k id at);
+      lanes_are = ap (λ (g : GivenFile Id). lanes_given g.lanes.items) is.file_is ∙ told.lanes_are;
+      starts = ap (λ (g : GivenFile Id). start_byte g.start) is.file_is ∙ ap start_byte told.start_is ∙ start-is same file f.id xs;
+      each = steps_of-file config.layout (file f.id) plan.steps.items steps-in;
+      fits = subst DoFit (sym steps-are) (snippet-fits same file table.equivalence table.one_file table.some_line config xs es all.permutation all.sorted k f.id at);
+      rows = ap (rows_of_steps (file f.id) (file_lanes (labelled f.id))) steps-are ∙ snippet-rows same file table.equivalence table.one_file table.some_line config xs es all.permutation all.sorted k f.id at;
+      asked = steps-ask config.layout (file f.id) plan.steps.items steps-in ∙ ap (λ (steps : List Step). flat_map (of_filled config.layout) (fills_of steps)) steps-are
+          ∙ ap (λ (ls : List ℕ). flat_map (of_filled config.layout) ls) (snippet-fills same file table.equivalence table.one_file table.some_line config xs es all.permutation all.sorted k f.id at);
     }
 
     -- in the unbroken layout the digits of its numbers are those that the padding has room for
-    file-digits : config.layout ≡ Unbroken → plan_digits plan ≡ digits_of (labelled id) (numbered_lines config (labelled id))
+    file-digits : config.layout ≡ Unbroken → plan_digits plan ≡ digits_of (labelled f.id) (numbered_lines config (labelled f.id))
     file-digits unbroken =
-        steps-digits (file id) plan.steps.items (subst (λ (layout : Layout). AllByRecursion (IsStepIn layout (file id)) plan.steps.items) unbroken steps-in)
-        ∙ ap (λ (steps : List Step). digits_of (labelled id) (lines_of_steps steps)) steps-are
-        ∙ ap (digits_of (labelled id)) (snippet-lines same file table.equivalence table.one_file table.some_line config xs es all.permutation all.sorted k id at ∙ sym (numbered config unbroken (labelled id)))
+        steps-digits (file f.id) plan.steps.items (subst (λ (layout : Layout). AllByRecursion (IsStepIn layout (file f.id)) plan.steps.items) unbroken steps-in)
+        ∙ ap (λ (steps : List Step). digits_of (labelled f.id) (lines_of_steps steps)) steps-are
+        ∙ ap (digits_of (labelled f.id)) (snippet-lines same file table.equivalence table.one_file table.some_line config xs es all.permutation all.sorted k f.id at ∙ sym (numbered config unbroken (labelled f.id)))
 
   -- the ids from a place on stand at their places
   abbrev AreAt : ℕ → List Id → Type 0
@@ -189,44 +173,44 @@ module _ {Id : Type 0} (same : Id → Id → Bool) (file : Id → FileModel) (ta
   all_at = λ i id h. let e : i ≡ 0 + i = omega arith in subst (λ n. IsIdAt (file_ids same xs) n id) e h
 
   -- the ids of plans
-  ids-from : (k : ℕ) (ids : List Id) (plans : List (FilePlan Id)) → ArePlans config.layout file es lanes starts k ids plans → map (λ (p : FilePlan Id). p.id) plans ≡ ids
+  ids-from : (k : ℕ) (fs : List (GivenFile Id)) (plans : List (FilePlan Id)) → ArePlans config.layout file es k fs plans → map (λ (p : FilePlan Id). p.file.now.id) plans ≡ ids_given fs
   ids-from k [] [] h = refl
   ids-from k [] (p ∷ ps) h = absurd h
-  ids-from k (id ∷ ids) [] h = absurd h
-  ids-from k (id ∷ ids) (p ∷ ps) h = λ i. h.0.id_is i ∷ ids-from (k + 1) ids ps h.1 i
+  ids-from k (f ∷ fs) [] h = absurd h
+  ids-from k (f ∷ fs) (p ∷ ps) h = λ i. (h.0.file_is i).id ∷ ids-from (k + 1) fs ps h.1 i
 
   -- plans are those of their files
-  plans-from : (k : ℕ) (ids : List Id) (plans : List (FilePlan Id)) → AreAt k ids → ArePlans config.layout file es lanes starts k ids plans
-      → AllByRecursion (λ (p : FilePlan Id). IsFilePlan config (labelled p.id) p) plans
-  plans-from k [] [] at h = tt
-  plans-from k [] (p ∷ ps) at h = absurd h
-  plans-from k (id ∷ ids) [] at h = absurd h
-  plans-from k (id ∷ ids) (p ∷ ps) at h = (
-    subst (λ (i : Id). IsFilePlan config (labelled i) p) (sym h.0.id_is) (file-plan k id (are_at-here k id ids at) p h.0),
-    plans-from (k + 1) ids ps (are_at-next k id ids at) h.1,
+  plans-from : (k : ℕ) (fs : List (GivenFile Id)) (plans : List (FilePlan Id)) → AreAt k (ids_given fs) → AllByRecursion (IsTold same file xs) fs → ArePlans config.layout file es k fs plans
+      → AllByRecursion (λ (p : FilePlan Id). IsFilePlan config (labelled p.file.now.id) p) plans
+  plans-from k [] [] at told h = tt
+  plans-from k [] (p ∷ ps) at told h = absurd h
+  plans-from k (f ∷ fs) [] at told h = absurd h
+  plans-from k (f ∷ fs) (p ∷ ps) at told h = (
+    subst (λ (g : GivenFile Id). IsFilePlan config (labelled g.id) p) (sym h.0.file_is) (file-plan k f (are_at-here k f.id (ids_given fs) at) told.0 p h.0),
+    plans-from (k + 1) fs ps (are_at-next k f.id (ids_given fs) at) told.1 h.1,
   )
 
   -- in the unbroken layout their digits are those that the padding has room for
-  digits-from : config.layout ≡ Unbroken → (k : ℕ) (ids : List Id) (plans : List (FilePlan Id)) → AreAt k ids → ArePlans config.layout file es lanes starts k ids plans
-      → flat_map plan_digits plans ≡ flat_map (λ id. digits_of (labelled id) (numbered_lines config (labelled id))) ids
-  digits-from unbroken k [] [] at h = refl
-  digits-from unbroken k [] (p ∷ ps) at h = absurd h
-  digits-from unbroken k (id ∷ ids) [] at h = absurd h
-  digits-from unbroken k (id ∷ ids) (p ∷ ps) at h =
-      λ i. file-digits k id (are_at-here k id ids at) p h.0 unbroken i ++ digits-from unbroken (k + 1) ids ps (are_at-next k id ids at) h.1 i
+  digits-from : config.layout ≡ Unbroken → (k : ℕ) (fs : List (GivenFile Id)) (plans : List (FilePlan Id)) → AreAt k (ids_given fs) → AllByRecursion (IsTold same file xs) fs
+      → ArePlans config.layout file es k fs plans → flat_map plan_digits plans ≡ flat_map (λ id. digits_of (labelled id) (numbered_lines config (labelled id))) (ids_given fs)
+  digits-from unbroken k [] [] at told h = refl
+  digits-from unbroken k [] (p ∷ ps) at told h = absurd h
+  digits-from unbroken k (f ∷ fs) [] at told h = absurd h
+  digits-from unbroken k (f ∷ fs) (p ∷ ps) at told h =
+      λ i. file-digits k f (are_at-here k f.id (ids_given fs) at) told.0 p h.0 unbroken i ++ digits-from unbroken (k + 1) fs ps (are_at-next k f.id (ids_given fs) at) told.1 h.1 i
 
-  module _ (plans : List (FilePlan Id)) (found : ArePlans config.layout file es lanes starts 0 gathered.ids.items plans) where
-    -- they are in the order of the files
-    are : ArePlans config.layout file es lanes starts 0 (file_ids same xs) plans
-    are = subst (λ (ids : List Id). ArePlans config.layout file es lanes starts 0 ids plans) all.files.ids_are found
+  module _ (plans : List (FilePlan Id)) (found : ArePlans config.layout file es 0 gathered.files.items plans) where
+    -- the ids stand at their places
+    ids_at : AreAt 0 (ids_given gathered.files.items)
+    ids_at = subst (λ (ids : List Id). AreAt 0 ids) (sym all.files.ids_are) all_at
 
     -- the ids of all plans
-    pub plan_ids : map (λ (p : FilePlan Id). p.id) plans ≡ file_ids same xs
-    plan_ids = ids-from 0 (file_ids same xs) plans are
+    pub plan_ids : map (λ (p : FilePlan Id). p.file.now.id) plans ≡ file_ids same xs
+    plan_ids = ids-from 0 gathered.files.items plans found ∙ all.files.ids_are
 
     -- all plans
-    pub file_plans : AllByRecursion (λ (p : FilePlan Id). IsFilePlan config (labelled p.id) p) plans
-    file_plans = plans-from 0 (file_ids same xs) plans all_at are
+    pub file_plans : AllByRecursion (λ (p : FilePlan Id). IsFilePlan config (labelled p.file.now.id) p) plans
+    file_plans = plans-from 0 gathered.files.items plans ids_at all.files.told found
 
     -- in the classic layout the labels tell the room for numbers
     pub spanned-padding : config.layout ≡ Classic → (padding : ℕ) → padding ≡ gathered.padding → padding ≡ padding_of config (labelled_files same file xs)
@@ -235,48 +219,49 @@ module _ {Id : Type 0} (same : Id → Id → Bool) (file : Id → FileModel) (ta
     -- in the unbroken layout the plans do
     pub drawn-padding : config.layout ≡ Unbroken → (padding : ℕ) → padding ≡ fold max 0 (flat_map plan_digits plans) → padding ≡ padding_of config (labelled_files same file xs)
     drawn-padding unbroken padding is =
-        is ∙ ap (fold max 0) (digits-from unbroken 0 (file_ids same xs) plans all_at are
+        is ∙ ap (fold max 0) (digits-from unbroken 0 gathered.files.items plans ids_at all.files.told found
+        ∙ ap (flat_map (λ id. digits_of (labelled id) (numbered_lines config (labelled id)))) all.files.ids_are
         ∙ sym (flat_map-map (λ (s : LabelledFile). digits_of s (numbered_lines config s)) labelled (file_ids same xs)))
 
 -- ---- files with their places
 
 module _ {Id : Type 0} (same : Id → Id → Bool) (file : Id → FileModel) (config : Config) (xs : List (InFile Id)) where
   -- a plan with its place is a file of the picture
-  sheet_file : (p : FilePlan Id) (f : SheetFile Id) → IsPlacedPlan file p f → IsFilePlan config (labelled_file same file xs p.id) p → IsSheetFile config (labelled_file same file xs f.id) f
+  sheet_file : (p : FilePlan Id) (f : SheetFile Id) → IsPlacedPlan file p f → IsFilePlan config (labelled_file same file xs p.file.now.id) p → IsSheetFile config (labelled_file same file xs f.file.now.id) f
   sheet_file p f placed plan =
-      subst (λ (id : Id). IsSheetFile config (labelled_file same file xs id) f) (sym placed.id_is) (record {
-        lanes_are = ap lanes_given placed.lanes_are ∙ plan.lanes_are;
-        place = subst (λ n. IsPlaceIn (file p.id) n (place_of_given f.locus)) plan.starts placed.place;
-        each = subst (AllByRecursion (IsStepOf (file p.id))) (sym placed.steps_are) plan.each;
+      subst (λ (g : GivenFile Id). IsSheetFile config (labelled_file same file xs g.id) f) (sym placed.file_is) (record {
+        lanes_are = ap (λ (g : GivenFile Id). lanes_given g.lanes.items) placed.file_is ∙ plan.lanes_are;
+        place = subst (λ n. IsPlaceIn (file p.file.now.id) n (place_of_given f.locus)) plan.starts placed.place;
+        each = subst (AllByRecursion (IsStepOf (file p.file.now.id))) (sym placed.steps_are) plan.each;
         fits = subst (λ (gs : List GivenStep). DoFit (map step_of gs)) (sym placed.steps_are) plan.fits;
-        rows = ap (λ (gs : List GivenStep). rows_of_steps (file p.id) (file_lanes (labelled_file same file xs p.id)) (map step_of gs)) placed.steps_are ∙ plan.rows;
+        rows = ap (λ (gs : List GivenStep). rows_of_steps (file p.file.now.id) (file_lanes (labelled_file same file xs p.file.now.id)) (map step_of gs)) placed.steps_are ∙ plan.rows;
         asked = ap asked_by_all placed.steps_are ∙ plan.asked;
       })
 
   -- the lookups of the places of plans are those of their files
-  pub places-are : (ps : List (FilePlan Id)) → AllByRecursion (λ (p : FilePlan Id). IsFilePlan config (labelled_file same file xs p.id) p) ps
-      → flat_map (λ id. asked_of id (locus_lookups same file xs id)) (map (λ (p : FilePlan Id). p.id) ps) ≡ place_lookups ps
+  pub places-are : (ps : List (FilePlan Id)) → AllByRecursion (λ (p : FilePlan Id). IsFilePlan config (labelled_file same file xs p.file.now.id) p) ps
+      → flat_map (λ id. asked_of id (locus_lookups same file xs id)) (map (λ (p : FilePlan Id). p.file.now.id) ps) ≡ place_lookups ps
   places-are [] plans = refl
-  places-are (p ∷ ps) plans = λ i. asked_of p.id (Name ∷ LocationAt (sym plans.0.starts i) ∷ []) ++ places-are ps plans.1 i
+  places-are (p ∷ ps) plans = λ i. asked_of p.file.now.id (Name ∷ LocationAt (sym plans.0.starts i) ∷ []) ++ places-are ps plans.1 i
 
   -- so are all
   pub sheet_files : (ps : List (FilePlan Id)) (fs : List (SheetFile Id)) → AllZip (IsPlacedPlan file) ps fs
-      → AllByRecursion (λ (p : FilePlan Id). IsFilePlan config (labelled_file same file xs p.id) p) ps → AllByRecursion (λ (f : SheetFile Id). IsSheetFile config (labelled_file same file xs f.id) f) fs
+      → AllByRecursion (λ (p : FilePlan Id). IsFilePlan config (labelled_file same file xs p.file.now.id) p) ps → AllByRecursion (λ (f : SheetFile Id). IsSheetFile config (labelled_file same file xs f.file.now.id) f) fs
   sheet_files [] [] placed plans = tt
   sheet_files [] (f ∷ fs) placed plans = absurd placed
   sheet_files (p ∷ ps) [] placed plans = absurd placed
   sheet_files (p ∷ ps) (f ∷ fs) placed plans = (sheet_file p f placed.0 plans.0, sheet_files ps fs placed.1 plans.1)
 
   -- their ids are those of the plans
-  pub sheet_ids : (ps : List (FilePlan Id)) (fs : List (SheetFile Id)) → AllZip (IsPlacedPlan file) ps fs → ids_of fs ≡ map (λ (p : FilePlan Id). p.id) ps
+  pub sheet_ids : (ps : List (FilePlan Id)) (fs : List (SheetFile Id)) → AllZip (IsPlacedPlan file) ps fs → ids_of fs ≡ map (λ (p : FilePlan Id). p.file.now.id) ps
   sheet_ids [] [] placed = refl
   sheet_ids [] (f ∷ fs) placed = absurd placed
   sheet_ids (p ∷ ps) [] placed = absurd placed
-  sheet_ids (p ∷ ps) (f ∷ fs) placed = λ i. placed.0.id_is i ∷ sheet_ids ps fs placed.1 i
+  sheet_ids (p ∷ ps) (f ∷ fs) placed = λ i. (placed.0.file_is i).id ∷ sheet_ids ps fs placed.1 i
 
   -- plans with their places, and the room for their numbers, are the sheet of the labels
-  pub sheet-prepared : (ps : List (FilePlan Id)) (sheet : Sheet Id) → map (λ (p : FilePlan Id). p.id) ps ≡ file_ids same xs
-      → AllByRecursion (λ (p : FilePlan Id). IsFilePlan config (labelled_file same file xs p.id) p) ps → AllZip (IsPlacedPlan file) ps sheet.files.items
+  pub sheet-prepared : (ps : List (FilePlan Id)) (sheet : Sheet Id) → map (λ (p : FilePlan Id). p.file.now.id) ps ≡ file_ids same xs
+      → AllByRecursion (λ (p : FilePlan Id). IsFilePlan config (labelled_file same file xs p.file.now.id) p) ps → AllZip (IsPlacedPlan file) ps sheet.files.items
       → sheet.padding ≡ padding_of config (labelled_files same file xs) → IsPrepared same file config xs sheet
   sheet-prepared ps sheet ids plans placed padding = record {
     ids_are = sheet_ids ps sheet.files.items placed ∙ ids;

@@ -27,7 +27,7 @@ no_element (x ∷ xs) h = absurd (omega arith)
 module _ {Id : Type 0} (file : Id → FileModel) (refusal : Refusals Id) where
   -- the lookups of the place of a plan's file
   abbrev asked : FilePlan Id → List (Id × Lookup)
-  asked p = asked_of p.id (Name ∷ LocationAt (start_byte p.start) ∷ [])
+  asked p = asked_of p.file.now.id (Name ∷ LocationAt (start_byte p.file.now.start) ∷ [])
 
   -- these plans have got their places
   pub record ArePlaced (plans : List (FilePlan Id)) (placed : List (SheetFile Id)) : Type 0 where

@@ -82,7 +82,7 @@ module _ {Id : Type 0} (renderer view : Config) (same : Id → Id → Bool) (fil
   places-are : AllZip IsPlaceOfFile (labelled_files same file (labels_of d)) places
   places-are = subst (λ (ids : List Id). AllZip IsPlaceOfFile (map (labelled_file same file (labels_of d)) ids) places) prepared.ids_are (from sheet.files.items prepared.files_are)
     where
-      from : (fs : List (SheetFile Id)) → AllByRecursion (λ (f : SheetFile Id). IsSheetFile view (labelled_file same file (labels_of d) f.id) f) fs
+      from : (fs : List (SheetFile Id)) → AllByRecursion (λ (f : SheetFile Id). IsSheetFile view (labelled_file same file (labels_of d) f.file.now.id) f) fs
           → AllZip IsPlaceOfFile (map (labelled_file same file (labels_of d)) (ids_of fs)) (places_of fs)
       from [] are = tt
       from (f ∷ fs) are = (are.0.place, from fs are.1)

@@ -153,37 +153,37 @@ followed-at has_notes xs k =
     ∙ ap (λ n. has_notes || nat_lt 0 n) (length-drop (k + 1) xs)
     ∙ ap (λ (b : Bool). has_notes || b) (left-over (k + 1) (length xs))
 
-module _ {Id : Type 0} (same : Id → Id → Bool) (file : Id → FileModel) (config : Config) (xs : List (InFile Id)) (f : SheetFile Id) (is : IsSheetFile config (labelled_file same file xs f.id) f) where
+module _ {Id : Type 0} (same : Id → Id → Bool) (file : Id → FileModel) (config : Config) (xs : List (InFile Id)) (f : SheetFile Id) (is : IsSheetFile config (labelled_file same file xs f.file.now.id) f) where
   -- the file with its labels
   abbrev own : LabelledFile
-  own = labelled_file same file xs f.id
+  own = labelled_file same file xs f.file.now.id
 
   -- it has as many lanes as its file
-  count : length f.lanes.now ≡ lane_count own
-  count = sym (length-map f.lanes.now lane_given) ∙ ap length is.lanes_are ∙ file_lanes-count own
+  count : length f.file.now.lanes.items ≡ lane_count own
+  count = sym (length-map f.file.now.lanes.items lane_given) ∙ ap length is.lanes_are ∙ file_lanes-count own
 
   -- its rows
-  rows-are : (followed : Bool) → rows_in f (file f.id) followed ≡ placed_snippet config followed (place_of_given f.locus) own
+  rows-are : (followed : Bool) → rows_in f (file f.file.now.id) followed ≡ placed_snippet config followed (place_of_given f.locus) own
   rows-are followed =
-      (λ i. (StartRow (place_of_given f.locus) ∷ EmptyRow (record { count = count i; marks = [] }) ∷ []) ++ rows_of_steps (file f.id) (is.lanes_are i) (map step_of f.steps.items)
+      (λ i. (StartRow (place_of_given f.locus) ∷ EmptyRow (record { count = count i; marks = [] }) ∷ []) ++ rows_of_steps (file f.file.now.id) (is.lanes_are i) (map step_of f.steps.items)
       ++ (if followed then EmptyRow (record { count = count i; marks = [] }) ∷ [] else []))
       ∙ ap (λ (r : List Row). (StartRow (place_of_given f.locus) ∷ EmptyRow (bare_lanes own) ∷ []) ++ r ++ (if followed then EmptyRow (bare_lanes own) ∷ [] else [])) is.rows
 
   -- the call draws its snippet, and makes its lookups
   pub drawn-file : (refusal : Refusals Id) (look : Look) (old new : Sink) (r : Result (Unit {0}) Error) (followed other : Bool) → followed ≡ other
-      → SendsAsking (first_refusal refusal (asked_of f.id (lookups_with f))) old (stream_of_rows look (rows_in f (file f.id) followed)) r new
-      → SendsAsking (first_refusal refusal (snippet_lookups config same file xs f.id)) old (stream_of_rows look (placed_snippet config other (place_of_given f.locus) own)) r new
+      → SendsAsking (first_refusal refusal (asked_of f.file.now.id (lookups_with f))) old (stream_of_rows look (rows_in f (file f.file.now.id) followed)) r new
+      → SendsAsking (first_refusal refusal (snippet_lookups config same file xs f.file.now.id)) old (stream_of_rows look (placed_snippet config other (place_of_given f.locus) own)) r new
   drawn-file refusal look old new r followed other alike drawn =
-      asking_as _ _ old new _ _ r (ap (λ (ls : List Lookup). first_refusal refusal (asked_of f.id (Source ∷ ls))) is.asked)
+      asking_as _ _ old new _ _ r (ap (λ (ls : List Lookup). first_refusal refusal (asked_of f.file.now.id (Source ∷ ls))) is.asked)
       (ap (stream_of_rows look) (rows-are followed ∙ ap (λ (b : Bool). placed_snippet config b (place_of_given f.locus) own) alike)) drawn
 
 module _ {Id : Type 0} (files : List (SheetFile Id)) (k : ℕ) (f : SheetFile Id) (inside : k < length files) (at : f ≡ get_or files k f) where
   -- its id and its place stand where it does
   pub id-inside : k < length (ids_of files)
-  id-inside = omega (arith, inside, length-map files (λ (g : SheetFile Id). g.id))
+  id-inside = omega (arith, inside, length-map files (λ (g : SheetFile Id). g.file.now.id))
 
-  pub id-at : f.id ≡ get_or (ids_of files) k f.id
-  id-at = ap (λ (g : SheetFile Id). g.id) at ∙ sym (get_or-map (λ (g : SheetFile Id). g.id) files k f f.id inside)
+  pub id-at : f.file.now.id ≡ get_or (ids_of files) k f.file.now.id
+  id-at = ap (λ (g : SheetFile Id). g.file.now.id) at ∙ sym (get_or-map (λ (g : SheetFile Id). g.file.now.id) files k f f.file.now.id inside)
 
   pub place-inside : k < length (places_of files)
   place-inside = omega (arith, inside, length-map files (λ (g : SheetFile Id). place_of_given g.locus))

@@ -12,6 +12,7 @@ use Rattle.codespan_reporting.specs.declared.term.views.plan.FilePlan.{FilePlan}
 use Rattle.codespan_reporting.specs.Inner.Entries.{is_below}
 use Rattle.codespan_reporting.specs.Inner.GivenEntries.{IsOfFiles, entry_of}
 use Rattle.codespan_reporting.specs.Inner.GivenSheets.{IsGathered, IsGatheredInTurn, sheet_lookups}
+use Rattle.codespan_reporting.specs.Inner.LabelledFiles.{ids_given}
 use Rattle.codespan_reporting.specs.Inner.Loci.{place_lookups}
 use Rattle.codespan_reporting.specs.Inner.PlacedLabels.{all_entries, file_ids}
 use Rattle.codespan_reporting.proofs.Askings.{first_refusal-append}
@@ -24,10 +25,10 @@ module _ {Id : Type 0} (same : Id → Id → Bool) (file : Id → FileModel) (co
   pub gathered-in_order : (was : Gathered Id) (entries : Vec GivenEntry Global) → IsGatheredInTurn same file config xs was → IsPermutation was.entries.items entries.items → IsSortedBy is_below (map entry_of entries.items)
       → IsGathered same file config xs (record was { entries = entries })
   gathered-in_order was entries g perm up = record {
-    files = record { ids_are = g.files.ids_are; places_are = g.files.places_are; lanes_are = g.files.lanes_are; padding_is = g.files.padding_is };
+    files = record { ids_are = g.files.ids_are; told = g.files.told; padding_is = g.files.padding_is };
     sorted = up;
-    permutation = gathered-sorted (all_entries same file config xs) was.entries.items entries.items (gathered-says (IsOfFiles file was.ids.items) was.entries.items (all_entries same file config xs) g.adds) perm;
-    lines = gathered-each (IsOfFiles file was.ids.items) was.entries.items entries.items (all_entries same file config xs) g.adds perm;
+    permutation = gathered-sorted (all_entries same file config xs) was.entries.items entries.items (gathered-says (IsOfFiles file (ids_given was.files.items)) was.entries.items (all_entries same file config xs) g.adds) perm;
+    lines = gathered-each (IsOfFiles file (ids_given was.files.items)) was.entries.items entries.items (all_entries same file config xs) g.adds perm;
   }
 
   module _ (refusal : Refusals Id) where

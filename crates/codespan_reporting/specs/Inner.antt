@@ -5,6 +5,7 @@ pub mod Loci
 pub mod Asking
 pub mod FileLookups
 pub mod LabelLines
+pub mod LabelledFiles
 pub mod Rendering
 pub mod Entries
 pub mod Lanes

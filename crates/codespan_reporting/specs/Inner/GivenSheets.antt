@@ -19,9 +19,10 @@ use Rattle.codespan_reporting.specs.declared.term.views.sheet.SheetFile.{SheetFi
 use Rattle.codespan_reporting.specs.Inner.Entries.{is_below}
 use Rattle.codespan_reporting.specs.Inner.GivenEntries.{Adds, IsOfFiles, entry_of}
 use Rattle.codespan_reporting.specs.Inner.GivenSteps.{IsStepOf, asked_by_all, step_of}
-use Rattle.codespan_reporting.specs.Inner.Lanes.{all_lanes_given, file_lanes, lanes_given, lanes_in}
+use Rattle.codespan_reporting.specs.Inner.LabelledFiles.{IsTold, ids_given}
+use Rattle.codespan_reporting.specs.Inner.Lanes.{file_lanes, lanes_given}
 use Rattle.codespan_reporting.specs.Inner.Loci.{start_byte}
-use Rattle.codespan_reporting.specs.Inner.PlacedLabels.{all_entries, file_ids, label_places}
+use Rattle.codespan_reporting.specs.Inner.PlacedLabels.{all_entries, file_ids}
 use Rattle.codespan_reporting.specs.Inner.SpannedDigits.{all_digits}
 use Rattle.codespan_reporting.specs.Inner.StepDrawing.{DoFit}
 use Rattle.codespan_reporting.specs.Inner.Steps.{rows_of_steps}
@@ -32,11 +33,11 @@ places_of {Id} files = map (λ (f : SheetFile Id). place_of_given f.locus) files
 
 -- what names each file
 abbrev pub ids_of : {Id : Type 0} → List (SheetFile Id) → List Id
-ids_of {Id} files = map (λ (f : SheetFile Id). f.id) files
+ids_of {Id} files = map (λ (f : SheetFile Id). f.file.now.id) files
 
 -- the file of a picture is that of its labels: its lanes, where its snippet starts, what its steps draw, and what they ask for
 pub record IsSheetFile {Id : Type 0} (config : Config) (s : LabelledFile) (f : SheetFile Id) : Type 0 where
-  pub lanes_are : lanes_given f.lanes.now ≡ file_lanes s
+  pub lanes_are : lanes_given f.file.now.lanes.items ≡ file_lanes s
   pub place : IsPlaceOfFile s (place_of_given f.locus)
   pub each : AllByRecursion (IsStepOf s.file) f.steps.items
   pub fits : DoFit (map step_of f.steps.items)
@@ -45,35 +46,33 @@ pub record IsSheetFile {Id : Type 0} (config : Config) (s : LabelledFile) (f : S
 
 -- a plan, with the place at which the file's snippet starts
 pub record IsPlacedPlan {Id : Type 0} (file : Id → FileModel) (plan : FilePlan Id) (placed : SheetFile Id) : Type 0 where
-  pub id_is : placed.id ≡ plan.id
-  pub lanes_are : placed.lanes.now ≡ plan.lanes.now
+  pub file_is : placed.file.now ≡ plan.file.now
   pub steps_are : placed.steps.items ≡ plan.steps.items
-  pub place : IsPlaceIn (file plan.id) (start_byte plan.start) (place_of_given placed.locus)
+  pub place : IsPlaceIn (file plan.file.now.id) (start_byte plan.file.now.start) (place_of_given placed.locus)
 
 module _ {Id : Type 0} (same : Id → Id → Bool) (file : Id → FileModel) where
-  -- the files of these labels were gathered: their ids, in which file each label is, the lanes of each, and the room for the numbers of lines
+  -- the files of these labels were gathered, with what the labels tell of each, and the room for the numbers of lines
   pub record AreFilesGathered (xs : List (InFile Id)) (gathered : Gathered Id) : Type 0 where
-    pub ids_are : gathered.ids.items ≡ file_ids same xs
-    pub places_are : gathered.places.items ≡ label_places same gathered.ids.items xs
-    pub lanes_are : all_lanes_given gathered.lanes.items ≡ map (lanes_in same file xs) gathered.ids.items
+    pub ids_are : ids_given gathered.files.items ≡ file_ids same xs
+    pub told : AllByRecursion (IsTold same file xs) gathered.files.items
     pub padding_is : gathered.padding ≡ fold max 0 (all_digits file xs)
 
   -- this was gathered of these labels, one after another
   pub record IsGatheredInTurn (config : Config) (xs : List (InFile Id)) (gathered : Gathered Id) : Type 0 where
     pub files : AreFilesGathered xs gathered
-    pub adds : Adds (IsOfFiles file gathered.ids.items) [] gathered.entries.items (all_entries same file config xs)
+    pub adds : Adds (IsOfFiles file (ids_given gathered.files.items)) [] gathered.entries.items (all_entries same file config xs)
 
   -- this was gathered of these labels, and is in order
   pub record IsGathered (config : Config) (xs : List (InFile Id)) (gathered : Gathered Id) : Type 0 where
     pub files : AreFilesGathered xs gathered
     pub sorted : IsSortedBy is_below (map entry_of gathered.entries.items)
     pub permutation : IsPermutation (all_entries same file config xs) (map entry_of gathered.entries.items)
-    pub lines : AllByRecursion (IsOfFiles file gathered.ids.items) gathered.entries.items
+    pub lines : AllByRecursion (IsOfFiles file (ids_given gathered.files.items)) gathered.entries.items
 
   -- the sheet is that of these labels
   pub record IsPrepared (config : Config) (xs : List (InFile Id)) (sheet : Sheet Id) : Type 0 where
     pub ids_are : ids_of sheet.files.items ≡ file_ids same xs
-    pub files_are : AllByRecursion (λ f. IsSheetFile config (labelled_file same file xs f.id) f) sheet.files.items
+    pub files_are : AllByRecursion (λ f. IsSheetFile config (labelled_file same file xs f.file.now.id) f) sheet.files.items
     pub padding_is : sheet.padding ≡ padding_of config (labelled_files same file xs)
 
 -- the lookups of the numbers and places of a picture's files, which come after those of its labels

@@ -19,15 +19,15 @@ use Rattle.codespan_reporting.specs.Inner.Steps.{rows_of_steps}
 module _ {Id : Type 0} (file : SheetFile Id) where
   -- its first rows
   abbrev pub start_rows : List Row
-  start_rows = StartRow (place_of_given file.locus) ∷ EmptyRow (record { count = length file.lanes.now; marks = [] }) ∷ []
+  start_rows = StartRow (place_of_given file.locus) ∷ EmptyRow (record { count = length file.file.now.lanes.items; marks = [] }) ∷ []
 
   -- the row after it, where something follows
   abbrev pub end_rows : Bool → List Row
-  end_rows is_followed = if is_followed then EmptyRow (record { count = length file.lanes.now; marks = [] }) ∷ [] else []
+  end_rows is_followed = if is_followed then EmptyRow (record { count = length file.file.now.lanes.items; marks = [] }) ∷ [] else []
 
   -- all of its rows
   abbrev pub rows_in : FileModel → Bool → List Row
-  rows_in f is_followed = start_rows ++ rows_of_steps f (lanes_given file.lanes.now) (map step_of file.steps.items) ++ end_rows is_followed
+  rows_in f is_followed = start_rows ++ rows_of_steps f (lanes_given file.file.now.lanes.items) (map step_of file.steps.items) ++ end_rows is_followed
 
   -- its lookups
   abbrev pub lookups_with : List Lookup
@@ -36,4 +36,4 @@ module _ {Id : Type 0} (file : SheetFile Id) where
 -- the call draws the snippet of a file, with a row after it where something follows, and makes its lookups
 abbrev pub DrawsSnippet : {W F Id : Type 0} → (W → Sink) → (F → Id → FileModel) → (F → Refusals Id) → Page F → SheetFile Id → Bool → Renderer W → Result (Unit {0}) Error → Renderer W → Type 0
 DrawsSnippet sink file refusal page f is_followed =
-    DrawsRowsAsking sink (refusal_in (refusal page.files.now) f.id (lookups_with f)) page.severity page.padding (rows_in f (file page.files.now f.id) is_followed)
+    DrawsRowsAsking sink (refusal_in (refusal page.files.now) f.file.now.id (lookups_with f)) page.severity page.padding (rows_in f (file page.files.now f.file.now.id) is_followed)

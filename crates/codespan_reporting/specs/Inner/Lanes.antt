@@ -1,6 +1,5 @@
 -- Labels over several lines, each in its lane.
-use Rattle.std.specs.Prelude.{ℕ, Bool, List, [], ◌∷◌, ◌++◌, Option, Vec, length, map, slice_index_or, slice_set}
-use Rattle.std.specs.Global.{Global}
+use Rattle.std.specs.Prelude.{ℕ, Bool, List, Option, length, map}
 use Rattle.std.specs.List.{enumerate_from, filter_map}
 use Rattle.codespan_base.specs.FileModel.{FileModel, line_start}
 use Rattle.codespan_base.specs.Labels.{Labelled, LaneMark, first_line, last_line, mark_of, multi_labels, part_at}
@@ -52,11 +51,3 @@ lane_given lane = record {
 -- the lanes of a file
 abbrev pub lanes_given : List GivenLane → List Lane
 lanes_given lanes = map lane_given lanes
-
--- those of all files
-abbrev pub all_lanes_given : List (Vec GivenLane Global) → List (List Lane)
-all_lanes_given lanes = map (λ (own : Vec GivenLane Global). lanes_given own.items) lanes
-
--- the lanes of all files, with one more of the file at this place
-abbrev pub lane_added : List (List Lane) → ℕ → Lane → List (List Lane)
-lane_added lanes place lane = slice_set lanes place (slice_index_or lanes place [] ++ lane ∷ [])

@@ -30,6 +30,10 @@ abbrev pub least_with : Option ℕ → ℕ → ℕ
 least_with None n = n
 least_with (Some m) n = min m n
 
+-- where no label tells it
+abbrev pub no_start : FileStart
+no_start = record { primary = None; any = None }
+
 -- where it starts with one label more
 abbrev pub start_with : FileStart → Labelled → FileStart
 start_with s x = record { primary = if is_primary x then Some (least_with s.primary x.start) else s.primary; any = Some (least_with s.any x.start) }
@@ -40,4 +44,4 @@ start_byte s = unwrap_or s.primary (unwrap_or s.any 0)
 
 -- the lookups of the places of files
 abbrev pub place_lookups : {Id : Type 0} → List (FilePlan Id) → List (Id × Lookup)
-place_lookups {Id} plans = flat_map (λ (p : FilePlan Id). asked_of p.id (Name ∷ LocationAt (start_byte p.start) ∷ [])) plans
+place_lookups {Id} plans = flat_map (λ (p : FilePlan Id). asked_of p.file.now.id (Name ∷ LocationAt (start_byte p.file.now.start) ∷ [])) plans

@@ -1,19 +1,19 @@
 -- What is drawn of each file, as entries in order tell it.
-use Rattle.std.specs.Prelude.{◌≡◌, ℕ, ◌+◌, List, [], ◌∷◌, ◌++◌, flat_map, filter, map, slice_index_or, Option, Some, None}
+use Rattle.std.specs.Prelude.{◌≡◌, ℕ, ◌+◌, List, [], ◌∷◌, ◌++◌, flat_map, filter, map, Option, Some, None}
 use Rattle.codespan_base.specs.declared.files.error.Error.{Error}
 use Rattle.codespan_base.specs.declared.term.config.Layout.{Layout}
 use Rattle.codespan_base.specs.FileModel.{FileModel, Lookup}
 use Rattle.codespan_picture.specs.Lookups.{Refusals, asked_of, first_refusal}
 use Rattle.codespan_picture.specs.Padding.{digit_count}
+use Rattle.codespan_reporting.specs.declared.term.views.file_order.LabelledFile.{LabelledFile as GivenFile}
 use Rattle.codespan_reporting.specs.declared.term.views.gather.Gathered.{Gathered}
-use Rattle.codespan_reporting.specs.declared.term.views.loci.FileStart.{FileStart}
 use Rattle.codespan_reporting.specs.declared.term.views.plan.FilePlan.{FilePlan}
 use Rattle.codespan_reporting.specs.declared.term.views.steps.Step.{Step as GivenStep}
 use Rattle.codespan_reporting.specs.declared.term.views.steps.Step.TheVariants as given
 use Rattle.codespan_reporting.specs.Inner.Entries.{Entry, is_of_file}
 use Rattle.codespan_reporting.specs.Inner.GivenEntries.{entry_of}
 use Rattle.codespan_reporting.specs.Inner.GivenSteps.{AddsSteps, numbers_asked}
-use Rattle.codespan_reporting.specs.Inner.Lanes.{Lane, all_lanes_given, lanes_given}
+use Rattle.codespan_reporting.specs.Inner.LabelledFiles.{ids_given}
 use Rattle.codespan_reporting.specs.Inner.Steps.{Step, fills_of, steps_of}
 
 -- the steps of the file at a place
@@ -29,29 +29,26 @@ by_place give k (id ∷ ids) = give k id ++ by_place give (k + 1) ids
 abbrev pub planned_lookups : {Id : Type 0} → Layout → List Entry → List Id → List (Id × Lookup)
 planned_lookups layout es ids = by_place (λ k id. asked_of id (numbers_asked layout (fills_of (steps_at es k)))) 0 ids
 
-module _ {Id : Type 0} (layout : Layout) (file : Id → FileModel) (es : List Entry) (lanes : List (List Lane)) (starts : List FileStart) where
-  -- the plan is that of the file at a place, which this id names
-  pub record IsPlan (k : ℕ) (id : Id) (plan : FilePlan Id) : Type 0 where
-    pub id_is : plan.id ≡ id
-    pub lanes_are : lanes_given plan.lanes.now ≡ slice_index_or lanes k (lanes_given plan.lanes.now)
-    pub start_is : plan.start ≡ slice_index_or starts k plan.start
-    pub adds : AddsSteps layout (file id) [] plan.steps.items (steps_at es k)
+module _ {Id : Type 0} (layout : Layout) (file : Id → FileModel) (es : List Entry) where
+  -- the plan is that of this file, which is at a place
+  pub record IsPlan (k : ℕ) (f : GivenFile Id) (plan : FilePlan Id) : Type 0 where
+    pub file_is : plan.file.now ≡ f
+    pub adds : AddsSteps layout (file f.id) [] plan.steps.items (steps_at es k)
 
   -- the plans are those of the files from a place on
-  abbrev pub ArePlans : ℕ → List Id → List (FilePlan Id) → Type 0
+  abbrev pub ArePlans : ℕ → List (GivenFile Id) → List (FilePlan Id) → Type 0
   ArePlans k [] [] = Unit {0}
   ArePlans k [] (p ∷ ps) = ⊥
-  ArePlans k (id ∷ ids) [] = ⊥
-  ArePlans k (id ∷ ids) (p ∷ ps) = IsPlan k id p × ArePlans (k + 1) ids ps
+  ArePlans k (f ∷ fs) [] = ⊥
+  ArePlans k (f ∷ fs) (p ∷ ps) = IsPlan k f p × ArePlans (k + 1) fs ps
 
--- the plans are those of the files of which this was gathered
-abbrev pub ArePlansOf : {Id : Type 0} → Layout → (Id → FileModel) → List FileStart → Gathered Id → List (FilePlan Id) → Type 0
-ArePlansOf layout file starts gathered plans =
-    ArePlans layout file (map entry_of gathered.entries.items) (all_lanes_given gathered.lanes.items) starts 0 gathered.ids.items plans
+-- the plans are those of the files that were gathered
+abbrev pub ArePlansOf : {Id : Type 0} → Layout → (Id → FileModel) → Gathered Id → List (FilePlan Id) → Type 0
+ArePlansOf layout file gathered plans = ArePlans layout file (map entry_of gathered.entries.items) 0 gathered.files.items plans
 
 -- what the lookups of the numbers of lines that are filled in are refused with
 abbrev pub plans_refusal : {Id : Type 0} → Layout → Refusals Id → Gathered Id → Option Error
-plans_refusal layout refusal gathered = first_refusal refusal (planned_lookups layout (map entry_of gathered.entries.items) gathered.ids.items)
+plans_refusal layout refusal gathered = first_refusal refusal (planned_lookups layout (map entry_of gathered.entries.items) (ids_given gathered.files.items))
 
 -- the digits of the number of a step's line, where it has one
 abbrev pub step_digits : GivenStep → List ℕ

@@ -1,53 +1,136 @@
 //! The files of labels, in the order of their first label.
 
-ghost use Rattle.std.specs.Prelude.{◌≡◌, map, IfOk, OnErr, IsErrOf};
+ghost use Rattle.std.specs.Prelude.{◌≡◌, ◌<◌, [], ◌∷◌, ◌++◌, IfOk, OnOk, OnErr, IsErrOf, length, map, not};
+ghost use Rattle.std.specs.List.{prefix_len};
 ghost use Rattle.codespan_picture.specs.Picture.{label_of};
+ghost use Rattle.codespan_reporting.specs.Inner.LabelledFiles.{all_lanes_given, ids_given, lanes_by, lanes_told, start_told, starts_given};
+ghost use Rattle.codespan_reporting.specs.Inner.Lanes.{lanes_given};
+ghost use Rattle.codespan_reporting.specs.Inner.Loci.{no_start, start_with};
 ghost use Rattle.codespan_reporting.specs.Inner.PlacedLabels.{AreApart, file_ids, file_place, label_places};
 
+use crate::term::views::label_lines::LabelLines;
+use crate::term::views::lanes::Lane;
+use crate::term::views::loci::FileStart;
 use codespan_base::diagnostic::Label;
 use codespan_base::files::Error;
 use std::alloc::Global;
 
+/// A file of a picture, as its labels tell it.
+#[derive(Drop)]
+pub struct LabelledFile<'d, FileId> {
+    /// What names the file.
+    pub id: FileId,
+    /// Where its snippet starts.
+    pub start: FileStart,
+    /// Its labels over several lines, in the order of their lanes.
+    pub lanes: Vec<Lane<'d>>,
+}
+
+impl<'d, FileId> LabelledFile<'d, FileId> {
+    /// Adds what a label of the file tells, which starts and ends on these lines. Refuses with `OutOfMemory`.
+    fn tell(&mut self, label: &'d Label<FileId>, lines: LabelLines) -> Result<(), Error>
+        ensures id { OnOk result (self.new.id ≡ self.old.id) }
+        ensures start { OnOk result (self.new.start ≡ start_with self.old.start (label_of label.now).label) }
+        ensures lanes { OnOk result (lanes_given self.new.lanes.items ≡ lanes_given self.old.lanes.items ++ lanes_by lines (label_of label.now).label) }
+        ensures refused { OnErr result (IsErrOf result Error.OutOfMemory) }
+    {
+        self.start = self.start.with(label);
+        if !lines.is_single() {
+            self.lanes.push(Lane::of(label, lines))?;
+        }
+        Ok(())
+    }
+}
+
+/// Adds what a label tells of the file at a place, which is its own. Refuses with `OutOfMemory`.
+pub fn tell_file<'d, FileId>(
+    files: &mut Vec<LabelledFile<'d, FileId>>,
+    place: usize,
+    label: &'d Label<FileId>,
+    lines: LabelLines,
+) -> Result<(), Error>
+    requires place { place < length files.old.items }
+    ensures ids { OnOk result (ids_given files.new.items ≡ ids_given files.old.items) }
+    ensures starts { OnOk result (starts_given files.new.items ≡ start_told (starts_given files.old.items) place (label_of label.now).label) }
+    ensures lanes { OnOk result (all_lanes_given files.new.items ≡ lanes_told (all_lanes_given files.old.items) place (lanes_by lines (label_of label.now).label)) }
+    ensures refused { OnErr result (IsErrOf result Error.OutOfMemory) }
+{
+    files[place].tell(label, lines)?;
+    Ok(())
+}
+
 /// The files of labels.
 #[derive(Drop)]
-pub struct LabelFiles<FileId> {
-    /// What names each file, in the order of the files' first labels.
-    pub ids: Vec<FileId>,
+pub struct LabelFiles<'d, FileId> {
+    /// Each file, in the order of the files' first labels. No label has told anything yet.
+    pub files: Vec<LabelledFile<'d, FileId>>,
     /// For each label the place of its file among these, counted from 0.
     pub places: Vec<usize>,
 }
 
 /// The files of labels, and where each label's file is among them. Refuses with `OutOfMemory`.
-pub fn label_files<FileId: Copy + Eq>(
+pub fn label_files<'d, FileId: Copy + Eq>(
     alloc: Global,
-    labels: &[Label<FileId>],
-) -> Result<LabelFiles<FileId>, Error>
-    ensures ids { IfOk result (λ files. files.ids.items ≡ file_ids FileId.eq (map label_of labels.now)) }
-    ensures places { IfOk result (λ files. files.places.items ≡ label_places FileId.eq files.ids.items (map label_of labels.now)) }
+    labels: &'d [Label<FileId>],
+) -> Result<LabelFiles<'d, FileId>, Error>
+    ensures ids { IfOk result (λ found. ids_given found.files.items ≡ file_ids FileId.eq (map label_of labels.now)) }
+    ensures places { IfOk result (λ found. found.places.items ≡ label_places FileId.eq (ids_given found.files.items) (map label_of labels.now)) }
+    ensures starts { IfOk result (λ found. starts_given found.files.items ≡ map (λ _. no_start) (ids_given found.files.items)) }
+    ensures lanes { IfOk result (λ found. all_lanes_given found.files.items ≡ map (λ _. []) (ids_given found.files.items)) }
     ensures refused { OnErr result (IsErrOf result Error.OutOfMemory) }
 {
-    let mut ids = Vec::new(alloc);
+    let mut files = Vec::new(alloc);
     let mut places = Vec::with_capacity(alloc, labels.len())?;
     let mut last = 0;
     for label in labels {
-        let place = find_place(&ids, last, label.file_id);
-        if place == ids.len() {
-            ids.push(label.file_id)?;
+        let place = find_place(&files, last, label.file_id);
+        if place == files.len() {
+            push_file(&mut files, alloc, label.file_id)?;
         }
         places.push(place)?;
         last = place;
     }
-    Ok(LabelFiles { ids, places })
+    Ok(LabelFiles { files, places })
 }
 
-/// The place of a file among those of these ids, and their number where it is none of them. The place of the last file that was found is
-/// looked at first.
-fn find_place<FileId: Copy + Eq>(ids: &[FileId], last: usize, id: FileId) -> usize
-    requires { AreApart FileId.eq ids.now }
-    ensures { result ≡ file_place FileId.eq ids.now id }
+/// Adds a file of which no label tells anything yet. Refuses with `OutOfMemory`.
+fn push_file<'d, FileId: Copy>(
+    files: &mut Vec<LabelledFile<'d, FileId>>,
+    alloc: Global,
+    id: FileId,
+) -> Result<(), Error>
+    ensures ids { OnOk result (ids_given files.new.items ≡ ids_given files.old.items ++ id ∷ []) }
+    ensures starts { OnOk result (starts_given files.new.items ≡ starts_given files.old.items ++ no_start ∷ []) }
+    ensures lanes { OnOk result (all_lanes_given files.new.items ≡ all_lanes_given files.old.items ++ [] ∷ []) }
+    ensures refused { OnErr result (IsErrOf result Error.OutOfMemory) }
 {
-    match ids.get(last) {
-        Some(other) if *other == id => last,
-        _ => ids.iter().take_while(|other| **other != id).count(),
+    files.push(LabelledFile {
+        id,
+        start: FileStart::unknown(),
+        lanes: Vec::new(alloc),
+    })?;
+    Ok(())
+}
+
+/// The place of a file of this id, and the number of the files where it is none of them. The place of the last file that was found is
+/// looked at first.
+fn find_place<FileId: Copy + Eq>(
+    files: &[LabelledFile<'_, FileId>],
+    last: usize,
+    id: FileId,
+) -> usize
+    requires { AreApart FileId.eq (ids_given files.now) }
+    ensures { result ≡ file_place FileId.eq (ids_given files.now) id }
+{
+    match files.get(last) {
+        Some(file) if file.id == id => last,
+        _ => others_len(files, id),
     }
+}
+
+/// How many files in front are not of this id.
+fn others_len<FileId: Copy + Eq>(files: &[LabelledFile<'_, FileId>], id: FileId) -> usize
+    ensures { result ≡ prefix_len (λ f. not (FileId.eq f.id id)) files.now }
+{
+    files.iter().take_while(|file| file.id != id).count()
 }

@@ -1,6 +1,6 @@
 //! What labels say of lines, gathered in one vector.
 
-ghost use Rattle.std.specs.Prelude.{◌≡◌, ◌≢◌, ◌<◌, [], true, false, None, map, length, replicate, IfErr, IfOk, IfSome, OnOk, OnErr, IsErrOf};
+ghost use Rattle.std.specs.Prelude.{◌≡◌, ◌≢◌, true, false, None, map, IfErr, IfOk, IfSome, OnOk, OnErr, IsErrOf};
 ghost use Rattle.std.specs.Option.{option_map};
 ghost use Rattle.codespan_base.specs.FileModel.{Tells};
 ghost use Rattle.codespan_base.specs.Labels.{from_line_start};
@@ -12,12 +12,10 @@ ghost use Rattle.codespan_reporting.specs.Inner.FileLookups.{refusal_in};
 ghost use Rattle.codespan_reporting.specs.Inner.GivenEntries.{IsLineAt, IsLineOf, says_of};
 ghost use Rattle.codespan_reporting.specs.Inner.GivenSheets.{IsGathered, IsGatheredInTurn};
 ghost use Rattle.codespan_reporting.specs.Inner.LabelLines.{line_of_end, line_of_start};
-ghost use Rattle.codespan_reporting.specs.Inner.Lanes.{all_lanes_given, lane_added, lane_given};
 
 use crate::term::views::entry::{Entry, Says, SourceLine};
-use crate::term::views::file_order::label_files;
+use crate::term::views::file_order::{LabelledFile, label_files, tell_file};
 use crate::term::views::label_lines::{LabelLines, label_lines};
-use crate::term::views::lanes::Lane;
 use crate::term::views::sort::sort;
 use codespan_base::diagnostic::Label;
 use codespan_base::files::{Error, Files};
@@ -212,12 +210,8 @@ fn gather_label<'files, 'd, F: Files<'files>>(
 /// What the labels of a diagnostic say of lines.
 #[derive(Drop)]
 pub struct Gathered<'d, FileId> {
-    /// The ids of the labels' files, in the order of their first label.
-    pub ids: Vec<FileId>,
-    /// For each label the place of its file among these, counted from 0.
-    pub places: Vec<usize>,
-    /// For each of these files its labels over several lines, in the order of their lanes.
-    pub lanes: Vec<Vec<Lane<'d>>>,
+    /// The labels' files, in the order of their first label, with what the labels tell of them.
+    pub files: Vec<LabelledFile<'d, FileId>>,
     /// What the labels say, in their order.
     pub entries: Vec<Entry<'d>>,
     /// How many digits the longest number has of the lines that labels span; 0 where there is none.
@@ -252,46 +246,21 @@ fn gather_in_turn<'files, 'd, F: Files<'files>>(
     ensures refused { Tells (labels_refusal config.now (F.file files.now) (F.refusal files.now) (map label_of labels.now)) result }
 {
     let of_labels = label_files(alloc, labels)?;
-    let mut lanes = no_lanes(alloc, of_labels.ids.len())?;
+    let places = of_labels.places;
+    let mut labelled = of_labels.files;
     let mut found = FoundLines {
-        entries: Vec::new(alloc),
+        entries: Vec::with_capacity(alloc, labels.len())?,
         padding: 0,
     };
     for (place, label) in labels.iter().enumerate() {
-        let file = of_labels.places[place];
+        let file = places[place];
         let at = LabelPlace { file, place };
         let lines = gather_label(files, config, at, label, &mut found)?;
-        if !lines.is_single() {
-            push_lane(&mut lanes, file, Lane::of(label, lines))?;
-        }
+        tell_file(&mut labelled, file, label, lines)?;
     }
     Ok(Gathered {
-        ids: of_labels.ids,
-        places: of_labels.places,
-        lanes,
+        files: labelled,
         entries: found.entries,
         padding: found.padding,
     })
-}
-
-/// No lane yet for each of so many files. Refuses with `OutOfMemory`.
-fn no_lanes<'d>(alloc: Global, file_count: usize) -> Result<Vec<Vec<Lane<'d>>>, Error>
-    ensures lanes { IfOk result (λ lanes. all_lanes_given lanes.items ≡ replicate file_count []) }
-    ensures refused { OnErr result (IsErrOf result Error.OutOfMemory) }
-{
-    let mut lanes = Vec::new(alloc);
-    for _ in 0..file_count {
-        lanes.push(Vec::new(alloc))?;
-    }
-    Ok(lanes)
-}
-
-/// Adds the next lane of a file. Refuses with `OutOfMemory`.
-fn push_lane<'d>(lanes: &mut Vec<Vec<Lane<'d>>>, file: usize, lane: Lane<'d>) -> Result<(), Error>
-    requires file { file < length lanes.old.items }
-    ensures added { OnOk result (all_lanes_given lanes.new.items ≡ lane_added (all_lanes_given lanes.old.items) file (lane_given lane.entry)) }
-    ensures refused { OnErr result (IsErrOf result Error.OutOfMemory) }
-{
-    lanes[file].push(lane)?;
-    Ok(())
 }

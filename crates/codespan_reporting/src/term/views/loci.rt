@@ -1,6 +1,6 @@
 //! Where the snippet of each file starts.
 
-ghost use Rattle.std.specs.Prelude.{◌≡◌, ◌∷◌, [], IfOk, OnErr, IsErrOf, map};
+ghost use Rattle.std.specs.Prelude.{◌≡◌, ◌∷◌, [], IfOk};
 ghost use Rattle.std.specs.List.{AllZip};
 ghost use Rattle.codespan_base.specs.FileModel.Lookup.{Name as NameLookup, LocationAt};
 ghost use Rattle.codespan_base.specs.Labels.{is_primary};
@@ -9,11 +9,9 @@ ghost use Rattle.codespan_picture.specs.Lookups.{TellsNaming, asked_of, first_re
 ghost use Rattle.codespan_picture.specs.Picture.{label_of};
 ghost use Rattle.codespan_picture.specs.Placed.{IsPlaceIn};
 ghost use Rattle.codespan_reporting.specs.Inner.GivenSheets.{IsPlacedPlan};
-ghost use Rattle.codespan_reporting.specs.Inner.Loci.{file_start, least_with, place_lookups, start_byte, start_with};
-ghost use Rattle.codespan_reporting.specs.Inner.PlacedLabels.{file_ids, label_places};
+ghost use Rattle.codespan_reporting.specs.Inner.Loci.{least_with, no_start, place_lookups, start_byte, start_with};
 
 use crate::term::renderer::Locus;
-use crate::term::views::gather::Gathered;
 use crate::term::views::plan::FilePlan;
 use crate::term::views::sheet::SheetFile;
 use codespan_base::diagnostic::text::display_text;
@@ -48,8 +46,18 @@ pub struct FileStart {
 }
 
 impl FileStart {
+    /// What no label tells.
+    pub fn unknown() -> FileStart
+        ensures { result ≡ no_start }
+    {
+        FileStart {
+            primary: None,
+            any: None,
+        }
+    }
+
     /// What one label more tells.
-    fn with<FileId>(self, label: &Label<FileId>) -> FileStart
+    pub fn with<FileId>(self, label: &Label<FileId>) -> FileStart
         ensures { result ≡ start_with self (label_of label.now).label }
     {
         let start = label.range.start;
@@ -73,29 +81,6 @@ impl FileStart {
             None => self.any.unwrap_or(0),
         }
     }
-}
-
-/// Where the snippet of each file of these labels starts, of which this was gathered. Refuses with `OutOfMemory`.
-pub fn file_starts<FileId: Copy + Eq>(
-    alloc: Global,
-    labels: &[Label<FileId>],
-    gathered: &Gathered<'_, FileId>,
-) -> Result<Vec<FileStart>, Error>
-    requires ids { gathered.now.ids.items ≡ file_ids FileId.eq (map label_of labels.now) }
-    requires places { gathered.now.places.items ≡ label_places FileId.eq gathered.now.ids.items (map label_of labels.now) }
-    ensures starts { IfOk result (λ starts. starts.items ≡ map (file_start FileId.eq (map label_of labels.now)) gathered.now.ids.items) }
-    ensures refused { OnErr result (IsErrOf result Error.OutOfMemory) }
-{
-    let unknown = FileStart {
-        primary: None,
-        any: None,
-    };
-    let mut starts = vec![in alloc; unknown; gathered.ids.len()]?;
-    for (place, label) in labels.iter().enumerate() {
-        let file = gathered.places[place];
-        starts[file] = starts[file].with(label);
-    }
-    Ok(starts)
 }
 
 /// The name of a file, and the location of a byte of it.
@@ -130,13 +115,10 @@ pub fn place_files<'files, 'e, 'd, F: Files<'files>>(
 {
     let mut placed = Vec::new(alloc);
     for plan in plans {
-        let locus = locus_at(alloc, files, plan.id, plan.start.byte())?;
-        placed.push(SheetFile {
-            id: plan.id,
-            locus,
-            lanes: plan.lanes,
-            steps: plan.steps,
-        })?;
+        let file = plan.file;
+        let locus = locus_at(alloc, files, file.id, file.start.byte())?;
+        let steps = plan.steps;
+        placed.push(SheetFile { file, locus, steps })?;
     }
     Ok(placed)
 }

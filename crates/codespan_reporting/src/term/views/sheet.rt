@@ -6,9 +6,9 @@ ghost use Rattle.codespan_picture.specs.Picture.{label_of};
 ghost use Rattle.codespan_reporting.specs.Inner.GivenSheets.{IsGathered, IsPrepared, sheet_refusal};
 
 use crate::term::renderer::Locus;
+use crate::term::views::file_order::LabelledFile;
 use crate::term::views::gather::Gathered;
-use crate::term::views::lanes::Lane;
-use crate::term::views::loci::{file_starts, place_files};
+use crate::term::views::loci::place_files;
 use crate::term::views::padding::drawn_padding;
 use crate::term::views::plan::plan_files;
 use crate::term::views::steps::Step;
@@ -20,12 +20,10 @@ use std::alloc::Global;
 /// A file of a picture.
 #[derive(Drop)]
 pub struct SheetFile<'e, 'd, FileId> {
-    /// What names the file.
-    pub id: FileId,
+    /// The file.
+    pub file: &'e LabelledFile<'d, FileId>,
     /// Where its snippet starts.
     pub locus: Locus,
-    /// Its labels over several lines, in the order of their lanes.
-    pub lanes: &'e [Lane<'d>],
     /// What is drawn of it, in order.
     pub steps: Vec<Step<'e, 'd>>,
 }
@@ -55,8 +53,7 @@ pub fn prepare<'files, 'e, 'd, F: Files<'files>>(
     ensures prepared { IfOk result (IsPrepared F.FileId.eq (F.file files.now) config.now (map label_of labels.now)) }
     ensures refused { TellsNaming (sheet_refusal config.now F.FileId.eq (F.file files.now) (F.refusal files.now) (map label_of labels.now)) result }
 {
-    let starts = file_starts(alloc, labels, gathered)?;
-    let plans = plan_files(alloc, files, config.layout, &starts, gathered)?;
+    let plans = plan_files(alloc, files, config.layout, gathered)?;
     let padding = match config.layout {
         Layout::Classic => gathered.padding,
         Layout::Unbroken => drawn_padding(&plans),

@@ -22,29 +22,29 @@ use std::convert::AsStr;
 fn draw_start<F, FileId, W: WriteStyle>(
     page: &Page<'_, F>,
     renderer: &mut Renderer<'_, '_, W>,
-    file: &SheetFile<'_, '_, FileId>,
+    snippet: &SheetFile<'_, '_, FileId>,
 ) -> Result<(), Error>
     ensures same { SameRenderer renderer.old renderer.new }
-    ensures sends { DrawsRows W.sink page.now.severity page.now.padding (start_rows file.now) renderer.old result renderer.new }
+    ensures sends { DrawsRows W.sink page.now.severity page.now.padding (start_rows snippet.now) renderer.old result renderer.new }
     ensures io { IfErr result IsIo }
 {
-    renderer.render_snippet_start(page.padding, &file.locus)?;
-    renderer.render_snippet_empty(page.padding, page.severity, file.lanes.len(), &[])
+    renderer.render_snippet_start(page.padding, &snippet.locus)?;
+    renderer.render_snippet_empty(page.padding, page.severity, snippet.file.lanes.len(), &[])
 }
 
 /// The row after a snippet, where something follows.
 fn draw_end<F, FileId, W: WriteStyle>(
     page: &Page<'_, F>,
     renderer: &mut Renderer<'_, '_, W>,
-    file: &SheetFile<'_, '_, FileId>,
+    snippet: &SheetFile<'_, '_, FileId>,
     is_followed: bool,
 ) -> Result<(), Error>
     ensures same { SameRenderer renderer.old renderer.new }
-    ensures sends { DrawsRows W.sink page.now.severity page.now.padding (end_rows file.now is_followed) renderer.old result renderer.new }
+    ensures sends { DrawsRows W.sink page.now.severity page.now.padding (end_rows snippet.now is_followed) renderer.old result renderer.new }
     ensures io { IfErr result IsIo }
 {
     if is_followed {
-        renderer.render_snippet_empty(page.padding, page.severity, file.lanes.len(), &[])
+        renderer.render_snippet_empty(page.padding, page.severity, snippet.file.lanes.len(), &[])
     } else {
         Ok(())
     }
@@ -58,22 +58,22 @@ pub fn draw_snippet<'files, 'd, F: Files<'files>, W: WriteStyle>(
     page: &Page<'files, F>,
     renderer: &mut Renderer<'_, '_, W>,
     marks: &mut LineMarks<'d>,
-    file: &SheetFile<'_, 'd, F::FileId>,
+    snippet: &SheetFile<'_, 'd, F::FileId>,
     is_followed: bool,
 ) -> Result<(), Error>
-    requires steps { AllByRecursion (IsStepOf (F.file page.now.files.now file.now.id)) file.now.steps.items }
-    requires fits { DoFit (map step_of file.now.steps.items) }
+    requires steps { AllByRecursion (IsStepOf (F.file page.now.files.now snippet.now.file.now.id)) snippet.now.steps.items }
+    requires fits { DoFit (map step_of snippet.now.steps.items) }
     ensures same { SameRenderer renderer.old renderer.new }
-    ensures draws { DrawsSnippet W.sink F.file F.refusal page.now file.now is_followed renderer.old result renderer.new }
+    ensures draws { DrawsSnippet W.sink F.file F.refusal page.now snippet.now is_followed renderer.old result renderer.new }
 {
-    let source = page.files.source(file.id)?;
-    draw_start(page, renderer, file)?;
+    let source = page.files.source(snippet.file.id)?;
+    draw_start(page, renderer, snippet)?;
     let lines = FileLines {
         page,
-        id: file.id,
+        id: snippet.file.id,
         text: source.as_str(),
-        lanes: file.lanes,
+        lanes: snippet.file.lanes.as_slice(),
     };
-    lines.draw_steps(renderer, marks, &file.steps)?;
-    draw_end(page, renderer, file, is_followed)
+    lines.draw_steps(renderer, marks, &snippet.steps)?;
+    draw_end(page, renderer, snippet, is_followed)
 }

@@ -1,13 +1,27 @@
-use Rattle.std.proofs.Common.{sym, subst}
+use Rattle.std.proofs.Common.{◌≡◌, not, ◌<◌, length, get_or, sym, ap, subst, ◌∙◌, arith}
 use Rattle.std.proofs.lemmas.Bool.{ltb-true}
+use Rattle.std.proofs.lemmas.List.{get_or-map, length-map}
+use Rattle.codespan_reporting.specs.declared.term.views.file_order.LabelledFile.{LabelledFile as GivenFile}
+use Rattle.codespan_reporting.specs.Inner.LabelledFiles.{ids_given}
 use Rattle.codespan_reporting.specs.Inner.PlacedLabels.{IsIdAt}
+use Rattle.codespan_reporting.proofs.FileParts.{prefix-map}
 use Rattle.codespan_reporting.proofs.FilePlaces.{at-get, guessed-place}
 use Rattle.codespan_reporting.proofs.term.views.file_order.find_place.Goals as goal
 
 pub returns-in-Some : goal.returns-in-Some
 returns-in-Some g c =
-    let ids = c.args.ids.now in
-    let other = c.in-Some.other.now in
+    let files = c.args.files.now in
+    let ids = ids_given files in
+    let last = c.args.last in
+    let file = c.in-Some.file.now in
+    let name : GivenFile g.row.FileId.Denot → g.row.FileId.Denot = λ f. f.id in
     let found = c.in-Some.ensures.lookup in
-    guessed-place g.FileId.PartialEq.eq g.met.FileId.Eq.laws ids c.args.last other c.args.id c.requires
-    (subst (IsIdAt ids c.args.last) (sym found.1) (at-get ids c.args.last other (ltb-true c.args.last _ (sym found.0)))) (sym c.if-eq.ensures)
+    let inside : last < length files = ltb-true last _ (sym found.0) in
+    let there : file.id ≡ get_or ids last file.id = ap name found.1 ∙ sym (get_or-map name files last file file.id inside) in
+    guessed-place g.FileId.PartialEq.eq g.met.FileId.Eq.laws ids last file.id c.args.id c.requires
+    (subst (IsIdAt ids last) (sym there) (at-get ids last file.id (omega (arith, inside, length-map files name)))) (sym c.if-eq.ensures)
+
+pub returns-in_default : goal.returns-in_default
+returns-in_default g c =
+    let name : GivenFile g.row.FileId.Denot → g.row.FileId.Denot = λ f. f.id in
+    c.others_len.ensures ∙ sym (prefix-map name (λ j. not (g.FileId.PartialEq.eq j c.args.id)) c.args.files.now)

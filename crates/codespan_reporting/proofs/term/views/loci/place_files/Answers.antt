@@ -22,7 +22,7 @@ returns-in_err-locus-clause-refused g c =
     rw (p.1 ∙ ap Err p.2)
     (λ memory display. placed-refused (g.F.Files.file c.args.files.now) (g.F.Files.refusal c.args.files.now)
     at.yielded (into_iter_items c.next.new.self) c.args.plans.items _ plan _ at.invariant.1 whole
-    (subst (λ n. first_refusal (g.F.Files.refusal c.args.files.now) (asked_of plan.id (Name ∷ LocationAt n ∷ [])) ≡ Some c.in_err-locus.field-0.0) c.byte.ensures (c.in_err-locus.ensures.refused memory display)))
+    (subst (λ n. first_refusal (g.F.Files.refusal c.args.files.now) (asked_of plan.file.now.id (Name ∷ LocationAt n ∷ [])) ≡ Some c.in_err-locus.field-0.0) c.byte.ensures (c.in_err-locus.ensures.refused memory display)))
 
 pub loop-plan-preserved : goal.loop-plan-preserved
 loop-plan-preserved g c =
@@ -31,9 +31,9 @@ loop-plan-preserved g c =
     let steps : into_iter_items at.plan-iterator ≡ plan ∷ into_iter_items c.next.new.self = c.in-Some.ensures.steps.0 in (
       append_assoc at.yielded (plan ∷ []) _ ∙ rw (← steps) at.invariant.0,
       placed-more (g.F.Files.file c.args.files.now) (g.F.Files.refusal c.args.files.now)
-          at.yielded _ _ plan _ at.invariant.1 (record { id_is = refl; lanes_are = refl; steps_are = refl; place = subst (λ n. IsPlaceIn (g.F.Files.file c.args.files.now plan.id) n (place_of_given c.in_ok-locus.locus)) c.byte.ensures c.in_ok-locus.ensures.locus })
+          at.yielded _ _ plan _ at.invariant.1 (record { file_is = refl; steps_are = refl; place = subst (λ n. IsPlaceIn (g.F.Files.file c.args.files.now plan.file.now.id) n (place_of_given c.in_ok-locus.locus)) c.byte.ensures c.in_ok-locus.ensures.locus })
           c.in_ok-push.ensures.items
-          (subst (λ n. first_refusal (g.F.Files.refusal c.args.files.now) (asked_of plan.id (Name ∷ LocationAt n ∷ [])) ≡ None) c.byte.ensures c.in_ok-locus.ensures.refused),
+          (subst (λ n. first_refusal (g.F.Files.refusal c.args.files.now) (asked_of plan.file.now.id (Name ∷ LocationAt n ∷ [])) ≡ None) c.byte.ensures c.in_ok-locus.ensures.refused),
       let was = at.invariant.2 in
           let gone = c.in-Some.ensures.steps.1 in
           let short = ap length steps in

@@ -1,6 +1,5 @@
 use Rattle.std.proofs.Common.{◌≡◌, ◌≤◌, length, map, take, drop}
 use Rattle.codespan_reporting.specs.Inner.GivenEntries.{entry_of}
-use Rattle.codespan_reporting.specs.Inner.Lanes.{all_lanes_given}
 use Rattle.codespan_reporting.proofs.FileParts.{from_file}
 use Rattle.codespan_reporting.proofs.PlansFound.{ArePlanned}
 use Rattle.codespan_reporting.proofs.term.views.plan.plan_files.Given as goal
@@ -10,5 +9,5 @@ abbrev pub invariant-loop-place : goal.invariant-loop-place
 invariant-loop-place g l = record {
   inside : l.start ≤ length l.gathered.entries.items;
   left : drop l.start (map entry_of l.gathered.entries.items) ≡ from_file l.place (map entry_of l.gathered.entries.items);
-  planned : ArePlanned l.layout (g.F.Files.file l.files) (map entry_of l.gathered.entries.items) (all_lanes_given l.gathered.lanes.items) l.starts (g.F.Files.refusal l.files) (take l.place l.gathered.ids.items) l.plans.items;
+  planned : ArePlanned l.layout (g.F.Files.file l.files) (map entry_of l.gathered.entries.items) (g.F.Files.refusal l.files) (take l.place l.gathered.files.items) l.plans.items;
 }

@@ -1,7 +1,6 @@
 use contract.Lifetimes.{Lfts}
-use Rattle.std.proofs.Common.{rules, ◌≡◌, Err, length, map, max, refl, sym, ap, ◌∙◌}
+use Rattle.std.proofs.Common.{rules, ◌≡◌, Err, map, max, refl, sym, ap, ◌∙◌}
 use Rattle.std.specs.Prelude.{flat_map, fold}
-use Rattle.std.proofs.lemmas.List.{length-map}
 use Rattle.std.proofs.lemmas.Result.{err_from_is_err_and}
 use Rattle.codespan_picture.specs.Lookups.{asked_of, locus_lookups}
 use Rattle.codespan_picture.specs.Picture.{label_of}
@@ -24,10 +23,7 @@ are_files g κs claim files = record {
 }
 
 pub plan_files-requires : goal.plan_files-requires
-plan_files-requires g c κs =
-    let starts = ap length (c.deref.ensures.value ∙ c.in_ok-starts.ensures.starts) ∙ length-map c.args.gathered.now.ids.items _ in
-    let lanes = sym (length-map c.args.gathered.now.lanes.items _) ∙ ap length c.requires.files.lanes_are ∙ length-map c.args.gathered.now.ids.items _ in
-    ((refl, tt), (c.requires.sorted, (c.requires.lines, (lanes, starts))))
+plan_files-requires g c κs = ((refl, tt), (c.requires.sorted, c.requires.lines))
 
 pub returns-in_err-plans-clause-refused : goal.returns-in_err-plans-clause-refused
 returns-in_err-plans-clause-refused g c =
@@ -38,8 +34,8 @@ returns-in_err-plans-clause-refused g c =
     let xs = map label_of c.args.labels.now in
     let refusal = g.F.Files.refusal c.args.files.now in
     let gathered = c.args.gathered.now in
-    let numbers = numbers-are same file table config xs gathered c.requires c.deref.result.now (c.deref.ensures.value ∙ c.in_ok-starts.ensures.starts) refusal in
-    let p = err_from_is_err_and c.from_residual-in_err-plans.result c.from_residual-in_err-plans.ensures.1 in
+    let numbers = numbers-are same file table config xs gathered c.requires refusal in
+    let p = err_from_is_err_and c.from_residual.result c.from_residual.ensures.1 in
     rw (p.1 ∙ ap Err p.2) (λ memory display. numbers-refused same file config xs refusal _ numbers _ (c.in_err-plans.ensures.refused memory))
 
 pub returns-in_err-files-clause-refused : goal.returns-in_err-files-clause-refused
@@ -51,12 +47,12 @@ returns-in_err-files-clause-refused g c =
     let xs = map label_of c.args.labels.now in
     let refusal = g.F.Files.refusal c.args.files.now in
     let gathered = c.args.gathered.now in
-    let numbers = numbers-are same file table config xs gathered c.requires c.deref.result.now (c.deref.ensures.value ∙ c.in_ok-starts.ensures.starts) refusal in
+    let numbers = numbers-are same file table config xs gathered c.requires refusal in
     let plans = c.in_ok-plans.plans.items in
     let found = c.in_ok-plans.ensures.plans in
-    let ids = plan_ids same file table config xs gathered c.requires c.deref.result.now (c.deref.ensures.value ∙ c.in_ok-starts.ensures.starts) plans found in
+    let ids = plan_ids same file table config xs gathered c.requires plans found in
     let split = sheet-is same file config xs refusal _ plans numbers
-    (ap (flat_map (λ id. asked_of id (locus_lookups same file xs id))) (sym ids) ∙ places-are same file config xs plans (file_plans same file table config xs gathered c.requires c.deref.result.now (c.deref.ensures.value ∙ c.in_ok-starts.ensures.starts) plans found)) in
+    (ap (flat_map (λ id. asked_of id (locus_lookups same file xs id))) (sym ids) ∙ places-are same file config xs plans (file_plans same file table config xs gathered c.requires plans found)) in
     let p = err_from_is_err_and c.from_residual-in_err-files.result c.from_residual-in_err-files.ensures.1 in
     rw (p.1 ∙ ap Err p.2) (λ memory display. split ∙ or_refusal-answered _ _ c.in_ok-plans.ensures.refused ∙ c.in_err-files.ensures.refused memory display)
 
@@ -71,10 +67,10 @@ returns-clause-prepared g c =
     let plans = c.in_ok-plans.plans.items in
     let found = c.in_ok-plans.ensures.plans in
     let room : c.match-config.padding ≡ padding_of config (labelled_files same file xs) = elim c.match-config.branch [
-      | in-Classic w ↦ spanned-padding same file table config xs gathered c.requires c.deref.result.now (c.deref.ensures.value ∙ c.in_ok-starts.ensures.starts) plans found w.in-Classic.is _ w.padding-is
-      | in-Unbroken w ↦ drawn-padding same file table config xs gathered c.requires c.deref.result.now (c.deref.ensures.value ∙ c.in_ok-starts.ensures.starts) plans found w.in-Unbroken.is _ (w.padding-is ∙ w.drawn_padding-padding.ensures ∙ ap (λ ps. fold max 0 (flat_map plan_digits ps)) w.deref-in-Unbroken.ensures.value)
+      | in-Classic w ↦ spanned-padding same file table config xs gathered c.requires plans found w.in-Classic.is _ w.padding-is
+      | in-Unbroken w ↦ drawn-padding same file table config xs gathered c.requires plans found w.in-Unbroken.is _ (w.padding-is ∙ w.drawn_padding-padding.ensures ∙ ap (λ ps. fold max 0 (flat_map plan_digits ps)) w.deref.ensures.value)
     ] in
-    sheet-prepared same file config xs plans _ (plan_ids same file table config xs gathered c.requires c.deref.result.now (c.deref.ensures.value ∙ c.in_ok-starts.ensures.starts) plans found) (file_plans same file table config xs gathered c.requires c.deref.result.now (c.deref.ensures.value ∙ c.in_ok-starts.ensures.starts) plans found)
+    sheet-prepared same file config xs plans _ (plan_ids same file table config xs gathered c.requires plans found) (file_plans same file table config xs gathered c.requires plans found)
     c.in_ok-files.ensures.placed room
 
 pub returns-clause-refused : goal.returns-clause-refused
@@ -86,10 +82,10 @@ returns-clause-refused g c =
     let xs = map label_of c.args.labels.now in
     let refusal = g.F.Files.refusal c.args.files.now in
     let gathered = c.args.gathered.now in
-    let numbers = numbers-are same file table config xs gathered c.requires c.deref.result.now (c.deref.ensures.value ∙ c.in_ok-starts.ensures.starts) refusal in
+    let numbers = numbers-are same file table config xs gathered c.requires refusal in
     let plans = c.in_ok-plans.plans.items in
     let found = c.in_ok-plans.ensures.plans in
-    let ids = plan_ids same file table config xs gathered c.requires c.deref.result.now (c.deref.ensures.value ∙ c.in_ok-starts.ensures.starts) plans found in
+    let ids = plan_ids same file table config xs gathered c.requires plans found in
     let split = sheet-is same file config xs refusal _ plans numbers
-    (ap (flat_map (λ id. asked_of id (locus_lookups same file xs id))) (sym ids) ∙ places-are same file config xs plans (file_plans same file table config xs gathered c.requires c.deref.result.now (c.deref.ensures.value ∙ c.in_ok-starts.ensures.starts) plans found)) in
+    (ap (flat_map (λ id. asked_of id (locus_lookups same file xs id))) (sym ids) ∙ places-are same file config xs plans (file_plans same file table config xs gathered c.requires plans found)) in
     split ∙ or_refusal-answered _ _ c.in_ok-plans.ensures.refused ∙ c.in_ok-files.ensures.refused

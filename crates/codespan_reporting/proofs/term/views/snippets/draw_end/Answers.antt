@@ -13,4 +13,4 @@ returns-else-is_followed-clause-sends g c =
     let s = g.W.WriteStyle.sink (writer_of c.args.renderer.now) in
     let page = c.args.page.now in
     let look = look_of (config_of c.args.renderer.now) page.severity page.padding in
-    (refl, λ told. sym (ap (λ (b : Bool). sent s (stream_of_rows look (if b then EmptyRow (record { count = length c.args.file.now.lanes.now; marks = [] }) ∷ [] else []))) c.if-is_followed.false ∙ sent-nil s))
+    (refl, λ told. sym (ap (λ (b : Bool). sent s (stream_of_rows look (if b then EmptyRow (record { count = length c.args.snippet.now.file.now.lanes.items; marks = [] }) ∷ [] else []))) c.if-is_followed.false ∙ sent-nil s))

@@ -1,0 +1,43 @@
+-- The files of a picture, as a view holds them with what their labels tell.
+use Rattle.std.specs.Prelude.{◌≡◌, ◌==◌, ℕ, Bool, List, [], ◌∷◌, ◌++◌, if◌then◌else◌, map, slice_index_or, slice_set}
+use Rattle.codespan_base.specs.FileModel.{FileModel}
+use Rattle.codespan_base.specs.Labels.{Labelled}
+use Rattle.codespan_picture.specs.Snippets.{InFile}
+use Rattle.codespan_reporting.specs.declared.term.views.file_order.LabelledFile.{LabelledFile as GivenFile}
+use Rattle.codespan_reporting.specs.declared.term.views.label_lines.LabelLines.{LabelLines}
+use Rattle.codespan_reporting.specs.declared.term.views.loci.FileStart.{FileStart}
+use Rattle.codespan_reporting.specs.Inner.Lanes.{Lane, lanes_given, lanes_in}
+use Rattle.codespan_reporting.specs.Inner.Loci.{file_start, no_start, start_with}
+
+-- ---- all files
+
+-- what names each
+abbrev pub ids_given : {Id : Type 0} → List (GivenFile Id) → List Id
+ids_given {Id} files = map (λ (f : GivenFile Id). f.id) files
+
+-- where the snippet of each starts
+abbrev pub starts_given : {Id : Type 0} → List (GivenFile Id) → List FileStart
+starts_given {Id} files = map (λ (f : GivenFile Id). f.start) files
+
+-- the lanes of each
+abbrev pub all_lanes_given : {Id : Type 0} → List (GivenFile Id) → List (List Lane)
+all_lanes_given {Id} files = map (λ (f : GivenFile Id). lanes_given f.lanes.items) files
+
+-- the file has what these labels tell of it
+pub record IsTold {Id : Type 0} (same : Id → Id → Bool) (file : Id → FileModel) (xs : List (InFile Id)) (f : GivenFile Id) : Type 0 where
+  pub start_is : f.start ≡ file_start same xs f.id
+  pub lanes_are : lanes_given f.lanes.items ≡ lanes_in same file xs f.id
+
+-- ---- one label more
+
+-- the lane of a label that starts and ends on these lines, where it is over several
+abbrev pub lanes_by : LabelLines → Labelled → List Lane
+lanes_by lines x = if lines.first == lines.last then [] else record { first = lines.first; last = lines.last; label = x } ∷ []
+
+-- where snippets start, with what a label of the file at this place tells
+abbrev pub start_told : List FileStart → ℕ → Labelled → List FileStart
+start_told starts place x = slice_set starts place (start_with (slice_index_or starts place no_start) x)
+
+-- the lanes of all files, with those of one more label of the file at this place
+abbrev pub lanes_told : List (List Lane) → ℕ → List Lane → List (List Lane)
+lanes_told lanes place own = slice_set lanes place (slice_index_or lanes place [] ++ own)
