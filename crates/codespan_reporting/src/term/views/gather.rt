@@ -210,6 +210,8 @@ fn gather_label<'files, 'd, F: Files<'files>>(
 /// What the labels of a diagnostic say of lines.
 #[derive(Drop)]
 pub struct Gathered<'d, FileId> {
+    /// The labels.
+    pub labels: &'d [Label<FileId>],
     /// The labels' files, in the order of their first label, with what the labels tell of them.
     pub files: Vec<LabelledFile<'d, FileId>>,
     /// What the labels say, in their order.
@@ -227,6 +229,7 @@ pub fn gather<'files, 'd, F: Files<'files>>(
     config: &Config<'_>,
     labels: &'d [Label<F::FileId>],
 ) -> Result<Gathered<'d, F::FileId>, Error>
+    ensures labels { IfOk result (λ gathered. gathered.labels.now ≡ labels.now) }
     ensures gathered { IfOk result (IsGathered F.FileId.eq (F.file files.now) config.now (map label_of labels.now)) }
     ensures refused { Tells (labels_refusal config.now (F.file files.now) (F.refusal files.now) (map label_of labels.now)) result }
 {
@@ -242,6 +245,7 @@ fn gather_in_turn<'files, 'd, F: Files<'files>>(
     config: &Config<'_>,
     labels: &'d [Label<F::FileId>],
 ) -> Result<Gathered<'d, F::FileId>, Error>
+    ensures labels { IfOk result (λ gathered. gathered.labels.now ≡ labels.now) }
     ensures gathered { IfOk result (IsGatheredInTurn F.FileId.eq (F.file files.now) config.now (map label_of labels.now)) }
     ensures refused { Tells (labels_refusal config.now (F.file files.now) (F.refusal files.now) (map label_of labels.now)) result }
 {
@@ -259,6 +263,7 @@ fn gather_in_turn<'files, 'd, F: Files<'files>>(
         tell_file(&mut labelled, file, label, lines)?;
     }
     Ok(Gathered {
+        labels,
         files: labelled,
         entries: found.entries,
         padding: found.padding,

@@ -92,7 +92,7 @@ impl<'diagnostic, 'config, FileId: Copy + Eq> RichDiagnostic<'diagnostic, 'confi
         let alloc = *diagnostic.labels.allocator();
         let labels = diagnostic.labels.as_slice();
         let gathered = gather(alloc, files, self.config, labels)?;
-        let sheet = prepare(alloc, files, self.config, labels, &gathered)?;
+        let sheet = prepare(alloc, files, self.config, &gathered)?;
         draw_header(diagnostic, renderer, None)?;
         self.draw_snippets(files, renderer, &sheet)?;
         draw_closing(diagnostic, renderer, sheet.padding)

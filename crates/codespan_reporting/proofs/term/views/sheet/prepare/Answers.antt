@@ -15,7 +15,7 @@ use Rattle.codespan_reporting.proofs.term.views.sheet.prepare.Goals.{in-Classic,
 use Rattle.codespan_reporting.proofs.term.views.sheet.prepare.Goals as goal
 
 -- the files are lawful, and equal ids name one file
-are_files : (g : Over) (κs : Lfts 10) → g.claim κs → (files : g.row.F.Denot) → AreFiles g.F.FileId.PartialEq.eq (g.F.Files.file files)
+are_files : (g : Over) (κs : Lfts 9) → g.claim κs → (files : g.row.F.Denot) → AreFiles g.F.FileId.PartialEq.eq (g.F.Files.file files)
 are_files g κs claim files = record {
   equivalence = g.met.F.FileId.Eq.laws;
   one_file = λ i j same. ((g.met.F.Files κs claim).same_file files i j same).0;
@@ -31,7 +31,7 @@ returns-in_err-plans-clause-refused g c =
     let same = g.F.FileId.PartialEq.eq in
     let table = are_files g c.lifetimes (search rules) c.args.files.now in
     let config = c.args.config.now in
-    let xs = map label_of c.args.labels.now in
+    let xs = map label_of c.args.gathered.now.labels.now in
     let refusal = g.F.Files.refusal c.args.files.now in
     let gathered = c.args.gathered.now in
     let numbers = numbers-are same file table config xs gathered c.requires refusal in
@@ -44,7 +44,7 @@ returns-in_err-files-clause-refused g c =
     let same = g.F.FileId.PartialEq.eq in
     let table = are_files g c.lifetimes (search rules) c.args.files.now in
     let config = c.args.config.now in
-    let xs = map label_of c.args.labels.now in
+    let xs = map label_of c.args.gathered.now.labels.now in
     let refusal = g.F.Files.refusal c.args.files.now in
     let gathered = c.args.gathered.now in
     let numbers = numbers-are same file table config xs gathered c.requires refusal in
@@ -62,7 +62,7 @@ returns-clause-prepared g c =
     let same = g.F.FileId.PartialEq.eq in
     let table = are_files g c.lifetimes (search rules) c.args.files.now in
     let config = c.args.config.now in
-    let xs = map label_of c.args.labels.now in
+    let xs = map label_of c.args.gathered.now.labels.now in
     let gathered = c.args.gathered.now in
     let plans = c.in_ok-plans.plans.items in
     let found = c.in_ok-plans.ensures.plans in
@@ -79,7 +79,7 @@ returns-clause-refused g c =
     let same = g.F.FileId.PartialEq.eq in
     let table = are_files g c.lifetimes (search rules) c.args.files.now in
     let config = c.args.config.now in
-    let xs = map label_of c.args.labels.now in
+    let xs = map label_of c.args.gathered.now.labels.now in
     let refusal = g.F.Files.refusal c.args.files.now in
     let gathered = c.args.gathered.now in
     let numbers = numbers-are same file table config xs gathered c.requires refusal in

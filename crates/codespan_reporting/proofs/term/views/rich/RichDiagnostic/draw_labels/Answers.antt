@@ -3,7 +3,7 @@ use Rattle.std.proofs.lemmas.List.{length-map}
 use Rattle.std.proofs.lemmas.Result.{err_from_is_err_and}
 use Rattle.codespan_base.specs.declared.term.config.Config.{Config}
 use Rattle.codespan_base.specs.Streams.{Stream}
-use Rattle.codespan_reporting.specs.Inner.GivenSheets.{IsPrepared, places_of}
+use Rattle.codespan_reporting.specs.Inner.GivenSheets.{IsGathered, IsPrepared, places_of, sheet_refusal}
 use Rattle.codespan_picture.specs.Placed.{placed_snippets}
 use Rattle.codespan_picture.specs.Lookups.{early_lookups, first_refusal}
 use Rattle.codespan_picture.specs.Picture.{label_of, labels_of, look_of, notes_of}
@@ -20,12 +20,16 @@ use Rattle.codespan_reporting.proofs.SnippetParts.{sends_at}
 use Rattle.codespan_reporting.proofs.term.views.rich.RichDiagnostic.draw_labels.Goals as goal
 
 pub prepare-requires : goal.prepare-requires
-prepare-requires g c κs = ((refl, tt), c.in_ok-gathered.ensures.gathered)
+prepare-requires g c κs =
+    let view = view_config_of c.args.self.now in (
+      (refl, tt),
+      subst (λ ls. IsGathered g.FileId.PartialEq.eq (g.F.Files.file c.args.files.now) view (map label_of ls) c.in_ok-gathered.gathered) (sym c.in_ok-gathered.ensures.labels) c.in_ok-gathered.ensures.gathered,
+    )
 
 pub draw_snippets-requires : goal.draw_snippets-requires
 draw_snippets-requires g c κs =
-    let labels : map label_of c.as_slice-labels.result.now ≡ labels_of (diagnostic_of c.args.self.now) = ap (map label_of) c.as_slice-labels.ensures.value in
-    let prepared = subst (λ ys. IsPrepared g.FileId.PartialEq.eq (g.F.Files.file c.args.files.now) (view_config_of c.args.self.now) ys c.in_ok-sheet.sheet) labels c.in_ok-sheet.ensures.prepared in
+    let told : map label_of c.in_ok-gathered.gathered.labels.now ≡ labels_of (diagnostic_of c.args.self.now) = ap (map label_of) (c.in_ok-gathered.ensures.labels ∙ c.as_slice-labels.ensures.value) in
+    let prepared = subst (λ ys. IsPrepared g.FileId.PartialEq.eq (g.F.Files.file c.args.files.now) (view_config_of c.args.self.now) ys c.in_ok-sheet.sheet) told c.in_ok-sheet.ensures.prepared in
     ((refl, (refl, (refl, tt))), prepared)
 
 pub returns-in_err-gathered-clause-draws : goal.returns-in_err-gathered-clause-draws
@@ -54,12 +58,14 @@ returns-in_err-sheet-clause-draws g c =
     let same = g.FileId.PartialEq.eq in
     let some : 0 < length (labels_of d) = omega (arith, c.requires, length-map d.labels.items label_of) in
     let labels : map label_of c.as_slice-labels.result.now ≡ labels_of d = ap (map label_of) c.as_slice-labels.ensures.value in
+    let told : map label_of c.in_ok-gathered.gathered.labels.now ≡ labels_of d = ap (map label_of) (c.in_ok-gathered.ensures.labels ∙ c.as_slice-labels.ensures.value) in
+    let asked = ap (λ ls. sheet_refusal view same file refusal (map label_of ls)) (sym c.in_ok-gathered.ensures.labels) in
     let xs = map label_of c.as_slice-labels.result.now in
     let p = err_from_is_err_and c.from_residual-in_err-sheet.result c.from_residual-in_err-sheet.ensures.1 in
     rw (p.1 ∙ ap Err p.2)
     (refused_early renderer view same file refusal d _ _ _ refl (some_early view same file refusal (labels_of d) some)
     (λ memory display. ap (λ ys. first_refusal refusal (early_lookups view same file refusal ys)) (sym labels)
-    ∙ labels-answered same file view xs refusal c.in_ok-gathered.ensures.refused ∙ c.in_err-sheet.ensures.refused memory display))
+    ∙ labels-answered same file view xs refusal c.in_ok-gathered.ensures.refused ∙ asked ∙ c.in_err-sheet.ensures.refused memory display))
 
 pub returns-in_err-draw_header-clause-draws : goal.returns-in_err-draw_header-clause-draws
 returns-in_err-draw_header-clause-draws g c =
@@ -70,10 +76,12 @@ returns-in_err-draw_header-clause-draws g c =
     let d = diagnostic_of c.args.self.now in
     let same = g.FileId.PartialEq.eq in
     let labels : map label_of c.as_slice-labels.result.now ≡ labels_of d = ap (map label_of) c.as_slice-labels.ensures.value in
+    let told : map label_of c.in_ok-gathered.gathered.labels.now ≡ labels_of d = ap (map label_of) (c.in_ok-gathered.ensures.labels ∙ c.as_slice-labels.ensures.value) in
+    let asked = ap (λ ls. sheet_refusal view same file refusal (map label_of ls)) (sym c.in_ok-gathered.ensures.labels) in
     let xs = map label_of c.as_slice-labels.result.now in
-    let prepared : IsPrepared same file view (labels_of d) c.in_ok-sheet.sheet = subst (λ ys. IsPrepared same file view ys c.in_ok-sheet.sheet) labels c.in_ok-sheet.ensures.prepared in
+    let prepared : IsPrepared same file view (labels_of d) c.in_ok-sheet.sheet = subst (λ ys. IsPrepared same file view ys c.in_ok-sheet.sheet) told c.in_ok-sheet.ensures.prepared in
     let early : first_refusal refusal (early_lookups view same file refusal (labels_of d)) ≡ None =
-    ap (λ ys. first_refusal refusal (early_lookups view same file refusal ys)) (sym labels) ∙ labels-answered same file view xs refusal c.in_ok-gathered.ensures.refused ∙ c.in_ok-sheet.ensures.refused in
+    ap (λ ys. first_refusal refusal (early_lookups view same file refusal ys)) (sym labels) ∙ labels-answered same file view xs refusal c.in_ok-gathered.ensures.refused ∙ asked ∙ c.in_ok-sheet.ensures.refused in
     let p = err_from_is_err_and c.from_residual-in_err-draw_header.result c.from_residual-in_err-draw_header.ensures.1 in
     rw (p.1 ∙ ap Err p.2) (stopped-in_header renderer view same file refusal d c.in_ok-sheet.sheet prepared early _ _ _ c.in_err-draw_header.ensures.sends c.in_err-draw_header.ensures.io)
 
@@ -87,10 +95,12 @@ returns-in_err-draw_snippets-clause-draws g c =
     let same = g.FileId.PartialEq.eq in
     let some : 0 < length (labels_of d) = omega (arith, c.requires, length-map d.labels.items label_of) in
     let labels : map label_of c.as_slice-labels.result.now ≡ labels_of d = ap (map label_of) c.as_slice-labels.ensures.value in
+    let told : map label_of c.in_ok-gathered.gathered.labels.now ≡ labels_of d = ap (map label_of) (c.in_ok-gathered.ensures.labels ∙ c.as_slice-labels.ensures.value) in
+    let asked = ap (λ ls. sheet_refusal view same file refusal (map label_of ls)) (sym c.in_ok-gathered.ensures.labels) in
     let xs = map label_of c.as_slice-labels.result.now in
-    let prepared : IsPrepared same file view (labels_of d) c.in_ok-sheet.sheet = subst (λ ys. IsPrepared same file view ys c.in_ok-sheet.sheet) labels c.in_ok-sheet.ensures.prepared in
+    let prepared : IsPrepared same file view (labels_of d) c.in_ok-sheet.sheet = subst (λ ys. IsPrepared same file view ys c.in_ok-sheet.sheet) told c.in_ok-sheet.ensures.prepared in
     let early : first_refusal refusal (early_lookups view same file refusal (labels_of d)) ≡ None =
-    ap (λ ys. first_refusal refusal (early_lookups view same file refusal ys)) (sym labels) ∙ labels-answered same file view xs refusal c.in_ok-gathered.ensures.refused ∙ c.in_ok-sheet.ensures.refused in
+    ap (λ ys. first_refusal refusal (early_lookups view same file refusal ys)) (sym labels) ∙ labels-answered same file view xs refusal c.in_ok-gathered.ensures.refused ∙ asked ∙ c.in_ok-sheet.ensures.refused in
     let middle : Config → Stream = λ k. stream_of_rows (look_of k d.severity c.in_ok-sheet.sheet.padding)
     (placed_snippets view (has_any (notes_of d)) (places_of c.in_ok-sheet.sheet.files.items) (labelled_files same file (labels_of d))) in
     let e = c.in_err-draw_snippets.field-0.0 in
@@ -107,10 +117,12 @@ returns-clause-draws g c =
     let d = diagnostic_of c.args.self.now in
     let same = g.FileId.PartialEq.eq in
     let labels : map label_of c.as_slice-labels.result.now ≡ labels_of d = ap (map label_of) c.as_slice-labels.ensures.value in
+    let told : map label_of c.in_ok-gathered.gathered.labels.now ≡ labels_of d = ap (map label_of) (c.in_ok-gathered.ensures.labels ∙ c.as_slice-labels.ensures.value) in
+    let asked = ap (λ ls. sheet_refusal view same file refusal (map label_of ls)) (sym c.in_ok-gathered.ensures.labels) in
     let xs = map label_of c.as_slice-labels.result.now in
-    let prepared : IsPrepared same file view (labels_of d) c.in_ok-sheet.sheet = subst (λ ys. IsPrepared same file view ys c.in_ok-sheet.sheet) labels c.in_ok-sheet.ensures.prepared in
+    let prepared : IsPrepared same file view (labels_of d) c.in_ok-sheet.sheet = subst (λ ys. IsPrepared same file view ys c.in_ok-sheet.sheet) told c.in_ok-sheet.ensures.prepared in
     let early : first_refusal refusal (early_lookups view same file refusal (labels_of d)) ≡ None =
-    ap (λ ys. first_refusal refusal (early_lookups view same file refusal ys)) (sym labels) ∙ labels-answered same file view xs refusal c.in_ok-gathered.ensures.refused ∙ c.in_ok-sheet.ensures.refused in
+    ap (λ ys. first_refusal refusal (early_lookups view same file refusal ys)) (sym labels) ∙ labels-answered same file view xs refusal c.in_ok-gathered.ensures.refused ∙ asked ∙ c.in_ok-sheet.ensures.refused in
     let middle : Config → Stream = λ k. stream_of_rows (look_of k d.severity c.in_ok-sheet.sheet.padding)
     (placed_snippets view (has_any (notes_of d)) (places_of c.in_ok-sheet.sheet.files.items) (labelled_files same file (labels_of d))) in
     let first = c.in_ok-draw_header.ensures.same.config in
