@@ -98,6 +98,11 @@ module _ {Id : Type 0} (same : Id → Id → Bool) (o : IsEquivalence same) wher
       or_parts true c h = absurd (true≢false h)
       or_parts false c h = (refl, h)
 
+  -- an id that is none of those in front has its place after them
+  pub place-past : (before rest : List Id) (i : Id) → AllByRecursion (λ j. same j i ≡ false) before → file_place same (before ++ rest) i ≡ length before + file_place same rest i
+  place-past [] rest i none = omega arith
+  place-past (j ∷ js) rest i none = let later = place-later same o j (js ++ rest) i none.0 in let past = place-past js rest i none.1 in omega (arith, later, past)
+
   -- one more id after these changes no place of one of them, nor that of the id itself
   pub place-kept : (ids : List Id) (j i : Id) → (has same o ids i || same j i) ≡ true → file_place same (ids ++ j ∷ []) i ≡ file_place same ids i
   place-kept [] j i there = place-here same o j [] i there

@@ -1,15 +1,19 @@
 -- The files of labels, and the place of each label's file, one label after another.
-use Rattle.std.proofs.Common.{◌≡◌, ℕ, ◌<◌, Bool, true, false, ◌||◌, List, [], ◌∷◌, ◌++◌, length, get_or, map, arith, refl, sym, ap, subst, ◌∙◌}
+use Rattle.std.proofs.Common.{◌≡◌, ℕ, ◌+◌, ◌<◌, ◌≤◌, Bool, true, false, ◌||◌, List, [], ◌∷◌, ◌++◌, length, get_or, take, drop, map, arith, refl, sym, ap, subst, ◌∙◌, append-nil}
 use Rattle.std.specs.Cmp.{IsEquivalence}
 use Rattle.std.specs.List.{AllByRecursion}
-use Rattle.std.proofs.lemmas.List.{get_or-map, length-map, map-append}
+use Rattle.std.proofs.lemmas.List.{get_or-map, length-map, length-take-le, map-append, take-append-drop, take_all, take_more}
 use Rattle.std.proofs.lemmas.List.Elements.{recursion_from_All}
 use Rattle.codespan_base.specs.declared.diagnostic.Label.{Label}
 use Rattle.codespan_picture.specs.Picture.{label_of}
 use Rattle.codespan_picture.specs.Snippets.{InFile}
+use Rattle.codespan_reporting.specs.declared.term.views.file_order.LabelledFile.{LabelledFile as GivenFile}
+use Rattle.codespan_reporting.specs.Inner.LabelledFiles.{ids_given}
 use Rattle.codespan_reporting.specs.Inner.PlacedLabels.{file_ids, file_place, label_places}
 use Rattle.codespan_reporting.proofs.FileOrder.{file_ids-has, file_ids-more, has}
-use Rattle.codespan_reporting.proofs.FilePlaces.{place-kept}
+use Rattle.codespan_reporting.proofs.FilePlaces.{place-here, place-kept, place-past}
+use Rattle.codespan_reporting.proofs.SheetDrawing.{drop-one}
+use Rattle.codespan_laws.proofs.SortedLists.{all-append}
 
 -- the files of these labels, and the places of theirs among them
 pub record AreFilesOf {Id : Type 0} (same : Id → Id → Bool) (xs : List (InFile Id)) (ids : List Id) (places : List ℕ) : Type 0 where
@@ -64,3 +68,41 @@ module _ {Id : Type 0} (same : Id → Id → Bool) (o : IsEquivalence same) wher
         either : (b : Bool) {c : Bool} → c ≡ true → (b || c) ≡ true
         either true t = refl
         either false t = t
+
+-- ---- a file looked for, one after another
+
+module _ {Id : Type 0} (same : Id → Id → Bool) (o : IsEquivalence same) (files : List (GivenFile Id)) (k : ℕ) (id : Id)
+    (none : AllByRecursion (λ j. same j id ≡ false) (ids_given (take k files))) where
+  -- what names a file
+  abbrev name : GivenFile Id → Id
+  name f = f.id
+
+  -- the id is none of all files
+  pub place-nowhere : length files ≤ k → length files ≡ file_place same (ids_given files) id
+  place-nowhere past =
+      let all = subst (λ (fs : List (GivenFile Id)). AllByRecursion (λ j. same j id ≡ false) (ids_given fs)) (take_all k files past) none in
+      let after = ap (λ js. file_place same js id) (sym (append-nil (ids_given files))) ∙ place-past same o (ids_given files) [] id all in
+      let long = length-map files name in
+      omega (arith, after, long)
+
+  module _ (f : GivenFile Id) (inside : k < length files) (at : f ≡ get_or files k f) where
+    -- the files up to the one at the place
+    up_to : take (k + 1) files ≡ take k files ++ f ∷ []
+    up_to = take_more files k f inside ∙ ap (λ (g : GivenFile Id). take k files ++ g ∷ []) (sym at)
+
+    -- the file is not of the id either
+    pub none-more : same f.id id ≡ false → AllByRecursion (λ j. same j id ≡ false) (ids_given (take (k + 1) files))
+    none-more apart =
+        subst (λ (js : List Id). AllByRecursion (λ j. same j id ≡ false) js) (sym (ap ids_given up_to ∙ map-append name (take k files) (f ∷ [])))
+        (all-append (λ j. same j id ≡ false) (ids_given (take k files)) (f.id ∷ []) none (apart, tt))
+
+    -- it is the first one that is
+    pub place-first : same f.id id ≡ true → k ≡ file_place same (ids_given files) id
+    place-first is =
+        let rest = drop (k + 1) files in
+        let whole : ids_given files ≡ ids_given (take k files) ++ ids_given (f ∷ rest) =
+        ap ids_given (sym (take-append-drop k files) ∙ ap (λ (gs : List (GivenFile Id)). take k files ++ gs) (drop-one files k f inside at)) ∙ map-append name (take k files) (f ∷ rest) in
+        let after = ap (λ js. file_place same js id) whole ∙ place-past same o (ids_given (take k files)) (ids_given (f ∷ rest)) id none in
+        let here = place-here same o f.id (ids_given rest) id is in
+        let long = length-map (take k files) name ∙ length-take-le k files (omega (arith, inside)) in
+        omega (arith, after, here, long)

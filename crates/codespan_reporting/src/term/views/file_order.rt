@@ -1,7 +1,6 @@
 //! The files of labels, in the order of their first label.
 
-ghost use Rattle.std.specs.Prelude.{◌≡◌, ◌<◌, [], ◌∷◌, ◌++◌, IfOk, OnOk, OnErr, IsErrOf, length, map, not};
-ghost use Rattle.std.specs.List.{prefix_len};
+ghost use Rattle.std.specs.Prelude.{◌≡◌, ◌<◌, [], ◌∷◌, ◌++◌, IfOk, OnOk, OnErr, IsErrOf, length, map};
 ghost use Rattle.codespan_picture.specs.Picture.{label_of};
 ghost use Rattle.codespan_reporting.specs.Inner.LabelledFiles.{all_lanes_given, ids_given, lanes_by, lanes_told, start_told, starts_given};
 ghost use Rattle.codespan_reporting.specs.Inner.Lanes.{lanes_given};
@@ -124,13 +123,18 @@ fn find_place<FileId: Copy + Eq>(
 {
     match files.get(last) {
         Some(file) if file.id == id => last,
-        _ => others_len(files, id),
+        _ => first_place(files, id),
     }
 }
 
-/// How many files in front are not of this id.
-fn others_len<FileId: Copy + Eq>(files: &[LabelledFile<'_, FileId>], id: FileId) -> usize
-    ensures { result ≡ prefix_len (λ f. not (FileId.eq f.id id)) files.now }
+/// The place of the first file of this id, and the number of the files where it is none of them.
+fn first_place<FileId: Copy + Eq>(files: &[LabelledFile<'_, FileId>], id: FileId) -> usize
+    ensures { result ≡ file_place FileId.eq (ids_given files.now) id }
 {
-    files.iter().take_while(|file| file.id != id).count()
+    for (place, file) in files.iter().enumerate() {
+        if file.id == id {
+            return place;
+        }
+    }
+    files.len()
 }

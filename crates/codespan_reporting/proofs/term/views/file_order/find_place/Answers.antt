@@ -1,10 +1,9 @@
-use Rattle.std.proofs.Common.{◌≡◌, not, ◌<◌, length, get_or, sym, ap, subst, ◌∙◌, arith}
+use Rattle.std.proofs.Common.{◌≡◌, ◌<◌, length, get_or, sym, ap, subst, ◌∙◌, arith}
 use Rattle.std.proofs.lemmas.Bool.{ltb-true}
 use Rattle.std.proofs.lemmas.List.{get_or-map, length-map}
 use Rattle.codespan_reporting.specs.declared.term.views.file_order.LabelledFile.{LabelledFile as GivenFile}
 use Rattle.codespan_reporting.specs.Inner.LabelledFiles.{ids_given}
 use Rattle.codespan_reporting.specs.Inner.PlacedLabels.{IsIdAt}
-use Rattle.codespan_reporting.proofs.FileParts.{prefix-map}
 use Rattle.codespan_reporting.proofs.FilePlaces.{at-get, guessed-place}
 use Rattle.codespan_reporting.proofs.term.views.file_order.find_place.Goals as goal
 
@@ -20,8 +19,3 @@ returns-in-Some g c =
     let there : file.id ≡ get_or ids last file.id = ap name found.1 ∙ sym (get_or-map name files last file file.id inside) in
     guessed-place g.FileId.PartialEq.eq g.met.FileId.Eq.laws ids last file.id c.args.id c.requires
     (subst (IsIdAt ids last) (sym there) (at-get ids last file.id (omega (arith, inside, length-map files name)))) (sym c.if-eq.ensures)
-
-pub returns-in_default : goal.returns-in_default
-returns-in_default g c =
-    let name : GivenFile g.row.FileId.Denot → g.row.FileId.Denot = λ f. f.id in
-    c.others_len.ensures ∙ sym (prefix-map name (λ j. not (g.FileId.PartialEq.eq j c.args.id)) c.args.files.now)
