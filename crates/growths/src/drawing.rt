@@ -1,6 +1,6 @@
 //! The views and the calls that emit, each over each worked picture.
 
-ghost use Rattle.std.specs.Prelude.{◌≡◌, ◌++◌, IfOk, IsOk, IsErrOf, codes, string_bytes, false};
+ghost use Rattle.std.specs.Prelude.{◌≡◌, ◌++◌, ℕ, List, IfOk, IsOk, IsErrOf, IsTrue, codes, string_bytes, false};
 
 use crate::copying::Copying;
 use crate::held::Held;
@@ -168,14 +168,22 @@ fn judge_appended(answer: &Result<(), Error>, string: &str, picture: &str) -> Ou
     }
 }
 
+/// Whether bytes are a beginning of a text.
+fn is_beginning(bytes: &[u8], text: &str) -> bool
+    ensures { IsTrue result → (rest : List ℕ) × (text.now ≡ bytes.now ++ rest) }
+{
+    text.as_bytes().starts_with(bytes)
+}
+
 /// A vector holds the picture; or the call was refused, and it holds a beginning: with `Io` where a growth of the vector was refused, and
 /// else for want of memory.
 fn judge_held(answer: &Result<(), Error>, held: &Held, picture: &str) -> Outcome
     ensures done { result ≡ Outcome.Done → (IsOk answer.now) × (held.now.has_refused ≡ false) × (held.now.bytes.items ≡ picture.now) }
     ensures refused { result ≡ Outcome.Refused → held.now.has_refused ≡ false → IsErrOf answer.now Error.OutOfMemory }
+    ensures beginning { result ≡ Outcome.Refused → (rest : List ℕ) × (picture.now ≡ held.now.bytes.items ++ rest) }
 {
     let bytes = held.bytes.as_slice();
-    let is_beginning = picture.as_bytes().starts_with(bytes);
+    let is_beginning = is_beginning(bytes, picture);
     match answer {
         Ok(()) => judge_made(!held.has_refused && bytes == picture.as_bytes()),
         Err(Error::Io(_)) if held.has_refused && is_beginning => Outcome::Refused,
