@@ -1,0 +1,18 @@
+//! The arguments that the program is started with.
+
+use crate::outcome::Outcome;
+use std::env;
+use std::io::ErrorKind;
+use std::rt::Env;
+
+/// The program's arguments, without its own name. Some that are not UTF-8 name no subject.
+pub fn arguments<R: Env + AllocGlobal>(rt: &R) -> Result<Vec<String>, Outcome> {
+    match env::args(rt) {
+        Ok(all) => match all.skip(1).collect(rt.alloc()) {
+            Ok(args) => Ok(args),
+            Err(_) => Err(Outcome::Unprepared),
+        },
+        Err(error) if error.kind() == ErrorKind::InvalidData => Err(Outcome::Unknown),
+        Err(_) => Err(Outcome::Unprepared),
+    }
+}

@@ -1,0 +1,161 @@
+//! The builders of labels and diagnostics, and their clones.
+
+use crate::outcome::{Outcome, judge_value};
+use codespan_reporting::diagnostic::{Diagnostic, Label, LabelStyle, Severity};
+use codespan_reporting::files::Error;
+use std::alloc::Global;
+
+/// A call of [`Label`].
+#[derive(Clone, Copy, Debug)]
+pub enum LabelCall {
+    /// `with_message`
+    WithMessage,
+    /// `clone`
+    Clone,
+}
+
+/// A call of [`Diagnostic`].
+#[derive(Clone, Copy, Debug)]
+pub enum DiagnosticCall {
+    /// `with_code`
+    WithCode,
+    /// `with_message`
+    WithMessage,
+    /// `with_label`
+    WithLabel,
+    /// `with_labels`
+    WithLabels,
+    /// `with_labels_iter`
+    WithLabelsIter,
+    /// `with_note`
+    WithNote,
+    /// `with_notes`
+    WithNotes,
+    /// `with_notes_iter`
+    WithNotesIter,
+    /// `clone`
+    Clone,
+}
+
+/// A label that says this.
+fn label(alloc: Global, message: &str) -> Result<Label<usize>, Error> {
+    Ok(Label {
+        style: LabelStyle::Secondary,
+        file_id: 7,
+        range: 3..5,
+        message: String::from_str(alloc, message)?,
+    })
+}
+
+/// Labels that say these texts, in a vector without room for more.
+fn labels(alloc: Global, messages: &[&str]) -> Result<Vec<Label<usize>>, Error> {
+    let mut labels = Vec::with_capacity(alloc, messages.len())?;
+    for message in messages {
+        labels.push(label(alloc, message)?)?;
+    }
+    Ok(labels)
+}
+
+/// Notes of these texts, in a vector without room for more.
+fn notes(alloc: Global, texts: &[&str]) -> Result<Vec<String>, Error> {
+    let mut notes = Vec::with_capacity(alloc, texts.len())?;
+    for text in texts {
+        notes.push(String::from_str(alloc, text)?)?;
+    }
+    Ok(notes)
+}
+
+/// The texts of a diagnostic.
+#[derive(Clone, Copy)]
+struct Texts<'text> {
+    code: Option<&'text str>,
+    message: &'text str,
+    labels: &'text [&'text str],
+    notes: &'text [&'text str],
+}
+
+/// What each call of a diagnostic is made of.
+const GIVEN: Texts<'_> = Texts {
+    code: None,
+    message: "m",
+    labels: &["a"],
+    notes: &["n"],
+};
+
+/// The diagnostic of these texts, field by field.
+fn diagnostic(alloc: Global, texts: Texts<'_>) -> Result<Diagnostic<usize>, Error> {
+    let code = match texts.code {
+        Some(code) => Some(String::from_str(alloc, code)?),
+        None => None,
+    };
+    Ok(Diagnostic {
+        severity: Severity::Warning,
+        code,
+        message: String::from_str(alloc, texts.message)?,
+        labels: labels(alloc, texts.labels)?,
+        notes: notes(alloc, texts.notes)?,
+    })
+}
+
+/// What a call of a label does to a label.
+pub fn judge_label(alloc: Global, call: LabelCall) -> Result<Outcome, Error> {
+    match call {
+        LabelCall::WithMessage => {
+            let want = label(alloc, "another")?;
+            let answer = label(alloc, "a")?.with_message("another");
+            Ok(judge_value(&answer, &want))
+        }
+        LabelCall::Clone => {
+            let given = label(alloc, "a")?;
+            Ok(judge_value(&given.clone(), &given))
+        }
+    }
+}
+
+/// What a call of a diagnostic has to make.
+fn wanted(call: DiagnosticCall) -> Texts<'static> {
+    match call {
+        DiagnosticCall::WithCode | DiagnosticCall::Clone => Texts {
+            code: Some("c"),
+            ..GIVEN
+        },
+        DiagnosticCall::WithMessage => Texts {
+            message: "another",
+            ..GIVEN
+        },
+        DiagnosticCall::WithLabel => Texts {
+            labels: &["a", "b"],
+            ..GIVEN
+        },
+        DiagnosticCall::WithLabels | DiagnosticCall::WithLabelsIter => Texts {
+            labels: &["a", "b", "c"],
+            ..GIVEN
+        },
+        DiagnosticCall::WithNote => Texts {
+            notes: &["n", "o"],
+            ..GIVEN
+        },
+        DiagnosticCall::WithNotes | DiagnosticCall::WithNotesIter => Texts {
+            notes: &["n", "o", "p"],
+            ..GIVEN
+        },
+    }
+}
+
+/// What a call of a diagnostic makes.
+pub fn judge_diagnostic(alloc: Global, call: DiagnosticCall) -> Result<Outcome, Error> {
+    let want = diagnostic(alloc, wanted(call))?;
+    let given = diagnostic(alloc, GIVEN)?;
+    let answer = match call {
+        DiagnosticCall::WithCode => given.with_code("c"),
+        DiagnosticCall::WithMessage => given.with_message("another"),
+        DiagnosticCall::WithLabel => given.with_label(label(alloc, "b")?),
+        DiagnosticCall::WithLabels => given.with_labels(labels(alloc, &["b", "c"])?),
+        DiagnosticCall::WithLabelsIter => given.with_labels_iter(labels(alloc, &["b", "c"])?),
+        DiagnosticCall::WithNote => given.with_note("o"),
+        DiagnosticCall::WithNotes => given.with_notes(notes(alloc, &["o", "p"])?),
+        DiagnosticCall::WithNotesIter => given.with_notes_iter(notes(alloc, &["o", "p"])?),
+        DiagnosticCall::Clone => want.clone(),
+    };
+    Ok(judge_value(&answer, &want))
+}

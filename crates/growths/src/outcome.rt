@@ -1,0 +1,119 @@
+//! What came of a subject.
+
+ghost use Rattle.std.specs.Prelude.{◌≡◌, ◌≢◌, ◌≤◌, ◌⊎◌, IfOk, IsTrue, IsErrOf};
+
+use codespan_reporting::files::Error;
+use std::fmt;
+use std::fmt::Write;
+
+/// What came of a subject.
+#[derive(Clone, Copy, Debug, PartialEq, Eq)]
+pub enum Outcome {
+    /// No subject has this name.
+    Unknown,
+    /// A growth was refused before the call.
+    Unprepared,
+    /// The call answered `Ok`, with exactly what is expected.
+    Done,
+    /// The call was refused as it may be, and what must stay as it was stayed.
+    Refused,
+    /// Something else.
+    Wrong(Wrong),
+}
+
+/// What is wrong.
+#[derive(Clone, Copy, Debug, PartialEq, Eq)]
+pub enum Wrong {
+    /// Something else than want of memory was told before the call.
+    Preparation,
+    /// The call answered `Ok` with something else.
+    Answer,
+    /// The call was refused with an error that it may not be refused with.
+    Refusal,
+    /// The call was refused, and something did not stay as it was.
+    Kept,
+}
+
+impl Outcome {
+    /// The program's status.
+    pub fn status(self) -> u8
+        ensures most { result ≤ 2 }
+        ensures right { result ≡ 0 → (self ≡ Outcome.Unprepared) ⊎ (self ≡ Outcome.Done) ⊎ (self ≡ Outcome.Refused) }
+    {
+        match self {
+            Outcome::Unprepared | Outcome::Done | Outcome::Refused => 0,
+            Outcome::Wrong(_) => 1,
+            Outcome::Unknown => 2,
+        }
+    }
+}
+
+/// One word, or a few where something is wrong.
+impl fmt::Display for Outcome {
+    fn fmt<W: Write>(&self, f: &mut fmt::Formatter<W>) -> fmt::Result {
+        match self {
+            Outcome::Unknown => write!(f, "no subject has this name"),
+            Outcome::Unprepared => write!(f, "unprepared"),
+            Outcome::Done => write!(f, "done"),
+            Outcome::Refused => write!(f, "refused"),
+            Outcome::Wrong(wrong) => write!(f, "wrong: {wrong}"),
+        }
+    }
+}
+
+/// A few words.
+impl fmt::Display for Wrong {
+    fn fmt<W: Write>(&self, f: &mut fmt::Formatter<W>) -> fmt::Result {
+        match self {
+            Wrong::Preparation => write!(f, "not prepared, and memory is not why"),
+            Wrong::Answer => write!(f, "another answer than is expected"),
+            Wrong::Refusal => write!(f, "another error than may come"),
+            Wrong::Kept => write!(f, "refused, and something did not stay as it was"),
+        }
+    }
+}
+
+/// What came of a subject whose preparation may be refused.
+pub fn prepared(judged: Result<Outcome, Error>) -> Outcome {
+    match judged {
+        Ok(outcome) => outcome,
+        Err(Error::OutOfMemory) => Outcome::Unprepared,
+        Err(_) => Outcome::Wrong(Wrong::Preparation),
+    }
+}
+
+/// `Done` where what was made is what is expected.
+pub fn judge_made(is_expected: bool) -> Outcome
+    ensures done { result ≡ Outcome.Done → IsTrue is_expected }
+    ensures answered { result ≢ Outcome.Refused }
+{
+    if is_expected {
+        Outcome::Done
+    } else {
+        Outcome::Wrong(Wrong::Answer)
+    }
+}
+
+/// `Refused` where a growth is told as refused, and what must stay as it was did.
+pub fn judge_refusal(error: &Error, is_kept: bool) -> Outcome
+    ensures error { result ≡ Outcome.Refused → error.now ≡ Error.OutOfMemory }
+    ensures kept { result ≡ Outcome.Refused → IsTrue is_kept }
+    ensures told { result ≢ Outcome.Done }
+{
+    match error {
+        Error::OutOfMemory if is_kept => Outcome::Refused,
+        Error::OutOfMemory => Outcome::Wrong(Wrong::Kept),
+        _ => Outcome::Wrong(Wrong::Refusal),
+    }
+}
+
+/// What came of a call that makes a value: `Done` where it is the one that is expected, `Refused` where a growth was refused.
+pub fn judge_value<T: PartialEq + Drop>(answer: &Result<T, Error>, want: &T) -> Outcome
+    ensures done { result ≡ Outcome.Done → IfOk answer.now (λ made. IsTrue (T.eq made want.now)) }
+    ensures refused { result ≡ Outcome.Refused → IsErrOf answer.now Error.OutOfMemory }
+{
+    match answer {
+        Ok(made) => judge_made(*made == *want),
+        Err(error) => judge_refusal(error, true),
+    }
+}

@@ -1,0 +1,252 @@
+//! The calls that take no memory.
+
+use crate::outcome::{Outcome, judge_made};
+use codespan_reporting::diagnostic::LabelStyle::{Primary, Secondary};
+use codespan_reporting::diagnostic::{Diagnostic, Label, LabelStyle, Severity};
+use codespan_reporting::files::{
+    Error, Files, Location, MappedFile, SimpleFile, SimpleFiles, column_index, line_starts,
+};
+use codespan_reporting::term::{
+    Ansi, Chars, Config, Locus, MultiLabel, PlainWriter, Renderer, Styles, StylesWriter,
+    WriteStyle, emit, lanes_in_order,
+};
+use std::alloc::Global;
+use std::convert::AsStr;
+
+/// How much of the subject is done.
+#[derive(Clone, Copy, Debug)]
+pub enum Extent {
+    /// What the calls need is made, and that is all.
+    Preparation,
+    /// The calls are made too.
+    Calls,
+}
+
+/// The text of each file.
+const TEXT: &str = "foo\nbär\nbaz";
+
+/// What the calls need.
+#[derive(Drop)]
+struct Needs<'text> {
+    /// Vectors with room for all that is written to them.
+    rows: Vec<u8>,
+    colours: Vec<u8>,
+    picture: Vec<u8>,
+    start: Locus,
+    place: Locus,
+    file: SimpleFile<&'text str, &'text str>,
+    files: SimpleFiles<&'text str, &'text str>,
+    mapped: MappedFile<&'text str, &'text str>,
+}
+
+/// Makes what the calls need, which takes memory, and then the calls.
+pub fn judge_quiet(alloc: Global, extent: Extent) -> Result<Outcome, Error> {
+    let needs = prepare(alloc)?;
+    match extent {
+        Extent::Preparation => Ok(Outcome::Done),
+        Extent::Calls => Ok(judge_made(are_right(alloc, needs)?)),
+    }
+}
+
+/// Makes what the calls need.
+fn prepare<'text>(alloc: Global) -> Result<Needs<'text>, Error> {
+    let mut files = SimpleFiles::new(alloc);
+    files.add("f", TEXT)?;
+    let mut mapped = MappedFile::new(alloc, "f", TEXT)?;
+    mapped.set_line(1, 40)?;
+    Ok(Needs {
+        rows: Vec::with_capacity(alloc, 1024)?,
+        colours: Vec::with_capacity(alloc, 1024)?,
+        picture: Vec::with_capacity(alloc, 1024)?,
+        start: locus_of(alloc, "f", 1, 1)?,
+        place: locus_of(alloc, "Test.fun", 4, 11)?,
+        file: SimpleFile::new(alloc, "f", TEXT)?,
+        files,
+        mapped,
+    })
+}
+
+/// The place of a line and a column of a file.
+fn locus_of(
+    alloc: Global,
+    name: &str,
+    line_number: usize,
+    column_number: usize,
+) -> Result<Locus, Error> {
+    Ok(Locus {
+        name: String::from_str(alloc, name)?,
+        location: Location {
+            line_number,
+            column_number,
+        },
+    })
+}
+
+/// Makes each call, and answers whether all gave what they should. A call that is refused is told as the preparation would be.
+fn are_right(alloc: Global, needs: Needs<'_>) -> Result<bool, Error> {
+    let Needs {
+        mut rows,
+        mut colours,
+        mut picture,
+        start,
+        place,
+        file,
+        files,
+        mapped,
+    } = needs;
+    draw_rows(&mut rows, &start, &place)?;
+    draw_coloured(&mut colours)?;
+    draw_bug(alloc, &mut picture, &files)?;
+    Ok(
+        rows.as_slice() == ROWS.as_bytes()
+            && colours.as_slice() == COLOURED.as_bytes()
+            && picture.as_slice() == b"bug: \n\n".as_slice()
+            && answers(&file, (), 2)
+            && answers(&files, 0, 2)
+            && answers(&mapped, (), 40)
+            && matches!(files.get(1), Err(Error::FileMissing))
+            && are_starts()
+            && column_index("\n\n🗻∈🌏\n\n", 2..13, 10) == 2
+            && are_made(alloc),
+    )
+}
+
+/// Whether the lookups of the byte 7 of a file answer as they should.
+fn answers<'files, F: Files<'files>>(files: &'files F, id: F::FileId, number: usize) -> bool {
+    let has_text = match files.source(id) {
+        Ok(source) => source.as_str() == TEXT,
+        Err(_) => false,
+    };
+    let is_number = match files.line_number(id, 1) {
+        Ok(found) => found == number,
+        Err(_) => false,
+    };
+    let is_place = match files.location(id, 7) {
+        Ok(place) => place.line_number == number && place.column_number == 3,
+        Err(_) => false,
+    };
+    let starts_there = match files.line_range(id, 1) {
+        Ok(range) => range.start == 4,
+        Err(_) => false,
+    };
+    has_text
+        && is_number
+        && is_place
+        && starts_there
+        && files.name(id).is_ok()
+        && matches!(files.line_index(id, 7), Ok(1))
+        && matches!(files.column_number(id, 1, 7), Ok(3))
+}
+
+/// Whether the lines of a text start where they should.
+fn are_starts() -> bool {
+    let mut are_right = true;
+    let mut count = 0usize;
+    for (start, want) in line_starts("foo\nbar\r\n\nbaz").zip([0, 4, 9, 10]) {
+        are_right = are_right && start == want;
+        count = count.saturating_add(1);
+    }
+    are_right && count == 4
+}
+
+/// Whether constructors and clones of what has no text of its own make what they should.
+fn are_made(alloc: Global) -> bool {
+    let label = Label::primary(alloc, 3, 5..2);
+    let diagnostic: Diagnostic<usize> = Diagnostic::help(alloc);
+    let is_config = match Config::default().clone() {
+        Ok(config) => config.tab_width == 4,
+        Err(_) => false,
+    };
+    let are_chars = match Chars::ascii().clone() {
+        Ok(chars) => chars.multi_top_left == '/',
+        Err(_) => false,
+    };
+    label.file_id == 3 && diagnostic.labels.is_empty() && is_config && are_chars
+}
+
+/// A picture without a lookup.
+fn draw_bug(
+    alloc: Global,
+    picture: &mut Vec<u8>,
+    files: &SimpleFiles<&str, &str>,
+) -> Result<(), Error> {
+    emit(picture, &Config::default(), files, &Diagnostic::bug(alloc))
+}
+
+/// Each kind of row, in plain text.
+fn draw_rows(text: &mut Vec<u8>, start: &Locus, place: &Locus) -> Result<(), Error> {
+    let config = Config::default();
+    let mut writer = PlainWriter::new(text);
+    let mut renderer = Renderer::new(&mut writer, &config);
+    renderer.render_header(None, Severity::Error, None, "")?;
+    renderer.render_snippet_start(1, start)?;
+    renderer.render_snippet_empty(1, Severity::Error, 2, &[])?;
+    draw_crossing(&mut renderer)?;
+    renderer.render_empty()?;
+    draw_other_rows(&mut renderer, place)
+}
+
+/// The rows of other pictures.
+fn draw_other_rows<W: WriteStyle>(
+    renderer: &mut Renderer<'_, '_, W>,
+    place: &Locus,
+) -> Result<(), Error> {
+    let bars = [(0, Primary, MultiLabel::Left)];
+    if !lanes_in_order(1, &bars) {
+        return Err(Error::FormatError);
+    }
+    renderer.render_snippet_break(2, Severity::Error, 1, &bars)?;
+    let message = "unexpected type in application of `_+_`";
+    renderer.render_header(Some(place), Severity::Error, Some("E0001"), message)?;
+    renderer.render_snippet_note(0, "a\r\n\nb\n")
+}
+
+/// The lines of a text with two labels over several lines whose underlines cross.
+fn draw_crossing<W: WriteStyle>(renderer: &mut Renderer<'_, '_, W>) -> Result<(), Error> {
+    let first = [
+        (0, Secondary, MultiLabel::Top(1)),
+        (1, Primary, MultiLabel::Top(0)),
+    ];
+    let second = [
+        (0, Secondary, MultiLabel::Bottom(1, "q")),
+        (1, Primary, MultiLabel::Left),
+    ];
+    let third = [(1, Primary, MultiLabel::Bottom(1, "p"))];
+    draw_line(renderer, 1, "ab\n", &first)?;
+    draw_line(renderer, 2, "cd\n", &second)?;
+    draw_line(renderer, 3, "ef", &third)
+}
+
+/// A line with two lanes.
+fn draw_line<W: WriteStyle>(
+    renderer: &mut Renderer<'_, '_, W>,
+    number: usize,
+    text: &str,
+    lanes: &[(usize, LabelStyle, MultiLabel<'_>)],
+) -> Result<(), Error> {
+    if !lanes_in_order(2, lanes) {
+        return Err(Error::FormatError);
+    }
+    renderer.render_snippet_source(1, number, text, Severity::Error, &[], 2, lanes)
+}
+
+/// A line with a label and its message, in colours.
+fn draw_coloured(text: &mut Vec<u8>) -> Result<(), Error> {
+    let config = Config::default();
+    let styles = Styles::default();
+    let mut writer = StylesWriter::new(Ansi::new(text), &styles);
+    let mut renderer = Renderer::new(&mut writer, &config);
+    let labels = [(Primary, 1..2, "m")];
+    renderer.render_snippet_source(1, 1, "abc", Severity::Error, &labels, 0, &[])
+}
+
+/// The rows of `draw_rows`.
+const ROWS: &str = "error: \n  ┌─ f:1:1\n  │    \n1 │   ╭ ab\n  │ ╭────'\n2 │ │ │ cd\n\
+    \x20 │ ╰─│─' q\n3 │   │ ef\n  │   ╰─^ p\n\n\
+    \x20  · │\n\
+    Test.fun:4:11: error[E0001]: unexpected type in application of `_+_`\n \
+    = a\n   \n   b\n";
+
+/// The rows of `draw_coloured`.
+const COLOURED: &str = "\x1b[0m\x1b[36m1\x1b[0m \x1b[0m\x1b[36m│\x1b[0m a\x1b[0m\x1b[31mb\x1b[0mc\n\
+    \x20 \x1b[0m\x1b[36m│\x1b[0m  \x1b[0m\x1b[31m^\x1b[0m \x1b[0m\x1b[31mm\x1b[0m\n";

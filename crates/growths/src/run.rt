@@ -1,0 +1,54 @@
+//! One run of the program.
+
+ghost use Rattle.std.specs.Prelude.{◌≤◌};
+
+use crate::outcome::Outcome;
+use crate::subject::{CALLS, DRAW_CALLS, ROWS, Subject};
+use std::alloc::Global;
+use std::io;
+use std::io::Write;
+
+/// Judges the subject that the arguments name, or without any all of them, tells what came, and answers the program's status.
+pub fn run<W: Write>(alloc: Global, args: &[String], output: &mut W) -> u8
+    ensures { result ≤ 2 }
+{
+    if args.is_empty() {
+        return match judge_all(alloc, output) {
+            Ok(true) => 0,
+            Ok(false) | Err(_) => 1,
+        };
+    }
+    let outcome = match Subject::from_arguments(args) {
+        Some(subject) => subject.judge(alloc),
+        None => Outcome::Unknown,
+    };
+    conclude(outcome, output)
+}
+
+/// Tells an outcome in one line, and answers the program's status.
+pub fn conclude<W: Write>(outcome: Outcome, output: &mut W) -> u8
+    ensures { result ≤ 2 }
+{
+    match writeln!(output, "{outcome}") {
+        Ok(()) => outcome.status(),
+        Err(_) => 1,
+    }
+}
+
+/// Judges all subjects, a line each, and answers whether all are done.
+fn judge_all<W: Write>(alloc: Global, output: &mut W) -> io::Result<bool> {
+    let mut are_done = true;
+    for (name, subject) in &CALLS {
+        let outcome = subject.judge(alloc);
+        writeln!(output, "{name}: {outcome}")?;
+        are_done = are_done && outcome == Outcome::Done;
+    }
+    for (call_name, call) in &DRAW_CALLS {
+        for (row_name, row) in &ROWS {
+            let outcome = Subject::Drawing(*call, *row).judge(alloc);
+            writeln!(output, "{call_name} {row_name}: {outcome}")?;
+            are_done = are_done && outcome == Outcome::Done;
+        }
+    }
+    Ok(are_done)
+}
