@@ -75,6 +75,7 @@ pub fn send_numbered_gutter<W: WriteStyle>(
 }
 
 /// The border left of the source.
+#[inline(always)]
 pub fn send_border<W: WriteStyle>(w: &mut W, chars: &Chars<'_>) -> io::Result<()>
     ensures { Sends (W.sink w.old) (border chars.now) result (W.sink w.new) }
 {

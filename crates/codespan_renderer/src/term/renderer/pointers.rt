@@ -80,6 +80,7 @@ fn pointer_in(
 }
 
 /// The blanks before a pointer, and the pointer.
+#[inline(always)]
 pub fn send_pointer<W: WriteStyle>(
     w: &mut W,
     look: Look<'_>,
