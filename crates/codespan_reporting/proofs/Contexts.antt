@@ -13,7 +13,8 @@ use Rattle.codespan_base.specs.FileModel.{FileModel, IsLawful, Lookup, RefusesPa
 use Rattle.codespan_base.specs.FileModel.Lookup.{LineRange, LineNumber}
 use Rattle.codespan_base.specs.Labels.{Labelled, first_line, last_line}
 use Rattle.codespan_base.specs.Lemmas.Lines.{lines_have_indices, lines_within_text}
-use Rattle.codespan_reporting.specs.Inner.Entries.{Entry, LabelPlace, entries_of, line_entries}
+use Rattle.codespan_reporting.specs.declared.term.views.gather.LabelPlace.{LabelPlace}
+use Rattle.codespan_reporting.specs.Inner.Entries.{Entry, entries_of, line_entries}
 use Rattle.codespan_reporting.specs.declared.term.views.entry.Entry.{Entry as GivenEntry}
 use Rattle.codespan_reporting.specs.declared.term.views.gather.FoundLines.{FoundLines}
 use Rattle.codespan_reporting.specs.Inner.FileLookups.{refusal_in}

@@ -9,7 +9,8 @@ use Rattle.std.proofs.Math.Bool.{and-false}
 use Rattle.codespan_base.specs.declared.term.config.Config.{Config}
 use Rattle.codespan_base.specs.FileModel.{FileModel, line_count}
 use Rattle.codespan_base.specs.Labels.{Labelled, first_line, last_line, is_single, drawn_label}
-use Rattle.codespan_reporting.specs.Inner.Entries.{Entry, Single, LabelPlace, is_below, is_on_line, is_of_file, line_entries, entries_of}
+use Rattle.codespan_reporting.specs.declared.term.views.gather.LabelPlace.{LabelPlace}
+use Rattle.codespan_reporting.specs.Inner.Entries.{Entry, Single, is_below, is_on_line, is_of_file, line_entries, entries_of}
 use Rattle.codespan_picture.specs.Lines.{shows}
 use Rattle.codespan_reporting.specs.Inner.PlacedLabels.{file_place, place_after, entries_after}
 use Rattle.codespan_picture.specs.Snippets.{InFile}

@@ -12,7 +12,8 @@ use Rattle.codespan_base.specs.FileModel.{FileModel, line_start}
 use Rattle.codespan_base.specs.Labels.{Labelled, drawn_label, first_line, from_line_start, last_line}
 use Rattle.codespan_reporting.specs.declared.term.views.entry.Entry.{Entry as GivenEntry}
 use Rattle.codespan_reporting.specs.declared.term.views.entry.SourceLine.{SourceLine}
-use Rattle.codespan_reporting.specs.Inner.Entries.{Entry, LabelPlace, Says, Single, line_entries, said, says_on}
+use Rattle.codespan_reporting.specs.declared.term.views.gather.LabelPlace.{LabelPlace}
+use Rattle.codespan_reporting.specs.Inner.Entries.{Entry, Says, Single, line_entries, said, says_on}
 use Rattle.codespan_reporting.specs.Inner.GivenEntries.{Adds, IsLineOf, entry_of, says_at}
 use Rattle.codespan_laws.proofs.SortedLists.{all-append}
 

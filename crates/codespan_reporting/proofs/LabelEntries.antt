@@ -9,7 +9,8 @@ use Rattle.std.proofs.lemmas.List.Elements.{filter-append}
 use Rattle.codespan_base.specs.declared.term.config.Config.{Config}
 use Rattle.codespan_base.specs.FileModel.{FileModel, line_count}
 use Rattle.codespan_base.specs.Labels.{Labelled, first_line, last_line, is_single, drawn_label}
-use Rattle.codespan_reporting.specs.Inner.Entries.{Entry, Says, Shown, Single, LabelPlace, kind_of, is_on_line, entry_on, line_entries, entries_of, said}
+use Rattle.codespan_reporting.specs.declared.term.views.gather.LabelPlace.{LabelPlace}
+use Rattle.codespan_reporting.specs.Inner.Entries.{Entry, Says, Shown, Single, kind_of, is_on_line, entry_on, line_entries, entries_of, said}
 use Rattle.codespan_picture.specs.Lines.{shows}
 use Rattle.codespan_picture.specs.Lookups.{is_around, is_asked}
 use Rattle.codespan_laws.proofs.SortedLists.{all-append, filter-whole, filter-nothing, all-weaker}

@@ -14,7 +14,8 @@ use Rattle.codespan_reporting.specs.declared.term.views.entry.Entry.{Entry as Gi
 use Rattle.codespan_reporting.specs.declared.term.views.file_order.LabelledFile.{LabelledFile as GivenFile}
 use Rattle.codespan_reporting.specs.declared.term.views.gather.FoundLines.{FoundLines}
 use Rattle.codespan_reporting.specs.declared.term.views.loci.FileStart.{FileStart}
-use Rattle.codespan_reporting.specs.Inner.Entries.{Entry, LabelPlace, entries_of}
+use Rattle.codespan_reporting.specs.declared.term.views.gather.LabelPlace.{LabelPlace}
+use Rattle.codespan_reporting.specs.Inner.Entries.{Entry, entries_of}
 use Rattle.codespan_reporting.specs.Inner.GivenEntries.{Adds, AddsOf, IsLineOf, IsOfFiles, entry_of}
 use Rattle.codespan_reporting.specs.Inner.LabelledFiles.{IsTold, all_lanes_given, ids_given, lanes_told, start_told, starts_given}
 use Rattle.codespan_reporting.specs.Inner.Lanes.{Lane, lanes_in}

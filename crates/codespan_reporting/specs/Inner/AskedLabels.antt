@@ -13,10 +13,10 @@ use Rattle.codespan_reporting.specs.declared.term.views.entry.Entry.{Entry as Gi
 use Rattle.codespan_reporting.specs.declared.term.views.entry.SourceLine.{SourceLine}
 use Rattle.codespan_reporting.specs.declared.term.views.gather.Asking.{Asking}
 use Rattle.codespan_reporting.specs.declared.term.views.gather.FoundLines.{FoundLines}
-use Rattle.codespan_reporting.specs.declared.term.views.gather.LabelPlace.{LabelPlace as GivenPlace}
-use Rattle.codespan_reporting.specs.Inner.Entries.{LabelPlace, Says, entries_of, line_entries}
+use Rattle.codespan_reporting.specs.declared.term.views.gather.LabelPlace.{LabelPlace}
+use Rattle.codespan_reporting.specs.Inner.Entries.{Says, entries_of, line_entries}
 use Rattle.codespan_reporting.specs.Inner.FileLookups.{refusal_in}
-use Rattle.codespan_reporting.specs.Inner.GivenEntries.{AddsOf, entries_on, label_place, lookups_on, says_at}
+use Rattle.codespan_reporting.specs.Inner.GivenEntries.{AddsOf, entries_on, lookups_on, says_at}
 use Rattle.codespan_reporting.specs.Inner.SpannedDigits.{digits_on, label_digits}
 
 -- what the lookups of these labels are refused with
@@ -33,13 +33,13 @@ pub record AskedLabel (Id : Type 0) : Type 0 where
   pub label : Labelled
 
 -- a label of files that is asked for by a configuration
-abbrev pub asked_label : {F Id : Type 0} → (F → Id → FileModel) → (F → Refusals Id) → F → Config → GivenPlace → Label Id → AskedLabel Id
+abbrev pub asked_label : {F Id : Type 0} → (F → Id → FileModel) → (F → Refusals Id) → F → Config → LabelPlace → Label Id → AskedLabel Id
 asked_label file refusal files config at label = record {
   id = label.file_id;
   file = file files label.file_id;
   refusal = refusal files;
   config = config;
-  at = label_place at;
+  at = at;
   label = (label_of label).label;
 }
 
@@ -95,7 +95,7 @@ module _ {Id : Type 0} (x : AskedLabel Id) where
 -- what a label says of a line, by the lines of its ends
 abbrev pub says_by : {F Id : Type 0} → Asking F → Label Id → SourceLine → Option Says
 says_by asking label line =
-    says_at asking.config.now (label_place asking.at) asking.lines.first asking.lines.last line.index line.start (label_of label).label
+    says_at asking.config.now asking.at asking.lines.first asking.lines.last line.index line.start (label_of label).label
 
 module _ {F Id : Type 0} (file : F → Id → FileModel) (refusal : F → Refusals Id) (asking : Asking F) where
   -- the file ends before a line, and the line's range is refused as past the end

@@ -7,6 +7,7 @@ use Rattle.codespan_base.specs.FileModel.{FileModel}
 use Rattle.codespan_base.specs.Labels.{Labelled, first_line, last_line, is_single, drawn_label}
 use Rattle.codespan_picture.specs.Lines.{shows}
 use Rattle.codespan_picture.specs.Lookups.{asked_lines}
+use Rattle.codespan_reporting.specs.declared.term.views.gather.LabelPlace.{LabelPlace}
 
 -- a line is shown, or a label inside it has carets on it, and so it is shown too
 pub data Says : Type 0 where
@@ -77,11 +78,6 @@ is_of_file f e = e.file == f
 abbrev pub said : ℕ → ℕ → Option Says → List Entry
 said file l None = []
 said file l (Some says) = record { file = file; line = l; says = says } ∷ []
-
--- where a label is among those of a diagnostic: the place of its file, and its own place
-pub record LabelPlace : Type 0 where
-  pub file : ℕ
-  pub place : ℕ
 
 module _ (config : Config) (f : FileModel) (at : LabelPlace) (x : Labelled) where
   -- an entry of its file

@@ -9,8 +9,8 @@ use Rattle.codespan_reporting.specs.declared.term.views.entry.Entry.{Entry as Gi
 use Rattle.codespan_reporting.specs.declared.term.views.entry.Says.{Says as GivenSays}
 use Rattle.codespan_reporting.specs.declared.term.views.entry.Says.TheVariants as given
 use Rattle.codespan_reporting.specs.declared.term.views.entry.SourceLine.{SourceLine}
-use Rattle.codespan_reporting.specs.declared.term.views.gather.LabelPlace.{LabelPlace as GivenPlace}
-use Rattle.codespan_reporting.specs.Inner.Entries.{Entry, LabelPlace, Says, Shown, Single, line_entries}
+use Rattle.codespan_reporting.specs.declared.term.views.gather.LabelPlace.{LabelPlace}
+use Rattle.codespan_reporting.specs.Inner.Entries.{Entry, Says, Shown, Single, line_entries}
 use Rattle.codespan_picture.specs.Lines.{shows}
 use Rattle.codespan_picture.specs.Lookups.{is_asked, of_line}
 use Rattle.codespan_reporting.specs.Inner.PlacedLabels.{IsIdAt}
@@ -47,10 +47,6 @@ pub record Adds (P : GivenEntry → Type 0) (old new : List GivenEntry) (entries
 -- entries of lines of this file were added
 abbrev pub AddsOf : FileModel → List GivenEntry → List GivenEntry → List Entry → Type 0
 AddsOf f old new entries = Adds (λ e. IsLineOf f e.line) old new entries
-
--- where a label is among those of a diagnostic
-abbrev pub label_place : GivenPlace → LabelPlace
-label_place at = record { file = at.file; place = at.place }
 
 -- what a label from line `s` to line `e` says of line `l`, which starts at this byte
 abbrev pub says_at : Config → LabelPlace → ℕ → ℕ → ℕ → ℕ → Labelled → Option Says

@@ -4,7 +4,8 @@ use Rattle.std.specs.List.{AllByRecursion, position_or_len}
 use Rattle.codespan_base.specs.declared.term.config.Config.{Config}
 use Rattle.codespan_base.specs.FileModel.{FileModel}
 use Rattle.codespan_base.specs.Labels.{first_seen}
-use Rattle.codespan_reporting.specs.Inner.Entries.{Entry, LabelPlace, entries_of}
+use Rattle.codespan_reporting.specs.declared.term.views.gather.LabelPlace.{LabelPlace}
+use Rattle.codespan_reporting.specs.Inner.Entries.{Entry, entries_of}
 use Rattle.codespan_picture.specs.Snippets.{InFile}
 
 -- id is the one at place f
