@@ -229,8 +229,26 @@ fn blank_lanes(row: LaneRow<'_>, lane: usize, until: usize) -> usize
     end.saturating_sub(lane).min(AT_ONCE)
 }
 
-/// The lanes of a row, from left to right.
+/// The lanes of a row, from left to right. Most rows have none, which is found before any call.
+#[inline(always)]
 pub fn send_lanes<W: WriteStyle>(
+    w: &mut W,
+    look: Look<'_>,
+    leading: usize,
+    row: LaneRow<'_>,
+    lanes: Lanes<'_, '_>,
+) -> io::Result<()>
+    ensures { Sends (W.sink w.old) (given_lanes (look_of_given look.entry) leading row.entry (lanes_of_given lanes.entry)) result (W.sink w.new) }
+{
+    if lanes.count == 0 {
+        Ok(())
+    } else {
+        send_each_lane(w, look, leading, row, lanes)
+    }
+}
+
+/// Each lane of a row.
+fn send_each_lane<W: WriteStyle>(
     w: &mut W,
     look: Look<'_>,
     leading: usize,

@@ -1,33 +1,11 @@
-use Rattle.std.proofs.Common.{arith, drop}
-use Rattle.std.proofs.lemmas.Result.{err_from_is_err_and}
-use Rattle.codespan_base.proofs.Loops.{StillToCome-start, StillToCome-more, StillToCome-refused, StillToCome-end}
-use Rattle.codespan_renderer.proofs.LaneWalk.{walk-blank, walk-next, walk-end, walk-lanes}
+use Rattle.std.proofs.Common.{refl, sym, ap, ◌∙◌, arith}
+use Rattle.codespan_base.specs.WriterLaw.{sent}
+use Rattle.codespan_base.proofs.Sends.{sent-nil}
+use Rattle.codespan_renderer.proofs.LaneWalk.{walk-end, walk-lanes}
 use Rattle.codespan_renderer.proofs.term.renderer.lanes.send_lanes.Goals as goal
 
-pub loop-lane-init : goal.loop-lane-init
-loop-lane-init g c = StillToCome-start _ _ _ (walk-lanes _ _ _ _ _ c.args.lanes.in_order)
-
-pub returns-in_err-send_lane : goal.returns-in_err-send_lane
-returns-in_err-send_lane g c = let p = err_from_is_err_and c.from_residual-in_err-send_lane.result c.from_residual-in_err-send_lane.ensures.1 in
-    rw p.1 (StillToCome-refused _ _ _ _ _ _ _ c.loop-lane.invariant (rw c.take_mark-after.ensures.mark at c.in_err-send_lane.ensures)
-    (walk-next _ _ _ c.loop-lane.lane c.args.lanes.count (drop c.loop-lane.next c.args.lanes.marks.now) (omega arith)))
-
-pub loop-lane-preserved : goal.loop-lane-preserved
-loop-lane-preserved g c =
-    StillToCome-more _ _ _ _ _ _ _ c.loop-lane.invariant c.in_ok-send_lane.ensures
-    (let e = c.take_mark-after.ensures.mark in let d = c.take_mark-after.ensures.after in rw (e, d) (walk-next _ _ _ c.loop-lane.lane c.args.lanes.count _ (omega arith)))
-
-pub returns-in_err-send_blanks : goal.returns-in_err-send_blanks
-returns-in_err-send_blanks g c = let p = err_from_is_err_and c.from_residual.result c.from_residual.ensures.1 in
-    rw p.1 (StillToCome-refused _ _ _ _ _ _ _ c.loop-lane.invariant c.in_err-send_blanks.ensures
-    (walk-blank _ _ _ (drop c.loop-lane.next c.args.lanes.marks.now) c.args.lanes.count c.loop-lane.lane c.next_lane.result c.blank_lanes-blank.result c.loop-lane-test.true
-    c.next_lane.ensures.within c.blank_lanes-blank.ensures.within c.blank_lanes-blank.ensures.bare c.next_lane.ensures.bare))
-
-pub loop-lane-preserved-then-blank-gt0 : goal.loop-lane-preserved-then-blank-gt0
-loop-lane-preserved-then-blank-gt0 g c =
-    StillToCome-more _ _ _ _ _ _ _ c.loop-lane.invariant c.in_ok-send_blanks.ensures
-    (walk-blank _ _ _ (drop c.loop-lane.next c.args.lanes.marks.now) c.args.lanes.count c.loop-lane.lane c.next_lane.result c.blank_lanes-blank.result c.loop-lane-test.true
-    c.next_lane.ensures.within c.blank_lanes-blank.ensures.within c.blank_lanes-blank.ensures.bare c.next_lane.ensures.bare)
-
-pub returns : goal.returns
-returns g c = StillToCome-end _ _ _ _ c.loop-lane.invariant (walk-end _ _ _ _ _ _ (omega arith))
+pub returns-then-lanes-eq0 : goal.returns-then-lanes-eq0
+returns-then-lanes-eq0 g c =
+    let s = g.W.WriteStyle.sink c.args.w.now in
+    let none = sym (walk-end _ _ _ 0 c.args.lanes.count _ (let zero = c.if-lanes-eq0.true in omega (arith, zero))) ∙ walk-lanes _ _ _ c.args.lanes.count c.args.lanes.marks.now c.args.lanes.in_order in
+    (refl, λ told. sym (sent-nil s) ∙ ap (sent s) none)

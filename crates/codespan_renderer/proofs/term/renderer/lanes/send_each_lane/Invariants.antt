@@ -2,7 +2,7 @@ use Rattle.std.proofs.Common.{◌-◌, drop}
 use Rattle.codespan_base.proofs.Loops.{StillToCome}
 use Rattle.codespan_renderer.specs.Inner.GivenLine.{look_of_given, lanes_of_given, given_lanes}
 use Rattle.codespan_renderer.proofs.LaneWalk.{walk}
-use Rattle.codespan_renderer.proofs.term.renderer.lanes.send_lanes.Given as goal
+use Rattle.codespan_renderer.proofs.term.renderer.lanes.send_each_lane.Given as goal
 
 abbrev pub invariant-loop-lane : goal.invariant-loop-lane
 invariant-loop-lane g l = StillToCome (g.W.WriteStyle.sink l.fn.w) (given_lanes (look_of_given l.look) l.leading l.row (lanes_of_given l.lanes))
