@@ -6,7 +6,7 @@ use codespan_reporting::files::Error;
 use std::alloc::Global;
 
 /// A call of [`Label`].
-#[derive(Clone, Copy, Debug)]
+#[derive(Clone, Copy)]
 pub enum LabelCall {
     /// `with_message`
     WithMessage,
@@ -15,7 +15,7 @@ pub enum LabelCall {
 }
 
 /// A call of [`Diagnostic`].
-#[derive(Clone, Copy, Debug)]
+#[derive(Clone, Copy)]
 pub enum DiagnosticCall {
     /// `with_code`
     WithCode,

@@ -16,7 +16,7 @@ use codespan_reporting::term::{
 use std::alloc::Global;
 
 /// A call that draws.
-#[derive(Clone, Copy, Debug)]
+#[derive(Clone, Copy)]
 pub enum DrawCall {
     /// `render` of the view of the picture's style
     Render,

@@ -6,7 +6,7 @@ use codespan_reporting::term::{Chars, Config, SnippetStart};
 use std::alloc::Global;
 
 /// What is cloned.
-#[derive(Clone, Copy, Debug)]
+#[derive(Clone, Copy)]
 pub enum Look {
     /// The text before a place.
     SnippetStart,

@@ -7,7 +7,7 @@ use std::fmt;
 use std::fmt::Write;
 
 /// What came of a subject.
-#[derive(Clone, Copy, Debug, PartialEq, Eq)]
+#[derive(Clone, Copy, PartialEq, Eq)]
 pub enum Outcome {
     /// No subject has this name.
     Unknown,
@@ -22,7 +22,7 @@ pub enum Outcome {
 }
 
 /// What is wrong.
-#[derive(Clone, Copy, Debug, PartialEq, Eq)]
+#[derive(Clone, Copy, PartialEq, Eq)]
 pub enum Wrong {
     /// Something else than want of memory was told before the call.
     Preparation,

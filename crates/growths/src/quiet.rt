@@ -14,7 +14,7 @@ use std::alloc::Global;
 use std::convert::AsStr;
 
 /// How much of the subject is done.
-#[derive(Clone, Copy, Debug)]
+#[derive(Clone, Copy)]
 pub enum Extent {
     /// What the calls need is made, and that is all.
     Preparation,

@@ -8,7 +8,7 @@ use std::alloc::Global;
 use std::ops::Range;
 
 /// A worked picture.
-#[derive(Clone, Copy, Debug)]
+#[derive(Clone, Copy)]
 pub enum Row {
     /// Three labels of one line.
     MutableBorrows,

@@ -12,7 +12,7 @@ use crate::tables::{TableCall, judge_table};
 use std::alloc::Global;
 
 /// A call that is made and judged.
-#[derive(Clone, Copy, Debug)]
+#[derive(Clone, Copy)]
 pub enum Subject {
     /// A call of a label.
     Label(LabelCall),

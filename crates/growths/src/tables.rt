@@ -6,7 +6,7 @@ use std::alloc::Global;
 use std::convert::AsStr;
 
 /// A call of a table.
-#[derive(Clone, Copy, Debug)]
+#[derive(Clone, Copy)]
 pub enum TableCall {
     /// `SimpleFile::new`
     SimpleFileNew,
