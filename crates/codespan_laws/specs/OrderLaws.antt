@@ -4,10 +4,10 @@ use Rattle.std.specs.Cmp.{IsEquivalence}
 use Rattle.std.specs.Cmp.Lexicographic.{pointwise}
 use Rattle.codespan_base.specs.declared.term.config.Config.{Config}
 use Rattle.codespan_base.specs.FileModel.{FileModel}
-use Rattle.codespan_base.specs.Labels.{Labelled, is_single, first_line, first_seen, drawn_label}
+use Rattle.codespan_base.specs.Labels.{Labelled, is_single, first_line, drawn_label}
 use Rattle.codespan_picture.specs.Rows.{Heading}
 use Rattle.codespan_base.specs.declared.diagnostic.Severity.{Severity}
-use Rattle.codespan_picture.specs.Snippets.{InFile, labelled_file, labelled_files}
+use Rattle.codespan_picture.specs.Snippets.{InFile, file_ids, labelled_file, labelled_files}
 use Rattle.codespan_picture.specs.Picture.{rich_stream}
 
 -- the label has this drawn range
@@ -25,7 +25,7 @@ one_range_of same file xs id l start end =
 
 -- the orders that a rich picture shows; the ids of the files need only be equal, one by one
 pub record SameOrders {Id : Type 0} (same : Id → Id → Bool) (file : Id → FileModel) (xs ys : List (InFile Id)) : Type 0 where
-  pub files : pointwise same (first_seen same (map (λ (x : InFile Id). x.id) xs)) (first_seen same (map (λ (x : InFile Id). x.id) ys)) ≡ true
+  pub files : pointwise same (file_ids same xs) (file_ids same ys) ≡ true
   pub several_lines : (id : Id) → several_lines_of same file xs id ≡ several_lines_of same file ys id
   pub one_line : (id : Id) (l start end : ℕ) → one_range_of same file xs id l start end ≡ one_range_of same file ys id l start end
 

@@ -11,9 +11,9 @@ use Rattle.codespan_base.specs.declared.files.error.Error.{Error}
 use Rattle.codespan_base.specs.declared.files.error.Error.TheVariants.{LineTooLarge, FormatError, OutOfMemory}
 use Rattle.codespan_base.specs.FileModel.{FileModel, Lookup, line_count, or_refusal}
 use Rattle.codespan_base.specs.FileModel.Lookup.{Name, Source, LineIndex, LineNumber, LocationAt, LineRange}
-use Rattle.codespan_base.specs.Labels.{Labelled, first_line, last_line, first_seen}
+use Rattle.codespan_base.specs.Labels.{Labelled, first_line, last_line}
 use Rattle.codespan_picture.specs.Lines.{is_shown, is_drawn}
-use Rattle.codespan_picture.specs.Snippets.{LabelledFile, InFile, labelled_file, locus_start, header_at, primary_of}
+use Rattle.codespan_picture.specs.Snippets.{LabelledFile, InFile, file_ids, labelled_file, locus_start, header_at, primary_of}
 use Rattle.codespan_picture.specs.Padding.{spans}
 use Rattle.codespan_base.specs.Streams.{Stream}
 use Rattle.codespan_picture.specs.RowStreams.{stream_of_rows}
@@ -93,10 +93,6 @@ abbrev pub snippet_lookups : {Id : Type 0} → Config → (Id → Id → Bool) �
 snippet_lookups config same file xs id = asked_of id (Source ∷ flat_map (of_filled config.layout) (filled_lines config (labelled_file same file xs id)))
 
 module _ {Id : Type 0} (config : Config) (same : Id → Id → Bool) (file : Id → FileModel) (refusal : Refusals Id) (xs : List (InFile Id)) where
-  -- the ids of the files
-  abbrev pub ids : List Id
-  ids = first_seen same (map (λ (x : InFile Id). x.id) xs)
-
   -- the lookups of the numbers of filled lines that the padding needs
   abbrev pub numbers_for_padding : Layout → Id → List Lookup
   numbers_for_padding Classic id = []
@@ -106,12 +102,12 @@ module _ {Id : Type 0} (config : Config) (same : Id → Id → Bool) (file : Id 
   abbrev pub early_lookups : List (Id × Lookup)
   early_lookups =
       label_lookups config file refusal xs
-      ++ flat_map (λ id. asked_of id (numbers_for_padding config.layout id)) ids
-      ++ flat_map (λ id. asked_of id (locus_lookups same file xs id)) ids
+      ++ flat_map (λ id. asked_of id (numbers_for_padding config.layout id)) (file_ids same xs)
+      ++ flat_map (λ id. asked_of id (locus_lookups same file xs id)) (file_ids same xs)
 
   -- the lookups of a rich picture after its header, file by file
   abbrev pub late_lookups : List (Id × Lookup)
-  late_lookups = flat_map (snippet_lookups config same file xs) ids
+  late_lookups = flat_map (snippet_lookups config same file xs) (file_ids same xs)
 
 -- the lookups of a label's header in short and medium style: the name of its file, and the location of its start
 abbrev pub header_asked : {Id : Type 0} → InFile Id → List (Id × Lookup)

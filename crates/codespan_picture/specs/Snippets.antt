@@ -25,10 +25,13 @@ labelled_file {Id} same file labels id = record {
   labels = map (λ (x : InFile Id). x.label) (filter (λ (x : InFile Id). same id x.id) labels);
 }
 
--- the files in the order of their first label
+-- the ids of the labels' files, in the order of their first label
+abbrev pub file_ids : {Id : Type 0} → (Id → Id → Bool) → List (InFile Id) → List Id
+file_ids {Id} same labels = first_seen same (map (λ (x : InFile Id). x.id) labels)
+
+-- the files in that order
 abbrev pub labelled_files : {Id : Type 0} → (Id → Id → Bool) → (Id → FileModel) → List (InFile Id) → List LabelledFile
-labelled_files {Id} same file labels =
-    map (labelled_file same file labels) (first_seen same (map (λ (x : InFile Id). x.id) labels))
+labelled_files same file labels = map (labelled_file same file labels) (file_ids same labels)
 
 -- ---- the rows of one file
 

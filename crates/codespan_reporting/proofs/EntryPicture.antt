@@ -15,8 +15,8 @@ use Rattle.codespan_reporting.specs.Inner.Lanes.{file_lanes}
 use Rattle.codespan_picture.specs.Lines as lines
 use Rattle.codespan_picture.specs.Lines.{drawn_lines}
 use Rattle.codespan_picture.specs.Lookups.{filled_lines}
-use Rattle.codespan_reporting.specs.Inner.PlacedLabels.{IsIdAt, file_ids, file_place, all_entries}
-use Rattle.codespan_picture.specs.Snippets.{InFile, LabelledFile, labelled_file, line_at, drawing, rows_after, has_any}
+use Rattle.codespan_reporting.specs.Inner.PlacedLabels.{IsIdAt, file_place, all_entries}
+use Rattle.codespan_picture.specs.Snippets.{InFile, LabelledFile, labelled_file, line_at, drawing, rows_after, has_any, file_ids}
 use Rattle.codespan_reporting.specs.Inner.Steps.{without_shown, steps_of, single_of, singles_in, line_of_group, rows_of_steps, fills_of, lines_of_steps, does_step_fit}
 use Rattle.codespan_reporting.proofs.EntryGroups.{IsRising, steps_after, steps-by_line, all-on_line}
 use Rattle.codespan_reporting.proofs.EntryLines as entry_lines

@@ -6,8 +6,7 @@ use Rattle.std.specs.List.{list_any}
 use Rattle.std.proofs.lemmas.List.{append-nil, get_or-map, length-map, map-append}
 use Rattle.std.proofs.lemmas.List.Elements.{filter-append}
 use Rattle.codespan_base.specs.Labels.{first_seen}
-use Rattle.codespan_reporting.specs.Inner.PlacedLabels.{file_ids}
-use Rattle.codespan_picture.specs.Snippets.{InFile}
+use Rattle.codespan_picture.specs.Snippets.{InFile, file_ids}
 
 module _ {Id : Type 0} (same : Id → Id → Bool) (o : IsEquivalence same) where
   -- the id is that of one of these

@@ -4,8 +4,8 @@ use Rattle.std.specs.Cmp.{IsEquivalence, both_ways}
 use Rattle.std.specs.List.{AllByRecursion}
 use Rattle.std.proofs.lemmas.Bool.{cases_Bool, eqb-true, eq-eqb, ne_eqb}
 use Rattle.codespan_base.specs.Labels.{first_seen}
-use Rattle.codespan_picture.specs.Snippets.{InFile}
-use Rattle.codespan_reporting.specs.Inner.PlacedLabels.{AreApart, IsIdAt, file_ids, file_place}
+use Rattle.codespan_picture.specs.Snippets.{InFile, file_ids}
+use Rattle.codespan_reporting.specs.Inner.PlacedLabels.{AreApart, IsIdAt, file_place}
 use Rattle.codespan_reporting.proofs.FileOrder.{has}
 use Rattle.codespan_laws.proofs.SortedLists.{all-weaker, all-filter, all-pass}
 

@@ -6,10 +6,10 @@ use Rattle.std.proofs.lemmas.List.{get_or-map, length-map, length-take-le, map-a
 use Rattle.std.proofs.lemmas.List.Elements.{recursion_from_All}
 use Rattle.codespan_base.specs.declared.diagnostic.Label.{Label}
 use Rattle.codespan_picture.specs.Picture.{label_of}
-use Rattle.codespan_picture.specs.Snippets.{InFile}
+use Rattle.codespan_picture.specs.Snippets.{InFile, file_ids}
 use Rattle.codespan_reporting.specs.declared.term.views.file_order.LabelledFile.{LabelledFile as GivenFile}
 use Rattle.codespan_reporting.specs.Inner.LabelledFiles.{ids_given}
-use Rattle.codespan_reporting.specs.Inner.PlacedLabels.{file_ids, file_place, label_places}
+use Rattle.codespan_reporting.specs.Inner.PlacedLabels.{file_place, label_places}
 use Rattle.codespan_reporting.proofs.FileOrder.{file_ids-has, file_ids-more, has}
 use Rattle.codespan_reporting.proofs.FilePlaces.{place-here, place-kept, place-past}
 use Rattle.codespan_reporting.proofs.SheetDrawing.{drop-one}

@@ -4,8 +4,8 @@ use Rattle.std.specs.Cmp.{IsEquivalence}
 use Rattle.std.proofs.lemmas.List.{get_or-map, length-map, map-append, take_more}
 use Rattle.codespan_base.specs.declared.diagnostic.Label.{Label}
 use Rattle.codespan_picture.specs.Picture.{label_of}
-use Rattle.codespan_picture.specs.Snippets.{InFile}
-use Rattle.codespan_reporting.specs.Inner.PlacedLabels.{file_ids, file_place}
+use Rattle.codespan_picture.specs.Snippets.{InFile, file_ids}
+use Rattle.codespan_reporting.specs.Inner.PlacedLabels.{file_place}
 use Rattle.codespan_reporting.proofs.FileOrder.{file_ids-has, has}
 use Rattle.codespan_reporting.proofs.FilePlaces.{Differ, first_seen-differ}
 use Rattle.codespan_reporting.proofs.LabelPlaces.{has-place}

@@ -22,9 +22,9 @@ use Rattle.codespan_reporting.specs.Inner.Lanes.{Lane, lanes_in}
 use Rattle.codespan_reporting.specs.Inner.Loci.{file_start, no_start}
 use Rattle.codespan_picture.specs.Lookups.{Refusals, asked_of, first_refusal, label_asked, label_lookups, of_label}
 use Rattle.codespan_picture.specs.Picture.{label_of}
-use Rattle.codespan_reporting.specs.Inner.PlacedLabels.{IsIdAt, entries_after, file_ids, file_place, label_places, place_after}
+use Rattle.codespan_reporting.specs.Inner.PlacedLabels.{IsIdAt, entries_after, file_place, label_places, place_after}
 use Rattle.codespan_reporting.specs.Inner.SpannedDigits.{all_digits, label_digits}
-use Rattle.codespan_picture.specs.Snippets.{InFile}
+use Rattle.codespan_picture.specs.Snippets.{InFile, file_ids}
 use Rattle.codespan_laws.proofs.Greatest.{greatest-append}
 use Rattle.codespan_laws.proofs.SortedLists.{all-both, all-mapped, all-weaker}
 use Rattle.codespan_reporting.proofs.FilePlaces.{file_place-at}

@@ -5,7 +5,7 @@ use Rattle.codespan_base.specs.declared.files.error.Error.{Error}
 use Rattle.codespan_base.specs.declared.term.config.Config.{Config}
 use Rattle.codespan_base.specs.FileModel.{FileModel, Lookup, or_refusal}
 use Rattle.codespan_picture.specs.Lookups.{Refusals, asked_of, early_lookups, first_refusal, label_lookups, locus_lookups, numbers_for_padding}
-use Rattle.codespan_picture.specs.Snippets.{InFile}
+use Rattle.codespan_picture.specs.Snippets.{InFile, file_ids}
 use Rattle.codespan_reporting.specs.declared.term.views.entry.Entry.{Entry as GivenEntry}
 use Rattle.codespan_reporting.specs.declared.term.views.gather.Gathered.{Gathered}
 use Rattle.codespan_reporting.specs.declared.term.views.plan.FilePlan.{FilePlan}
@@ -14,7 +14,7 @@ use Rattle.codespan_reporting.specs.Inner.GivenEntries.{IsOfFiles, entry_of}
 use Rattle.codespan_reporting.specs.Inner.GivenSheets.{IsGathered, IsGatheredInTurn, sheet_lookups}
 use Rattle.codespan_reporting.specs.Inner.LabelledFiles.{ids_given}
 use Rattle.codespan_reporting.specs.Inner.Loci.{place_lookups}
-use Rattle.codespan_reporting.specs.Inner.PlacedLabels.{all_entries, file_ids}
+use Rattle.codespan_reporting.specs.Inner.PlacedLabels.{all_entries}
 use Rattle.codespan_reporting.proofs.Askings.{first_refusal-append}
 use Rattle.codespan_reporting.proofs.Gathering.{gathered-each, gathered-says}
 use Rattle.codespan_reporting.proofs.FileParts.{gathered-sorted}

@@ -11,8 +11,8 @@ use Rattle.codespan_base.specs.declared.term.config.Layout.TheVariants.{Classic}
 use Rattle.codespan_base.specs.FileModel.{FileModel, line_count}
 use Rattle.codespan_base.specs.Labels.{Labelled}
 use Rattle.codespan_picture.specs.Padding.{digit_count, digits_of, numbered_lines, padding_of, spanned_lines, spans}
-use Rattle.codespan_picture.specs.Snippets.{InFile, LabelledFile, labelled_file, labelled_files}
-use Rattle.codespan_reporting.specs.Inner.PlacedLabels.{IsIdAt, file_ids, file_place}
+use Rattle.codespan_picture.specs.Snippets.{InFile, LabelledFile, labelled_file, labelled_files, file_ids}
+use Rattle.codespan_reporting.specs.Inner.PlacedLabels.{IsIdAt, file_place}
 use Rattle.codespan_reporting.specs.Inner.SpannedDigits.{all_digits, digits_on, label_digits}
 use Rattle.codespan_laws.proofs.Greatest.{greatest-any, greatest-append, greatest-same}
 use Rattle.codespan_laws.proofs.PaddingLemmas.{contains-filter, contains-range, numbered-fits}

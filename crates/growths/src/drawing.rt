@@ -1,6 +1,7 @@
 //! The views and the calls that emit, each over each worked picture.
 
-ghost use Rattle.std.specs.Prelude.{◌≡◌, ◌++◌, ℕ, List, IfOk, IsOk, IsErrOf, IsTrue, codes, string_bytes, false};
+ghost use Rattle.std.specs.Prelude.{◌≡◌, ◌++◌, ℕ, List, IfOk, IsOk, IsErrAnd, IsErrOf, IsTrue, codes, string_bytes, false, true};
+ghost use Rattle.codespan_base.specs.Errors.{IsIo};
 
 use crate::copying::Copying;
 use crate::held::Held;
@@ -180,6 +181,7 @@ fn is_beginning(bytes: &[u8], text: &str) -> bool
 fn judge_held(answer: &Result<(), Error>, held: &Held, picture: &str) -> Outcome
     ensures done { result ≡ Outcome.Done → (IsOk answer.now) × (held.now.has_refused ≡ false) × (held.now.bytes.items ≡ picture.now) }
     ensures refused { result ≡ Outcome.Refused → held.now.has_refused ≡ false → IsErrOf answer.now Error.OutOfMemory }
+    ensures writer { result ≡ Outcome.Refused → held.now.has_refused ≡ true → IsErrAnd answer.now IsIo }
     ensures beginning { result ≡ Outcome.Refused → (rest : List ℕ) × (picture.now ≡ held.now.bytes.items ++ rest) }
 {
     let bytes = held.bytes.as_slice();

@@ -11,7 +11,7 @@ use Rattle.codespan_picture.specs.Lookups.{Refusals, asked_of, filled_lines, fir
 use Rattle.codespan_picture.specs.Padding.{padding_of}
 use Rattle.codespan_picture.specs.Placed.{IsPlaceIn, IsPlaceOfFile}
 use Rattle.codespan_picture.specs.Rows.{Place}
-use Rattle.codespan_picture.specs.Snippets.{InFile, LabelledFile, labelled_file, labelled_files, rows_after}
+use Rattle.codespan_picture.specs.Snippets.{InFile, LabelledFile, labelled_file, labelled_files, rows_after, file_ids}
 use Rattle.codespan_reporting.specs.declared.term.views.gather.Gathered.{Gathered}
 use Rattle.codespan_reporting.specs.declared.term.views.plan.FilePlan.{FilePlan}
 use Rattle.codespan_reporting.specs.declared.term.views.sheet.Sheet.{Sheet}
@@ -22,7 +22,7 @@ use Rattle.codespan_reporting.specs.Inner.GivenSteps.{IsStepOf, asked_by_all, st
 use Rattle.codespan_reporting.specs.Inner.LabelledFiles.{IsTold, ids_given}
 use Rattle.codespan_reporting.specs.Inner.Lanes.{file_lanes, lanes_given}
 use Rattle.codespan_reporting.specs.Inner.Loci.{start_byte}
-use Rattle.codespan_reporting.specs.Inner.PlacedLabels.{all_entries, file_ids}
+use Rattle.codespan_reporting.specs.Inner.PlacedLabels.{all_entries}
 use Rattle.codespan_reporting.specs.Inner.SpannedDigits.{all_digits}
 use Rattle.codespan_reporting.specs.Inner.StepDrawing.{DoFit}
 use Rattle.codespan_reporting.specs.Inner.Steps.{rows_of_steps}

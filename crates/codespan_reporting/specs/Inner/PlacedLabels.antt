@@ -3,10 +3,9 @@ use Rattle.std.specs.Prelude.{◌≡◌, ℕ, zero, suc, Bool, false, List, [], 
 use Rattle.std.specs.List.{AllByRecursion, position_or_len}
 use Rattle.codespan_base.specs.declared.term.config.Config.{Config}
 use Rattle.codespan_base.specs.FileModel.{FileModel}
-use Rattle.codespan_base.specs.Labels.{first_seen}
 use Rattle.codespan_reporting.specs.declared.term.views.gather.LabelPlace.{LabelPlace}
 use Rattle.codespan_reporting.specs.Inner.Entries.{Entry, entries_of}
-use Rattle.codespan_picture.specs.Snippets.{InFile}
+use Rattle.codespan_picture.specs.Snippets.{InFile, file_ids}
 
 -- id is the one at place f
 abbrev pub IsIdAt : {Id : Type 0} → List Id → ℕ → Id → Type 0
@@ -15,11 +14,7 @@ IsIdAt (j ∷ js) zero id = j ≡ id
 IsIdAt (j ∷ js) (suc f) id = IsIdAt js f id
 
 module _ {Id : Type 0} (same : Id → Id → Bool) where
-  -- the ids of the labels' files, in the order of their first label
-  abbrev pub file_ids : List (InFile Id) → List Id
-  file_ids xs = first_seen same (map (λ (x : InFile Id). x.id) xs)
-
-  -- the place of an id among those
+  -- the place of an id among these
   abbrev pub file_place : List Id → Id → ℕ
   file_place ids id = position_or_len (λ j. same j id) ids
 
@@ -45,4 +40,4 @@ module _ {Id : Type 0} (same : Id → Id → Bool) where
 
     -- what all labels of a diagnostic say
     abbrev pub all_entries : Config → List (InFile Id) → List Entry
-    all_entries config xs = entries_after config (file_ids xs) [] xs
+    all_entries config xs = entries_after config (file_ids same xs) [] xs

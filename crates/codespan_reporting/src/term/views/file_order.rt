@@ -5,7 +5,8 @@ ghost use Rattle.codespan_picture.specs.Picture.{label_of};
 ghost use Rattle.codespan_reporting.specs.Inner.LabelledFiles.{all_lanes_given, ids_given, lanes_by, lanes_told, start_told, starts_given};
 ghost use Rattle.codespan_reporting.specs.Inner.Lanes.{lanes_given};
 ghost use Rattle.codespan_reporting.specs.Inner.Loci.{no_start, start_with};
-ghost use Rattle.codespan_reporting.specs.Inner.PlacedLabels.{AreApart, file_ids, file_place, label_places};
+ghost use Rattle.codespan_picture.specs.Snippets.{file_ids};
+ghost use Rattle.codespan_reporting.specs.Inner.PlacedLabels.{AreApart, file_place, label_places};
 
 use crate::term::views::label_lines::LabelLines;
 use crate::term::views::lanes::Lane;

@@ -6,7 +6,8 @@ use Rattle.codespan_reporting.specs.Inner.LabelledFiles.{all_lanes_given, lanes_
 use Rattle.codespan_reporting.specs.Inner.Lanes.{lanes_in}
 use Rattle.codespan_reporting.specs.Inner.Loci.{file_start}
 use Rattle.codespan_picture.specs.Picture.{label_of}
-use Rattle.codespan_reporting.specs.Inner.PlacedLabels.{entries_after, file_ids, label_places}
+use Rattle.codespan_picture.specs.Snippets.{file_ids}
+use Rattle.codespan_reporting.specs.Inner.PlacedLabels.{entries_after, label_places}
 use Rattle.codespan_reporting.proofs.LabelPlaces.{lanes_by-are}
 use Rattle.codespan_reporting.proofs.LabelsGathered.{AreGathered, each-told, gathered-all, gathered-more, gathered-none, gathered-refused, place-found, place-inside}
 use Rattle.codespan_reporting.proofs.term.views.gather.gather_in_turn.Given.{Over}

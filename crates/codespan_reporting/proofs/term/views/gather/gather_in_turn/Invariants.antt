@@ -1,6 +1,6 @@
 use Rattle.std.proofs.Common.{map}
 use Rattle.codespan_picture.specs.Picture.{label_of}
-use Rattle.codespan_reporting.specs.Inner.PlacedLabels.{file_ids}
+use Rattle.codespan_picture.specs.Snippets.{file_ids}
 use Rattle.codespan_reporting.proofs.LabelTurns.{before}
 use Rattle.codespan_reporting.proofs.LabelsGathered.{AreGathered}
 use Rattle.codespan_reporting.proofs.term.views.gather.gather_in_turn.Given as goal
