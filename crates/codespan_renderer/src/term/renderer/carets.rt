@@ -73,6 +73,7 @@ fn style_under(labels: &[SingleLabel<'_>], cell: Cell) -> Option<LabelStyle>
 
 /// So many carets of a style, or blanks.
 #[tactic(auto, unfolding(crate::specs::Inner::Runs::caret_run))]
+#[inline(always)]
 fn send_caret_run<W: WriteStyle>(
     w: &mut W,
     chars: &Chars<'_>,
@@ -89,6 +90,7 @@ fn send_caret_run<W: WriteStyle>(
 }
 
 /// The end of a run of carets of one style, and the mark of the next.
+#[inline(always)]
 pub fn end_caret_run<W: WriteStyle>(
     w: &mut W,
     look: Look<'_>,
@@ -147,6 +149,7 @@ pub fn send_message<W: WriteStyle>(
 
 /// One blank and the trailing message, where there is one.
 #[tactic(auto, using(codespan_base::proofs::Sends::sendings), unfolding(codespan_picture::specs::RowParts::trailing_message))]
+#[inline(always)]
 pub fn send_trailing<W: WriteStyle>(
     w: &mut W,
     severity: Severity,

@@ -65,6 +65,7 @@ impl<'text> Cells<'text> {
 
 /// How many cells a character takes at a column: a tab as many as there are up to the next stop, any other character its width in a
 /// terminal by `unicode_width`, or none where that gives none.
+#[inline(always)]
 fn width_at(tab_width: usize, column: u128, c: char) -> usize
     ensures { result ≡ width_at tab_width column c }
 {

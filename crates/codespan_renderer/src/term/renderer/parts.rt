@@ -33,6 +33,7 @@ pub fn send_space<W: WriteStyle>(w: &mut W) -> io::Result<()>
 
 /// Blanks in place of a line number, and one after it.
 #[tactic(auto, using(codespan_base::proofs::Sends::sendings, crate::proofs::RowWords::gutter_is))]
+#[inline(always)]
 pub fn send_gutter<W: WriteStyle>(w: &mut W, padding: usize) -> io::Result<()>
     ensures { Sends (W.sink w.old) (gutter padding) result (W.sink w.new) }
 {
@@ -60,6 +61,7 @@ pub fn count_digits(number: usize) -> usize
 }
 
 /// A line number, right in its places, or in full where it is longer.
+#[inline(always)]
 pub fn send_numbered_gutter<W: WriteStyle>(
     w: &mut W,
     padding: usize,
@@ -128,6 +130,7 @@ pub fn send_change<W: WriteStyle>(
 }
 
 /// Where a snippet is: name, line number and column number.
+#[inline(always)]
 pub fn send_locus<W: WriteStyle>(w: &mut W, at: &Locus) -> io::Result<()>
     ensures { Sends (W.sink w.old) (locus (place_of_given at.now)) result (W.sink w.new) }
 {
@@ -139,6 +142,7 @@ pub fn send_locus<W: WriteStyle>(w: &mut W, at: &Locus) -> io::Result<()>
 }
 
 /// The beginning of each row under a line.
+#[inline(always)]
 pub fn send_opening<W: WriteStyle>(w: &mut W, look: Look<'_>, line: Line<'_, '_>) -> io::Result<()>
     ensures { Sends (W.sink w.old) (opening (look_of_given look.entry) (line_of_given line.entry)) result (W.sink w.new) }
 {

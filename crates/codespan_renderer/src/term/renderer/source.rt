@@ -86,6 +86,7 @@ fn has_tab(text: &str) -> bool
 }
 
 /// Whether the text of a line is seen to be drawn as it stands: it has no tab, and no label of the line is primary.
+#[inline(always)]
 pub fn is_plain(line: Line<'_, '_>) -> bool
     ensures { result ≡ true → (look : LookWord) → coloured_text look (line_of_given line.entry) ≡ bytes line.entry.text.now }
 {
@@ -163,6 +164,7 @@ pub fn send_tab<W: WriteStyle>(
 }
 
 /// The number of a line, its border, its lanes, and one blank.
+#[inline(always)]
 pub fn send_source_lanes<W: WriteStyle>(
     w: &mut W,
     look: Look<'_>,

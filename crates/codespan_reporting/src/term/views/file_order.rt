@@ -69,6 +69,7 @@ pub struct LabelFiles<'d, FileId> {
 }
 
 /// The files of labels, and where each label's file is among them. Refuses with `OutOfMemory`.
+#[inline(always)]
 pub fn label_files<'d, FileId: Copy + Eq>(
     alloc: Global,
     labels: &'d [Label<FileId>],

@@ -113,6 +113,7 @@ impl<'page, 'd, 'files, F: Files<'files>> FileLines<'page, 'd, 'files, F> {
 
     /// Draws a line with the marks of the file's lanes and the labels of these entries. Refuses with `OutOfMemory` before anything is
     /// written, and with `Io` where the writer refuses.
+    #[inline(always)]
     fn draw_line<W: WriteStyle>(
         &self,
         renderer: &mut Renderer<'_, '_, W>,

@@ -87,6 +87,7 @@ impl FileStart {
 ///
 /// Refuses as the first of these lookups that refuses does, with `FormatError` where the `Display` of the name refuses, and with
 /// `OutOfMemory`.
+#[inline(always)]
 pub fn locus_at<'files, F: Files<'files>>(
     alloc: Global,
     files: &'files F,
@@ -113,7 +114,7 @@ pub fn place_files<'files, 'e, 'd, F: Files<'files>>(
     ensures placed { IfOk result (λ placed. AllZip (IsPlacedPlan (F.file files.now)) plans.entry.items placed.items) }
     ensures refused { TellsNaming (first_refusal (F.refusal files.now) (place_lookups plans.entry.items)) result }
 {
-    let mut placed = Vec::new(alloc);
+    let mut placed = Vec::with_capacity(alloc, plans.len())?;
     for plan in plans {
         let file = plan.file;
         let locus = locus_at(alloc, files, file.id, file.start.byte())?;

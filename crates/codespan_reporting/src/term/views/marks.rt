@@ -42,6 +42,7 @@ impl<'d> LineMarks<'d> {
 
     /// Takes what labels do on a line in place of what was there: the marks of these lanes, and the labels of these entries, in their order.
     /// Refuses with `OutOfMemory`.
+    #[inline(always)]
     pub fn refill(
         &mut self,
         lanes: &[Lane<'d>],

@@ -41,7 +41,7 @@ pub fn plan_files<'files, 'e, 'd, F: Files<'files>>(
     ensures plans { IfOk result (λ plans. ArePlansOf layout (F.file files.now) gathered.now plans.items) }
     ensures refused { Tells (plans_refusal layout (F.refusal files.now) gathered.now) result }
 {
-    let mut plans = Vec::new(alloc);
+    let mut plans = Vec::with_capacity(alloc, gathered.files.len())?;
     let mut start = 0;
     for (place, file) in gathered.files.iter().enumerate() {
         let len = file_len(&gathered.entries[start..], place);

@@ -137,6 +137,7 @@ fn has_notes<FileId>(diagnostic: &Diagnostic<FileId>) -> bool
 }
 
 /// The notes, and the empty line at the end.
+#[inline(always)]
 fn draw_closing<FileId, W: WriteStyle>(
     diagnostic: &Diagnostic<FileId>,
     renderer: &mut Renderer<'_, '_, W>,

@@ -46,6 +46,7 @@ impl LineCells {
 
     /// Takes the characters of a line of the source, as the renderer draws them, and the pointers of these labels, in place of those
     /// before. Refuses with `OutOfMemory`.
+    #[inline(always)]
     pub fn refill<W: WriteStyle>(
         &mut self,
         renderer: &Renderer<'_, '_, W>,
@@ -116,6 +117,7 @@ impl LineCells {
 }
 
 /// Takes the characters of a text, and the place after the last one, in place of those before. Refuses with `OutOfMemory`.
+#[inline(always)]
 fn fill_cells(all: &mut Vec<Cell>, text: &str, tab_width: usize) -> Result<(), Error>
     ensures taken { IfOk result (λ _. all.new.items ≡ cells_to_end tab_width text.now) }
     ensures narrow { IfOk result (λ _. AreNarrow all.new.items) }

@@ -42,6 +42,7 @@ pub struct Pointer {
 }
 
 /// The pointers of the characters that begin before a place, with blanks between them and up to a column.
+#[inline(always)]
 pub fn send_spaced<W: WriteStyle>(
     w: &mut W,
     look: Look<'_>,
@@ -89,6 +90,7 @@ pub fn width_before(characters: &[Cell], text: &str, tab_width: usize, place: us
 }
 
 /// Takes the pointers of the labels of a line that hang in place of those before. Refuses with `OutOfMemory`.
+#[inline(always)]
 pub fn find_pointers(
     pointers: &mut Vec<Pointer>,
     labels: &[SingleLabel<'_>],

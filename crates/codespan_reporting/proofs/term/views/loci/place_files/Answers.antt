@@ -9,13 +9,13 @@ use Rattle.codespan_reporting.proofs.PlansPlaced.{ArePlaced, no_element, placed-
 use Rattle.codespan_reporting.proofs.term.views.loci.place_files.Goals as goal
 
 pub loop-plan-init : goal.loop-plan-init
-loop-plan-init g c = (refl, placed-nothing (g.F.Files.file c.args.files.now) (g.F.Files.refusal c.args.files.now) _ c.new-placed.ensures.items, search rules)
+loop-plan-init g c = (refl, placed-nothing (g.F.Files.file c.args.files.now) (g.F.Files.refusal c.args.files.now) _ c.in_ok-placed.ensures.items, search rules)
 
 pub returns-in_err-locus-clause-refused : goal.returns-in_err-locus-clause-refused
 returns-in_err-locus-clause-refused g c =
     let at = c.loop-plan in
     let plan = c.in-Some.plan in
-    let p = err_from_is_err_and c.from_residual.result c.from_residual.ensures.1 in
+    let p = err_from_is_err_and c.from_residual-in_err-locus.result c.from_residual-in_err-locus.ensures.1 in
     let steps : into_iter_items at.plan-iterator ≡ plan ∷ into_iter_items c.next.new.self = c.in-Some.ensures.steps.0 in
     let whole : at.yielded ++ plan ∷ into_iter_items c.next.new.self ≡ c.args.plans.items =
     ap (λ rest. at.yielded ++ rest) (sym steps) ∙ at.invariant.0 ∙ c.into_iter-plan-iterator.ensures.into_iter_gives.0 in

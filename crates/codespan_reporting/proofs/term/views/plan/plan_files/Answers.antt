@@ -15,7 +15,7 @@ loop-place-init g c = record {
   inside = omega arith;
   left = from_file-first (map entry_of c.args.gathered.now.entries.items);
   planned = record {
-    plans = subst (ArePlans c.args.layout (g.F.Files.file c.args.files.now) (map entry_of c.args.gathered.now.entries.items) 0 []) (sym c.new-plans.ensures.items) tt;
+    plans = subst (ArePlans c.args.layout (g.F.Files.file c.args.files.now) (map entry_of c.args.gathered.now.entries.items) 0 []) (sym c.in_ok-plans.ensures.items) tt;
     answered = refl;
   };
 }
@@ -71,7 +71,7 @@ returns-in_err-steps-clause-refused g c =
     let asked = ap (λ steps. first_refusal refusal (asked_of own.id (numbers_asked c.args.layout (fills_of steps)))) (own_steps files xs ys at n k own turn zs same) in
     let len = files_before files xs ys at n k own turn in
     let more = files_more files xs ys at n k own turn in
-    let p = err_from_is_err_and c.from_residual.result c.from_residual.ensures.1 in
+    let p = err_from_is_err_and c.from_residual-in_err-steps.result c.from_residual-in_err-steps.ensures.1 in
     rw (p.1 ∙ ap Err p.2)
     (λ told. planned-refuses c.args.layout file es refusal k (take k files) (take (k + 1) files) own _ len more c.loop-place.invariant.planned
     (drop (k + 1) files) files _ (sym (take-append-drop (k + 1) files)) (sym asked ∙ c.in_err-steps.ensures.refused told))
