@@ -133,8 +133,9 @@ fn find_place<FileId: Copy + Eq>(
 fn first_place<FileId: Copy + Eq>(files: &[LabelledFile<'_, FileId>], id: FileId) -> usize
     ensures { result ≡ file_place FileId.eq (ids_given files.now) id }
 {
+    let last = files.len().saturating_sub(1);
     let mut place = 0;
-    while place + 1 < files.len() {
+    while place < last {
         if files[place].id == id {
             return place;
         }

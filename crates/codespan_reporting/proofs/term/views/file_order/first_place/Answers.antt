@@ -1,4 +1,4 @@
-use Rattle.std.proofs.Common.{◌≡◌, ◌+◌, false, take, sym, ap, subst, ◌∙◌, arith}
+use Rattle.std.proofs.Common.{◌≡◌, ◌+◌, ◌<◌, ◌≤◌, false, length, take, sym, ap, subst, ◌∙◌, arith}
 use Rattle.std.specs.List.{AllByRecursion}
 use Rattle.std.specs.Option.{is_some}
 use Rattle.std.proofs.lemmas.Bool.{ltb-false, ltb-true}
@@ -15,7 +15,7 @@ loop-place-preserved g c =
     let k = c.loop-place.place in
     let id = c.args.id in
     let is_of_id = λ (f : GivenFile g.row.FileId.Denot). same f.id id in
-    let more = c.loop-place-test.true in
+    let more : k + 1 < length files = omega (arith, c.loop-place-test.true, c.saturating_sub-last.ensures) in
     let first = ap is_of_id c.index-files-place.is ∙ sym c.eq.ensures ∙ c.if-eq.false in
     let second = ap is_of_id c.index-files-place-in-loop-place.is ∙ sym c.eq-in-loop-place.ensures ∙ c.if-eq-2.false in
     let none = none-more same o files k id c.loop-place.invariant.none c.index-files-place.result (omega (arith, more)) c.index-files-place.is first in
@@ -32,9 +32,9 @@ returns-then-eq g c =
     let o = g.met.FileId.Eq.laws in
     let id = c.args.id in
     let is_of_id = λ (f : GivenFile g.row.FileId.Denot). same f.id id in
-    let more = c.loop-place-test.true in
     let first = ap is_of_id c.index-files-place.is ∙ sym c.eq.ensures ∙ c.if-eq.true in
-    place-first same o c.args.files.now c.loop-place.place id c.loop-place.invariant.none c.index-files-place.result (omega (arith, more)) c.index-files-place.is first
+    place-first same o c.args.files.now c.loop-place.place id c.loop-place.invariant.none
+    c.index-files-place.result (omega (arith, c.loop-place-test.true, c.saturating_sub-last.ensures)) c.index-files-place.is first
 
 pub returns-then-eq-2 : goal.returns-then-eq-2
 returns-then-eq-2 g c =
@@ -44,7 +44,7 @@ returns-then-eq-2 g c =
     let k = c.loop-place.place in
     let id = c.args.id in
     let is_of_id = λ (f : GivenFile g.row.FileId.Denot). same f.id id in
-    let more = c.loop-place-test.true in
+    let more : k + 1 < length files = omega (arith, c.loop-place-test.true, c.saturating_sub-last.ensures) in
     let first = ap is_of_id c.index-files-place.is ∙ sym c.eq.ensures ∙ c.if-eq.false in
     let second = ap is_of_id c.index-files-place-in-loop-place.is ∙ sym c.eq-in-loop-place.ensures ∙ c.if-eq-2.true in
     let none = none-more same o files k id c.loop-place.invariant.none c.index-files-place.result (omega (arith, more)) c.index-files-place.is first in
@@ -62,7 +62,7 @@ returns-in_default g c =
     let o = g.met.FileId.Eq.laws in
     let files = c.args.files.now in
     let found = c.in-Some.ensures.lookup in
-    let past = c.loop-place-test.false in
+    let past : length files ≤ c.loop-place.place + 1 = omega (arith, c.loop-place-test.false, c.saturating_sub-last.ensures) in
     place-nowhere same o files (c.loop-place.place + 1) c.args.id
     (none-more same o files c.loop-place.place c.args.id c.loop-place.invariant.none c.in-Some.file.now (ltb-true _ _ (sym found.0)) found.1 (sym c.if-eq-3.ensures))
     past
