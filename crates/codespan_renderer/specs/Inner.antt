@@ -1,6 +1,7 @@
 -- Words that private calls and proofs use: a reader of the public contracts needs none of them.
 pub mod CellsLeft
 pub mod GivenLine
+pub mod GivenRows
 pub mod LineCells
 pub mod MarksLeft
 pub mod Runs

@@ -8,6 +8,7 @@ ghost use Rattle.codespan_picture.specs.Cells.{cells_to_end};
 ghost use Rattle.codespan_picture.specs.Given.{labelled, all_labelled};
 ghost use Rattle.codespan_renderer.specs.Inner.Runs.{better, caret_count, caret_run, given_label};
 ghost use Rattle.codespan_renderer.specs.Inner.GivenLine.{look_of_given, line_of_given};
+ghost use Rattle.codespan_renderer.specs.Inner.GivenRows.{given_carets};
 ghost use Rattle.codespan_picture.specs.RowParts.{carets, change, label_message, trailing_message};
 ghost use Rattle.codespan_picture.specs.RowStreams.{caret_row};
 
@@ -117,7 +118,7 @@ pub fn caret_count(cell: Cell, style: Option<LabelStyle>, end: usize) -> usize
 
 /// The carets under the characters of a line, and under the place after the last one.
 fn send_carets<W: WriteStyle>(w: &mut W, look: Look<'_>, line: Line<'_, '_>) -> io::Result<()>
-    ensures { Sends (W.sink w.old) (carets (look_of_given look.entry) (all_labelled line.entry.labels.now) (cells_to_end look.entry.tab_width line.entry.text.now)) result (W.sink w.new) }
+    ensures { Sends (W.sink w.old) (given_carets look.entry line.entry.labels.now (cells_to_end look.entry.tab_width line.entry.text.now)) result (W.sink w.new) }
 {
     let end = greatest_end(line.labels);
     let mut was = None;

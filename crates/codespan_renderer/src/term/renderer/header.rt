@@ -2,12 +2,13 @@
 
 ghost use Rattle.std.specs.Prelude.{◌≡◌, ◌++◌};
 ghost use Rattle.std.specs.Option.{option_map};
-ghost use Rattle.codespan_base.specs.Streams.{Header, bytes, one_mark, newline};
+ghost use Rattle.codespan_base.specs.Streams.{newline};
 ghost use Rattle.codespan_base.specs.WriterLaw.{Sends};
 ghost use Rattle.codespan_base.specs.Characters.{start_text};
 ghost use Rattle.codespan_picture.specs.Given.{place_of_given, text_now};
 ghost use Rattle.codespan_picture.specs.RowParts.{severity_name};
-ghost use Rattle.codespan_picture.specs.RowStreams.{bracketed, leading_locus, header_row, start_row};
+ghost use Rattle.codespan_picture.specs.RowStreams.{bracketed, leading_locus, start_row};
+ghost use Rattle.codespan_renderer.specs.Inner.GivenRows.{given_header, given_heading};
 
 use crate::term::renderer::Locus;
 use crate::term::renderer::parts::{send_gutter, send_locus, send_newline, send_space};
@@ -65,7 +66,7 @@ fn send_heading<W: WriteStyle>(
     severity: Severity,
     code: Option<&str>,
 ) -> io::Result<()>
-    ensures { Sends (W.sink w.old) (leading_locus (option_map (λ at. place_of_given at.now) locus.entry) ++ one_mark (Header severity) ++ bytes (severity_name severity) ++ bracketed (option_map text_now code.entry)) result (W.sink w.new) }
+    ensures { Sends (W.sink w.old) (given_heading locus.entry severity code.entry) result (W.sink w.new) }
 {
     send_leading_locus(w, locus)?;
     w.set_header(severity)?;
@@ -81,7 +82,7 @@ pub fn send_header<W: WriteStyle>(
     code: Option<&str>,
     message: &str,
 ) -> io::Result<()>
-    ensures { Sends (W.sink w.old) (header_row severity (option_map (λ at. place_of_given at.now) locus.entry) (record { code = option_map text_now code.entry; message = message.now }) ++ newline) result (W.sink w.new) }
+    ensures { Sends (W.sink w.old) (given_header locus.entry severity code.entry message.now) result (W.sink w.new) }
 {
     send_heading(w, locus, severity, code)?;
     w.set_header_message()?;

@@ -5,8 +5,9 @@ ghost use Rattle.std.specs.Option.{option_map};
 ghost use Rattle.codespan_base.specs.WriterLaw.{Sends};
 ghost use Rattle.codespan_picture.specs.Given.{mark_of_given, part_of};
 ghost use Rattle.codespan_renderer.specs.Inner.GivenLine.{look_of_given, lanes_of_given, row_of_given, given_lane, given_lanes};
+ghost use Rattle.codespan_renderer.specs.Inner.GivenRows.{given_filled};
 ghost use Rattle.codespan_renderer.specs.Inner.MarksLeft.{mark_here, marks_after};
-ghost use Rattle.codespan_picture.specs.Lanes.{filling, lane_cells, corner_line, label_glyph, is_unbroken, turns_early, row_crossing, row_shape, underline_shape};
+ghost use Rattle.codespan_picture.specs.Lanes.{filling, lane_cells, corner_line, is_unbroken, turns_early, row_crossing, row_shape, underline_shape};
 
 use crate::term::renderer::MultiLabel;
 use crate::term::renderer::line::{Lanes, Look};
@@ -133,7 +134,7 @@ fn send_filled<W: WriteStyle>(
     style: LabelStyle,
     own: char,
 ) -> io::Result<()>
-    ensures { Sends (W.sink w.old) (filling look.entry.severity look.entry.chars.now (option_map mark_of_given crossing.entry) 1 ++ label_glyph look.entry.severity style own) result (W.sink w.new) }
+    ensures { Sends (W.sink w.old) (given_filled look.entry crossing.entry style own) result (W.sink w.new) }
 {
     send_filling(w, look, crossing, 1)?;
     send_label_glyph(w, look.severity, style, own)

@@ -8,11 +8,12 @@ ghost use Rattle.codespan_base.specs.WriterLaw.{Sends};
 ghost use Rattle.codespan_picture.specs.Cells.{cells};
 ghost use Rattle.codespan_picture.specs.Given.{labelled, all_labelled};
 ghost use Rattle.codespan_renderer.specs.Inner.GivenLine.{look_of_given, line_of_given};
+ghost use Rattle.codespan_renderer.specs.Inner.GivenRows.{given_cells, given_hanging, given_hanging_rows, given_messages, given_pointers};
 ghost use Rattle.codespan_picture.specs.Lanes.{label_glyph};
-ghost use Rattle.codespan_picture.specs.Rows.{hanging, hanging_rows};
+ghost use Rattle.codespan_picture.specs.Rows.{hanging};
 ghost use Rattle.codespan_picture.specs.RowParts.{cells_before, greatest_start, pointers, starts_in};
-ghost use Rattle.codespan_picture.specs.RowStreams.{pointer_row, hanging_row, stream_of_rows};
-ghost use Rattle.codespan_renderer.specs.Inner.Runs.{best_from, pointer_found, hanging_stream, AreHanging};
+ghost use Rattle.codespan_picture.specs.RowStreams.{pointer_row, hanging_row};
+ghost use Rattle.codespan_renderer.specs.Inner.Runs.{best_from, pointer_found, AreHanging};
 
 use crate::term::renderer::SingleLabel;
 use crate::term::renderer::carets::{better, send_message};
@@ -102,7 +103,7 @@ fn send_pointers<W: WriteStyle>(
     before: usize,
 ) -> io::Result<()>
     requires { AreHanging line.labels.now messages.before.now messages.after.now }
-    ensures { Sends (W.sink w.old) (pointers (look_of_given look.entry) (all_labelled line.entry.labels.now) (cells_before before (cells look.entry.tab_width line.entry.text.now))) result (W.sink w.new) }
+    ensures { Sends (W.sink w.old) (given_pointers look.entry line.entry (cells_before before (given_cells look.entry line.entry))) result (W.sink w.new) }
 {
     let reach = greatest_start(line.labels);
     let mut blank = 0u128;
@@ -164,7 +165,7 @@ fn send_hanging_rows<W: WriteStyle>(
     labels: &[SingleLabel<'_>],
 ) -> io::Result<()>
     requires { AreHanging line.labels.now messages.before.now messages.after.now }
-    ensures { Sends (W.sink w.old) (hanging_stream (look_of_given look.entry) (line_of_given line.entry) (filter has_message (all_labelled labels.now))) result (W.sink w.new) }
+    ensures { Sends (W.sink w.old) (given_hanging look.entry line.entry labels.now) result (W.sink w.new) }
 {
     for label in labels.iter().rev() {
         if label.2.is_empty() {
@@ -183,7 +184,7 @@ fn send_pointers_and_messages<W: WriteStyle>(
     messages: Messages<'_, '_>,
 ) -> io::Result<()>
     requires { AreHanging line.labels.now messages.before.now messages.after.now }
-    ensures { Sends (W.sink w.old) (pointer_row (look_of_given look.entry) (line_of_given line.entry) ++ newline ++ hanging_stream (look_of_given look.entry) (line_of_given line.entry) (filter has_message (all_labelled messages.entry.after.now)) ++ hanging_stream (look_of_given look.entry) (line_of_given line.entry) (filter has_message (all_labelled messages.entry.before.now))) result (W.sink w.new) }
+    ensures { Sends (W.sink w.old) (given_messages look.entry line.entry messages.entry) result (W.sink w.new) }
 {
     send_pointer_row(w, look, line, messages)?;
     send_hanging_rows(w, look, line, messages, messages.after)?;
@@ -208,7 +209,7 @@ pub fn send_all_hanging<W: WriteStyle>(
     look: Look<'_>,
     line: Line<'_, '_>,
 ) -> io::Result<()>
-    ensures { Sends (W.sink w.old) (stream_of_rows (look_of_given look.entry) (hanging_rows (line_of_given line.entry) (hanging (all_labelled line.entry.labels.now)))) result (W.sink w.new) }
+    ensures { Sends (W.sink w.old) (given_hanging_rows look.entry line.entry) result (W.sink w.new) }
 {
     let messages = Messages::of(line.labels);
     if !has_any_message(messages.before) && !has_any_message(messages.after) {

@@ -3,14 +3,15 @@
 ghost use Rattle.std.specs.Prelude.{◌≡◌, ◌≤◌, ◌++◌, ◌&&◌, ◌==◌, map, true};
 ghost use Rattle.std.specs.List.{list_any};
 ghost use Rattle.codespan_base.specs.Labels.{LaneMark, is_primary, is_primary_style};
-ghost use Rattle.codespan_base.specs.Streams.{blanks, bytes, space, newline};
+ghost use Rattle.codespan_base.specs.Streams.{blanks, bytes, newline};
 ghost use Rattle.codespan_base.specs.WriterLaw.{Sends};
 ghost use Rattle.codespan_picture.specs.Carets.{covers};
 ghost use Rattle.codespan_picture.specs.Given.{all_labelled, mark_of_given};
-ghost use Rattle.codespan_renderer.specs.Inner.GivenLine.{look_of_given, line_of_given, lanes_of_given};
+ghost use Rattle.codespan_renderer.specs.Inner.GivenLine.{look_of_given, line_of_given};
+ghost use Rattle.codespan_renderer.specs.Inner.GivenRows.{given_caret_rows, given_source_lanes};
 ghost use Rattle.codespan_renderer.specs.Inner.PrimaryMarks.{AreMarksOf};
-ghost use Rattle.codespan_picture.specs.Rows.{Look as LookWord, caret_rows, rows_of};
-ghost use Rattle.codespan_picture.specs.RowParts.{border, change, coloured_text, leading_of, numbered_gutter, source_lanes, source_style};
+ghost use Rattle.codespan_picture.specs.Rows.{Look as LookWord, rows_of};
+ghost use Rattle.codespan_picture.specs.RowParts.{border, change, coloured_text, source_style};
 ghost use Rattle.codespan_picture.specs.RowStreams.{source_row, stream_of_rows};
 
 use crate::term::renderer::carets::{covers, send_caret_row};
@@ -170,7 +171,7 @@ pub fn send_source_lanes<W: WriteStyle>(
     look: Look<'_>,
     line: Line<'_, '_>,
 ) -> io::Result<()>
-    ensures { Sends (W.sink w.old) (numbered_gutter look.entry.padding line.entry.number ++ border look.entry.chars.now ++ source_lanes (look_of_given look.entry) (leading_of (line_of_given line.entry)) (lanes_of_given line.entry.lanes) ++ space) result (W.sink w.new) }
+    ensures { Sends (W.sink w.old) (given_source_lanes look.entry line.entry) result (W.sink w.new) }
 {
     send_numbered_gutter(w, look.padding, line.number)?;
     send_border(w, look.chars)?;
@@ -189,7 +190,7 @@ fn send_source_row<W: WriteStyle>(w: &mut W, look: Look<'_>, line: Line<'_, '_>)
 
 /// The carets under a line that has labels.
 fn send_caret_rows<W: WriteStyle>(w: &mut W, look: Look<'_>, line: Line<'_, '_>) -> io::Result<()>
-    ensures { Sends (W.sink w.old) (stream_of_rows (look_of_given look.entry) (caret_rows (line_of_given line.entry) (all_labelled line.entry.labels.now))) result (W.sink w.new) }
+    ensures { Sends (W.sink w.old) (given_caret_rows look.entry line.entry) result (W.sink w.new) }
 {
     if line.labels.is_empty() {
         return Ok(());

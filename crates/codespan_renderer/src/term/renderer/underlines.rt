@@ -5,10 +5,11 @@ ghost use Rattle.codespan_base.specs.Streams.{newline, bytes};
 ghost use Rattle.codespan_base.specs.WriterLaw.{Sends};
 ghost use Rattle.codespan_picture.specs.Cells.{cells, width_of};
 ghost use Rattle.codespan_picture.specs.Given.{mark_of_given, part_of};
-ghost use Rattle.codespan_renderer.specs.Inner.GivenLine.{look_of_given, line_of_given, lanes_of_given};
+ghost use Rattle.codespan_renderer.specs.Inner.GivenLine.{look_of_given, line_of_given};
+ghost use Rattle.codespan_renderer.specs.Inner.GivenRows.{given_underline_lanes};
 ghost use Rattle.codespan_renderer.specs.Inner.Underlines.{run_underline, run_width};
 ghost use Rattle.codespan_picture.specs.Rows.{has_underline, underline_rows};
-ghost use Rattle.codespan_picture.specs.RowParts.{border, gutter, leading_of, underline_lanes, underline_message, start_caret, end_caret, cells_before, cells_up_to};
+ghost use Rattle.codespan_picture.specs.RowParts.{underline_message, start_caret, end_caret, cells_before, cells_up_to};
 ghost use Rattle.codespan_picture.specs.RowStreams.{underline_row, stream_of_rows};
 
 use crate::term::renderer::MultiLabel;
@@ -121,7 +122,7 @@ fn send_underline_lanes<W: WriteStyle>(
     line: Line<'_, '_>,
     mark: (usize, LabelStyle, MultiLabel<'_>),
 ) -> io::Result<()>
-    ensures { Sends (W.sink w.old) (gutter look.entry.padding ++ border look.entry.chars.now ++ underline_lanes (look_of_given look.entry) (leading_of (line_of_given line.entry)) (mark_of_given mark.entry) (lanes_of_given line.entry.lanes)) result (W.sink w.new) }
+    ensures { Sends (W.sink w.old) (given_underline_lanes look.entry line.entry mark.entry) result (W.sink w.new) }
 {
     let (lane, style, part) = mark;
     send_gutter(w, look.padding)?;

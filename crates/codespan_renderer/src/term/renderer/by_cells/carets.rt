@@ -6,6 +6,7 @@ ghost use Rattle.codespan_base.specs.WriterLaw.{Sends};
 ghost use Rattle.codespan_picture.specs.Cells.{cells_to_end};
 ghost use Rattle.codespan_picture.specs.Given.{all_labelled};
 ghost use Rattle.codespan_renderer.specs.Inner.GivenLine.{look_of_given, line_of_given};
+ghost use Rattle.codespan_renderer.specs.Inner.GivenRows.{given_carets};
 ghost use Rattle.codespan_picture.specs.RowParts.{carets};
 ghost use Rattle.codespan_picture.specs.RowStreams.{caret_row};
 ghost use Rattle.codespan_renderer.specs.Inner.Sweeps.{starts_in_order};
@@ -30,7 +31,7 @@ pub fn send_carets<W: WriteStyle>(
 ) -> io::Result<()>
     requires cells { cells.now ≡ cells_to_end look.tab_width text.now }
     requires ordered { IsTrue (starts_in_order (all_labelled labels.now)) }
-    ensures { Sends (W.sink w.old) (carets (look_of_given look.entry) (all_labelled labels.now) (cells_to_end look.entry.tab_width text.now)) result (W.sink w.new) }
+    ensures { Sends (W.sink w.old) (given_carets look.entry labels.now (cells_to_end look.entry.tab_width text.now)) result (W.sink w.new) }
 {
     let end = greatest_end(labels);
     let mut sweep = Sweep::new(labels);

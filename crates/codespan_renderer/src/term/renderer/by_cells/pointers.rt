@@ -1,17 +1,17 @@
 //! The pointers under the carets of a line, and the messages that hang from them, from a list of pointers that is made once for a line.
 
-ghost use Rattle.std.specs.Prelude.{◌≡◌, ◌+◌, ◌^◌, ◌++◌, ◌<◌, ◌≤◌, filter, IfOk, IsErrOf, IsTrue, OnErr};
-ghost use Rattle.codespan_base.specs.Labels.{has_message};
+ghost use Rattle.std.specs.Prelude.{◌≡◌, ◌+◌, ◌^◌, ◌++◌, ◌<◌, ◌≤◌, IfOk, IsErrOf, IsTrue, OnErr};
 ghost use Rattle.codespan_base.specs.Streams.{newline};
 ghost use Rattle.codespan_base.specs.WriterLaw.{Sends};
 ghost use Rattle.codespan_picture.specs.Cells.{cells, width_of};
 ghost use Rattle.codespan_picture.specs.Given.{labelled, all_labelled};
 ghost use Rattle.codespan_renderer.specs.Inner.GivenLine.{look_of_given, line_of_given};
+ghost use Rattle.codespan_renderer.specs.Inner.GivenRows.{given_cells, given_hanging, given_hanging_rows, given_messages, given_pointers};
 ghost use Rattle.codespan_renderer.specs.Inner.PointerLists.{AreNarrow, pointer_under, pointers_in, pointers_before, spaced};
-ghost use Rattle.codespan_picture.specs.Rows.{hanging, hanging_rows};
+ghost use Rattle.codespan_picture.specs.Rows.{hanging};
 ghost use Rattle.codespan_picture.specs.RowParts.{cells_before, cells_up_to, greatest_start, pointers};
-ghost use Rattle.codespan_picture.specs.RowStreams.{pointer_row, hanging_row, stream_of_rows};
-ghost use Rattle.codespan_renderer.specs.Inner.Runs.{AreHanging, ArePieces, hanging_stream};
+ghost use Rattle.codespan_picture.specs.RowStreams.{pointer_row, hanging_row};
+ghost use Rattle.codespan_renderer.specs.Inner.Runs.{AreHanging, ArePieces};
 ghost use Rattle.codespan_renderer.specs.Inner.Sweeps.{starts_in_order};
 
 use crate::term::renderer::SingleLabel;
@@ -153,7 +153,7 @@ fn send_all_pointers<W: WriteStyle>(
     requires characters { characters.now ≡ cells look.tab_width line.text.now }
     requires narrow { AreNarrow characters.now }
     requires found { found.now ≡ pointers_in (hanging (all_labelled line.labels.now)) (cells look.tab_width line.text.now) }
-    ensures { Sends (W.sink w.old) (pointers (look_of_given look.entry) (all_labelled line.entry.labels.now) (cells look.entry.tab_width line.entry.text.now)) result (W.sink w.new) }
+    ensures { Sends (W.sink w.old) (given_pointers look.entry line.entry (given_cells look.entry line.entry)) result (W.sink w.new) }
 {
     let edge = width_up_to(
         characters,
@@ -177,7 +177,7 @@ fn send_pointers_before<W: WriteStyle>(
     requires narrow { AreNarrow characters.now }
     requires found { found.now ≡ pointers_in (hanging (all_labelled line.labels.now)) (cells look.tab_width line.text.now) }
     requires near { before ≤ greatest_start (all_labelled line.labels.now) }
-    ensures { Sends (W.sink w.old) (pointers (look_of_given look.entry) (all_labelled line.entry.labels.now) (cells_before before (cells look.entry.tab_width line.entry.text.now))) result (W.sink w.new) }
+    ensures { Sends (W.sink w.old) (given_pointers look.entry line.entry (cells_before before (given_cells look.entry line.entry))) result (W.sink w.new) }
 {
     let edge = width_before(characters, line.text, look.tab_width, before);
     send_spaced(w, look, found, before, edge)
@@ -218,7 +218,7 @@ pub fn send_hanging_rows<W: WriteStyle>(
     requires narrow { AreNarrow characters.now }
     requires found { found.now ≡ pointers_in (hanging (all_labelled line.labels.now)) (cells look.tab_width line.text.now) }
     requires near { greatest_start (all_labelled labels.now) ≤ greatest_start (all_labelled line.labels.now) }
-    ensures { Sends (W.sink w.old) (hanging_stream (look_of_given look.entry) (line_of_given line.entry) (filter has_message (all_labelled labels.now))) result (W.sink w.new) }
+    ensures { Sends (W.sink w.old) (given_hanging look.entry line.entry labels.now) result (W.sink w.new) }
 {
     for label in labels.iter().rev() {
         if label.2.is_empty() {
@@ -242,7 +242,7 @@ fn send_pointers_and_messages<W: WriteStyle>(
     requires characters { characters.now ≡ cells look.tab_width line.text.now }
     requires narrow { AreNarrow characters.now }
     requires found { found.now ≡ pointers_in (hanging (all_labelled line.labels.now)) (cells look.tab_width line.text.now) }
-    ensures { Sends (W.sink w.old) (pointer_row (look_of_given look.entry) (line_of_given line.entry) ++ newline ++ hanging_stream (look_of_given look.entry) (line_of_given line.entry) (filter has_message (all_labelled messages.entry.after.now)) ++ hanging_stream (look_of_given look.entry) (line_of_given line.entry) (filter has_message (all_labelled messages.entry.before.now))) result (W.sink w.new) }
+    ensures { Sends (W.sink w.old) (given_messages look.entry line.entry messages.entry) result (W.sink w.new) }
 {
     send_pointer_row(w, look, line, characters, found)?;
     send_hanging_rows(w, look, line, characters, found, messages.after)?;
@@ -260,7 +260,7 @@ pub fn send_all_hanging<W: WriteStyle>(
     requires characters { characters.now ≡ cells look.tab_width line.text.now }
     requires narrow { AreNarrow characters.now }
     requires found { found.now ≡ pointers_in (hanging (all_labelled line.labels.now)) (cells look.tab_width line.text.now) }
-    ensures { Sends (W.sink w.old) (stream_of_rows (look_of_given look.entry) (hanging_rows (line_of_given line.entry) (hanging (all_labelled line.entry.labels.now)))) result (W.sink w.new) }
+    ensures { Sends (W.sink w.old) (given_hanging_rows look.entry line.entry) result (W.sink w.new) }
 {
     let messages = Messages::of(line.labels);
     if !has_any_message(messages.before) && !has_any_message(messages.after) {

@@ -4,9 +4,10 @@ ghost use Rattle.std.specs.Prelude.{◌≡◌, ◌++◌, IsTrue};
 ghost use Rattle.codespan_base.specs.WriterLaw.{Sends};
 ghost use Rattle.codespan_picture.specs.Cells.{cells, cells_to_end};
 ghost use Rattle.codespan_picture.specs.Given.{all_labelled};
-ghost use Rattle.codespan_picture.specs.Rows.{caret_rows, hanging, rows_of};
+ghost use Rattle.codespan_picture.specs.Rows.{hanging, rows_of};
 ghost use Rattle.codespan_picture.specs.RowStreams.{stream_of_rows};
 ghost use Rattle.codespan_renderer.specs.Inner.GivenLine.{look_of_given, line_of_given};
+ghost use Rattle.codespan_renderer.specs.Inner.GivenRows.{given_caret_rows};
 ghost use Rattle.codespan_renderer.specs.Inner.PointerLists.{AreNarrow, pointers_in};
 ghost use Rattle.codespan_renderer.specs.Inner.Sweeps.{starts_in_order};
 
@@ -38,7 +39,7 @@ fn send_caret_rows<W: WriteStyle>(
 ) -> io::Result<()>
     requires all { all.now ≡ cells_to_end look.tab_width line.text.now }
     requires ordered { IsTrue (starts_in_order (all_labelled line.labels.now)) }
-    ensures { Sends (W.sink w.old) (stream_of_rows (look_of_given look.entry) (caret_rows (line_of_given line.entry) (all_labelled line.entry.labels.now))) result (W.sink w.new) }
+    ensures { Sends (W.sink w.old) (given_caret_rows look.entry line.entry) result (W.sink w.new) }
 {
     if line.labels.is_empty() {
         return Ok(());
