@@ -1,13 +1,15 @@
--- Bytes that a writer takes by writes, one after another.
-use Rattle.std.proofs.Common.{◌≡◌, ℕ, true, List, [], ◌++◌, take, drop, Option, None, Some, Result, Ok, Err, append-nil, append_assoc, refl, sym, ap, subst, ◌∙◌}
-use Rattle.std.specs.Io.KnownBytes.{Appends, Keeps}
+-- Bytes that a writer takes, call after call.
+use Rattle.std.proofs.Common.{◌≡◌, ℕ, true, List, [], ◌∷◌, ◌++◌, Option, Result, Ok, Err, sym, ap, subst, ◌∙◌}
+use Rattle.std.specs.Borrow.{GName}
 use Rattle.std.specs.Result.{IsErrAnd}
-use Rattle.std.proofs.lemmas.Bool.{false≢true}
 use Rattle.std.proofs.lemmas.Result.{err_from_is_err_and}
-use Rattle.std.proofs.lemmas.List.{take-append-drop}
-use Rattle.codespan_base.specs.WriterLaw.{tells, gained, GainedPartly}
+use Rattle.codespan_base.specs.declared.term.config.lent.LentWriter.{LentWriter}
 use Rattle.codespan_base.specs.ColorLaw.{Paints}
+use Rattle.codespan_base.specs.Streams.{bytes, no_marks}
+use Rattle.codespan_base.specs.WriterLaw.{Frame, Sink, KeepsFrame, Sends, is_told, sent, tells, gained, GainedPartly}
+use Rattle.codespan_base.specs.Writers.{fresh_lent, lent_reference, lent_sink, lent_to}
 use Rattle.codespan_base.proofs.HeldBytes.{gained-append, gained-nil, tells-gained, GainedPartly-first, GainedPartly-last, GainedPartly_first_2, GainedPartly_first_3}
+use Rattle.codespan_base.proofs.Sends.{spelled-bytes}
 
 -- calls that paint, one after another
 pub ruleset paintings = (gained-append, gained-nil, tells-gained, GainedPartly-first, GainedPartly-last, GainedPartly_first_2, GainedPartly_first_3)
@@ -48,48 +50,36 @@ paints-last o a b m k (Err x) p q = partly-then o a b m k p q
 pub paint-refused : {E : Type 0} (Q : E → Type 0) (o : Option (List ℕ)) (a : List ℕ) (k : Option (List ℕ)) (r : Result (Unit {0}) E) → IsErrAnd r Q → PaintedPartly o a k → Paints o a r k
 paint-refused Q o a k r h p = let e = (err_from_is_err_and r h).1 in rw e p
 
--- ---- the loop over `write`
+-- ---- a writer that is lent
 
--- a write of a writer that tells its bytes
-pub tells-appends : (o m : Option (List ℕ)) (bs : List ℕ) → tells o ≡ true → Appends o m bs → m ≡ gained o bs
-unfolding tells gained
-tells-appends None m bs h a = absurd (false≢true h)
-tells-appends (Some xs) None bs h a = absurd a
-tells-appends (Some xs) (Some ys) bs h a = ap (λ (l : List ℕ). Some l) a
+-- a call that sends keeps the reference by which the writer is lent, so the writer comes back by it
+comes_back : {W E : Type 0} (contents : W → Option (List ℕ)) (before after : LentWriter W) (name : GName) (held : Option (List ℕ)) (x : W) (r : Result (Unit {0}) E)
+    → lent_sink contents before ≡ fresh_lent name held → KeepsFrame (lent_sink contents before).frame r (lent_sink contents after).frame
+    → (name ≡ lent_reference after → x ≡ lent_to after) → x ≡ lent_to after
+comes_back contents before after name held x (Ok done) begins keeps back =
+    let kept : (lent_reference after ∷ []) ≡ (name ∷ []) = ap (λ (f : Frame). f.through) keeps ∙ ap (λ (s : Sink). s.frame.through) begins in
+    back cc
+comes_back contents before after name held x (Err e) begins keeps back =
+    let kept : (lent_reference after ∷ []) ≡ (name ∷ []) = ap (λ (f : Frame). f.through) keeps ∙ ap (λ (s : Sink). s.frame.through) begins in
+    back cc
 
--- a write that was refused
-pub tells-keeps : (o m : Option (List ℕ)) → tells o ≡ true → Keeps o m → m ≡ o
-unfolding tells
-tells-keeps None m h a = absurd (false≢true h)
-tells-keeps (Some xs) None h a = absurd a
-tells-keeps (Some xs) (Some ys) h a = ap (λ (l : List ℕ). Some l) a
-
--- the writer has taken the bytes up to the rest
-pub record Poured (o : Option (List ℕ)) (bs rest : List ℕ) (m : Option (List ℕ)) : Type 0 where
-  pub taken : List ℕ
-  pub whole : taken ++ rest ≡ bs
-  pub held : m ≡ gained o taken
-
--- nothing was written yet
-pub Poured-start : (o : Option (List ℕ)) (bs : List ℕ) → Poured o bs bs o
-Poured-start o bs = record { taken = []; whole = refl; held = sym (gained-nil o) }
-
--- the writer still tells its bytes
-pub Poured-tells : (o : Option (List ℕ)) (bs rest : List ℕ) (m : Option (List ℕ)) → tells o ≡ true → Poured o bs rest m → tells m ≡ true
-Poured-tells o bs rest m h p = ap tells p.held ∙ tells-gained o p.taken ∙ h
-
--- a write took the first n of the rest
-pub Poured-more : (o : Option (List ℕ)) (bs rest : List ℕ) (m k : Option (List ℕ)) (n : ℕ) → Poured o bs rest m → k ≡ gained m (take n rest) → Poured o bs (drop n rest) k
-Poured-more o bs rest m k n p e = record {
-  taken = p.taken ++ take n rest;
-  whole = append_assoc p.taken (take n rest) (drop n rest) ∙ ap (λ (l : List ℕ). p.taken ++ l) (take-append-drop n rest) ∙ p.whole;
-  held = e ∙ ap (λ (x : Option (List ℕ)). gained x (take n rest)) p.held ∙ sym (gained-append o p.taken (take n rest));
-}
-
--- a write took nothing more
-pub Poured-refused : (o : Option (List ℕ)) (bs rest : List ℕ) (m k : Option (List ℕ)) → Poured o bs rest m → k ≡ m → GainedPartly o bs k
-Poured-refused o bs rest m k p e = record { begun = p.taken; rest = rest; whole = p.whole; held = e ∙ p.held }
-
--- nothing is left
-pub Poured-end : (o : Option (List ℕ)) (bs rest : List ℕ) (m : Option (List ℕ)) → Poured o bs rest m → rest ≡ [] → m ≡ gained o bs
-Poured-end o bs rest m p e = p.held ∙ ap (gained o) (sym (append-nil p.taken) ∙ ap (λ (l : List ℕ). p.taken ++ l) (sym e) ∙ p.whole)
+-- bytes that were sent to a lent writer came to the writer that is lent
+pub sent_to_lent : {W E : Type 0} (contents : W → Option (List ℕ)) (before after : LentWriter W) (name : GName) (held : Option (List ℕ)) (x : W) (bs : List ℕ) (r : Result (Unit {0}) E)
+    → lent_sink contents before ≡ fresh_lent name held → Sends (lent_sink contents before) (bytes bs) r (lent_sink contents after)
+    → (name ≡ lent_reference after → x ≡ lent_to after) → Paints held bs r (contents x)
+unfolding sent is_told
+sent_to_lent {W} {E} contents before after name held x bs (Ok done) begins p back = λ told.
+    let was : contents (lent_to before) ≡ held = ap (λ (s : Sink). s.held) begins in
+    ap contents (comes_back {E = E} contents before after name held x (Ok done) begins p.0 back)
+    ∙ ap (λ (s : Sink). s.held) (p.1 (ap tells was ∙ told))
+    ∙ ap (gained (contents (lent_to before))) (spelled-bytes no_marks bs)
+    ∙ ap (λ (o : Option (List ℕ)). gained o bs) was
+sent_to_lent {W} {E} contents before after name held x bs (Err e) begins p back = λ told.
+    let was : contents (lent_to before) ≡ held = ap (λ (s : Sink). s.held) begins in
+    let began = p.1 (ap tells was ∙ told) in
+    record {
+      begun = began.begun;
+      rest = began.rest;
+      whole = began.whole ∙ spelled-bytes no_marks bs;
+      held = ap contents (comes_back {E = E} contents before after name held x (Err e) begins p.0 back) ∙ began.held ∙ ap (λ (o : Option (List ℕ)). gained o began.begun) was;
+    }

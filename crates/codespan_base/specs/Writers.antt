@@ -1,7 +1,9 @@
 -- What the laws of writers see of the writers of this crate.
-use Rattle.std.specs.Prelude.{◌≡◌, ℕ, false, List, [], Option, Result, Ok}
+use Rattle.std.specs.Prelude.{◌≡◌, ℕ, false, List, [], ◌∷◌, Option, Result, Ok}
+use Rattle.std.specs.Borrow.{GName}
 use Rattle.codespan_base.specs.declared.term.config.ansi.Ansi.{Ansi}
 use Rattle.codespan_base.specs.declared.term.config.color.ColorSpec.{ColorSpec}
+use Rattle.codespan_base.specs.declared.term.config.lent.LentWriter.{LentWriter}
 use Rattle.codespan_base.specs.declared.term.config.no_color.NoColor.{NoColor}
 use Rattle.codespan_base.specs.declared.term.config.plain.PlainWriter.{PlainWriter}
 use Rattle.codespan_base.specs.declared.term.config.styles_writer.StylesWriter.{StylesWriter}
@@ -50,3 +52,24 @@ styles_sink contents color reset p = record {
   frame = record { spelling = spelling_by p.styles.now color reset; refused = p.refused; through = [] };
   held = contents p.inner;
 }
+
+-- ---- plain text over a writer that is lent
+
+-- the writer that is lent
+abbrev pub lent_to : {W : Type 0} → LentWriter W → W
+lent_to l = l.writer.now
+
+-- the reference by which it is lent
+abbrev pub lent_reference : {W : Type 0} → LentWriter W → GName
+lent_reference l = l.writer.ghost_name
+
+-- a plain writer that writes through the reference
+abbrev pub lent_sink : {W : Type 0} → (W → Option (List ℕ)) → LentWriter W → Sink
+lent_sink contents l = record {
+  frame = record { spelling = no_marks; refused = l.refused; through = lent_reference l ∷ [] };
+  held = contents (lent_to l);
+}
+
+-- one that has refused nothing yet
+abbrev pub fresh_lent : GName → Option (List ℕ) → Sink
+fresh_lent name bytes = record { frame = record { spelling = no_marks; refused = false; through = name ∷ [] }; held = bytes }

@@ -12,13 +12,12 @@ use Rattle.std.specs.Str.{IsUtf8}
 use Rattle.codespan_base.specs.FileModel.{FileModel, IsLawful, Lookup}
 use Rattle.codespan_base.specs.Streams.{Stream, Spelling, spelled, text_of, no_marks}
 use Rattle.codespan_base.specs.WriterLaw.{Frame, Sink, refusing, sent, is_told, tells, gained, Began, GainedPartly}
-use Rattle.codespan_base.specs.Writers.{fresh_sink}
+use Rattle.codespan_base.specs.declared.term.config.lent.LentWriter.{LentWriter}
+use Rattle.codespan_base.specs.Writers.{fresh_lent, fresh_sink, lent_reference, lent_sink, lent_to}
 use Rattle.codespan_picture.specs.Lookups.{Refusals, lookups_in, headers_before_refusal}
 use Rattle.codespan_laws.specs.Meanings.{MeansLabels}
 use Rattle.codespan_laws.specs.TextLaws.{AreCharacters}
 use Rattle.codespan_laws.proofs.PictureTexts.{text-placed_picture}
-use Rattle.codespan_reporting.specs.declared.term.lent.LentWriter.{LentWriter}
-use Rattle.codespan_reporting.specs.Inner.Lent.{fresh_lent, lent_reference, lent_sink, lent_to}
 use Rattle.codespan_reporting.specs.Headline.{Blames, Draws, DrawsTo, ForSomeNames, IsDrawn, IsLookups, IsStringRefusal, IsTold, IsWriteRefusal, KeepsWriter, NamesAreStated, WritesText}
 
 -- a plain writer that held nothing and was sent a stream holds its text

@@ -1,6 +1,5 @@
 -- Words that private calls and proofs use: a reader of the public contracts needs none of them.
 pub mod Headers
-pub mod Lent
 pub mod Loci
 pub mod Asking
 pub mod FileLookups

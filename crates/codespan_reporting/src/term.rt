@@ -2,7 +2,6 @@
 
 mod characters;
 mod emitting;
-mod lent;
 pub mod renderer;
 pub mod views;
 

@@ -8,6 +8,7 @@ ghost use Rattle.codespan_base.specs.Defaults.{default_config};
 pub mod ansi;
 pub mod chars;
 pub mod color;
+pub mod lent;
 pub mod no_color;
 pub mod plain;
 pub mod pouring;

@@ -6,11 +6,11 @@ ghost use Rattle.codespan_laws.specs.Meanings.{MeansLabels};
 ghost use Rattle.codespan_reporting.specs.Headline.{AppendsText, DrawsText, DrawsTo, WritesText};
 
 use crate::term::characters::are_characters;
-use crate::term::lent::LentWriter;
 use crate::term::renderer::Renderer;
 use crate::term::views::{RichDiagnostic, ShortDiagnostic};
 use codespan_base::diagnostic::Diagnostic;
 use codespan_base::files::{Error, Files};
+use codespan_base::term::config::lent::LentWriter;
 use codespan_base::term::{Config, DisplayStyle, PlainWriter, WriteStyle};
 use std::io::Write;
 

@@ -2,15 +2,15 @@
 
 ghost use Rattle.std.specs.Prelude.{◌≡◌, refl};
 
-use codespan_base::diagnostic::{LabelStyle, Severity};
-use codespan_base::term::WriteStyle;
-use codespan_base::term::config::putting::put_through;
+use crate::diagnostic::{LabelStyle, Severity};
+use crate::term::config::putting::put_through;
+use crate::term::config::write_style::WriteStyle;
 use std::io;
 use std::io::Write;
 
 /// A writer of plain text over one that is lent to it: every mark is spelled as nothing, and succeeds.
 ///
-/// It is what [`PlainWriter`](codespan_base::term::PlainWriter) is over a writer of its own; its frame keeps the reference besides, so
+/// It is what [`PlainWriter`](crate::term::PlainWriter) is over a writer of its own; its frame keeps the reference besides, so
 /// that the writer is known to come back.
 #[derive(Drop)]
 pub struct LentWriter<'writer, W> {
@@ -19,7 +19,7 @@ pub struct LentWriter<'writer, W> {
 }
 
 impl<'writer, W: Write> LentWriter<'writer, W> {
-    ghost use Rattle.codespan_reporting.specs.Inner.Lent.{lent_reference, lent_to, lent_sink, fresh_lent};
+    ghost use Rattle.codespan_base.specs.Writers.{lent_reference, lent_to, lent_sink, fresh_lent};
 
     /// Plain text, written to `writer`. It has refused nothing yet.
     pub fn new(writer: &'writer mut W) -> LentWriter<'writer, W>
@@ -34,7 +34,7 @@ impl<'writer, W: Write> LentWriter<'writer, W> {
 }
 
 impl<W: Write> Write for LentWriter<'_, W> {
-    ghost use Rattle.codespan_reporting.specs.Inner.Lent.{lent_to};
+    ghost use Rattle.codespan_base.specs.Writers.{lent_to};
 
     ghost contents = { λ l. W.contents (lent_to l) };
 
@@ -47,9 +47,9 @@ impl<W: Write> Write for LentWriter<'_, W> {
     }
 }
 
-#[tactic(auto, using(codespan_base::proofs::Marks::sent_no_mark))]
+#[tactic(auto, using(crate::proofs::Marks::sent_no_mark))]
 impl<W: Write> WriteStyle for LentWriter<'_, W> {
-    ghost use Rattle.codespan_reporting.specs.Inner.Lent.{lent_sink};
+    ghost use Rattle.codespan_base.specs.Writers.{lent_sink};
 
     ghost sink = { λ l. lent_sink W.contents l };
 
