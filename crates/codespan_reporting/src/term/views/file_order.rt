@@ -82,14 +82,14 @@ pub fn label_files<'d, FileId: Copy + Eq>(
 {
     let mut files = Vec::new(alloc);
     let mut places = Vec::with_capacity(alloc, labels.len())?;
-    let mut last = 0;
+    let mut guess = 0;
     for label in labels {
-        let place = find_place(&files, last, label.file_id);
+        let place = find_place(&files, guess, label.file_id);
         if place == files.len() {
             push_file(&mut files, alloc, label.file_id)?;
         }
         places.push(place)?;
-        last = place;
+        guess = place;
     }
     Ok(LabelFiles { files, places })
 }
@@ -113,18 +113,18 @@ fn push_file<'d, FileId: Copy>(
     Ok(())
 }
 
-/// The place of a file of this id, and the number of the files where it is none of them. The place of the last file that was found is
-/// looked at first.
+/// The place of a file of this id, and the number of the files where it is none of them. The place that is guessed, that of the file
+/// found before, is looked at first.
 fn find_place<FileId: Copy + Eq>(
     files: &[LabelledFile<'_, FileId>],
-    last: usize,
+    guess: usize,
     id: FileId,
 ) -> usize
     requires { AreApart FileId.eq (ids_given files.now) }
     ensures { result ≡ file_place FileId.eq (ids_given files.now) id }
 {
-    match files.get(last) {
-        Some(file) if file.id == id => last,
+    match files.get(guess) {
+        Some(file) if file.id == id => guess,
         _ => first_place(files, id),
     }
 }

@@ -11,11 +11,11 @@ pub returns-in-Some : goal.returns-in-Some
 returns-in-Some g c =
     let files = c.args.files.now in
     let ids = ids_given files in
-    let last = c.args.last in
+    let guess = c.args.guess in
     let file = c.in-Some.file.now in
     let name : GivenFile g.row.FileId.Denot → g.row.FileId.Denot = λ f. f.id in
     let found = c.in-Some.ensures.lookup in
-    let inside : last < length files = ltb-true last _ (sym found.0) in
-    let there : file.id ≡ get_or ids last file.id = ap name found.1 ∙ sym (get_or-map name files last file file.id inside) in
-    guessed-place g.FileId.PartialEq.eq g.met.FileId.Eq.laws ids last file.id c.args.id c.requires
-    (subst (IsIdAt ids last) (sym there) (at-get ids last file.id (omega (arith, inside, length-map files name)))) (sym c.if-eq.ensures)
+    let inside : guess < length files = ltb-true guess _ (sym found.0) in
+    let there : file.id ≡ get_or ids guess file.id = ap name found.1 ∙ sym (get_or-map name files guess file file.id inside) in
+    guessed-place g.FileId.PartialEq.eq g.met.FileId.Eq.laws ids guess file.id c.args.id c.requires
+    (subst (IsIdAt ids guess) (sym there) (at-get ids guess file.id (omega (arith, inside, length-map files name)))) (sym c.if-eq.ensures)
