@@ -124,7 +124,6 @@ pub fn find_pointers(
 }
 
 /// The pointers under a line.
-#[tactic(auto, using(codespan_base::proofs::Sends::sendings), unfolding(codespan_picture::specs::RowStreams::pointer_row))]
 pub fn send_pointer_row<W: WriteStyle>(
     w: &mut W,
     look: Look<'_>,
@@ -184,7 +183,6 @@ fn send_pointers_before<W: WriteStyle>(
 }
 
 /// A message under its pointer.
-#[tactic(auto, using(codespan_base::proofs::Sends::sendings), unfolding(codespan_picture::specs::RowStreams::hanging_row))]
 pub fn send_hanging_row<W: WriteStyle>(
     w: &mut W,
     look: Look<'_>,

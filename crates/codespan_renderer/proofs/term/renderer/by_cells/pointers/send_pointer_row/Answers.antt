@@ -1,0 +1,15 @@
+use Rattle.codespan_base.proofs.Chains.{came-then, stopped-then, stopped-before, refused, sends-last}
+use Rattle.codespan_picture.specs.RowStreams.{pointer_row}
+use Rattle.codespan_renderer.proofs.term.renderer.by_cells.pointers.send_pointer_row.Goals as goal
+
+pub returns-in_err-send_opening : goal.returns-in_err-send_opening
+unfolding pointer_row
+returns-in_err-send_opening g c = refused _ _ _ _ _ c.from_residual.ensures.1 (stopped-before _ (stopped-before _ c.in_err-send_opening.ensures))
+
+pub returns-in_err-send_all_pointers : goal.returns-in_err-send_all_pointers
+unfolding pointer_row
+returns-in_err-send_all_pointers g c = refused _ _ _ _ _ c.from_residual-in_err-send_all_pointers.ensures.1 (stopped-before _ (stopped-then _ c.in_ok-send_opening.ensures c.in_err-send_all_pointers.ensures))
+
+pub returns : goal.returns
+unfolding pointer_row
+returns g c = sends-last _ _ _ _ _ (came-then _ _ _ c.in_ok-send_opening.ensures c.in_ok-send_all_pointers.ensures) c.send_newline.ensures
