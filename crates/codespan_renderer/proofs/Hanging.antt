@@ -263,11 +263,15 @@ some_message (x ∷ xs) h none = by_message (some_message xs) (has_message (labe
     by_message again false h none = again h none
 
 -- no label hangs
+pub none_hangs : (labels before after : List GivenLabel) → AreHanging labels before after
+    → list_any has_message (all_labelled before) ≡ false → list_any has_message (all_labelled after) ≡ false → hanging (all_labelled labels) ≡ []
+none_hangs labels before after h early late = rw (← hanging_parts labels before after h, no_message before early, no_message after late) refl
+
+-- so nothing is drawn of any
 pub nothing_hangs : (look : Look) (line : Line) (labels before after : List GivenLabel) → AreHanging labels before after
     → list_any has_message (all_labelled before) ≡ false → list_any has_message (all_labelled after) ≡ false
     → stream_of_rows look (hanging_rows line (hanging (all_labelled labels))) ≡ []
-nothing_hangs look line labels before after h early late =
-    rw (← hanging_parts labels before after h, no_message before early, no_message after late) refl
+nothing_hangs look line labels before after h early late = rw (none_hangs labels before after h early late) refl
 
 -- the pointers, and the messages that hang, the last one first
 rows_are : (look : Look) (line : Line) (xs : List Labelled) → (xs ≡ [] → ⊥) → stream_of_rows look (hanging_rows line xs) ≡ (pointer_row look line ++ newline) ++ hanging_stream look line xs

@@ -70,6 +70,11 @@ pub found-style : (labels before after bs ds : List GivenLabel) (cs : List Cell)
     → second ≡ pointer_found (hanging (all_labelled labels)) (get_or cs i d)
 found-style labels before after bs ds cs i d first second h e f p q = rw (q, p, e, f) (pointer_is labels before after (get_or cs i d) h)
 
+-- no pointer stands where no label hangs
+pub no-pointers : (cs : List Cell) → pointers_in [] cs ≡ []
+no-pointers [] = refl
+no-pointers (c ∷ cs) = no-pointers cs
+
 -- a pointer comes to those that were found
 pub found-some : (labels : List Labelled) (ps : List Pointer) (cs : List Cell) (i : ℕ) (d : Cell) (style : LabelStyle) → i < length cs
     → pointer_found (hanging labels) (get_or cs i d) ≡ Some style

@@ -89,7 +89,8 @@ pub fn width_before(characters: &[Cell], text: &str, tab_width: usize, place: us
     }
 }
 
-/// Takes the pointers of the labels of a line that hang in place of those before. Refuses with `OutOfMemory`.
+/// Takes the pointers of the labels of a line that hang in place of those before. Where none hangs no character is looked at. Refuses with
+/// `OutOfMemory`.
 #[inline(always)]
 pub fn find_pointers(
     pointers: &mut Vec<Pointer>,
@@ -107,10 +108,13 @@ pub fn find_pointers(
     ensures found { IfOk result (λ _. pointers.new.items ≡ pointers_in (hanging (all_labelled labels.now)) (cells tab_width text.now)) }
     ensures refused { OnErr result (IsErrOf result Error.OutOfMemory) }
 {
+    pointers.clear();
+    if !has_any_message(messages.before) && !has_any_message(messages.after) {
+        return Ok(());
+    }
     let mut before = Starts::new(messages.before);
     let mut after = Starts::new(messages.after);
     let last = greatest_start(labels);
-    pointers.clear();
     for cell in characters {
         if cell.place > last {
             return Ok(());

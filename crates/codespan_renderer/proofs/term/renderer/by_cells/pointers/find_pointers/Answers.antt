@@ -1,10 +1,18 @@
 use Rattle.std.proofs.Common.{◌<◌, ◌∙◌, ◌++◌, ap, append-nil, length, refl, sym}
 use Rattle.std.specs.Str.{chars}
+use Rattle.codespan_picture.specs.Cells.{cells}
 use Rattle.codespan_picture.specs.Given.{all_labelled}
 use Rattle.codespan_picture.proofs.Spread.{cells-spread}
-use Rattle.codespan_renderer.proofs.PointerWalks.{passing-start, passing-at, passing-more, found-style, found-some, found-none, pointers-past-at}
+use Rattle.codespan_renderer.proofs.Hanging.{none_hangs}
+use Rattle.codespan_renderer.proofs.PointerWalks.{no-pointers, passing-start, passing-at, passing-more, found-style, found-some, found-none, pointers-past-at}
 use Rattle.codespan_renderer.proofs.term.renderer.by_cells.pointers.find_pointers.Goals.{in-Some+in_ok-push, in_default}
 use Rattle.codespan_renderer.proofs.term.renderer.by_cells.pointers.find_pointers.Goals as goal
+
+pub returns-then-not-has_any_message-2-clause-found : goal.returns-then-not-has_any_message-2-clause-found
+returns-then-not-has_any_message-2-clause-found c =
+    let early = sym c.has_any_message.ensures ∙ c.if-not-has_any_message.true in
+    let late = sym c.has_any_message-then-not-has_any_message.ensures ∙ c.if-not-has_any_message-2.true in
+    rw (c.clear.ensures.items, none_hangs _ _ _ c.requires.hanging early late) (sym (no-pointers (cells c.args.tab_width c.args.text.now)))
 
 pub loop-cell-init : goal.loop-cell-init
 loop-cell-init c = record {
