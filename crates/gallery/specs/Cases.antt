@@ -16,9 +16,8 @@ use Rattle.gallery.specs.declared.statement.Line.{Line}
 use Rattle.gallery.specs.declared.statement.Line.TheVariants.{Silent, Title, Said}
 use Rattle.gallery.specs.declared.statement.Statement.{Statement}
 use Rattle.gallery.specs.declared.statement.Statement.TheVariants as says
-use Rattle.gallery.specs.Fields.{field_of, past_blank}
-use Rattle.gallery.specs.Statements.{LineSays, IsWrong}
-use Rattle.gallery.specs.Words.{chars_of, word_named}
+use Rattle.gallery.specs.Statements.{LineSays, IsWrongLine}
+use Rattle.gallery.specs.Words.{chars_of}
 
 -- ---- one case
 
@@ -115,11 +114,10 @@ LastRefuses statement before NoFile = IsSource statement × ((front : List Case)
 LastRefuses statement before OutOfMemory = Unit {0}
 LastRefuses statement before _ = ⊥
 
--- what is wrong with a line after these cases: the line, or that they can not take it in
+-- what is wrong with a line after these cases: memory was refused, or the line is wrong, or they can not take in what it says
 abbrev pub IsMistaken : List ℕ → List Case → Mistake → Type 0
 IsMistaken line before mistake =
-    IsWrong (word_named (field_of line)) (past_blank line) mistake
-    ⊎ ((statement : Statement) × LineSays line (Said statement) × LastRefuses statement before mistake)
+    (mistake ≡ OutOfMemory) ⊎ (IsWrongLine line mistake ⊎ ((statement : Statement) × LineSays line (Said statement) × LastRefuses statement before mistake))
 
 -- the fault tells the first line that has a mistake, by its number from 1, and the mistake; or that memory was refused
 abbrev pub IsFirstMistake : List (List ℕ) → faults.Fault → Type 0

@@ -1,5 +1,5 @@
 -- What a line says.
-use Rattle.std.specs.Prelude.{◌≡◌, ◌⊎◌, ℕ, true, false, List, Option, Some, None, IsSomeAnd, codes, string_bytes}
+use Rattle.std.specs.Prelude.{◌≡◌, ◌≢◌, ◌⊎◌, ℕ, true, false, List, Option, Some, None, IsSomeAnd, codes, string_bytes}
 use Rattle.codespan_base.specs.declared.diagnostic.Label.{Label}
 use Rattle.codespan_base.specs.declared.diagnostic.LabelStyle.{LabelStyle}
 use Rattle.codespan_base.specs.declared.diagnostic.LabelStyle.TheVariants as styles
@@ -117,3 +117,9 @@ IsWrong word rest BadEscape = IsSomeAnd word (IsBroken rest)
 IsWrong word rest NoCase = ⊥
 IsWrong word rest NoFile = ⊥
 IsWrong word rest OutOfMemory = Unit {0}
+
+-- what is wrong with a line that is neither silent nor the beginning of a case
+pub record IsWrongLine (line : List ℕ) (mistake : Mistake) : Type 0 where
+  pub says_something : is_silent line ≡ false
+  pub goes_on : field_of line ≢ codes "case"
+  pub wrong : IsWrong (word_named (field_of line)) (past_blank line) mistake

@@ -2,9 +2,7 @@
 
 ghost use Rattle.std.specs.Prelude.{◌≡◌, Some, IfOk, IfErr};
 ghost use Rattle.std.specs.Option.{ok_or};
-ghost use Rattle.gallery.specs.Fields.{field_of, past_blank};
-ghost use Rattle.gallery.specs.Statements.{LineSays, Says, IsWrong, style_word};
-ghost use Rattle.gallery.specs.Words.{word_named};
+ghost use Rattle.gallery.specs.Statements.{LineSays, Says, IsWrong, IsWrongLine, style_word};
 ghost use Rattle.gallery.specs.declared.fault.Mistake.TheVariants.{UnknownName};
 ghost use Rattle.gallery.specs.declared.words.Word.TheVariants as words;
 
@@ -82,7 +80,7 @@ pub struct Context {
 /// What a line says.
 pub fn parse_line<'input>(alloc: Global, line: &'input str) -> Result<Line<'input>, Mistake>
     ensures says { IfOk result (LineSays line.now) }
-    ensures wrong { IfErr result (IsWrong (word_named (field_of line.now)) (past_blank line.now)) }
+    ensures wrong { IfErr result (IsWrongLine line.now) }
 {
     if is_silent(line) {
         return Ok(Line::Silent);
