@@ -5,14 +5,15 @@ use crate::writers::example::TagWriter;
 use codespan_reporting::diagnostic::Diagnostic;
 use codespan_reporting::files::{Error, SimpleFiles};
 use codespan_reporting::term::{
-    Ansi, Config, DisplayStyle, Renderer, RichDiagnostic, ShortDiagnostic, Styles, StylesWriter,
-    WriteStyle, emit, emit_to_io_write, emit_to_write_style,
+    Ansi, Config, DisplayStyle, PlainWriter, Renderer, RichDiagnostic, ShortDiagnostic, Styles,
+    StylesWriter, WriteStyle, emit, emit_to_io_write, emit_to_write_style,
 };
 use std::alloc::Global;
 use std::io::Write;
 use std::process::Abort;
 
-/// What draws to a writer: the calls that emit, as plain text, escape sequences, and the tags of a writer of one's own; and a view alone.
+/// What draws to a writer: the calls that emit, as plain text, escape sequences, and the tags of a writer of one's own; and a view alone, as
+/// escape sequences and as plain text.
 #[derive(Clone, Copy, Debug)]
 enum Call {
     IoWrite,
@@ -20,10 +21,11 @@ enum Call {
     Ansi,
     Tags,
     View,
+    PlainView,
 }
 
 /// Each call with the ways in which its writer stops. Of the old name of a call one is enough; a tag is refused after its first byte.
-const CALLS: [(Call, Stop); 12] = [
+const CALLS: [(Call, Stop); 18] = [
     (Call::IoWrite, Stop::Refuses),
     (Call::IoWrite, Stop::IsInterrupted),
     (Call::IoWrite, Stop::TakesNothing),
@@ -35,7 +37,13 @@ const CALLS: [(Call, Stop); 12] = [
     (Call::Ansi, Stop::TakesOneByte),
     (Call::Tags, Stop::TakesOneByte),
     (Call::View, Stop::Refuses),
+    (Call::View, Stop::IsInterrupted),
+    (Call::View, Stop::TakesNothing),
     (Call::View, Stop::TakesOneByte),
+    (Call::PlainView, Stop::Refuses),
+    (Call::PlainView, Stop::IsInterrupted),
+    (Call::PlainView, Stop::TakesNothing),
+    (Call::PlainView, Stop::TakesOneByte),
 ];
 
 /// More writes than any drawing makes.
@@ -67,6 +75,7 @@ fn draw_by<W: Write>(call: Call, w: &mut W, drawn: &Drawn<'_, '_>) -> Result<(),
             let mut writer = StylesWriter::new(Ansi::new(w), &styles);
             draw_by_view(&mut writer, drawn)
         }
+        Call::PlainView => draw_by_view(&mut PlainWriter::new(w), drawn),
     }
 }
 
