@@ -1,14 +1,4 @@
--- texts and lists of diagnostics
-pub mod TextLemmas
--- files
-pub mod ColumnLemmas
-pub mod Settings
-pub mod SetNumbers
-pub mod LineCuts
 pub mod HeldBytes
-pub mod LineCounts
-pub mod LineRuns
--- writers
 pub mod Sends
 pub mod Put
 pub mod Loops

@@ -1,10 +1,10 @@
 -- Labels, as a picture sees them.
 use Rattle.std.specs.Prelude.{ℕ, ◌+◌, ◌-◌, ◌^◌, min, max, Bool, true, false, not, ◌&&◌, ◌||◌, ◌==◌, nat_lt, List, [], ◌∷◌, map, filter, reverse, Option, Some, None, if◌then◌else◌}
 use Rattle.std.specs.List.{enumerate_from, filter_map}
-use Rattle.codespan_base.specs.declared.diagnostic.LabelStyle.{LabelStyle}
-use Rattle.codespan_base.specs.declared.diagnostic.LabelStyle.TheVariants.{Primary, Secondary}
+use Rattle.codespan_files.specs.declared.diagnostic.LabelStyle.{LabelStyle}
+use Rattle.codespan_files.specs.declared.diagnostic.LabelStyle.TheVariants.{Primary, Secondary}
 use Rattle.codespan_base.specs.Streams.{Stream}
-use Rattle.codespan_base.specs.FileModel.{FileModel, line_of, line_start}
+use Rattle.codespan_files.specs.FileModel.{FileModel, line_of, line_start}
 
 -- a label's range is of the file, or, once it is drawn, of its line; its message is a stream, so that a slot can stand for it
 pub record Labelled : Type 0 where

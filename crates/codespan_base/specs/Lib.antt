@@ -1,17 +1,16 @@
--- diagnostics
-pub mod Diagnostics
--- files
-pub mod Lines
-pub mod LineStarts
-pub mod FileModel
-pub mod SimpleModel
-pub mod MappedModel
-pub mod Settings
-pub mod ErrorText
-pub mod Errors
-pub mod FileLaws
-pub mod FileTables
-pub mod Lemmas
+-- what stands below: diagnostics and files
+pub use Rattle.codespan_files.specs.Diagnostics
+pub use Rattle.codespan_files.specs.Lines
+pub use Rattle.codespan_files.specs.LineStarts
+pub use Rattle.codespan_files.specs.FileModel
+pub use Rattle.codespan_files.specs.SimpleModel
+pub use Rattle.codespan_files.specs.MappedModel
+pub use Rattle.codespan_files.specs.Settings
+pub use Rattle.codespan_files.specs.ErrorText
+pub use Rattle.codespan_files.specs.Errors
+pub use Rattle.codespan_files.specs.FileLaws
+pub use Rattle.codespan_files.specs.FileTables
+pub use Rattle.codespan_files.specs.Lemmas
 -- labels
 pub mod Labels
 -- writers
@@ -25,5 +24,3 @@ pub mod StyleTables
 pub mod Ansi
 pub mod Defaults
 pub mod Lookalikes
--- how worked files are written down
-pub mod Worked

@@ -3,8 +3,8 @@ use Rattle.std.specs.Prelude.{ℕ, Bool, not, List, [], ◌∷◌, ◌++◌, map
 use Rattle.std.specs.List.{repeat}
 use Rattle.std.specs.Int.{is_in_range}
 use Rattle.std.specs.Char.{encode_utf8}
-use Rattle.codespan_base.specs.declared.diagnostic.Severity.{Severity}
-use Rattle.codespan_base.specs.declared.diagnostic.LabelStyle.{LabelStyle}
+use Rattle.codespan_files.specs.declared.diagnostic.Severity.{Severity}
+use Rattle.codespan_files.specs.declared.diagnostic.LabelStyle.{LabelStyle}
 
 -- the marks of style, one for each call of `WriteStyle`
 pub data StyleMark : Type 0 where

@@ -3,8 +3,6 @@
 //! Users name these by the paths of `codespan_reporting`, which has `diagnostic`, `files` and `term` again.
 #![tactic(auto)]
 
-pub mod diagnostic;
-pub mod files;
-pub mod laws;
 pub mod term;
-mod worked;
+
+pub use codespan_files::{column_number_by_default, diagnostic, files, laws, location_by_default};

@@ -3,8 +3,8 @@ use Rattle.std.proofs.Common.{◌≡◌, ◌≢◌, [], ◌∷◌, ◌++◌, Lis
 use Rattle.std.specs.Prelude.{IfErr}
 use Rattle.std.specs.Result.{IsErrOf}
 use Rattle.std.proofs.lemmas.List.{map-append}
-use Rattle.codespan_base.specs.declared.files.error.Error.{Error}
-use Rattle.codespan_base.specs.declared.files.error.Error.TheVariants.{OutOfMemory}
+use Rattle.codespan_base.specs.declared.files.Error.{Error}
+use Rattle.codespan_base.specs.declared.files.Error.TheVariants.{OutOfMemory}
 use Rattle.codespan_base.specs.Errors.{IsIo}
 use Rattle.codespan_base.specs.FileModel.{Lookup, or_refusal}
 use Rattle.codespan_base.specs.Streams.{Stream}

@@ -7,8 +7,8 @@ use borrow.Author.Tests.{le-ltb}
 use Rattle.std.proofs.lemmas.Grind.{common_steps, flat_map-append}
 use Rattle.std.proofs.lemmas.List.{append-nil, map-append}
 use Rattle.codespan_base.specs.declared.term.config.Config.{Config}
-use Rattle.codespan_base.specs.declared.files.error.Error.{Error}
-use Rattle.codespan_base.specs.declared.files.error.Error.TheVariants.{FileMissing, IndexTooLarge, LineTooLarge, ColumnTooLarge, InvalidCharBoundary, Io, FormatError, OutOfMemory}
+use Rattle.codespan_base.specs.declared.files.Error.{Error}
+use Rattle.codespan_base.specs.declared.files.Error.TheVariants.{FileMissing, IndexTooLarge, LineTooLarge, ColumnTooLarge, InvalidCharBoundary, Io, FormatError, OutOfMemory}
 use Rattle.codespan_base.specs.FileModel.{FileModel, IsLawful, Lookup, RefusesPastEnd, TellsPastEnd, line_count, or_refusal}
 use Rattle.codespan_base.specs.FileModel.Lookup.{LineRange, LineNumber}
 use Rattle.codespan_base.specs.Labels.{Labelled, first_line, last_line}

@@ -1,6 +1,6 @@
 -- The first lookup that refuses.
 use Rattle.std.proofs.Common.{◌≡◌, zero, suc, List, [], ◌∷◌, ◌++◌, Option, None, Some, refl, sym, ap, ◌∙◌, arith}
-use Rattle.codespan_base.specs.declared.files.error.Error.{Error}
+use Rattle.codespan_base.specs.declared.files.Error.{Error}
 use Rattle.codespan_base.specs.FileModel.{Lookup, or_refusal}
 use Rattle.codespan_picture.specs.Lookups.{Refusals, first_refusal, AllAnswered, IsSomeRefused}
 

@@ -4,8 +4,8 @@ use Rattle.codespan_base.specs.declared.term.config.Config.{Config}
 use Rattle.codespan_base.specs.declared.term.config.DisplayStyle.{DisplayStyle}
 use Rattle.codespan_base.specs.declared.term.config.DisplayStyle.TheVariants.{Rich, Medium, Short}
 use Rattle.codespan_base.specs.declared.diagnostic.Diagnostic.{Diagnostic}
-use Rattle.codespan_base.specs.declared.files.error.Error.{Error}
-use Rattle.codespan_base.specs.declared.files.error.Error.TheVariants.{FormatError, OutOfMemory}
+use Rattle.codespan_base.specs.declared.files.Error.{Error}
+use Rattle.codespan_base.specs.declared.files.Error.TheVariants.{FormatError, OutOfMemory}
 use Rattle.codespan_base.specs.Errors.{IsIo}
 use Rattle.codespan_base.specs.FileModel.{FileModel, Lookup}
 use Rattle.codespan_base.specs.Streams.{Stream, text_of}

@@ -1,7 +1,7 @@
 -- What holds over the tables of a case.
 use Rattle.std.proofs.Common.{◌≡◌, ℕ, true, nat_eq, List, [], ◌∷◌, map, Option, Some, Result, Ok, Err, OnOk, IfOk, sym, ◌∙◌, ap, subst, string_bytes}
 use Rattle.codespan_base.specs.declared.diagnostic.Diagnostic.{Diagnostic}
-use Rattle.codespan_base.specs.declared.files.error.Error.{Error}
+use Rattle.codespan_base.specs.declared.files.Error.{Error}
 use Rattle.codespan_base.specs.FileModel.{FileModel, Lookup}
 use Rattle.codespan_base.specs.MappedModel.{mapped_file, mapped_refusal}
 use Rattle.codespan_base.specs.SimpleModel.{simple_file, simple_refusal, table_file, table_refusal}

@@ -3,7 +3,7 @@ use Rattle.std.proofs.Common.{◌≡◌, ℕ, Bool, true, List, ◌++◌, IsSome
 use Rattle.std.specs.List.{slice_get}
 use Rattle.std.specs.Option.{option_map_or}
 use Rattle.codespan_base.specs.declared.diagnostic.Diagnostic.{Diagnostic}
-use Rattle.codespan_base.specs.declared.files.error.Error.{Error}
+use Rattle.codespan_base.specs.declared.files.Error.{Error}
 use Rattle.codespan_base.specs.declared.term.config.Config.{Config}
 use Rattle.codespan_base.specs.declared.term.config.DisplayStyle.{DisplayStyle}
 use Rattle.codespan_base.specs.declared.term.config.DisplayStyle.TheVariants.{Rich, Medium, Short}

@@ -1,7 +1,7 @@
 -- All pictures, each under the name of its case.
 use Rattle.std.specs.Prelude.{◌≡◌, ℕ, ◌==◌, List, [], ◌∷◌, ◌++◌, codes, Result, Ok, Err, IfSome, OnOk, if◌then◌else◌}
 use Rattle.std.specs.List.{flat_map}
-use Rattle.codespan_base.specs.declared.files.error.Error.{Error}
+use Rattle.codespan_base.specs.declared.files.Error.{Error}
 use Rattle.codespan_base.specs.ErrorText.{error_text}
 use Rattle.gallery.specs.declared.case.Case.{Case}
 use Rattle.gallery.specs.declared.case.Colours.TheVariants.{Plain, Svg}

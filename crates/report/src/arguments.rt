@@ -1,7 +1,7 @@
 //! The arguments that the program is started with.
 
 ghost use Rattle.std.specs.Prelude.{◌≡◌, ◌⊎◌, IfErr};
-ghost use Rattle.codespan_base.specs.declared.files.error.Error.TheVariants.{OutOfMemory};
+ghost use Rattle.codespan_base.specs.declared.files.Error.TheVariants.{OutOfMemory};
 
 use crate::fault::Fault;
 use codespan_reporting::files::Error;

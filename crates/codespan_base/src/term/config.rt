@@ -18,8 +18,8 @@ pub mod styles;
 pub mod styles_writer;
 pub mod write_style;
 
-use crate::files::Error;
 use chars::Chars;
+use codespan_files::files::Error;
 
 /// What a picture looks like. `'chars` is the lifetime of the text before a place, where that text is lent.
 #[derive(Debug, Drop)]

@@ -1,7 +1,7 @@
 -- Labels whose lines are asked for, one after another.
 use Rattle.std.specs.Prelude.{◌≡◌, ℕ, ◌<◌, ◌≤◌, true, List, ◌++◌, flat_map, fold, max, Option, Some}
 use Rattle.codespan_base.specs.declared.diagnostic.Label.{Label}
-use Rattle.codespan_base.specs.declared.files.error.Error.{Error}
+use Rattle.codespan_base.specs.declared.files.Error.{Error}
 use Rattle.codespan_base.specs.declared.term.config.Config.{Config}
 use Rattle.codespan_base.specs.FileModel.{FileModel, line_count}
 use Rattle.codespan_base.specs.FileModel.Lookup.{LineRange}

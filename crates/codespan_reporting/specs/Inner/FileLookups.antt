@@ -1,6 +1,6 @@
 -- Lookups of one file.
 use Rattle.std.specs.Prelude.{List, Option}
-use Rattle.codespan_base.specs.declared.files.error.Error.{Error}
+use Rattle.codespan_base.specs.declared.files.Error.{Error}
 use Rattle.codespan_base.specs.FileModel.{Lookup}
 use Rattle.codespan_picture.specs.Lookups.{Refusals, asked_of, first_refusal}
 

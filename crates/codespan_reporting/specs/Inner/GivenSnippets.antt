@@ -1,6 +1,6 @@
 -- Snippets as a view holds them.
 use Rattle.std.specs.Prelude.{Bool, List, [], ◌∷◌, ◌++◌, length, map, if◌then◌else◌, Result}
-use Rattle.codespan_base.specs.declared.files.error.Error.{Error}
+use Rattle.codespan_base.specs.declared.files.Error.{Error}
 use Rattle.codespan_base.specs.FileModel.{FileModel, Lookup}
 use Rattle.codespan_base.specs.FileModel.Lookup.{Source}
 use Rattle.codespan_base.specs.WriterLaw.{Sink}

@@ -1,6 +1,6 @@
 -- What is drawn of each file, as entries in order tell it.
 use Rattle.std.specs.Prelude.{◌≡◌, ℕ, ◌+◌, List, [], ◌∷◌, ◌++◌, flat_map, filter, map, Option, Some, None}
-use Rattle.codespan_base.specs.declared.files.error.Error.{Error}
+use Rattle.codespan_base.specs.declared.files.Error.{Error}
 use Rattle.codespan_base.specs.declared.term.config.Layout.{Layout}
 use Rattle.codespan_base.specs.FileModel.{FileModel, Lookup}
 use Rattle.codespan_picture.specs.Lookups.{Refusals, asked_of, first_refusal}

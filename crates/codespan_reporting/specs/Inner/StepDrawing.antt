@@ -1,7 +1,7 @@
 -- The steps of one file, drawn: what is sent for them and what is asked.
 use Rattle.std.specs.Prelude.{◌≡◌, true, List, Result}
 use Rattle.std.specs.List.{AllByRecursion}
-use Rattle.codespan_base.specs.declared.files.error.Error.{Error}
+use Rattle.codespan_base.specs.declared.files.Error.{Error}
 use Rattle.codespan_base.specs.FileModel.{FileModel, Lookup}
 use Rattle.codespan_base.specs.WriterLaw.{Sink}
 use Rattle.codespan_picture.specs.Lookups.{Refusals}

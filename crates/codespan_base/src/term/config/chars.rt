@@ -3,7 +3,7 @@
 ghost use Rattle.std.specs.Prelude.{◌≡◌, Ok, IsTrue, IfOk, OnErr, IsErrOf};
 ghost use Rattle.codespan_base.specs.Characters.{start_text, is_fixed};
 
-use crate::files::Error;
+use codespan_files::files::Error;
 
 /// The text that stands before the place of a snippet.
 ///

@@ -2,9 +2,9 @@
 
 ghost use Rattle.std.specs.Prelude.{◌≡◌, refl};
 
-use crate::diagnostic::{LabelStyle, Severity};
 use crate::term::config::putting::put_through;
 use crate::term::config::write_style::WriteStyle;
+use codespan_files::diagnostic::{LabelStyle, Severity};
 use std::io;
 use std::io::Write;
 

@@ -5,9 +5,9 @@ ghost use Rattle.codespan_base.specs.Streams.{Header, HeaderMessage, LineNumber,
 ghost use Rattle.codespan_base.specs.WriterLaw.{Sends};
 ghost use Rattle.codespan_base.specs.Writers.{IsSilent};
 
-use crate::diagnostic::{LabelStyle, Severity};
 use crate::term::config::putting::put_through;
 use crate::term::config::write_style::WriteStyle;
+use codespan_files::diagnostic::{LabelStyle, Severity};
 use std::io;
 use std::io::Write;
 

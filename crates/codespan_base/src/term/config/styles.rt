@@ -3,8 +3,8 @@
 ghost use Rattle.std.specs.Prelude.{◌≡◌};
 ghost use Rattle.codespan_base.specs.StyleTables.{colored, bright};
 
-use crate::diagnostic::{LabelStyle, Severity};
 use crate::term::config::color::{Color, ColorSpec};
+use codespan_files::diagnostic::{LabelStyle, Severity};
 
 /// The styles of a picture's parts.
 ///

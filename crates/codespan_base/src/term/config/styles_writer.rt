@@ -4,11 +4,11 @@ ghost use Rattle.std.specs.Prelude.{◌≡◌, refl};
 ghost use Rattle.codespan_base.specs.Streams.{bytes};
 ghost use Rattle.codespan_base.specs.WriterLaw.{Sends};
 
-use crate::diagnostic::{LabelStyle, Severity};
 use crate::term::config::color::{ColorSpec, WriteColor};
 use crate::term::config::putting::put_through;
 use crate::term::config::styles::Styles;
 use crate::term::config::write_style::WriteStyle;
+use codespan_files::diagnostic::{LabelStyle, Severity};
 use std::io;
 use std::io::Write;
 

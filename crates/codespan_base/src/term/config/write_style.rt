@@ -4,7 +4,7 @@ ghost use Rattle.std.specs.Io.{WritesAtMost};
 ghost use Rattle.codespan_base.specs.Streams.{Header, HeaderMessage, LineNumber, NoteBullet, SourceBorder, LabelMark, Reset, one_mark};
 ghost use Rattle.codespan_base.specs.WriterLaw.{Sends, Puts};
 
-use crate::diagnostic::{LabelStyle, Severity};
+use codespan_files::diagnostic::{LabelStyle, Severity};
 use std::io;
 use std::io::Write;
 

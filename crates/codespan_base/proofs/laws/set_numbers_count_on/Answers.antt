@@ -1,5 +1,0 @@
-use Rattle.codespan_base.proofs.SetNumbers as numbers
-use Rattle.codespan_base.proofs.laws.set_numbers_count_on.Goals as goal
-
-pub returns : goal.returns
-returns c = λ settings k v i sorted. numbers.setting_set settings k v i sorted

@@ -1,8 +1,0 @@
--- Which errors are those of a writer.
-use Rattle.codespan_base.specs.declared.files.error.Error.{Error}
-use Rattle.codespan_base.specs.declared.files.error.Error.TheVariants.{Io}
-
--- the error is one of a writer
-abbrev pub IsIo : Error → Type 0
-IsIo (Io e) = Unit {0}
-IsIo _ = ⊥

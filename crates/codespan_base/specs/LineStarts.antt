@@ -1,8 +1,0 @@
--- What the iterator over line starts has left.
-use Rattle.std.specs.Prelude.{ℕ, List, ◌∷◌, drop, if◌then◌else◌}
-use Rattle.codespan_base.specs.Lines.{starts_after}
-use Rattle.codespan_base.specs.declared.files.starts.LineStarts.{LineStarts}
-
--- the starts that are still to come
-abbrev pub starts_left : LineStarts → List ℕ
-starts_left s = if s.begun then starts_after s.at (drop s.at s.source.now) else 0 ∷ starts_after s.at (drop s.at s.source.now)

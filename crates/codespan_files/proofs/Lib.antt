@@ -1,0 +1,9 @@
+-- texts and lists of diagnostics
+pub mod TextLemmas
+-- files
+pub mod ColumnLemmas
+pub mod Settings
+pub mod SetNumbers
+pub mod LineCuts
+pub mod LineCounts
+pub mod LineRuns

@@ -1,0 +1,34 @@
+-- What setting a line's number does to the numbers of all lines.
+use Rattle.std.proofs.Common.{◌≡◌, ℕ, suc, ◌<◌, List, [], ◌∷◌, length, Option, Some, None, refl, arith}
+use Rattle.std.proofs.lemmas.Bool.Decides.{nat_tests}
+use Rattle.codespan_files.specs.Settings.{set_index_at, IsStrictlySorted}
+use Rattle.codespan_files.specs.MappedModel.{setting, with_number}
+use Rattle.codespan_files.specs.FileLaws.{setting_after}
+
+-- the step of the next lemma, from what the later settings give
+found_step : (b : ℕ) (x : ℕ × ℕ) (l : List (ℕ × ℕ)) (i : ℕ) (t : ℕ × ℕ) → b < x.0 → (o : Option (ℕ × ℕ)) → setting l i ≡ o → ((u : ℕ × ℕ) → setting l i ≡ Some u → b < u.0) → setting (x ∷ l) i ≡ Some t → b < t.0
+found_step b x l i t first (Some u) same later found =
+    let above : b < u.0 = later u same in
+    grind (arith, nat_tests)
+found_step b x l i t first None same later found = grind (arith, nat_tests)
+
+-- where all set indices are above b, so is the one that a line counts from
+found_above : (b : ℕ) (l : List (ℕ × ℕ)) (i : ℕ) (t : ℕ × ℕ) → ((j : ℕ) → j < length l → b < set_index_at l j) → setting l i ≡ Some t → b < t.0
+found_above b [] i t above found = absurd (cc)
+found_above b (x ∷ l) i t above found =
+    found_step b x l i t (above 0 (omega arith)) (setting l i) refl (λ u e. found_above b l i u (λ j h. above (suc j) (omega arith)) e) found
+
+-- the step of the next lemma, from what it says of the later settings
+set_step : (x : ℕ × ℕ) (l : List (ℕ × ℕ)) (k v i : ℕ) (o : Option (ℕ × ℕ)) → setting l i ≡ o → ((t : ℕ × ℕ) → setting l i ≡ Some t → x.0 < t.0) → setting (with_number k v l) i ≡ setting_after k v i (setting l i) → setting (with_number k v (x ∷ l)) i ≡ setting_after k v i (setting (x ∷ l) i)
+set_step x l k v i (Some t) same later rest =
+    let after : x.0 < t.0 = later t same in
+    grind (arith, nat_tests)
+set_step x l k v i None same later rest = grind (arith, nat_tests)
+
+-- the setting that a line counts from, once a number more is set
+pub setting_set : (l : List (ℕ × ℕ)) (k v i : ℕ) → IsStrictlySorted l → setting (with_number k v l) i ≡ setting_after k v i (setting l i)
+setting_set [] k v i sorted = grind (arith, nat_tests)
+setting_set (x ∷ l) k v i sorted =
+    set_step x l k v i (setting l i) refl
+    (λ t e. found_above x.0 l i t (λ j h. sorted 0 (suc j) (omega arith) (omega arith)) e)
+    (setting_set l k v i (λ p q lt h. sorted (suc p) (suc q) (omega arith) (omega arith)))

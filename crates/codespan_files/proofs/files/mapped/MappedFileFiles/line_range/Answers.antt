@@ -1,0 +1,13 @@
+use Rattle.std.proofs.Common.{◌+◌, ◌<◌, get_or, length, subst, arith}
+use Rattle.std.proofs.lemmas.List.{get_or_default}
+use Rattle.codespan_files.specs.Lemmas.Mapped.{next_above}
+use Rattle.codespan_files.proofs.files.mapped.MappedFileFiles.line_range.Goals as goal
+
+-- the next line starts after a newline
+pub overflow_sub-end : goal.overflow_sub-end
+overflow_sub-end g c =
+    let items = c.args.self.now.line_starts.items in
+    let next : 0 < get_or items (c.args.line_index + 1) 0 =
+    rw c.args.self.now.starts (next_above (g.Source.AsStr.text c.args.self.now.source) c.args.line_index (subst (λ xs. c.args.line_index + 1 < length xs) c.args.self.now.starts (omega arith))) in
+    let read = get_or_default items (c.args.line_index + 1) c.index.result.now 0 (omega arith) in
+    grind (arith)

@@ -1,0 +1,8 @@
+-- Which errors are those of a writer.
+use Rattle.codespan_files.specs.declared.files.error.Error.{Error}
+use Rattle.codespan_files.specs.declared.files.error.Error.TheVariants.{Io}
+
+-- the error is one of a writer
+abbrev pub IsIo : Error → Type 0
+IsIo (Io e) = Unit {0}
+IsIo _ = ⊥

@@ -1,0 +1,30 @@
+-- What the lines of a text are together, how columns grow, and how lines are counted and numbered.
+use Rattle.std.specs.Prelude.{◌≡◌, ℕ, ◌+◌, ◌-◌, ◌<◌, ◌≤◌, ◌==◌, ◌||◌, nat_lt, if◌then◌else◌, List, length, flat_map, take, count_by, Option, Some, None}
+use Rattle.std.specs.List.{range_with_len}
+use Rattle.codespan_files.specs.FileModel.{FileModel, line_count, line_start, line_end, line_of, line_text}
+use Rattle.codespan_files.specs.Lines.{column_index_of}
+
+-- the line ranges follow each other from 0 to the length, and the lines join to the text
+pub record LinesJoin (f : FileModel) : Type 0 where
+  pub from_start : line_start f 0 ≡ 0
+  pub follow : (i : ℕ) → i + 1 < line_count f → line_end f i ≡ line_start f (i + 1)
+  pub to_end : (i : ℕ) → i + 1 ≡ line_count f → line_end f i ≡ length f.text
+  pub joined : flat_map (line_text f) (range_with_len 0 (line_count f)) ≡ f.text
+
+-- the newlines among the first n bytes
+abbrev pub newlines : List ℕ → ℕ → ℕ
+newlines text n = count_by (λ b. b == 10) (take n text)
+
+-- a byte's line is the number of newlines before it, and past the end it is the last line
+pub record LineCountsNewlines (f : FileModel) : Type 0 where
+  pub before : (byte : ℕ) → line_of f.starts byte ≡ newlines f.text byte
+  pub past_end : (byte : ℕ) → length f.text ≤ byte → line_of f.starts byte ≡ line_count f - 1
+
+-- a later byte has no smaller column on a line
+abbrev pub ColumnsRise : Type 0
+ColumnsRise = (text : List ℕ) (start end byte later : ℕ) → byte ≤ later → column_index_of text start end byte ≤ column_index_of text start end later
+
+-- the setting that line i counts from once `line` has `number`, from the one before: lines above stay, and so do those that count from a line further down
+abbrev pub setting_after : ℕ → ℕ → ℕ → Option (ℕ × ℕ) → Option (ℕ × ℕ)
+setting_after line number i None = if nat_lt i line then None else Some (line, number)
+setting_after line number i (Some s) = if nat_lt i line || nat_lt line s.0 then Some s else Some (line, number)

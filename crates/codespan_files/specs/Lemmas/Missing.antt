@@ -1,0 +1,49 @@
+-- The law of a table of files, of which an id may be missing.
+use Rattle.std.proofs.Common.{◌≡◌, ℕ, zero, suc, ◌<◌, true, Option, Some, None, refl, ap, arith, eqb}
+use Rattle.std.proofs.lemmas.Bool.{eqb-true}
+use Rattle.std.specs.Option.{option_map_or}
+use Rattle.std.specs.Prelude.{List, [], ◌∷◌, map, slice_get}
+use Rattle.std.proofs.Common.{get_or}
+use Rattle.std.specs.Str.{IsCharBoundary}
+use Rattle.std.proofs.lemmas.Str.{IsUtf8-nil}
+use Rattle.codespan_files.specs.declared.files.error.Error.{Error}
+use Rattle.codespan_files.specs.FileModel.{FileModel, Lookup, IsLawful, RefusesPastEnd}
+use Rattle.codespan_files.specs.FileModel.Lookup.{LineRange}
+use Rattle.codespan_files.specs.SimpleModel.{missing_file, missing_refusal}
+
+-- the only start and end of an empty text is a boundary
+cut_at_zero : (i : ℕ) → i < 1 → IsCharBoundary [] (get_or (0 ∷ []) i 0)
+cut_at_zero zero h = (omega arith, λ k. absurd (omega arith))
+cut_at_zero (suc i) h = absurd (omega arith)
+
+-- the file of an id that is not there is lawful
+missing_lawful : IsLawful missing_file
+missing_lawful = record {
+  is_text = IsUtf8-nil;
+  fits = omega arith;
+  some_line = omega arith;
+  first = refl;
+  ascending = λ i h. absurd (omega arith);
+  starts_cut = cut_at_zero;
+  ends_cut = cut_at_zero;
+  ends_after = λ i h. omega arith;
+  ends_before = λ i h. absurd (omega arith);
+  one_end = refl;
+  missing_name = λ _. refl;
+  missing_text = λ _. refl;
+}
+
+-- the files of a table are lawful, seen through a view of what it holds, and so is one that is not there
+pub table_lawful : {X Y : Type 0} (view : X → Y) (file : Y → FileModel) (xs : List X) (id : ℕ) → ((x : X) → IsLawful (file (view x))) → IsLawful (option_map_or file (slice_get (map view xs) id) missing_file)
+table_lawful view file [] id h = missing_lawful
+table_lawful view file (x ∷ xs) zero h = h x
+table_lawful view file (x ∷ xs) (suc id) h = table_lawful view file xs id h
+
+-- their refusals past the last line are as the law has them
+pub past_end_or : {X : Type 0} (file : X → FileModel) (refusal : X → Lookup → Option Error) (i : ℕ) (o : Option X) → ((x : X) → RefusesPastEnd (file x) i (refusal x (LineRange i))) → RefusesPastEnd (option_map_or file o missing_file) i (option_map_or (λ x. refusal x (LineRange i)) o (missing_refusal (LineRange i)))
+past_end_or file refusal i None h = λ there. absurd (cc)
+past_end_or file refusal i (Some x) h = h x
+
+-- what two equal numbers have
+pub same_at : {A B : Type 0} (f : ℕ → A) (g : ℕ → B) (i j : ℕ) → eqb i j ≡ true → (f i ≡ f j) × (g i ≡ g j)
+same_at f g i j e = (ap f (eqb-true i j e), ap g (eqb-true i j e))

@@ -1,0 +1,16 @@
+-- diagnostics
+pub mod Diagnostics
+-- files
+pub mod Lines
+pub mod LineStarts
+pub mod FileModel
+pub mod SimpleModel
+pub mod MappedModel
+pub mod Settings
+pub mod ErrorText
+pub mod Errors
+pub mod FileLaws
+pub mod FileTables
+pub mod Lemmas
+-- how worked files are written down
+pub mod Worked

@@ -1,0 +1,67 @@
+-- A text as a file whose line numbers are set, in the manner of `#line`: a line's end leaves out its newline.
+use Rattle.std.specs.Prelude.{ℕ, ◌+◌, ◌-◌, ◌^◌, nat_le, nat_lt, ◌==◌, if◌then◌else◌, List, [], ◌∷◌, ◌++◌, length, map, slice_index, Option, Some, None}
+use Rattle.codespan_files.specs.declared.files.error.Error.{Error}
+use Rattle.codespan_files.specs.declared.files.error.Error.TheVariants.{LineTooLarge}
+use Rattle.codespan_files.specs.declared.files.Location.{Location}
+use Rattle.codespan_files.specs.FileModel.{FileModel, Lookup, line_of, line_number_refusal}
+use Rattle.codespan_files.specs.FileModel.Lookup.{LineNumber, ColumnNumber, LocationAt, LineRange}
+use Rattle.codespan_files.specs.Lines.{line_starts_of, starts_after, column_index_of}
+use Rattle.codespan_files.specs.SimpleModel.{simple_file, past_end}
+
+-- the ends of the lines, before their newlines
+abbrev pub mapped_ends : List ℕ → List ℕ
+mapped_ends text = map (λ s. s - 1) (starts_after 0 text) ++ length text ∷ []
+
+-- the set index nearest to the line, at it or above it, with its number; the indices ascend
+abbrev pub setting : List (ℕ × ℕ) → ℕ → Option (ℕ × ℕ)
+setting [] i = None
+setting (s ∷ ss) i = nearer (setting ss i) (if nat_le s.0 i then Some s else None)
+  where
+    nearer : Option (ℕ × ℕ) → Option (ℕ × ℕ) → Option (ℕ × ℕ)
+    nearer (Some later) earlier = Some later
+    nearer None earlier = earlier
+
+-- the settings with one more, in place of an earlier one of the same index
+abbrev pub with_number : ℕ → ℕ → List (ℕ × ℕ) → List (ℕ × ℕ)
+with_number i number [] = (i, number) ∷ []
+with_number i number (s ∷ ss) =
+    if s.0 == i then (i, number) ∷ ss else if nat_lt i s.0 then (i, number) ∷ s ∷ ss else s ∷ with_number i number ss
+
+-- the number of a line, from its setting
+abbrev pub number_from : Option (ℕ × ℕ) → ℕ → ℕ
+number_from None i = i + 1
+number_from (Some s) i = s.1 + (i - s.0)
+
+-- a number past the greatest usize is refused
+abbrev pub number_refusal : Option (ℕ × ℕ) → ℕ → Option Error
+number_refusal None i = line_number_refusal i
+number_refusal (Some s) i =
+    if nat_lt (s.1 + (i - s.0)) (2 ^ 64) then None else Some (LineTooLarge i (s.0 + (2 ^ 64 - 1 - s.1)))
+
+-- the column number of a byte on a line
+abbrev pub mapped_column : List ℕ → ℕ → ℕ → ℕ
+mapped_column text i byte = column_index_of text (slice_index (line_starts_of text) i) (slice_index (mapped_ends text) i) byte + 1
+
+-- the number of the byte's line, and its column number there
+abbrev pub mapped_location : List ℕ → List (ℕ × ℕ) → ℕ → Location
+mapped_location text settings byte =
+    let i = line_of (line_starts_of text) byte in
+    record { line_number = number_from (setting settings i) i; column_number = mapped_column text i byte }
+
+-- the file of a name, a text and settings
+abbrev pub mapped_file : Option (List ℕ) → List ℕ → List (ℕ × ℕ) → FileModel
+mapped_file name text settings = record (simple_file name text) {
+  ends = mapped_ends text;
+  number = λ i. number_from (setting settings i) i;
+  column = mapped_column text;
+  location = mapped_location text settings;
+}
+
+-- what a lookup is refused with
+abbrev pub mapped_refusal : List ℕ → List (ℕ × ℕ) → Lookup → Option Error
+mapped_refusal text settings (LineNumber i) = number_refusal (setting settings i) i
+mapped_refusal text settings (ColumnNumber i byte) = past_end text i
+mapped_refusal text settings (LineRange i) = past_end text i
+mapped_refusal text settings (LocationAt byte) =
+    let i = line_of (line_starts_of text) byte in number_refusal (setting settings i) i
+mapped_refusal text settings _ = None

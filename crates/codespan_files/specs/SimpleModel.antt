@@ -1,0 +1,73 @@
+-- A text as a file, and a table of such files: a line starts after each newline, and ends where the next one starts.
+use Rattle.std.specs.Prelude.{ℕ, ◌+◌, ◌-◌, nat_lt, true, false, if◌then◌else◌, List, [], ◌∷◌, ◌++◌, length, drop, slice_index, slice_get, Option, Some, None}
+use Rattle.std.specs.Option.{option_map_or}
+use Rattle.codespan_files.specs.declared.files.error.Error.{Error}
+use Rattle.codespan_files.specs.declared.files.error.Error.TheVariants.{LineTooLarge, FileMissing}
+use Rattle.codespan_files.specs.declared.files.Location.{Location}
+use Rattle.codespan_files.specs.FileModel.{FileModel, Lookup, line_of, line_number_refusal}
+use Rattle.codespan_files.specs.FileModel.Lookup.{LineNumber, ColumnNumber, LineRange}
+use Rattle.codespan_files.specs.Lines.{line_starts_of, column_index_of}
+
+-- a line ends where the next one starts, the last one with the text
+abbrev pub line_ends : List ℕ → List ℕ
+line_ends text = drop 1 (line_starts_of text) ++ length text ∷ []
+
+-- the column number of a byte on line i
+abbrev pub simple_column : List ℕ → ℕ → ℕ → ℕ
+simple_column text i byte = column_index_of text (slice_index (line_starts_of text) i) (slice_index (line_ends text) i) byte + 1
+
+-- the number of a byte's line, and its column number there
+abbrev pub simple_location : List ℕ → ℕ → Location
+simple_location text byte =
+    let i = line_of (line_starts_of text) byte in
+    record { line_number = i + 1; column_number = simple_column text i byte }
+
+-- the file of a name and a text
+abbrev pub simple_file : Option (List ℕ) → List ℕ → FileModel
+simple_file name text = record {
+  there = true;
+  name = name;
+  text = text;
+  starts = line_starts_of text;
+  ends = line_ends text;
+  number = λ i. i + 1;
+  column = simple_column text;
+  location = simple_location text;
+}
+
+-- a line past the last is refused
+abbrev pub past_end : List ℕ → ℕ → Option Error
+past_end text i = if nat_lt i (length (line_starts_of text)) then None else Some (LineTooLarge i (length (line_starts_of text) - 1))
+
+-- what a lookup is refused with
+abbrev pub simple_refusal : List ℕ → Lookup → Option Error
+simple_refusal text (LineNumber i) = line_number_refusal i
+simple_refusal text (ColumnNumber i byte) = past_end text i
+simple_refusal text (LineRange i) = past_end text i
+simple_refusal text _ = None
+
+-- the file of an id that is not there
+abbrev pub missing_file : FileModel
+missing_file = record {
+  there = false;
+  name = Some [];
+  text = [];
+  starts = 0 ∷ [];
+  ends = 0 ∷ [];
+  number = λ i. i + 1;
+  column = λ i byte. 1;
+  location = λ byte. record { line_number = 1; column_number = 1 };
+}
+
+-- every lookup but that of a line's number needs the file
+abbrev pub missing_refusal : Lookup → Option Error
+missing_refusal (LineNumber i) = line_number_refusal i
+missing_refusal _ = Some FileMissing
+
+-- the file of an id, in a table of names and sources
+abbrev pub table_file : {Name Source : Type 0} → (Name → Option (List ℕ)) → (Source → List ℕ) → List (Name × Source) → ℕ → FileModel
+table_file output text entries id = option_map_or (λ entry. simple_file (output entry.0) (text entry.1)) (slice_get entries id) missing_file
+
+-- what a lookup is refused with there
+abbrev pub table_refusal : {Name Source : Type 0} → (Source → List ℕ) → List (Name × Source) → ℕ → Lookup → Option Error
+table_refusal text entries id lookup = option_map_or (λ entry. simple_refusal (text entry.1) lookup) (slice_get entries id) (missing_refusal lookup)

@@ -1,0 +1,33 @@
+//! Lists of labels and of notes, copied.
+
+ghost use Rattle.std.specs.Prelude.{◌≡◌, IfOk, OnErr, IsErrOf, string_bytes, map};
+ghost use Rattle.codespan_files.specs.Diagnostics.{label_view};
+
+use crate::diagnostic::Label;
+use crate::files::Error;
+
+/// The same labels in the same order. Refuses with `OutOfMemory`.
+pub(crate) fn clone_labels<FileId: Copy>(
+    labels: &Vec<Label<FileId>>,
+) -> Result<Vec<Label<FileId>>, Error>
+    ensures same { IfOk result (λ copies. map label_view copies.items ≡ map label_view labels.now.items) }
+    ensures refused { OnErr result (IsErrOf result Error.OutOfMemory) }
+{
+    let mut copies = Vec::new(*labels.allocator());
+    for label in labels {
+        copies.push(label.clone()?)?;
+    }
+    Ok(copies)
+}
+
+/// The same notes in the same order. Refuses with `OutOfMemory`.
+pub(crate) fn clone_notes(notes: &Vec<String>) -> Result<Vec<String>, Error>
+    ensures same { IfOk result (λ copies. map string_bytes copies.items ≡ map string_bytes notes.now.items) }
+    ensures refused { OnErr result (IsErrOf result Error.OutOfMemory) }
+{
+    let mut copies = Vec::new(*notes.allocator());
+    for note in notes {
+        copies.push(note.clone()?)?;
+    }
+    Ok(copies)
+}

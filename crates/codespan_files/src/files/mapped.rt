@@ -1,0 +1,240 @@
+//! One text as a file whose line numbers are set, in the manner of `#line`.
+
+ghost use Rattle.std.specs.Prelude.{◌≡◌, ◌^◌, ◌<◌, ◌≤◌, [], length, refl, IfOk, IsOk, IfErr, IfSome, OnOk, OnErr, IsErrOf, None};
+ghost use Rattle.std.specs.Str.{IsUtf8};
+ghost use Rattle.codespan_files.specs.Lines.{line_starts_of};
+ghost use Rattle.codespan_files.specs.Settings.{IsStrictlySorted, IsAt, IsGapFor};
+
+use crate::files::{Error, Files, Location, default_line_number, line_starts};
+use std::alloc::Global;
+use std::convert::AsStr;
+use std::fmt::Display;
+use std::ops::Range;
+
+/// A table with a single file, whose line numbers can be set as `#line` does in C.
+///
+/// A line whose number is set has that number, and the lines after it count on from there, up to the next line whose
+/// number is set. Before the first such line they count from 1. A line starts after each newline, and ends before its
+/// own newline, the last one with the source. Columns count characters from 1.
+#[derive(Debug, Drop)]
+pub struct MappedFile<Name, Source: AsStr> {
+    name: Name,
+    source: Source,
+    line_starts: Vec<usize>,
+    // The set line indices with their numbers, the indices ascending.
+    numbers: Vec<(usize, usize)>,
+    ghost starts: { line_starts.items ≡ line_starts_of (Source.text source) },
+    ghost utf8: { ∥ IsUtf8 (Source.text source) ∥₁ },
+    ghost fits: { length (Source.text source) < 2 ^ 64 },
+    ghost sorted: { IsStrictlySorted numbers.items },
+}
+
+impl<Name: Drop, Source: AsStr + Drop> MappedFile<Name, Source> {
+    ghost use Rattle.codespan_files.specs.FileTables.{mapped_name_of, mapped_source_of, settings_of};
+
+    /// A file of this name and source, with no line's number set. Refuses with `OutOfMemory`, and then drops both.
+    pub fn new(alloc: Global, name: Name, source: Source) -> Result<Self, Error>
+        ensures name { IfOk result (λ file. mapped_name_of file ≡ name) }
+        ensures source { IfOk result (λ file. mapped_source_of file ≡ source) }
+        ensures numbers { IfOk result (λ file. settings_of file ≡ []) }
+        ensures refused { OnErr result (IsErrOf result Error.OutOfMemory) }
+    {
+        let line_starts = line_starts(source.as_str()).collect(alloc)?;
+        Ok(MappedFile {
+            name,
+            source,
+            line_starts,
+            numbers: Vec::new(alloc),
+        })
+    }
+}
+
+impl<Name, Source: AsStr> MappedFile<Name, Source> {
+    ghost use Rattle.codespan_files.specs.FileTables.{mapped_name_of, mapped_source_of, settings_of};
+    ghost use Rattle.codespan_files.specs.FileModel.{Tells};
+    ghost use Rattle.codespan_files.specs.SimpleModel.{past_end};
+    ghost use Rattle.codespan_files.specs.MappedModel.{setting, with_number};
+
+    /// Gives the line at this index, from 0, this number, in place of an earlier number of the same index. What that does
+    /// to the lines around it says [`crate::laws::set_numbers_count_on`].
+    ///
+    /// Refuses with `LineTooLarge` of the index and the last line's index where the file has no such line, or with
+    /// `OutOfMemory`; a refusal changes nothing.
+    pub fn set_line(&mut self, line_index: usize, number: usize) -> Result<(), Error>
+        ensures name { mapped_name_of self.new ≡ mapped_name_of self.old }
+        ensures source { mapped_source_of self.new ≡ mapped_source_of self.old }
+        ensures ok { OnOk result (settings_of self.new ≡ with_number line_index number (settings_of self.old)) }
+        ensures err { OnErr result (settings_of self.new ≡ settings_of self.old) }
+        ensures refused { Tells (past_end (Source.text (mapped_source_of self.old)) line_index) result }
+    {
+        let lines = self.line_starts.len();
+        if line_index >= lines {
+            return Err(Error::LineTooLarge {
+                given: line_index,
+                max: lines - 1,
+            });
+        }
+        match self.search(line_index) {
+            Ok(at) => {
+                self.numbers[at] = (line_index, number);
+                Ok(())
+            }
+            Err(at) => {
+                self.numbers.insert(at, (line_index, number))?;
+                Ok(())
+            }
+        }
+    }
+
+    // Where the line's number is set, or where it would go.
+    fn search(&self, line_index: usize) -> Result<usize, usize>
+        ensures found { IfOk result (IsAt (settings_of self.now) line_index) }
+        ensures absent { IfErr result (IsGapFor (settings_of self.now) line_index) }
+    {
+        self.numbers
+            .binary_search_by_key(&line_index, |&(index, _)| index)
+    }
+
+    // The set index that the line counts from, with its number.
+    fn nearest(&self, line_index: usize) -> Option<(usize, usize)>
+        ensures value { result ≡ setting (settings_of self.now) line_index }
+        ensures below { IfSome result (λ s. s.0 ≤ line_index) }
+    {
+        match self.search(line_index) {
+            Ok(at) => Some(self.numbers[at]),
+            Err(0) => None,
+            Err(at) => Some(self.numbers[at - 1]),
+        }
+    }
+}
+
+/// No call is refused for want of memory. A name is lent, since a copy of it need not print the same.
+impl<'a, Name: Display + 'a, Source: AsStr + 'a> Files<'a> for MappedFile<Name, Source> {
+    ghost use Rattle.codespan_files.specs.FileTables.{mapped_name_of, mapped_source_of, settings_of};
+    ghost use Rattle.codespan_files.specs.SimpleModel.{past_end};
+    ghost use Rattle.codespan_files.specs.MappedModel.{mapped_file, mapped_refusal, mapped_column, mapped_location, number_from, number_refusal, setting};
+    ghost use Rattle.codespan_files.specs.FileModel.{IsLineRange, NeedsNoMemory, Tells, line_of};
+    ghost use Rattle.codespan_files.specs.FileModel.Lookup.{LocationAt};
+    ghost use Rattle.codespan_files.specs.Lemmas.Mapped.{mapped_lawful, mapped_past_end};
+    ghost use Rattle.std.proofs.lemmas.Str.{IsUtf8-had};
+
+    /// There is one file.
+    type FileId = ();
+
+    /// The name, lent.
+    type Name = &'a Name;
+
+    /// The source's text, lent.
+    type Source = &'a str;
+
+    ghost file = { λ s _. mapped_file (Name.output (mapped_name_of s)) (Source.text (mapped_source_of s)) (settings_of s) };
+
+    ghost refusal = { λ s _. mapped_refusal (Source.text (mapped_source_of s)) (settings_of s) };
+
+    ghost lawful = { λ s _. mapped_lawful (Name.output s.name) (Source.text s.source) s.numbers.items (IsUtf8-had _ s.utf8) s.fits };
+
+    ghost same_file = { λ s i j e. (refl, refl) };
+
+    ghost past_end = { λ s _ i. mapped_past_end (Name.output s.name) (Source.text s.source) s.numbers.items i };
+
+    /// The file's name, lent. Never refuses.
+    fn name(&'a self, _id: ()) -> Result<&'a Name, Error>
+        ensures succeeds { IsOk result }
+        ensures lent { IfOk result (λ name. name.now ≡ mapped_name_of self.now) }
+        ensures value { IfOk result (λ name. Name.output name.now ≡ Name.output (mapped_name_of self.now)) }
+        ensures refused { Tells None result }
+    {
+        Ok(&self.name)
+    }
+
+    /// The source's text, lent. Never refuses.
+    fn source(&'a self, _id: ()) -> Result<&'a str, Error>
+        ensures succeeds { IsOk result }
+        ensures lent { IfOk result (λ text. text.now ≡ Source.text (mapped_source_of self.now)) }
+        ensures refused { Tells None result }
+    {
+        Ok(self.source.as_str())
+    }
+
+    /// The index of the byte's line, by binary search; past the end that of the last line. Never refuses.
+    fn line_index(&'a self, _id: (), byte_index: usize) -> Result<usize, Error>
+        ensures succeeds { IsOk result }
+        ensures value { IfOk result (λ line.
+            line ≡ line_of (line_starts_of (Source.text (mapped_source_of self.now))) byte_index) }
+        ensures refused { Tells None result }
+    {
+        match self.line_starts.binary_search(&byte_index) {
+            Ok(line) => Ok(line),
+            Err(next) => Ok(next - 1),
+        }
+    }
+
+    /// The number set nearest above the line or at it, plus the lines from there on, found by binary search. Where none
+    /// is set there, the index plus 1. Whether there is such a line is not asked.
+    ///
+    /// Refuses with `LineTooLarge` of the index and the greatest index whose number fits, where the number does not.
+    fn line_number(&'a self, _id: (), line_index: usize) -> Result<usize, Error>
+        ensures value { IfOk result (λ number.
+            number ≡ number_from (setting (settings_of self.now) line_index) line_index) }
+        ensures refused { Tells (number_refusal (setting (settings_of self.now) line_index) line_index) result }
+        ensures memory { NeedsNoMemory result }
+    {
+        match self.nearest(line_index) {
+            None => default_line_number(line_index),
+            Some((index, number)) => match number.checked_add(line_index - index) {
+                Some(counted) => Ok(counted),
+                None => Err(Error::LineTooLarge {
+                    given: line_index,
+                    max: index + (usize::MAX - number),
+                }),
+            },
+        }
+    }
+
+    /// The column number of the byte on the line, in characters. Refuses as `line_range` does.
+    fn column_number(&'a self, id: (), line_index: usize, byte_index: usize) -> Result<usize, Error>
+        ensures value { IfOk result (λ number.
+            number ≡ mapped_column (Source.text (mapped_source_of self.now)) line_index byte_index) }
+        ensures refused { Tells (past_end (Source.text (mapped_source_of self.now)) line_index) result }
+        ensures memory { NeedsNoMemory result }
+    {
+        crate::column_number_by_default!(self, id, line_index, byte_index)
+    }
+
+    /// The number of the byte's line and the byte's column number there. Refuses as `line_number` of that line does.
+    #[tactic(auto, using(crate::specs::Lemmas::Lines::line_of_below))]
+    fn location(&'a self, id: (), byte_index: usize) -> Result<Location, Error>
+        ensures value { IfOk result (λ place.
+            place
+            ≡ mapped_location (Source.text (mapped_source_of self.now)) (settings_of self.now) byte_index) }
+        ensures refused { Tells (mapped_refusal (Source.text (mapped_source_of self.now)) (settings_of self.now) (LocationAt byte_index))
+            result }
+        ensures memory { NeedsNoMemory result }
+    {
+        crate::location_by_default!(self, id, byte_index)
+    }
+
+    /// The bytes of the line without its newline. Refuses with `LineTooLarge` of the index and the last line's index
+    /// where the file has no such line.
+    #[tactic(auto, using(crate::specs::Lemmas::Mapped::mapped_range))]
+    fn line_range(&'a self, _id: (), line_index: usize) -> Result<Range<usize>, Error>
+        ensures value { IfOk result (IsLineRange (mapped_file (Name.output (mapped_name_of self.now)) (Source.text (mapped_source_of self.now)) (settings_of self.now)) line_index) }
+        ensures refused { Tells (past_end (Source.text (mapped_source_of self.now)) line_index) result }
+        ensures memory { NeedsNoMemory result }
+    {
+        let count = self.line_starts.len();
+        if line_index >= count {
+            return Err(Error::LineTooLarge {
+                given: line_index,
+                max: count - 1,
+            });
+        }
+        let start = self.line_starts[line_index];
+        let end = if line_index + 1 < count {
+            self.line_starts[line_index + 1] - 1
+        } else {
+            self.source.as_str().len()
+        };
+        Ok(start..end)
+    }
+}

@@ -1,0 +1,61 @@
+//! The iterator over the line starts of a text.
+ghost use Rattle.std.specs.Prelude.{◌≤◌, length};
+
+/// The bytes at which the lines of a text start, in ascending order.
+///
+/// Given by [`line_starts`](crate::files::line_starts). It ends: see [`crate::laws::line_starts_end`].
+#[derive(Debug, Drop)]
+pub struct LineStarts<'a> {
+    source: &'a str,
+    // Where the search for the next newline goes on.
+    at: usize,
+    // Whether the first start was given.
+    begun: bool,
+    ghost within: { at ≤ length source.now },
+}
+
+impl<'a> LineStarts<'a> {
+    ghost use Rattle.std.specs.Prelude.{◌≡◌};
+    ghost use Rattle.codespan_files.specs.Lines.{line_starts_of};
+    ghost use Rattle.codespan_files.specs.LineStarts.{starts_left};
+
+    // All starts of the text.
+    pub(super) fn new(source: &'a str) -> Self
+        ensures { starts_left result ≡ line_starts_of source.now }
+    {
+        LineStarts {
+            source,
+            at: 0,
+            begun: false,
+        }
+    }
+}
+
+impl<'a> Iterator for LineStarts<'a> {
+    ghost use Rattle.std.specs.Iterator.{YieldsFirst, item_count};
+    ghost use Rattle.codespan_files.specs.LineStarts.{starts_left};
+
+    /// A byte.
+    type Item = usize;
+
+    ghost next_gives = { YieldsFirst starts_left };
+
+    ghost remaining = { item_count starts_left };
+
+    #[tactic(auto, using(crate::specs::Lemmas::Lines::starts_steps))]
+    fn next(&mut self) -> Option<usize> {
+        if !self.begun {
+            self.begun = true;
+            return Some(0);
+        }
+        let bytes = self.source.as_bytes();
+        for i in self.at..bytes.len() {
+            if bytes[i] == b'\n' {
+                self.at = i + 1;
+                return Some(i + 1);
+            }
+        }
+        self.at = bytes.len();
+        None
+    }
+}

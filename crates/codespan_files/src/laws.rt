@@ -1,0 +1,67 @@
+//! Laws, one to a function that does nothing: its contract is the law, and its proof the law's.
+
+ghost use Rattle.std.specs.Prelude.{◌≡◌, ◌↔◌, ℕ, List, Option, Some, IsTrue};
+ghost use Rattle.std.specs.Iterator.{IsFinite, Drains};
+ghost use Rattle.std.specs.Str.{IsUtf8};
+ghost use Rattle.std.specs.Ordering.{nat_cmp};
+ghost use Rattle.codespan_files.specs.Diagnostics.{severity_rank, style_rank};
+ghost use Rattle.codespan_files.specs.FileLaws.{LinesJoin, LineCountsNewlines, ColumnsRise, setting_after};
+ghost use Rattle.codespan_files.specs.MappedModel.{setting, with_number};
+ghost use Rattle.codespan_files.specs.Settings.{IsStrictlySorted};
+ghost use Rattle.codespan_files.specs.LineStarts.{starts_left};
+ghost use Rattle.codespan_files.specs.SimpleModel.{simple_file};
+ghost use Rattle.codespan_files.specs.declared.diagnostic.Severity.{Severity};
+ghost use Rattle.codespan_files.specs.declared.diagnostic.LabelStyle.{LabelStyle};
+ghost use Rattle.codespan_files.specs.declared.files.starts.LineStarts.{LineStarts};
+
+use crate::diagnostic::{LabelStyle, Severity};
+use crate::files::LineStarts;
+use std::hash::Hash;
+
+/// Severities are ordered `Help` < `Note` < `Warning` < `Error` < `Bug`. Their two comparisons agree, two are equal
+/// exactly where they are one, and equal ones hash alike.
+pub fn severities_agree()
+    ensures order { (x y : Severity) → ⟦<Severity as Ord>⟧.cmp x y ≡ nat_cmp (severity_rank x) (severity_rank y) }
+    ensures partial { (x y : Severity) → ⟦<Severity as PartialOrd>⟧.partial_cmp x y ≡ Some (⟦<Severity as Ord>⟧.cmp x y) }
+    ensures equal { (x y : Severity) → IsTrue (⟦<Severity as PartialEq>⟧.eq x y) ↔ (x ≡ y) }
+    ensures hash { (x y : Severity) → IsTrue (⟦<Severity as PartialEq>⟧.eq x y) →
+        ⟦<Severity as Hash>⟧.hash_input x ≡ ⟦<Severity as Hash>⟧.hash_input y }
+{}
+
+/// Styles of labels are ordered `Primary` < `Secondary`, and two are equal exactly where they are one.
+pub fn label_styles_agree()
+    ensures order { (x y : LabelStyle) →
+        ⟦<LabelStyle as PartialOrd>⟧.partial_cmp x y ≡ Some (nat_cmp (style_rank x) (style_rank y)) }
+    ensures equal { (x y : LabelStyle) → IsTrue (⟦<LabelStyle as PartialEq>⟧.eq x y) ↔ (x ≡ y) }
+{}
+
+/// The line ranges of a text follow each other from 0 to its length, and its lines join to it.
+pub fn lines_join_to_source()
+    ensures { (name : Option (List ℕ)) (text : List ℕ) → IsUtf8 text → LinesJoin (simple_file name text) }
+{}
+
+/// In the file of a text, the index of a byte's line is the number of newlines before the byte. Past the end it is that
+/// of the last line.
+pub fn line_counts_newlines()
+    ensures { (name : Option (List ℕ)) (text : List ℕ) → LineCountsNewlines (simple_file name text) }
+{}
+
+/// Once a line's number is set in a [`MappedFile`](crate::files::MappedFile), that line and the lines after it count from
+/// there, up to the next line whose number is set; the lines above count as before.
+pub fn set_numbers_count_on()
+    ensures { (settings : List (ℕ × ℕ)) (line number i : ℕ) → IsStrictlySorted settings →
+        setting (with_number line number settings) i ≡ setting_after line number i (setting settings i) }
+{}
+
+/// On a line the column of a later byte is no smaller.
+pub fn columns_rise()
+    ensures { ColumnsRise }
+{}
+
+/// The iterator over line starts ends, and by then has given all starts that it had left; those that
+/// [`line_starts`](crate::files::line_starts) begins with are all of the text.
+pub fn line_starts_end()
+    ensures ends { (starts : LineStarts) → IsFinite (⟦<LineStarts<'static> as Iterator>⟧.remaining starts) }
+    ensures gives { (starts : LineStarts) (given : List ℕ) →
+        Drains ⟦<LineStarts<'static> as Iterator>⟧.next_gives starts given → given ≡ starts_left starts }
+{}
