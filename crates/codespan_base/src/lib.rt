@@ -3,6 +3,7 @@
 //! Users name these by the paths of `codespan_reporting`, which has `diagnostic`, `files` and `term` again.
 #![tactic(auto)]
 
+pub mod files;
 pub mod term;
 
-pub use codespan_files::{column_number_by_default, diagnostic, files, laws, location_by_default};
+pub use codespan_files::{diagnostic, laws};

@@ -15,7 +15,7 @@ mod simple;
 mod starts;
 mod table;
 
-pub use defaults::{default_column_number, default_line_number, default_location};
+pub use defaults::default_line_number;
 pub use error::Error;
 pub use lines::{column_index, line_starts};
 pub use mapped::MappedFile;
@@ -106,7 +106,7 @@ pub trait Files<'a> {
         ensures refused { Tells (refusal self.now id (LineNumber line_index)) result };
 
     /// The column number of a byte on a line, as it is shown to users: mostly the characters from the line's start, counted
-    /// from 1, as [`default_column_number`] has it.
+    /// from 1, as `codespan_base::files::default_column_number` has it.
     fn column_number(
         &'a self,
         id: Self::FileId,
@@ -116,7 +116,7 @@ pub trait Files<'a> {
         ensures value { IfOk result (λ n. n ≡ (file self.now id).column line_index byte_index) }
         ensures refused { Tells (refusal self.now id (ColumnNumber line_index byte_index)) result };
 
-    /// The numbers of a byte's line and of its column there: [`default_location`].
+    /// The numbers of a byte's line and of its column there: mostly `codespan_base::files::default_location`.
     fn location(&'a self, id: Self::FileId, byte_index: usize) -> Result<Location, Error>
         ensures value { IfOk result (λ p. p ≡ (file self.now id).location byte_index) }
         ensures refused { Tells (refusal self.now id (LocationAt byte_index)) result };

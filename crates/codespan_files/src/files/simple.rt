@@ -4,7 +4,7 @@ ghost use Rattle.std.specs.Prelude.{◌≡◌, ◌-◌, ◌+◌, ◌^◌, ◌<�
 ghost use Rattle.std.specs.Str.{IsUtf8};
 ghost use Rattle.codespan_files.specs.Lines.{line_starts_of};
 
-use crate::files::{Error, Files, Location, default_line_number, line_starts};
+use crate::files::{Error, Files, Location, column_index, default_line_number, line_starts};
 use std::alloc::Global;
 use std::convert::AsStr;
 use std::fmt::Display;
@@ -134,7 +134,8 @@ impl<'a, Name: Display + 'a, Source: AsStr + 'a> Files<'a> for SimpleFile<Name, 
         ensures refused { Tells (past_end (Source.text (source_of self.now)) line_index) result }
         ensures memory { NeedsNoMemory result }
     {
-        crate::column_number_by_default!(self, id, line_index, byte_index)
+        let range = self.line_range(id, line_index)?;
+        Ok(column_index(self.source.as_str(), range, byte_index) + 1)
     }
 
     /// The number of the byte's line and the byte's column number there. Never refuses.
@@ -144,7 +145,11 @@ impl<'a, Name: Display + 'a, Source: AsStr + 'a> Files<'a> for SimpleFile<Name, 
         ensures value { IfOk result (λ place. place ≡ simple_location (Source.text (source_of self.now)) byte_index) }
         ensures refused { Tells None result }
     {
-        crate::location_by_default!(self, id, byte_index)
+        let line_index = self.line_index(id, byte_index)?;
+        Ok(Location {
+            line_number: self.line_number(id, line_index)?,
+            column_number: self.column_number(id, line_index, byte_index)?,
+        })
     }
 
     /// The bytes of the line, its newline too. Refuses with `LineTooLarge` of the index and the last line's index

@@ -1,9 +1,9 @@
-use Rattle.std.proofs.Common.{rules, Some, ap, ◌∙◌}
+use Rattle.std.proofs.Common.{rules, Some, inl, refl, ap, ◌∙◌}
 use Rattle.std.specs.Prelude.{string_bytes}
 use Rattle.codespan_base.specs.FileModel.{IsLawful}
 use Rattle.codespan_base.specs.Streams.{no_marks}
 use Rattle.codespan_base.specs.Writers.{fresh_sink}
-use Rattle.codespan_reporting.proofs.Emitting.{string_drawn, text_held}
+use Rattle.codespan_reporting.proofs.Emitting.{string_drawn, text_held, told_of_string}
 use Rattle.codespan_reporting.proofs.term.emitting.emit_into_string.Goals as goal
 
 -- what was written is a text
@@ -19,3 +19,13 @@ pub returns-in-Ok : goal.returns-in-Ok
 returns-in-Ok g c =
     string_drawn c.args.config.now g.F.FileId.PartialEq.eq (g.F.Files.file c.args.files.now) (g.F.Files.refusal c.args.files.now) c.args.diagnostic.now _ _ (string_bytes c.from_utf8_unchecked.result)
     c.in-Ok.ensures.draws (c.new-plain.ensures.begins ∙ ap (λ xs. fresh_sink no_marks (Some xs)) c.in_ok-bytes.ensures.items) (search rules) c.in-Ok.ensures.meaning
+
+-- a growth was refused
+pub returns-in-Err : goal.returns-in-Err
+returns-in-Err g c = inl refl
+
+-- the writer has refused nothing
+pub returns : goal.returns
+returns g c =
+    told_of_string c.args.config.now g.F.FileId.PartialEq.eq (g.F.Files.file c.args.files.now) (g.F.Files.refusal c.args.files.now) c.args.diagnostic.now _ _ _
+    c.in-Err-2.ensures.draws (search rules)

@@ -1,4 +1,4 @@
-use Rattle.std.proofs.Common.{arith, refl, ◌≡◌, ◌-◌, ap}
+use Rattle.std.proofs.Common.{arith, ◌≡◌, ◌-◌, ap}
 use Rattle.std.specs.List.{repeat}
 use Rattle.std.proofs.lemmas.Result.{err_from_is_err_and}
 use Rattle.codespan_base.specs.Streams.{bytes}

@@ -1,0 +1,9 @@
+//! The files that diagnostics speak of: the lookups that a picture makes, and tables of files.
+
+mod defaults;
+
+pub use codespan_files::files::{
+    Error, Files, LineStarts, Location, MappedFile, SimpleFile, SimpleFiles, column_index,
+    default_line_number, line_starts,
+};
+pub use defaults::{default_column_number, default_location};
