@@ -28,5 +28,3 @@ pub mod Placed
 pub mod Lookups
 -- labels, marks and places as calls are given them
 pub mod Given
--- how worked pictures are written down
-pub mod Worked

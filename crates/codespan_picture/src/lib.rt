@@ -4,4 +4,3 @@
 pub mod cells;
 pub mod given;
 pub mod lanes;
-mod worked;

@@ -5,7 +5,7 @@ ghost use Rattle.codespan_base.specs.Defaults.{default_config};
 ghost use Rattle.codespan_base.specs.Streams.{text_of, spelled};
 ghost use Rattle.codespan_base.specs.declared.diagnostic.Severity.TheVariants.{Bug, Error};
 ghost use Rattle.codespan_base.specs.declared.diagnostic.LabelStyle.TheVariants.{Primary, Secondary};
-ghost use Rattle.codespan_picture.specs.Worked.{text_file, label, says, with_code, with_note, rich, medium, short, rows, ansi};
+ghost use Rattle.codespan_worked.specs.Worked.{text_file, label, says, with_code, with_note, rich, medium, short, rows, ansi};
 
 /// No label in short style: the header alone.
 fn bare_bug_short()

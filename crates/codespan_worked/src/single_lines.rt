@@ -6,7 +6,7 @@ ghost use Rattle.codespan_base.specs.Characters.{ascii};
 ghost use Rattle.codespan_base.specs.Streams.{text_of};
 ghost use Rattle.codespan_base.specs.declared.diagnostic.Severity.TheVariants.{Bug, Error, Note};
 ghost use Rattle.codespan_base.specs.declared.diagnostic.LabelStyle.TheVariants.{Primary, Secondary};
-ghost use Rattle.codespan_picture.specs.Worked.{text_file, label, says, with_code, rich, rows};
+ghost use Rattle.codespan_worked.specs.Worked.{text_file, label, says, with_code, rich, rows};
 
 /// No label: the header and the closing line.
 fn bare_bug()

@@ -7,7 +7,7 @@ ghost use Rattle.codespan_base.specs.Streams.{text_of, spelled};
 ghost use Rattle.codespan_base.specs.declared.diagnostic.Severity.TheVariants.{Error};
 ghost use Rattle.codespan_base.specs.declared.diagnostic.LabelStyle.TheVariants.{Primary, Secondary};
 ghost use Rattle.codespan_base.specs.declared.term.config.Layout.TheVariants.{Unbroken};
-ghost use Rattle.codespan_picture.specs.Worked.{text_file, label, says, with_note, rich, rows, ansi};
+ghost use Rattle.codespan_worked.specs.Worked.{text_file, label, says, with_note, rich, rows, ansi};
 
 /// Lanes are counted in each file, not in the diagnostic.
 fn lanes_count_per_file()

@@ -6,7 +6,7 @@ ghost use Rattle.codespan_base.specs.MappedModel.{with_number};
 ghost use Rattle.codespan_base.specs.Streams.{text_of};
 ghost use Rattle.codespan_base.specs.declared.diagnostic.Severity.TheVariants.{Error};
 ghost use Rattle.codespan_base.specs.declared.diagnostic.LabelStyle.TheVariants.{Primary};
-ghost use Rattle.codespan_picture.specs.Worked.{text_file, mapped_text, from_zero, label, says, rich, short, rows, many_lines, many_labels, evens, odds};
+ghost use Rattle.codespan_worked.specs.Worked.{text_file, mapped_text, from_zero, label, says, rich, short, rows, many_lines, many_labels, evens, odds};
 
 /// A line whose number is set, and those after it.
 fn mapped_numbers()

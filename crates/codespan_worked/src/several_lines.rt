@@ -7,7 +7,7 @@ ghost use Rattle.codespan_base.specs.Streams.{text_of};
 ghost use Rattle.codespan_base.specs.declared.diagnostic.Severity.TheVariants.{Error};
 ghost use Rattle.codespan_base.specs.declared.diagnostic.LabelStyle.TheVariants.{Primary, Secondary};
 ghost use Rattle.codespan_base.specs.declared.term.config.Layout.TheVariants.{Unbroken};
-ghost use Rattle.codespan_picture.specs.Worked.{text_file, label, says, with_code, with_note, rich, rows};
+ghost use Rattle.codespan_worked.specs.Worked.{text_file, label, says, with_code, with_note, rich, rows};
 
 /// A label from a line's start has its corner in the source row.
 fn from_line_start()

@@ -9,7 +9,7 @@ ghost use Rattle.codespan_picture.specs.Given.{lanes_in_order};
 ghost use Rattle.codespan_picture.specs.Picture.{look_of};
 ghost use Rattle.codespan_picture.specs.Rows.{rows_of};
 ghost use Rattle.codespan_picture.specs.RowStreams.{stream_of_rows};
-ghost use Rattle.codespan_picture.specs.Worked.{label, line_of_labels, bars_in, rows};
+ghost use Rattle.codespan_worked.specs.Worked.{label, line_of_labels, bars_in, rows};
 
 /// A range whose start is after its end is drawn as it is handed in: it has no caret.
 fn reversed_handed_in()

@@ -1,0 +1,2 @@
+-- how worked pictures are written down
+pub mod Worked
