@@ -10,7 +10,7 @@ pub use Rattle.codespan_files.specs.ErrorText
 pub use Rattle.codespan_files.specs.Errors
 pub use Rattle.codespan_files.specs.FileLaws
 pub use Rattle.codespan_files.specs.FileTables
-pub use Rattle.codespan_files.specs.Lemmas
+pub mod Lemmas
 -- labels
 pub mod Labels
 -- writers

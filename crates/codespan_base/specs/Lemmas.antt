@@ -1,0 +1,5 @@
+-- Lemmas that the laws of files stand on. A reader may skip them: nothing is defined here.
+pub mod Lines
+pub use Rattle.codespan_files.specs.Lemmas.Simple
+pub use Rattle.codespan_files.specs.Lemmas.Mapped
+pub use Rattle.codespan_files.specs.Lemmas.Missing
