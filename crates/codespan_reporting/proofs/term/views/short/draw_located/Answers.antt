@@ -16,6 +16,15 @@ loop-label-init g c = record {
   some = refl;
 }
 
+pub returns-in_err-is_located-clause-same : goal.returns-in_err-is_located-clause-same
+returns-in_err-is_located-clause-same g c =
+    let same = c.in_err-is_located.ensures.same in
+    let was = c.loop-label.invariant.same in
+    record { reference = same.reference ∙ was.reference; config = same.config ∙ was.config }
+
+pub returns-clause-same : goal.returns-clause-same
+returns-clause-same g c = c.loop-label.invariant.same
+
 pub returns-in_err-is_located-clause-draws : goal.returns-in_err-is_located-clause-draws
 returns-in_err-is_located-clause-draws g c =
     let file = g.F.Files.file c.args.files.now in

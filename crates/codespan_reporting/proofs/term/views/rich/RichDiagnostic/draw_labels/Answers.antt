@@ -32,6 +32,28 @@ draw_snippets-requires g c κs =
     let prepared = subst (λ ys. IsPrepared g.FileId.PartialEq.eq (g.F.Files.file c.args.files.now) (view_config_of c.args.self.now) ys c.in_ok-sheet.sheet) told c.in_ok-sheet.ensures.prepared in
     ((refl, (refl, (refl, tt))), prepared)
 
+pub returns-in_err-gathered-clause-same : goal.returns-in_err-gathered-clause-same
+returns-in_err-gathered-clause-same g c = record { reference = refl; config = refl }
+
+pub returns-in_err-sheet-clause-same : goal.returns-in_err-sheet-clause-same
+returns-in_err-sheet-clause-same g c = record { reference = refl; config = refl }
+
+pub returns-in_err-draw_header-clause-same : goal.returns-in_err-draw_header-clause-same
+returns-in_err-draw_header-clause-same g c = c.in_err-draw_header.ensures.same
+
+pub returns-in_err-draw_snippets-clause-same : goal.returns-in_err-draw_snippets-clause-same
+returns-in_err-draw_snippets-clause-same g c =
+    let first = c.in_ok-draw_header.ensures.same in
+    let second = c.in_err-draw_snippets.ensures.same in
+    record { reference = second.reference ∙ first.reference; config = second.config ∙ first.config }
+
+pub returns-clause-same : goal.returns-clause-same
+returns-clause-same g c =
+    let first = c.in_ok-draw_header.ensures.same in
+    let second = c.in_ok-draw_snippets.ensures.same in
+    let third = c.draw_closing.ensures.same in
+    record { reference = third.reference ∙ second.reference ∙ first.reference; config = third.config ∙ second.config ∙ first.config }
+
 pub returns-in_err-gathered-clause-draws : goal.returns-in_err-gathered-clause-draws
 returns-in_err-gathered-clause-draws g c =
     let file = g.F.Files.file c.args.files.now in
