@@ -50,15 +50,6 @@ unfolding caret_run caret_glyphs
 run-counts chars end None c run = blanks-count chars end c run _ refl
 run-counts chars end (Some style) c run = repeated-add run c.width (caret_for chars (Some style))
 
-none_le : (end : ℕ) (c : Cell) (b : Bool) → nat_lt c.place end ≡ b → caret_count end None c ≤ c.width
-none_le end c true e = rw e (omega arith)
-none_le end c false e = rw e (omega arith)
-
--- a character counts for its cells at the most
-pub count-le : (end : ℕ) (style : Option LabelStyle) (c : Cell) → caret_count end style c ≤ c.width
-count-le end None c = none_le end c _ refl
-count-le end (Some style) c = omega arith
-
 -- ---- the cells that are left
 
 grown : (run shown more rest : Stream) → more ≡ run ++ shown → run ++ (shown ++ rest) ≡ more ++ rest

@@ -1,13 +1,25 @@
 -- A step over one character of a line.
-use Rattle.std.proofs.Common.{◌≡◌, ℕ, ◌+◌, ◌-◌, ◌≤◌, true, false, cond, List, [], ◌∷◌, ◌++◌, length, drop, length-append, length-drop, refl, ap, ◌∙◌, arith}
+use Rattle.std.proofs.Common.{◌≡◌, ℕ, ◌+◌, ◌-◌, ◌≤◌, nat_lt, nat_le, ◌==◌, lt-ltb, true, false, cond, List, [], ◌∷◌, ◌++◌, length, drop, length-append, length-drop, refl, ap, ◌∙◌, arith}
 use Rattle.std.specs.Prelude.{sum_by, take_while}
 use Rattle.std.specs.Char.{encode_utf8, len_utf8, is_whitespace}
 use Rattle.std.specs.Str.{IsUtf8, chars}
+use Rattle.std.proofs.lemmas.Bool.{ne_eqb}
+use Rattle.std.proofs.lemmas.Bool.Decides.{nat_tests}
 use Rattle.std.proofs.lemmas.List.Sums.{sum_by-cons, take_while-cons}
 use Rattle.std.proofs.lemmas.Str.{chars_past_char, chars-nil, length-encode}
+use Rattle.unicode_width.specs.Width.{char_width}
 use Rattle.codespan_picture.specs.declared.cells.Cell.{Cell}
 use Rattle.codespan_picture.specs.Widths.{width_at}
 use Rattle.codespan_picture.specs.Cells.{cells_then, leading_whitespace}
+
+-- the characters of ASCII that are seen take one cell each
+pub width_at-seen : (tab column c : ℕ) → 32 ≤ c → c ≤ 126 → 1 ≡ width_at tab column c
+unfolding char_width
+width_at-seen tab column c low high =
+    let no_tab : (c == 9) ≡ false = ne_eqb c 9 (λ e. omega (arith, e)) in
+    let ascii : nat_lt c 0x7F ≡ true = lt-ltb c 0x7F (omega arith) in
+    let seen : nat_le 0x20 c ≡ true = grind (arith, nat_tests) in
+    rw (no_tab, ascii, seen) refl
 
 -- the first of the characters that are left
 pub cells_then-char : (after : ℕ → ℕ → List Cell) (tab place column : ℕ) (bs rest : List ℕ) (c bytes width : ℕ)
@@ -27,6 +39,11 @@ cells_then-end after tab place column (b ∷ bs) e = absurd (omega arith)
 pub bytes_left : (text rest : List ℕ) (place c : ℕ) → drop place text ≡ encode_utf8 c ++ rest → len_utf8 c ≤ length text - place
 bytes_left text rest place c e =
     omega (arith, ap length e, length-drop place text, length-append (encode_utf8 c) rest, length-encode c)
+
+-- it took so many bytes of what was left
+pub bytes-taken : (was left bs rest : List ℕ) (c : ℕ) → was ≡ bs → left ≡ rest → bs ≡ encode_utf8 c ++ rest → length was - length left ≡ len_utf8 c
+bytes-taken was left bs rest c w l e =
+    omega (arith, ap length w, ap length l, ap length e, length-append (encode_utf8 c) rest, length-encode c)
 
 -- ---- white space at the beginning of a line
 

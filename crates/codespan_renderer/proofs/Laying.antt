@@ -7,6 +7,7 @@ use lib.Utf8.{encodes}
 use Rattle.codespan_picture.specs.declared.cells.Cell.{Cell}
 use Rattle.codespan_picture.specs.Widths.{width_at}
 use Rattle.codespan_picture.specs.Cells.{cells_then, cells, placeholder, cells_to_end}
+use Rattle.codespan_renderer.proofs.Sweeping.{Follow}
 
 -- a cell stands at this place and column, and ends at `top` at the most
 pub record IsLaid (top place column : ℕ) (x : Cell) : Type 0 where
@@ -27,6 +28,11 @@ pub record Laying (top run : ℕ) (cs : List Cell) : Type 0 where
   pub lays : Lays top place column cs
   pub narrow : column ≤ place * (2 ^ 64 - 1)
   pub small : run ≤ column
+
+-- they follow one another
+pub lays-follow : (top place column : ℕ) (cs : List Cell) → Lays top place column cs → Follow place cs
+lays-follow top place column [] l = tt
+lays-follow top place column (x ∷ cs) l = (l.0.here, l.0.some, lays-follow top (place + x.bytes) (column + x.width) cs l.1)
 
 -- ---- the beginning of a loop
 

@@ -92,10 +92,17 @@ pub fn emit_to_write_style<'files, F: Files<'files>, W: WriteStyle>(
 {
     let mut renderer = Renderer::new(writer, config);
     match config.display_style {
-        DisplayStyle::Rich => RichDiagnostic::new(diagnostic, config).render(files, &mut renderer),
-        DisplayStyle::Medium => ShortDiagnostic::new(diagnostic, true).render(files, &mut renderer),
-        DisplayStyle::Short => ShortDiagnostic::new(diagnostic, false).render(files, &mut renderer),
+        DisplayStyle::Rich => {
+            RichDiagnostic::new(diagnostic, config).render(files, &mut renderer)?;
+        }
+        DisplayStyle::Medium => {
+            ShortDiagnostic::new(diagnostic, true).render(files, &mut renderer)?;
+        }
+        DisplayStyle::Short => {
+            ShortDiagnostic::new(diagnostic, false).render(files, &mut renderer)?;
+        }
     }
+    Ok(())
 }
 
 /// The old name of [`emit_to_io_write`].

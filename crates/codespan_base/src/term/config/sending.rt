@@ -59,14 +59,25 @@ pub fn send_blanks<W: WriteStyle>(w: &mut W, count: usize) -> io::Result<()>
 }
 
 /// Writes one character so many times. Refuses as [`send`] does.
+#[inline(always)]
 pub fn send_repeated<W: WriteStyle>(w: &mut W, c: char, count: usize) -> io::Result<()>
+    ensures { Sends (W.sink w.old) (repeated count c) result (W.sink w.new) }
+{
+    if count <= FEW {
+        let mut buffer = [0u8; 4];
+        send_copies(w, c.encode_utf8(&mut buffer).as_bytes(), count)?;
+    } else {
+        send_runs(w, c, count)?;
+    }
+    Ok(())
+}
+
+/// The same, as many at once as a run has room for.
+fn send_runs<W: WriteStyle>(w: &mut W, c: char, count: usize) -> io::Result<()>
     ensures { Sends (W.sink w.old) (repeated count c) result (W.sink w.new) }
 {
     let mut buffer = [0u8; 4];
     let glyph = c.encode_utf8(&mut buffer).as_bytes();
-    if count <= FEW {
-        return send_copies(w, glyph, count);
-    }
     let copies = count.min(RUN / glyph.len());
     let mut run = [0u8; RUN];
     fill(&mut run, glyph, copies);
@@ -79,6 +90,7 @@ pub fn send_repeated<W: WriteStyle>(w: &mut W, c: char, count: usize) -> io::Res
 }
 
 /// Writes some bytes so many times, one copy after another.
+#[inline(always)]
 fn send_copies<W: WriteStyle>(w: &mut W, text: &[u8], count: usize) -> io::Result<()>
     ensures { Sends (W.sink w.old) (repeat count (bytes text.now)) result (W.sink w.new) }
 {

@@ -6,7 +6,7 @@ ghost use Rattle.codespan_base.specs.WriterLaw.{Sends};
 ghost use Rattle.codespan_picture.specs.Carets.{covers, covers_part, style_under, greatest_end};
 ghost use Rattle.codespan_picture.specs.Cells.{cells_to_end};
 ghost use Rattle.codespan_picture.specs.Given.{labelled, all_labelled};
-ghost use Rattle.codespan_renderer.specs.Inner.Runs.{better, caret_count, caret_run, given_label};
+ghost use Rattle.codespan_renderer.specs.Inner.Runs.{better, caret_run, given_label};
 ghost use Rattle.codespan_renderer.specs.Inner.GivenLine.{look_of_given, line_of_given};
 ghost use Rattle.codespan_renderer.specs.Inner.GivenRows.{given_carets};
 ghost use Rattle.codespan_picture.specs.RowParts.{carets, change, label_message, trailing_message};
@@ -84,10 +84,11 @@ fn send_caret_run<W: WriteStyle>(
     ensures { Sends (W.sink w.old) (caret_run chars.now style count) result (W.sink w.new) }
 {
     match style {
-        None => send_blank_run(w, count),
-        Some(LabelStyle::Primary) => send_run(w, chars.single_primary_caret, count),
-        Some(LabelStyle::Secondary) => send_run(w, chars.single_secondary_caret, count),
+        None => send_blank_run(w, count)?,
+        Some(LabelStyle::Primary) => send_run(w, chars.single_primary_caret, count)?,
+        Some(LabelStyle::Secondary) => send_run(w, chars.single_secondary_caret, count)?,
     }
+    Ok(())
 }
 
 /// The end of a run of carets of one style, and the mark of the next.
@@ -105,17 +106,6 @@ pub fn end_caret_run<W: WriteStyle>(
     send_change(w, look.severity, was, style)
 }
 
-/// How many cells of carets or blanks a character has under it, where they reach to `end`.
-pub fn caret_count(cell: Cell, style: Option<LabelStyle>, end: usize) -> usize
-    ensures { result ≡ caret_count end style cell }
-{
-    if style.is_some() || cell.place < end {
-        cell.width
-    } else {
-        0
-    }
-}
-
 /// The carets under the characters of a line, and under the place after the last one.
 fn send_carets<W: WriteStyle>(w: &mut W, look: Look<'_>, line: Line<'_, '_>) -> io::Result<()>
     ensures { Sends (W.sink w.old) (given_carets look.entry line.entry.labels.now (cells_to_end look.entry.tab_width line.entry.text.now)) result (W.sink w.new) }
@@ -124,13 +114,16 @@ fn send_carets<W: WriteStyle>(w: &mut W, look: Look<'_>, line: Line<'_, '_>) -> 
     let mut was = None;
     let mut run = 0u128;
     for cell in Cells::to_end(line.text, look.tab_width) {
+        if cell.place >= end {
+            break;
+        }
         let style = style_under(line.labels, cell);
         if style != was {
             end_caret_run(w, look, was, run, style)?;
             run = 0;
             was = style;
         }
-        run += caret_count(cell, style, end) as u128;
+        run += cell.width as u128;
     }
     end_caret_run(w, look, was, run, None)
 }
@@ -158,13 +151,11 @@ pub fn send_trailing<W: WriteStyle>(
 ) -> io::Result<()>
     ensures { Sends (W.sink w.old) (trailing_message severity (given_label trailing.entry)) result (W.sink w.new) }
 {
-    match trailing {
-        None => Ok(()),
-        Some(label) => {
-            send_space(w)?;
-            send_message(w, severity, label)
-        }
+    if let Some(label) = trailing {
+        send_space(w)?;
+        send_message(w, severity, label)?;
     }
+    Ok(())
 }
 
 /// The carets under a line, and the message that trails them.

@@ -64,11 +64,15 @@ impl<'text> Cells<'text> {
 }
 
 /// How many cells a character takes at a column: a tab as many as there are up to the next stop, any other character its width in a
-/// terminal by `unicode_width`, or none where that gives none.
+/// terminal by `unicode_width`, or none where that gives none. The characters of ASCII that are seen take one each, and are asked for
+/// first, since most text is of them.
 #[inline(always)]
 fn width_at(tab_width: usize, column: u128, c: char) -> usize
     ensures { result ≡ width_at tab_width column c }
 {
+    if matches!(c, ' '..='~') {
+        return 1;
+    }
     if c != '\t' {
         return c.width().unwrap_or(0);
     }
@@ -90,12 +94,13 @@ impl<'text> Iterator for Cells<'text> {
 
     #[inline(always)]
     fn next(&mut self) -> Option<Cell> {
+        let left = self.chars.as_str().len();
         match self.chars.next() {
             Some(code) => {
                 let cell = Cell {
                     code,
                     place: self.place,
-                    bytes: code.len_utf8(),
+                    bytes: left - self.chars.as_str().len(),
                     column: self.column,
                     width: width_at(self.tab_width, self.column, code),
                 };

@@ -35,13 +35,11 @@ fn severity_name(severity: Severity) -> &'static str
 fn send_leading_locus<W: WriteStyle>(w: &mut W, locus: Option<&Locus>) -> io::Result<()>
     ensures { Sends (W.sink w.old) (leading_locus (option_map (λ at. place_of_given at.now) locus.entry)) result (W.sink w.new) }
 {
-    match locus {
-        None => Ok(()),
-        Some(locus) => {
-            send_locus(w, locus)?;
-            send(w, b": ")
-        }
+    if let Some(locus) = locus {
+        send_locus(w, locus)?;
+        send(w, b": ")?;
     }
+    Ok(())
 }
 
 /// The code in brackets, where one is there and not empty.
@@ -53,10 +51,11 @@ fn send_bracketed<W: WriteStyle>(w: &mut W, code: Option<&str>) -> io::Result<()
         Some(code) if !code.is_empty() => {
             send(w, b"[")?;
             send(w, code.as_bytes())?;
-            send(w, b"]")
+            send(w, b"]")?;
         }
-        _ => Ok(()),
+        _ => {}
     }
+    Ok(())
 }
 
 /// A header up to its message.

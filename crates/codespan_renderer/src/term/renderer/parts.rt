@@ -12,6 +12,7 @@ ghost use Rattle.codespan_picture.specs.RowStreams.{opening};
 use crate::term::renderer::Locus;
 use crate::term::renderer::lanes::{LaneRow, send_lanes};
 use crate::term::renderer::line::{Line, Look};
+use crate::term::renderer::runs::send_blank_run;
 use codespan_base::diagnostic::{LabelStyle, Severity};
 use codespan_base::term::config::sending::{send, send_blanks, send_char, send_number};
 use codespan_base::term::{Chars, WriteStyle};
@@ -37,13 +38,7 @@ pub fn send_space<W: WriteStyle>(w: &mut W) -> io::Result<()>
 pub fn send_gutter<W: WriteStyle>(w: &mut W, padding: usize) -> io::Result<()>
     ensures { Sends (W.sink w.old) (gutter padding) result (W.sink w.new) }
 {
-    match padding.checked_add(1) {
-        Some(count) => send_blanks(w, count),
-        None => {
-            send_blanks(w, padding)?;
-            send_space(w)
-        }
-    }
+    send_blank_run(w, padding as u128 + 1)
 }
 
 /// How many digits a number has in decimal; 0 has one.
@@ -138,7 +133,8 @@ pub fn send_locus<W: WriteStyle>(w: &mut W, at: &Locus) -> io::Result<()>
     send(w, b":")?;
     send_number(w, at.location.line_number)?;
     send(w, b":")?;
-    send_number(w, at.location.column_number)
+    send_number(w, at.location.column_number)?;
+    Ok(())
 }
 
 /// The beginning of each row under a line.

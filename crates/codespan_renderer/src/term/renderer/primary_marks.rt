@@ -57,10 +57,7 @@ impl PrimaryMarks {
     pub fn take_in(self, cell: Cell) -> bool
         ensures { result ≡ is_marked self cell }
     {
-        let before = match self.to.checked_sub(cell.place) {
-            Some(room) => cell.bytes <= room,
-            None => false,
-        };
+        let before = cell.place <= self.to && cell.bytes <= self.to - cell.place;
         match self.from {
             Some(start) => start <= cell.place || before,
             None => before,

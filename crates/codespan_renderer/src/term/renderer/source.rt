@@ -129,10 +129,11 @@ fn send_text<W: WriteStyle>(w: &mut W, look: Look<'_>, line: Line<'_, '_>) -> io
     ensures { Sends (W.sink w.old) (coloured_text (look_of_given look.entry) (line_of_given line.entry)) result (W.sink w.new) }
 {
     if is_plain(line) {
-        send(w, line.text.as_bytes())
+        send(w, line.text.as_bytes())?;
     } else {
-        send_coloured_text(w, look, line)
+        send_coloured_text(w, look, line)?;
     }
+    Ok(())
 }
 
 /// The end of a run of text of one style, and the mark of the next.
@@ -192,10 +193,10 @@ fn send_source_row<W: WriteStyle>(w: &mut W, look: Look<'_>, line: Line<'_, '_>)
 fn send_caret_rows<W: WriteStyle>(w: &mut W, look: Look<'_>, line: Line<'_, '_>) -> io::Result<()>
     ensures { Sends (W.sink w.old) (given_caret_rows look.entry line.entry) result (W.sink w.new) }
 {
-    if line.labels.is_empty() {
-        return Ok(());
+    if !line.labels.is_empty() {
+        send_caret_row(w, look, line)?;
     }
-    send_caret_row(w, look, line)
+    Ok(())
 }
 
 /// All rows of a line: its source, its carets, what hangs from them, and its underlines.

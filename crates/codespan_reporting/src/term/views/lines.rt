@@ -82,13 +82,14 @@ impl<'page, 'd, 'files, F: Files<'files>> FileLines<'page, 'd, 'files, F> {
         ensures draws { DrawsStep W.sink F.file F.refusal self.now (asked_by step.now) (step_of step.now) renderer.old result renderer.new }
     {
         match step {
-            Step::Shown { line, singles } => self.draw_line(renderer, marks, *line, *singles),
+            Step::Shown { line, singles } => self.draw_line(renderer, marks, *line, *singles)?,
             Step::Filled { index, number } => {
                 let line = self.find_line(*index, *number)?;
-                self.draw_line(renderer, marks, line, &[])
+                self.draw_line(renderer, marks, line, &[])?;
             }
-            Step::Break { next } => self.draw_break(renderer, marks, *next),
+            Step::Break { next } => self.draw_break(renderer, marks, *next)?,
         }
+        Ok(())
     }
 
     /// A line between two that are shown. `number` is its number, where that is known. Refuses as the lookup of its range does, and then,
@@ -129,8 +130,12 @@ impl<'page, 'd, 'files, F: Files<'files>> FileLines<'page, 'd, 'files, F> {
     {
         marks.refill(self.lanes, line, entries)?;
         let source = &self.text[line.start..line.end];
-        if !marks.have_places() {
-            return renderer.render_snippet_source(
+        if marks.have_places() {
+            marks
+                .cells
+                .refill(renderer, source, marks.singles.as_slice())?;
+            marks.cells.render(
+                renderer,
                 self.page.padding,
                 line.number,
                 source,
@@ -138,21 +143,19 @@ impl<'page, 'd, 'files, F: Files<'files>> FileLines<'page, 'd, 'files, F> {
                 marks.singles.as_slice(),
                 self.lanes.len(),
                 marks.multis.as_slice(),
-            );
+            )?;
+        } else {
+            renderer.render_snippet_source(
+                self.page.padding,
+                line.number,
+                source,
+                self.page.severity,
+                marks.singles.as_slice(),
+                self.lanes.len(),
+                marks.multis.as_slice(),
+            )?;
         }
-        marks
-            .cells
-            .refill(renderer, source, marks.singles.as_slice())?;
-        marks.cells.render(
-            renderer,
-            self.page.padding,
-            line.number,
-            source,
-            self.page.severity,
-            marks.singles.as_slice(),
-            self.lanes.len(),
-            marks.multis.as_slice(),
-        )
+        Ok(())
     }
 
     /// Draws a break before this line, with the marks of the file's lanes on it. Refuses with `OutOfMemory` before anything is written, and

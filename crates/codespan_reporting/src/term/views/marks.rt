@@ -57,13 +57,14 @@ impl<'d> LineMarks<'d> {
         fill_singles(&mut self.singles, entries)
     }
 
-    /// Whether one of them has a place inside the line: carets, or the caret at the end of an underline.
+    /// Whether several of them have places inside the line: carets, or the caret at the end of an underline.
     pub fn have_places(&self) -> bool {
-        !self.singles.is_empty()
-            || self
-                .multis
-                .iter()
-                .any(|multi| !matches!(multi.2, MultiLabel::Left))
+        let ends = self
+            .multis
+            .iter()
+            .filter(|multi| !matches!(multi.2, MultiLabel::Left))
+            .count();
+        self.singles.len().saturating_add(ends) > 1
     }
 }
 

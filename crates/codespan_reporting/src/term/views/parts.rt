@@ -30,7 +30,8 @@ pub fn draw_header<FileId, W: WriteStyle>(
         diagnostic.severity,
         diagnostic.code.as_deref(),
         diagnostic.message.as_str(),
-    )
+    )?;
+    Ok(())
 }
 
 /// The notes, with this room for line numbers before them, in characters. Refuses with `Io` alone, where the writer refuses.

@@ -68,10 +68,11 @@ impl<'diagnostic, 'config, FileId: Copy + Eq> RichDiagnostic<'diagnostic, 'confi
         ensures meaning { MeansLabels (config_of renderer.old) (view_config_of self.now) FileId.eq (F.file files.now) (diagnostic_of self.now) }
     {
         if self.diagnostic.labels.is_empty() {
-            draw_bare(self.diagnostic, renderer)
+            draw_bare(self.diagnostic, renderer)?;
         } else {
-            self.draw_labels(files, renderer)
+            self.draw_labels(files, renderer)?;
         }
+        Ok(())
     }
 
     /// The picture of a diagnostic with labels.
@@ -148,7 +149,8 @@ fn draw_closing<FileId, W: WriteStyle>(
     ensures io { IfErr result IsIo }
 {
     draw_notes(diagnostic, renderer, padding)?;
-    renderer.render_empty()
+    renderer.render_empty()?;
+    Ok(())
 }
 
 /// A diagnostic without labels: its header and its notes. It asks for nothing.

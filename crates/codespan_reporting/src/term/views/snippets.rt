@@ -29,7 +29,13 @@ fn draw_start<F, FileId, W: WriteStyle>(
     ensures io { IfErr result IsIo }
 {
     renderer.render_snippet_start(page.padding, &snippet.locus)?;
-    renderer.render_snippet_empty(page.padding, page.severity, snippet.file.lanes.len(), &[])
+    renderer.render_snippet_empty(
+        page.padding,
+        page.severity,
+        snippet.file.lanes.len(),
+        &[],
+    )?;
+    Ok(())
 }
 
 /// The row after a snippet, where something follows.
@@ -44,10 +50,14 @@ fn draw_end<F, FileId, W: WriteStyle>(
     ensures io { IfErr result IsIo }
 {
     if is_followed {
-        renderer.render_snippet_empty(page.padding, page.severity, snippet.file.lanes.len(), &[])
-    } else {
-        Ok(())
+        renderer.render_snippet_empty(
+            page.padding,
+            page.severity,
+            snippet.file.lanes.len(),
+            &[],
+        )?;
     }
+    Ok(())
 }
 
 /// Asks for the source of a file and draws its snippet, with a row after it where something follows.

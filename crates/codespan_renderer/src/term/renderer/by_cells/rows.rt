@@ -41,10 +41,10 @@ fn send_caret_rows<W: WriteStyle>(
     requires ordered { IsTrue (starts_in_order (all_labelled line.labels.now)) }
     ensures { Sends (W.sink w.old) (given_caret_rows look.entry line.entry) result (W.sink w.new) }
 {
-    if line.labels.is_empty() {
-        return Ok(());
+    if !line.labels.is_empty() {
+        send_caret_row(w, look, line, all)?;
     }
-    send_caret_row(w, look, line, all)
+    Ok(())
 }
 
 /// All rows of a line: its source, its carets, what hangs from them, and its underlines.

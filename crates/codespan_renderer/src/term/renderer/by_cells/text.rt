@@ -90,10 +90,11 @@ fn send_text<W: WriteStyle>(
     ensures { Sends (W.sink w.old) (coloured_text (look_of_given look.entry) (line_of_given line.entry)) result (W.sink w.new) }
 {
     if is_plain(line) {
-        send(w, line.text.as_bytes())
+        send(w, line.text.as_bytes())?;
     } else {
-        send_coloured_text(w, look, line, characters)
+        send_coloured_text(w, look, line, characters)?;
     }
+    Ok(())
 }
 
 /// A line of the source, of which these are the characters.

@@ -1,28 +1,11 @@
-use Rattle.std.proofs.Common.{arith, refl, ◌∙◌}
-use Rattle.std.proofs.lemmas.Result.{err_from_is_err_and}
-use Rattle.codespan_base.proofs.Loops.{StillToCome-start, StillToCome-more, StillToCome-refused, StillToCome-last}
-use Rattle.codespan_base.proofs.Repeats.{repeated-copies, repeated-front, repeated-next}
+use Rattle.std.proofs.Common.{◌∙◌}
+use Rattle.codespan_base.proofs.Chains.{refused}
+use Rattle.codespan_base.proofs.Repeats.{repeated-copies}
 use Rattle.codespan_base.proofs.term.config.sending.send_repeated.Goals as goal
 
-pub returns-then-count-le-FEW : goal.returns-then-count-le-FEW
-returns-then-count-le-FEW g c = rw (repeated-copies c.args.count c.args.c _ (c.as_bytes-glyph.ensures.value ∙ c.encode_utf8.ensures.value)) c.send_copies.ensures
+pub returns-in_err-send_copies : goal.returns-in_err-send_copies
+returns-in_err-send_copies g c =
+    rw (repeated-copies c.args.count c.args.c _ (c.as_bytes.ensures.value ∙ c.encode_utf8.ensures.value)) (refused _ _ _ _ _ c.from_residual.ensures.1 c.in_err-send_copies.ensures)
 
-pub loop-left-init : goal.loop-left-init
-loop-left-init g c = record { within = omega arith; sent = StillToCome-start _ _ _ refl }
-
-pub returns-in_err-send : goal.returns-in_err-send
-returns-in_err-send g c = let p = err_from_is_err_and c.from_residual.result c.from_residual.ensures.1 in
-    rw p.1 (StillToCome-refused _ _ _ _ _ _ _ c.loop-left.invariant.sent c.in_err-send.ensures
-    (repeated-next _ c.loop-left.left c.args.c _ c.fill.new.run (c.as_bytes-glyph.ensures.value ∙ c.encode_utf8.ensures.value) (omega arith) c.fill.ensures))
-
-pub loop-left-preserved : goal.loop-left-preserved
-loop-left-preserved g c = record {
-  within = omega arith;
-  sent = StillToCome-more _ _ _ _ _ _ _ c.loop-left.invariant.sent c.in_ok-send.ensures
-      (repeated-next _ c.loop-left.left c.args.c _ c.fill.new.run (c.as_bytes-glyph.ensures.value ∙ c.encode_utf8.ensures.value) (omega arith) c.fill.ensures);
-}
-
-pub returns : goal.returns
-returns g c =
-    let e = repeated-front _ c.loop-left.left c.args.c _ c.fill.new.run (c.as_bytes-glyph.ensures.value ∙ c.encode_utf8.ensures.value) (omega arith) c.fill.ensures in
-    StillToCome-last _ _ _ _ _ _ c.loop-left.invariant.sent (rw e at c.send-2.ensures)
+pub returns-in_ok-send_copies : goal.returns-in_ok-send_copies
+returns-in_ok-send_copies g c = rw (repeated-copies c.args.count c.args.c _ (c.as_bytes.ensures.value ∙ c.encode_utf8.ensures.value)) c.in_ok-send_copies.ensures

@@ -1,6 +1,6 @@
 use Rattle.std.proofs.Common.{◌<◌, length, arith}
 use Rattle.std.proofs.lemmas.Bool.Decides.{nat_tests}
-use Rattle.codespan_base.proofs.Chains.{came-then, stopped-then, stopped-before, refused, sends-last}
+use Rattle.codespan_base.proofs.Chains.{came-then, stopped-then, stopped-before, refused}
 use Rattle.codespan_renderer.proofs.RowWords.{bracketed-some}
 use Rattle.codespan_renderer.proofs.term.renderer.header.send_bracketed.Goals as goal
 
@@ -14,7 +14,13 @@ returns-in_err-send-in-Some-2 g c =
     let some : 0 < length c.in-Some.code.now = grind (arith, nat_tests) in
     rw (c.in-Some.is, bracketed-some _ some) (refused _ _ _ _ _ c.from_residual-in_err-send-in-Some-2.ensures.1 (stopped-before _ (stopped-then _ c.in_ok-send-in-Some.ensures (rw c.as_bytes.ensures.value at c.in_err-send-in-Some-2.ensures))))
 
-pub returns-in_ok-send-in-Some-2 : goal.returns-in_ok-send-in-Some-2
-returns-in_ok-send-in-Some-2 g c =
+pub returns-in_err-send-in-Some-3 : goal.returns-in_err-send-in-Some-3
+returns-in_err-send-in-Some-3 g c =
     let some : 0 < length c.in-Some.code.now = grind (arith, nat_tests) in
-    rw (c.in-Some.is, bracketed-some _ some) (sends-last _ _ _ _ _ (came-then _ _ _ c.in_ok-send-in-Some.ensures (rw c.as_bytes.ensures.value at c.in_ok-send-in-Some-2.ensures)) c.send-in-Some-2.ensures)
+    rw (c.in-Some.is, bracketed-some _ some) (refused _ _ _ _ _ c.from_residual-in_err-send-in-Some-3.ensures.1
+    (stopped-then _ (came-then _ _ _ c.in_ok-send-in-Some.ensures (rw c.as_bytes.ensures.value at c.in_ok-send-in-Some-2.ensures)) c.in_err-send-in-Some-3.ensures))
+
+pub returns-in_ok-send-in-Some-3 : goal.returns-in_ok-send-in-Some-3
+returns-in_ok-send-in-Some-3 g c =
+    let some : 0 < length c.in-Some.code.now = grind (arith, nat_tests) in
+    rw (c.in-Some.is, bracketed-some _ some) (came-then _ _ _ (came-then _ _ _ c.in_ok-send-in-Some.ensures (rw c.as_bytes.ensures.value at c.in_ok-send-in-Some-2.ensures)) c.in_ok-send-in-Some-3.ensures)

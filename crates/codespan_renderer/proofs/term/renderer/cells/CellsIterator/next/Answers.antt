@@ -2,14 +2,14 @@ use Rattle.std.proofs.Common.{rules, length, sym, ap, ◌∙◌, arith, refl, []
 use Rattle.std.specs.Str.Iter.{chars_rest}
 use Rattle.std.proofs.lemmas.Str.{IsUtf8-had, IsUtf8-past_char, drop_past_char, len_utf8_bounds}
 use Rattle.codespan_picture.specs.Cells.{placeholder}
-use Rattle.codespan_renderer.proofs.CellSteps.{cells_then-char, cells_then-end, bytes_left}
+use Rattle.codespan_renderer.proofs.CellSteps.{cells_then-char, cells_then-end, bytes_left, bytes-taken}
 use Rattle.codespan_renderer.proofs.term.renderer.cells.CellsIterator.next.Goals as goal
 
 pub invariant_of-self : goal.invariant_of-self
 invariant_of-self c =
     let step = c.in-Some.ensures.steps.0 in
     let whole = sym c.args.self.now.left ∙ step in
-    let bytes = c.len_utf8.ensures.value in
+    let bytes = bytes-taken c.as_str-left.result.now c.as_str.result.now _ _ c.in-Some.code c.as_str-left.ensures c.as_str.ensures step in
     let room = bytes_left c.args.self.now.text.now (chars_rest c.next.new.self) c.args.self.now.place c.in-Some.code whole in
     let some = len_utf8_bounds c.in-Some.code in
     let next = drop_past_char c.args.self.now.text.now (chars_rest c.next.new.self) c.args.self.now.place c.in-Some.code whole in
@@ -21,7 +21,8 @@ invariant_of-self c =
     }
 
 pub returns-in-Some-clause-steps : goal.returns-in-Some-clause-steps
-returns-in-Some-clause-steps c = cells_then-char _ _ _ _ _ _ _ _ _ (IsUtf8-had _ c.args.self.now.utf8) c.in-Some.ensures.steps.0 c.len_utf8.ensures.value c.width_at.ensures
+returns-in-Some-clause-steps c = cells_then-char _ _ _ _ _ _ _ _ _ (IsUtf8-had _ c.args.self.now.utf8) c.in-Some.ensures.steps.0
+    (bytes-taken c.as_str-left.result.now c.as_str.result.now _ _ c.in-Some.code c.as_str-left.ensures c.as_str.ensures c.in-Some.ensures.steps.0) c.width_at.ensures
 
 pub returns-in-Some-clause-goes : goal.returns-in-Some-clause-goes
 returns-in-Some-clause-goes c = let e = ap length (returns-in-Some-clause-steps c) in search rules

@@ -1,7 +1,7 @@
 use Rattle.std.proofs.Common.{◌≤◌}
 use Rattle.codespan_base.specs.Streams.{repeated}
 use Rattle.codespan_base.proofs.Loops.{StillToCome}
-use Rattle.codespan_base.proofs.term.config.sending.send_repeated.Given as goal
+use Rattle.codespan_base.proofs.term.config.sending.send_runs.Given as goal
 
 abbrev pub invariant-loop-left : goal.invariant-loop-left
 invariant-loop-left g l = record {
