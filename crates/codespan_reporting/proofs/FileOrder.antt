@@ -1,12 +1,18 @@
 -- Files in the order of their first label.
-use Rattle.std.proofs.Common.{◌≡◌, ℕ, zero, suc, ◌<◌, length, get_or, arith, Bool, true, false, not, ◌||◌, List, [], ◌∷◌, ◌++◌, refl, sym, ap, ◌∙◌}
+use Rattle.std.proofs.Common.{◌≡◌, ℕ, zero, suc, ◌<◌, length, get_or, arith, Bool, true, false, not, ◌||◌, List, [], ◌∷◌, ◌++◌, refl, sym, ap, ◌∙◌, true≢false}
 use Rattle.std.specs.Prelude.{filter, map, if◌then◌else◌}
 use Rattle.std.specs.Cmp.{IsEquivalence}
-use Rattle.std.specs.List.{list_any}
+use Rattle.std.specs.List.{AllByRecursion, list_any}
 use Rattle.std.proofs.lemmas.List.{append-nil, get_or-map, length-map, map-append}
 use Rattle.std.proofs.lemmas.List.Elements.{filter-append}
 use Rattle.codespan_base.specs.Labels.{first_seen}
 use Rattle.codespan_picture.specs.Snippets.{InFile, file_ids}
+use Rattle.codespan_reporting.specs.Inner.LabelledFiles.{with_file}
+
+-- neither of two is true
+pub or_parts : (b c : Bool) → (b || c) ≡ false → (b ≡ false) × (c ≡ false)
+or_parts true c h = absurd (true≢false h)
+or_parts false c h = (refl, h)
 
 module _ {Id : Type 0} (same : Id → Id → Bool) (o : IsEquivalence same) where
   -- the id is that of one of these
@@ -52,18 +58,8 @@ module _ {Id : Type 0} (same : Id → Id → Bool) (o : IsEquivalence same) wher
               (filter-append keeps seen (i ∷ []) ∙ ap (λ (t : Bool). filter keeps seen ++ (if t then i ∷ [] else [])) (within refl))
 
   -- the id of one more label, which is added unless it is there
-  pub file_ids-more : (ids new : List Id) (xs ys : List (InFile Id)) (x : InFile Id) (there : Bool) → ids ≡ file_ids same xs → there ≡ has ids x.id
-      → (there ≡ true → new ≡ ids) → (there ≡ false → new ≡ ids ++ x.id ∷ []) → ys ≡ xs ++ x ∷ [] → new ≡ file_ids same ys
-  file_ids-more ids new xs ys x there are is kept added more =
-      by there kept added ∙ ap (λ (b : Bool). if b then ids else ids ++ x.id ∷ []) is
-      ∙ ap (λ (js : List Id). if has js x.id then js else js ++ x.id ∷ []) are
-      ∙ sym (first_seen-more (map (λ (y : InFile Id). y.id) xs) x.id)
-      ∙ ap (first_seen same) (sym (map-append (λ (y : InFile Id). y.id) xs (x ∷ [])))
-      ∙ ap (file_ids same) (sym more)
-    where
-      by : (b : Bool) → (b ≡ true → new ≡ ids) → (b ≡ false → new ≡ ids ++ x.id ∷ []) → new ≡ (if b then ids else ids ++ x.id ∷ [])
-      by true kept added = kept refl
-      by false kept added = added refl
+  pub file_ids-more : (xs : List (InFile Id)) (x : InFile Id) → file_ids same (xs ++ x ∷ []) ≡ with_file same (file_ids same xs) x.id (file_ids same xs) x.id
+  file_ids-more xs x = ap (first_seen same) (map-append (λ (y : InFile Id). y.id) xs (x ∷ [])) ∙ first_seen-more (map (λ (y : InFile Id). y.id) xs) x.id
 
   -- an id that is there is among those that are seen first
   first_seen-has : (js : List Id) (i : Id) → has (first_seen same js) i ≡ has js i
@@ -92,3 +88,13 @@ module _ {Id : Type 0} (same : Id → Id → Bool) (o : IsEquivalence same) wher
       first_seen-has (map (λ (y : InFile Id). y.id) xs) (get_or xs k x).id
       ∙ ap (has (map (λ (y : InFile Id). y.id) xs)) (sym (get_or-map (λ (y : InFile Id). y.id) xs k x x.id h))
       ∙ has-one (map (λ (y : InFile Id). y.id) xs) k x.id (omega (arith, length-map xs (λ (y : InFile Id). y.id)))
+
+  -- no label is of a file that is not among those of all
+  pub none-of_file : (xs : List (InFile Id)) (id : Id) → has (file_ids same xs) id ≡ false → AllByRecursion (λ (x : InFile Id). same id x.id ≡ false) xs
+  none-of_file xs id none = by xs (sym (first_seen-has (map (λ (x : InFile Id). x.id) xs) id) ∙ none)
+    where
+      by : (ys : List (InFile Id)) → has (map (λ (y : InFile Id). y.id) ys) id ≡ false → AllByRecursion (λ (y : InFile Id). same id y.id ≡ false) ys
+      by [] h = tt
+      by (y ∷ ys) h =
+          let parts = or_parts (same y.id id) (has (map (λ (z : InFile Id). z.id) ys) id) h in
+          (o.symm id y.id ∙ parts.0, by ys parts.1)

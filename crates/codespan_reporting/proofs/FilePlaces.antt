@@ -1,12 +1,14 @@
 -- The place of a label's file among those of a diagnostic.
 use Rattle.std.proofs.Common.{◌≡◌, ℕ, zero, suc, ◌+◌, ◌<◌, Bool, true, false, not, ◌==◌, ◌||◌, ◌++◌, cond, List, [], ◌∷◌, length, get_or, map, filter, refl, sym, ◌∙◌, ap, subst, arith, true≢false, ⊎_elim}
+use Rattle.std.specs.Prelude.{if◌then◌else◌}
 use Rattle.std.specs.Cmp.{IsEquivalence, both_ways}
 use Rattle.std.specs.List.{AllByRecursion}
 use Rattle.std.proofs.lemmas.Bool.{cases_Bool, eqb-true, eq-eqb, ne_eqb}
 use Rattle.codespan_base.specs.Labels.{first_seen}
 use Rattle.codespan_picture.specs.Snippets.{InFile, file_ids}
+use Rattle.codespan_reporting.specs.Inner.LabelledFiles.{with_file}
 use Rattle.codespan_reporting.specs.Inner.PlacedLabels.{AreApart, IsIdAt, file_place}
-use Rattle.codespan_reporting.proofs.FileOrder.{has}
+use Rattle.codespan_reporting.proofs.FileOrder.{has, or_parts}
 use Rattle.codespan_laws.proofs.SortedLists.{all-weaker, all-filter, all-pass}
 
 module _ {Id : Type 0} (same : Id → Id → Bool) (o : IsEquivalence same) where
@@ -80,6 +82,12 @@ at-get [] f d h = absurd (omega arith)
 at-get (j ∷ js) zero d h = refl
 at-get (j ∷ js) (suc f) d h = at-get js f d (omega arith)
 
+-- those after these are at none of their places
+at-before : {Id : Type 0} (ids more : List Id) (f : ℕ) (id : Id) → f < length ids → IsIdAt (ids ++ more) f id → IsIdAt ids f id
+at-before [] more f id h a = absurd (omega (arith, h))
+at-before (j ∷ js) more zero id h a = a
+at-before (j ∷ js) more (suc f) id h a = at-before js more f id (omega (arith, h)) a
+
 -- ---- places as labels are gone over
 
 module _ {Id : Type 0} (same : Id → Id → Bool) (o : IsEquivalence same) where
@@ -93,23 +101,33 @@ module _ {Id : Type 0} (same : Id → Id → Bool) (o : IsEquivalence same) wher
   no-place (j ∷ js) i none =
       let parts = or_parts (same j i) (has same o js i) none in
       omega (arith, place-later same o j js i parts.0, no-place js i parts.1)
-    where
-      or_parts : (b c : Bool) → (b || c) ≡ false → (b ≡ false) × (c ≡ false)
-      or_parts true c h = absurd (true≢false h)
-      or_parts false c h = (refl, h)
 
   -- an id that is none of those in front has its place after them
   pub place-past : (before rest : List Id) (i : Id) → AllByRecursion (λ j. same j i ≡ false) before → file_place same (before ++ rest) i ≡ length before + file_place same rest i
   place-past [] rest i none = omega arith
   place-past (j ∷ js) rest i none = let later = place-later same o j (js ++ rest) i none.0 in let past = place-past js rest i none.1 in omega (arith, later, past)
 
-  -- one more id after these changes no place of one of them, nor that of the id itself
-  pub place-kept : (ids : List Id) (j i : Id) → (has same o ids i || same j i) ≡ true → file_place same (ids ++ j ∷ []) i ≡ file_place same ids i
-  place-kept [] j i there = place-here same o j [] i there
+  -- one more id after these changes no place of one of them
+  place-kept : (ids : List Id) (j i : Id) → has same o ids i ≡ true → file_place same (ids ++ j ∷ []) i ≡ file_place same ids i
+  place-kept [] j i there = absurd (true≢false (sym there))
   place-kept (k ∷ ks) j i there =
       ⊎_elim
       (λ (t : same k i ≡ true). place-here same o k (ks ++ j ∷ []) i t ∙ sym (place-here same o k ks i t))
-      (λ (f : same k i ≡ false). place-later same o k (ks ++ j ∷ []) i f
-      ∙ ap suc (place-kept ks j i (ap (λ b. (b || has same o ks i) || same j i) (sym f) ∙ there))
-      ∙ sym (place-later same o k ks i f))
+      (λ (f : same k i ≡ false). place-later same o k (ks ++ j ∷ []) i f ∙ ap suc (place-kept ks j i (sym (ap (λ b. b || has same o ks i) f) ∙ there)) ∙ sym (place-later same o k ks i f))
       (cases_Bool (same k i))
+
+  -- nor does one that comes after them where it is none of them
+  pub place-stays : (ids : List Id) (j i : Id) → has same o ids i ≡ true → file_place same (with_file same ids j ids j) i ≡ file_place same ids i
+  place-stays ids j i there = by (has same o ids j)
+    where
+      by : (b : Bool) → file_place same (if b then ids else ids ++ j ∷ []) i ≡ file_place same ids i
+      by true = refl
+      by false = place-kept ids j i there
+
+  -- it is at none of their places
+  pub at-stays : (ids : List Id) (j : Id) (f : ℕ) (id : Id) → f < length ids → IsIdAt (with_file same ids j ids j) f id → IsIdAt ids f id
+  at-stays ids j f id inside = by (has same o ids j)
+    where
+      by : (b : Bool) → IsIdAt (if b then ids else ids ++ j ∷ []) f id → IsIdAt ids f id
+      by true at = at
+      by false at = at-before ids (j ∷ []) f id inside at

@@ -1,73 +1,111 @@
--- The files of labels, and the place of each label's file, one label after another.
-use Rattle.std.proofs.Common.{◌≡◌, ℕ, ◌+◌, ◌<◌, ◌≤◌, Bool, true, false, ◌||◌, List, [], ◌∷◌, ◌++◌, length, get_or, take, drop, map, arith, refl, sym, ap, subst, ◌∙◌, append-nil}
+-- The files of labels, one label after another.
+use Rattle.std.proofs.Common.{◌≡◌, ◌≢◌, ℕ, ◌+◌, ◌<◌, ◌≤◌, Bool, true, false, List, [], ◌∷◌, ◌++◌, length, get_or, take, drop, map, arith, refl, sym, ap, subst, ◌∙◌, append-nil}
+use Rattle.std.specs.Prelude.{if◌then◌else◌}
 use Rattle.std.specs.Cmp.{IsEquivalence}
 use Rattle.std.specs.List.{AllByRecursion}
-use Rattle.std.proofs.lemmas.List.{get_or-map, length-map, length-take-le, map-append, take-append-drop, take_all, take_more}
+use Rattle.std.proofs.lemmas.List.{length-map, length-take-le, map-append, take-append-drop, take_all, take_more}
 use Rattle.std.proofs.lemmas.List.Elements.{recursion_from_All}
-use Rattle.codespan_base.specs.declared.diagnostic.Label.{Label}
-use Rattle.codespan_picture.specs.Picture.{label_of}
+use Rattle.codespan_base.specs.declared.term.config.Config.{Config}
+use Rattle.codespan_base.specs.FileModel.{FileModel}
 use Rattle.codespan_picture.specs.Snippets.{InFile, file_ids}
+use Rattle.codespan_reporting.specs.declared.term.views.entry.Entry.{Entry as GivenEntry}
 use Rattle.codespan_reporting.specs.declared.term.views.file_order.LabelledFile.{LabelledFile as GivenFile}
-use Rattle.codespan_reporting.specs.Inner.LabelledFiles.{ids_given}
-use Rattle.codespan_reporting.specs.Inner.PlacedLabels.{file_place, label_places}
-use Rattle.codespan_reporting.proofs.FileOrder.{file_ids-has, file_ids-more, has}
-use Rattle.codespan_reporting.proofs.FilePlaces.{place-here, place-kept, place-past}
+use Rattle.codespan_reporting.specs.Inner.Entries.{Entry, entries_of}
+use Rattle.codespan_reporting.specs.Inner.GivenEntries.{Adds, IsOfFiles, entry_of}
+use Rattle.codespan_reporting.specs.Inner.LabelledFiles.{ids_given, with_file}
+use Rattle.codespan_reporting.specs.Inner.PlacedLabels.{IsIdAt, entries_after, file_place, place_after}
+use Rattle.codespan_reporting.proofs.FileOrder.{file_ids-has, file_ids-more, has, none-of_file}
+use Rattle.codespan_reporting.proofs.FilePlaces.{at-stays, no-place, place-here, place-past, place-stays}
+use Rattle.codespan_reporting.proofs.LabelEntries.{all-of_file}
+use Rattle.codespan_reporting.proofs.LabelPlaces.{has-place}
 use Rattle.codespan_reporting.proofs.SheetDrawing.{drop-one}
-use Rattle.codespan_laws.proofs.SortedLists.{all-append}
+use Rattle.codespan_laws.proofs.SortedLists.{all-append, all-both, all-mapped, all-weaker}
 
--- the files of these labels, and the places of theirs among them
-pub record AreFilesOf {Id : Type 0} (same : Id → Id → Bool) (xs : List (InFile Id)) (ids : List Id) (places : List ℕ) : Type 0 where
-  pub ids_are : ids ≡ file_ids same xs
-  pub places_are : places ≡ label_places same ids xs
+-- ---- one more label's file
 
--- the place of a label's file
-pub label_place-at : {Id : Type 0} (same : Id → Id → Bool) (ids : List Id) (labels : List (Label Id)) (k d : ℕ) (label : Label Id) → k < length labels → label ≡ get_or labels k label
-    → get_or (label_places same ids (map label_of labels)) k d ≡ file_place same ids label.file_id
-label_place-at {Id} same ids labels k d label inside is =
-    let place : InFile Id → ℕ = λ x. file_place same ids x.id in
-    get_or-map place (map label_of labels) k (label_of label) d (omega (arith, inside, length-map labels label_of))
-    ∙ ap place (get_or-map label_of labels k label (label_of label) inside ∙ ap label_of (sym is))
+module _ {Id : Type 0} (same : Id → Id → Bool) (o : IsEquivalence same) (xs : List (InFile Id)) (x : InFile Id) where
+  -- the files of the labels
+  abbrev were : List Id
+  were = file_ids same xs
 
-module _ {Id : Type 0} (same : Id → Id → Bool) (o : IsEquivalence same) where
-  -- where the place of a label's file is
-  pub record IsFound (ids : List Id) (id : Id) (place : ℕ) (new : List Id) : Type 0 where
-    pub is : place ≡ file_place same ids id
-    pub kept : has same o ids id ≡ true → new ≡ ids
-    pub added : has same o ids id ≡ false → new ≡ ids ++ id ∷ []
+  -- those with the label's file
+  abbrev are : List Id
+  are = file_ids same (xs ++ x ∷ [])
 
-  module _ (xs : List (InFile Id)) (x : InFile Id) (ids new : List Id) (places now : List ℕ) (place : ℕ) (were : AreFilesOf same xs ids places) (found : IsFound ids x.id place new) where
-    -- the places of ids that are there stay
-    stays : (i : Id) → (has same o ids i || same x.id i) ≡ true → file_place same new i ≡ file_place same ids i
-    stays i there =
-        by (has same o ids x.id) found.kept found.added
-      where
-        by : (b : Bool) → (b ≡ true → new ≡ ids) → (b ≡ false → new ≡ ids ++ x.id ∷ []) → file_place same new i ≡ file_place same ids i
-        by true kept added = ap (λ (js : List Id). file_place same js i) (kept refl)
-        by false kept added = ap (λ (js : List Id). file_place same js i) (added refl) ∙ place-kept same o ids x.id i there
+  -- the files of labels have them
+  all-there : AllByRecursion (λ (y : InFile Id). has same o were y.id ≡ true) xs
+  all-there = recursion_from_All (λ (y : InFile Id). has same o were y.id ≡ true) xs (λ k d h. file_ids-has same o xs k d h)
 
-    -- so do those of the labels before
-    all-stay : (ys : List (InFile Id)) → AllByRecursion (λ (y : InFile Id). has same o ids y.id ≡ true) ys → label_places same new ys ≡ label_places same ids ys
-    all-stay [] h = refl
-    all-stay (y ∷ ys) h = λ i. stays y.id (ap (λ b. b || same x.id y.id) h.0) i ∷ all-stay ys h.1 i
+  -- the places of ids that are there stay
+  stays : (i : Id) → has same o were i ≡ true → file_place same are i ≡ file_place same were i
+  stays i there = ap (λ (js : List Id). file_place same js i) (file_ids-more same o xs x) ∙ place-stays same o were x.id i there
 
-    -- the files of labels have them
-    all-there : AllByRecursion (λ (y : InFile Id). has same o ids y.id ≡ true) xs
-    all-there =
-        subst (λ (js : List Id). AllByRecursion (λ (y : InFile Id). has same o js y.id ≡ true) xs) (sym were.ids_are)
-        (recursion_from_All (λ (y : InFile Id). has same o (file_ids same xs) y.id ≡ true) xs (λ k d h. file_ids-has same o xs k d h))
+  -- what is known of each file, where no label tells it of the label's
+  pub known-more : {A : Type 0} (h : Id → A) (d : A) (known now : List A) → (AllByRecursion (λ (y : InFile Id). same x.id y.id ≡ false) xs → h x.id ≡ d)
+      → known ≡ map h were → now ≡ with_file same were x.id known d → now ≡ map h are
+  known-more {A} h d known now new was is =
+      is ∙ ap (λ (ks : List A). with_file same were x.id ks d) was ∙ by (has same o were x.id) (λ none. new (none-of_file same o xs x.id none)) ∙ ap (map h) (sym (file_ids-more same o xs x))
+    where
+      by : (b : Bool) → (b ≡ false → h x.id ≡ d) → (if b then map h were else map h were ++ d ∷ []) ≡ map h (if b then were else were ++ x.id ∷ [])
+      by true told = refl
+      by false told = ap (λ v. map h were ++ v ∷ []) (sym (told refl)) ∙ sym (map-append h were (x.id ∷ []))
 
-    -- one more label
-    pub files-more : (more : List (InFile Id)) → more ≡ xs ++ x ∷ [] → now ≡ places ++ place ∷ [] → AreFilesOf same more new now
-    files-more more whole pushed = record {
-      ids_are = file_ids-more same o ids new xs more x (has same o ids x.id) were.ids_are refl found.kept found.added whole;
-      places_are = pushed
-          ∙ (λ i. (were.places_are ∙ sym (all-stay xs all-there)) i ++ (found.is ∙ sym (stays x.id (either (has same o ids x.id) (o.refl x.id)))) i ∷ [])
-          ∙ sym (map-append (λ (y : InFile Id). file_place same new y.id) xs (x ∷ [])) ∙ ap (label_places same new) (sym whole);
+  module _ (file : Id → FileModel) (config : Config) where
+    -- what labels of these files say stays
+    entries-stay : (before ys : List (InFile Id)) → AllByRecursion (λ (y : InFile Id). has same o were y.id ≡ true) ys
+        → entries_after same file config are before ys ≡ entries_after same file config were before ys
+    entries-stay before [] there = refl
+    entries-stay before (y ∷ ys) there = λ i.
+        entries_of config (file y.id) (record { file = stays y.id there.0 i; place = length before }) y.label ++ entries-stay (before ++ y ∷ []) ys there.1 i
+
+    -- it is said of these files
+    entries-inside : (before ys : List (InFile Id)) → AllByRecursion (λ (y : InFile Id). has same o were y.id ≡ true) ys
+        → AllByRecursion (λ (e : Entry). e.file < length were) (entries_after same file config were before ys)
+    entries-inside before [] there = tt
+    entries-inside before (y ∷ ys) there =
+        all-append (λ (e : Entry). e.file < length were) _ _
+        (all-weaker (λ (e : Entry). e.file ≡ file_place same were y.id) (λ e. e.file < length were) (λ e is. omega (arith, is, has-place same o were y.id there.0)) _
+        (all-of_file config (file y.id) (place_after same were before y) y.label))
+        (entries-inside (before ++ y ∷ []) ys there.1)
+
+    -- what the labels say was added, and their lines are those of their files
+    pub added-with_file : (items : List GivenEntry) → Adds (IsOfFiles file were) [] items (entries_after same file config were [] xs)
+        → Adds (IsOfFiles file are) [] items (entries_after same file config are [] xs)
+    added-with_file items adds = record {
+      more = adds.more;
+      whole = adds.whole;
+      say = adds.say ∙ sym (entries-stay [] xs all-there);
+      each =
+          all-weaker (λ (e : GivenEntry). IsOfFiles file were e × (e.file < length were)) (IsOfFiles file are)
+          (λ e h id at. h.0 id (at-stays same o were x.id e.file id h.1 (subst (λ (js : List Id). IsIdAt js e.file id) (file_ids-more same o xs x) at))) adds.more
+          (all-both (IsOfFiles file were) (λ e. e.file < length were) adds.more adds.each (all-mapped entry_of (λ (e : Entry). e.file < length were) adds.more
+          (subst (λ (es : List Entry). AllByRecursion (λ (e : Entry). e.file < length were) es) (sym adds.say) (entries-inside [] xs all-there))));
     }
-      where
-        either : (b : Bool) {c : Bool} → c ≡ true → (b || c) ≡ true
-        either true t = refl
-        either false t = t
+
+-- ---- a file that is added where it is none of the others
+
+module _ {Id : Type 0} (same : Id → Id → Bool) (o : IsEquivalence same) (files : List (GivenFile Id)) (id : Id) (place : ℕ) (is : place ≡ file_place same (ids_given files) id) where
+  -- how many ids these are
+  ids-length : length (ids_given files) ≡ length files
+  ids-length = length-map files (λ (f : GivenFile Id). f.id)
+
+  -- where the place is that after the files, one more is known of
+  pub file-added : place ≡ length files → {A : Type 0} (known : List A) (one : A) → known ++ one ∷ [] ≡ with_file same (ids_given files) id known one
+  file-added past known one =
+      by (has same o (ids_given files) id) (λ there. omega (arith, is, past, ids-length, has-place same o (ids_given files) id there))
+    where
+      by : (b : Bool) → (b ≡ true → ⊥) → known ++ one ∷ [] ≡ (if b then known else known ++ one ∷ [])
+      by true none = absurd (none refl)
+      by false none = refl
+
+  -- where it is one of the files', they are as they were
+  pub file-kept : place ≢ length files → {A : Type 0} (known : List A) (one : A) → known ≡ with_file same (ids_given files) id known one
+  file-kept inside known one =
+      by (has same o (ids_given files) id) (λ none. inside (is ∙ no-place same o (ids_given files) id none ∙ ids-length))
+    where
+      by : (b : Bool) → (b ≡ false → ⊥) → known ≡ (if b then known else known ++ one ∷ [])
+      by true there = refl
+      by false there = absurd (there refl)
 
 -- ---- a file looked for, one after another
 

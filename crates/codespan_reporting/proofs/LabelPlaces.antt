@@ -15,6 +15,7 @@ use Rattle.codespan_reporting.specs.Inner.LabelledFiles.{lanes_by}
 use Rattle.codespan_reporting.specs.Inner.Lanes.{Lane, file_lanes, lane_of, lanes_in}
 use Rattle.codespan_reporting.specs.Inner.PlacedLabels.{file_place, place_after, entries_after}
 use Rattle.codespan_picture.specs.Snippets.{InFile}
+use Rattle.codespan_laws.proofs.SortedLists.{filter-nothing}
 use Rattle.codespan_reporting.proofs.FileOrder.{has}
 use Rattle.codespan_reporting.proofs.FilePlaces.{Differ, place-here, place-later}
 
@@ -75,6 +76,11 @@ module _ {Id : Type 0} (same : Id → Id → Bool) (o : IsEquivalence same) wher
       file = one_file i j t k;
       labels = map (λ (x : InFile Id). x.label) (filter (λ (x : InFile Id). o.congr i j x.id t k) before);
     })
+
+    -- labels of other files have no lane in a file
+    pub lanes_in-none : (xs : List (InFile Id)) (id : Id) → AllByRecursion (λ (x : InFile Id). same id x.id ≡ false) xs → lanes_in same file xs id ≡ []
+    lanes_in-none xs id none =
+        ap (λ (own : List (InFile Id)). file_lanes (record { file = file id; labels = map (λ (x : InFile Id). x.label) own })) (filter-nothing (λ (x : InFile Id). same id x.id) xs none)
 
     -- the lanes with one more label
     pub lanes_in-more : (before : List (InFile Id)) (x : InFile Id) (id : Id)

@@ -1,7 +1,7 @@
--- Labels gone over one after another, with the files of all of them at hand.
+-- Labels gone over one after another, with the files of those up to this one at hand.
 use Rattle.std.proofs.Common.{◌≡◌, ℕ, ◌+◌, ◌<◌, Bool, true, List, [], ◌∷◌, ◌++◌, length, take, get_or, map, sym, ap, ◌∙◌, subst, arith}
 use Rattle.std.specs.Cmp.{IsEquivalence}
-use Rattle.std.proofs.lemmas.List.{get_or-map, length-map, map-append, take_more}
+use Rattle.std.proofs.lemmas.List.{get_or-map, get_or-take, length-map, length-take-le, map-append, take_more}
 use Rattle.codespan_base.specs.declared.diagnostic.Label.{Label}
 use Rattle.codespan_picture.specs.Picture.{label_of}
 use Rattle.codespan_picture.specs.Snippets.{InFile, file_ids}
@@ -14,9 +14,9 @@ use Rattle.codespan_reporting.proofs.LabelPlaces.{has-place}
 abbrev pub before : {Id : Type 0} → List (Label Id) → ℕ → List (InFile Id)
 before labels place = map label_of (take place labels)
 
--- the label is that at the place, and the ids are those of the files of all labels
+-- the label is that at the place, and the ids are those of the files of the labels up to it
 pub record IsLabelTurn {Id : Type 0} (same : Id → Id → Bool) (labels : List (Label Id)) (ids : List Id) (place : ℕ) (label : Label Id) : Type 0 where
-  pub are : ids ≡ file_ids same (map label_of labels)
+  pub are : ids ≡ file_ids same (before labels (place + 1))
   pub inside : place < length labels
   pub is : label ≡ get_or labels place label
 
@@ -29,10 +29,14 @@ module _ {Id : Type 0} (same : Id → Id → Bool) (o : IsEquivalence same) (lab
   -- the label's file is one of those
   pub has-file : has same o ids label.file_id ≡ true
   has-file =
+      let inside = turn.inside in
+      let long : length (take (place + 1) labels) ≡ place + 1 = length-take-le (place + 1) labels (omega (arith, inside)) in
+      let last : get_or (before labels (place + 1)) place (label_of label) ≡ label_of label =
+      get_or-map label_of (take (place + 1) labels) place label (label_of label) (omega (arith, long))
+      ∙ ap label_of (get_or-take (place + 1) labels place label (omega arith) ∙ sym turn.is) in
       ap (λ (js : List Id). has same o js label.file_id) turn.are
-      ∙ ap (λ (l : Label Id). has same o (file_ids same (map label_of labels)) l.file_id) turn.is
-      ∙ ap (λ (x : InFile Id). has same o (file_ids same (map label_of labels)) x.id) (sym (get_or-map label_of labels place label (label_of label) turn.inside))
-      ∙ file_ids-has same o (map label_of labels) place (label_of label) (let inside = turn.inside in omega (arith, inside, length-map labels label_of))
+      ∙ ap (λ (x : InFile Id). has same o (file_ids same (before labels (place + 1))) x.id) (sym last)
+      ∙ file_ids-has same o (before labels (place + 1)) place (label_of label) (omega (arith, long, length-map (take (place + 1) labels) label_of))
 
   -- its place is below their number
   pub file-inside : file_place same ids label.file_id < length ids
@@ -40,4 +44,4 @@ module _ {Id : Type 0} (same : Id → Id → Bool) (o : IsEquivalence same) (lab
 
   -- no two of the ids are the same
   pub ids-differ : Differ same o ids
-  ids-differ = subst (Differ same o) (sym turn.are) (first_seen-differ same o (map (λ (x : InFile Id). x.id) (map label_of labels)))
+  ids-differ = subst (Differ same o) (sym turn.are) (first_seen-differ same o (map (λ (x : InFile Id). x.id) (before labels (place + 1))))

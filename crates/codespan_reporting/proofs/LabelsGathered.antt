@@ -17,22 +17,23 @@ use Rattle.codespan_reporting.specs.declared.term.views.loci.FileStart.{FileStar
 use Rattle.codespan_reporting.specs.declared.term.views.gather.LabelPlace.{LabelPlace}
 use Rattle.codespan_reporting.specs.Inner.Entries.{Entry, entries_of}
 use Rattle.codespan_reporting.specs.Inner.GivenEntries.{Adds, AddsOf, IsLineOf, IsOfFiles, entry_of}
-use Rattle.codespan_reporting.specs.Inner.LabelledFiles.{IsTold, all_lanes_given, ids_given, lanes_told, start_told, starts_given}
+use Rattle.codespan_reporting.specs.Inner.LabelledFiles.{IsTold, all_lanes_given, ids_given, lanes_told, start_told, starts_given, with_file}
 use Rattle.codespan_reporting.specs.Inner.Lanes.{Lane, lanes_in}
 use Rattle.codespan_reporting.specs.Inner.Loci.{file_start, no_start}
 use Rattle.codespan_picture.specs.Lookups.{Refusals, asked_of, first_refusal, label_asked, label_lookups, of_label}
 use Rattle.codespan_picture.specs.Picture.{label_of}
-use Rattle.codespan_reporting.specs.Inner.PlacedLabels.{IsIdAt, entries_after, file_place, label_places, place_after}
+use Rattle.codespan_reporting.specs.Inner.PlacedLabels.{IsIdAt, entries_after, file_place, place_after}
 use Rattle.codespan_reporting.specs.Inner.SpannedDigits.{all_digits, label_digits}
 use Rattle.codespan_picture.specs.Snippets.{InFile, file_ids}
 use Rattle.codespan_laws.proofs.Greatest.{greatest-append}
 use Rattle.codespan_laws.proofs.SortedLists.{all-both, all-mapped, all-weaker}
+use Rattle.codespan_reporting.proofs.FileOrder.{file_ids-more}
 use Rattle.codespan_reporting.proofs.FilePlaces.{file_place-at}
 use Rattle.codespan_reporting.proofs.Gathering.{Adds-as, Adds-both}
 use Rattle.codespan_reporting.proofs.LabelEntries.{all-of_file}
-use Rattle.codespan_reporting.proofs.LabelPlaces.{entries_after-more, kept-at, label_lanes, lanes_in-alike, lanes_in-more, set-at}
-use Rattle.codespan_reporting.proofs.LabelFiles.{label_place-at}
-use Rattle.codespan_reporting.proofs.LocusStarts.{starts-set}
+use Rattle.codespan_reporting.proofs.LabelPlaces.{entries_after-more, kept-at, label_lanes, lanes_in-alike, lanes_in-more, lanes_in-none, set-at}
+use Rattle.codespan_reporting.proofs.LabelFiles.{added-with_file, known-more}
+use Rattle.codespan_reporting.proofs.LocusStarts.{start-unknown, starts-set}
 use Rattle.codespan_reporting.proofs.LabelTurns.{IsLabelTurn, before, before-more, file-inside, has-file, ids-differ}
 use Rattle.codespan_reporting.proofs.Refusals.{first_refusal-none, first_refusal-some}
 
@@ -47,15 +48,23 @@ pub record AreGathered {Id : Type 0} (same : Id → Id → Bool) (file : Id → 
   pub answered : first_refusal refusal (label_lookups config file refusal done) ≡ None
 
 module _ {Id : Type 0} (same : Id → Id → Bool) (file : Id → FileModel) (o : IsEquivalence same) (one_file : (i j : Id) → same i j ≡ true → file i ≡ file j)
-    (refusal : Refusals Id) (config : Config) (labels : List (Label Id)) (ids : List Id) (are : ids ≡ file_ids same (map label_of labels)) where
+    (refusal : Refusals Id) (config : Config) (labels : List (Label Id)) where
   -- the labels before this place are done with
   abbrev Are : ℕ → List (GivenFile Id) → FoundLines → Type 0
-  Are place = AreGathered same file refusal config ids (before labels place)
+  Are place = AreGathered same file refusal config (file_ids same (before labels place)) (before labels place)
+
+  -- so they are, and the file of the label at this place is there too
+  abbrev AreWithFile : ℕ → List (GivenFile Id) → FoundLines → Type 0
+  AreWithFile place = AreGathered same file refusal config (file_ids same (before labels (place + 1))) (before labels place)
 
   module _ (place : ℕ) (label : Label Id) (inside : place < length labels) (is : label ≡ get_or labels place label) where
+    -- the files of the labels up to this one
+    abbrev ids : List Id
+    ids = file_ids same (before labels (place + 1))
+
     -- it is the label's turn
     abbrev turn : IsLabelTurn same labels ids place label
-    turn = record { are = are; inside = inside; is = is }
+    turn = record { are = refl; inside = inside; is = is }
 
     -- the labels before the next place
     one_more : before labels (place + 1) ≡ before labels place ++ label_of label ∷ []
@@ -66,7 +75,7 @@ module _ {Id : Type 0} (same : Id → Id → Bool) (file : Id → FileModel) (o 
     before-length = length-map (take place labels) label_of ∙ length-take-le place labels (omega arith)
 
     -- the lanes that are kept at its file's place are those of its file
-    lanes-kept : (files : List (GivenFile Id)) (found : FoundLines) → Are place files found
+    lanes-kept : (files : List (GivenFile Id)) (found : FoundLines) → AreWithFile place files found
         → get_or (all_lanes_given files) (file_place same ids label.file_id) [] ≡ lanes_in same file (before labels place) label.file_id
     lanes-kept files found g =
         ap (λ (all : List (List Lane)). get_or all (file_place same ids label.file_id) []) g.lanes_are
@@ -75,10 +84,8 @@ module _ {Id : Type 0} (same : Id → Id → Bool) (file : Id → FileModel) (o 
     -- an entry of the label's file is one of the files with these ids
     of_files : (e : GivenEntry) → IsLineOf (file label.file_id) e.line → e.file ≡ file_place same ids label.file_id → IsOfFiles file ids e
     of_files e is_line own id there =
-        let at : IsIdAt (file_ids same (map label_of labels)) (file_place same (file_ids same (map label_of labels)) label.file_id) id =
-        subst (λ (js : List Id). IsIdAt js (file_place same js label.file_id) id) are (subst (λ k. IsIdAt ids k id) own there) in
         let alike : same id label.file_id ≡ true =
-        sym (file_place-at same o (map label_of labels) _ id at label.file_id) ∙ eq-eqb _ _ refl in
+        sym (file_place-at same o (before labels (place + 1)) _ id (subst (λ k. IsIdAt ids k id) own there) label.file_id) ∙ eq-eqb _ _ refl in
         subst (λ (f : FileModel). IsLineOf f e.line) (sym (one_file id label.file_id alike)) is_line
 
     -- where the label is
@@ -90,7 +97,7 @@ module _ {Id : Type 0} (same : Id → Id → Bool) (file : Id → FileModel) (o 
     here-is = λ i. record { file = file_place same ids label.file_id; place = sym before-length i }
 
     -- what the label says was added
-    added-more : (files : List (GivenFile Id)) (found more : FoundLines) → Are place files found
+    added-more : (files : List (GivenFile Id)) (found more : FoundLines) → AreWithFile place files found
         → AddsOf (file label.file_id) found.entries.items more.entries.items (entries_of config (file label.file_id) here (label_of label).label)
         → Adds (IsOfFiles file ids) [] more.entries.items (entries_after same file config ids [] (before labels (place + 1)))
     added-more files found more g adds =
@@ -114,7 +121,7 @@ module _ {Id : Type 0} (same : Id → Id → Bool) (file : Id → FileModel) (o 
         (Adds-both (IsOfFiles file ids) [] _ _ _ _ g.added widened)
 
     -- the lines that it spans have room
-    counted-more : (files : List (GivenFile Id)) (found more : FoundLines) → Are place files found
+    counted-more : (files : List (GivenFile Id)) (found more : FoundLines) → AreWithFile place files found
         → more.padding ≡ fold max found.padding (label_digits (file label.file_id) (label_of label).label) → more.padding ≡ fold max 0 (all_digits file (before labels (place + 1)))
     counted-more files found more g counts =
         let digits : InFile Id → List ℕ = λ x. label_digits (file x.id) x.label in
@@ -130,7 +137,7 @@ module _ {Id : Type 0} (same : Id → Id → Bool) (file : Id → FileModel) (o 
     lanes-more j = ap (λ xs. lanes_in same file xs j) one_more ∙ lanes_in-more same o file (before labels place) (label_of label) j
 
     -- the label's file has its lane too, and no other file's lanes change
-    lanes-next : (files next : List (GivenFile Id)) (found : FoundLines) → Are place files found
+    lanes-next : (files next : List (GivenFile Id)) (found : FoundLines) → AreWithFile place files found
         → all_lanes_given next ≡ lanes_told (all_lanes_given files) (file_place same ids label.file_id) (label_lanes (file label.file_id) (label_of label).label)
         → all_lanes_given next ≡ map (lanes_in same file (before labels (place + 1))) ids
     lanes-next files next found g changed =
@@ -144,19 +151,40 @@ module _ {Id : Type 0} (same : Id → Id → Bool) (file : Id → FileModel) (o 
         ∙ ap (λ (b : Bool). lanes_in same file (before labels place) j ++ (if b then label_lanes (file j) (label_of label).label else [])) f ∙ append-nil _)
         ids (ids-differ same o labels ids place label turn) (has-file same o labels ids place label turn)
 
-    -- the place of the label's file that was looked up
-    pub place-found : (places : List ℕ) (at : ℕ) → places ≡ label_places same ids (map label_of labels) → at ≡ get_or places place at → at ≡ file_place same ids label.file_id
-    place-found places at made found = found ∙ ap (λ ns. get_or ns place at) made ∙ label_place-at same ids labels place at label inside is
+    -- the label's file was placed: it is one of those of the labels before, or after them
+    pub file-placed : (files now : List (GivenFile Id)) (found : FoundLines) → Are place files found
+        → ids_given now ≡ with_file same (ids_given files) label.file_id (ids_given files) label.file_id
+        → starts_given now ≡ with_file same (ids_given files) label.file_id (starts_given files) no_start
+        → all_lanes_given now ≡ with_file same (ids_given files) label.file_id (all_lanes_given files) []
+        → AreWithFile place now found
+    file-placed files now found g named started laned =
+        let xs = before labels place in
+        let x = label_of label in
+        subst (λ ys. AreGathered same file refusal config (file_ids same ys) xs now found) (sym one_more) (record {
+          ids_are = named ∙ ap (λ (js : List Id). with_file same js label.file_id js label.file_id) g.ids_are ∙ sym (file_ids-more same o xs x);
+          starts_are = known-more same o xs x (file_start same xs) no_start (starts_given files) (starts_given now) (start-unknown same xs label.file_id) g.starts_are
+              (started ∙ ap (λ (js : List Id). with_file same js label.file_id (starts_given files) no_start) g.ids_are);
+          lanes_are = known-more same o xs x (lanes_in same file xs) [] (all_lanes_given files) (all_lanes_given now) (lanes_in-none same o file xs label.file_id) g.lanes_are
+              (laned ∙ ap (λ (js : List Id). with_file same js label.file_id (all_lanes_given files) []) g.ids_are);
+          added = added-with_file same o xs x file config found.entries.items g.added;
+          counted = g.counted;
+          answered = g.answered;
+        })
 
-    -- it is below the number of the files
-    pub place-inside : (files : List (GivenFile Id)) (found : FoundLines) (at : ℕ) → Are place files found → at ≡ file_place same ids label.file_id → at < length files
+    -- the place among the files is that among their ids
+    place-found : (files : List (GivenFile Id)) (found : FoundLines) (at : ℕ) → AreWithFile place files found → at ≡ file_place same (ids_given files) label.file_id
+        → at ≡ file_place same ids label.file_id
+    place-found files found at g here = here ∙ ap (λ (js : List Id). file_place same js label.file_id) g.ids_are
+
+    -- it is below their number
+    pub place-inside : (files : List (GivenFile Id)) (found : FoundLines) (at : ℕ) → AreWithFile place files found → at ≡ file_place same (ids_given files) label.file_id → at < length files
     place-inside files found at g here =
         let low = file-inside same o labels ids place label turn in
         let long : length files ≡ length ids = sym (length-map files _) ∙ ap length g.ids_are in
-        omega (arith, low, here, long)
+        omega (arith, low, place-found files found at g here, long)
 
     -- one more label, whose file is at this place
-    pub gathered-more : (at : ℕ) → at ≡ file_place same ids label.file_id → (files next : List (GivenFile Id)) (found more : FoundLines) → Are place files found
+    pub gathered-more : (at : ℕ) (files next : List (GivenFile Id)) (found more : FoundLines) → AreWithFile place files found → at ≡ file_place same (ids_given files) label.file_id
         → AddsOf (file label.file_id) found.entries.items more.entries.items (entries_of config (file label.file_id) (record { file = at; place = place }) (label_of label).label)
         → more.padding ≡ fold max found.padding (label_digits (file label.file_id) (label_of label).label)
         → ids_given next ≡ ids_given files
@@ -164,19 +192,21 @@ module _ {Id : Type 0} (same : Id → Id → Bool) (file : Id → FileModel) (o 
         → all_lanes_given next ≡ lanes_told (all_lanes_given files) at (label_lanes (file label.file_id) (label_of label).label)
         → first_refusal refusal (asked_of label.file_id (of_label config (file label.file_id) (refusal label.file_id) (label_of label).label)) ≡ None
         → Are (place + 1) next more
-    gathered-more at is_at files next found more g adds counts kept started laned none = record {
-      ids_are = kept ∙ g.ids_are;
-      starts_are = starts-set same o labels ids place label turn (starts_given files) g.starts_are no_start (starts_given next) (started ∙ ap (λ k. start_told (starts_given files) k (label_of label).label) is_at);
-      lanes_are = lanes-next files next found g (laned ∙ ap (λ k. lanes_told (all_lanes_given files) k (label_lanes (file label.file_id) (label_of label).label)) is_at);
-      added = added-more files found more g
-          (subst (λ k. AddsOf (file label.file_id) found.entries.items more.entries.items (entries_of config (file label.file_id) (record { file = k; place = place }) (label_of label).label)) is_at adds);
-      counted = counted-more files found more g counts;
-      answered =
-          ap (λ xs. first_refusal refusal (label_lookups config file refusal xs)) one_more
-          ∙ ap (first_refusal refusal) (flat_map-append (label_asked config file refusal) (before labels place) (label_of label ∷ []))
-          ∙ first_refusal-none refusal (label_lookups config file refusal (before labels place)) _ g.answered
-          ∙ ap (first_refusal refusal) (append-nil (label_asked config file refusal (label_of label))) ∙ none;
-    }
+    gathered-more at files next found more g there adds counts kept started laned none =
+        let is_at = place-found files found at g there in
+        record {
+          ids_are = kept ∙ g.ids_are;
+          starts_are = starts-set same o labels ids place label turn (starts_given files) g.starts_are no_start (starts_given next) (started ∙ ap (λ k. start_told (starts_given files) k (label_of label).label) is_at);
+          lanes_are = lanes-next files next found g (laned ∙ ap (λ k. lanes_told (all_lanes_given files) k (label_lanes (file label.file_id) (label_of label).label)) is_at);
+          added = added-more files found more g
+              (subst (λ k. AddsOf (file label.file_id) found.entries.items more.entries.items (entries_of config (file label.file_id) (record { file = k; place = place }) (label_of label).label)) is_at adds);
+          counted = counted-more files found more g counts;
+          answered =
+              ap (λ xs. first_refusal refusal (label_lookups config file refusal xs)) one_more
+              ∙ ap (first_refusal refusal) (flat_map-append (label_asked config file refusal) (before labels place) (label_of label ∷ []))
+              ∙ first_refusal-none refusal (label_lookups config file refusal (before labels place)) _ g.answered
+              ∙ ap (first_refusal refusal) (append-nil (label_asked config file refusal (label_of label))) ∙ none;
+        }
 
     -- a label whose lookups are refused
     pub gathered-refused : (files : List (GivenFile Id)) (found : FoundLines) (e : Error) → Are place files found
@@ -195,22 +225,11 @@ module _ {Id : Type 0} (same : Id → Id → Bool) (file : Id → FileModel) (o 
         ∙ first_refusal-none refusal (label_lookups config file refusal (before labels place)) _ g.answered
         ∙ ap (first_refusal refusal) (append-nil (label_asked config file refusal (label_of label))) ∙ some)
 
-  -- before the first label
-  pub gathered-none : (files : List (GivenFile Id)) (found : FoundLines) → ids_given files ≡ ids → starts_given files ≡ map (λ _. no_start) (ids_given files)
-      → all_lanes_given files ≡ map (λ _. []) (ids_given files) → found.entries.items ≡ [] → found.padding ≡ 0 → Are 0 files found
-  gathered-none files found named unknown bare no_entry no_room = record {
-    ids_are = named;
-    starts_are = unknown ∙ ap (map (λ _. no_start)) named;
-    lanes_are = bare ∙ ap (map (λ _. [])) named;
-    added = record { more = []; whole = no_entry; say = refl; each = tt };
-    counted = no_room;
-    answered = refl;
-  }
-
   -- after the last one
   pub gathered-all : (place : ℕ) (files : List (GivenFile Id)) (found : FoundLines) → length labels ≤ place → Are place files found
-      → AreGathered same file refusal config ids (map label_of labels) files found
-  gathered-all place files found past g = subst (λ xs. AreGathered same file refusal config ids (map label_of xs) files found) (take_all place labels past) g
+      → AreGathered same file refusal config (file_ids same (map label_of labels)) (map label_of labels) files found
+  gathered-all place files found past g =
+      subst (λ (ls : List (Label Id)). AreGathered same file refusal config (file_ids same (map label_of ls)) (map label_of ls) files found) (take_all place labels past) g
 
 -- each file has what the labels tell of it
 pub each-told : {Id : Type 0} (same : Id → Id → Bool) (file : Id → FileModel) (xs : List (InFile Id)) (files : List (GivenFile Id))

@@ -2,6 +2,7 @@
 use Rattle.std.proofs.Common.{◌≡◌, ℕ, ◌+◌, Bool, true, false, cond, not, ◌&&◌, ◌||◌, List, [], ◌∷◌, ◌++◌, get_or, set, map, filter, Option, Some, None, refl, sym, ap, ◌∙◌, append-nil}
 use Rattle.std.specs.Prelude.{IfSome, string_bytes, min, unwrap_or, if◌then◌else◌}
 use Rattle.std.specs.Cmp.{IsEquivalence}
+use Rattle.std.specs.List.{AllByRecursion}
 use Rattle.std.proofs.lemmas.List.{map-append}
 use Rattle.std.proofs.lemmas.List.Elements.{filter-append}
 use Rattle.std.proofs.lemmas.List.Sums.{fold-append}
@@ -15,8 +16,9 @@ use Rattle.codespan_picture.specs.Picture.{label_of}
 use Rattle.codespan_picture.specs.Placed.{IsPlaceIn}
 use Rattle.codespan_picture.specs.Snippets.{InFile, if_any, labelled_file, least, locus_start}
 use Rattle.codespan_reporting.specs.declared.term.views.loci.FileStart.{FileStart}
-use Rattle.codespan_reporting.specs.Inner.Loci.{file_start, is_asked_label, least_if_any, least_with, start_byte, start_with, label_starts}
+use Rattle.codespan_reporting.specs.Inner.Loci.{file_start, is_asked_label, least_if_any, least_with, no_start, start_byte, start_with, label_starts}
 use Rattle.codespan_reporting.specs.Inner.PlacedLabels.{file_place}
+use Rattle.codespan_laws.proofs.SortedLists.{all-weaker, filter-nothing}
 use Rattle.codespan_reporting.proofs.LabelPlaces.{kept-at, set-at}
 use Rattle.codespan_reporting.proofs.LabelTurns.{IsLabelTurn, before, before-more, has-file, ids-differ}
 
@@ -142,6 +144,14 @@ module _ {Id : Type 0} (same : Id → Id → Bool) (xs : List (InFile Id)) (x : 
       by : (b : Bool) → is_primary x.label ≡ b → least_if_any (label_starts same id true (xs ++ x ∷ [])) ≡ (if b then Some (least_with (least_if_any primary) x.label.start) else least_if_any primary)
       by true is = ap least_if_any (asked true ∙ ap (λ (c : Bool). primary ++ own_start c) is) ∙ least-more primary x.label.start
       by false is = ap least_if_any (asked true ∙ ap (λ (c : Bool). primary ++ own_start c) is ∙ append-nil primary)
+
+-- labels of other files tell nothing
+pub start-unknown : {Id : Type 0} (same : Id → Id → Bool) (xs : List (InFile Id)) (id : Id) → AllByRecursion (λ (x : InFile Id). same id x.id ≡ false) xs → file_start same xs id ≡ no_start
+start-unknown {Id} same xs id none = λ i. record { primary = least_if_any (starts true i); any = least_if_any (starts false i) }
+  where
+    starts : (only : Bool) → label_starts same id only xs ≡ []
+    starts only = ap (map (λ (x : InFile Id). x.label.start)) (filter-nothing (is_asked_label same id only) xs
+        (all-weaker (λ (x : InFile Id). same id x.id ≡ false) (λ x. is_asked_label same id only x ≡ false) (λ x f. ap (λ (b : Bool). b && (not only || is_primary x.label)) f) xs none))
 
 -- equal ids have one start
 start-alike : {Id : Type 0} (same : Id → Id → Bool) (o : IsEquivalence same) (xs : List (InFile Id)) (i j : Id) → same i j ≡ true → file_start same xs i ≡ file_start same xs j

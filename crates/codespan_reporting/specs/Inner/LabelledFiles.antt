@@ -1,5 +1,6 @@
 -- The files of a picture, as a view holds them with what their labels tell.
 use Rattle.std.specs.Prelude.{◌≡◌, ◌==◌, ℕ, Bool, List, [], ◌∷◌, ◌++◌, if◌then◌else◌, map, slice_index_or, slice_set}
+use Rattle.std.specs.List.{list_any}
 use Rattle.codespan_base.specs.FileModel.{FileModel}
 use Rattle.codespan_base.specs.Labels.{Labelled}
 use Rattle.codespan_picture.specs.Snippets.{InFile}
@@ -27,6 +28,12 @@ all_lanes_given {Id} files = map (λ (f : GivenFile Id). lanes_given f.lanes.ite
 pub record IsTold {Id : Type 0} (same : Id → Id → Bool) (file : Id → FileModel) (xs : List (InFile Id)) (f : GivenFile Id) : Type 0 where
   pub start_is : f.start ≡ file_start same xs f.id
   pub lanes_are : lanes_given f.lanes.items ≡ lanes_in same file xs f.id
+
+-- ---- one file more
+
+-- what is known of the files of these ids, and of one of this id, which comes after them where it is none of them
+abbrev pub with_file : {Id A : Type 0} → (Id → Id → Bool) → List Id → Id → List A → A → List A
+with_file same ids id known one = if list_any (λ j. same j id) ids then known else known ++ one ∷ []
 
 -- ---- one label more
 

@@ -1,5 +1,5 @@
 -- The labels of a diagnostic among each other: their files, their places and their lanes.
-use Rattle.std.specs.Prelude.{◌≡◌, ℕ, zero, suc, Bool, false, List, [], ◌∷◌, ◌++◌, length, map}
+use Rattle.std.specs.Prelude.{◌≡◌, ℕ, zero, suc, Bool, false, List, [], ◌∷◌, ◌++◌, length}
 use Rattle.std.specs.List.{AllByRecursion, position_or_len}
 use Rattle.codespan_base.specs.declared.term.config.Config.{Config}
 use Rattle.codespan_base.specs.FileModel.{FileModel}
@@ -17,10 +17,6 @@ module _ {Id : Type 0} (same : Id → Id → Bool) where
   -- the place of an id among these
   abbrev pub file_place : List Id → Id → ℕ
   file_place ids id = position_or_len (λ j. same j id) ids
-
-  -- the place of each label's file
-  abbrev pub label_places : List Id → List (InFile Id) → List ℕ
-  label_places ids xs = map (λ (x : InFile Id). file_place ids x.id) xs
 
   -- no two of these ids are the same
   abbrev pub AreApart : List Id → Type 0

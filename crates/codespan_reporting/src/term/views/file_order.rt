@@ -1,12 +1,11 @@
 //! The files of labels, in the order of their first label.
 
-ghost use Rattle.std.specs.Prelude.{◌≡◌, ◌<◌, [], ◌∷◌, ◌++◌, IfOk, OnOk, OnErr, IsErrOf, length, map};
+ghost use Rattle.std.specs.Prelude.{◌≡◌, ◌<◌, [], ◌∷◌, ◌++◌, IfOk, OnOk, OnErr, IsErrOf, length};
 ghost use Rattle.codespan_picture.specs.Picture.{label_of};
-ghost use Rattle.codespan_reporting.specs.Inner.LabelledFiles.{all_lanes_given, ids_given, lanes_by, lanes_told, start_told, starts_given};
+ghost use Rattle.codespan_reporting.specs.Inner.LabelledFiles.{all_lanes_given, ids_given, lanes_by, lanes_told, start_told, starts_given, with_file};
 ghost use Rattle.codespan_reporting.specs.Inner.Lanes.{lanes_given};
 ghost use Rattle.codespan_reporting.specs.Inner.Loci.{no_start, start_with};
-ghost use Rattle.codespan_picture.specs.Snippets.{file_ids};
-ghost use Rattle.codespan_reporting.specs.Inner.PlacedLabels.{AreApart, file_place, label_places};
+ghost use Rattle.codespan_reporting.specs.Inner.PlacedLabels.{AreApart, file_place};
 
 use crate::term::views::label_lines::LabelLines;
 use crate::term::views::lanes::Lane;
@@ -59,39 +58,26 @@ pub fn tell_file<'d, FileId>(
     Ok(())
 }
 
-/// The files of labels.
-#[derive(Drop)]
-pub struct LabelFiles<'d, FileId> {
-    /// Each file, in the order of the files' first labels. No label has told anything yet.
-    pub files: Vec<LabelledFile<'d, FileId>>,
-    /// For each label the place of its file among these, counted from 0.
-    pub places: Vec<usize>,
-}
-
-/// The files of labels, and where each label's file is among them. Refuses with `OutOfMemory`.
-#[inline(always)]
-pub fn label_files<'d, FileId: Copy + Eq>(
+/// The place of a file of this id, which is added after the others where it is none of them. Of such a file no label tells anything
+/// yet. The place that is guessed, that of the file found before, is looked at first. Refuses with `OutOfMemory`.
+pub fn place_file<'d, FileId: Copy + Eq>(
+    files: &mut Vec<LabelledFile<'d, FileId>>,
     alloc: Global,
-    labels: &'d [Label<FileId>],
-) -> Result<LabelFiles<'d, FileId>, Error>
-    ensures ids { IfOk result (λ found. ids_given found.files.items ≡ file_ids FileId.eq (map label_of labels.now)) }
-    ensures places { IfOk result (λ found. found.places.items ≡ label_places FileId.eq (ids_given found.files.items) (map label_of labels.now)) }
-    ensures starts { IfOk result (λ found. starts_given found.files.items ≡ map (λ _. no_start) (ids_given found.files.items)) }
-    ensures lanes { IfOk result (λ found. all_lanes_given found.files.items ≡ map (λ _. []) (ids_given found.files.items)) }
+    guess: usize,
+    id: FileId,
+) -> Result<usize, Error>
+    requires { AreApart FileId.eq (ids_given files.old.items) }
+    ensures place { IfOk result (λ place. place ≡ file_place FileId.eq (ids_given files.new.items) id) }
+    ensures ids { OnOk result (ids_given files.new.items ≡ with_file FileId.eq (ids_given files.old.items) id (ids_given files.old.items) id) }
+    ensures starts { OnOk result (starts_given files.new.items ≡ with_file FileId.eq (ids_given files.old.items) id (starts_given files.old.items) no_start) }
+    ensures lanes { OnOk result (all_lanes_given files.new.items ≡ with_file FileId.eq (ids_given files.old.items) id (all_lanes_given files.old.items) []) }
     ensures refused { OnErr result (IsErrOf result Error.OutOfMemory) }
 {
-    let mut files = Vec::new(alloc);
-    let mut places = Vec::with_capacity(alloc, labels.len())?;
-    let mut guess = 0;
-    for label in labels {
-        let place = find_place(&files, guess, label.file_id);
-        if place == files.len() {
-            push_file(&mut files, alloc, label.file_id)?;
-        }
-        places.push(place)?;
-        guess = place;
+    let place = find_place(files, guess, id);
+    if place == files.len() {
+        push_file(files, alloc, id)?;
     }
-    Ok(LabelFiles { files, places })
+    Ok(place)
 }
 
 /// Adds a file of which no label tells anything yet. Refuses with `OutOfMemory`.

@@ -14,7 +14,7 @@ ghost use Rattle.codespan_reporting.specs.Inner.GivenSheets.{IsGathered, IsGathe
 ghost use Rattle.codespan_reporting.specs.Inner.LabelLines.{line_of_end, line_of_start};
 
 use crate::term::views::entry::{Entry, Says, SourceLine};
-use crate::term::views::file_order::{LabelledFile, label_files, tell_file};
+use crate::term::views::file_order::{LabelledFile, place_file, tell_file};
 use crate::term::views::label_lines::{LabelLines, label_lines};
 use crate::term::views::sort::sort;
 use codespan_base::diagnostic::Label;
@@ -249,18 +249,18 @@ fn gather_in_turn<'files, 'd, F: Files<'files>>(
     ensures gathered { IfOk result (IsGatheredInTurn F.FileId.eq (F.file files.now) config.now (map label_of labels.now)) }
     ensures refused { Tells (labels_refusal config.now (F.file files.now) (F.refusal files.now) (map label_of labels.now)) result }
 {
-    let of_labels = label_files(alloc, labels)?;
-    let places = of_labels.places;
-    let mut labelled = of_labels.files;
+    let mut labelled = Vec::new(alloc);
     let mut found = FoundLines {
         entries: Vec::with_capacity(alloc, labels.len())?,
         padding: 0,
     };
+    let mut guess = 0;
     for (place, label) in labels.iter().enumerate() {
-        let file = places[place];
+        let file = place_file(&mut labelled, alloc, guess, label.file_id)?;
         let at = LabelPlace { file, place };
         let lines = gather_label(files, config, at, label, &mut found)?;
         tell_file(&mut labelled, file, label, lines)?;
+        guess = file;
     }
     Ok(Gathered {
         labels,

@@ -1,5 +1,3 @@
-use Rattle.std.proofs.Common.{map}
-use Rattle.codespan_picture.specs.Picture.{label_of}
 use Rattle.codespan_picture.specs.Snippets.{file_ids}
 use Rattle.codespan_reporting.proofs.LabelTurns.{before}
 use Rattle.codespan_reporting.proofs.LabelsGathered.{AreGathered}
@@ -8,5 +6,5 @@ use Rattle.codespan_reporting.proofs.term.views.gather.gather_in_turn.Given as g
 -- the labels before this one are done with
 abbrev pub invariant-loop-place : goal.invariant-loop-place
 invariant-loop-place g l =
-    AreGathered g.F.FileId.PartialEq.eq (g.F.Files.file l.files) (g.F.Files.refusal l.files) l.config (file_ids g.F.FileId.PartialEq.eq (map label_of l.labels))
+    AreGathered g.F.FileId.PartialEq.eq (g.F.Files.file l.files) (g.F.Files.refusal l.files) l.config (file_ids g.F.FileId.PartialEq.eq (before l.labels l.place))
     (before l.labels l.place) l.labelled.items l.found
