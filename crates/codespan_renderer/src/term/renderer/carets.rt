@@ -11,6 +11,7 @@ ghost use Rattle.codespan_renderer.specs.Inner.GivenLine.{look_of_given, line_of
 ghost use Rattle.codespan_renderer.specs.Inner.GivenRows.{given_carets};
 ghost use Rattle.codespan_picture.specs.RowParts.{carets, change, label_message, trailing_message};
 ghost use Rattle.codespan_picture.specs.RowStreams.{caret_row};
+ghost use Rattle.codespan_picture.specs.Rows.{trailing};
 
 use crate::term::renderer::SingleLabel;
 use crate::term::renderer::cells::{Cell, Cells};
@@ -163,11 +164,13 @@ pub fn send_caret_row<W: WriteStyle>(
     w: &mut W,
     look: Look<'_>,
     line: Line<'_, '_>,
+    messages: Messages<'_, '_>,
 ) -> io::Result<()>
+    requires { given_label messages.trailing ≡ trailing (all_labelled line.labels.now) }
     ensures { Sends (W.sink w.old) (caret_row (look_of_given look.entry) (line_of_given line.entry) ++ newline) result (W.sink w.new) }
 {
     send_opening(w, look, line)?;
     send_carets(w, look, line)?;
-    send_trailing(w, look.severity, Messages::of(line.labels).trailing)?;
+    send_trailing(w, look.severity, messages.trailing)?;
     send_newline(w)
 }

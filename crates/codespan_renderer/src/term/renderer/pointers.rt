@@ -208,10 +208,11 @@ pub fn send_all_hanging<W: WriteStyle>(
     w: &mut W,
     look: Look<'_>,
     line: Line<'_, '_>,
+    messages: Messages<'_, '_>,
 ) -> io::Result<()>
+    requires { AreHanging line.labels.now messages.before.now messages.after.now }
     ensures { Sends (W.sink w.old) (given_hanging_rows look.entry line.entry) result (W.sink w.new) }
 {
-    let messages = Messages::of(line.labels);
     if !has_any_message(messages.before) && !has_any_message(messages.after) {
         return Ok(());
     }

@@ -10,7 +10,8 @@ ghost use Rattle.codespan_picture.specs.Given.{all_labelled, mark_of_given};
 ghost use Rattle.codespan_renderer.specs.Inner.GivenLine.{look_of_given, line_of_given};
 ghost use Rattle.codespan_renderer.specs.Inner.GivenRows.{given_caret_rows, given_source_lanes};
 ghost use Rattle.codespan_renderer.specs.Inner.PrimaryMarks.{AreMarksOf};
-ghost use Rattle.codespan_picture.specs.Rows.{Look as LookWord, rows_of};
+ghost use Rattle.codespan_renderer.specs.Inner.Runs.{given_label};
+ghost use Rattle.codespan_picture.specs.Rows.{Look as LookWord, rows_of, trailing};
 ghost use Rattle.codespan_picture.specs.RowParts.{border, change, coloured_text, source_style};
 ghost use Rattle.codespan_picture.specs.RowStreams.{source_row, stream_of_rows};
 
@@ -18,6 +19,7 @@ use crate::term::renderer::carets::{covers, send_caret_row};
 use crate::term::renderer::cells::{Cell, Cells};
 use crate::term::renderer::lanes::{LaneRow, send_lanes};
 use crate::term::renderer::line::{Line, Look};
+use crate::term::renderer::messages::Messages;
 use crate::term::renderer::parts::{
     send_border, send_change, send_newline, send_numbered_gutter, send_space,
 };
@@ -190,11 +192,17 @@ fn send_source_row<W: WriteStyle>(w: &mut W, look: Look<'_>, line: Line<'_, '_>)
 }
 
 /// The carets under a line that has labels.
-fn send_caret_rows<W: WriteStyle>(w: &mut W, look: Look<'_>, line: Line<'_, '_>) -> io::Result<()>
+fn send_caret_rows<W: WriteStyle>(
+    w: &mut W,
+    look: Look<'_>,
+    line: Line<'_, '_>,
+    messages: Messages<'_, '_>,
+) -> io::Result<()>
+    requires { given_label messages.trailing ≡ trailing (all_labelled line.labels.now) }
     ensures { Sends (W.sink w.old) (given_caret_rows look.entry line.entry) result (W.sink w.new) }
 {
     if !line.labels.is_empty() {
-        send_caret_row(w, look, line)?;
+        send_caret_row(w, look, line, messages)?;
     }
     Ok(())
 }
@@ -203,8 +211,9 @@ fn send_caret_rows<W: WriteStyle>(w: &mut W, look: Look<'_>, line: Line<'_, '_>)
 pub fn send_line<W: WriteStyle>(w: &mut W, look: Look<'_>, line: Line<'_, '_>) -> io::Result<()>
     ensures { Sends (W.sink w.old) (stream_of_rows (look_of_given look.entry) (rows_of (line_of_given line.entry))) result (W.sink w.new) }
 {
+    let messages = Messages::of(line.labels);
     send_source_row(w, look, line)?;
-    send_caret_rows(w, look, line)?;
-    send_all_hanging(w, look, line)?;
+    send_caret_rows(w, look, line, messages)?;
+    send_all_hanging(w, look, line, messages)?;
     send_underlines(w, look, line)
 }

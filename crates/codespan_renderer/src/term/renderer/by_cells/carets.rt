@@ -9,6 +9,8 @@ ghost use Rattle.codespan_renderer.specs.Inner.GivenLine.{look_of_given, line_of
 ghost use Rattle.codespan_renderer.specs.Inner.GivenRows.{given_carets};
 ghost use Rattle.codespan_picture.specs.RowParts.{carets};
 ghost use Rattle.codespan_picture.specs.RowStreams.{caret_row};
+ghost use Rattle.codespan_picture.specs.Rows.{trailing};
+ghost use Rattle.codespan_renderer.specs.Inner.Runs.{given_label};
 ghost use Rattle.codespan_renderer.specs.Inner.Sweeps.{starts_in_order};
 
 use crate::term::renderer::SingleLabel;
@@ -57,14 +59,16 @@ pub fn send_caret_row<W: WriteStyle>(
     w: &mut W,
     look: Look<'_>,
     line: Line<'_, '_>,
+    messages: Messages<'_, '_>,
     cells: &[Cell],
 ) -> io::Result<()>
+    requires trailing { given_label messages.trailing ≡ trailing (all_labelled line.labels.now) }
     requires cells { cells.now ≡ cells_to_end look.tab_width line.text.now }
     requires ordered { IsTrue (starts_in_order (all_labelled line.labels.now)) }
     ensures { Sends (W.sink w.old) (caret_row (look_of_given look.entry) (line_of_given line.entry) ++ newline) result (W.sink w.new) }
 {
     send_opening(w, look, line)?;
     send_carets(w, look, line.text, line.labels, cells)?;
-    send_trailing(w, look.severity, Messages::of(line.labels).trailing)?;
+    send_trailing(w, look.severity, messages.trailing)?;
     send_newline(w)
 }

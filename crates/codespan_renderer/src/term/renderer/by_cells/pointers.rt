@@ -256,15 +256,17 @@ pub fn send_all_hanging<W: WriteStyle>(
     w: &mut W,
     look: Look<'_>,
     line: Line<'_, '_>,
+    messages: Messages<'_, '_>,
     characters: &[Cell],
     found: &[Pointer],
 ) -> io::Result<()>
+    requires hanging { AreHanging line.labels.now messages.before.now messages.after.now }
+    requires pieces { ArePieces line.labels.now messages.before.now messages.after.now }
     requires characters { characters.now ≡ cells look.tab_width line.text.now }
     requires narrow { AreNarrow characters.now }
     requires found { found.now ≡ pointers_in (hanging (all_labelled line.labels.now)) (cells look.tab_width line.text.now) }
     ensures { Sends (W.sink w.old) (given_hanging_rows look.entry line.entry) result (W.sink w.new) }
 {
-    let messages = Messages::of(line.labels);
     if !has_any_message(messages.before) && !has_any_message(messages.after) {
         return Ok(());
     }
