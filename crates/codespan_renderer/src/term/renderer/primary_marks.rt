@@ -55,8 +55,12 @@ impl PrimaryMarks {
 
     /// Whether one of them takes in the character.
     pub fn take_in(self, cell: Cell) -> bool
+        requires { 1 ≤ cell.bytes }
         ensures { result ≡ is_marked self cell }
     {
+        if self.from.is_none() && self.to == 0 {
+            return false;
+        }
         let before = cell.place <= self.to && cell.bytes <= self.to - cell.place;
         match self.from {
             Some(start) => start <= cell.place || before,

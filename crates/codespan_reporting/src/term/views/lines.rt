@@ -130,7 +130,7 @@ impl<'page, 'd, 'files, F: Files<'files>> FileLines<'page, 'd, 'files, F> {
     {
         marks.refill(self.lanes, line, entries)?;
         let source = &self.text[line.start..line.end];
-        if marks.have_places() {
+        if marks.have_several_places() {
             marks
                 .cells
                 .refill(renderer, source, marks.singles.as_slice())?;

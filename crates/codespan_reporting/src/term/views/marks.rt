@@ -58,7 +58,7 @@ impl<'d> LineMarks<'d> {
     }
 
     /// Whether several of them have places inside the line: carets, or the caret at the end of an underline.
-    pub fn have_places(&self) -> bool {
+    pub fn have_several_places(&self) -> bool {
         let ends = self
             .multis
             .iter()

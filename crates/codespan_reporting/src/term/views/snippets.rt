@@ -29,12 +29,7 @@ fn draw_start<F, FileId, W: WriteStyle>(
     ensures io { IfErr result IsIo }
 {
     renderer.render_snippet_start(page.padding, &snippet.locus)?;
-    renderer.render_snippet_empty(
-        page.padding,
-        page.severity,
-        snippet.file.lanes.len(),
-        &[],
-    )?;
+    renderer.render_snippet_empty(page.padding, page.severity, snippet.file.lanes.len(), &[])?;
     Ok(())
 }
 
@@ -50,12 +45,7 @@ fn draw_end<F, FileId, W: WriteStyle>(
     ensures io { IfErr result IsIo }
 {
     if is_followed {
-        renderer.render_snippet_empty(
-            page.padding,
-            page.severity,
-            snippet.file.lanes.len(),
-            &[],
-        )?;
+        renderer.render_snippet_empty(page.padding, page.severity, snippet.file.lanes.len(), &[])?;
     }
     Ok(())
 }

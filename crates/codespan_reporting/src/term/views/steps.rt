@@ -141,7 +141,7 @@ impl<'files, F: Files<'files>> Walk<'files, F> {
         ensures steps { IfOk result (λ steps. AddsWalked F.file self.now [] steps.items (steps_of (map entry_of entries.now))) }
         ensures refused { Tells (numbers_refusal F.refusal self.now (fills_of (steps_of (map entry_of entries.now)))) result }
     {
-        let mut steps = Vec::new(alloc);
+        let mut steps = Vec::with_capacity(alloc, entries.len())?;
         let mut last = None;
         let mut at = 0;
         while at < entries.len() {

@@ -17,8 +17,8 @@ returns-in_err-refill-2-clause-draws g c =
 
 pub render_snippet_source-requires : goal.render_snippet_source-requires
 render_snippet_source-requires g c =
-    lanes_fit c.args.self.now.lanes.now c.args.line.index c.args.line.start _ (ap (map mark_of_given) c.as_slice-else-have_places-2.ensures.value ∙ c.in_ok-refill.ensures.multis)
+    lanes_fit c.args.self.now.lanes.now c.args.line.index c.args.line.start _ (ap (map mark_of_given) c.as_slice-else-have_several_places-2.ensures.value ∙ c.in_ok-refill.ensures.multis)
 
 pub render-requires-clause-lanes : goal.render-requires-clause-lanes
 render-requires-clause-lanes g c =
-    lanes_fit c.args.self.now.lanes.now c.args.line.index c.args.line.start _ (ap (map mark_of_given) c.as_slice-then-have_places-2.ensures.value ∙ c.in_ok-refill.ensures.multis)
+    lanes_fit c.args.self.now.lanes.now c.args.line.index c.args.line.start _ (ap (map mark_of_given) c.as_slice-then-have_several_places-2.ensures.value ∙ c.in_ok-refill.ensures.multis)

@@ -6,7 +6,7 @@ use Rattle.codespan_reporting.proofs.StepsFound.{left_all, left_more, left_refus
 use Rattle.codespan_reporting.proofs.term.views.steps.Walk.steps.Goals as goal
 
 pub loop-at-init : goal.loop-at-init
-loop-at-init g c = record { within = omega arith; left = left_all _ _ _ _ _ _ _ refl c.new-steps.ensures.items }
+loop-at-init g c = record { within = omega arith; left = left_all _ _ _ _ _ _ _ refl c.in_ok-steps.ensures.items }
 
 pub returns-in_err-push_shown-clause-refused : goal.returns-in_err-push_shown-clause-refused
 returns-in_err-push_shown-clause-refused g c =
@@ -17,7 +17,7 @@ returns-in_err-push_shown-clause-refused g c =
     let counted : IsCounted entries c.loop-at.at c.line_len.result no_entry = record { inside = c.loop-at-test.true; is = c.line_len.ensures.value; within = c.line_len.ensures.within } in
     let opens = given-shown entries c.loop-at.at c.line_len.result c.shown_len.result no_entry c.loop-at.last counted c.shown_len.ensures.value in
     let steps = shown_steps entries c.loop-at.at c.line_len.result c.shown_len.result no_entry c.loop-at.last in
-    let p = err_from_is_err_and c.from_residual.result c.from_residual.ensures.1 in
+    let p = err_from_is_err_and c.from_residual-in_err-push_shown.result c.from_residual-in_err-push_shown.ensures.1 in
     rw (p.1 ∙ ap Err p.2) (λ told. left_refused refusal walk.id walk.layout f _ _ steps _ _ opens c.loop-at.invariant.left _ (c.in_err-push_shown.ensures.refused told))
 
 pub loop-at-preserved : goal.loop-at-preserved
