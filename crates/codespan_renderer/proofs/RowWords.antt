@@ -5,7 +5,7 @@ use Rattle.std.proofs.lemmas.List.{length_push, replicate-append-replicate}
 use Rattle.codespan_base.specs.declared.diagnostic.LabelStyle.{LabelStyle}
 use Rattle.codespan_base.specs.declared.diagnostic.LabelStyle.TheVariants.{Primary, Secondary}
 use Rattle.codespan_base.specs.declared.diagnostic.Severity.{Severity}
-use Rattle.codespan_base.specs.Streams.{Stream, bytes, blanks, repeated, glyph, newline, space}
+use Rattle.codespan_base.specs.Streams.{Stream, bytes, blanks, repeated, glyph, newline}
 use Rattle.codespan_base.proofs.Sends.{bytes-append}
 use Rattle.std.proofs.lemmas.Grind.{flat_map-append}
 use Rattle.codespan_base.proofs.Repeats.{repeat-add}
@@ -22,11 +22,6 @@ use Rattle.codespan_renderer.proofs.Laying.{Lays, laying-cells}
 use Rattle.codespan_picture.specs.RowParts.{cells_before, change, gutter, source_lanes, plain_lanes, below_lanes}
 
 -- a gutter is the padding's blanks and one more
-pub gutter_is : (n : ℕ) → gutter n ≡ blanks n ++ space
-unfolding gutter blanks
-gutter_is n = ap bytes (sym (replicate-append-replicate n 1 32)) ∙ bytes-append (replicate n 32) (replicate 1 32)
-
--- these are one run
 pub gutter_blanks : (n : ℕ) → gutter n ≡ blanks (n + 1)
 unfolding gutter blanks
 gutter_blanks n = refl

@@ -33,7 +33,6 @@ pub fn send_space<W: WriteStyle>(w: &mut W) -> io::Result<()>
 }
 
 /// Blanks in place of a line number, and one after it.
-#[tactic(auto, using(codespan_base::proofs::Sends::sendings, crate::proofs::RowWords::gutter_is))]
 #[inline(always)]
 pub fn send_gutter<W: WriteStyle>(w: &mut W, padding: usize) -> io::Result<()>
     ensures { Sends (W.sink w.old) (gutter padding) result (W.sink w.new) }
