@@ -12,8 +12,8 @@ use Rattle.codespan_laws.specs.Meanings.{MeansLabels}
 use Rattle.codespan_reporting.specs.Headline.{DrawsRich, DrawsShort, DrawsTo}
 use Rattle.codespan_reporting.specs.Views.{style_with_notes}
 
-module _ {Id : Type 0} (same : Id → Id → Bool) (file : Id → FileModel) (config k : Config) (d e : Diagnostic Id) (configs : k ≡ config) (diagnostics : e ≡ d) where
-  module _ (v : Config) (views : v ≡ config) where
+module _ {Id : Type 0} {same : Id → Id → Bool} {file : Id → FileModel} {config k : Config} {d e : Diagnostic Id} (configs : k ≡ config) (diagnostics : e ≡ d) where
+  module _ {v : Config} (views : v ≡ config) where
     -- what the rich view's picture means
     pub rich_means : MeansLabels k v same file e → MeansLabels config config same file d
     rich_means means =
@@ -21,10 +21,10 @@ module _ {Id : Type 0} (same : Id → Id → Bool) (file : Id → FileModel) (co
         (subst (λ (y : Config). MeansLabels k y same file d) views
         (subst (λ (y : Diagnostic Id). MeansLabels k v same file y) diagnostics means))
 
-  module _ (refusal : Refusals Id) (style : DisplayStyle) (r : Result (Unit {0}) Error) (s t u w : Sink) (before : s ≡ t) (after : u ≡ w) where
+  module _ {refusal : Refusals Id} {style : DisplayStyle} {r : Result (Unit {0}) Error} {s t u w : Sink} (before : s ≡ t) (after : u ≡ w) where
     -- the rich view
-    pub rich_drawn : (v : Config) → v ≡ config → style ≡ Rich → DrawsRich k v same file refusal e s r u → DrawsTo config same file refusal d style t r w
-    rich_drawn v views is draws =
+    pub rich_drawn : {v : Config} → v ≡ config → style ≡ Rich → DrawsRich k v same file refusal e s r u → DrawsTo config same file refusal d style t r w
+    rich_drawn {v} views is draws =
         subst (λ (y : DisplayStyle). DrawsTo config same file refusal d y t r w) (sym is)
         (subst (λ (y : Config). DrawsRich y config same file refusal d t r w) configs
         (subst (λ (y : Config). DrawsRich k y same file refusal d t r w) views
@@ -33,9 +33,9 @@ module _ {Id : Type 0} (same : Id → Id → Bool) (file : Id → FileModel) (co
         (subst (λ (y : Sink). DrawsRich k v same file refusal e s r y) after draws)))))
 
     -- the short view, with the notes or without them
-    pub short_drawn : (notes : Bool) (view : DisplayStyle) → view ≡ style_with_notes notes → style ≡ style_with_notes notes
+    pub short_drawn : (notes : Bool) {view : DisplayStyle} → view ≡ style_with_notes notes → style ≡ style_with_notes notes
         → DrawsShort k same file refusal e view s r u → DrawsTo config same file refusal d style t r w
-    short_drawn notes view views is draws =
+    short_drawn notes {view} views is draws =
         subst (λ (y : DisplayStyle). DrawsTo config same file refusal d y t r w) (sym is)
         (by notes
         (subst (λ (y : Config). DrawsShort y same file refusal d (style_with_notes notes) t r w) configs
