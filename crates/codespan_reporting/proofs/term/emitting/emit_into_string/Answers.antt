@@ -1,9 +1,8 @@
 use Rattle.std.proofs.Common.{rules, Some, inl, refl, ap, ◌∙◌}
-use Rattle.std.specs.Prelude.{string_bytes}
 use Rattle.codespan_base.specs.FileModel.{IsLawful}
 use Rattle.codespan_base.specs.Streams.{no_marks}
 use Rattle.codespan_base.specs.Writers.{fresh_sink}
-use Rattle.codespan_reporting.proofs.Emitting.{string_drawn, text_held, told_of_string}
+use Rattle.codespan_reporting.proofs.Emitting.{common, string_drawn, text_held, told_of_string}
 use Rattle.codespan_reporting.proofs.term.emitting.emit_into_string.Goals as goal
 
 -- what was written is a text
@@ -12,13 +11,11 @@ from_utf8_unchecked-requires g c =
     let file = g.F.Files.file c.args.files.now in
     let claim : g.claim c.lifetimes = search rules in
     let lawful : (id : g.row.F-FileId.Denot) → IsLawful (file id) = λ id. (g.met.F.Files c.lifetimes claim).lawful c.args.files.now id in
-    text_held c.args.config.now g.F.FileId.PartialEq.eq file (g.F.Files.refusal c.args.files.now) c.args.diagnostic.now _ _ c.into_inner.result.items
-    c.in-Ok.ensures.draws (c.new-plain.ensures.begins ∙ ap (λ xs. fresh_sink no_marks (Some xs)) c.in_ok-bytes.ensures.items) (search rules) c.are_characters.ensures lawful
+    text_held (common c.args.config.now.display_style c.in-Ok.ensures.draws) (c.new-plain.ensures.begins ∙ ap (λ xs. fresh_sink no_marks (Some xs)) c.in_ok-bytes.ensures.items) (search rules) c.are_characters.ensures lawful
 
 pub returns-in-Ok : goal.returns-in-Ok
 returns-in-Ok g c =
-    string_drawn c.args.config.now g.F.FileId.PartialEq.eq (g.F.Files.file c.args.files.now) (g.F.Files.refusal c.args.files.now) c.args.diagnostic.now _ _ (string_bytes c.from_utf8_unchecked.result)
-    c.in-Ok.ensures.draws (c.new-plain.ensures.begins ∙ ap (λ xs. fresh_sink no_marks (Some xs)) c.in_ok-bytes.ensures.items) (search rules) c.in-Ok.ensures.meaning
+    string_drawn (common c.args.config.now.display_style c.in-Ok.ensures.draws) (c.new-plain.ensures.begins ∙ ap (λ xs. fresh_sink no_marks (Some xs)) c.in_ok-bytes.ensures.items) (search rules) c.in-Ok.ensures.meaning
 
 -- a growth was refused
 pub returns-in-Err : goal.returns-in-Err
@@ -26,6 +23,4 @@ returns-in-Err g c = inl refl
 
 -- the writer has refused nothing
 pub returns : goal.returns
-returns g c =
-    told_of_string c.args.config.now g.F.FileId.PartialEq.eq (g.F.Files.file c.args.files.now) (g.F.Files.refusal c.args.files.now) c.args.diagnostic.now _ _ _
-    c.in-Err-2.ensures.draws (search rules)
+returns g c = told_of_string (common c.args.config.now.display_style c.in-Err-2.ensures.draws) (search rules)

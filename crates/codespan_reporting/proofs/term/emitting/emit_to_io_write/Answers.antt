@@ -4,5 +4,4 @@ use Rattle.codespan_reporting.proofs.term.emitting.emit_to_io_write.Goals as goa
 
 pub returns-clause-writes : goal.returns-clause-writes
 returns-clause-writes g c =
-    written_back c.args.config.now g.F.FileId.PartialEq.eq (g.F.Files.file c.args.files.now) (g.F.Files.refusal c.args.files.now) c.args.diagnostic.now
-    g.W.Write.contents c.new-plain.result c.emit_to_write_style.new.writer _ _ _ _ c.new-plain.ensures.begins c.emit_to_write_style.ensures.draws (search rules)
+    written_back g.W.Write.contents c.new-plain.result c.emit_to_write_style.new.writer c.new-plain.ensures.begins c.emit_to_write_style.ensures.draws (search rules)
