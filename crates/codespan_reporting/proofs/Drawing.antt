@@ -1,5 +1,5 @@
 -- Drawing a rich picture: what each way to end it comes to.
-use Rattle.std.proofs.Common.{◌≡◌, ◌≢◌, Bool, true, ◌<◌, List, [], ◌++◌, length, None, Some, Ok, Err, Result, inl, inr, refl, sym, subst, ap, ◌∙◌, arith}
+use Rattle.std.proofs.Common.{◌≡◌, ◌≢◌, Bool, true, ◌<◌, List, [], ◌++◌, length, Option, None, Some, Ok, Err, Result, inl, inr, refl, sym, subst, ap, ◌∙◌, arith}
 use Rattle.std.proofs.lemmas.List.{length-append}
 use Rattle.std.specs.Prelude.{IfErr}
 use Rattle.codespan_base.specs.declared.term.config.Config.{Config}
@@ -13,8 +13,6 @@ use Rattle.codespan_base.specs.WriterLaw.{Sink, sent, is_told, Began, Sends, ref
 use Rattle.codespan_base.proofs.HeldBytes.{gained-nil}
 use Rattle.codespan_base.specs.declared.term.config.DisplayStyle.TheVariants.{Rich}
 use Rattle.codespan_picture.specs.Picture.{labels_of}
-use Rattle.codespan_picture.specs.Placed.{ArePlaces, placed_picture}
-use Rattle.codespan_picture.specs.Rows.{Place}
 use Rattle.codespan_picture.specs.Lookups.{Refusals, early_lookups, late_lookups, first_refusal}
 use Rattle.codespan_reporting.specs.Headline.{DrawsRich, ForSomeNames, NamesAreStated, drawn_picture}
 use Rattle.codespan_reporting.specs.Inner.Asking.{Came}
@@ -30,7 +28,7 @@ Began-none s items t same = record { begun = []; rest = _; whole = refl; held = 
 two_errors : (e : Error) → e ≡ FormatError → e ≡ OutOfMemory → ⊥
 two_errors e h m = cc
 
-module _ {Id : Type 0} (renderer view : Config) (same : Id → Id → Bool) (file : Id → FileModel) (refusal : Refusals Id) (d : Diagnostic Id) where
+module _ {Id : Type 0} (view : Config) (same : Id → Id → Bool) (file : Id → FileModel) (refusal : Refusals Id) (d : Diagnostic Id) where
   -- the lookups before the header
   abbrev pub before_header : List (Id × Lookup)
   before_header = early_lookups view same file refusal (labels_of d)
@@ -39,79 +37,93 @@ module _ {Id : Type 0} (renderer view : Config) (same : Id → Id → Bool) (fil
   abbrev pub after_header : List (Id × Lookup)
   after_header = late_lookups view same file refusal (labels_of d)
 
-  -- the whole picture, or a beginning of it
-  abbrev pub Begins : Sink → Sink → Type 0
-  Begins old new = NamesAreStated file d → is_told old ≡ true → Began old (drawn_picture renderer view same file refusal d Rich) new
+  -- what the lookups before it are refused with
+  abbrev pub early_refusal : Option Error
+  early_refusal = first_refusal refusal before_header
 
+  -- what those after it are refused with
+  abbrev pub late_refusal : Option Error
+  late_refusal = first_refusal refusal after_header
+
+module _ {Id : Type 0} {renderer view : Config} {same : Id → Id → Bool} {file : Id → FileModel} {refusal : Refusals Id} {d : Diagnostic Id} where
   -- a lookup before the header refused: nothing is written
-  pub refused_early : (old new : Sink) (e : Error) → new ≡ old → 0 < length before_header
-      → (e ≢ OutOfMemory → e ≢ FormatError → first_refusal refusal before_header ≡ Some e) → DrawsRich renderer view same file refusal d old (Err e) new
-  refused_early old new e unchanged some told = record {
-    drawn = record {
-      frame = inr (
-        ap (λ (s : Sink). s.frame) unchanged,
-        (omega (arith, length-append before_header after_header), λ p q. first_refusal-some refusal before_header after_header e (told p q)),
-      );
-      stream = λ named tells. Began-none old _ new unchanged;
-      answered = tt;
-      by_names = λ told. tt;
-    };
-    keeps = record { early = λ p. unchanged; unprintable = λ h. inl unchanged };
-  }
+  pub refused_early : {old new : Sink} {e : Error} → new ≡ old → 0 < length (before_header view same file refusal d)
+      → (e ≢ OutOfMemory → e ≢ FormatError → early_refusal view same file refusal d ≡ Some e) → DrawsRich renderer view same file refusal d old (Err e) new
+  refused_early {old} {new} {e} unchanged some told =
+      let before = before_header view same file refusal d in
+      let after = after_header view same file refusal d in
+      record {
+        drawn = record {
+          frame = inr (
+            ap (λ (s : Sink). s.frame) unchanged,
+            (omega (arith, length-append before after), λ p q. first_refusal-some refusal before after e (told p q)),
+          );
+          stream = λ named tells. Began-none old _ new unchanged;
+          answered = tt;
+          by_names = λ told. tt;
+        };
+        keeps = record { early = λ p. unchanged; unprintable = λ h. inl unchanged };
+      }
 
   -- the writer refused
-  pub refused_by_writer : (old new : Sink) (e : Error) → first_refusal refusal before_header ≡ None → new.frame ≡ refusing old.frame → IsIo e
-      → Begins old new → DrawsRich renderer view same file refusal d old (Err e) new
-  refused_by_writer old new e answered frame io begun = record {
+  pub refused_by_writer : {old new : Sink} {e : Error} → early_refusal view same file refusal d ≡ None → new.frame ≡ refusing old.frame → IsIo e
+      → (NamesAreStated file d → is_told old ≡ true → Began old (drawn_picture renderer view same file refusal d Rich) new) → DrawsRich renderer view same file refusal d old (Err e) new
+  refused_by_writer answered frame io begun = record {
     drawn = record {
       frame = inl (io, frame);
       stream = begun;
       answered = tt;
       by_names = λ told. tt;
     };
-    keeps = record { early = λ p. absurd (some_refused refusal before_header answered p); unprintable = λ h. absurd (subst IsIo h io) };
+    keeps = record { early = λ p. absurd (some_refused refusal _ answered p); unprintable = λ h. absurd (subst IsIo h io) };
   }
 
   -- a lookup after the header refused
-  pub refused_late : (old new : Sink) (e : Error) → first_refusal refusal before_header ≡ None → new.frame ≡ old.frame → 0 < length after_header
-      → (e ≢ OutOfMemory → first_refusal refusal after_header ≡ Some e) → Begins old new → DrawsRich renderer view same file refusal d old (Err e) new
-  refused_late old new e answered frame some told begun = record {
-    drawn = record {
-      frame = inr (
-        frame,
-        (omega (arith, length-append before_header after_header), λ p q. first_refusal-none refusal before_header after_header answered ∙ told p),
-      );
-      stream = begun;
-      answered = tt;
-      by_names = λ told. tt;
-    };
-    keeps = record { early = λ p. absurd (some_refused refusal before_header answered p); unprintable = λ h. inr (told (λ (m : e ≡ OutOfMemory). two_errors e h m) ∙ ap Some h) };
-  }
+  pub refused_late : {old new : Sink} {e : Error} → early_refusal view same file refusal d ≡ None → new.frame ≡ old.frame → 0 < length (after_header view same file refusal d)
+      → (e ≢ OutOfMemory → late_refusal view same file refusal d ≡ Some e)
+      → (NamesAreStated file d → is_told old ≡ true → Began old (drawn_picture renderer view same file refusal d Rich) new) → DrawsRich renderer view same file refusal d old (Err e) new
+  refused_late {old} {new} {e} answered frame some told begun =
+      let before = before_header view same file refusal d in
+      let after = after_header view same file refusal d in
+      record {
+        drawn = record {
+          frame = inr (
+            frame,
+            (omega (arith, length-append before after), λ p q. first_refusal-none refusal before after answered ∙ told p),
+          );
+          stream = begun;
+          answered = tt;
+          by_names = λ told. tt;
+        };
+        keeps = record { early = λ p. absurd (some_refused refusal before answered p); unprintable = λ h. inr (told (λ (m : e ≡ OutOfMemory). two_errors e h m) ∙ ap Some h) };
+      }
 
   -- all was answered and written
-  pub drawn : (old new : Sink) → first_refusal refusal before_header ≡ None → first_refusal refusal after_header ≡ None → new.frame ≡ old.frame
+  drawn : {old new : Sink} → early_refusal view same file refusal d ≡ None → late_refusal view same file refusal d ≡ None → new.frame ≡ old.frame
       → (is_told old ≡ true → ForSomeNames renderer view same file refusal d Rich (λ s. new ≡ sent old s)) → DrawsRich renderer view same file refusal d old (Ok tt) new
-  drawn old new answered_early answered_late frame came = record {
-    drawn = record {
-      frame = frame;
-      stream = λ named told.
-          let by_names = came told in
-          by_names.holds ∙ ap (sent old) (placed-named same file d renderer view named Rich by_names.places by_names.are);
-      answered = all_answered refusal (before_header ++ after_header) (first_refusal-none refusal before_header after_header answered_early ∙ answered_late);
-      by_names = came;
-    };
-    keeps = record { early = λ p. absurd (some_refused refusal before_header answered_early p); unprintable = tt };
-  }
+  drawn {old} {new} answered_early answered_late frame came =
+      let before = before_header view same file refusal d in
+      let after = after_header view same file refusal d in
+      record {
+        drawn = record {
+          frame = frame;
+          stream = λ named told.
+              let by_names = came told in
+              by_names.holds ∙ ap (sent old) (placed-named same file d renderer view named Rich by_names.places by_names.are);
+          answered = all_answered refusal (before ++ after) (first_refusal-none refusal before after answered_early ∙ answered_late);
+          by_names = came;
+        };
+        keeps = record { early = λ p. absurd (some_refused refusal before answered_early p); unprintable = tt };
+      }
 
-  -- after the header, which came, the rest was sent or cut short
-  pub finished : (old mid new : Sink) (first rest : Stream) (r : Result (Unit {0}) Error) → first_refusal refusal before_header ≡ None → first_refusal refusal after_header ≡ None
-      → Came old first mid → Sends mid rest r new → IfErr r IsIo
-      → (places : List Place) → ArePlaces same file d Rich places → placed_picture renderer view same file d Rich places ≡ first ++ rest
-      → DrawsRich renderer view same file refusal d old r new
-  finished old mid new first rest (Ok x) answered_early answered_late came sends io places are is =
-      let both = came-then old first rest came sends in
-      drawn old new answered_early answered_late both.0 (λ told. record { places = places; are = are; holds = both.1 told ∙ ap (sent old) (sym is) })
-  finished old mid new first rest (Err e) answered_early answered_late came sends io places are is =
-      let stopped = stopped-then first came sends in
-      refused_by_writer old new e answered_early stopped.0 io
-      (λ named told. subst (λ (s : Stream). Began old s new) (sym is ∙ placed-named same file d renderer view named Rich places are) (stopped.1 told))
+  -- after its first part, which came, the rest of the picture was sent or cut short
+  pub finished : {old mid new : Sink} (first rest : Stream) (r : Result (Unit {0}) Error) → early_refusal view same file refusal d ≡ None
+      → (late_refusal view same file refusal d ≡ None) × Came old first mid → Sends mid rest r new → IfErr r IsIo
+      → ForSomeNames renderer view same file refusal d Rich (λ s. s ≡ first ++ rest) → DrawsRich renderer view same file refusal d old r new
+  finished {old} first rest (Ok x) answered came sends io names =
+      let both = came-then old first rest came.1 sends in
+      drawn answered came.0 both.0 (λ told. record { places = names.places; are = names.are; holds = both.1 told ∙ ap (sent old) (sym names.holds) })
+  finished {old} {new = new} first rest (Err e) answered came sends io names =
+      let stopped = stopped-then first came.1 sends in
+      refused_by_writer answered stopped.0 io
+      (λ named told. subst (λ (s : Stream). Began old s new) (sym names.holds ∙ placed-named same file d renderer view named Rich names.places names.are) (stopped.1 told))

@@ -1,35 +1,38 @@
 -- A rich picture, drawn part by part: its header, its snippets, and its notes.
-use Rattle.std.proofs.Common.{◌≡◌, ◌<◌, Bool, true, List, [], ◌∷◌, ◌++◌, length, map, None, Result, Ok, Err, ⊎_elim, refl, sym, subst, ap, ◌∙◌, arith}
+use Rattle.std.proofs.Common.{◌≡◌, ◌≢◌, ◌<◌, Bool, true, List, [], ◌∷◌, ◌++◌, length, map, None, Some, Result, Ok, Err, ⊎_elim, refl, sym, subst, ap, ◌∙◌, arith}
 use Rattle.std.specs.Prelude.{IfErr}
 use Rattle.std.specs.List.{AllByRecursion, AllZip}
 use Rattle.std.proofs.lemmas.Grind.{flat_map-append}
-use Rattle.std.proofs.lemmas.List.{append_assoc}
+use Rattle.std.proofs.lemmas.List.{append_assoc, length-map}
 use Rattle.codespan_base.specs.declared.term.config.Config.{Config}
 use Rattle.codespan_base.specs.declared.term.config.DisplayStyle.TheVariants.{Rich}
 use Rattle.codespan_base.specs.declared.diagnostic.Diagnostic.{Diagnostic}
+use Rattle.codespan_base.specs.declared.diagnostic.Label.{Label}
 use Rattle.codespan_base.specs.declared.files.Error.{Error}
+use Rattle.codespan_base.specs.declared.files.Error.TheVariants.{FormatError, OutOfMemory}
 use Rattle.codespan_base.specs.Errors.{IsIo}
 use Rattle.codespan_base.specs.FileModel.{FileModel}
 use Rattle.codespan_base.specs.Streams.{Stream, newline}
-use Rattle.codespan_base.specs.WriterLaw.{Sink, Sends, Began, is_told}
+use Rattle.codespan_base.specs.WriterLaw.{Sink, Sends, Began, is_told, sent}
 use Rattle.codespan_base.proofs.Sends.{Began-first, Began-last, sent-nil}
 use Rattle.codespan_reporting.specs.declared.term.views.sheet.Sheet.{Sheet}
 use Rattle.codespan_reporting.specs.declared.term.views.sheet.SheetFile.{SheetFile}
 use Rattle.codespan_reporting.specs.Inner.Asking.{Came, Stopped, EndedAsking, SendsAsking}
-use Rattle.codespan_reporting.specs.Inner.GivenSheets.{IsPrepared, IsSheetFile, ids_of, places_of}
-use Rattle.codespan_reporting.specs.Headline.{DrawsRich, NamesAreStated, drawn_picture}
-use Rattle.codespan_picture.specs.Lookups.{Refusals, early_lookups, first_refusal, late_lookups}
-use Rattle.codespan_picture.specs.Picture.{heading_of, labels_of, look_of, notes_of}
+use Rattle.codespan_reporting.specs.Inner.GivenSheets.{IsPrepared, IsSheetFile, ids_of, places_of, sheet_refusal}
+use Rattle.codespan_reporting.specs.Headline.{DrawsRich, ForSomeNames, NamesAreStated, drawn_picture}
+use Rattle.codespan_picture.specs.Lookups.{Refusals, early_lookups, first_refusal, label_lookups, late_lookups}
+use Rattle.codespan_picture.specs.Picture.{heading_of, label_of, labels_of, look_of, notes_of}
 use Rattle.codespan_picture.specs.Padding.{padding_of}
-use Rattle.codespan_picture.specs.Placed.{IsPlaceOfFile, placed_picture, placed_snippets}
-use Rattle.codespan_picture.specs.Rows.{BlankRow, HeaderRow, Look, Place, Row}
+use Rattle.codespan_picture.specs.Placed.{IsPlaceOfFile, placed_snippets}
+use Rattle.codespan_picture.specs.Rows.{BlankRow, HeaderRow, Row}
 use Rattle.codespan_picture.specs.RowStreams.{header_row, stream_of, stream_of_rows}
 use Rattle.codespan_picture.specs.Snippets.{InFile, has_any, labelled_file, labelled_files, note_rows}
 use Rattle.codespan_laws.proofs.PlacedPictures.{placed-named}
 use Rattle.codespan_base.proofs.Chains.{came-then, stopped-before, stopped-then, told-after}
 use Rattle.codespan_reporting.proofs.Chains.{Began-as}
-use Rattle.codespan_reporting.proofs.Drawing.{finished, refused_by_writer, refused_late}
+use Rattle.codespan_reporting.proofs.Drawing.{early_refusal, finished, late_refusal, refused_by_writer, refused_early, refused_late}
 use Rattle.codespan_reporting.proofs.NoteRows.{whole_of_notes}
+use Rattle.codespan_reporting.proofs.SheetPrepared.{labels-answered, labels-refused}
 
 -- where there is a label there is a lookup before the header
 pub some_early : {Id : Type 0} (config : Config) (same : Id → Id → Bool) (file : Id → FileModel) (refusal : Refusals Id) (xs : List (InFile Id)) → 0 < length xs
@@ -44,43 +47,91 @@ some_late config same file refusal [] some = absurd (omega arith)
 some_late config same file refusal (x ∷ xs) some = omega arith
 
 -- without labels the picture is its header and its notes
-pub bare-whole : {Id : Type 0} (renderer view : Config) (same : Id → Id → Bool) (file : Id → FileModel) (refusal : Refusals Id) (d : Diagnostic Id) (old new : Sink) (r : Result (Unit {0}) Error)
+pub bare-whole : {Id : Type 0} {renderer view : Config} {same : Id → Id → Bool} {file : Id → FileModel} {refusal : Refusals Id} {d : Diagnostic Id} {old new : Sink} (r : Result (Unit {0}) Error)
     → labels_of d ≡ []
     → Sends old (header_row d.severity None (heading_of d) ++ newline ++ whole_of_notes (look_of renderer d.severity 0) (notes_of d)) r new → IfErr r IsIo
     → DrawsRich renderer view same file refusal d old r new
-bare-whole {Id} renderer view same file refusal d old new r none sends io =
-    finished renderer view same file refusal d old old new [] (header_row d.severity None (heading_of d) ++ newline ++ whole_of_notes (look_of renderer d.severity 0) (notes_of d)) r
-    (ap (λ (xs : List (InFile Id)). first_refusal refusal (early_lookups view same file refusal xs)) none)
-    (ap (λ (xs : List (InFile Id)). first_refusal refusal (late_lookups view same file refusal xs)) none)
-    (refl, λ told. sym (sent-nil old)) sends io []
-    (subst (λ (xs : List (InFile Id)). AllZip IsPlaceOfFile (labelled_files same file xs) []) (sym none) tt)
-    (ap (λ (xs : List (InFile Id)). stream_of_rows (look_of renderer d.severity (padding_of view (labelled_files same file xs))) (HeaderRow None (heading_of d) ∷ (note_rows (notes_of d) ++ (BlankRow ∷ [])))) none)
+bare-whole {renderer = renderer} {view = view} {same = same} {file = file} {refusal = refusal} {d = d} {old = old} r none sends io =
+    finished [] (header_row d.severity None (heading_of d) ++ newline ++ whole_of_notes (look_of renderer d.severity 0) (notes_of d)) r
+    (ap (λ (xs : List (InFile _)). first_refusal refusal (early_lookups view same file refusal xs)) none)
+    (ap (λ (xs : List (InFile _)). first_refusal refusal (late_lookups view same file refusal xs)) none, (refl, λ told. sym (sent-nil old)))
+    sends io
+    (record {
+      places = [];
+      are = subst (λ (xs : List (InFile _)). AllZip IsPlaceOfFile (labelled_files same file xs) []) (sym none) tt;
+      holds = ap (λ (xs : List (InFile _)). stream_of_rows (look_of renderer d.severity (padding_of view (labelled_files same file xs))) (HeaderRow None (heading_of d) ∷ (note_rows (notes_of d) ++ (BlankRow ∷ [])))) none;
+    })
 
-module _ {Id : Type 0} (renderer view : Config) (same : Id → Id → Bool) (file : Id → FileModel) (refusal : Refusals Id) (d : Diagnostic Id) (sheet : Sheet Id)
-    (prepared : IsPrepared same file view (labels_of d) sheet) (early : first_refusal refusal (early_lookups view same file refusal (labels_of d)) ≡ None) where
-  -- what all rows share
-  abbrev look : Look
-  look = look_of renderer d.severity sheet.padding
+-- ---- before the header
 
+-- where the labels' lookups are answered, those of the sheet tell what those before the header are refused with
+early-is_sheet : {Id : Type 0} (view : Config) (same : Id → Id → Bool) (file : Id → FileModel) (refusal : Refusals Id) {given gathered items : List (Label Id)} → given ≡ items → gathered ≡ given
+    → first_refusal refusal (label_lookups view file refusal (map label_of given)) ≡ None
+    → first_refusal refusal (early_lookups view same file refusal (map label_of items)) ≡ sheet_refusal view same file refusal (map label_of gathered)
+early-is_sheet view same file refusal {given} given_are gathered_are answered =
+    ap (λ ls. first_refusal refusal (early_lookups view same file refusal (map label_of ls))) (sym given_are)
+    ∙ labels-answered same file view (map label_of given) refusal answered
+    ∙ ap (λ ls. sheet_refusal view same file refusal (map label_of ls)) (sym gathered_are)
+
+-- a sheet that is prepared of the labels that were gathered is that of the diagnostic's
+pub prepared-of_all : {Id : Type 0} {view : Config} {same : Id → Id → Bool} {file : Id → FileModel} {given gathered items : List (Label Id)} {sheet : Sheet Id} → given ≡ items → gathered ≡ given
+    → IsPrepared same file view (map label_of gathered) sheet → IsPrepared same file view (map label_of items) sheet
+prepared-of_all {view = view} {same = same} {file = file} {sheet = sheet} given_are gathered_are prepared =
+    subst (λ ls. IsPrepared same file view (map label_of ls) sheet) (gathered_are ∙ given_are) prepared
+
+-- a view is ready to draw: its sheet is prepared, and the lookups before the header are answered
+pub record IsReady {Id : Type 0} (view : Config) (same : Id → Id → Bool) (file : Id → FileModel) (refusal : Refusals Id) (d : Diagnostic Id) (sheet : Sheet Id) : Type 0 where
+  pub prepared : IsPrepared same file view (labels_of d) sheet
+  pub early : early_refusal view same file refusal d ≡ None
+
+module _ {Id : Type 0} {view : Config} {same : Id → Id → Bool} {file : Id → FileModel} {refusal : Refusals Id} {d : Diagnostic Id} {given : List (Label Id)} (given_are : given ≡ d.labels.items) where
+  -- a label's lookup refused
+  pub stopped-gathering : {renderer : Config} {s : Sink} {e : Error} → 0 < length d.labels.items
+      → (e ≢ OutOfMemory → first_refusal refusal (label_lookups view file refusal (map label_of given)) ≡ Some e) → DrawsRich renderer view same file refusal d s (Err e) s
+  stopped-gathering {e = e} some told =
+      refused_early refl (some_early view same file refusal (labels_of d) (omega (arith, some, length-map d.labels.items label_of)))
+      (λ memory display. ap (λ ls. first_refusal refusal (early_lookups view same file refusal (map label_of ls))) (sym given_are)
+      ∙ labels-refused same file view (map label_of given) refusal e (told memory))
+
+  module _ {gathered : List (Label Id)} (gathered_are : gathered ≡ given) (answered : first_refusal refusal (label_lookups view file refusal (map label_of given)) ≡ None) where
+    -- a lookup of the sheet refused
+    pub stopped-preparing : {renderer : Config} {s : Sink} {e : Error} → 0 < length d.labels.items
+        → (e ≢ OutOfMemory → e ≢ FormatError → sheet_refusal view same file refusal (map label_of gathered) ≡ Some e) → DrawsRich renderer view same file refusal d s (Err e) s
+    stopped-preparing some told =
+        refused_early refl (some_early view same file refusal (labels_of d) (omega (arith, some, length-map d.labels.items label_of)))
+        (λ memory display. early-is_sheet view same file refusal given_are gathered_are answered ∙ told memory display)
+
+    -- all of these lookups are answered
+    pub ready : {sheet : Sheet Id} → IsPrepared same file view (map label_of gathered) sheet → sheet_refusal view same file refusal (map label_of gathered) ≡ None
+        → IsReady view same file refusal d sheet
+    ready prepared told = record {
+      prepared = prepared-of_all given_are gathered_are prepared;
+      early = early-is_sheet view same file refusal given_are gathered_are answered ∙ told;
+    }
+
+-- ---- from the header on
+
+module _ {Id : Type 0} {view : Config} {same : Id → Id → Bool} {file : Id → FileModel} {refusal : Refusals Id} {d : Diagnostic Id} {sheet : Sheet Id} (ready : IsReady view same file refusal d sheet) where
   -- the header, with the end of its row
   abbrev header : Stream
   header = header_row d.severity None (heading_of d) ++ newline
 
-  -- the snippets
-  abbrev middle : Stream
-  middle = stream_of_rows look (placed_snippets view (has_any (notes_of d)) (places_of sheet.files.items) (labelled_files same file (labels_of d)))
+  -- the snippets, as a configuration draws them
+  abbrev middle : Config → Stream
+  middle k = stream_of_rows (look_of k d.severity sheet.padding) (placed_snippets view (has_any (notes_of d)) (places_of sheet.files.items) (labelled_files same file (labels_of d)))
 
   -- the notes and the empty line
-  abbrev end : Stream
-  end = whole_of_notes look (notes_of d)
+  abbrev end : Config → Stream
+  end k = whole_of_notes (look_of k d.severity sheet.padding) (notes_of d)
 
-  -- where the snippets start
-  abbrev places : List Place
-  places = places_of sheet.files.items
+  -- all of these
+  abbrev whole : Config → Stream
+  whole k = (header ++ middle k) ++ end k
 
-  -- they are places of the files
-  places-are : AllZip IsPlaceOfFile (labelled_files same file (labels_of d)) places
-  places-are = subst (λ (ids : List Id). AllZip IsPlaceOfFile (map (labelled_file same file (labels_of d)) ids) places) prepared.ids_are (from sheet.files.items prepared.files_are)
+  -- where the snippets start are places of the files
+  places-are : AllZip IsPlaceOfFile (labelled_files same file (labels_of d)) (places_of sheet.files.items)
+  places-are =
+      subst (λ (ids : List Id). AllZip IsPlaceOfFile (map (labelled_file same file (labels_of d)) ids) (places_of sheet.files.items)) ready.prepared.ids_are (from sheet.files.items ready.prepared.files_are)
     where
       from : (fs : List (SheetFile Id)) → AllByRecursion (λ (f : SheetFile Id). IsSheetFile view (labelled_file same file (labels_of d) f.file.now.id) f) fs
           → AllZip IsPlaceOfFile (map (labelled_file same file (labels_of d)) (ids_of fs)) (places_of fs)
@@ -88,45 +139,53 @@ module _ {Id : Type 0} (renderer view : Config) (same : Id → Id → Bool) (fil
       from (f ∷ fs) are = (are.0.place, from fs are.1)
 
   -- the picture with these places is all of these
-  placed-is : placed_picture renderer view same file d Rich places ≡ (header ++ middle) ++ end
-  placed-is =
-      let rows = placed_snippets view (has_any (notes_of d)) places (labelled_files same file (labels_of d)) in
+  placed-is : (renderer : Config) → ForSomeNames renderer view same file refusal d Rich (λ s. s ≡ whole renderer)
+  placed-is renderer =
+      let rows = placed_snippets view (has_any (notes_of d)) (places_of sheet.files.items) (labelled_files same file (labels_of d)) in
+      let look = look_of renderer d.severity sheet.padding in
       let ended : Row → Stream = λ row. stream_of look row ++ newline in
-      ap (λ n. stream_of_rows (look_of renderer d.severity n) ((HeaderRow None (heading_of d) ∷ rows) ++ note_rows (notes_of d) ++ (BlankRow ∷ []))) (sym prepared.padding_is)
-      ∙ ap (stream_of_rows look) (append_assoc (HeaderRow None (heading_of d) ∷ rows) (note_rows (notes_of d)) (BlankRow ∷ []))
-      ∙ flat_map-append ended (HeaderRow None (heading_of d) ∷ rows) (note_rows (notes_of d) ++ (BlankRow ∷ []))
+      record {
+        places = places_of sheet.files.items;
+        are = places-are;
+        holds = ap (λ n. stream_of_rows (look_of renderer d.severity n) ((HeaderRow None (heading_of d) ∷ rows) ++ note_rows (notes_of d) ++ (BlankRow ∷ []))) (sym ready.prepared.padding_is)
+            ∙ ap (stream_of_rows look) (append_assoc (HeaderRow None (heading_of d) ∷ rows) (note_rows (notes_of d)) (BlankRow ∷ []))
+            ∙ flat_map-append ended (HeaderRow None (heading_of d) ∷ rows) (note_rows (notes_of d) ++ (BlankRow ∷ []));
+      }
 
-  -- where the names are stated that is the picture
-  picture-is : NamesAreStated file d → drawn_picture renderer view same file refusal d Rich ≡ (header ++ middle) ++ end
-  picture-is named = sym (placed-named same file d renderer view named Rich places places-are) ∙ placed-is
+  -- a beginning of that is one of the picture, where the names are stated
+  begun-as : (renderer : Config) {old new : Sink} → (is_told old ≡ true → Began old (whole renderer) new) → NamesAreStated file d → is_told old ≡ true
+      → Began old (drawn_picture renderer view same file refusal d Rich) new
+  begun-as renderer {old} {new} begun named told =
+      let names = placed-is renderer in
+      Began-as old new (whole renderer) _ (sym (placed-named same file d renderer view named Rich names.places names.are) ∙ names.holds) (begun told)
 
-  -- the header was cut short
-  pub stopped-in_header : (old new : Sink) (e : Error) → Sends old header (Err e) new → IsIo e → DrawsRich renderer view same file refusal d old (Err e) new
-  stopped-in_header old new e sends io =
-      refused_by_writer renderer view same file refusal d old new e early sends.0 io
-      (λ named told. Began-as old new ((header ++ middle) ++ end) _ (picture-is named) ((stopped-before end (stopped-before middle sends)).1 told))
+  module _ {renderer : Config} where
+    -- the header was cut short
+    pub stopped-in_header : {old new : Sink} {e : Error} → Sends old header (Err e) new → IsIo e → DrawsRich renderer view same file refusal d old (Err e) new
+    stopped-in_header sends io = refused_by_writer ready.early sends.0 io (begun-as renderer (stopped-before (end renderer) (stopped-before (middle renderer) sends)).1)
 
-  -- the snippets were cut short
-  pub stopped-in_snippets : (old mid new : Sink) (e : Error) → 0 < length (labels_of d) → Came old header mid
-      → SendsAsking (first_refusal refusal (late_lookups view same file refusal (labels_of d))) mid middle (Err e) new → DrawsRich renderer view same file refusal d old (Err e) new
-  stopped-in_snippets old mid new e some came part =
-      ⊎_elim
-      (λ (w : IsIo e × Stopped mid middle new). let stopped = stopped-before end (stopped-then header came w.1) in
-      refused_by_writer renderer view same file refusal d old new e early stopped.0 w.0
-      (λ named told. Began-as old new ((header ++ middle) ++ end) _ (picture-is named) (stopped.1 told)))
-      (λ (w : EndedAsking (first_refusal refusal (late_lookups view same file refusal (labels_of d))) mid middle e new).
-      refused_late renderer view same file refusal d old new e early (w.frame ∙ came.0) (some_late view same file refusal (labels_of d) some) w.told
-      (λ named told. Began-as old new ((header ++ middle) ++ end) _ (picture-is named)
-      (cut old mid new came w.begun told)))
-      part
-    where
-      cut : (old mid new : Sink) → Came old header mid → (is_told mid ≡ true → Began mid middle new) → is_told old ≡ true → Began old ((header ++ middle) ++ end) new
-      cut old mid new came begun told =
-          Began-first old (header ++ middle) new end (Began-last old header middle new (subst (λ (x : Sink). Began x middle new) (came.1 told) (begun (told-after old mid header told (came.1 told)))))
+    -- the snippets were cut short, drawn by an equal configuration
+    pub stopped-in_snippets : {now : Config} {old mid new : Sink} {e : Error} → 0 < length d.labels.items → Came old header mid → now ≡ renderer
+        → SendsAsking (late_refusal view same file refusal d) mid (middle now) (Err e) new → DrawsRich renderer view same file refusal d old (Err e) new
+    stopped-in_snippets {now} {old} {mid} {new} {e} some came alike part =
+        ⊎_elim
+        (λ (w : IsIo e × Stopped mid (middle renderer) new). let stopped = stopped-before (end renderer) (stopped-then header came w.1) in refused_by_writer ready.early stopped.0 w.0 (begun-as renderer stopped.1))
+        (λ (w : EndedAsking (late_refusal view same file refusal d) mid (middle renderer) e new).
+        refused_late ready.early (w.frame ∙ came.0) (some_late view same file refusal (labels_of d) (omega (arith, some, length-map d.labels.items label_of))) w.told
+        (begun-as renderer (λ told. cut told (came.1 told) w.begun)))
+        (subst (λ (k : Config). SendsAsking (late_refusal view same file refusal d) mid (middle k) (Err e) new) alike part)
+      where
+        cut : is_told old ≡ true → mid ≡ sent old header → (is_told mid ≡ true → Began mid (middle renderer) new) → Began old (whole renderer) new
+        cut told is begun =
+            Began-first old (header ++ middle renderer) new (end renderer)
+            (Began-last old header (middle renderer) new (subst (λ (x : Sink). Began x (middle renderer) new) is (begun (told-after old mid header told is))))
 
-  -- header and snippets came, and then the notes were sent
-  pub drawn-whole : (old mid last new : Sink) (r : Result (Unit {0}) Error) → Came old header mid
-      → SendsAsking (first_refusal refusal (late_lookups view same file refusal (labels_of d))) mid middle (Ok tt) last
-      → Sends last end r new → IfErr r IsIo → DrawsRich renderer view same file refusal d old r new
-  drawn-whole old mid last new r came part sends io =
-      finished renderer view same file refusal d old last new (header ++ middle) end r early part.0 (came-then old header middle came part.1) sends io places places-are placed-is
+    -- header and snippets came, and then the notes were sent
+    pub drawn-whole : {second third : Config} {old mid last new : Sink} (r : Result (Unit {0}) Error) → Came old header mid
+        → second ≡ renderer → SendsAsking (late_refusal view same file refusal d) mid (middle second) (Ok tt) last
+        → third ≡ renderer → Sends last (end third) r new → IfErr r IsIo → DrawsRich renderer view same file refusal d old r new
+    drawn-whole {old = old} {mid = mid} {last = last} {new = new} r came alike part alike_end sends io =
+        let drawn : (late_refusal view same file refusal d ≡ None) × Came mid (middle renderer) last =
+        subst (λ (k : Config). SendsAsking (late_refusal view same file refusal d) mid (middle k) (Ok tt) last) alike part in
+        finished (header ++ middle renderer) (end renderer) r ready.early (drawn.0, came-then old header (middle renderer) came drawn.1)
+        (subst (λ (k : Config). Sends last (end k) r new) alike_end sends) io (placed-is renderer)
