@@ -1,9 +1,10 @@
 -- The snippets of a sheet, one after another.
-use Rattle.std.proofs.Common.{◌≡◌, ℕ, zero, suc, ◌+◌, ◌-◌, ◌<◌, ◌≤◌, Bool, true, false, ◌||◌, List, [], ◌∷◌, ◌++◌, length, drop, get_or, map, Option, None, Result, Ok, Err, refl, sym, ap, ◌∙◌, arith, lt-ltb}
+use Rattle.std.proofs.Common.{◌≡◌, ℕ, zero, suc, ◌+◌, ◌-◌, ◌<◌, ◌≤◌, Bool, true, false, ◌||◌, List, [], ◌∷◌, ◌++◌, length, drop, get_or, map, Option, None, Result, Ok, Err, refl, sym, subst, ap, ◌∙◌, arith, lt-ltb}
 use Rattle.std.specs.Prelude.{flat_map, nat_lt, if◌then◌else◌}
 use Rattle.std.proofs.Math.Seq.{drop-cons}
 use Rattle.std.proofs.lemmas.Grind.{common_steps, flat_map-append}
 use Rattle.std.proofs.lemmas.List.{append-nil, append_assoc, get_or-map, length-drop, length-map}
+use Rattle.std.proofs.lemmas.List.Elements.{All-from_recursion}
 use Rattle.codespan_base.specs.declared.term.config.Config.{Config}
 use Rattle.codespan_base.specs.declared.files.Error.{Error}
 use Rattle.codespan_base.specs.FileModel.{FileModel, Lookup, or_refusal}
@@ -11,19 +12,23 @@ use Rattle.codespan_base.specs.Streams.{Stream, newline}
 use Rattle.codespan_base.specs.WriterLaw.{Sink}
 use Rattle.codespan_reporting.specs.Inner.Asking.{SendsAsking}
 use Rattle.codespan_picture.specs.Placed.{placed_snippet, placed_snippets}
-use Rattle.codespan_picture.specs.Lookups.{Refusals, asked_of, first_refusal, snippet_lookups}
+use Rattle.codespan_picture.specs.Lookups.{Refusals, asked_of, first_refusal, late_lookups, snippet_lookups}
+use Rattle.codespan_picture.specs.Picture.{labels_of, look_of, notes_of}
 use Rattle.codespan_picture.specs.Rows.{EmptyRow, Look, Place, Row, StartRow}
 use Rattle.codespan_picture.specs.RowStreams.{stream_of, stream_of_rows}
-use Rattle.codespan_picture.specs.Snippets.{InFile, LabelledFile, bare_lanes, is_followed, labelled_file, lane_count}
+use Rattle.codespan_picture.specs.Snippets.{InFile, LabelledFile, bare_lanes, has_any, is_followed, labelled_file, labelled_files, lane_count}
 use Rattle.codespan_base.specs.FileModel.Lookup.{Source}
 use Rattle.codespan_picture.specs.Given.{place_of_given}
-use Rattle.codespan_reporting.specs.Inner.GivenSheets.{IsSheetFile, ids_of, places_of}
+use Rattle.codespan_reporting.specs.Inner.GivenSheets.{IsPrepared, IsSheetFile, ids_of, places_of}
 use Rattle.codespan_reporting.specs.Inner.GivenSnippets.{lookups_with, rows_in}
 use Rattle.codespan_reporting.specs.Inner.GivenSteps.{step_of}
 use Rattle.codespan_reporting.specs.Inner.Lanes.{lane_given}
 use Rattle.codespan_reporting.specs.Inner.Steps.{rows_of_steps}
+use Rattle.codespan_reporting.specs.Views.{diagnostic_of, view_config_of}
+use Rattle.codespan_reporting.specs.declared.term.views.rich.RichDiagnostic.{RichDiagnostic}
+use Rattle.codespan_reporting.specs.declared.term.views.sheet.Sheet.{Sheet}
 use Rattle.codespan_reporting.specs.declared.term.views.sheet.SheetFile.{SheetFile}
-use Rattle.codespan_reporting.proofs.Askings.{asking_as, asking_cut, asking_nothing, asking_then, first_refusal-append}
+use Rattle.codespan_reporting.proofs.Askings.{asking_cut, asking_nothing, asking_then, first_refusal-append}
 use Rattle.codespan_reporting.proofs.LaneMarks.{file_lanes-count}
 
 -- the elements from one on: that one, and those after it
@@ -42,98 +47,7 @@ drop-end (x ∷ xs) (suc k) past = drop-end xs k (omega arith)
 pub rows-two : (look : Look) (a b : List Row) → stream_of_rows look (a ++ b) ≡ stream_of_rows look a ++ stream_of_rows look b
 rows-two look a b = flat_map-append (λ r. stream_of look r ++ newline) a b
 
-module _ {Id : Type 0} (same : Id → Id → Bool) (file : Id → FileModel) (refusal : Refusals Id) (config : Config) (xs : List (InFile Id)) (ids : List Id)
-    (has_notes : Bool) (look : Look) (places : List Place) where
-  -- a file with its labels
-  abbrev labelled : Id → LabelledFile
-  labelled = labelled_file same file xs
-
-  -- the lookups with a file's snippet
-  abbrev asked_with : Id → List (Id × Lookup)
-  asked_with = snippet_lookups config same file xs
-
-  -- the rows of the files from a place on
-  abbrev pub rows_left : ℕ → List Row
-  rows_left k = placed_snippets config has_notes (drop k places) (map labelled (drop k ids))
-
-  -- their lookups
-  abbrev pub asked_left : ℕ → List (Id × Lookup)
-  asked_left k = flat_map asked_with (drop k ids)
-
-  -- the files before this place are drawn, and all lookups with them were answered
-  pub record SnippetsLeft (k : ℕ) (old now : Sink) : Type 0 where
-    pub rows : List Row
-    pub drawn : SendsAsking None old (stream_of_rows look rows) (Ok tt) now
-    pub rows_whole : rows ++ rows_left k ≡ rows_left 0
-    pub asked : List (Id × Lookup)
-    pub answered : first_refusal refusal asked ≡ None
-    pub asked_whole : asked ++ asked_left k ≡ asked_left 0
-
-  -- no file is drawn
-  pub left-start : (s : Sink) → SnippetsLeft 0 s s
-  left-start s = record { rows = []; drawn = asking_nothing s; rows_whole = refl; asked = []; answered = refl; asked_whole = refl }
-
-  module _ (k : ℕ) (id : Id) (place : Place) (inside : k < length ids) (at : id ≡ get_or ids k id) (long : k < length places) (there : place ≡ get_or places k place) where
-    -- the rows of the file at the place
-    abbrev pub rows_here : List Row
-    rows_here = placed_snippet config (is_followed has_notes (drop (k + 1) ids)) place (labelled id)
-
-    -- these come first among those that are left
-    rows-next : rows_left k ≡ rows_here ++ rows_left (k + 1)
-    rows-next = ap (λ (ps : List Place). placed_snippets config has_notes ps (map labelled (drop k ids))) (drop-one places k place long there)
-        ∙ ap (λ (js : List Id). placed_snippets config has_notes (place ∷ drop (k + 1) places) (map labelled js)) (drop-one ids k id inside at)
-        ∙ ap (λ (b : Bool). placed_snippet config b place (labelled id) ++ rows_left (k + 1)) (followed-mapped (drop (k + 1) ids))
-      where
-        followed-mapped : (js : List Id) → is_followed has_notes (map labelled js) ≡ is_followed has_notes js
-        followed-mapped [] = refl
-        followed-mapped (j ∷ js) = refl
-
-    -- and so do its lookups
-    asked-next : asked_left k ≡ asked_with id ++ asked_left (k + 1)
-    asked-next = ap (flat_map asked_with) (drop-one ids k id inside at)
-
-    -- the file is drawn
-    pub left-next : (old mid now : Sink) (x : Unit {0}) → SnippetsLeft k old mid → SendsAsking (first_refusal refusal (asked_with id)) mid (stream_of_rows look rows_here) (Ok x) now
-        → SnippetsLeft (k + 1) old now
-    left-next old mid now x left drawn = record {
-      rows = left.rows ++ rows_here;
-      drawn = asking_as (or_refusal None (first_refusal refusal (asked_with id))) None old now _ _ (Ok tt) drawn.0 (sym (rows-two look left.rows rows_here))
-          (asking_then None (first_refusal refusal (asked_with id)) old mid now _ _ tt (Ok tt) left.drawn drawn);
-      rows_whole = append_assoc left.rows rows_here (rows_left (k + 1)) ∙ ap (λ (r : List Row). left.rows ++ r) (sym rows-next) ∙ left.rows_whole;
-      asked = left.asked ++ asked_with id;
-      answered = first_refusal-append refusal left.asked (asked_with id) ∙ ap (λ (o : Option Error). or_refusal o (first_refusal refusal (asked_with id))) left.answered ∙ drawn.0;
-      asked_whole = append_assoc left.asked (asked_with id) (asked_left (k + 1)) ∙ ap (λ (ls : List (Id × Lookup)). left.asked ++ ls) (sym asked-next) ∙ left.asked_whole;
-    }
-
-    -- the file was cut short
-    pub left-cut : (old mid now : Sink) (e : Error) → SnippetsLeft k old mid → SendsAsking (first_refusal refusal (asked_with id)) mid (stream_of_rows look rows_here) (Err e) now
-        → SendsAsking (first_refusal refusal (asked_left 0)) old (stream_of_rows look (rows_left 0)) (Err e) now
-    left-cut old mid now e left cut =
-        let here = first_refusal refusal (asked_with id) in
-        let after = first_refusal refusal (asked_left (k + 1)) in
-        asking_as (or_refusal None (or_refusal here after)) (first_refusal refusal (asked_left 0)) old now _ _ (Err e)
-        (sym (ap (λ (o : Option Error). or_refusal o (or_refusal here after)) left.answered)
-        ∙ ap (or_refusal (first_refusal refusal left.asked)) (sym (first_refusal-append refusal (asked_with id) (asked_left (k + 1))) ∙ ap (first_refusal refusal) (sym asked-next))
-        ∙ sym (first_refusal-append refusal left.asked (asked_left k)) ∙ ap (first_refusal refusal) left.asked_whole)
-        (ap (λ (s : Stream). stream_of_rows look left.rows ++ s) (sym (rows-two look rows_here (rows_left (k + 1))) ∙ ap (stream_of_rows look) (sym rows-next))
-        ∙ sym (rows-two look left.rows (rows_left k)) ∙ ap (stream_of_rows look) left.rows_whole)
-        (asking_then None (or_refusal here after) old mid now _ _ tt (Err e) left.drawn (asking_cut here after mid now (stream_of_rows look rows_here) (stream_of_rows look (rows_left (k + 1))) e cut))
-
-  -- all files are drawn
-  pub left-end : (k : ℕ) (old now : Sink) → length ids ≤ k → SnippetsLeft k old now
-      → SendsAsking (first_refusal refusal (asked_left 0)) old (stream_of_rows look (rows_left 0)) (Ok tt) now
-  left-end k old now past left =
-      let none : drop k ids ≡ [] = drop-end ids k past in
-      asking_as None (first_refusal refusal (asked_left 0)) old now _ _ (Ok tt)
-      (sym left.answered ∙ ap (first_refusal refusal) (sym (append-nil left.asked) ∙ ap (λ (js : List Id). left.asked ++ flat_map asked_with js) (sym none) ∙ left.asked_whole))
-      (ap (stream_of_rows look) (sym (append-nil left.rows) ∙ ap (λ (r : List Row). left.rows ++ r) (sym (no-rows (drop k places)) ∙ ap (λ (js : List Id). placed_snippets config has_notes (drop k places) (map labelled js)) (sym none)) ∙ left.rows_whole))
-      left.drawn
-    where
-      no-rows : (ps : List Place) → placed_snippets config has_notes ps [] ≡ []
-      no-rows [] = refl
-      no-rows (p ∷ ps) = refl
-
--- ---- the files of a sheet
+-- ---- what follows a snippet
 
 -- a snippet is followed by another one, or by notes
 followed-is : {X : Type 0} (has_notes : Bool) (ys : List X) → is_followed has_notes ys ≡ (has_notes || nat_lt 0 (length ys))
@@ -147,46 +61,222 @@ left-over : (a b : ℕ) → nat_lt 0 (b - a) ≡ nat_lt a b
 left-over a b = grind (arith, common_steps)
 
 -- something follows where there are notes or another file
-pub followed-at : {X : Type 0} (b : Bool) (xs : List X) (k : ℕ) → is_followed b (drop (k + 1) xs) ≡ (b || nat_lt (k + 1) (length xs))
+followed-at : {X : Type 0} (b : Bool) (xs : List X) (k : ℕ) → is_followed b (drop (k + 1) xs) ≡ (b || nat_lt (k + 1) (length xs))
 followed-at has_notes xs k =
     followed-is has_notes (drop (k + 1) xs)
     ∙ ap (λ n. has_notes || nat_lt 0 n) (length-drop (k + 1) xs)
     ∙ ap (λ (b : Bool). has_notes || b) (left-over (k + 1) (length xs))
 
-module _ {Id : Type 0} (same : Id → Id → Bool) (file : Id → FileModel) (config : Config) (xs : List (InFile Id)) (f : SheetFile Id) (is : IsSheetFile config (labelled_file same file xs f.file.now.id) f) where
-  -- the file with its labels
-  abbrev own : LabelledFile
-  own = labelled_file same file xs f.file.now.id
+-- ---- the file at a place
 
-  -- it has as many lanes as its file
+-- a sheet's files have this one at this place
+pub record IsFileAt {Id : Type 0} (files : List (SheetFile Id)) (k : ℕ) (f : SheetFile Id) : Type 0 where
+  pub inside : k < length files
+  pub is : f ≡ get_or files k f
+
+-- one that equal files have there
+pub file-at : {Id : Type 0} {gs files : List (SheetFile Id)} {k : ℕ} {f : SheetFile Id} → gs ≡ files → k < length gs → f ≡ get_or gs k f → IsFileAt files k f
+file-at {Id} {k = k} {f = f} alike inside is = record {
+  inside = subst (λ (hs : List (SheetFile Id)). k < length hs) alike inside;
+  is = is ∙ ap (λ (hs : List (SheetFile Id)). get_or hs k f) alike;
+}
+
+module _ {Id : Type 0} {files : List (SheetFile Id)} {k : ℕ} {f : SheetFile Id} (at : IsFileAt files k f) where
+  -- its id and its place stand where it does
+  id-inside : k < length (ids_of files)
+  id-inside = omega (arith, at.inside, length-map files (λ (g : SheetFile Id). g.file.now.id))
+
+  id-at : f.file.now.id ≡ get_or (ids_of files) k f.file.now.id
+  id-at = ap (λ (g : SheetFile Id). g.file.now.id) at.is ∙ sym (get_or-map (λ (g : SheetFile Id). g.file.now.id) files k f f.file.now.id at.inside)
+
+  place-inside : k < length (places_of files)
+  place-inside = omega (arith, at.inside, length-map files (λ (g : SheetFile Id). place_of_given g.locus))
+
+  place-at : place_of_given f.locus ≡ get_or (places_of files) k (place_of_given f.locus)
+  place-at = ap (λ (g : SheetFile Id). place_of_given g.locus) at.is ∙ sym (get_or-map (λ (g : SheetFile Id). place_of_given g.locus) files k f (place_of_given f.locus) at.inside)
+
+-- it is the file of its labels
+pub is-sheet_file : {Id : Type 0} {same : Id → Id → Bool} {file : Id → FileModel} {config : Config} {xs : List (InFile Id)} {sheet : Sheet Id} {k : ℕ} {f : SheetFile Id}
+    → IsPrepared same file config xs sheet → IsFileAt sheet.files.items k f → IsSheetFile config (labelled_file same file xs f.file.now.id) f
+is-sheet_file {Id} {same} {file} {config} {xs} {sheet} {k} {f} prepared at =
+    let Is : SheetFile Id → Type 0 = λ h. IsSheetFile config (labelled_file same file xs h.file.now.id) h in
+    subst Is (sym at.is) (All-from_recursion Is sheet.files.items prepared.files_are k f at.inside)
+
+module _ {Id : Type 0} {config : Config} {own : LabelledFile} {f : SheetFile Id} (is : IsSheetFile config own f) where
+  -- it has as many lanes as its labels need
   count : length f.file.now.lanes.items ≡ lane_count own
   count = sym (length-map f.file.now.lanes.items lane_given) ∙ ap length is.lanes_are ∙ file_lanes-count own
 
   -- its rows
-  rows-are : (followed : Bool) → rows_in f (file f.file.now.id) followed ≡ placed_snippet config followed (place_of_given f.locus) own
+  rows-are : (followed : Bool) → rows_in f own.file followed ≡ placed_snippet config followed (place_of_given f.locus) own
   rows-are followed =
-      (λ i. (StartRow (place_of_given f.locus) ∷ EmptyRow (record { count = count i; marks = [] }) ∷ []) ++ rows_of_steps (file f.file.now.id) (is.lanes_are i) (map step_of f.steps.items)
+      (λ i. (StartRow (place_of_given f.locus) ∷ EmptyRow (record { count = count i; marks = [] }) ∷ []) ++ rows_of_steps own.file (is.lanes_are i) (map step_of f.steps.items)
       ++ (if followed then EmptyRow (record { count = count i; marks = [] }) ∷ [] else []))
       ∙ ap (λ (r : List Row). (StartRow (place_of_given f.locus) ∷ EmptyRow (bare_lanes own) ∷ []) ++ r ++ (if followed then EmptyRow (bare_lanes own) ∷ [] else [])) is.rows
 
-  -- the call draws its snippet, and makes its lookups
-  pub drawn-file : (refusal : Refusals Id) (look : Look) (old new : Sink) (r : Result (Unit {0}) Error) (followed other : Bool) → followed ≡ other
-      → SendsAsking (first_refusal refusal (asked_of f.file.now.id (lookups_with f))) old (stream_of_rows look (rows_in f (file f.file.now.id) followed)) r new
-      → SendsAsking (first_refusal refusal (snippet_lookups config same file xs f.file.now.id)) old (stream_of_rows look (placed_snippet config other (place_of_given f.locus) own)) r new
-  drawn-file refusal look old new r followed other alike drawn =
-      asking_as _ _ old new _ _ r (ap (λ (ls : List Lookup). first_refusal refusal (asked_of f.file.now.id (Source ∷ ls))) is.asked)
-      (ap (stream_of_rows look) (rows-are followed ∙ ap (λ (b : Bool). placed_snippet config b (place_of_given f.locus) own) alike)) drawn
+-- ---- the files from a place on
 
-module _ {Id : Type 0} (files : List (SheetFile Id)) (k : ℕ) (f : SheetFile Id) (inside : k < length files) (at : f ≡ get_or files k f) where
-  -- its id and its place stand where it does
-  pub id-inside : k < length (ids_of files)
-  id-inside = omega (arith, inside, length-map files (λ (g : SheetFile Id). g.file.now.id))
+module _ {Id : Type 0} (same : Id → Id → Bool) (file : Id → FileModel) (view : RichDiagnostic Id) where
+  -- a file with its labels
+  abbrev pub labelled : Id → LabelledFile
+  labelled = labelled_file same file (labels_of (diagnostic_of view))
 
-  pub id-at : f.file.now.id ≡ get_or (ids_of files) k f.file.now.id
-  id-at = ap (λ (g : SheetFile Id). g.file.now.id) at ∙ sym (get_or-map (λ (g : SheetFile Id). g.file.now.id) files k f f.file.now.id inside)
+  -- the lookups with a file's snippet
+  abbrev pub asked_with : Id → List (Id × Lookup)
+  asked_with = snippet_lookups (view_config_of view) same file (labels_of (diagnostic_of view))
 
-  pub place-inside : k < length (places_of files)
-  place-inside = omega (arith, inside, length-map files (λ (g : SheetFile Id). place_of_given g.locus))
+  module _ (sheet : Sheet Id) where
+    -- the rows of the files from a place on
+    abbrev pub rows_left : ℕ → List Row
+    rows_left k = placed_snippets (view_config_of view) (has_any (notes_of (diagnostic_of view))) (drop k (places_of sheet.files.items)) (map labelled (drop k (ids_of sheet.files.items)))
 
-  pub place-at : place_of_given f.locus ≡ get_or (places_of files) k (place_of_given f.locus)
-  place-at = ap (λ (g : SheetFile Id). place_of_given g.locus) at ∙ sym (get_or-map (λ (g : SheetFile Id). place_of_given g.locus) files k f (place_of_given f.locus) inside)
+    -- their lookups
+    abbrev pub asked_left : ℕ → List (Id × Lookup)
+    asked_left k = flat_map asked_with (drop k (ids_of sheet.files.items))
+
+    -- the files before this place are drawn, and all lookups with them were answered
+    pub record SnippetsLeft (refusal : Refusals Id) (renderer : Config) (k : ℕ) (old now : Sink) : Type 0 where
+      pub rows : List Row
+      pub drawn : SendsAsking None old (stream_of_rows (look_of renderer (diagnostic_of view).severity sheet.padding) rows) (Ok tt) now
+      pub rows_whole : rows ++ rows_left k ≡ rows_left 0
+      pub asked : List (Id × Lookup)
+      pub answered : first_refusal refusal asked ≡ None
+      pub asked_whole : asked ++ asked_left k ≡ asked_left 0
+
+-- no file is drawn
+pub left-start : {Id : Type 0} {same : Id → Id → Bool} {file : Id → FileModel} {refusal : Refusals Id} {view : RichDiagnostic Id} {renderer : Config} {sheet : Sheet Id} {s : Sink}
+    → SnippetsLeft same file view sheet refusal renderer 0 s s
+left-start {s = s} = record { rows = []; drawn = asking_nothing s; rows_whole = refl; asked = []; answered = refl; asked_whole = refl }
+
+module _ {Id : Type 0} {same : Id → Id → Bool} {file : Id → FileModel} {refusal : Refusals Id} {view : RichDiagnostic Id} {renderer : Config} {sheet : Sheet Id} {k : ℕ} {old mid : Sink}
+    (prepared : IsPrepared same file (view_config_of view) (labels_of (diagnostic_of view)) sheet) (left : SnippetsLeft same file view sheet refusal renderer k old mid) where
+  -- what all rows share, as a configuration draws them
+  abbrev look_by : Config → Look
+  look_by config = look_of config (diagnostic_of view).severity sheet.padding
+
+  -- what all of them do
+  abbrev look : Look
+  look = look_by renderer
+
+  -- whether there are notes after the snippets
+  abbrev noted : Bool
+  noted = has_any (notes_of (diagnostic_of view))
+
+  -- what names the files, and where they start
+  abbrev ids : List Id
+  ids = ids_of sheet.files.items
+
+  abbrev places : List Place
+  places = places_of sheet.files.items
+
+  -- the rows of the files from a place on, and their lookups
+  abbrev rest : ℕ → List Row
+  rest = rows_left same file view sheet
+
+  abbrev asks : ℕ → List (Id × Lookup)
+  asks = asked_left same file view sheet
+
+  -- the rows of all files
+  abbrev all_rows : List Row
+  all_rows = placed_snippets (view_config_of view) noted places (labelled_files same file (labels_of (diagnostic_of view)))
+
+  -- what all their lookups are refused with
+  abbrev all_refusal : Option Error
+  all_refusal = first_refusal refusal (late_lookups (view_config_of view) same file refusal (labels_of (diagnostic_of view)))
+
+  -- from the first place on these are all of them
+  rows-all : rest 0 ≡ all_rows
+  rows-all = ap (λ js. placed_snippets (view_config_of view) noted places (map (labelled same file view) js)) prepared.ids_are
+
+  refusal-all : first_refusal refusal (asks 0) ≡ all_refusal
+  refusal-all = ap (λ js. first_refusal refusal (flat_map (asked_with same file view) js)) prepared.ids_are
+
+  -- all files are drawn
+  pub left-end : {gs : List (SheetFile Id)} → gs ≡ sheet.files.items → length gs ≤ k → SendsAsking all_refusal old (stream_of_rows look all_rows) (Ok tt) mid
+  left-end alike past =
+      let none : drop k ids ≡ [] =
+      drop-end ids k (omega (arith, length-map sheet.files.items (λ (h : SheetFile Id). h.file.now.id), subst (λ (hs : List (SheetFile Id)). length hs ≤ k) alike past)) in
+      subst (λ (o : Option Error). SendsAsking o old (stream_of_rows look all_rows) (Ok tt) mid)
+      (sym left.answered ∙ ap (first_refusal refusal) (sym (append-nil left.asked) ∙ ap (λ js. left.asked ++ flat_map (asked_with same file view) js) (sym none) ∙ left.asked_whole) ∙ refusal-all)
+      (subst (λ (s : Stream). SendsAsking None old s (Ok tt) mid)
+      (ap (stream_of_rows look) (sym (append-nil left.rows) ∙ ap (λ r. left.rows ++ r) (sym (no-rows (drop k places)) ∙ ap (λ js. placed_snippets (view_config_of view) noted (drop k places) (map (labelled same file view) js)) (sym none))
+      ∙ left.rows_whole ∙ rows-all))
+      left.drawn)
+    where
+      no-rows : (ps : List Place) → placed_snippets (view_config_of view) noted ps [] ≡ []
+      no-rows [] = refl
+      no-rows (p ∷ ps) = refl
+
+  module _ {f : SheetFile Id} {notes : Bool} {count : ℕ} {now : Config} (at : IsFileAt sheet.files.items k f) (notes_are : notes ≡ noted) (count_is : count ≡ length sheet.files.items) (alike : now ≡ renderer) where
+    -- the file with its labels
+    abbrev own : LabelledFile
+    own = labelled same file view f.file.now.id
+
+    -- the rows of the file at the place
+    abbrev rows_here : List Row
+    rows_here = placed_snippet (view_config_of view) (is_followed noted (drop (k + 1) ids)) (place_of_given f.locus) own
+
+    -- its lookups
+    abbrev asked_here : List (Id × Lookup)
+    asked_here = asked_with same file view f.file.now.id
+
+    -- these rows come first among those that are left
+    rows-next : rest k ≡ rows_here ++ rest (k + 1)
+    rows-next = ap (λ (ps : List Place). placed_snippets (view_config_of view) noted ps (map (labelled same file view) (drop k ids))) (drop-one places k (place_of_given f.locus) (place-inside at) (place-at at))
+        ∙ ap (λ (js : List Id). placed_snippets (view_config_of view) noted (place_of_given f.locus ∷ drop (k + 1) places) (map (labelled same file view) js)) (drop-one ids k f.file.now.id (id-inside at) (id-at at))
+        ∙ ap (λ (b : Bool). placed_snippet (view_config_of view) b (place_of_given f.locus) own ++ rest (k + 1)) (followed-mapped (drop (k + 1) ids))
+      where
+        followed-mapped : (js : List Id) → is_followed noted (map (labelled same file view) js) ≡ is_followed noted js
+        followed-mapped [] = refl
+        followed-mapped (j ∷ js) = refl
+
+    -- and so do its lookups
+    asked-next : asks k ≡ asked_here ++ asks (k + 1)
+    asked-next = ap (flat_map (asked_with same file view)) (drop-one ids k f.file.now.id (id-inside at) (id-at at))
+
+    -- the call draws it so: its own lookups, and its own rows, by an equal configuration
+    abbrev Draws : Result (Unit {0}) Error → Sink → Type 0
+    Draws r new =
+        SendsAsking (first_refusal refusal (asked_of f.file.now.id (lookups_with f))) mid (stream_of_rows (look_by now) (rows_in f (file f.file.now.id) (notes || nat_lt (k + 1) count))) r new
+
+    -- these are the rows and the lookups at the place
+    drawn-here : (r : Result (Unit {0}) Error) (new : Sink) → Draws r new → SendsAsking (first_refusal refusal asked_here) mid (stream_of_rows look rows_here) r new
+    drawn-here r new draws =
+        let is = is-sheet_file prepared at in
+        let followed : (notes || nat_lt (k + 1) count) ≡ is_followed noted (drop (k + 1) ids) =
+        (λ i. notes_are i || nat_lt (k + 1) ((count_is ∙ sym (length-map sheet.files.items (λ (h : SheetFile Id). h.file.now.id))) i)) ∙ sym (followed-at noted ids k) in
+        subst (λ (o : Option Error). SendsAsking o mid (stream_of_rows look rows_here) r new) (ap (λ (ls : List Lookup). first_refusal refusal (asked_of f.file.now.id (Source ∷ ls))) is.asked)
+        (subst (λ (s : Stream). SendsAsking (first_refusal refusal (asked_of f.file.now.id (lookups_with f))) mid s r new)
+        ((λ i. stream_of_rows (look_by (alike i)) (rows-are is (notes || nat_lt (k + 1) count) i))
+        ∙ ap (λ (b : Bool). stream_of_rows look (placed_snippet (view_config_of view) b (place_of_given f.locus) own)) followed)
+        draws)
+
+    -- the file is drawn
+    pub left-next : {new : Sink} → Draws (Ok tt) new → SnippetsLeft same file view sheet refusal renderer (k + 1) old new
+    left-next {new} draws =
+        let drawn = drawn-here (Ok tt) new draws in
+        record {
+          rows = left.rows ++ rows_here;
+          drawn = subst (λ (o : Option Error). SendsAsking o old (stream_of_rows look (left.rows ++ rows_here)) (Ok tt) new) drawn.0
+              (subst (λ (s : Stream). SendsAsking (or_refusal None (first_refusal refusal asked_here)) old s (Ok tt) new) (sym (rows-two look left.rows rows_here))
+              (asking_then None (first_refusal refusal asked_here) old mid new _ _ tt (Ok tt) left.drawn drawn));
+          rows_whole = append_assoc left.rows rows_here (rest (k + 1)) ∙ ap (λ (r : List Row). left.rows ++ r) (sym rows-next) ∙ left.rows_whole;
+          asked = left.asked ++ asked_here;
+          answered = first_refusal-append refusal left.asked asked_here ∙ ap (λ (o : Option Error). or_refusal o (first_refusal refusal asked_here)) left.answered ∙ drawn.0;
+          asked_whole = append_assoc left.asked asked_here (asks (k + 1)) ∙ ap (λ (ls : List (Id × Lookup)). left.asked ++ ls) (sym asked-next) ∙ left.asked_whole;
+        }
+
+    -- the file was cut short
+    pub left-cut : {new : Sink} {e : Error} → Draws (Err e) new → SendsAsking all_refusal old (stream_of_rows look all_rows) (Err e) new
+    left-cut {new} {e} draws =
+        let here = first_refusal refusal asked_here in
+        let after = first_refusal refusal (asks (k + 1)) in
+        subst (λ (o : Option Error). SendsAsking o old (stream_of_rows look all_rows) (Err e) new)
+        (sym (ap (λ (o : Option Error). or_refusal o (or_refusal here after)) left.answered)
+        ∙ ap (or_refusal (first_refusal refusal left.asked)) (sym (first_refusal-append refusal asked_here (asks (k + 1))) ∙ ap (first_refusal refusal) (sym asked-next))
+        ∙ sym (first_refusal-append refusal left.asked (asks k)) ∙ ap (first_refusal refusal) left.asked_whole ∙ refusal-all)
+        (subst (λ (s : Stream). SendsAsking (or_refusal None (or_refusal here after)) old s (Err e) new)
+        (ap (λ (s : Stream). stream_of_rows look left.rows ++ s) (sym (rows-two look rows_here (rest (k + 1))) ∙ ap (stream_of_rows look) (sym rows-next))
+        ∙ sym (rows-two look left.rows (rest k)) ∙ ap (stream_of_rows look) (left.rows_whole ∙ rows-all))
+        (asking_then None (or_refusal here after) old mid new _ _ tt (Err e) left.drawn
+        (asking_cut here after mid new (stream_of_rows look rows_here) (stream_of_rows look (rest (k + 1))) e (drawn-here (Err e) new draws))))
