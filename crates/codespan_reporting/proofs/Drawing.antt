@@ -13,6 +13,7 @@ use Rattle.codespan_base.specs.WriterLaw.{Sink, sent, is_told, Began, Sends, ref
 use Rattle.codespan_base.proofs.HeldBytes.{gained-nil}
 use Rattle.codespan_base.specs.declared.term.config.DisplayStyle.TheVariants.{Rich}
 use Rattle.codespan_picture.specs.Picture.{labels_of}
+use Rattle.codespan_picture.specs.Placed.{placed_picture}
 use Rattle.codespan_picture.specs.Lookups.{Refusals, early_lookups, late_lookups, first_refusal}
 use Rattle.codespan_reporting.specs.Headline.{DrawsRich, ForSomeNames, NamesAreStated, drawn_picture}
 use Rattle.codespan_reporting.specs.Inner.Asking.{Came}
@@ -98,6 +99,11 @@ module _ {Id : Type 0} {renderer view : Config} {same : Id → Id → Bool} {fil
         keeps = record { early = λ p. absurd (some_refused refusal before answered p); unprintable = λ h. inr (told (λ (m : e ≡ OutOfMemory). two_errors e h m) ∙ ap Some h) };
       }
 
+  -- where the names are stated the picture by some names is the picture
+  pub named-is : {Holds : Stream → Type 0} (names : ForSomeNames renderer view same file refusal d Rich Holds) → NamesAreStated file d
+      → placed_picture renderer view same file d Rich names.places ≡ drawn_picture renderer view same file refusal d Rich
+  named-is names named = placed-named same file d renderer view named Rich names.places names.are
+
   -- all was answered and written
   drawn : {old new : Sink} → early_refusal view same file refusal d ≡ None → late_refusal view same file refusal d ≡ None → new.frame ≡ old.frame
       → (is_told old ≡ true → ForSomeNames renderer view same file refusal d Rich (λ s. new ≡ sent old s)) → DrawsRich renderer view same file refusal d old (Ok tt) new
@@ -109,7 +115,7 @@ module _ {Id : Type 0} {renderer view : Config} {same : Id → Id → Bool} {fil
           frame = frame;
           stream = λ named told.
               let by_names = came told in
-              by_names.holds ∙ ap (sent old) (placed-named same file d renderer view named Rich by_names.places by_names.are);
+              by_names.holds ∙ ap (sent old) (named-is by_names named);
           answered = all_answered refusal (before ++ after) (first_refusal-none refusal before after answered_early ∙ answered_late);
           by_names = came;
         };
@@ -126,4 +132,4 @@ module _ {Id : Type 0} {renderer view : Config} {same : Id → Id → Bool} {fil
   finished {old} {new = new} first rest (Err e) answered came sends io names =
       let stopped = stopped-then first came.1 sends in
       refused_by_writer answered stopped.0 io
-      (λ named told. subst (λ (s : Stream). Began old s new) (sym names.holds ∙ placed-named same file d renderer view named Rich names.places names.are) (stopped.1 told))
+      (λ named told. subst (λ (s : Stream). Began old s new) (sym names.holds ∙ named-is names named) (stopped.1 told))

@@ -3,7 +3,7 @@ use Rattle.std.proofs.Common.{◌≡◌, ◌≢◌, ◌<◌, Bool, true, List, [
 use Rattle.std.specs.Prelude.{IfErr}
 use Rattle.std.specs.List.{AllByRecursion, AllZip}
 use Rattle.std.proofs.lemmas.Grind.{flat_map-append}
-use Rattle.std.proofs.lemmas.List.{append_assoc, length-map}
+use Rattle.std.proofs.lemmas.List.{append_assoc, length-map, nil_from_length}
 use Rattle.codespan_base.specs.declared.term.config.Config.{Config}
 use Rattle.codespan_base.specs.declared.term.config.DisplayStyle.TheVariants.{Rich}
 use Rattle.codespan_base.specs.declared.diagnostic.Diagnostic.{Diagnostic}
@@ -27,10 +27,9 @@ use Rattle.codespan_picture.specs.Placed.{IsPlaceOfFile, placed_snippets}
 use Rattle.codespan_picture.specs.Rows.{BlankRow, HeaderRow, Row}
 use Rattle.codespan_picture.specs.RowStreams.{header_row, stream_of, stream_of_rows}
 use Rattle.codespan_picture.specs.Snippets.{InFile, has_any, labelled_file, labelled_files, note_rows}
-use Rattle.codespan_laws.proofs.PlacedPictures.{placed-named}
 use Rattle.codespan_base.proofs.Chains.{came-then, stopped-before, stopped-then, told-after}
 use Rattle.codespan_reporting.proofs.Chains.{Began-as}
-use Rattle.codespan_reporting.proofs.Drawing.{early_refusal, finished, late_refusal, refused_by_writer, refused_early, refused_late}
+use Rattle.codespan_reporting.proofs.Drawing.{early_refusal, finished, late_refusal, named-is, refused_by_writer, refused_early, refused_late}
 use Rattle.codespan_reporting.proofs.NoteRows.{whole_of_notes}
 use Rattle.codespan_reporting.proofs.SheetPrepared.{labels-answered, labels-refused}
 
@@ -48,10 +47,11 @@ some_late config same file refusal (x ∷ xs) some = omega arith
 
 -- without labels the picture is its header and its notes
 pub bare-whole : {Id : Type 0} {renderer view : Config} {same : Id → Id → Bool} {file : Id → FileModel} {refusal : Refusals Id} {d : Diagnostic Id} {old new : Sink} (r : Result (Unit {0}) Error)
-    → labels_of d ≡ []
+    → length d.labels.items ≡ 0
     → Sends old (header_row d.severity None (heading_of d) ++ newline ++ whole_of_notes (look_of renderer d.severity 0) (notes_of d)) r new → IfErr r IsIo
     → DrawsRich renderer view same file refusal d old r new
-bare-whole {renderer = renderer} {view = view} {same = same} {file = file} {refusal = refusal} {d = d} {old = old} r none sends io =
+bare-whole {renderer = renderer} {view = view} {same = same} {file = file} {refusal = refusal} {d = d} {old = old} r no_labels sends io =
+    let none : labels_of d ≡ [] = ap (map label_of) (nil_from_length d.labels.items no_labels) in
     finished [] (header_row d.severity None (heading_of d) ++ newline ++ whole_of_notes (look_of renderer d.severity 0) (notes_of d)) r
     (ap (λ (xs : List (InFile _)). first_refusal refusal (early_lookups view same file refusal xs)) none)
     (ap (λ (xs : List (InFile _)). first_refusal refusal (late_lookups view same file refusal xs)) none, (refl, λ told. sym (sent-nil old)))
@@ -157,7 +157,7 @@ module _ {Id : Type 0} {view : Config} {same : Id → Id → Bool} {file : Id �
       → Began old (drawn_picture renderer view same file refusal d Rich) new
   begun-as renderer {old} {new} begun named told =
       let names = placed-is renderer in
-      Began-as old new (whole renderer) _ (sym (placed-named same file d renderer view named Rich names.places names.are) ∙ names.holds) (begun told)
+      Began-as old new (whole renderer) _ (sym (named-is names named) ∙ names.holds) (begun told)
 
   module _ {renderer : Config} where
     -- the header was cut short

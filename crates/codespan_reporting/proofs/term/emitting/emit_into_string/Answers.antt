@@ -1,9 +1,14 @@
-use Rattle.std.proofs.Common.{rules, Some, inl, refl, ap, ◌∙◌}
+use Rattle.std.proofs.Common.{rules, ◌≡◌, ℕ, List, [], Some, inl, refl, ap, ◌∙◌}
 use Rattle.codespan_base.specs.FileModel.{IsLawful}
 use Rattle.codespan_base.specs.Streams.{no_marks}
+use Rattle.codespan_base.specs.WriterLaw.{Sink}
 use Rattle.codespan_base.specs.Writers.{fresh_sink}
 use Rattle.codespan_reporting.proofs.Emitting.{common, string_drawn, text_held, told_of_string}
 use Rattle.codespan_reporting.proofs.term.emitting.emit_into_string.Goals as goal
+
+-- a writer of plain text that begins with what an empty buffer holds begins with nothing
+begins-empty : {s : Sink} {xs : List ℕ} → s ≡ fresh_sink no_marks (Some xs) → xs ≡ [] → s ≡ fresh_sink no_marks (Some [])
+begins-empty begins empty = begins ∙ ap (λ ys. fresh_sink no_marks (Some ys)) empty
 
 -- what was written is a text
 pub from_utf8_unchecked-requires : goal.from_utf8_unchecked-requires
@@ -11,11 +16,11 @@ from_utf8_unchecked-requires g c =
     let file = g.F.Files.file c.args.files.now in
     let claim : g.claim c.lifetimes = search rules in
     let lawful : (id : g.row.F-FileId.Denot) → IsLawful (file id) = λ id. (g.met.F.Files c.lifetimes claim).lawful c.args.files.now id in
-    text_held (common c.args.config.now.display_style c.in-Ok.ensures.draws) (c.new-plain.ensures.begins ∙ ap (λ xs. fresh_sink no_marks (Some xs)) c.in_ok-bytes.ensures.items) (search rules) c.are_characters.ensures lawful
+    text_held (common c.args.config.now.display_style c.in-Ok.ensures.draws) (begins-empty c.new-plain.ensures.begins c.in_ok-bytes.ensures.items) (search rules) c.are_characters.ensures lawful
 
 pub returns-in-Ok : goal.returns-in-Ok
 returns-in-Ok g c =
-    string_drawn (common c.args.config.now.display_style c.in-Ok.ensures.draws) (c.new-plain.ensures.begins ∙ ap (λ xs. fresh_sink no_marks (Some xs)) c.in_ok-bytes.ensures.items) (search rules) c.in-Ok.ensures.meaning
+    string_drawn (common c.args.config.now.display_style c.in-Ok.ensures.draws) (begins-empty c.new-plain.ensures.begins c.in_ok-bytes.ensures.items) (search rules) c.in-Ok.ensures.meaning
 
 -- a growth was refused
 pub returns-in-Err : goal.returns-in-Err

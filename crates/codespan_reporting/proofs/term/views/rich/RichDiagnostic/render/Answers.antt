@@ -1,25 +1,21 @@
-use Rattle.std.proofs.Common.{rules, ◌≡◌, Ok, Err, length, map, ap, ◌∙◌}
-use Rattle.std.proofs.lemmas.List.{nil_from_length}
+use Rattle.std.proofs.Common.{Bool, rules, Ok, Err, ap, ◌∙◌}
+use Rattle.std.specs.Cmp.{IsEquivalence}
 use Rattle.std.proofs.lemmas.Result.{err_from_is_err_and}
-use Rattle.codespan_picture.specs.Picture.{label_of}
-use Rattle.codespan_reporting.specs.Views.{diagnostic_of}
+use Rattle.codespan_base.specs.declared.diagnostic.Diagnostic.{Diagnostic}
+use Rattle.codespan_base.specs.declared.term.config.Config.{Config}
+use Rattle.codespan_base.specs.FileModel.{FileModel, IsLawful}
+use Rattle.codespan_laws.specs.Meanings.{MeansLabels}
 use Rattle.codespan_laws.proofs.MeaningLemmas.{picture_means_labels}
 use Rattle.codespan_reporting.proofs.RichParts.{bare-whole}
 use Rattle.codespan_reporting.proofs.term.views.rich.RichDiagnostic.render.Goals as goal
 
 pub returns-in_err-draw_bare-clause-draws : goal.returns-in_err-draw_bare-clause-draws
 returns-in_err-draw_bare-clause-draws g c =
-    let d = diagnostic_of c.args.self.now in
-    let none : length d.labels.items ≡ 0 = search rules in
     let p = err_from_is_err_and c.from_residual.result c.from_residual.ensures.1 in
-    rw (p.1 ∙ ap Err p.2)
-    (bare-whole (Err c.in_err-draw_bare.field-0.0) (ap (map label_of) (nil_from_length d.labels.items none)) c.in_err-draw_bare.ensures.sends c.in_err-draw_bare.ensures.io)
+    rw (p.1 ∙ ap Err p.2) (bare-whole (Err c.in_err-draw_bare.field-0.0) (search rules) c.in_err-draw_bare.ensures.sends c.in_err-draw_bare.ensures.io)
 
 pub returns-in_ok-draw_bare-clause-draws : goal.returns-in_ok-draw_bare-clause-draws
-returns-in_ok-draw_bare-clause-draws g c =
-    let d = diagnostic_of c.args.self.now in
-    let none : length d.labels.items ≡ 0 = search rules in
-    bare-whole (Ok tt) (ap (map label_of) (nil_from_length d.labels.items none)) c.in_ok-draw_bare.ensures.sends tt
+returns-in_ok-draw_bare-clause-draws g c = bare-whole (Ok tt) (search rules) c.in_ok-draw_bare.ensures.sends tt
 
 pub returns-in_err-draw_labels-clause-draws : goal.returns-in_err-draw_labels-clause-draws
 returns-in_err-draw_labels-clause-draws g c =
@@ -27,22 +23,18 @@ returns-in_err-draw_labels-clause-draws g c =
     rw (p.1 ∙ ap Err p.2) c.in_err-draw_labels.ensures.draws
 
 -- a picture means its labels, whether there are any or not
+means : {Id : Type 0} {renderer view : Config} {same : Id → Id → Bool} {file : Id → FileModel} {d : Diagnostic Id} → IsEquivalence same → ((id : Id) → IsLawful (file id))
+    → MeansLabels renderer view same file d
+means equal lawful = picture_means_labels _ _ _ _ _ equal (λ i. (lawful i).some_line)
+
 pub returns-in_err-draw_bare-clause-meaning : goal.returns-in_err-draw_bare-clause-meaning
-returns-in_err-draw_bare-clause-meaning g c =
-    let lawful = (g.met.F.Files c.lifetimes (search rules)).lawful c.args.files.now in
-    picture_means_labels _ _ g.FileId.PartialEq.eq (g.F.Files.file c.args.files.now) (diagnostic_of c.args.self.now) g.met.FileId.Eq.laws (λ i. (lawful i).some_line)
+returns-in_err-draw_bare-clause-meaning g c = means g.met.FileId.Eq.laws ((g.met.F.Files c.lifetimes (search rules)).lawful c.args.files.now)
 
 pub returns-in_ok-draw_bare-clause-meaning : goal.returns-in_ok-draw_bare-clause-meaning
-returns-in_ok-draw_bare-clause-meaning g c =
-    let lawful = (g.met.F.Files c.lifetimes (search rules)).lawful c.args.files.now in
-    picture_means_labels _ _ g.FileId.PartialEq.eq (g.F.Files.file c.args.files.now) (diagnostic_of c.args.self.now) g.met.FileId.Eq.laws (λ i. (lawful i).some_line)
+returns-in_ok-draw_bare-clause-meaning g c = means g.met.FileId.Eq.laws ((g.met.F.Files c.lifetimes (search rules)).lawful c.args.files.now)
 
 pub returns-in_err-draw_labels-clause-meaning : goal.returns-in_err-draw_labels-clause-meaning
-returns-in_err-draw_labels-clause-meaning g c =
-    let lawful = (g.met.F.Files c.lifetimes (search rules)).lawful c.args.files.now in
-    picture_means_labels _ _ g.FileId.PartialEq.eq (g.F.Files.file c.args.files.now) (diagnostic_of c.args.self.now) g.met.FileId.Eq.laws (λ i. (lawful i).some_line)
+returns-in_err-draw_labels-clause-meaning g c = means g.met.FileId.Eq.laws ((g.met.F.Files c.lifetimes (search rules)).lawful c.args.files.now)
 
 pub returns-in_ok-draw_labels-clause-meaning : goal.returns-in_ok-draw_labels-clause-meaning
-returns-in_ok-draw_labels-clause-meaning g c =
-    let lawful = (g.met.F.Files c.lifetimes (search rules)).lawful c.args.files.now in
-    picture_means_labels _ _ g.FileId.PartialEq.eq (g.F.Files.file c.args.files.now) (diagnostic_of c.args.self.now) g.met.FileId.Eq.laws (λ i. (lawful i).some_line)
+returns-in_ok-draw_labels-clause-meaning g c = means g.met.FileId.Eq.laws ((g.met.F.Files c.lifetimes (search rules)).lawful c.args.files.now)
