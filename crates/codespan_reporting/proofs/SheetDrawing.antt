@@ -1,5 +1,5 @@
 -- The snippets of a sheet, one after another.
-use Rattle.std.proofs.Common.{◌≡◌, ℕ, zero, suc, ◌+◌, ◌-◌, ◌<◌, ◌≤◌, Bool, true, false, ◌||◌, List, [], ◌∷◌, ◌++◌, length, drop, get_or, map, Option, None, Result, Ok, Err, refl, sym, subst, ap, ◌∙◌, arith, lt-ltb}
+use Rattle.std.proofs.Common.{◌≡◌, ℕ, zero, suc, ◌+◌, ◌-◌, ◌<◌, ◌≤◌, Bool, true, false, ◌||◌, List, [], ◌∷◌, ◌++◌, length, drop, get_or, map, Option, None, Result, Ok, Err, refl, sym, subst, subst₂, ap, ◌∙◌, arith, lt-ltb}
 use Rattle.std.specs.Prelude.{flat_map, nat_lt, if◌then◌else◌}
 use Rattle.std.proofs.Math.Seq.{drop-cons}
 use Rattle.std.proofs.lemmas.Grind.{common_steps, flat_map-append}
@@ -196,12 +196,11 @@ module _ {Id : Type 0} {same : Id → Id → Bool} {file : Id → FileModel} {re
   left-end alike past =
       let none : drop k ids ≡ [] =
       drop-end ids k (omega (arith, length-map sheet.files.items (λ (h : SheetFile Id). h.file.now.id), subst (λ (hs : List (SheetFile Id)). length hs ≤ k) alike past)) in
-      subst (λ (o : Option Error). SendsAsking o old (stream_of_rows look all_rows) (Ok tt) mid)
+      subst₂ (λ (o : Option Error) (s : Stream). SendsAsking o old s (Ok tt) mid)
       (sym left.answered ∙ ap (first_refusal refusal) (sym (append-nil left.asked) ∙ ap (λ js. left.asked ++ flat_map (asked_with same file view) js) (sym none) ∙ left.asked_whole) ∙ refusal-all)
-      (subst (λ (s : Stream). SendsAsking None old s (Ok tt) mid)
       (ap (stream_of_rows look) (sym (append-nil left.rows) ∙ ap (λ r. left.rows ++ r) (sym (no-rows (drop k places)) ∙ ap (λ js. placed_snippets (view_config_of view) noted (drop k places) (map (labelled same file view) js)) (sym none))
       ∙ left.rows_whole ∙ rows-all))
-      left.drawn)
+      left.drawn
     where
       no-rows : (ps : List Place) → placed_snippets (view_config_of view) noted ps [] ≡ []
       no-rows [] = refl
@@ -245,11 +244,10 @@ module _ {Id : Type 0} {same : Id → Id → Bool} {file : Id → FileModel} {re
         let is = is-sheet_file prepared at in
         let followed : (notes || nat_lt (k + 1) count) ≡ is_followed noted (drop (k + 1) ids) =
         (λ i. notes_are i || nat_lt (k + 1) ((count_is ∙ sym (length-map sheet.files.items (λ (h : SheetFile Id). h.file.now.id))) i)) ∙ sym (followed-at noted ids k) in
-        subst (λ (o : Option Error). SendsAsking o mid (stream_of_rows look rows_here) r new) (ap (λ (ls : List Lookup). first_refusal refusal (asked_of f.file.now.id (Source ∷ ls))) is.asked)
-        (subst (λ (s : Stream). SendsAsking (first_refusal refusal (asked_of f.file.now.id (lookups_with f))) mid s r new)
+        subst₂ (λ (o : Option Error) (s : Stream). SendsAsking o mid s r new) (ap (λ (ls : List Lookup). first_refusal refusal (asked_of f.file.now.id (Source ∷ ls))) is.asked)
         ((λ i. stream_of_rows (look_by (alike i)) (rows-are is (notes || nat_lt (k + 1) count) i))
         ∙ ap (λ (b : Bool). stream_of_rows look (placed_snippet (view_config_of view) b (place_of_given f.locus) own)) followed)
-        draws)
+        draws
 
     -- the file is drawn
     pub left-next : {new : Sink} → Draws (Ok tt) new → SnippetsLeft same file view sheet refusal renderer (k + 1) old new
@@ -257,9 +255,8 @@ module _ {Id : Type 0} {same : Id → Id → Bool} {file : Id → FileModel} {re
         let drawn = drawn-here (Ok tt) new draws in
         record {
           rows = left.rows ++ rows_here;
-          drawn = subst (λ (o : Option Error). SendsAsking o old (stream_of_rows look (left.rows ++ rows_here)) (Ok tt) new) drawn.0
-              (subst (λ (s : Stream). SendsAsking (or_refusal None (first_refusal refusal asked_here)) old s (Ok tt) new) (sym (rows-two look left.rows rows_here))
-              (asking_then None (first_refusal refusal asked_here) old mid new _ _ tt (Ok tt) left.drawn drawn));
+          drawn = subst₂ (λ (o : Option Error) (s : Stream). SendsAsking o old s (Ok tt) new) drawn.0 (sym (rows-two look left.rows rows_here))
+              (asking_then None (first_refusal refusal asked_here) old mid new _ _ tt (Ok tt) left.drawn drawn);
           rows_whole = append_assoc left.rows rows_here (rest (k + 1)) ∙ ap (λ (r : List Row). left.rows ++ r) (sym rows-next) ∙ left.rows_whole;
           asked = left.asked ++ asked_here;
           answered = first_refusal-append refusal left.asked asked_here ∙ ap (λ (o : Option Error). or_refusal o (first_refusal refusal asked_here)) left.answered ∙ drawn.0;
@@ -271,12 +268,11 @@ module _ {Id : Type 0} {same : Id → Id → Bool} {file : Id → FileModel} {re
     left-cut {new} {e} draws =
         let here = first_refusal refusal asked_here in
         let after = first_refusal refusal (asks (k + 1)) in
-        subst (λ (o : Option Error). SendsAsking o old (stream_of_rows look all_rows) (Err e) new)
+        subst₂ (λ (o : Option Error) (s : Stream). SendsAsking o old s (Err e) new)
         (sym (ap (λ (o : Option Error). or_refusal o (or_refusal here after)) left.answered)
         ∙ ap (or_refusal (first_refusal refusal left.asked)) (sym (first_refusal-append refusal asked_here (asks (k + 1))) ∙ ap (first_refusal refusal) (sym asked-next))
         ∙ sym (first_refusal-append refusal left.asked (asks k)) ∙ ap (first_refusal refusal) left.asked_whole ∙ refusal-all)
-        (subst (λ (s : Stream). SendsAsking (or_refusal None (or_refusal here after)) old s (Err e) new)
         (ap (λ (s : Stream). stream_of_rows look left.rows ++ s) (sym (rows-two look rows_here (rest (k + 1))) ∙ ap (stream_of_rows look) (sym rows-next))
         ∙ sym (rows-two look left.rows (rest k)) ∙ ap (stream_of_rows look) (left.rows_whole ∙ rows-all))
         (asking_then None (or_refusal here after) old mid new _ _ tt (Err e) left.drawn
-        (asking_cut here after mid new (stream_of_rows look rows_here) (stream_of_rows look (rest (k + 1))) e (drawn-here (Err e) new draws))))
+        (asking_cut here after mid new (stream_of_rows look rows_here) (stream_of_rows look (rest (k + 1))) e (drawn-here (Err e) new draws)))
