@@ -59,7 +59,8 @@ bare-whole {renderer = renderer} {view = view} {same = same} {file = file} {refu
     (record {
       places = [];
       are = subst (λ (xs : List (InFile _)). AllZip IsPlaceOfFile (labelled_files same file xs) []) (sym none) tt;
-      holds = ap (λ (xs : List (InFile _)). stream_of_rows (look_of renderer d.severity (padding_of view (labelled_files same file xs))) (HeaderRow None (heading_of d) ∷ (note_rows (notes_of d) ++ (BlankRow ∷ [])))) none;
+      holds = ap (λ (xs : List (InFile _)). stream_of_rows (look_of renderer d.severity (padding_of view (labelled_files same file xs)))
+          (HeaderRow None (heading_of d) ∷ (note_rows (notes_of d) ++ (BlankRow ∷ [])))) none;
     })
 
 -- ---- before the header

@@ -74,6 +74,10 @@ pub record IsFileAt {Id : Type 0} (files : List (SheetFile Id)) (k : ℕ) (f : S
   pub inside : k < length files
   pub is : f ≡ get_or files k f
 
+-- each file has one name
+ids-count : {Id : Type 0} (files : List (SheetFile Id)) → length (ids_of files) ≡ length files
+ids-count {Id} files = length-map files (λ (g : SheetFile Id). g.file.now.id)
+
 -- one that equal files have there
 pub file-at : {Id : Type 0} {gs files : List (SheetFile Id)} {k : ℕ} {f : SheetFile Id} → gs ≡ files → k < length gs → f ≡ get_or gs k f → IsFileAt files k f
 file-at {Id} {k = k} {f = f} alike inside is = record {
@@ -84,7 +88,7 @@ file-at {Id} {k = k} {f = f} alike inside is = record {
 module _ {Id : Type 0} {files : List (SheetFile Id)} {k : ℕ} {f : SheetFile Id} (at : IsFileAt files k f) where
   -- its id and its place stand where it does
   id-inside : k < length (ids_of files)
-  id-inside = omega (arith, at.inside, length-map files (λ (g : SheetFile Id). g.file.now.id))
+  id-inside = omega (arith, at.inside, ids-count files)
 
   id-at : f.file.now.id ≡ get_or (ids_of files) k f.file.now.id
   id-at = ap (λ (g : SheetFile Id). g.file.now.id) at.is ∙ sym (get_or-map (λ (g : SheetFile Id). g.file.now.id) files k f f.file.now.id at.inside)
@@ -104,14 +108,14 @@ is-sheet_file {Id} {same} {file} {config} {xs} {sheet} {k} {f} prepared at =
 
 module _ {Id : Type 0} {config : Config} {own : LabelledFile} {f : SheetFile Id} (is : IsSheetFile config own f) where
   -- it has as many lanes as its labels need
-  count : length f.file.now.lanes.items ≡ lane_count own
-  count = sym (length-map f.file.now.lanes.items lane_given) ∙ ap length is.lanes_are ∙ file_lanes-count own
+  lanes-count : length f.file.now.lanes.items ≡ lane_count own
+  lanes-count = sym (length-map f.file.now.lanes.items lane_given) ∙ ap length is.lanes_are ∙ file_lanes-count own
 
   -- its rows
   rows-are : (followed : Bool) → rows_in f own.file followed ≡ placed_snippet config followed (place_of_given f.locus) own
   rows-are followed =
-      (λ i. (StartRow (place_of_given f.locus) ∷ EmptyRow (record { count = count i; marks = [] }) ∷ []) ++ rows_of_steps own.file (is.lanes_are i) (map step_of f.steps.items)
-      ++ (if followed then EmptyRow (record { count = count i; marks = [] }) ∷ [] else []))
+      (λ i. (StartRow (place_of_given f.locus) ∷ EmptyRow (record { count = lanes-count i; marks = [] }) ∷ []) ++ rows_of_steps own.file (is.lanes_are i) (map step_of f.steps.items)
+      ++ (if followed then EmptyRow (record { count = lanes-count i; marks = [] }) ∷ [] else []))
       ∙ ap (λ (r : List Row). (StartRow (place_of_given f.locus) ∷ EmptyRow (bare_lanes own) ∷ []) ++ r ++ (if followed then EmptyRow (bare_lanes own) ∷ [] else [])) is.rows
 
 -- ---- the files from a place on
@@ -169,6 +173,10 @@ module _ {Id : Type 0} {same : Id → Id → Bool} {file : Id → FileModel} {re
   abbrev places : List Place
   places = places_of sheet.files.items
 
+  -- the rows of these files, whose snippets start at these places
+  abbrev drawn_at : List Place → List Id → List Row
+  drawn_at ps js = placed_snippets (view_config_of view) noted ps (map (labelled same file view) js)
+
   -- the rows of the files from a place on, and their lookups
   abbrev rest : ℕ → List Row
   rest = rows_left same file view sheet
@@ -186,7 +194,7 @@ module _ {Id : Type 0} {same : Id → Id → Bool} {file : Id → FileModel} {re
 
   -- from the first place on these are all of them
   rows-all : rest 0 ≡ all_rows
-  rows-all = ap (λ js. placed_snippets (view_config_of view) noted places (map (labelled same file view) js)) prepared.ids_are
+  rows-all = ap (drawn_at places) prepared.ids_are
 
   refusal-all : first_refusal refusal (asks 0) ≡ all_refusal
   refusal-all = ap (λ js. first_refusal refusal (flat_map (asked_with same file view) js)) prepared.ids_are
@@ -195,14 +203,14 @@ module _ {Id : Type 0} {same : Id → Id → Bool} {file : Id → FileModel} {re
   pub left-end : {gs : List (SheetFile Id)} → gs ≡ sheet.files.items → length gs ≤ k → SendsAsking all_refusal old (stream_of_rows look all_rows) (Ok tt) mid
   left-end alike past =
       let none : drop k ids ≡ [] =
-      drop-end ids k (omega (arith, length-map sheet.files.items (λ (h : SheetFile Id). h.file.now.id), subst (λ (hs : List (SheetFile Id)). length hs ≤ k) alike past)) in
+      drop-end ids k (omega (arith, ids-count sheet.files.items, subst (λ (hs : List (SheetFile Id)). length hs ≤ k) alike past)) in
       subst₂ (λ (o : Option Error) (s : Stream). SendsAsking o old s (Ok tt) mid)
       (sym left.answered ∙ ap (first_refusal refusal) (sym (append-nil left.asked) ∙ ap (λ js. left.asked ++ flat_map (asked_with same file view) js) (sym none) ∙ left.asked_whole) ∙ refusal-all)
-      (ap (stream_of_rows look) (sym (append-nil left.rows) ∙ ap (λ r. left.rows ++ r) (sym (no-rows (drop k places)) ∙ ap (λ js. placed_snippets (view_config_of view) noted (drop k places) (map (labelled same file view) js)) (sym none))
+      (ap (stream_of_rows look) (sym (append-nil left.rows) ∙ ap (λ r. left.rows ++ r) (sym (no-rows (drop k places)) ∙ ap (drawn_at (drop k places)) (sym none))
       ∙ left.rows_whole ∙ rows-all))
       left.drawn
     where
-      no-rows : (ps : List Place) → placed_snippets (view_config_of view) noted ps [] ≡ []
+      no-rows : (ps : List Place) → drawn_at ps [] ≡ []
       no-rows [] = refl
       no-rows (p ∷ ps) = refl
 
@@ -221,8 +229,8 @@ module _ {Id : Type 0} {same : Id → Id → Bool} {file : Id → FileModel} {re
 
     -- these rows come first among those that are left
     rows-next : rest k ≡ rows_here ++ rest (k + 1)
-    rows-next = ap (λ (ps : List Place). placed_snippets (view_config_of view) noted ps (map (labelled same file view) (drop k ids))) (drop-one places k (place_of_given f.locus) (place-inside at) (place-at at))
-        ∙ ap (λ (js : List Id). placed_snippets (view_config_of view) noted (place_of_given f.locus ∷ drop (k + 1) places) (map (labelled same file view) js)) (drop-one ids k f.file.now.id (id-inside at) (id-at at))
+    rows-next = ap (λ (ps : List Place). drawn_at ps (drop k ids)) (drop-one places k (place_of_given f.locus) (place-inside at) (place-at at))
+        ∙ ap (drawn_at (place_of_given f.locus ∷ drop (k + 1) places)) (drop-one ids k f.file.now.id (id-inside at) (id-at at))
         ∙ ap (λ (b : Bool). placed_snippet (view_config_of view) b (place_of_given f.locus) own ++ rest (k + 1)) (followed-mapped (drop (k + 1) ids))
       where
         followed-mapped : (js : List Id) → is_followed noted (map (labelled same file view) js) ≡ is_followed noted js
@@ -243,7 +251,7 @@ module _ {Id : Type 0} {same : Id → Id → Bool} {file : Id → FileModel} {re
     drawn-here r new draws =
         let is = is-sheet_file prepared at in
         let followed : (notes || nat_lt (k + 1) count) ≡ is_followed noted (drop (k + 1) ids) =
-        (λ i. notes_are i || nat_lt (k + 1) ((count_is ∙ sym (length-map sheet.files.items (λ (h : SheetFile Id). h.file.now.id))) i)) ∙ sym (followed-at noted ids k) in
+        (λ i. notes_are i || nat_lt (k + 1) ((count_is ∙ sym (ids-count sheet.files.items)) i)) ∙ sym (followed-at noted ids k) in
         subst₂ (λ (o : Option Error) (s : Stream). SendsAsking o mid s r new) (ap (λ (ls : List Lookup). first_refusal refusal (asked_of f.file.now.id (Source ∷ ls))) is.asked)
         ((λ i. stream_of_rows (look_by (alike i)) (rows-are is (notes || nat_lt (k + 1) count) i))
         ∙ ap (λ (b : Bool). stream_of_rows look (placed_snippet (view_config_of view) b (place_of_given f.locus) own)) followed)
