@@ -29,21 +29,30 @@ use Rattle.codespan_picture.specs.RowStreams.{header_row, stream_of, stream_of_r
 use Rattle.codespan_picture.specs.Snippets.{InFile, has_any, labelled_file, labelled_files, note_rows}
 use Rattle.codespan_base.proofs.Chains.{came-then, stopped-before, stopped-then, told-after}
 use Rattle.codespan_reporting.proofs.Chains.{Began-as}
-use Rattle.codespan_reporting.proofs.Drawing.{early_refusal, finished, late_refusal, named-is, refused_by_writer, refused_early, refused_late}
+use Rattle.codespan_reporting.proofs.Drawing.{after_header, before_header, early_refusal, finished, late_refusal, named-is, refused_by_writer, refused_early, refused_late}
 use Rattle.codespan_reporting.proofs.NoteRows.{whole_of_notes}
 use Rattle.codespan_reporting.proofs.SheetPrepared.{labels-answered, labels-refused}
 
--- where there is a label there is a lookup before the header
-pub some_early : {Id : Type 0} (config : Config) (same : Id → Id → Bool) (file : Id → FileModel) (refusal : Refusals Id) (xs : List (InFile Id)) → 0 < length xs
-    → 0 < length (early_lookups config same file refusal xs)
-some_early config same file refusal [] some = absurd (omega arith)
-some_early config same file refusal (x ∷ xs) some = omega arith
+module _ {Id : Type 0} (view : Config) (same : Id → Id → Bool) (file : Id → FileModel) (refusal : Refusals Id) (d : Diagnostic Id) (some : 0 < length d.labels.items) where
+  -- its labels with their files are as many
+  some_labels : 0 < length (labels_of d)
+  some_labels = omega (arith, some, length-map d.labels.items label_of)
 
--- and one after it
-pub some_late : {Id : Type 0} (config : Config) (same : Id → Id → Bool) (file : Id → FileModel) (refusal : Refusals Id) (xs : List (InFile Id)) → 0 < length xs
-    → 0 < length (late_lookups config same file refusal xs)
-some_late config same file refusal [] some = absurd (omega arith)
-some_late config same file refusal (x ∷ xs) some = omega arith
+  -- where there is a label there is a lookup before the header
+  some_early : 0 < length (before_header view same file refusal d)
+  some_early = from (labels_of d) some_labels
+    where
+      from : (xs : List (InFile Id)) → 0 < length xs → 0 < length (early_lookups view same file refusal xs)
+      from [] none = absurd (omega arith)
+      from (x ∷ xs) none = omega arith
+
+  -- and one after it
+  some_late : 0 < length (after_header view same file refusal d)
+  some_late = from (labels_of d) some_labels
+    where
+      from : (xs : List (InFile Id)) → 0 < length xs → 0 < length (late_lookups view same file refusal xs)
+      from [] none = absurd (omega arith)
+      from (x ∷ xs) none = omega arith
 
 -- without labels the picture is its header and its notes
 pub bare-whole : {Id : Type 0} {renderer view : Config} {same : Id → Id → Bool} {file : Id → FileModel} {refusal : Refusals Id} {d : Diagnostic Id} {old new : Sink} (r : Result (Unit {0}) Error)
@@ -90,7 +99,7 @@ module _ {Id : Type 0} {view : Config} {same : Id → Id → Bool} {file : Id �
   pub stopped-gathering : {renderer : Config} {s : Sink} {e : Error} → 0 < length d.labels.items
       → (e ≢ OutOfMemory → first_refusal refusal (label_lookups view file refusal (map label_of given)) ≡ Some e) → DrawsRich renderer view same file refusal d s (Err e) s
   stopped-gathering {e = e} some told =
-      refused_early refl (some_early view same file refusal (labels_of d) (omega (arith, some, length-map d.labels.items label_of)))
+      refused_early refl (some_early view same file refusal d some)
       (λ memory display. ap (λ ls. first_refusal refusal (early_lookups view same file refusal (map label_of ls))) (sym given_are)
       ∙ labels-refused same file view (map label_of given) refusal e (told memory))
 
@@ -99,7 +108,7 @@ module _ {Id : Type 0} {view : Config} {same : Id → Id → Bool} {file : Id �
     pub stopped-preparing : {renderer : Config} {s : Sink} {e : Error} → 0 < length d.labels.items
         → (e ≢ OutOfMemory → e ≢ FormatError → sheet_refusal view same file refusal (map label_of gathered) ≡ Some e) → DrawsRich renderer view same file refusal d s (Err e) s
     stopped-preparing some told =
-        refused_early refl (some_early view same file refusal (labels_of d) (omega (arith, some, length-map d.labels.items label_of)))
+        refused_early refl (some_early view same file refusal d some)
         (λ memory display. early-is_sheet view same file refusal given_are gathered_are answered ∙ told memory display)
 
     -- all of these lookups are answered
@@ -128,6 +137,10 @@ module _ {Id : Type 0} {view : Config} {same : Id → Id → Bool} {file : Id �
   -- all of these
   abbrev whole : Config → Stream
   whole k = (header ++ middle k) ++ end k
+
+  -- the call draws the snippets so, and makes their lookups
+  abbrev DrawsMiddle : Config → Sink → Result (Unit {0}) Error → Sink → Type 0
+  DrawsMiddle k old r new = SendsAsking (late_refusal view same file refusal d) old (middle k) r new
 
   -- where the snippets start are places of the files
   places-are : AllZip IsPlaceOfFile (labelled_files same file (labels_of d)) (places_of sheet.files.items)
@@ -167,14 +180,14 @@ module _ {Id : Type 0} {view : Config} {same : Id → Id → Bool} {file : Id �
 
     -- the snippets were cut short, drawn by an equal configuration
     pub stopped-in_snippets : {now : Config} {old mid new : Sink} {e : Error} → 0 < length d.labels.items → Came old header mid → now ≡ renderer
-        → SendsAsking (late_refusal view same file refusal d) mid (middle now) (Err e) new → DrawsRich renderer view same file refusal d old (Err e) new
+        → DrawsMiddle now mid (Err e) new → DrawsRich renderer view same file refusal d old (Err e) new
     stopped-in_snippets {now} {old} {mid} {new} {e} some came alike part =
         ⊎_elim
         (λ (w : IsIo e × Stopped mid (middle renderer) new). let stopped = stopped-before (end renderer) (stopped-then header came w.1) in refused_by_writer ready.early stopped.0 w.0 (begun-as renderer stopped.1))
         (λ (w : EndedAsking (late_refusal view same file refusal d) mid (middle renderer) e new).
-        refused_late ready.early (w.frame ∙ came.0) (some_late view same file refusal (labels_of d) (omega (arith, some, length-map d.labels.items label_of))) w.told
+        refused_late ready.early (w.frame ∙ came.0) (some_late view same file refusal d some) w.told
         (begun-as renderer (λ told. cut told (came.1 told) w.begun)))
-        (subst (λ (k : Config). SendsAsking (late_refusal view same file refusal d) mid (middle k) (Err e) new) alike part)
+        (subst (λ (k : Config). DrawsMiddle k mid (Err e) new) alike part)
       where
         cut : is_told old ≡ true → mid ≡ sent old header → (is_told mid ≡ true → Began mid (middle renderer) new) → Began old (whole renderer) new
         cut told is begun =
@@ -183,10 +196,9 @@ module _ {Id : Type 0} {view : Config} {same : Id → Id → Bool} {file : Id �
 
     -- header and snippets came, and then the notes were sent
     pub drawn-whole : {second third : Config} {old mid last new : Sink} (r : Result (Unit {0}) Error) → Came old header mid
-        → second ≡ renderer → SendsAsking (late_refusal view same file refusal d) mid (middle second) (Ok tt) last
+        → second ≡ renderer → DrawsMiddle second mid (Ok tt) last
         → third ≡ renderer → Sends last (end third) r new → IfErr r IsIo → DrawsRich renderer view same file refusal d old r new
     drawn-whole {old = old} {mid = mid} {last = last} {new = new} r came alike part alike_end sends io =
-        let drawn : (late_refusal view same file refusal d ≡ None) × Came mid (middle renderer) last =
-        subst (λ (k : Config). SendsAsking (late_refusal view same file refusal d) mid (middle k) (Ok tt) last) alike part in
+        let drawn = subst (λ (k : Config). DrawsMiddle k mid (Ok tt) last) alike part in
         finished (header ++ middle renderer) (end renderer) r ready.early (drawn.0, came-then old header (middle renderer) came drawn.1)
         (subst (λ (k : Config). Sends last (end k) r new) alike_end sends) io (placed-is renderer)

@@ -163,8 +163,8 @@ module _ {Id : Type 0} {same : Id → Id → Bool} {file : Id → FileModel} {re
   look = look_by renderer
 
   -- whether there are notes after the snippets
-  abbrev noted : Bool
-  noted = has_any (notes_of (diagnostic_of view))
+  abbrev has_notes : Bool
+  has_notes = has_any (notes_of (diagnostic_of view))
 
   -- what names the files, and where they start
   abbrev ids : List Id
@@ -175,7 +175,7 @@ module _ {Id : Type 0} {same : Id → Id → Bool} {file : Id → FileModel} {re
 
   -- the rows of these files, whose snippets start at these places
   abbrev drawn_at : List Place → List Id → List Row
-  drawn_at ps js = placed_snippets (view_config_of view) noted ps (map (labelled same file view) js)
+  drawn_at ps js = placed_snippets (view_config_of view) has_notes ps (map (labelled same file view) js)
 
   -- the rows of the files from a place on, and their lookups
   abbrev rest : ℕ → List Row
@@ -186,7 +186,7 @@ module _ {Id : Type 0} {same : Id → Id → Bool} {file : Id → FileModel} {re
 
   -- the rows of all files
   abbrev all_rows : List Row
-  all_rows = placed_snippets (view_config_of view) noted places (labelled_files same file (labels_of (diagnostic_of view)))
+  all_rows = placed_snippets (view_config_of view) has_notes places (labelled_files same file (labels_of (diagnostic_of view)))
 
   -- what all their lookups are refused with
   abbrev all_refusal : Option Error
@@ -214,14 +214,14 @@ module _ {Id : Type 0} {same : Id → Id → Bool} {file : Id → FileModel} {re
       no-rows [] = refl
       no-rows (p ∷ ps) = refl
 
-  module _ {f : SheetFile Id} {notes : Bool} {count : ℕ} {now : Config} (at : IsFileAt sheet.files.items k f) (notes_are : notes ≡ noted) (count_is : count ≡ length sheet.files.items) (alike : now ≡ renderer) where
+  module _ {f : SheetFile Id} {notes : Bool} {count : ℕ} {now : Config} (at : IsFileAt sheet.files.items k f) (notes_are : notes ≡ has_notes) (count_is : count ≡ length sheet.files.items) (alike : now ≡ renderer) where
     -- the file with its labels
     abbrev own : LabelledFile
     own = labelled same file view f.file.now.id
 
     -- the rows of the file at the place
     abbrev rows_here : List Row
-    rows_here = placed_snippet (view_config_of view) (is_followed noted (drop (k + 1) ids)) (place_of_given f.locus) own
+    rows_here = placed_snippet (view_config_of view) (is_followed has_notes (drop (k + 1) ids)) (place_of_given f.locus) own
 
     -- its lookups
     abbrev asked_here : List (Id × Lookup)
@@ -233,7 +233,7 @@ module _ {Id : Type 0} {same : Id → Id → Bool} {file : Id → FileModel} {re
         ∙ ap (drawn_at (place_of_given f.locus ∷ drop (k + 1) places)) (drop-one ids k f.file.now.id (id-inside at) (id-at at))
         ∙ ap (λ (b : Bool). placed_snippet (view_config_of view) b (place_of_given f.locus) own ++ rest (k + 1)) (followed-mapped (drop (k + 1) ids))
       where
-        followed-mapped : (js : List Id) → is_followed noted (map (labelled same file view) js) ≡ is_followed noted js
+        followed-mapped : (js : List Id) → is_followed has_notes (map (labelled same file view) js) ≡ is_followed has_notes js
         followed-mapped [] = refl
         followed-mapped (j ∷ js) = refl
 
@@ -242,23 +242,23 @@ module _ {Id : Type 0} {same : Id → Id → Bool} {file : Id → FileModel} {re
     asked-next = ap (flat_map (asked_with same file view)) (drop-one ids k f.file.now.id (id-inside at) (id-at at))
 
     -- the call draws it so: its own lookups, and its own rows, by an equal configuration
-    abbrev Draws : Result (Unit {0}) Error → Sink → Type 0
-    Draws r new =
+    abbrev DrawsHere : Result (Unit {0}) Error → Sink → Type 0
+    DrawsHere r new =
         SendsAsking (first_refusal refusal (asked_of f.file.now.id (lookups_with f))) mid (stream_of_rows (look_by now) (rows_in f (file f.file.now.id) (notes || nat_lt (k + 1) count))) r new
 
     -- these are the rows and the lookups at the place
-    drawn-here : (r : Result (Unit {0}) Error) (new : Sink) → Draws r new → SendsAsking (first_refusal refusal asked_here) mid (stream_of_rows look rows_here) r new
+    drawn-here : (r : Result (Unit {0}) Error) (new : Sink) → DrawsHere r new → SendsAsking (first_refusal refusal asked_here) mid (stream_of_rows look rows_here) r new
     drawn-here r new draws =
         let is = is-sheet_file prepared at in
-        let followed : (notes || nat_lt (k + 1) count) ≡ is_followed noted (drop (k + 1) ids) =
-        (λ i. notes_are i || nat_lt (k + 1) ((count_is ∙ sym (ids-count sheet.files.items)) i)) ∙ sym (followed-at noted ids k) in
+        let followed : (notes || nat_lt (k + 1) count) ≡ is_followed has_notes (drop (k + 1) ids) =
+        (λ i. notes_are i || nat_lt (k + 1) ((count_is ∙ sym (ids-count sheet.files.items)) i)) ∙ sym (followed-at has_notes ids k) in
         subst₂ (λ (o : Option Error) (s : Stream). SendsAsking o mid s r new) (ap (λ (ls : List Lookup). first_refusal refusal (asked_of f.file.now.id (Source ∷ ls))) is.asked)
         ((λ i. stream_of_rows (look_by (alike i)) (rows-are is (notes || nat_lt (k + 1) count) i))
         ∙ ap (λ (b : Bool). stream_of_rows look (placed_snippet (view_config_of view) b (place_of_given f.locus) own)) followed)
         draws
 
     -- the file is drawn
-    pub left-next : {new : Sink} → Draws (Ok tt) new → SnippetsLeft same file view sheet refusal renderer (k + 1) old new
+    pub left-next : {new : Sink} → DrawsHere (Ok tt) new → SnippetsLeft same file view sheet refusal renderer (k + 1) old new
     left-next {new} draws =
         let drawn = drawn-here (Ok tt) new draws in
         record {
@@ -272,7 +272,7 @@ module _ {Id : Type 0} {same : Id → Id → Bool} {file : Id → FileModel} {re
         }
 
     -- the file was cut short
-    pub left-cut : {new : Sink} {e : Error} → Draws (Err e) new → SendsAsking all_refusal old (stream_of_rows look all_rows) (Err e) new
+    pub left-cut : {new : Sink} {e : Error} → DrawsHere (Err e) new → SendsAsking all_refusal old (stream_of_rows look all_rows) (Err e) new
     left-cut {new} {e} draws =
         let here = first_refusal refusal asked_here in
         let after = first_refusal refusal (asks (k + 1)) in
