@@ -1,9 +1,9 @@
 -- The files of labels, one label after another.
-use Rattle.std.proofs.Common.{◌≡◌, ◌≢◌, ℕ, ◌+◌, ◌<◌, ◌≤◌, Bool, true, false, List, [], ◌∷◌, ◌++◌, length, get_or, take, drop, map, arith, refl, sym, ap, subst, ◌∙◌, append-nil}
+use Rattle.std.proofs.Common.{◌≡◌, ◌≢◌, ℕ, ◌+◌, ◌<◌, ◌≤◌, Bool, true, false, List, [], ◌∷◌, ◌++◌, length, take, drop, map, arith, refl, sym, ap, subst, ◌∙◌, append-nil}
 use Rattle.std.specs.Prelude.{if◌then◌else◌}
 use Rattle.std.specs.Cmp.{IsEquivalence}
 use Rattle.std.specs.List.{AllByRecursion}
-use Rattle.std.proofs.lemmas.List.{length-map, length-take-le, map-append, take-append-drop, take_all, take_more}
+use Rattle.std.proofs.lemmas.List.{length-map, length-take-le, map-append, take-append-drop, take_all}
 use Rattle.std.proofs.lemmas.List.Elements.{recursion_from_All}
 use Rattle.codespan_base.specs.declared.term.config.Config.{Config}
 use Rattle.codespan_base.specs.FileModel.{FileModel}
@@ -17,13 +17,13 @@ use Rattle.codespan_reporting.specs.Inner.PlacedLabels.{IsIdAt, entries_after, f
 use Rattle.codespan_reporting.proofs.FileOrder.{file_ids-has, file_ids-more, has, none-of_file}
 use Rattle.codespan_reporting.proofs.FilePlaces.{at-stays, no-place, place-here, place-past, place-stays}
 use Rattle.codespan_reporting.proofs.LabelEntries.{all-of_file}
-use Rattle.codespan_reporting.proofs.LabelPlaces.{has-place}
+use Rattle.codespan_reporting.proofs.LabelPlaces.{IsAt, has-place, take-at}
 use Rattle.codespan_reporting.proofs.SheetDrawing.{drop-one}
 use Rattle.codespan_laws.proofs.SortedLists.{all-append, all-both, all-mapped, all-weaker}
 
 -- ---- one more label's file
 
-module _ {Id : Type 0} (same : Id → Id → Bool) (o : IsEquivalence same) (xs : List (InFile Id)) (x : InFile Id) where
+module _ {Id : Type 0} {same : Id → Id → Bool} (o : IsEquivalence same) (xs : List (InFile Id)) (x : InFile Id) where
   -- the files of the labels
   abbrev were : List Id
   were = file_ids same xs
@@ -41,9 +41,9 @@ module _ {Id : Type 0} (same : Id → Id → Bool) (o : IsEquivalence same) (xs 
   stays i there = ap (λ (js : List Id). file_place same js i) (file_ids-more same o xs x) ∙ place-stays same o were x.id i there
 
   -- what is known of each file, where no label tells it of the label's
-  pub known-more : {A : Type 0} (h : Id → A) (d : A) (known now : List A) → (AllByRecursion (λ (y : InFile Id). same x.id y.id ≡ false) xs → h x.id ≡ d)
+  pub known-more : {A : Type 0} {d : A} {known now : List A} (h : Id → A) → (AllByRecursion (λ (y : InFile Id). same x.id y.id ≡ false) xs → h x.id ≡ d)
       → known ≡ map h were → now ≡ with_file same were x.id known d → now ≡ map h are
-  known-more {A} h d known now new was is =
+  known-more {A} {d} {known} h new was is =
       is ∙ ap (λ (ks : List A). with_file same were x.id ks d) was ∙ by (has same o were x.id) (λ none. new (none-of_file same o xs x.id none)) ∙ ap (map h) (sym (file_ids-more same o xs x))
     where
       by : (b : Bool) → (b ≡ false → h x.id ≡ d) → (if b then map h were else map h were ++ d ∷ []) ≡ map h (if b then were else were ++ x.id ∷ [])
@@ -69,9 +69,9 @@ module _ {Id : Type 0} (same : Id → Id → Bool) (o : IsEquivalence same) (xs 
         (entries-inside (before ++ y ∷ []) ys there.1)
 
     -- what the labels say was added, and their lines are those of their files
-    pub added-with_file : (items : List GivenEntry) → Adds (IsOfFiles file were) [] items (entries_after same file config were [] xs)
+    pub added-with_file : {items : List GivenEntry} → Adds (IsOfFiles file were) [] items (entries_after same file config were [] xs)
         → Adds (IsOfFiles file are) [] items (entries_after same file config are [] xs)
-    added-with_file items adds = record {
+    added-with_file adds = record {
       more = adds.more;
       whole = adds.whole;
       say = adds.say ∙ sym (entries-stay [] xs all-there);
@@ -84,7 +84,7 @@ module _ {Id : Type 0} (same : Id → Id → Bool) (o : IsEquivalence same) (xs 
 
 -- ---- a file that is added where it is none of the others
 
-module _ {Id : Type 0} (same : Id → Id → Bool) (o : IsEquivalence same) (files : List (GivenFile Id)) (id : Id) (place : ℕ) (is : place ≡ file_place same (ids_given files) id) where
+module _ {Id : Type 0} {same : Id → Id → Bool} (o : IsEquivalence same) (files : List (GivenFile Id)) (id : Id) {place : ℕ} (is : place ≡ file_place same (ids_given files) id) where
   -- how many ids these are
   ids-length : length (ids_given files) ≡ length files
   ids-length = length-map files (λ (f : GivenFile Id). f.id)
@@ -109,37 +109,36 @@ module _ {Id : Type 0} (same : Id → Id → Bool) (o : IsEquivalence same) (fil
 
 -- ---- a file looked for, one after another
 
-module _ {Id : Type 0} (same : Id → Id → Bool) (o : IsEquivalence same) (files : List (GivenFile Id)) (k : ℕ) (id : Id)
-    (none : AllByRecursion (λ j. same j id ≡ false) (ids_given (take k files))) where
+module _ {Id : Type 0} where
   -- what names a file
   abbrev name : GivenFile Id → Id
   name f = f.id
 
   -- the id is none of all files
-  pub place-nowhere : length files ≤ k → length files ≡ file_place same (ids_given files) id
-  place-nowhere past =
+  pub place-nowhere : {same : Id → Id → Bool} (o : IsEquivalence same) (files : List (GivenFile Id)) (k : ℕ) (id : Id) → AllByRecursion (λ j. same j id ≡ false) (ids_given (take k files)) → length files ≤ k
+      → length files ≡ file_place same (ids_given files) id
+  place-nowhere {same} o files k id none past =
       let all = subst (λ (fs : List (GivenFile Id)). AllByRecursion (λ j. same j id ≡ false) (ids_given fs)) (take_all k files past) none in
       let after = ap (λ js. file_place same js id) (sym (append-nil (ids_given files))) ∙ place-past same o (ids_given files) [] id all in
       let long = length-map files name in
       omega (arith, after, long)
 
-  module _ (f : GivenFile Id) (inside : k < length files) (at : f ≡ get_or files k f) where
-    -- the files up to the one at the place
-    up_to : take (k + 1) files ≡ take k files ++ f ∷ []
-    up_to = take_more files k f inside ∙ ap (λ (g : GivenFile Id). take k files ++ g ∷ []) (sym at)
-
+  module _ {files : List (GivenFile Id)} {k : ℕ} {f : GivenFile Id} (at : IsAt files k f) where
     -- the file is not of the id either
-    pub none-more : same f.id id ≡ false → AllByRecursion (λ j. same j id ≡ false) (ids_given (take (k + 1) files))
-    none-more apart =
-        subst (λ (js : List Id). AllByRecursion (λ j. same j id ≡ false) js) (sym (ap ids_given up_to ∙ map-append name (take k files) (f ∷ [])))
+    pub none-more : (same : Id → Id → Bool) (id : Id) → AllByRecursion (λ j. same j id ≡ false) (ids_given (take k files)) → same f.id id ≡ false
+        → AllByRecursion (λ j. same j id ≡ false) (ids_given (take (k + 1) files))
+    none-more same id none apart =
+        subst (λ (js : List Id). AllByRecursion (λ j. same j id ≡ false) js) (sym (ap ids_given (take-at at) ∙ map-append name (take k files) (f ∷ [])))
         (all-append (λ j. same j id ≡ false) (ids_given (take k files)) (f.id ∷ []) none (apart, tt))
 
     -- it is the first one that is
-    pub place-first : same f.id id ≡ true → k ≡ file_place same (ids_given files) id
-    place-first is =
+    pub place-first : {same : Id → Id → Bool} (o : IsEquivalence same) (id : Id) → AllByRecursion (λ j. same j id ≡ false) (ids_given (take k files)) → same f.id id ≡ true
+        → k ≡ file_place same (ids_given files) id
+    place-first {same} o id none is =
         let rest = drop (k + 1) files in
+        let inside = at.inside in
         let whole : ids_given files ≡ ids_given (take k files) ++ ids_given (f ∷ rest) =
-        ap ids_given (sym (take-append-drop k files) ∙ ap (λ (gs : List (GivenFile Id)). take k files ++ gs) (drop-one files k f inside at)) ∙ map-append name (take k files) (f ∷ rest) in
+        ap ids_given (sym (take-append-drop k files) ∙ ap (λ (gs : List (GivenFile Id)). take k files ++ gs) (drop-one files k f at.inside at.is)) ∙ map-append name (take k files) (f ∷ rest) in
         let after = ap (λ js. file_place same js id) whole ∙ place-past same o (ids_given (take k files)) (ids_given (f ∷ rest)) id none in
         let here = place-here same o f.id (ids_given rest) id is in
         let long = length-map (take k files) name ∙ length-take-le k files (omega (arith, inside)) in

@@ -1,13 +1,13 @@
 -- The places and lanes of labels, one label after another.
-use Rattle.std.proofs.Common.{◌≡◌, ◌<◌, Bool, true, false, not, ◌||◌, cond, List, [], ◌∷◌, ◌++◌, length, get_or, set, map, refl, sym, ap, ◌∙◌, arith, ⊎_elim, true≢false}
+use Rattle.std.proofs.Common.{◌≡◌, ℕ, ◌+◌, ◌<◌, Bool, true, false, not, ◌||◌, cond, List, [], ◌∷◌, ◌++◌, length, take, get_or, set, map, refl, sym, ap, ◌∙◌, arith, ⊎_elim, true≢false}
 use Rattle.std.specs.Prelude.{filter, if◌then◌else◌}
 use Rattle.std.specs.Cmp.{IsEquivalence}
 use Rattle.std.specs.List.{AllByRecursion}
 use Rattle.std.proofs.lemmas.Bool.{cases_Bool}
-use Rattle.std.proofs.lemmas.List.{append-nil, append_assoc, map-append}
+use Rattle.std.proofs.lemmas.List.{append-nil, append_assoc, map-append, take_more}
 use Rattle.std.proofs.lemmas.List.Elements.{filter-append}
 use Rattle.codespan_base.specs.declared.term.config.Config.{Config}
-use Rattle.codespan_base.specs.FileModel.{FileModel}
+use Rattle.codespan_base.specs.FileModel.{FileModel, line_count}
 use Rattle.codespan_base.specs.Labels.{Labelled, first_line, is_single, last_line, multi_labels}
 use Rattle.codespan_reporting.specs.declared.term.views.label_lines.LabelLines.{LabelLines}
 use Rattle.codespan_reporting.specs.Inner.Entries.{Entry, entries_of}
@@ -18,6 +18,26 @@ use Rattle.codespan_picture.specs.Snippets.{InFile}
 use Rattle.codespan_laws.proofs.SortedLists.{filter-nothing}
 use Rattle.codespan_reporting.proofs.FileOrder.{has}
 use Rattle.codespan_reporting.proofs.FilePlaces.{Differ, place-here, place-later}
+
+-- the element at a place of a list
+pub record IsAt {X : Type 0} (xs : List X) (place : ℕ) (x : X) : Type 0 where
+  pub inside : place < length xs
+  pub is : x ≡ get_or xs place x
+
+-- the elements up to it are those before it, and it
+pub take-at : {X : Type 0} {xs : List X} {place : ℕ} {x : X} → IsAt xs place x → take (place + 1) xs ≡ take place xs ++ x ∷ []
+take-at {X} {xs} {place} {x} at = take_more xs place x at.inside ∙ ap (λ (y : X). take place xs ++ y ∷ []) (sym at.is)
+
+-- the files are those of a lawful table: sameness of ids is an equivalence, the same ids name one file, and each file has a line
+pub record AreFiles {Id : Type 0} (same : Id → Id → Bool) (file : Id → FileModel) : Type 0 where
+  pub equivalence : IsEquivalence same
+  pub one_file : (i j : Id) → same i j ≡ true → file i ≡ file j
+  pub some_line : (i : Id) → 0 < line_count (file i)
+
+-- where what is kept for each id changes, it is this for those that are the same as one, and stays for the others
+pub record IsChanged {Id A : Type 0} (same : Id → Id → Bool) (i : Id) (h more : Id → A) (v : A) : Type 0 where
+  pub own : (j : Id) → same j i ≡ true → more j ≡ v
+  pub others : (j : Id) → same j i ≡ false → more j ≡ h j
 
 -- the lane that a label takes, where it is over several lines
 abbrev pub label_lanes : FileModel → Labelled → List Lane
@@ -41,6 +61,7 @@ module _ {Id : Type 0} (same : Id → Id → Bool) (o : IsEquivalence same) wher
       (λ (f : same j i ≡ false). omega (arith, place-later same o j js i f, has-place js i (sym (ap (λ b. b || has same o js i) f) ∙ h)))
       (cases_Bool (same j i))
 
+module _ {Id : Type 0} {same : Id → Id → Bool} (o : IsEquivalence same) where
   module _ {A : Type 0} (h : Id → A) (alike : (i j : Id) → same i j ≡ true → h i ≡ h j) where
     -- what is kept at an id's place is what is kept for it
     pub kept-at : (ids : List Id) (i : Id) (d : A) → has same o ids i ≡ true → get_or (map h ids) (file_place same ids i) d ≡ h i
@@ -51,65 +72,66 @@ module _ {Id : Type 0} (same : Id → Id → Bool) (o : IsEquivalence same) wher
         (λ (f : same j i ≡ false). ap (λ k. get_or (map h (j ∷ js)) k d) (place-later same o j js i f) ∙ kept-at js i d (sym (ap (λ b. b || has same o js i) f) ∙ there))
         (cases_Bool (same j i))
 
-  module _ {A : Type 0} (h more : Id → A) (i : Id) (v : A) (own : (j : Id) → same j i ≡ true → more j ≡ v) (others : (j : Id) → same j i ≡ false → more j ≡ h j) where
+  module _ {A : Type 0} {i : Id} {h more : Id → A} {v : A} (changed : IsChanged same i h more v) where
     -- nothing changes for ids that differ from one that is the same as this
     others-stay : (j : Id) → same j i ≡ true → (ks : List Id) → AllByRecursion (λ k. same j k ≡ false) ks → map more ks ≡ map h ks
     others-stay j t [] apart = refl
     others-stay j t (k ∷ ks) apart =
         let not_it : same k i ≡ false = o.symm k i ∙ sym (o.congr j i k t) ∙ apart.0 in
-        λ n. others k not_it n ∷ others-stay j t ks apart.1 n
+        λ n. changed.others k not_it n ∷ others-stay j t ks apart.1 n
 
     -- where what is kept at the id's place changes, the others stay
     pub set-at : (ids : List Id) → Differ same o ids → has same o ids i ≡ true → set (map h ids) (file_place same ids i) v ≡ map more ids
     set-at [] differ there = absurd (true≢false (sym there))
     set-at (j ∷ js) differ there =
         ⊎_elim
-        (λ (t : same j i ≡ true). ap (λ k. set (map h (j ∷ js)) k v) (place-here same o j js i t) ∙ (λ n. sym (own j t) n ∷ sym (others-stay j t js differ.0) n))
+        (λ (t : same j i ≡ true). ap (λ k. set (map h (j ∷ js)) k v) (place-here same o j js i t) ∙ (λ n. sym (changed.own j t) n ∷ sym (others-stay j t js differ.0) n))
         (λ (f : same j i ≡ false). ap (λ k. set (map h (j ∷ js)) k v) (place-later same o j js i f)
-        ∙ (λ n. sym (others j f) n ∷ set-at js differ.1 (sym (ap (λ b. b || has same o js i) f) ∙ there) n))
+        ∙ (λ n. sym (changed.others j f) n ∷ set-at js differ.1 (sym (ap (λ b. b || has same o js i) f) ∙ there) n))
         (cases_Bool (same j i))
 
-  module _ (file : Id → FileModel) where
-    -- equal ids have the same lanes
-    pub lanes_in-alike : ((i j : Id) → same i j ≡ true → file i ≡ file j) → (before : List (InFile Id)) (i j : Id) → same i j ≡ true → lanes_in same file before i ≡ lanes_in same file before j
-    lanes_in-alike one_file before i j t = λ k. file_lanes (record {
-      file = one_file i j t k;
-      labels = map (λ (x : InFile Id). x.label) (filter (λ (x : InFile Id). o.congr i j x.id t k) before);
-    })
+-- equal ids have the same lanes
+pub lanes_in-alike : {Id : Type 0} {same : Id → Id → Bool} {file : Id → FileModel} (table : AreFiles same file) (before : List (InFile Id)) (i j : Id) → same i j ≡ true
+    → lanes_in same file before i ≡ lanes_in same file before j
+lanes_in-alike {Id} table before i j t = λ k. file_lanes (record {
+  file = table.one_file i j t k;
+  labels = map (λ (x : InFile Id). x.label) (filter (λ (x : InFile Id). table.equivalence.congr i j x.id t k) before);
+})
 
-    -- labels of other files have no lane in a file
-    pub lanes_in-none : (xs : List (InFile Id)) (id : Id) → AllByRecursion (λ (x : InFile Id). same id x.id ≡ false) xs → lanes_in same file xs id ≡ []
-    lanes_in-none xs id none =
-        ap (λ (own : List (InFile Id)). file_lanes (record { file = file id; labels = map (λ (x : InFile Id). x.label) own })) (filter-nothing (λ (x : InFile Id). same id x.id) xs none)
+module _ {Id : Type 0} (same : Id → Id → Bool) (file : Id → FileModel) where
+  -- labels of other files have no lane in a file
+  pub lanes_in-none : (xs : List (InFile Id)) (id : Id) → AllByRecursion (λ (x : InFile Id). same id x.id ≡ false) xs → lanes_in same file xs id ≡ []
+  lanes_in-none xs id none =
+      ap (λ (own : List (InFile Id)). file_lanes (record { file = file id; labels = map (λ (x : InFile Id). x.label) own })) (filter-nothing (λ (x : InFile Id). same id x.id) xs none)
 
-    -- the lanes with one more label
-    pub lanes_in-more : (before : List (InFile Id)) (x : InFile Id) (id : Id)
-        → lanes_in same file (before ++ x ∷ []) id ≡ lanes_in same file before id ++ (if same id x.id then label_lanes (file id) x.label else [])
-    lanes_in-more before x id =
-        ap (λ (xs : List (InFile Id)). file_lanes (record { file = file id; labels = map (λ (y : InFile Id). y.label) xs })) (filter-append (λ (y : InFile Id). same id y.id) before (x ∷ []))
-        ∙ by_same (same id x.id)
-      where
-        own : List (InFile Id)
-        own = filter (λ (y : InFile Id). same id y.id) before
+  -- the lanes with one more label
+  pub lanes_in-more : (before : List (InFile Id)) (x : InFile Id) (id : Id)
+      → lanes_in same file (before ++ x ∷ []) id ≡ lanes_in same file before id ++ (if same id x.id then label_lanes (file id) x.label else [])
+  lanes_in-more before x id =
+      ap (λ (xs : List (InFile Id)). file_lanes (record { file = file id; labels = map (λ (y : InFile Id). y.label) xs })) (filter-append (λ (y : InFile Id). same id y.id) before (x ∷ []))
+      ∙ by_same (same id x.id)
+    where
+      own : List (InFile Id)
+      own = filter (λ (y : InFile Id). same id y.id) before
 
-        labels : List Labelled
-        labels = map (λ (y : InFile Id). y.label) own
+      labels : List Labelled
+      labels = map (λ (y : InFile Id). y.label) own
 
-        by_same : (b : Bool) → file_lanes (record { file = file id; labels = map (λ (y : InFile Id). y.label) (own ++ (cond b (x ∷ []) [])) })
-            ≡ lanes_in same file before id ++ (if b then label_lanes (file id) x.label else [])
-        by_same true =
-            ap (λ (ls : List Labelled). file_lanes (record { file = file id; labels = ls })) (map-append (λ (y : InFile Id). y.label) own (x ∷ []))
-            ∙ ap (map (lane_of (file id))) (filter-append (λ y. not (is_single (file id) y)) labels (x.label ∷ []))
-            ∙ map-append (lane_of (file id)) (multi_labels (file id) labels) (multi_labels (file id) (x.label ∷ []))
-        by_same false =
-            ap (λ (xs : List (InFile Id)). file_lanes (record { file = file id; labels = map (λ (y : InFile Id). y.label) xs })) (append-nil own) ∙ sym (append-nil _)
+      by_same : (b : Bool) → file_lanes (record { file = file id; labels = map (λ (y : InFile Id). y.label) (own ++ (cond b (x ∷ []) [])) })
+          ≡ lanes_in same file before id ++ (if b then label_lanes (file id) x.label else [])
+      by_same true =
+          ap (λ (ls : List Labelled). file_lanes (record { file = file id; labels = ls })) (map-append (λ (y : InFile Id). y.label) own (x ∷ []))
+          ∙ ap (map (lane_of (file id))) (filter-append (λ y. not (is_single (file id) y)) labels (x.label ∷ []))
+          ∙ map-append (lane_of (file id)) (multi_labels (file id) labels) (multi_labels (file id) (x.label ∷ []))
+      by_same false =
+          ap (λ (xs : List (InFile Id)). file_lanes (record { file = file id; labels = map (λ (y : InFile Id). y.label) xs })) (append-nil own) ∙ sym (append-nil _)
 
-    -- what the labels say, with one more
-    pub entries_after-more : (config : Config) (ids : List Id) (before xs : List (InFile Id)) (x : InFile Id)
-        → entries_after same file config ids before (xs ++ x ∷ []) ≡ entries_after same file config ids before xs ++ entries_of config (file x.id) (place_after same ids (before ++ xs) x) x.label
-    entries_after-more config ids before [] x =
-        append-nil _ ∙ ap (λ (ys : List (InFile Id)). entries_of config (file x.id) (place_after same ids ys x) x.label) (sym (append-nil before))
-    entries_after-more config ids before (y ∷ ys) x =
-        ap (λ (es : List Entry). entries_of config (file y.id) (place_after same ids before y) y.label ++ es) (entries_after-more config ids (before ++ y ∷ []) ys x)
-        ∙ sym (append_assoc (entries_of config (file y.id) (place_after same ids before y) y.label) (entries_after same file config ids (before ++ y ∷ []) ys) (entries_of config (file x.id) (place_after same ids ((before ++ y ∷ []) ++ ys) x) x.label))
-        ∙ ap (λ (zs : List (InFile Id)). entries_after same file config ids before (y ∷ ys) ++ entries_of config (file x.id) (place_after same ids zs x) x.label) (append_assoc before (y ∷ []) ys)
+  -- what the labels say, with one more
+  pub entries_after-more : (config : Config) (ids : List Id) (before xs : List (InFile Id)) (x : InFile Id)
+      → entries_after same file config ids before (xs ++ x ∷ []) ≡ entries_after same file config ids before xs ++ entries_of config (file x.id) (place_after same ids (before ++ xs) x) x.label
+  entries_after-more config ids before [] x =
+      append-nil _ ∙ ap (λ (ys : List (InFile Id)). entries_of config (file x.id) (place_after same ids ys x) x.label) (sym (append-nil before))
+  entries_after-more config ids before (y ∷ ys) x =
+      ap (λ (es : List Entry). entries_of config (file y.id) (place_after same ids before y) y.label ++ es) (entries_after-more config ids (before ++ y ∷ []) ys x)
+      ∙ sym (append_assoc (entries_of config (file y.id) (place_after same ids before y) y.label) (entries_after same file config ids (before ++ y ∷ []) ys) (entries_of config (file x.id) (place_after same ids ((before ++ y ∷ []) ++ ys) x) x.label))
+      ∙ ap (λ (zs : List (InFile Id)). entries_after same file config ids before (y ∷ ys) ++ entries_of config (file x.id) (place_after same ids zs x) x.label) (append_assoc before (y ∷ []) ys)

@@ -31,10 +31,10 @@ use Rattle.codespan_reporting.proofs.FileOrder.{file_ids-more}
 use Rattle.codespan_reporting.proofs.FilePlaces.{file_place-at}
 use Rattle.codespan_reporting.proofs.Gathering.{Adds-as, Adds-both}
 use Rattle.codespan_reporting.proofs.LabelEntries.{all-of_file}
-use Rattle.codespan_reporting.proofs.LabelPlaces.{entries_after-more, kept-at, label_lanes, lanes_in-alike, lanes_in-more, lanes_in-none, set-at}
+use Rattle.codespan_reporting.proofs.LabelPlaces.{AreFiles, IsAt, IsChanged, entries_after-more, kept-at, label_lanes, lanes_in-alike, lanes_in-more, lanes_in-none, set-at}
 use Rattle.codespan_reporting.proofs.LabelFiles.{added-with_file, known-more}
 use Rattle.codespan_reporting.proofs.LocusStarts.{start-unknown, starts-set}
-use Rattle.codespan_reporting.proofs.LabelTurns.{IsLabelTurn, before, before-more, file-inside, has-file, ids-differ}
+use Rattle.codespan_reporting.proofs.LabelTurns.{before, before-more, file-inside, has-file, ids-differ}
 use Rattle.codespan_reporting.proofs.Refusals.{first_refusal-none, first_refusal-some}
 
 -- these labels are done with: each file has what they tell, what they say is there, the lines that they span have room, and no lookup was refused
@@ -47,60 +47,79 @@ pub record AreGathered {Id : Type 0} (same : Id → Id → Bool) (file : Id → 
   pub counted : found.padding ≡ fold max 0 (all_digits file done)
   pub answered : first_refusal refusal (label_lookups config file refusal done) ≡ None
 
-module _ {Id : Type 0} (same : Id → Id → Bool) (file : Id → FileModel) (o : IsEquivalence same) (one_file : (i j : Id) → same i j ≡ true → file i ≡ file j)
-    (refusal : Refusals Id) (config : Config) (labels : List (Label Id)) where
-  -- the labels before this place are done with
-  abbrev Are : ℕ → List (GivenFile Id) → FoundLines → Type 0
-  Are place = AreGathered same file refusal config (file_ids same (before labels place)) (before labels place)
+-- what a label says was added, the lines that it spans have room, and no lookup of it was refused
+pub record IsGatheredLabel {Id : Type 0} (file : Id → FileModel) (refusal : Refusals Id) (config : Config) (at : LabelPlace) (label : Label Id) (found more : FoundLines) : Type 0 where
+  pub added : AddsOf (file label.file_id) found.entries.items more.entries.items (entries_of config (file label.file_id) at (label_of label).label)
+  pub counted : more.padding ≡ fold max found.padding (label_digits (file label.file_id) (label_of label).label)
+  pub answered : first_refusal refusal (asked_of label.file_id (of_label config (file label.file_id) (refusal label.file_id) (label_of label).label)) ≡ None
 
-  -- so they are, and the file of the label at this place is there too
-  abbrev AreWithFile : ℕ → List (GivenFile Id) → FoundLines → Type 0
-  AreWithFile place = AreGathered same file refusal config (file_ids same (before labels (place + 1))) (before labels place)
+-- the file at this place was told of a label
+pub record IsToldLabel {Id : Type 0} (file : Id → FileModel) (at : ℕ) (label : Label Id) (files next : List (GivenFile Id)) : Type 0 where
+  pub ids : ids_given next ≡ ids_given files
+  pub starts : starts_given next ≡ start_told (starts_given files) at (label_of label).label
+  pub lanes : all_lanes_given next ≡ lanes_told (all_lanes_given files) at (label_lanes (file label.file_id) (label_of label).label)
 
-  module _ (place : ℕ) (label : Label Id) (inside : place < length labels) (is : label ≡ get_or labels place label) where
-    -- the files of the labels up to this one
-    abbrev ids : List Id
-    ids = file_ids same (before labels (place + 1))
+-- a file of this id was placed: it is one of the files, or comes after them
+pub record IsPlacedFile {Id : Type 0} (same : Id → Id → Bool) (id : Id) (files now : List (GivenFile Id)) : Type 0 where
+  pub ids : ids_given now ≡ with_file same (ids_given files) id (ids_given files) id
+  pub starts : starts_given now ≡ with_file same (ids_given files) id (starts_given files) no_start
+  pub lanes : all_lanes_given now ≡ with_file same (ids_given files) id (all_lanes_given files) []
 
-    -- it is the label's turn
-    abbrev turn : IsLabelTurn same labels ids place label
-    turn = record { are = refl; inside = inside; is = is }
+module _ {Id : Type 0} {same : Id → Id → Bool} {file : Id → FileModel} (table : AreFiles same file) {labels : List (Label Id)} {place : ℕ} {label : Label Id} (turn : IsAt labels place label) where
+  -- sameness of ids is an equivalence
+  abbrev o : IsEquivalence same
+  o = table.equivalence
 
-    -- the labels before the next place
-    one_more : before labels (place + 1) ≡ before labels place ++ label_of label ∷ []
-    one_more = before-more same o labels ids place label turn
+  -- the files of the labels up to this one
+  abbrev ids : List Id
+  ids = file_ids same (before labels (place + 1))
 
-    -- how many these are
-    before-length : length (before labels place) ≡ place
-    before-length = length-map (take place labels) label_of ∙ length-take-le place labels (omega arith)
+  -- how many labels are before it
+  before-length : length (before labels place) ≡ place
+  before-length = let inside = turn.inside in length-map (take place labels) label_of ∙ length-take-le place labels (omega (arith, inside))
 
+  -- an entry of the label's file is one of the files with these ids
+  of_files : (e : GivenEntry) → IsLineOf (file label.file_id) e.line → e.file ≡ file_place same ids label.file_id → IsOfFiles file ids e
+  of_files e is_line own id there =
+      let alike : same id label.file_id ≡ true =
+      sym (file_place-at same o (before labels (place + 1)) _ id (subst (λ k. IsIdAt ids k id) own there) label.file_id) ∙ eq-eqb _ _ refl in
+      subst (λ (f : FileModel). IsLineOf f e.line) (sym (table.one_file id label.file_id alike)) is_line
+
+  -- where the label is
+  abbrev here : LabelPlace
+  here = record { file = file_place same ids label.file_id; place = place }
+
+  -- that is what comes after the labels before it
+  here-is : here ≡ place_after same ids (before labels place) (label_of label)
+  here-is = λ i. record { file = file_place same ids label.file_id; place = sym before-length i }
+
+  -- the label's lane is one of its file's, and of no other file's
+  lanes-changed : IsChanged same label.file_id (lanes_in same file (before labels place)) (lanes_in same file (before labels (place + 1)))
+      (lanes_in same file (before labels place) label.file_id ++ label_lanes (file label.file_id) (label_of label).label)
+  lanes-changed = record {
+    own = λ j t. more j
+        ∙ ap (λ (b : Bool). lanes_in same file (before labels place) j ++ (if b then label_lanes (file j) (label_of label).label else [])) t
+        ∙ (λ i. lanes_in-alike table (before labels place) j label.file_id t i ++ label_lanes (table.one_file j label.file_id t i) (label_of label).label);
+    others = λ j f. more j
+        ∙ ap (λ (b : Bool). lanes_in same file (before labels place) j ++ (if b then label_lanes (file j) (label_of label).label else [])) f ∙ append-nil _;
+  }
+    where
+      more : (j : Id) → lanes_in same file (before labels (place + 1)) j ≡ lanes_in same file (before labels place) j ++ (if same j label.file_id then label_lanes (file j) (label_of label).label else [])
+      more j = ap (λ xs. lanes_in same file xs j) (before-more turn) ∙ lanes_in-more same file (before labels place) (label_of label) j
+
+  -- ---- the labels before it are done with, and its file is there too
+
+  module _ {refusal : Refusals Id} {config : Config} {files : List (GivenFile Id)} {found : FoundLines} (g : AreGathered same file refusal config (file_ids same (before labels (place + 1))) (before labels place) files found) where
     -- the lanes that are kept at its file's place are those of its file
-    lanes-kept : (files : List (GivenFile Id)) (found : FoundLines) → AreWithFile place files found
-        → get_or (all_lanes_given files) (file_place same ids label.file_id) [] ≡ lanes_in same file (before labels place) label.file_id
-    lanes-kept files found g =
+    lanes-kept : get_or (all_lanes_given files) (file_place same ids label.file_id) [] ≡ lanes_in same file (before labels place) label.file_id
+    lanes-kept =
         ap (λ (all : List (List Lane)). get_or all (file_place same ids label.file_id) []) g.lanes_are
-        ∙ kept-at same o (lanes_in same file (before labels place)) (lanes_in-alike same o file one_file (before labels place)) ids label.file_id [] (has-file same o labels ids place label turn)
-
-    -- an entry of the label's file is one of the files with these ids
-    of_files : (e : GivenEntry) → IsLineOf (file label.file_id) e.line → e.file ≡ file_place same ids label.file_id → IsOfFiles file ids e
-    of_files e is_line own id there =
-        let alike : same id label.file_id ≡ true =
-        sym (file_place-at same o (before labels (place + 1)) _ id (subst (λ k. IsIdAt ids k id) own there) label.file_id) ∙ eq-eqb _ _ refl in
-        subst (λ (f : FileModel). IsLineOf f e.line) (sym (one_file id label.file_id alike)) is_line
-
-    -- where the label is
-    abbrev here : LabelPlace
-    here = record { file = file_place same ids label.file_id; place = place }
-
-    -- that is what comes after the labels before it
-    here-is : here ≡ place_after same ids (before labels place) (label_of label)
-    here-is = λ i. record { file = file_place same ids label.file_id; place = sym before-length i }
+        ∙ kept-at o (lanes_in same file (before labels place)) (lanes_in-alike table (before labels place)) ids label.file_id [] (has-file turn o)
 
     -- what the label says was added
-    added-more : (files : List (GivenFile Id)) (found more : FoundLines) → AreWithFile place files found
-        → AddsOf (file label.file_id) found.entries.items more.entries.items (entries_of config (file label.file_id) here (label_of label).label)
+    added-more : (more : FoundLines) → AddsOf (file label.file_id) found.entries.items more.entries.items (entries_of config (file label.file_id) here (label_of label).label)
         → Adds (IsOfFiles file ids) [] more.entries.items (entries_after same file config ids [] (before labels (place + 1)))
-    added-more files found more g adds =
+    added-more more adds =
         let f = file label.file_id in
         let x = (label_of label).label in
         let own : AllByRecursion (λ (e : GivenEntry). e.file ≡ file_place same ids label.file_id) adds.more =
@@ -115,108 +134,84 @@ module _ {Id : Type 0} (same : Id → Id → Bool) (file : Id → FileModel) (o 
               (all-both (λ e. IsLineOf f e.line) (λ e. e.file ≡ file_place same ids label.file_id) adds.more adds.each own);
         } in
         Adds-as (IsOfFiles file ids) [] _ _ _
-        (ap (entries_after same file config ids []) one_more
-        ∙ entries_after-more same o file config ids [] (before labels place) (label_of label)
+        (ap (entries_after same file config ids []) (before-more turn)
+        ∙ entries_after-more same file config ids [] (before labels place) (label_of label)
         ∙ ap (λ (at : LabelPlace). entries_after same file config ids [] (before labels place) ++ entries_of config f at x) (sym here-is))
         (Adds-both (IsOfFiles file ids) [] _ _ _ _ g.added widened)
 
     -- the lines that it spans have room
-    counted-more : (files : List (GivenFile Id)) (found more : FoundLines) → AreWithFile place files found
-        → more.padding ≡ fold max found.padding (label_digits (file label.file_id) (label_of label).label) → more.padding ≡ fold max 0 (all_digits file (before labels (place + 1)))
-    counted-more files found more g counts =
+    counted-more : (more : FoundLines) → more.padding ≡ fold max found.padding (label_digits (file label.file_id) (label_of label).label) → more.padding ≡ fold max 0 (all_digits file (before labels (place + 1)))
+    counted-more more counts =
         let digits : InFile Id → List ℕ = λ x. label_digits (file x.id) x.label in
         counts ∙ ap (λ n. fold max n (digits (label_of label))) g.counted
         ∙ sym (greatest-append 0 (all_digits file (before labels place)) (digits (label_of label)))
         ∙ ap (λ (ns : List ℕ). fold max 0 (all_digits file (before labels place) ++ ns)) (sym (append-nil (digits (label_of label))))
         ∙ ap (fold max 0) (sym (flat_map-append digits (before labels place) (label_of label ∷ [])))
-        ∙ ap (λ xs. fold max 0 (all_digits file xs)) (sym one_more)
-
-    -- the lanes of a file after this label
-    lanes-more : (j : Id) → lanes_in same file (before labels (place + 1)) j
-        ≡ lanes_in same file (before labels place) j ++ (if same j label.file_id then label_lanes (file j) (label_of label).label else [])
-    lanes-more j = ap (λ xs. lanes_in same file xs j) one_more ∙ lanes_in-more same o file (before labels place) (label_of label) j
+        ∙ ap (λ xs. fold max 0 (all_digits file xs)) (sym (before-more turn))
 
     -- the label's file has its lane too, and no other file's lanes change
-    lanes-next : (files next : List (GivenFile Id)) (found : FoundLines) → AreWithFile place files found
-        → all_lanes_given next ≡ lanes_told (all_lanes_given files) (file_place same ids label.file_id) (label_lanes (file label.file_id) (label_of label).label)
+    lanes-next : (next : List (GivenFile Id)) → all_lanes_given next ≡ lanes_told (all_lanes_given files) (file_place same ids label.file_id) (label_lanes (file label.file_id) (label_of label).label)
         → all_lanes_given next ≡ map (lanes_in same file (before labels (place + 1))) ids
-    lanes-next files next found g changed =
-        let own = label_lanes (file label.file_id) (label_of label).label in
-        changed ∙ (λ i. set (g.lanes_are i) (file_place same ids label.file_id) (lanes-kept files found g i ++ own))
-        ∙ set-at same o (lanes_in same file (before labels place)) (lanes_in same file (before labels (place + 1))) label.file_id _
-        (λ j t. lanes-more j
-        ∙ ap (λ (b : Bool). lanes_in same file (before labels place) j ++ (if b then label_lanes (file j) (label_of label).label else [])) t
-        ∙ (λ i. lanes_in-alike same o file one_file (before labels place) j label.file_id t i ++ label_lanes (one_file j label.file_id t i) (label_of label).label))
-        (λ j f. lanes-more j
-        ∙ ap (λ (b : Bool). lanes_in same file (before labels place) j ++ (if b then label_lanes (file j) (label_of label).label else [])) f ∙ append-nil _)
-        ids (ids-differ same o labels ids place label turn) (has-file same o labels ids place label turn)
+    lanes-next next changed =
+        changed ∙ (λ i. set (g.lanes_are i) (file_place same ids label.file_id) (lanes-kept i ++ label_lanes (file label.file_id) (label_of label).label))
+        ∙ set-at o lanes-changed ids (ids-differ turn o) (has-file turn o)
 
-    -- the label's file was placed: it is one of those of the labels before, or after them
-    pub file-placed : (files now : List (GivenFile Id)) (found : FoundLines) → Are place files found
-        → ids_given now ≡ with_file same (ids_given files) label.file_id (ids_given files) label.file_id
-        → starts_given now ≡ with_file same (ids_given files) label.file_id (starts_given files) no_start
-        → all_lanes_given now ≡ with_file same (ids_given files) label.file_id (all_lanes_given files) []
-        → AreWithFile place now found
-    file-placed files now found g named started laned =
+    module _ {at : ℕ} (there : at ≡ file_place same (ids_given files) label.file_id) where
+      -- its file's place among the files is that among their ids
+      place-found : at ≡ file_place same ids label.file_id
+      place-found = there ∙ ap (λ (js : List Id). file_place same js label.file_id) g.ids_are
+
+      -- it is below their number
+      pub place-inside : at < length files
+      place-inside =
+          let low = file-inside turn o in
+          let long : length files ≡ length ids = sym (length-map files _) ∙ ap length g.ids_are in
+          omega (arith, low, place-found, long)
+
+      -- one more label, whose file is at this place
+      pub gathered-more : {next : List (GivenFile Id)} {more : FoundLines} → IsGatheredLabel file refusal config (record { file = at; place = place }) label found more → IsToldLabel file at label files next
+          → AreGathered same file refusal config (file_ids same (before labels (place + 1))) (before labels (place + 1)) next more
+      gathered-more {next} {more} own told = record {
+        ids_are = told.ids ∙ g.ids_are;
+        starts_are = starts-set turn o g.starts_are (told.starts ∙ ap (λ k. start_told (starts_given files) k (label_of label).label) place-found);
+        lanes_are = lanes-next next (told.lanes ∙ ap (λ k. lanes_told (all_lanes_given files) k (label_lanes (file label.file_id) (label_of label).label)) place-found);
+        added = added-more more
+            (subst (λ k. AddsOf (file label.file_id) found.entries.items more.entries.items (entries_of config (file label.file_id) (record { file = k; place = place }) (label_of label).label)) place-found own.added);
+        counted = counted-more more own.counted;
+        answered =
+            ap (λ xs. first_refusal refusal (label_lookups config file refusal xs)) (before-more turn)
+            ∙ ap (first_refusal refusal) (flat_map-append (label_asked config file refusal) (before labels place) (label_of label ∷ []))
+            ∙ first_refusal-none refusal (label_lookups config file refusal (before labels place)) _ g.answered
+            ∙ ap (first_refusal refusal) (append-nil (label_asked config file refusal (label_of label))) ∙ own.answered;
+      }
+
+  -- ---- the labels before it are done with
+
+  module _ {refusal : Refusals Id} {config : Config} {files : List (GivenFile Id)} {found : FoundLines} (g : AreGathered same file refusal config (file_ids same (before labels place)) (before labels place) files found) where
+    -- its file was placed: it is one of those of the labels before, or after them
+    pub file-placed : {now : List (GivenFile Id)} → IsPlacedFile same label.file_id files now → AreGathered same file refusal config (file_ids same (before labels (place + 1))) (before labels place) now found
+    file-placed {now} placed =
         let xs = before labels place in
         let x = label_of label in
-        subst (λ ys. AreGathered same file refusal config (file_ids same ys) xs now found) (sym one_more) (record {
-          ids_are = named ∙ ap (λ (js : List Id). with_file same js label.file_id js label.file_id) g.ids_are ∙ sym (file_ids-more same o xs x);
-          starts_are = known-more same o xs x (file_start same xs) no_start (starts_given files) (starts_given now) (start-unknown same xs label.file_id) g.starts_are
-              (started ∙ ap (λ (js : List Id). with_file same js label.file_id (starts_given files) no_start) g.ids_are);
-          lanes_are = known-more same o xs x (lanes_in same file xs) [] (all_lanes_given files) (all_lanes_given now) (lanes_in-none same o file xs label.file_id) g.lanes_are
-              (laned ∙ ap (λ (js : List Id). with_file same js label.file_id (all_lanes_given files) []) g.ids_are);
-          added = added-with_file same o xs x file config found.entries.items g.added;
+        subst (λ ys. AreGathered same file refusal config (file_ids same ys) xs now found) (sym (before-more turn)) (record {
+          ids_are = placed.ids ∙ ap (λ (js : List Id). with_file same js label.file_id js label.file_id) g.ids_are ∙ sym (file_ids-more same o xs x);
+          starts_are = known-more o xs x (file_start same xs) (start-unknown same xs label.file_id) g.starts_are
+              (placed.starts ∙ ap (λ (js : List Id). with_file same js label.file_id (starts_given files) no_start) g.ids_are);
+          lanes_are = known-more o xs x (lanes_in same file xs) (lanes_in-none same file xs label.file_id) g.lanes_are
+              (placed.lanes ∙ ap (λ (js : List Id). with_file same js label.file_id (all_lanes_given files) []) g.ids_are);
+          added = added-with_file o xs x file config g.added;
           counted = g.counted;
           answered = g.answered;
         })
 
-    -- the place among the files is that among their ids
-    place-found : (files : List (GivenFile Id)) (found : FoundLines) (at : ℕ) → AreWithFile place files found → at ≡ file_place same (ids_given files) label.file_id
-        → at ≡ file_place same ids label.file_id
-    place-found files found at g here = here ∙ ap (λ (js : List Id). file_place same js label.file_id) g.ids_are
-
-    -- it is below their number
-    pub place-inside : (files : List (GivenFile Id)) (found : FoundLines) (at : ℕ) → AreWithFile place files found → at ≡ file_place same (ids_given files) label.file_id → at < length files
-    place-inside files found at g here =
-        let low = file-inside same o labels ids place label turn in
-        let long : length files ≡ length ids = sym (length-map files _) ∙ ap length g.ids_are in
-        omega (arith, low, place-found files found at g here, long)
-
-    -- one more label, whose file is at this place
-    pub gathered-more : (at : ℕ) (files next : List (GivenFile Id)) (found more : FoundLines) → AreWithFile place files found → at ≡ file_place same (ids_given files) label.file_id
-        → AddsOf (file label.file_id) found.entries.items more.entries.items (entries_of config (file label.file_id) (record { file = at; place = place }) (label_of label).label)
-        → more.padding ≡ fold max found.padding (label_digits (file label.file_id) (label_of label).label)
-        → ids_given next ≡ ids_given files
-        → starts_given next ≡ start_told (starts_given files) at (label_of label).label
-        → all_lanes_given next ≡ lanes_told (all_lanes_given files) at (label_lanes (file label.file_id) (label_of label).label)
-        → first_refusal refusal (asked_of label.file_id (of_label config (file label.file_id) (refusal label.file_id) (label_of label).label)) ≡ None
-        → Are (place + 1) next more
-    gathered-more at files next found more g there adds counts kept started laned none =
-        let is_at = place-found files found at g there in
-        record {
-          ids_are = kept ∙ g.ids_are;
-          starts_are = starts-set same o labels ids place label turn (starts_given files) g.starts_are no_start (starts_given next) (started ∙ ap (λ k. start_told (starts_given files) k (label_of label).label) is_at);
-          lanes_are = lanes-next files next found g (laned ∙ ap (λ k. lanes_told (all_lanes_given files) k (label_lanes (file label.file_id) (label_of label).label)) is_at);
-          added = added-more files found more g
-              (subst (λ k. AddsOf (file label.file_id) found.entries.items more.entries.items (entries_of config (file label.file_id) (record { file = k; place = place }) (label_of label).label)) is_at adds);
-          counted = counted-more files found more g counts;
-          answered =
-              ap (λ xs. first_refusal refusal (label_lookups config file refusal xs)) one_more
-              ∙ ap (first_refusal refusal) (flat_map-append (label_asked config file refusal) (before labels place) (label_of label ∷ []))
-              ∙ first_refusal-none refusal (label_lookups config file refusal (before labels place)) _ g.answered
-              ∙ ap (first_refusal refusal) (append-nil (label_asked config file refusal (label_of label))) ∙ none;
-        }
-
-    -- a label whose lookups are refused
-    pub gathered-refused : (files : List (GivenFile Id)) (found : FoundLines) (e : Error) → Are place files found
-        → first_refusal refusal (asked_of label.file_id (of_label config (file label.file_id) (refusal label.file_id) (label_of label).label)) ≡ Some e
+    -- its lookups are refused
+    pub gathered-refused : (e : Error) → first_refusal refusal (asked_of label.file_id (of_label config (file label.file_id) (refusal label.file_id) (label_of label).label)) ≡ Some e
         → first_refusal refusal (label_lookups config file refusal (map label_of labels)) ≡ Some e
-    gathered-refused files found e g some =
+    gathered-refused e some =
         let rest = map label_of (drop (place + 1) labels) in
         let whole : map label_of labels ≡ (before labels place ++ label_of label ∷ []) ++ rest =
         ap (map label_of) (sym (take-append-drop (place + 1) labels)) ∙ map-append label_of (take (place + 1) labels) (drop (place + 1) labels)
-        ∙ ap (λ (xs : List (InFile Id)). xs ++ rest) one_more in
+        ∙ ap (λ (xs : List (InFile Id)). xs ++ rest) (before-more turn) in
         let asked = label_asked config file refusal in
         ap (λ xs. first_refusal refusal (flat_map asked xs)) whole
         ∙ ap (first_refusal refusal) (flat_map-append asked (before labels place ++ label_of label ∷ []) rest)
@@ -225,11 +220,12 @@ module _ {Id : Type 0} (same : Id → Id → Bool) (file : Id → FileModel) (o 
         ∙ first_refusal-none refusal (label_lookups config file refusal (before labels place)) _ g.answered
         ∙ ap (first_refusal refusal) (append-nil (label_asked config file refusal (label_of label))) ∙ some)
 
-  -- after the last one
-  pub gathered-all : (place : ℕ) (files : List (GivenFile Id)) (found : FoundLines) → length labels ≤ place → Are place files found
-      → AreGathered same file refusal config (file_ids same (map label_of labels)) (map label_of labels) files found
-  gathered-all place files found past g =
-      subst (λ (ls : List (Label Id)). AreGathered same file refusal config (file_ids same (map label_of ls)) (map label_of ls) files found) (take_all place labels past) g
+-- all labels are done with after the last one
+pub gathered-all : {Id : Type 0} {same : Id → Id → Bool} {file : Id → FileModel} {refusal : Refusals Id} {config : Config} {files : List (GivenFile Id)} {found : FoundLines} (labels : List (Label Id)) (place : ℕ)
+    → length labels ≤ place → AreGathered same file refusal config (file_ids same (before labels place)) (before labels place) files found
+    → AreGathered same file refusal config (file_ids same (map label_of labels)) (map label_of labels) files found
+gathered-all {Id} {same} {file} {refusal} {config} {files} {found} labels place past g =
+    subst (λ (ls : List (Label Id)). AreGathered same file refusal config (file_ids same (map label_of ls)) (map label_of ls) files found) (take_all place labels past) g
 
 -- each file has what the labels tell of it
 pub each-told : {Id : Type 0} (same : Id → Id → Bool) (file : Id → FileModel) (xs : List (InFile Id)) (files : List (GivenFile Id))

@@ -14,13 +14,14 @@ use Rattle.codespan_picture.specs.declared.given.Locus.{Locus}
 use Rattle.codespan_picture.specs.Given.{place_of_given}
 use Rattle.codespan_picture.specs.Picture.{label_of}
 use Rattle.codespan_picture.specs.Placed.{IsPlaceIn}
-use Rattle.codespan_picture.specs.Snippets.{InFile, if_any, labelled_file, least, locus_start}
+use Rattle.codespan_picture.specs.Snippets.{InFile, file_ids, if_any, labelled_file, least, locus_start}
 use Rattle.codespan_reporting.specs.declared.term.views.loci.FileStart.{FileStart}
+use Rattle.codespan_reporting.specs.Inner.LabelledFiles.{start_told}
 use Rattle.codespan_reporting.specs.Inner.Loci.{file_start, is_asked_label, least_if_any, least_with, no_start, start_byte, start_with, label_starts}
 use Rattle.codespan_reporting.specs.Inner.PlacedLabels.{file_place}
 use Rattle.codespan_laws.proofs.SortedLists.{all-weaker, filter-nothing}
-use Rattle.codespan_reporting.proofs.LabelPlaces.{kept-at, set-at}
-use Rattle.codespan_reporting.proofs.LabelTurns.{IsLabelTurn, before, before-more, has-file, ids-differ}
+use Rattle.codespan_reporting.proofs.LabelPlaces.{IsAt, IsChanged, kept-at, set-at}
+use Rattle.codespan_reporting.proofs.LabelTurns.{before, before-more, has-file, ids-differ}
 
 -- ---- the least start
 
@@ -160,27 +161,33 @@ start-alike {Id} same o xs i j t = λ k. record { primary = least_if_any (starts
     starts : (only : Bool) → label_starts same i only xs ≡ label_starts same j only xs
     starts only = λ k. map (λ (y : InFile Id). y.label.start) (filter (λ (y : InFile Id). o.congr i j y.id t k && (not only || is_primary y.label)) xs)
 
-module _ {Id : Type 0} (same : Id → Id → Bool) (o : IsEquivalence same) (labels : List (Label Id)) (ids : List Id) (place : ℕ) (label : Label Id) (turn : IsLabelTurn same labels ids place label)
-    (starts : List FileStart) (are : starts ≡ map (file_start same (before labels place)) ids) where
-  -- what is known of the label's file, and of all files with the label
-  pub starts-set : (d : FileStart) (now : List FileStart)
-      → now ≡ set starts (file_place same ids label.file_id) (start_with (get_or starts (file_place same ids label.file_id) d) (label_of label).label)
-      → now ≡ map (file_start same (before labels (place + 1))) ids
-  starts-set d now is =
-      is ∙ (λ i. set (are i) (file_place same ids label.file_id) (start_with (known i) (label_of label).label))
-      ∙ set-at same o (file_start same (before labels place)) (file_start same (before labels (place + 1))) label.file_id _
-      (λ j t. whole j ∙ start-own same (before labels place) (label_of label) j t
-      ∙ ap (λ (s : FileStart). start_with s (label_of label).label) (start-alike same o (before labels place) j label.file_id t))
-      (λ j f. whole j ∙ start-others same (before labels place) (label_of label) j f)
-      ids (ids-differ same o labels ids place label turn) (has-file same o labels ids place label turn)
-    where
-      known : get_or starts (file_place same ids label.file_id) d ≡ file_start same (before labels place) label.file_id
-      known =
-          ap (λ (ss : List FileStart). get_or ss (file_place same ids label.file_id) d) are
-          ∙ kept-at same o (file_start same (before labels place)) (start-alike same o (before labels place)) ids label.file_id d (has-file same o labels ids place label turn)
+module _ {Id : Type 0} {labels : List (Label Id)} {place : ℕ} {label : Label Id} (turn : IsAt labels place label) {same : Id → Id → Bool} (o : IsEquivalence same) where
+  -- the files of the labels up to this one
+  abbrev ids : List Id
+  ids = file_ids same (before labels (place + 1))
 
-      whole : (j : Id) → file_start same (before labels (place + 1)) j ≡ file_start same (before labels place ++ label_of label ∷ []) j
-      whole j = ap (λ (ys : List (InFile Id)). file_start same ys j) (before-more same o labels ids place label turn)
+  -- the labels of a file up to the next place are those before this one, and this one
+  with_label : (j : Id) → file_start same (before labels (place + 1)) j ≡ file_start same (before labels place ++ label_of label ∷ []) j
+  with_label j = ap (λ (ys : List (InFile Id)). file_start same ys j) (before-more turn)
+
+  -- the label tells the start of its file, and of no other one
+  start-changed : IsChanged same label.file_id (file_start same (before labels place)) (file_start same (before labels (place + 1))) (start_with (file_start same (before labels place) label.file_id) (label_of label).label)
+  start-changed = record {
+    own = λ j t. with_label j ∙ start-own same (before labels place) (label_of label) j t
+        ∙ ap (λ (s : FileStart). start_with s (label_of label).label) (start-alike same o (before labels place) j label.file_id t);
+    others = λ j f. with_label j ∙ start-others same (before labels place) (label_of label) j f;
+  }
+
+  -- what is known of the label's file, and of all files with the label
+  pub starts-set : {starts now : List FileStart} → starts ≡ map (file_start same (before labels place)) ids → now ≡ start_told starts (file_place same ids label.file_id) (label_of label).label
+      → now ≡ map (file_start same (before labels (place + 1))) ids
+  starts-set {starts} are is =
+      is ∙ (λ i. set (are i) (file_place same ids label.file_id) (start_with (known i) (label_of label).label)) ∙ set-at o start-changed ids (ids-differ turn o) (has-file turn o)
+    where
+      known : get_or starts (file_place same ids label.file_id) no_start ≡ file_start same (before labels place) label.file_id
+      known =
+          ap (λ (ss : List FileStart). get_or ss (file_place same ids label.file_id) no_start) are
+          ∙ kept-at o (file_start same (before labels place)) (start-alike same o (before labels place)) ids label.file_id no_start (has-file turn o)
 
 -- ---- the places of files
 

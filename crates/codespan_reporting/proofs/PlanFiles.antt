@@ -1,7 +1,6 @@
 -- The plans of files: what their steps draw and ask for is what the pictures of the files show.
-use Rattle.std.proofs.Common.{◌≡◌, ℕ, suc, ◌+◌, ◌<◌, Bool, true, List, [], ◌∷◌, ◌++◌, map, max, Option, None, refl, sym, subst, ap, ◌∙◌, arith}
+use Rattle.std.proofs.Common.{◌≡◌, ℕ, suc, ◌+◌, Bool, List, [], ◌∷◌, ◌++◌, map, max, Option, None, refl, sym, subst, ap, ◌∙◌, arith}
 use Rattle.std.specs.Prelude.{IfSome, flat_map, fold}
-use Rattle.std.specs.Cmp.{IsEquivalence}
 use Rattle.std.specs.List.{AllByRecursion, AllZip}
 use Rattle.std.proofs.lemmas.Grind.{flat_map-append}
 use Rattle.std.proofs.lemmas.List.{map-append}
@@ -9,7 +8,7 @@ use Rattle.std.proofs.lemmas.List.Folds.{flat_map-map}
 use Rattle.codespan_base.specs.declared.term.config.Config.{Config}
 use Rattle.codespan_base.specs.declared.term.config.Layout.{Layout}
 use Rattle.codespan_base.specs.declared.term.config.Layout.TheVariants.{Classic, Unbroken}
-use Rattle.codespan_base.specs.FileModel.{FileModel, Lookup, line_count}
+use Rattle.codespan_base.specs.FileModel.{FileModel, Lookup}
 use Rattle.codespan_base.specs.FileModel.Lookup.{LocationAt, Name}
 use Rattle.codespan_picture.specs.Given.{place_of_given}
 use Rattle.codespan_picture.specs.Lines.{drawn_lines}
@@ -38,6 +37,7 @@ use Rattle.codespan_reporting.specs.Inner.Steps.{Step, fill_of, fills_of, line_o
 use Rattle.codespan_reporting.proofs.PlansFound.{by_place-same}
 use Rattle.codespan_reporting.proofs.SpannedRoom.{spanned-room}
 use Rattle.codespan_reporting.proofs.EntryPicture.{snippet-fills, snippet-fits, snippet-lines, snippet-rows}
+use Rattle.codespan_reporting.proofs.LabelPlaces.{AreFiles}
 use Rattle.codespan_reporting.proofs.LocusStarts.{start-is}
 
 -- ---- one step
@@ -97,12 +97,6 @@ pub record IsFilePlan {Id : Type 0} (config : Config) (s : LabelledFile) (plan :
 -- in the unbroken layout the numbers of drawn lines count
 numbered : (config : Config) → config.layout ≡ Unbroken → (s : LabelledFile) → numbered_lines config s ≡ drawn_lines config s.file s.labels
 numbered config unbroken s = ap (λ v. numbered_lines (record config { layout = v }) s) unbroken
-
--- the files are those of a lawful table: sameness of ids is an equivalence, the same ids name one file, and each file has a line
-pub record AreFiles {Id : Type 0} (same : Id → Id → Bool) (file : Id → FileModel) : Type 0 where
-  pub equivalence : IsEquivalence same
-  pub one_file : (i j : Id) → same i j ≡ true → file i ≡ file j
-  pub some_line : (i : Id) → 0 < line_count (file i)
 
 module _ {Id : Type 0} (same : Id → Id → Bool) (file : Id → FileModel) (table : AreFiles same file) (config : Config) (xs : List (InFile Id)) (gathered : Gathered Id) (all : IsGathered same file config xs gathered) where
   -- its entries

@@ -12,14 +12,14 @@ added : (g : Over) (c : goal.In_ok-push_file g) {A : Type 0} (known : List A) (o
 added g c =
     let same = g.FileId.PartialEq.eq in
     let is = c.find_place-place.ensures ∙ ap (λ fs. file_place same (ids_given fs) c.args.id) c.deref.ensures.value in
-    file-added same g.met.FileId.Eq.laws c.args.files.now.items c.args.id c.find_place-place.result is (c.if-place-len.true ∙ c.len.ensures ∙ c.args.files.now.ok.0)
+    file-added g.met.FileId.Eq.laws c.args.files.now.items c.args.id is (c.if-place-len.true ∙ c.len.ensures ∙ c.args.files.now.ok.0)
 
 -- it is one of those that are there
 kept : (g : Over) (c : goal.Else-place-len g) {A : Type 0} (known : List A) (one : A) → known ≡ with_file g.FileId.PartialEq.eq (ids_given c.args.files.now.items) c.args.id known one
 kept g c =
     let same = g.FileId.PartialEq.eq in
     let is = c.find_place-place.ensures ∙ ap (λ fs. file_place same (ids_given fs) c.args.id) c.deref.ensures.value in
-    file-kept same g.met.FileId.Eq.laws c.args.files.now.items c.args.id c.find_place-place.result is
+    file-kept g.met.FileId.Eq.laws c.args.files.now.items c.args.id is
     (λ past. c.if-place-len.false (past ∙ sym (c.len.ensures ∙ c.args.files.now.ok.0)))
 
 pub returns-in_ok-push_file-clause-ids : goal.returns-in_ok-push_file-clause-ids

@@ -8,7 +8,8 @@ use Rattle.codespan_picture.specs.Padding.{padding_of}
 use Rattle.codespan_picture.specs.Snippets.{labelled_files}
 use Rattle.codespan_reporting.specs.Inner.Plans.{plan_digits}
 use Rattle.codespan_reporting.proofs.Askings.{or_refusal-answered}
-use Rattle.codespan_reporting.proofs.PlanFiles.{AreFiles, drawn-padding, file_plans, spanned-padding, numbers-are, places-are, plan_ids, sheet-prepared}
+use Rattle.codespan_reporting.proofs.LabelPlaces.{AreFiles}
+use Rattle.codespan_reporting.proofs.PlanFiles.{drawn-padding, file_plans, spanned-padding, numbers-are, places-are, plan_ids, sheet-prepared}
 use Rattle.codespan_reporting.proofs.SheetPrepared.{numbers-refused, sheet-is}
 use Rattle.codespan_reporting.proofs.term.views.sheet.prepare.Given.{Over}
 use Rattle.codespan_reporting.proofs.term.views.sheet.prepare.Goals.{in-Classic, in-Unbroken}
