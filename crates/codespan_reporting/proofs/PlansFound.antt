@@ -1,10 +1,10 @@
 -- The files' plans that a loop finds, one after another.
-use Rattle.std.proofs.Common.{◌≡◌, ℕ, suc, ◌+◌, ◌-◌, ◌<◌, ◌≤◌, true, List, [], ◌∷◌, ◌++◌, length, get_or, take, drop, map, filter, Some, None, refl, sym, ap, ◌∙◌, subst, arith}
+use Rattle.std.proofs.Common.{◌≡◌, ℕ, suc, ◌+◌, ◌-◌, ◌≤◌, true, List, [], ◌∷◌, ◌++◌, length, take, drop, map, filter, Some, None, refl, sym, ap, ◌∙◌, subst, arith}
 use Rattle.std.specs.Prelude.{All, flat_map}
 use Rattle.std.specs.List.{AllByRecursion, prefix_len}
 use Rattle.std.specs.List.Sorted.{IsSortedBy}
 use Rattle.std.proofs.lemmas.Bool.{eqb-true}
-use Rattle.std.proofs.lemmas.List.{append-nil, append_assoc, get_or-map, length-map, length-take-le, map-append, take_more}
+use Rattle.std.proofs.lemmas.List.{append-nil, append_assoc, get_or-map, length-map, length-take-le, map-append, take-append-drop}
 use Rattle.std.proofs.lemmas.List.Elements.{All-from_recursion}
 use Rattle.codespan_base.specs.declared.files.Error.{Error}
 use Rattle.codespan_base.specs.declared.term.config.Layout.{Layout}
@@ -22,6 +22,7 @@ use Rattle.codespan_reporting.specs.Inner.Plans.{ArePlans, IsPlan, by_place, pla
 use Rattle.codespan_reporting.specs.Inner.Steps.{fills_of, steps_of}
 use Rattle.codespan_reporting.proofs.FileParts.{IsFilePart, from_file, next-file, next_part}
 use Rattle.codespan_reporting.proofs.FilePlaces.{at-get}
+use Rattle.codespan_reporting.proofs.LabelPlaces.{IsAt, take-at}
 use Rattle.codespan_reporting.proofs.Refusals.{first_refusal-none, first_refusal-some}
 use Rattle.codespan_laws.proofs.SortedLists.{all-both, all-mapped, all-part, all-pass, all-weaker}
 
@@ -66,26 +67,21 @@ module _ {Id : Type 0} (file : Id → FileModel) where
 
 -- ---- the turn of a file
 
--- a loop over the files is at one of them: the entries from a place on are those of it and of later files, and so many are counted as its own, in a list that is equal
-pub record IsTurn {Id : Type 0} (files : List (GivenFile Id)) (xs ys : List GivenEntry) (at n k : ℕ) (f : GivenFile Id) : Type 0 where
-  pub same : ys ≡ xs
+-- a loop over the files is at one of them: the entries from a place on are those of it and of later files, and so many are counted as its own
+pub record IsTurn {Id : Type 0} (files : List (GivenFile Id)) (xs : List GivenEntry) (at n k : ℕ) (f : GivenFile Id) : Type 0 where
   pub up : IsSortedBy is_below (map entry_of xs)
   pub inside : at ≤ length xs
   pub left : drop at (map entry_of xs) ≡ from_file k (map entry_of xs)
-  pub counted : n ≡ prefix_len (λ e. is_of_file k (entry_of e)) (take (length ys - at) (drop at ys))
-  pub within : n ≤ length (take (length ys - at) (drop at ys))
-  pub there : k < length files
-  pub is : f ≡ get_or files k f
+  pub counted : n ≡ prefix_len (λ e. is_of_file k (entry_of e)) (take (length xs - at) (drop at xs))
+  pub within : n ≤ length (take (length xs - at) (drop at xs))
+  pub here : IsAt files k f
 
-module _ {Id : Type 0} (files : List (GivenFile Id)) (xs ys : List GivenEntry) (at n k : ℕ) (f : GivenFile Id) (turn : IsTurn files xs ys at n k f) where
+module _ {Id : Type 0} {files : List (GivenFile Id)} {xs : List GivenEntry} {at n k : ℕ} {f : GivenFile Id} (turn : IsTurn files xs at n k f) where
   -- the file's part of the entries
-  pub own_part : IsFilePart xs at n k
-  own_part =
-      next-file xs at n k turn.up turn.inside turn.left
-      (subst (λ (es : List GivenEntry). n ≡ prefix_len (λ e. is_of_file k (entry_of e)) (take (length es - at) (drop at es))) turn.same turn.counted)
-      (subst (λ (es : List GivenEntry). n ≤ length (take (length es - at) (drop at es))) turn.same turn.within)
+  own_part : IsFilePart xs at n k
+  own_part = next-file xs at n k turn.up turn.inside turn.left turn.counted turn.within
 
-  module _ (zs : List GivenEntry) (same : zs ≡ xs) where
+  module _ {zs : List GivenEntry} (same : zs ≡ xs) where
     -- it is the same in an equal list
     own_entries : map entry_of (next_part zs at n) ≡ filter (is_of_file k) (map entry_of xs)
     own_entries = ap (λ (es : List GivenEntry). map entry_of (next_part es at n)) same ∙ own_part.own
@@ -93,15 +89,21 @@ module _ {Id : Type 0} (files : List (GivenFile Id)) (xs ys : List GivenEntry) (
     -- its lines are the file's
     pub own_lines : (file : Id → FileModel) → AllByRecursion (IsOfFiles file (ids_given files)) xs → All (λ e. IsLineOf (file f.id) e.line) (next_part zs at n)
     own_lines file lines =
+        let inside = turn.here.inside in
         let there : IsIdAt (ids_given files) k f.id =
-        subst (IsIdAt (ids_given files) k) (get_or-map (λ (g : GivenFile Id). g.id) files k f f.id turn.there ∙ ap (λ (g : GivenFile Id). g.id) (sym turn.is))
-        (at-get (ids_given files) k f.id (omega (arith, turn.there, length-map files (λ (g : GivenFile Id). g.id)))) in
+        subst (IsIdAt (ids_given files) k) (get_or-map (λ (g : GivenFile Id). g.id) files k f f.id inside ∙ ap (λ (g : GivenFile Id). g.id) (sym turn.here.is))
+        (at-get (ids_given files) k f.id (omega (arith, inside, length-map files (λ (g : GivenFile Id). g.id)))) in
         All-from_recursion (λ e. IsLineOf (file f.id) e.line) (next_part zs at n)
         (part-lines file (ids_given files) zs at (at + n - at) k f.id (map entry_of xs) there (subst (AllByRecursion (IsOfFiles file (ids_given files))) (sym same) lines) own_entries)
 
-    -- and so are its steps
+    -- so are its steps
     pub own_steps : steps_of (map entry_of (next_part zs at n)) ≡ steps_at (map entry_of xs) k
     own_steps = ap steps_of own_entries
+
+    -- and what they ask for
+    pub own_asked : (layout : Layout) (refusal : Refusals Id) → first_refusal refusal (asked_of f.id (numbers_asked layout (fills_of (steps_of (map entry_of (next_part zs at n))))))
+        ≡ first_refusal refusal (asked_of f.id (numbers_asked layout (fills_of (steps_at (map entry_of xs) k))))
+    own_asked layout refusal = ap (λ steps. first_refusal refusal (asked_of f.id (numbers_asked layout (fills_of steps)))) own_steps
 
   -- the next file's turn is after it
   pub next_inside : at + n ≤ length xs
@@ -110,63 +112,58 @@ module _ {Id : Type 0} (files : List (GivenFile Id)) (xs ys : List GivenEntry) (
   pub next_left : drop (at + n) (map entry_of xs) ≡ from_file (k + 1) (map entry_of xs)
   next_left = ap (λ i. drop (at + i) (map entry_of xs)) (sym own_part.len) ∙ own_part.rest
 
-  -- the files up to the next one
-  pub files_before : length (take k files) ≡ k
-  files_before = length-take-le k files (omega (arith, turn.there))
-
-  pub files_more : take (k + 1) files ≡ take k files ++ f ∷ []
-  files_more = take_more files k f turn.there ∙ ap (λ g. take k files ++ g ∷ []) (sym turn.is)
-
 -- ---- plans
 
-module _ {Id : Type 0} (layout : Layout) (file : Id → FileModel) (es : List Entry) where
-  -- plans from a place on, and then others
-  plans-append : (k : ℕ) (fs gs : List (GivenFile Id)) (ps qs : List (FilePlan Id)) → ArePlans layout file es k fs ps → ArePlans layout file es (k + length fs) gs qs
-      → ArePlans layout file es k (fs ++ gs) (ps ++ qs)
-  plans-append k [] gs [] qs h more = let e : k + 0 ≡ k = omega arith in subst (λ n. ArePlans layout file es n gs qs) e more
-  plans-append k [] gs (p ∷ ps) qs h more = absurd h
-  plans-append k (f ∷ fs) gs [] qs h more = absurd h
-  plans-append k (f ∷ fs) gs (p ∷ ps) qs h more =
-      let e : k + suc (length fs) ≡ k + 1 + length fs = omega arith in
-      (h.0, plans-append (k + 1) fs gs ps qs h.1 (subst (λ n. ArePlans layout file es n gs qs) e more))
+-- plans from a place on, and then one more
+plans-more : {Id : Type 0} {layout : Layout} {file : Id → FileModel} {es : List Entry} {f : GivenFile Id} {plan : FilePlan Id} (k : ℕ) (fs : List (GivenFile Id)) (ps : List (FilePlan Id))
+    → ArePlans layout file es k fs ps → IsPlan layout file es (k + length fs) f plan → ArePlans layout file es k (fs ++ f ∷ []) (ps ++ plan ∷ [])
+plans-more {Id} {layout} {file} {es} {f} {plan} k [] [] h own = let e : k + 0 ≡ k = omega arith in (subst (λ n. IsPlan layout file es n f plan) e own, tt)
+plans-more k [] (p ∷ ps) h own = absurd h
+plans-more k (g ∷ fs) [] h own = absurd h
+plans-more {Id} {layout} {file} {es} {f} {plan} k (g ∷ fs) (p ∷ ps) h own =
+    let e : k + suc (length fs) ≡ k + 1 + length fs = omega arith in
+    (h.0, plans-more (k + 1) fs ps h.1 (subst (λ n. IsPlan layout file es n f plan) e own))
 
-  module _ (refusal : Refusals Id) where
+-- the plans of these files are found, and their lookups were answered
+pub record ArePlanned {Id : Type 0} (layout : Layout) (file : Id → FileModel) (es : List Entry) (refusal : Refusals Id) (files : List (GivenFile Id)) (now : List (FilePlan Id)) : Type 0 where
+  pub plans : ArePlans layout file es 0 files now
+  pub answered : first_refusal refusal (planned_lookups layout es (ids_given files)) ≡ None
+
+module _ {Id : Type 0} {files : List (GivenFile Id)} {k : ℕ} {f : GivenFile Id} (here : IsAt files k f) where
+  -- how many files are before this one
+  files_before : length (take k files) ≡ k
+  files_before = let inside = here.inside in length-take-le k files (omega (arith, inside))
+
+  -- the ids of these, and its own
+  ids-more : ids_given (take (k + 1) files) ≡ ids_given (take k files) ++ f.id ∷ []
+  ids-more = ap ids_given (take-at here) ∙ map-append (λ (g : GivenFile Id). g.id) (take k files) (f ∷ [])
+
+  module _ {layout : Layout} {file : Id → FileModel} {es : List Entry} {refusal : Refusals Id} {now : List (FilePlan Id)} (before : ArePlanned layout file es refusal (take k files) now) where
     -- the lookups of the numbers of a file's lines
-    abbrev pub asked_at : ℕ → Id → List (Id × Lookup)
-    asked_at k id = asked_of id (numbers_asked layout (fills_of (steps_at es k)))
+    abbrev asked_at : ℕ → Id → List (Id × Lookup)
+    asked_at i id = asked_of id (numbers_asked layout (fills_of (steps_at es i)))
 
-    -- the plans of these files are found, and their lookups were answered
-    pub record ArePlanned (files : List (GivenFile Id)) (now : List (FilePlan Id)) : Type 0 where
-      pub plans : ArePlans layout file es 0 files now
-      pub answered : first_refusal refusal (planned_lookups layout es (ids_given files)) ≡ None
+    -- the lookups with this one's
+    asked-more : first_refusal refusal (planned_lookups layout es (ids_given (take (k + 1) files))) ≡ first_refusal refusal (asked_at k f.id)
+    asked-more =
+        ap (first_refusal refusal) (by_place-more asked_at k (ids_given (take k files)) (ids_given (take (k + 1) files)) f.id (length-map (take k files) _ ∙ files_before) ids-more)
+        ∙ first_refusal-none refusal (planned_lookups layout es (ids_given (take k files))) (asked_at k f.id) before.answered
 
-    module _ (k : ℕ) (files more : List (GivenFile Id)) (f : GivenFile Id) (now : List (FilePlan Id)) (len : length files ≡ k) (is : more ≡ files ++ f ∷ []) (before : ArePlanned files now) where
-      -- the ids with that of one more file
-      ids-more : ids_given more ≡ ids_given files ++ f.id ∷ []
-      ids-more = ap ids_given is ∙ map-append (λ (g : GivenFile Id). g.id) files (f ∷ [])
+    -- it is planned too
+    pub planned-more : {new : List (FilePlan Id)} {plan : FilePlan Id} → new ≡ now ++ plan ∷ [] → IsPlan layout file es k f plan
+        → first_refusal refusal (asked_at k f.id) ≡ None → ArePlanned layout file es refusal (take (k + 1) files) new
+    planned-more {new} {plan} whole own answered = record {
+      plans =
+          let place : k ≡ 0 + length (take k files) = omega (arith, files_before) in
+          subst (λ fs. ArePlans layout file es 0 fs new) (sym (take-at here))
+          (subst (ArePlans layout file es 0 (take k files ++ f ∷ [])) (sym whole) (plans-more 0 (take k files) now before.plans (subst (λ n. IsPlan layout file es n f plan) place own)));
+      answered = asked-more ∙ answered;
+    }
 
-      -- the lookups of one more file
-      asked-more : first_refusal refusal (planned_lookups layout es (ids_given more)) ≡ first_refusal refusal (asked_at k f.id)
-      asked-more =
-          ap (first_refusal refusal) (by_place-more asked_at k (ids_given files) (ids_given more) f.id (length-map files _ ∙ len) ids-more)
-          ∙ first_refusal-none refusal (planned_lookups layout es (ids_given files)) (asked_at k f.id) before.answered
-
-      -- one more file
-      pub planned-more : (new : List (FilePlan Id)) (plan : FilePlan Id) → new ≡ now ++ plan ∷ [] → IsPlan layout file es k f plan
-          → first_refusal refusal (asked_at k f.id) ≡ None → ArePlanned more new
-      planned-more new plan whole own answered = record {
-        plans =
-            let place : k ≡ 0 + length files = omega (arith, len) in
-            subst (λ fs. ArePlans layout file es 0 fs new) (sym is)
-            (subst (ArePlans layout file es 0 (files ++ f ∷ [])) (sym whole)
-            (plans-append 0 files (f ∷ []) now (plan ∷ []) before.plans (subst (λ n. IsPlan layout file es n f plan) place own, tt)));
-        answered = asked-more ∙ answered;
-      }
-
-      -- what it is refused with refuses all
-      pub planned-refuses : (rest all : List (GivenFile Id)) (e : Error) → all ≡ more ++ rest → first_refusal refusal (asked_at k f.id) ≡ Some e
-          → first_refusal refusal (planned_lookups layout es (ids_given all)) ≡ Some e
-      planned-refuses rest all e whole told =
-          ap (λ fs. first_refusal refusal (planned_lookups layout es fs)) (ap ids_given whole ∙ map-append (λ (g : GivenFile Id). g.id) more rest)
-          ∙ ap (first_refusal refusal) (by_place-append asked_at 0 (ids_given more) (ids_given rest))
-          ∙ first_refusal-some refusal (planned_lookups layout es (ids_given more)) _ e (asked-more ∙ told)
+    -- what it is refused with refuses all
+    pub planned-refuses : {e : Error} → first_refusal refusal (asked_at k f.id) ≡ Some e → first_refusal refusal (planned_lookups layout es (ids_given files)) ≡ Some e
+    planned-refuses {e} told =
+        let rest = drop (k + 1) files in
+        ap (λ fs. first_refusal refusal (planned_lookups layout es fs)) (ap ids_given (sym (take-append-drop (k + 1) files)) ∙ map-append (λ (g : GivenFile Id). g.id) (take (k + 1) files) rest)
+        ∙ ap (first_refusal refusal) (by_place-append asked_at 0 (ids_given (take (k + 1) files)) (ids_given rest))
+        ∙ first_refusal-some refusal (planned_lookups layout es (ids_given (take (k + 1) files))) _ e (asked-more ∙ told)
