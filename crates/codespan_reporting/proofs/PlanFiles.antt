@@ -1,10 +1,11 @@
 -- The plans of files: what their steps draw and ask for is what the pictures of the files show.
-use Rattle.std.proofs.Common.{◌≡◌, ℕ, suc, ◌+◌, Bool, List, [], ◌∷◌, ◌++◌, map, max, Option, None, refl, sym, subst, ap, ◌∙◌, arith}
+use Rattle.std.proofs.Common.{◌≡◌, ℕ, suc, ◌+◌, Bool, List, [], ◌∷◌, ◌++◌, map, max, Option, None, Some, refl, sym, subst, ap, ◌∙◌, arith}
 use Rattle.std.specs.Prelude.{IfSome, flat_map, fold}
 use Rattle.std.specs.List.{AllByRecursion, AllZip}
 use Rattle.std.proofs.lemmas.Grind.{flat_map-append}
 use Rattle.std.proofs.lemmas.List.{map-append}
 use Rattle.std.proofs.lemmas.List.Folds.{flat_map-map}
+use Rattle.codespan_base.specs.declared.files.Error.{Error}
 use Rattle.codespan_base.specs.declared.term.config.Config.{Config}
 use Rattle.codespan_base.specs.declared.term.config.Layout.{Layout}
 use Rattle.codespan_base.specs.declared.term.config.Layout.TheVariants.{Classic, Unbroken}
@@ -12,7 +13,7 @@ use Rattle.codespan_base.specs.FileModel.{FileModel, Lookup}
 use Rattle.codespan_base.specs.FileModel.Lookup.{LocationAt, Name}
 use Rattle.codespan_picture.specs.Given.{place_of_given}
 use Rattle.codespan_picture.specs.Lines.{drawn_lines}
-use Rattle.codespan_picture.specs.Lookups.{Refusals, asked_of, filled_lines, locus_lookups, numbers_for_padding, of_filled}
+use Rattle.codespan_picture.specs.Lookups.{Refusals, asked_of, filled_lines, first_refusal, locus_lookups, numbers_for_padding, of_filled}
 use Rattle.codespan_picture.specs.Padding.{digit_count, digits_of, numbered_lines, padding_of}
 use Rattle.codespan_picture.specs.Placed.{IsPlaceIn}
 use Rattle.codespan_picture.specs.Snippets.{InFile, LabelledFile, labelled_file, labelled_files, locus_start, rows_after, file_ids}
@@ -23,7 +24,7 @@ use Rattle.codespan_reporting.specs.declared.term.views.sheet.SheetFile.{SheetFi
 use Rattle.codespan_reporting.specs.declared.term.views.steps.Step.{Step as GivenStep}
 use Rattle.codespan_reporting.specs.declared.term.views.steps.Step.TheVariants as given
 use Rattle.codespan_reporting.specs.Inner.Entries.{Entry}
-use Rattle.codespan_reporting.specs.Inner.GivenSheets.{IsGathered, IsPlacedPlan, IsPrepared, IsSheetFile, ids_of}
+use Rattle.codespan_reporting.specs.Inner.GivenSheets.{IsGathered, IsPlacedPlan, IsPrepared, IsSheetFile, ids_of, sheet_lookups}
 use Rattle.codespan_reporting.specs.Inner.GivenEntries.{entry_of}
 use Rattle.codespan_reporting.specs.Inner.LabelledFiles.{IsTold, ids_given}
 use Rattle.codespan_reporting.specs.Inner.Lanes.{file_lanes, lanes_given}
@@ -31,10 +32,12 @@ use Rattle.codespan_reporting.specs.declared.term.views.sheet.Sheet.{Sheet}
 use Rattle.codespan_reporting.specs.Inner.GivenSteps.{IsStepIn, IsStepOf, asked_by, asked_by_all, asked_with, numbers_asked, step_of}
 use Rattle.codespan_reporting.specs.Inner.Loci.{place_lookups, start_byte}
 use Rattle.codespan_reporting.specs.Inner.PlacedLabels.{IsIdAt}
-use Rattle.codespan_reporting.specs.Inner.Plans.{ArePlans, IsPlan, plan_digits, planned_lookups, step_digits, steps_at}
+use Rattle.codespan_reporting.specs.Inner.Plans.{ArePlans, ArePlansOf, IsPlan, plan_digits, planned_lookups, plans_refusal, step_digits, steps_at}
 use Rattle.codespan_reporting.specs.Inner.StepDrawing.{DoFit}
 use Rattle.codespan_reporting.specs.Inner.Steps.{Step, fill_of, fills_of, line_of_step, lines_of_steps, rows_of_steps}
+use Rattle.codespan_reporting.proofs.Askings.{or_refusal-answered}
 use Rattle.codespan_reporting.proofs.PlansFound.{by_place-same}
+use Rattle.codespan_reporting.proofs.SheetPrepared.{numbers-refused, sheet-is}
 use Rattle.codespan_reporting.proofs.SpannedRoom.{spanned-room}
 use Rattle.codespan_reporting.proofs.EntryPicture.{snippet-fills, snippet-fits, snippet-lines, snippet-rows}
 use Rattle.codespan_reporting.proofs.LabelPlaces.{AreFiles}
@@ -98,7 +101,7 @@ pub record IsFilePlan {Id : Type 0} (config : Config) (s : LabelledFile) (plan :
 numbered : (config : Config) → config.layout ≡ Unbroken → (s : LabelledFile) → numbered_lines config s ≡ drawn_lines config s.file s.labels
 numbered config unbroken s = ap (λ v. numbered_lines (record config { layout = v }) s) unbroken
 
-module _ {Id : Type 0} (same : Id → Id → Bool) (file : Id → FileModel) (table : AreFiles same file) (config : Config) (xs : List (InFile Id)) (gathered : Gathered Id) (all : IsGathered same file config xs gathered) where
+module _ {Id : Type 0} {same : Id → Id → Bool} {file : Id → FileModel} (table : AreFiles same file) {config : Config} {xs : List (InFile Id)} {gathered : Gathered Id} (all : IsGathered same file config xs gathered) where
   -- its entries
   abbrev es : List Entry
   es = map entry_of gathered.entries.items
@@ -108,7 +111,7 @@ module _ {Id : Type 0} (same : Id → Id → Bool) (file : Id → FileModel) (ta
   labelled = labelled_file same file xs
 
   -- the numbers that are asked for before the header are those of the padding
-  pub numbers-are : (refusal : Refusals Id) → planned_lookups config.layout es (ids_given gathered.files.items)
+  numbers-are : (refusal : Refusals Id) → planned_lookups config.layout es (ids_given gathered.files.items)
       ≡ flat_map (λ id. asked_of id (numbers_for_padding config same file refusal xs config.layout id)) (file_ids same xs)
   numbers-are refusal =
       ap (planned_lookups config.layout es) all.files.ids_are
@@ -122,7 +125,7 @@ module _ {Id : Type 0} (same : Id → Id → Bool) (file : Id → FileModel) (ta
       by_layout Classic id = refl
       by_layout Unbroken id = refl
 
-  module _ (k : ℕ) (f : GivenFile Id) (at : IsIdAt (file_ids same xs) k f.id) (told : IsTold same file xs f) (plan : FilePlan Id) (is : IsPlan config.layout file es k f plan) where
+  module _ {k : ℕ} {f : GivenFile Id} (at : IsIdAt (file_ids same xs) k f.id) (told : IsTold same file xs f) {plan : FilePlan Id} (is : IsPlan config.layout file es k f plan) where
     -- its steps
     steps-are : map step_of plan.steps.items ≡ steps_at es k
     steps-are = ap (map step_of) is.adds.whole ∙ is.adds.are
@@ -180,7 +183,7 @@ module _ {Id : Type 0} (same : Id → Id → Bool) (file : Id → FileModel) (ta
   plans-from k [] (p ∷ ps) at told h = absurd h
   plans-from k (f ∷ fs) [] at told h = absurd h
   plans-from k (f ∷ fs) (p ∷ ps) at told h = (
-    subst (λ (g : GivenFile Id). IsFilePlan config (labelled g.id) p) (sym h.0.file_is) (file-plan k f (are_at-here k f.id (ids_given fs) at) told.0 p h.0),
+    subst (λ (g : GivenFile Id). IsFilePlan config (labelled g.id) p) (sym h.0.file_is) (file-plan (are_at-here k f.id (ids_given fs) at) told.0 h.0),
     plans-from (k + 1) fs ps (are_at-next k f.id (ids_given fs) at) told.1 h.1,
   )
 
@@ -191,7 +194,7 @@ module _ {Id : Type 0} (same : Id → Id → Bool) (file : Id → FileModel) (ta
   digits-from unbroken k [] (p ∷ ps) at told h = absurd h
   digits-from unbroken k (f ∷ fs) [] at told h = absurd h
   digits-from unbroken k (f ∷ fs) (p ∷ ps) at told h =
-      λ i. file-digits k f (are_at-here k f.id (ids_given fs) at) told.0 p h.0 unbroken i ++ digits-from unbroken (k + 1) fs ps (are_at-next k f.id (ids_given fs) at) told.1 h.1 i
+      λ i. file-digits (are_at-here k f.id (ids_given fs) at) told.0 h.0 unbroken i ++ digits-from unbroken (k + 1) fs ps (are_at-next k f.id (ids_given fs) at) told.1 h.1 i
 
   module _ (plans : List (FilePlan Id)) (found : ArePlans config.layout file es 0 gathered.files.items plans) where
     -- the ids stand at their places
@@ -199,20 +202,20 @@ module _ {Id : Type 0} (same : Id → Id → Bool) (file : Id → FileModel) (ta
     ids_at = subst (λ (ids : List Id). AreAt 0 ids) (sym all.files.ids_are) all_at
 
     -- the ids of all plans
-    pub plan_ids : map (λ (p : FilePlan Id). p.file.now.id) plans ≡ file_ids same xs
+    plan_ids : map (λ (p : FilePlan Id). p.file.now.id) plans ≡ file_ids same xs
     plan_ids = ids-from 0 gathered.files.items plans found ∙ all.files.ids_are
 
     -- all plans
-    pub file_plans : AllByRecursion (λ (p : FilePlan Id). IsFilePlan config (labelled p.file.now.id) p) plans
+    file_plans : AllByRecursion (λ (p : FilePlan Id). IsFilePlan config (labelled p.file.now.id) p) plans
     file_plans = plans-from 0 gathered.files.items plans ids_at all.files.told found
 
     -- in the classic layout the labels tell the room for numbers
-    pub spanned-padding : config.layout ≡ Classic → (padding : ℕ) → padding ≡ gathered.padding → padding ≡ padding_of config (labelled_files same file xs)
-    spanned-padding classic padding is = is ∙ all.files.padding_is ∙ spanned-room same file table.equivalence table.one_file config xs classic
+    pub spanned-padding : config.layout ≡ Classic → {padding : ℕ} → padding ≡ gathered.padding → padding ≡ padding_of config (labelled_files same file xs)
+    spanned-padding classic is = is ∙ all.files.padding_is ∙ spanned-room same file table.equivalence table.one_file config xs classic
 
     -- in the unbroken layout the plans do
-    pub drawn-padding : config.layout ≡ Unbroken → (padding : ℕ) → padding ≡ fold max 0 (flat_map plan_digits plans) → padding ≡ padding_of config (labelled_files same file xs)
-    drawn-padding unbroken padding is =
+    pub drawn-padding : config.layout ≡ Unbroken → {padding : ℕ} → padding ≡ fold max 0 (flat_map plan_digits plans) → padding ≡ padding_of config (labelled_files same file xs)
+    drawn-padding unbroken is =
         is ∙ ap (fold max 0) (digits-from unbroken 0 gathered.files.items plans ids_at all.files.told found
         ∙ ap (flat_map (λ id. digits_of (labelled id) (numbered_lines config (labelled id)))) all.files.ids_are
         ∙ sym (flat_map-map (λ (s : LabelledFile). digits_of s (numbered_lines config s)) labelled (file_ids same xs)))
@@ -233,13 +236,13 @@ module _ {Id : Type 0} (same : Id → Id → Bool) (file : Id → FileModel) (co
       })
 
   -- the lookups of the places of plans are those of their files
-  pub places-are : (ps : List (FilePlan Id)) → AllByRecursion (λ (p : FilePlan Id). IsFilePlan config (labelled_file same file xs p.file.now.id) p) ps
+  places-are : (ps : List (FilePlan Id)) → AllByRecursion (λ (p : FilePlan Id). IsFilePlan config (labelled_file same file xs p.file.now.id) p) ps
       → flat_map (λ id. asked_of id (locus_lookups same file xs id)) (map (λ (p : FilePlan Id). p.file.now.id) ps) ≡ place_lookups ps
   places-are [] plans = refl
   places-are (p ∷ ps) plans = λ i. asked_of p.file.now.id (Name ∷ LocationAt (sym plans.0.starts i) ∷ []) ++ places-are ps plans.1 i
 
   -- so are all
-  pub sheet_files : (ps : List (FilePlan Id)) (fs : List (SheetFile Id)) → AllZip (IsPlacedPlan file) ps fs
+  sheet_files : (ps : List (FilePlan Id)) (fs : List (SheetFile Id)) → AllZip (IsPlacedPlan file) ps fs
       → AllByRecursion (λ (p : FilePlan Id). IsFilePlan config (labelled_file same file xs p.file.now.id) p) ps → AllByRecursion (λ (f : SheetFile Id). IsSheetFile config (labelled_file same file xs f.file.now.id) f) fs
   sheet_files [] [] placed plans = tt
   sheet_files [] (f ∷ fs) placed plans = absurd placed
@@ -247,18 +250,31 @@ module _ {Id : Type 0} (same : Id → Id → Bool) (file : Id → FileModel) (co
   sheet_files (p ∷ ps) (f ∷ fs) placed plans = (sheet_file p f placed.0 plans.0, sheet_files ps fs placed.1 plans.1)
 
   -- their ids are those of the plans
-  pub sheet_ids : (ps : List (FilePlan Id)) (fs : List (SheetFile Id)) → AllZip (IsPlacedPlan file) ps fs → ids_of fs ≡ map (λ (p : FilePlan Id). p.file.now.id) ps
+  sheet_ids : (ps : List (FilePlan Id)) (fs : List (SheetFile Id)) → AllZip (IsPlacedPlan file) ps fs → ids_of fs ≡ map (λ (p : FilePlan Id). p.file.now.id) ps
   sheet_ids [] [] placed = refl
   sheet_ids [] (f ∷ fs) placed = absurd placed
   sheet_ids (p ∷ ps) [] placed = absurd placed
   sheet_ids (p ∷ ps) (f ∷ fs) placed = λ i. (placed.0.file_is i).id ∷ sheet_ids ps fs placed.1 i
 
-  -- plans with their places, and the room for their numbers, are the sheet of the labels
-  pub sheet-prepared : (ps : List (FilePlan Id)) (sheet : Sheet Id) → map (λ (p : FilePlan Id). p.file.now.id) ps ≡ file_ids same xs
-      → AllByRecursion (λ (p : FilePlan Id). IsFilePlan config (labelled_file same file xs p.file.now.id) p) ps → AllZip (IsPlacedPlan file) ps sheet.files.items
-      → sheet.padding ≡ padding_of config (labelled_files same file xs) → IsPrepared same file config xs sheet
-  sheet-prepared ps sheet ids plans placed padding = record {
-    ids_are = sheet_ids ps sheet.files.items placed ∙ ids;
-    files_are = sheet_files ps sheet.files.items placed plans;
-    padding_is = padding;
-  }
+-- ---- what was gathered, with its plans
+
+module _ {Id : Type 0} {same : Id → Id → Bool} {file : Id → FileModel} (table : AreFiles same file) {config : Config} {xs : List (InFile Id)} {gathered : Gathered Id} (all : IsGathered same file config xs gathered) where
+  -- a lookup of a number refuses
+  pub plans-refuse : (refusal : Refusals Id) {e : Error} → plans_refusal config.layout refusal gathered ≡ Some e → first_refusal refusal (sheet_lookups config same file refusal xs) ≡ Some e
+  plans-refuse refusal told = numbers-refused same file config xs refusal (numbers-are table all refusal) told
+
+  module _ (plans : List (FilePlan Id)) (found : ArePlansOf config.layout file gathered plans) where
+    -- the numbers are answered, and the places tell the rest
+    pub places-tell : (refusal : Refusals Id) → plans_refusal config.layout refusal gathered ≡ None → first_refusal refusal (sheet_lookups config same file refusal xs) ≡ first_refusal refusal (place_lookups plans)
+    places-tell refusal answered =
+        sheet-is same file config xs refusal plans (numbers-are table all refusal)
+        (ap (flat_map (λ id. asked_of id (locus_lookups same file xs id))) (sym (plan_ids table all plans found)) ∙ places-are same file config xs plans (file_plans table all plans found))
+        ∙ or_refusal-answered (plans_refusal config.layout refusal gathered) (first_refusal refusal (place_lookups plans)) answered
+
+    -- plans with their places, and the room for their numbers, are the sheet of the labels
+    pub sheet-prepared : {sheet : Sheet Id} → AllZip (IsPlacedPlan file) plans sheet.files.items → sheet.padding ≡ padding_of config (labelled_files same file xs) → IsPrepared same file config xs sheet
+    sheet-prepared {sheet} placed padding = record {
+      ids_are = sheet_ids same file config xs plans sheet.files.items placed ∙ plan_ids table all plans found;
+      files_are = sheet_files same file config xs plans sheet.files.items placed (file_plans table all plans found);
+      padding_is = padding;
+    }

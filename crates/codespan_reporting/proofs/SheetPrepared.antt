@@ -20,17 +20,20 @@ use Rattle.codespan_reporting.proofs.Gathering.{gathered-each, gathered-says}
 use Rattle.codespan_reporting.proofs.FileParts.{gathered-sorted}
 use Rattle.codespan_reporting.proofs.Refusals.{first_refusal-some}
 
-module _ {Id : Type 0} (same : Id → Id → Bool) (file : Id → FileModel) (config : Config) (xs : List (InFile Id)) where
-  -- what was gathered, put in order
-  pub gathered-in_order : (was : Gathered Id) (entries : Vec GivenEntry Global) → IsGatheredInTurn same file config xs was → IsPermutation was.entries.items entries.items → IsSortedBy is_below (map entry_of entries.items)
-      → IsGathered same file config xs (record was { entries = entries })
-  gathered-in_order was entries g perm up = record {
-    files = record { ids_are = g.files.ids_are; told = g.files.told; padding_is = g.files.padding_is };
-    sorted = up;
-    permutation = gathered-sorted (all_entries same file config xs) was.entries.items entries.items (gathered-says (IsOfFiles file (ids_given was.files.items)) was.entries.items (all_entries same file config xs) g.adds) perm;
-    lines = gathered-each (IsOfFiles file (ids_given was.files.items)) was.entries.items entries.items (all_entries same file config xs) g.adds perm;
-  }
+-- what was gathered, put in order
+pub gathered-in_order : {Id : Type 0} {same : Id → Id → Bool} {file : Id → FileModel} {config : Config} {xs : List (InFile Id)} {was : Gathered Id} (entries : Vec GivenEntry Global) → IsGatheredInTurn same file config xs was
+    → IsPermutation was.entries.items entries.items → IsSortedBy is_below (map entry_of entries.items) → IsGathered same file config xs (record was { entries = entries })
+gathered-in_order {Id} {same} {file} {config} {xs} {was} entries g perm up =
+    let of_files = IsOfFiles file (ids_given was.files.items) in
+    let say = all_entries same file config xs in
+    record {
+      files = record { ids_are = g.files.ids_are; told = g.files.told; padding_is = g.files.padding_is };
+      sorted = up;
+      permutation = gathered-sorted say was.entries.items entries.items (gathered-says of_files was.entries.items say g.adds) perm;
+      lines = gathered-each of_files was.entries.items entries.items say g.adds perm;
+    }
 
+module _ {Id : Type 0} (same : Id → Id → Bool) (file : Id → FileModel) (config : Config) (xs : List (InFile Id)) where
   module _ (refusal : Refusals Id) where
     -- the lookups of the labels come first, and then those of the files
     early-is : first_refusal refusal (early_lookups config same file refusal xs)
@@ -41,19 +44,19 @@ module _ {Id : Type 0} (same : Id → Id → Bool) (file : Id → FileModel) (co
         ∙ first_refusal-append refusal (label_lookups config file refusal xs) (sheet_lookups config same file refusal xs)
 
     -- of those of the files the numbers come first, and then the places
-    pub sheet-is : (numbers : List (Id × Lookup)) (plans : List (FilePlan Id))
+    pub sheet-is : {numbers : List (Id × Lookup)} (plans : List (FilePlan Id))
         → numbers ≡ flat_map (λ id. asked_of id (numbers_for_padding config same file refusal xs config.layout id)) (file_ids same xs)
         → flat_map (λ id. asked_of id (locus_lookups same file xs id)) (file_ids same xs) ≡ place_lookups plans
         → first_refusal refusal (sheet_lookups config same file refusal xs) ≡ or_refusal (first_refusal refusal numbers) (first_refusal refusal (place_lookups plans))
-    sheet-is numbers plans are places =
+    sheet-is plans are places =
         first_refusal-append refusal (flat_map (λ id. asked_of id (numbers_for_padding config same file refusal xs config.layout id)) (file_ids same xs))
         (flat_map (λ id. asked_of id (locus_lookups same file xs id)) (file_ids same xs))
         ∙ (λ i. or_refusal (first_refusal refusal (sym are i)) (first_refusal refusal (places i)))
 
     -- a lookup of a number refuses
-    pub numbers-refused : (numbers : List (Id × Lookup)) → numbers ≡ flat_map (λ id. asked_of id (numbers_for_padding config same file refusal xs config.layout id)) (file_ids same xs)
-        → (e : Error) → first_refusal refusal numbers ≡ Some e → first_refusal refusal (sheet_lookups config same file refusal xs) ≡ Some e
-    numbers-refused numbers are e told =
+    pub numbers-refused : {numbers : List (Id × Lookup)} → numbers ≡ flat_map (λ id. asked_of id (numbers_for_padding config same file refusal xs config.layout id)) (file_ids same xs)
+        → {e : Error} → first_refusal refusal numbers ≡ Some e → first_refusal refusal (sheet_lookups config same file refusal xs) ≡ Some e
+    numbers-refused are {e} told =
         first_refusal-some refusal (flat_map (λ id. asked_of id (numbers_for_padding config same file refusal xs config.layout id)) (file_ids same xs))
         (flat_map (λ id. asked_of id (locus_lookups same file xs id)) (file_ids same xs)) e (ap (first_refusal refusal) (sym are) ∙ told)
 

@@ -1,16 +1,13 @@
 use contract.Lifetimes.{Lfts}
-use Rattle.std.proofs.Common.{rules, ◌≡◌, Err, map, max, refl, sym, ap, ◌∙◌}
+use Rattle.std.proofs.Common.{rules, ◌≡◌, Err, map, max, refl, ap, ◌∙◌}
 use Rattle.std.specs.Prelude.{flat_map, fold}
 use Rattle.std.proofs.lemmas.Result.{err_from_is_err_and}
-use Rattle.codespan_picture.specs.Lookups.{asked_of, locus_lookups}
 use Rattle.codespan_picture.specs.Picture.{label_of}
 use Rattle.codespan_picture.specs.Padding.{padding_of}
 use Rattle.codespan_picture.specs.Snippets.{labelled_files}
 use Rattle.codespan_reporting.specs.Inner.Plans.{plan_digits}
-use Rattle.codespan_reporting.proofs.Askings.{or_refusal-answered}
 use Rattle.codespan_reporting.proofs.LabelPlaces.{AreFiles}
-use Rattle.codespan_reporting.proofs.PlanFiles.{drawn-padding, file_plans, spanned-padding, numbers-are, places-are, plan_ids, sheet-prepared}
-use Rattle.codespan_reporting.proofs.SheetPrepared.{numbers-refused, sheet-is}
+use Rattle.codespan_reporting.proofs.PlanFiles.{drawn-padding, places-tell, plans-refuse, sheet-prepared, spanned-padding}
 use Rattle.codespan_reporting.proofs.term.views.sheet.prepare.Given.{Over}
 use Rattle.codespan_reporting.proofs.term.views.sheet.prepare.Goals.{in-Classic, in-Unbroken}
 use Rattle.codespan_reporting.proofs.term.views.sheet.prepare.Goals as goal
@@ -28,65 +25,30 @@ plan_files-requires g c κs = ((refl, tt), (c.requires.sorted, c.requires.lines)
 
 pub returns-in_err-plans-clause-refused : goal.returns-in_err-plans-clause-refused
 returns-in_err-plans-clause-refused g c =
-    let file = g.F.Files.file c.args.files.now in
-    let same = g.F.FileId.PartialEq.eq in
     let table = are_files g c.lifetimes (search rules) c.args.files.now in
-    let config = c.args.config.now in
-    let xs = map label_of c.args.gathered.now.labels.now in
-    let refusal = g.F.Files.refusal c.args.files.now in
-    let gathered = c.args.gathered.now in
-    let numbers = numbers-are same file table config xs gathered c.requires refusal in
     let p = err_from_is_err_and c.from_residual.result c.from_residual.ensures.1 in
-    rw (p.1 ∙ ap Err p.2) (λ memory display. numbers-refused same file config xs refusal _ numbers _ (c.in_err-plans.ensures.refused memory))
+    rw (p.1 ∙ ap Err p.2) (λ memory display. plans-refuse table c.requires (g.F.Files.refusal c.args.files.now) (c.in_err-plans.ensures.refused memory))
 
 pub returns-in_err-files-clause-refused : goal.returns-in_err-files-clause-refused
 returns-in_err-files-clause-refused g c =
-    let file = g.F.Files.file c.args.files.now in
-    let same = g.F.FileId.PartialEq.eq in
     let table = are_files g c.lifetimes (search rules) c.args.files.now in
-    let config = c.args.config.now in
-    let xs = map label_of c.args.gathered.now.labels.now in
-    let refusal = g.F.Files.refusal c.args.files.now in
-    let gathered = c.args.gathered.now in
-    let numbers = numbers-are same file table config xs gathered c.requires refusal in
-    let plans = c.in_ok-plans.plans.items in
-    let found = c.in_ok-plans.ensures.plans in
-    let ids = plan_ids same file table config xs gathered c.requires plans found in
-    let split = sheet-is same file config xs refusal _ plans numbers
-    (ap (flat_map (λ id. asked_of id (locus_lookups same file xs id))) (sym ids) ∙ places-are same file config xs plans (file_plans same file table config xs gathered c.requires plans found)) in
     let p = err_from_is_err_and c.from_residual-in_err-files.result c.from_residual-in_err-files.ensures.1 in
-    rw (p.1 ∙ ap Err p.2) (λ memory display. split ∙ or_refusal-answered _ _ c.in_ok-plans.ensures.refused ∙ c.in_err-files.ensures.refused memory display)
+    rw (p.1 ∙ ap Err p.2)
+    (λ memory display. places-tell table c.requires c.in_ok-plans.plans.items c.in_ok-plans.ensures.plans (g.F.Files.refusal c.args.files.now) c.in_ok-plans.ensures.refused ∙ c.in_err-files.ensures.refused memory display)
 
 pub returns-clause-prepared : goal.returns-clause-prepared
 returns-clause-prepared g c =
-    let file = g.F.Files.file c.args.files.now in
-    let same = g.F.FileId.PartialEq.eq in
     let table = are_files g c.lifetimes (search rules) c.args.files.now in
-    let config = c.args.config.now in
-    let xs = map label_of c.args.gathered.now.labels.now in
-    let gathered = c.args.gathered.now in
     let plans = c.in_ok-plans.plans.items in
     let found = c.in_ok-plans.ensures.plans in
-    let room : c.match-config.padding ≡ padding_of config (labelled_files same file xs) = elim c.match-config.branch [
-      | in-Classic w ↦ spanned-padding same file table config xs gathered c.requires plans found w.in-Classic.is _ w.padding-is
-      | in-Unbroken w ↦ drawn-padding same file table config xs gathered c.requires plans found w.in-Unbroken.is _ (w.padding-is ∙ w.drawn_padding-padding.ensures ∙ ap (λ ps. fold max 0 (flat_map plan_digits ps)) w.deref.ensures.value)
+    let labelled = labelled_files g.F.FileId.PartialEq.eq (g.F.Files.file c.args.files.now) (map label_of c.args.gathered.now.labels.now) in
+    let room : c.match-config.padding ≡ padding_of c.args.config.now labelled = elim c.match-config.branch [
+      | in-Classic w ↦ spanned-padding table c.requires plans found w.in-Classic.is w.padding-is
+      | in-Unbroken w ↦ drawn-padding table c.requires plans found w.in-Unbroken.is (w.padding-is ∙ w.drawn_padding-padding.ensures ∙ ap (λ ps. fold max 0 (flat_map plan_digits ps)) w.deref.ensures.value)
     ] in
-    sheet-prepared same file config xs plans _ (plan_ids same file table config xs gathered c.requires plans found) (file_plans same file table config xs gathered c.requires plans found)
-    c.in_ok-files.ensures.placed room
+    sheet-prepared table c.requires plans found c.in_ok-files.ensures.placed room
 
 pub returns-clause-refused : goal.returns-clause-refused
 returns-clause-refused g c =
-    let file = g.F.Files.file c.args.files.now in
-    let same = g.F.FileId.PartialEq.eq in
     let table = are_files g c.lifetimes (search rules) c.args.files.now in
-    let config = c.args.config.now in
-    let xs = map label_of c.args.gathered.now.labels.now in
-    let refusal = g.F.Files.refusal c.args.files.now in
-    let gathered = c.args.gathered.now in
-    let numbers = numbers-are same file table config xs gathered c.requires refusal in
-    let plans = c.in_ok-plans.plans.items in
-    let found = c.in_ok-plans.ensures.plans in
-    let ids = plan_ids same file table config xs gathered c.requires plans found in
-    let split = sheet-is same file config xs refusal _ plans numbers
-    (ap (flat_map (λ id. asked_of id (locus_lookups same file xs id))) (sym ids) ∙ places-are same file config xs plans (file_plans same file table config xs gathered c.requires plans found)) in
-    split ∙ or_refusal-answered _ _ c.in_ok-plans.ensures.refused ∙ c.in_ok-files.ensures.refused
+    places-tell table c.requires c.in_ok-plans.plans.items c.in_ok-plans.ensures.plans (g.F.Files.refusal c.args.files.now) c.in_ok-plans.ensures.refused ∙ c.in_ok-files.ensures.refused
