@@ -24,37 +24,34 @@ pub no_element : {X : Type 0} (l : List X) → length l ≡ 0 → l ≡ []
 no_element [] h = refl
 no_element (x ∷ xs) h = absurd (omega arith)
 
-module _ {Id : Type 0} (file : Id → FileModel) (refusal : Refusals Id) where
-  -- the lookups of the place of a plan's file
-  abbrev asked : FilePlan Id → List (Id × Lookup)
-  asked p = asked_of p.file.now.id (Name ∷ LocationAt (start_byte p.file.now.start) ∷ [])
+-- the lookups of the place of a plan's file
+abbrev place_asked : {Id : Type 0} → FilePlan Id → List (Id × Lookup)
+place_asked p = asked_of p.file.now.id (Name ∷ LocationAt (start_byte p.file.now.start) ∷ [])
 
-  -- these plans have got their places
-  pub record ArePlaced (plans : List (FilePlan Id)) (placed : List (SheetFile Id)) : Type 0 where
-    pub are : AllZip (IsPlacedPlan file) plans placed
-    pub answered : first_refusal refusal (place_lookups plans) ≡ None
+-- these plans have got their places
+pub record ArePlaced {Id : Type 0} (file : Id → FileModel) (refusal : Refusals Id) (plans : List (FilePlan Id)) (placed : List (SheetFile Id)) : Type 0 where
+  pub are : AllZip (IsPlacedPlan file) plans placed
+  pub answered : first_refusal refusal (place_lookups plans) ≡ None
 
-  -- no plan has yet
-  pub placed-nothing : (placed : List (SheetFile Id)) → placed ≡ [] → ArePlaced [] placed
-  placed-nothing placed none = record { are = subst (AllZip (IsPlacedPlan file) []) (sym none) tt; answered = refl }
+-- no plan has yet
+pub placed-nothing : {Id : Type 0} {file : Id → FileModel} {refusal : Refusals Id} {placed : List (SheetFile Id)} → placed ≡ [] → ArePlaced file refusal [] placed
+placed-nothing {Id} {file} none = record { are = subst (AllZip (IsPlacedPlan file) []) (sym none) tt; answered = refl }
 
-  -- the lookups of one more
-  more : (plans : List (FilePlan Id)) (p : FilePlan Id) → place_lookups (plans ++ p ∷ []) ≡ place_lookups plans ++ asked p
-  more plans p = flat_map-append asked plans (p ∷ []) ∙ ap (λ (ls : List (Id × Lookup)). place_lookups plans ++ ls) (append-nil (asked p))
-
-  -- so has one more
-  pub placed-more : (plans : List (FilePlan Id)) (placed now : List (SheetFile Id)) (p : FilePlan Id) (s : SheetFile Id) → ArePlaced plans placed → IsPlacedPlan file p s
-      → now ≡ placed ++ s ∷ [] → first_refusal refusal (asked p) ≡ None → ArePlaced (plans ++ p ∷ []) now
-  placed-more plans placed now p s before one whole answered = record {
+module _ {Id : Type 0} {file : Id → FileModel} {refusal : Refusals Id} {plans : List (FilePlan Id)} {placed : List (SheetFile Id)} (before : ArePlaced file refusal plans placed) (p : FilePlan Id) where
+  -- one more has its place
+  pub placed-more : {now : List (SheetFile Id)} {s : SheetFile Id} → IsPlacedPlan file p s → now ≡ placed ++ s ∷ [] → first_refusal refusal (place_asked p) ≡ None → ArePlaced file refusal (plans ++ p ∷ []) now
+  placed-more {now} {s} one whole answered = record {
     are = subst (AllZip (IsPlacedPlan file) (plans ++ p ∷ [])) (sym whole) (zip-more (IsPlacedPlan file) plans placed p s before.are one);
-    answered = ap (first_refusal refusal) (more plans p) ∙ first_refusal-none refusal (place_lookups plans) (asked p) before.answered ∙ answered;
+    answered =
+        ap (first_refusal refusal) (flat_map-append place_asked plans (p ∷ []) ∙ ap (λ (ls : List (Id × Lookup)). place_lookups plans ++ ls) (append-nil (place_asked p)))
+        ∙ first_refusal-none refusal (place_lookups plans) (place_asked p) before.answered ∙ answered;
   }
 
   -- a lookup of one more refuses
-  pub placed-refused : (plans rest all : List (FilePlan Id)) (placed : List (SheetFile Id)) (p : FilePlan Id) (e : Error) → ArePlaced plans placed → plans ++ p ∷ rest ≡ all
-      → first_refusal refusal (asked p) ≡ Some e → first_refusal refusal (place_lookups all) ≡ Some e
-  placed-refused plans rest all placed p e before whole told =
+  pub placed-refused : (rest : List (FilePlan Id)) {all : List (FilePlan Id)} {e : Error} → plans ++ p ∷ rest ≡ all
+      → first_refusal refusal (place_asked p) ≡ Some e → first_refusal refusal (place_lookups all) ≡ Some e
+  placed-refused rest {all} {e} whole told =
       ap (λ (ps : List (FilePlan Id)). first_refusal refusal (place_lookups ps)) (sym whole)
-      ∙ ap (first_refusal refusal) (flat_map-append asked plans (p ∷ rest))
-      ∙ first_refusal-none refusal (place_lookups plans) (asked p ++ place_lookups rest) before.answered
-      ∙ first_refusal-some refusal (asked p) (place_lookups rest) e told
+      ∙ ap (first_refusal refusal) (flat_map-append place_asked plans (p ∷ rest))
+      ∙ first_refusal-none refusal (place_lookups plans) (place_asked p ++ place_lookups rest) before.answered
+      ∙ first_refusal-some refusal (place_asked p) (place_lookups rest) e told

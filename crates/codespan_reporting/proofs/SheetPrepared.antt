@@ -33,38 +33,37 @@ gathered-in_order {Id} {same} {file} {config} {xs} {was} entries g perm up =
       lines = gathered-each of_files was.entries.items entries.items say g.adds perm;
     }
 
-module _ {Id : Type 0} (same : Id → Id → Bool) (file : Id → FileModel) (config : Config) (xs : List (InFile Id)) where
-  module _ (refusal : Refusals Id) where
-    -- the lookups of the labels come first, and then those of the files
-    early-is : first_refusal refusal (early_lookups config same file refusal xs)
-        ≡ or_refusal (first_refusal refusal (label_lookups config file refusal xs)) (first_refusal refusal (sheet_lookups config same file refusal xs))
-    early-is =
-        ap (first_refusal refusal) (append_assoc (label_lookups config file refusal xs)
-        (flat_map (λ id. asked_of id (numbers_for_padding config same file refusal xs config.layout id)) (file_ids same xs)) (flat_map (λ id. asked_of id (locus_lookups same file xs id)) (file_ids same xs)))
-        ∙ first_refusal-append refusal (label_lookups config file refusal xs) (sheet_lookups config same file refusal xs)
+module _ {Id : Type 0} (same : Id → Id → Bool) (file : Id → FileModel) (config : Config) (xs : List (InFile Id)) (refusal : Refusals Id) where
+  -- the lookups of the labels come first, and then those of the files
+  early-is : first_refusal refusal (early_lookups config same file refusal xs)
+      ≡ or_refusal (first_refusal refusal (label_lookups config file refusal xs)) (first_refusal refusal (sheet_lookups config same file refusal xs))
+  early-is =
+      ap (first_refusal refusal) (append_assoc (label_lookups config file refusal xs)
+      (flat_map (λ id. asked_of id (numbers_for_padding config same file refusal xs config.layout id)) (file_ids same xs)) (flat_map (λ id. asked_of id (locus_lookups same file xs id)) (file_ids same xs)))
+      ∙ first_refusal-append refusal (label_lookups config file refusal xs) (sheet_lookups config same file refusal xs)
 
-    -- of those of the files the numbers come first, and then the places
-    pub sheet-is : {numbers : List (Id × Lookup)} (plans : List (FilePlan Id))
-        → numbers ≡ flat_map (λ id. asked_of id (numbers_for_padding config same file refusal xs config.layout id)) (file_ids same xs)
-        → flat_map (λ id. asked_of id (locus_lookups same file xs id)) (file_ids same xs) ≡ place_lookups plans
-        → first_refusal refusal (sheet_lookups config same file refusal xs) ≡ or_refusal (first_refusal refusal numbers) (first_refusal refusal (place_lookups plans))
-    sheet-is plans are places =
-        first_refusal-append refusal (flat_map (λ id. asked_of id (numbers_for_padding config same file refusal xs config.layout id)) (file_ids same xs))
-        (flat_map (λ id. asked_of id (locus_lookups same file xs id)) (file_ids same xs))
-        ∙ (λ i. or_refusal (first_refusal refusal (sym are i)) (first_refusal refusal (places i)))
+  -- of those of the files the numbers come first, and then the places
+  pub sheet-is : {numbers : List (Id × Lookup)} (plans : List (FilePlan Id))
+      → numbers ≡ flat_map (λ id. asked_of id (numbers_for_padding config same file refusal xs config.layout id)) (file_ids same xs)
+      → flat_map (λ id. asked_of id (locus_lookups same file xs id)) (file_ids same xs) ≡ place_lookups plans
+      → first_refusal refusal (sheet_lookups config same file refusal xs) ≡ or_refusal (first_refusal refusal numbers) (first_refusal refusal (place_lookups plans))
+  sheet-is plans are places =
+      first_refusal-append refusal (flat_map (λ id. asked_of id (numbers_for_padding config same file refusal xs config.layout id)) (file_ids same xs))
+      (flat_map (λ id. asked_of id (locus_lookups same file xs id)) (file_ids same xs))
+      ∙ (λ i. or_refusal (first_refusal refusal (sym are i)) (first_refusal refusal (places i)))
 
-    -- a lookup of a number refuses
-    pub numbers-refused : {numbers : List (Id × Lookup)} → numbers ≡ flat_map (λ id. asked_of id (numbers_for_padding config same file refusal xs config.layout id)) (file_ids same xs)
-        → {e : Error} → first_refusal refusal numbers ≡ Some e → first_refusal refusal (sheet_lookups config same file refusal xs) ≡ Some e
-    numbers-refused are {e} told =
-        first_refusal-some refusal (flat_map (λ id. asked_of id (numbers_for_padding config same file refusal xs config.layout id)) (file_ids same xs))
-        (flat_map (λ id. asked_of id (locus_lookups same file xs id)) (file_ids same xs)) e (ap (first_refusal refusal) (sym are) ∙ told)
+  -- a lookup of a number refuses
+  pub numbers-refused : {numbers : List (Id × Lookup)} → numbers ≡ flat_map (λ id. asked_of id (numbers_for_padding config same file refusal xs config.layout id)) (file_ids same xs)
+      → {e : Error} → first_refusal refusal numbers ≡ Some e → first_refusal refusal (sheet_lookups config same file refusal xs) ≡ Some e
+  numbers-refused are {e} told =
+      first_refusal-some refusal (flat_map (λ id. asked_of id (numbers_for_padding config same file refusal xs config.layout id)) (file_ids same xs))
+      (flat_map (λ id. asked_of id (locus_lookups same file xs id)) (file_ids same xs)) e (ap (first_refusal refusal) (sym are) ∙ told)
 
-    -- a lookup of a label refuses
-    pub labels-refused : (e : Error) → first_refusal refusal (label_lookups config file refusal xs) ≡ Some e → first_refusal refusal (early_lookups config same file refusal xs) ≡ Some e
-    labels-refused e told = early-is ∙ ap (λ (o : Option Error). or_refusal o (first_refusal refusal (sheet_lookups config same file refusal xs))) told
+  -- a lookup of a label refuses
+  pub labels-refused : (e : Error) → first_refusal refusal (label_lookups config file refusal xs) ≡ Some e → first_refusal refusal (early_lookups config same file refusal xs) ≡ Some e
+  labels-refused e told = early-is ∙ ap (λ (o : Option Error). or_refusal o (first_refusal refusal (sheet_lookups config same file refusal xs))) told
 
-    -- the labels' are answered, and the files' tell the rest
-    pub labels-answered : first_refusal refusal (label_lookups config file refusal xs) ≡ None
-        → first_refusal refusal (early_lookups config same file refusal xs) ≡ first_refusal refusal (sheet_lookups config same file refusal xs)
-    labels-answered answered = early-is ∙ ap (λ (o : Option Error). or_refusal o (first_refusal refusal (sheet_lookups config same file refusal xs))) answered
+  -- the labels' are answered, and the files' tell the rest
+  pub labels-answered : first_refusal refusal (label_lookups config file refusal xs) ≡ None
+      → first_refusal refusal (early_lookups config same file refusal xs) ≡ first_refusal refusal (sheet_lookups config same file refusal xs)
+  labels-answered answered = early-is ∙ ap (λ (o : Option Error). or_refusal o (first_refusal refusal (sheet_lookups config same file refusal xs))) answered

@@ -14,14 +14,14 @@ use Rattle.codespan_reporting.specs.Inner.Steps.{Step, fill_of, fills_of}
 use Rattle.codespan_reporting.proofs.Askings.{first_refusal-asked, or_refusal-answered, or_refusal-some}
 use Rattle.codespan_laws.proofs.SortedLists.{all-append}
 
-module _ (layout : Layout) (f : FileModel) where
+module _ {layout : Layout} {f : FileModel} where
   -- no step was added
-  pub adds_nothing : (old new : List GivenStep) → new ≡ old → AddsSteps layout f old new []
-  adds_nothing old new same = record { more = []; whole = same ∙ sym (append-nil old); are = refl; each = tt }
+  adds_nothing : {old new : List GivenStep} → new ≡ old → AddsSteps layout f old new []
+  adds_nothing {old} same = record { more = []; whole = same ∙ sym (append-nil old); are = refl; each = tt }
 
   -- steps were added, and then others
-  pub adds_then : (old mid new : List GivenStep) (xs ys : List Step) → AddsSteps layout f old mid xs → AddsSteps layout f mid new ys → AddsSteps layout f old new (xs ++ ys)
-  adds_then old mid new xs ys first second = record {
+  adds_then : {old mid new : List GivenStep} {xs ys : List Step} → AddsSteps layout f old mid xs → AddsSteps layout f mid new ys → AddsSteps layout f old new (xs ++ ys)
+  adds_then {old} first second = record {
     more = first.more ++ second.more;
     whole = second.whole ∙ ap (λ (l : List GivenStep). l ++ second.more) first.whole ∙ append_assoc old first.more second.more;
     are = map-append step_of first.more second.more ∙ (λ i. first.are i ++ second.are i);
@@ -44,7 +44,7 @@ module _ {Id : Type 0} (refusal : Refusals Id) (id : Id) (layout : Layout) where
   numbers_refused steps = first_refusal refusal (asked_of id (numbers_asked layout (fills_of steps)))
 
   -- the numbers of some steps, and then those of others
-  pub numbers_refused-append : (xs ys : List Step) → numbers_refused (xs ++ ys) ≡ or_refusal (numbers_refused xs) (numbers_refused ys)
+  numbers_refused-append : (xs ys : List Step) → numbers_refused (xs ++ ys) ≡ or_refusal (numbers_refused xs) (numbers_refused ys)
   numbers_refused-append xs ys =
       ap (λ (ls : List ℕ). first_refusal refusal (asked_of id (numbers_asked layout ls))) (flat_map-append fill_of xs ys)
       ∙ ap (λ (ls : List Lookup). first_refusal refusal (asked_of id ls)) (numbers_asked-append layout (fills_of xs) (fills_of ys))
@@ -57,28 +57,34 @@ module _ {Id : Type 0} (refusal : Refusals Id) (id : Id) (layout : Layout) where
     pub adds : AddsSteps layout f [] now taken
     pub answered : numbers_refused taken ≡ None
 
-  module _ (f : FileModel) (whole : List Step) where
-    -- nothing is found yet
-    pub left_all : (rest : List Step) (now : List GivenStep) → rest ≡ whole → now ≡ [] → StepsLeft f whole rest now
-    left_all rest now same none = record { taken = []; is_whole = same; adds = adds_nothing layout f [] now none; answered = ap (λ (ls : List Lookup). first_refusal refusal (asked_of id ls)) (numbers_asked-nothing layout) }
+-- nothing is found yet
+pub left_all : {Id : Type 0} {refusal : Refusals Id} {id : Id} {layout : Layout} {f : FileModel} {whole rest : List Step} {now : List GivenStep} → rest ≡ whole → now ≡ []
+    → StepsLeft refusal id layout f whole rest now
+left_all {Id} {refusal} {id} {layout} same none = record {
+  taken = [];
+  is_whole = same;
+  adds = adds_nothing none;
+  answered = ap (λ (ls : List Lookup). first_refusal refusal (asked_of id ls)) (numbers_asked-nothing layout);
+}
 
-    module _ (rest steps next : List Step) (now : List GivenStep) (same : rest ≡ steps ++ next) (left : StepsLeft f whole rest now) where
-      -- these come next
-      next_whole : (left.taken ++ steps) ++ next ≡ whole
-      next_whole = append_assoc left.taken steps next ∙ ap (λ (xs : List Step). left.taken ++ xs) (sym same) ∙ left.is_whole
+module _ {Id : Type 0} {refusal : Refusals Id} {id : Id} {layout : Layout} {f : FileModel} {whole rest : List Step} {now : List GivenStep} (left : StepsLeft refusal id layout f whole rest now)
+    (steps next : List Step) (same : rest ≡ steps ++ next) where
+  -- these come next
+  next_whole : (left.taken ++ steps) ++ next ≡ whole
+  next_whole = append_assoc left.taken steps next ∙ ap (λ (xs : List Step). left.taken ++ xs) (sym same) ∙ left.is_whole
 
-      -- they are found
-      pub left_more : (new : List GivenStep) → AddsSteps layout f now new steps → numbers_refused steps ≡ None → StepsLeft f whole next new
-      left_more new adds answered = record {
-        taken = left.taken ++ steps;
-        is_whole = next_whole;
-        adds = adds_then layout f [] now new left.taken steps left.adds adds;
-        answered = numbers_refused-append left.taken steps ∙ or_refusal-answered (numbers_refused left.taken) (numbers_refused steps) left.answered ∙ answered;
-      }
+  -- their lookups tell what refuses them and those before
+  next_refused : numbers_refused refusal id layout (left.taken ++ steps) ≡ numbers_refused refusal id layout steps
+  next_refused =
+      numbers_refused-append refusal id layout left.taken steps
+      ∙ or_refusal-answered (numbers_refused refusal id layout left.taken) (numbers_refused refusal id layout steps) left.answered
 
-      -- the lookup of a number with them refuses
-      pub left_refused : (e : Error) → numbers_refused steps ≡ Some e → numbers_refused whole ≡ Some e
-      left_refused e refused =
-          ap numbers_refused (sym next_whole) ∙ numbers_refused-append (left.taken ++ steps) next
-          ∙ or_refusal-some (numbers_refused (left.taken ++ steps)) (numbers_refused next) e
-          (numbers_refused-append left.taken steps ∙ or_refusal-answered (numbers_refused left.taken) (numbers_refused steps) left.answered ∙ refused)
+  -- they are found
+  pub left_more : {new : List GivenStep} → AddsSteps layout f now new steps → numbers_refused refusal id layout steps ≡ None → StepsLeft refusal id layout f whole next new
+  left_more adds answered = record { taken = left.taken ++ steps; is_whole = next_whole; adds = adds_then left.adds adds; answered = next_refused ∙ answered }
+
+  -- the lookup of a number with them refuses
+  pub left_refused : {e : Error} → numbers_refused refusal id layout steps ≡ Some e → numbers_refused refusal id layout whole ≡ Some e
+  left_refused {e} refused =
+      ap (numbers_refused refusal id layout) (sym next_whole) ∙ numbers_refused-append refusal id layout (left.taken ++ steps) next
+      ∙ or_refusal-some (numbers_refused refusal id layout (left.taken ++ steps)) (numbers_refused refusal id layout next) e (next_refused ∙ refused)
