@@ -1,5 +1,5 @@
 use contract.Lifetimes.{Lfts}
-use Rattle.std.proofs.Common.{rules, [], Err, map, sym, ap, ◌∙◌, subst}
+use Rattle.std.proofs.Common.{rules, ◌+◌, [], Err, map, sym, ap, ◌∙◌, subst}
 use Rattle.std.proofs.lemmas.Result.{err_from_is_err_and}
 use Rattle.codespan_reporting.specs.Inner.GivenEntries.{Adds, IsOfFiles}
 use Rattle.codespan_reporting.specs.Inner.LabelledFiles.{all_lanes_given, lanes_told}
@@ -10,8 +10,10 @@ use Rattle.codespan_picture.specs.Snippets.{file_ids}
 use Rattle.codespan_reporting.specs.Inner.PlacedLabels.{AreApart, entries_after}
 use Rattle.codespan_reporting.proofs.FilePlaces.{first_seen-differ}
 use Rattle.codespan_reporting.proofs.LabelPlaces.{AreFiles, IsAt, lanes_by-are}
-use Rattle.codespan_reporting.proofs.LabelsGathered.{each-told, file-placed, gathered-all, gathered-more, gathered-refused, place-inside}
+use Rattle.codespan_reporting.proofs.LabelTurns.{before}
+use Rattle.codespan_reporting.proofs.LabelsGathered.{AreGathered, each-told, file-placed, gathered-all, gathered-more, gathered-refused, place-inside}
 use Rattle.codespan_reporting.proofs.term.views.gather.gather_in_turn.Given.{Over}
+use Rattle.codespan_reporting.proofs.term.views.gather.gather_in_turn.Goals.{After-index-labels-place, In_ok-file}
 use Rattle.codespan_reporting.proofs.term.views.gather.gather_in_turn.Goals as goal
 
 -- the files are lawful, and equal ids name one file
@@ -25,33 +27,42 @@ are_files g κs claim files = record {
 pub place_file-requires : goal.place_file-requires
 place_file-requires g c = subst (AreApart g.F.FileId.PartialEq.eq) (sym c.loop-place.invariant.ids_are) (first_seen-differ g.F.FileId.PartialEq.eq g.met.F.FileId.Eq.laws _)
 
+-- it is the label's turn
+turn : (g : Over) (c : After-index-labels-place g) → IsAt c.args.labels.now c.loop-place.place c.index-labels-place.result
+turn g c = record { inside = c.loop-place-test.true; is = c.index-labels-place.is }
+
+-- its file is there too
+placed : (g : Over) (c : In_ok-file g) → IsAt c.args.labels.now c.loop-place.place c.index-labels-place.result
+    → AreGathered g.F.FileId.PartialEq.eq (g.F.Files.file c.args.files.now) (g.F.Files.refusal c.args.files.now) c.args.config.now (file_ids g.F.FileId.PartialEq.eq (before c.args.labels.now (c.loop-place.place + 1))) (before c.args.labels.now c.loop-place.place) c.place_file.new.files.items c.loop-place.found
+placed g c at =
+    let table = are_files g c.lifetimes (search rules) c.args.files.now in
+    let now = c.in_ok-file.ensures in
+    file-placed table at c.loop-place.invariant (record { ids = now.ids; starts = now.starts; lanes = now.lanes })
+
 pub returns-in_err-lines-clause-refused : goal.returns-in_err-lines-clause-refused
 returns-in_err-lines-clause-refused g c =
     let table = are_files g c.lifetimes (search rules) c.args.files.now in
-    let turn : IsAt c.args.labels.now c.loop-place.place c.index-labels-place.result = record { inside = c.loop-place-test.true; is = c.index-labels-place.is } in
+    let at = turn g (goal.at.returns-in_err-lines-clause-refused g c).After-index-labels-place in
     let p = err_from_is_err_and c.from_residual-in_err-lines.result c.from_residual-in_err-lines.ensures.1 in
-    rw (p.1 ∙ ap Err p.2) (λ told. gathered-refused table turn c.loop-place.invariant _ (c.in_err-lines.ensures.refused told))
+    rw (p.1 ∙ ap Err p.2) (λ told. gathered-refused table at c.loop-place.invariant _ (c.in_err-lines.ensures.refused told))
 
 pub tell_file-requires : goal.tell_file-requires
 tell_file-requires g c =
     let table = are_files g c.lifetimes (search rules) c.args.files.now in
-    let turn : IsAt c.args.labels.now c.loop-place.place c.index-labels-place.result = record { inside = c.loop-place-test.true; is = c.index-labels-place.is } in
-    let placed = c.in_ok-file.ensures in
-    let there = file-placed table turn c.loop-place.invariant (record { ids = placed.ids; starts = placed.starts; lanes = placed.lanes }) in
-    record { place = place-inside table turn there placed.place }
+    let at = turn g (goal.at.tell_file-requires g c).After-index-labels-place in
+    let there = placed g (goal.at.tell_file-requires g c).In_ok-file at in
+    record { place = place-inside table at there c.in_ok-file.ensures.place }
 
 pub loop-place-preserved : goal.loop-place-preserved
 loop-place-preserved g c =
-    let file = g.F.Files.file c.args.files.now in
     let table = are_files g c.lifetimes (search rules) c.args.files.now in
+    let at = turn g (goal.at.loop-place-preserved g c).After-index-labels-place in
+    let there = placed g (goal.at.loop-place-preserved g c).In_ok-file at in
     let label = c.index-labels-place.result in
-    let turn : IsAt c.args.labels.now c.loop-place.place label = record { inside = c.loop-place-test.true; is = c.index-labels-place.is } in
-    let placed = c.in_ok-file.ensures in
     let found = c.in_ok-lines.ensures in
     let told = c.in_ok-tell_file.ensures in
-    let there = file-placed table turn c.loop-place.invariant (record { ids = placed.ids; starts = placed.starts; lanes = placed.lanes }) in
-    let own = lanes_by-are (file label.file_id) (label_of label).label c.in_ok-lines.lines found.first found.last in
-    gathered-more table turn there placed.place (record { added = found.added; counted = found.padding; answered = found.refused }) (record {
+    let own = lanes_by-are (g.F.Files.file c.args.files.now label.file_id) (label_of label).label c.in_ok-lines.lines found.first found.last in
+    gathered-more table at there c.in_ok-file.ensures.place (record { added = found.added; counted = found.padding; answered = found.refused }) (record {
       ids = told.ids;
       starts = told.starts;
       lanes = told.lanes ∙ ap (lanes_told (all_lanes_given c.place_file.new.files.items) c.in_ok-file.file) own;
