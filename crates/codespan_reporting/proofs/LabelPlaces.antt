@@ -4,7 +4,7 @@ use Rattle.std.specs.Prelude.{filter, if◌then◌else◌}
 use Rattle.std.specs.Cmp.{IsEquivalence}
 use Rattle.std.specs.List.{AllByRecursion}
 use Rattle.std.proofs.lemmas.Bool.{cases_Bool}
-use Rattle.std.proofs.lemmas.List.{append-nil, append_assoc, map-append, take_more}
+use Rattle.std.proofs.lemmas.List.{append-nil, append_assoc, get_or-map, map-append, map-set, take_more}
 use Rattle.std.proofs.lemmas.List.Elements.{filter-append}
 use Rattle.codespan_base.specs.declared.term.config.Config.{Config}
 use Rattle.codespan_base.specs.FileModel.{FileModel, line_count}
@@ -27,6 +27,12 @@ pub record IsAt {X : Type 0} (xs : List X) (place : ℕ) (x : X) : Type 0 where
 -- the elements up to it are those before it, and it
 pub take-at : {X : Type 0} {xs : List X} {place : ℕ} {x : X} → IsAt xs place x → take (place + 1) xs ≡ take place xs ++ x ∷ []
 take-at {X} {xs} {place} {x} at = take_more xs place x at.inside ∙ ap (λ (y : X). take place xs ++ y ∷ []) (sym at.is)
+
+-- what is known of each element, where the one at the place changes
+pub map-changed : {X A : Type 0} (h : X → A) (d : A) (step : A → A) {xs : List X} {place : ℕ} {x : X} → IsAt xs place x → (new : X) → h new ≡ step (h x)
+    → map h (set xs place new) ≡ set (map h xs) place (step (get_or (map h xs) place d))
+map-changed h d step {xs} {place} {x} at new is =
+    map-set h xs place new ∙ ap (set (map h xs) place) (is ∙ ap step (ap h at.is ∙ sym (get_or-map h xs place x d at.inside)))
 
 -- the files are those of a lawful table: sameness of ids is an equivalence, the same ids name one file, and each file has a line
 pub record AreFiles {Id : Type 0} (same : Id → Id → Bool) (file : Id → FileModel) : Type 0 where
