@@ -1,7 +1,8 @@
+use contract.Lifetimes.{Lfts}
 use Rattle.std.proofs.Common.{rules, ◌+◌, ◌-◌, ◌<◌, ◌≤◌, Err, ap, ◌∙◌, arith}
 use Rattle.std.proofs.lemmas.Result.{err_from_is_err_and}
 use Rattle.codespan_base.specs.FileModel.{line_count}
-use Rattle.codespan_base.specs.Labels.{first_line, last_line}
+use Rattle.codespan_base.specs.Labels.{Labelled, first_line, last_line}
 use Rattle.codespan_base.specs.Lemmas.Lines.{line_of_below}
 use Rattle.codespan_reporting.specs.Inner.GivenEntries.{IsLineOf}
 use Rattle.codespan_picture.specs.Lookups.{line_refusal}
@@ -11,17 +12,25 @@ use Rattle.codespan_reporting.proofs.term.views.gather.Asking.gather_lines.Given
 use Rattle.codespan_reporting.proofs.term.views.gather.Asking.gather_lines.Goals.{Else-not-branch}
 use Rattle.codespan_reporting.proofs.term.views.gather.Asking.gather_lines.Goals as goal
 
+-- the label's file has its first line and its last one
+has_lines : (g : Over) (κs : Lfts 10) → g.claim κs → (files : g.row.F.Denot) (id : g.row.F-FileId.Denot) (x : Labelled)
+    → let f = g.F.Files.file files id in
+    (first_line f x < line_count f) × (last_line f x < line_count f)
+has_lines g κs claim files id x =
+    let f = g.F.Files.file files id in
+    let some = ((g.met.F.Files κs claim).lawful files id).some_line in
+    (line_of_below f.starts x.start some, line_of_below f.starts x.end some)
+
 pub loop-index-init : goal.loop-index-init
 loop-index-init g c =
     let id = c.args.label.now.file_id in
     let f = g.F.Files.file c.args.self.now.files.now id in
     let x = (label_of c.args.label.now).label in
-    let claim : g.claim c.lifetimes = search rules in
-    let some : 0 < line_count f = ((g.met.F.Files c.lifetimes claim).lawful c.args.self.now.files.now id).some_line in
+    let there = has_lines g c.lifetimes (search rules) c.args.self.now.files.now id x in
     let low : c.min-index.result ≤ last_line f x = omega (arith, c.min-index.ensures, c.requires.last) in
     let far : c.min-index.result ≤ first_line f x - c.args.self.now.config.now.before_label_lines = omega (arith, c.min-index.ensures, c.saturating_sub-first.ensures, c.requires.first) in
     gathered-start (g.F.Files.refusal c.args.self.now.files.now) id c.args.self.now.config.now f x (λ e. IsLineOf f e.line) c.args.self.now.at _ _
-    (line_of_below f.starts x.end some) low far
+    there.1 low far
 
 pub returns-in_err-gather_line-clause-refused : goal.returns-in_err-gather_line-clause-refused
 returns-in_err-gather_line-clause-refused g c =
@@ -29,12 +38,11 @@ returns-in_err-gather_line-clause-refused g c =
     let f = g.F.Files.file c.args.self.now.files.now id in
     let refusal = g.F.Files.refusal c.args.self.now.files.now in
     let x = (label_of c.args.label.now).label in
-    let claim : g.claim c.lifetimes = search rules in
-    let some : 0 < line_count f = ((g.met.F.Files c.lifetimes claim).lawful c.args.self.now.files.now id).some_line in
+    let there = has_lines g c.lifetimes (search rules) c.args.self.now.files.now id x in
     let p = err_from_is_err_and c.from_residual.result c.from_residual.ensures.1 in
     rw (p.1 ∙ ap Err p.2) (λ told. let refused = c.in_err-gather_line.ensures.refused told in
     gathered-refused refusal id c.args.self.now.config.now f x (λ e. IsLineOf f e.line) c.args.self.now.at _ _ _ _
-    (line_of_below f.starts x.start some) (line_of_below f.starts x.end some) c.loop-index.invariant refused.0
+    there.0 there.1 c.loop-index.invariant refused.0
     (ap (λ k. line_refusal f (refusal id) k c.loop-index.index) c.requires.last ∙ refused.1))
 
 -- the file has no more lines
@@ -65,11 +73,10 @@ one_more g c =
     let id = c.args.label.now.file_id in
     let f = g.F.Files.file c.args.self.now.files.now id in
     let x = (label_of c.args.label.now).label in
-    let claim : g.claim c.lifetimes = search rules in
-    let some : 0 < line_count f = ((g.met.F.Files c.lifetimes claim).lawful c.args.self.now.files.now id).some_line in
+    let there = has_lines g c.lifetimes (search rules) c.args.self.now.files.now id x in
     let on = c.if-not-branch.false in
     gathered-step (g.F.Files.refusal c.args.self.now.files.now) id c.args.self.now.config.now f x (λ e. IsLineOf f e.line) c.args.self.now.at _ _ _ _
-    (line_of_below f.starts x.start some) (line_of_below f.starts x.end some)
+    there.0 there.1
     (omega (arith, c.loop-index-test.true, c.max-index-end.ensures, c.saturating_add-last.ensures, c.requires.first, c.requires.last))
     c.loop-index.invariant (c.in_ok-gather_line.ensures.inside on) (c.in_ok-gather_line.ensures.added on) (c.in_ok-gather_line.ensures.padding on) (c.in_ok-gather_line.ensures.answered on)
 
