@@ -66,7 +66,7 @@ module _ (g : ℕ → List Entry) (own : (l : ℕ) → AllByRecursion (λ e. e.l
       filter-nothing (is_on_line l) (g a) (all-weaker (λ e. e.line ≡ a) (λ e. is_on_line l e ≡ false) (λ e h. ne_eqb e.line l (λ k. ne (sym h ∙ k))) (g a) (own a))
 
   -- a line has what it gives, where it is one of the lines that give
-  pub on-line : (l n a : ℕ) → filter (is_on_line l) (flat_map g (filter p (range_with_len a n))) ≡ cond (is_among a n l && p l) (g l) []
+  on-line : (l n a : ℕ) → filter (is_on_line l) (flat_map g (filter p (range_with_len a n))) ≡ cond (is_among a n l && p l) (g l) []
   on-line l zero a = sym (ap (λ b. cond (b && p l) (g l) []) (among-none a l))
   on-line l (suc n) a = ⊎_elim (λ e. first e (on-line l n (a + 1))) (λ ne. later ne (on-line l n (a + 1))) (cases_eq a l)
     where

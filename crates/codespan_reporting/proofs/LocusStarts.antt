@@ -126,14 +126,14 @@ module _ {Id : Type 0} (same : Id → Id → Bool) (xs : List (InFile Id)) (x : 
       by false = refl
 
   -- a label of another file tells nothing
-  pub start-others : same id x.id ≡ false → file_start same (xs ++ x ∷ []) id ≡ file_start same xs id
+  start-others : same id x.id ≡ false → file_start same (xs ++ x ∷ []) id ≡ file_start same xs id
   start-others f = λ i. record { primary = least_if_any (none true i); any = least_if_any (none false i) }
     where
       none : (only : Bool) → label_starts same id only (xs ++ x ∷ []) ≡ label_starts same id only xs
       none only = starts-more only ∙ ap (λ (b : Bool). label_starts same id only xs ++ own_start (b && (not only || is_primary x.label))) f ∙ append-nil (label_starts same id only xs)
 
   -- one of the file tells its start
-  pub start-own : same id x.id ≡ true → file_start same (xs ++ x ∷ []) id ≡ start_with (file_start same xs id) x.label
+  start-own : same id x.id ≡ true → file_start same (xs ++ x ∷ []) id ≡ start_with (file_start same xs id) x.label
   start-own t = λ i. record { primary = by (is_primary x.label) refl i; any = (ap least_if_any (asked false) ∙ least-more (label_starts same id false xs) x.label.start) i }
     where
       asked : (only : Bool) → label_starts same id only (xs ++ x ∷ []) ≡ label_starts same id only xs ++ own_start (not only || is_primary x.label)

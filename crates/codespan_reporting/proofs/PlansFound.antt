@@ -29,7 +29,7 @@ use Rattle.codespan_laws.proofs.SortedLists.{all-both, all-mapped, all-part, all
 -- ---- ids at their places
 
 -- ids give one after the other
-pub by_place-append : {Id A : Type 0} (give : ℕ → Id → List A) (k : ℕ) (xs ys : List Id) → by_place give k (xs ++ ys) ≡ by_place give k xs ++ by_place give (k + length xs) ys
+by_place-append : {Id A : Type 0} (give : ℕ → Id → List A) (k : ℕ) (xs ys : List Id) → by_place give k (xs ++ ys) ≡ by_place give k xs ++ by_place give (k + length xs) ys
 by_place-append give k [] ys = let e : k ≡ k + 0 = omega arith in ap (λ n. by_place give n ys) e
 by_place-append {Id} {A} give k (x ∷ xs) ys =
     let e : k + 1 + length xs ≡ k + suc (length xs) = omega arith in
@@ -56,7 +56,7 @@ by_place-same {Id} {A} give each k (j ∷ js) same =
 
 module _ {Id : Type 0} (file : Id → FileModel) where
   -- a file's part of the entries is of lines that the file has
-  pub part-lines : (ids : List Id) (xs : List GivenEntry) (at n f : ℕ) (id : Id) (ys : List Entry) → IsIdAt ids f id → AllByRecursion (IsOfFiles file ids) xs
+  part-lines : (ids : List Id) (xs : List GivenEntry) (at n f : ℕ) (id : Id) (ys : List Entry) → IsIdAt ids f id → AllByRecursion (IsOfFiles file ids) xs
       → map entry_of (take n (drop at xs)) ≡ filter (is_of_file f) ys → AllByRecursion (λ e. IsLineOf (file id) e.line) (take n (drop at xs))
   part-lines ids xs at n f id ys is_at lines own =
       let part = take n (drop at xs) in
