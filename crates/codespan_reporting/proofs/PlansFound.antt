@@ -109,6 +109,7 @@ module _ {Id : Type 0} {files : List (GivenFile Id)} {xs : List GivenEntry} {at 
   pub next_inside : at + n ≤ length xs
   next_inside = omega (arith, own_part.within, own_part.len)
 
+  -- later files are left there
   pub next_left : drop (at + n) (map entry_of xs) ≡ from_file (k + 1) (map entry_of xs)
   next_left = ap (λ i. drop (at + i) (map entry_of xs)) (sym own_part.len) ∙ own_part.rest
 

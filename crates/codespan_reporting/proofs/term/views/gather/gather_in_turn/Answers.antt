@@ -33,7 +33,10 @@ turn g c = record { inside = c.loop-place-test.true; is = c.index-labels-place.i
 
 -- its file is there too
 placed : (g : Over) (c : In_ok-file g) → IsAt c.args.labels.now c.loop-place.place c.index-labels-place.result
-    → AreGathered g.F.FileId.PartialEq.eq (g.F.Files.file c.args.files.now) (g.F.Files.refusal c.args.files.now) c.args.config.now (file_ids g.F.FileId.PartialEq.eq (before c.args.labels.now (c.loop-place.place + 1))) (before c.args.labels.now c.loop-place.place) c.place_file.new.files.items c.loop-place.found
+    → let same = g.F.FileId.PartialEq.eq in
+    let labels = c.args.labels.now in
+    let place = c.loop-place.place in
+    AreGathered same (g.F.Files.file c.args.files.now) (g.F.Files.refusal c.args.files.now) c.args.config.now (file_ids same (before labels (place + 1))) (before labels place) c.place_file.new.files.items c.loop-place.found
 placed g c at =
     let table = are_files g c.lifetimes (search rules) c.args.files.now in
     let now = c.in_ok-file.ensures in

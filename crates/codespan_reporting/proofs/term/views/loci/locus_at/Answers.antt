@@ -1,17 +1,26 @@
-use Rattle.std.proofs.Common.{◌≡◌, None, Err, sym, ap, ◌∙◌}
+use Rattle.std.proofs.Common.{◌≡◌, Option, None, Err, sym, ap, ◌∙◌}
 use Rattle.std.specs.Prelude.{IfSome, string_bytes}
 use Rattle.std.proofs.lemmas.Result.{err_from_is_err_and}
+use Rattle.codespan_base.specs.declared.files.Error.{Error}
 use Rattle.codespan_base.specs.FileModel.{or_refusal}
-use Rattle.codespan_base.specs.FileModel.Lookup.{LocationAt}
+use Rattle.codespan_base.specs.FileModel.Lookup.{LocationAt, Name}
 use Rattle.codespan_reporting.proofs.LocusStarts.{located_place}
+use Rattle.codespan_reporting.proofs.term.views.loci.locus_at.Given.{Over}
+use Rattle.codespan_reporting.proofs.term.views.loci.locus_at.Goals.{In_ok-name}
 use Rattle.codespan_reporting.proofs.term.views.loci.locus_at.Goals as goal
+
+-- the name is told, and the location tells the rest
+location-tells : (g : Over) (c : In_ok-name g) {o : Option Error}
+    → let refusal = g.F.Files.refusal c.args.files.now c.args.id in
+    refusal (LocationAt c.args.byte_index) ≡ o → or_refusal (refusal Name) (or_refusal (refusal (LocationAt c.args.byte_index)) None) ≡ or_refusal o None
+location-tells g c is =
+    let refusal = g.F.Files.refusal c.args.files.now c.args.id in
+    ap (λ o. or_refusal o (or_refusal (refusal (LocationAt c.args.byte_index)) None)) c.in_ok-name.ensures.refused ∙ ap (λ o. or_refusal o None) is
 
 pub returns-in_err-location-clause-refused : goal.returns-in_err-location-clause-refused
 returns-in_err-location-clause-refused g c =
-    let refusal = g.F.Files.refusal c.args.files.now in
     let p = err_from_is_err_and c.from_residual-in_err-location.result c.from_residual-in_err-location.ensures.1 in
-    rw (p.1 ∙ ap Err p.2) (λ told _. ap (λ o. or_refusal o (or_refusal (refusal c.args.id (LocationAt c.args.byte_index)) None)) c.in_ok-name.ensures.refused
-    ∙ ap (λ o. or_refusal o None) (c.in_err-location.ensures.refused told))
+    rw (p.1 ∙ ap Err p.2) (λ told _. location-tells g (goal.at.returns-in_err-location-clause-refused g c).In_ok-name (c.in_err-location.ensures.refused told))
 
 pub returns-clause-locus : goal.returns-clause-locus
 returns-clause-locus g c =
@@ -20,7 +29,4 @@ returns-clause-locus g c =
     located_place (file c.args.id) c.args.byte_index (record { name = c.in_ok-name-2.name; location = c.in_ok-location.location }) text c.in_ok-location.ensures.value
 
 pub returns-clause-refused : goal.returns-clause-refused
-returns-clause-refused g c =
-    let refusal = g.F.Files.refusal c.args.files.now in
-    ap (λ o. or_refusal o (or_refusal (refusal c.args.id (LocationAt c.args.byte_index)) None)) c.in_ok-name.ensures.refused
-    ∙ ap (λ o. or_refusal o None) c.in_ok-location.ensures.refused
+returns-clause-refused g c = location-tells g (goal.at.returns-clause-refused g c).In_ok-name c.in_ok-location.ensures.refused
