@@ -97,6 +97,13 @@ pub record IsFilePlan {Id : Type 0} (config : Config) (s : LabelledFile) (plan :
   pub rows : rows_of_steps s.file (file_lanes s) (map step_of plan.steps.items) ≡ rows_after s None (drawn_lines config s.file s.labels)
   pub asked : asked_by_all plan.steps.items ≡ flat_map (of_filled config.layout) (filled_lines config s)
 
+-- the steps draw a file's labels: the lines that they fill in, the lines that they draw, and their rows are those of its snippet
+record DrawSnippet (config : Config) (s : LabelledFile) (steps : List Step) : Type 0 where
+  fills : fills_of steps ≡ filled_lines config s
+  lines : lines_of_steps steps ≡ drawn_lines config s.file s.labels
+  rows : rows_of_steps s.file (file_lanes s) steps ≡ rows_after s None (drawn_lines config s.file s.labels)
+  fits : DoFit steps
+
 -- in the unbroken layout the numbers of drawn lines count
 numbered : (config : Config) → config.layout ≡ Unbroken → (s : LabelledFile) → numbered_lines config s ≡ drawn_lines config s.file s.labels
 numbered config unbroken s = ap (λ v. numbered_lines (record config { layout = v }) s) unbroken
@@ -110,6 +117,15 @@ module _ {Id : Type 0} {same : Id → Id → Bool} {file : Id → FileModel} (ta
   abbrev labelled : Id → LabelledFile
   labelled = labelled_file same file xs
 
+  -- the steps at a file's place are those of its snippet
+  snippet : (k : ℕ) (id : Id) → IsIdAt (file_ids same xs) k id → DrawSnippet config (labelled id) (steps_at es k)
+  snippet k id at = record {
+    fills = snippet-fills same file table.equivalence table.one_file table.some_line config xs es all.permutation all.sorted k id at;
+    lines = snippet-lines same file table.equivalence table.one_file table.some_line config xs es all.permutation all.sorted k id at;
+    rows = snippet-rows same file table.equivalence table.one_file table.some_line config xs es all.permutation all.sorted k id at;
+    fits = snippet-fits same file table.equivalence table.one_file table.some_line config xs es all.permutation all.sorted k id at;
+  }
+
   -- the numbers that are asked for before the header are those of the padding
   numbers-are : (refusal : Refusals Id) → planned_lookups config.layout es (ids_given gathered.files.items)
       ≡ flat_map (λ id. asked_of id (numbers_for_padding config same file refusal xs config.layout id)) (file_ids same xs)
@@ -118,7 +134,7 @@ module _ {Id : Type 0} {same : Id → Id → Bool} {file : Id → FileModel} (ta
       ∙ by_place-same (λ k id. asked_of id (numbers_asked config.layout (fills_of (steps_at es k)))) (λ id. asked_of id (numbers_for_padding config same file refusal xs config.layout id)) 0 (file_ids same xs)
       (λ i id at. let e : 0 + i ≡ i = omega arith in
       ap (λ k. asked_of id (numbers_asked config.layout (fills_of (steps_at es k)))) e
-      ∙ ap (λ (ls : List ℕ). asked_of id (numbers_asked config.layout ls)) (snippet-fills same file table.equivalence table.one_file table.some_line config xs es all.permutation all.sorted i id at)
+      ∙ ap (λ (ls : List ℕ). asked_of id (numbers_asked config.layout ls)) (snippet i id at).fills
       ∙ ap (λ (ls : List Lookup). asked_of id ls) (by_layout config.layout id))
     where
       by_layout : (layout : Layout) (id : Id) → numbers_asked layout (filled_lines config (labelled id)) ≡ numbers_for_padding config same file refusal xs layout id
@@ -140,10 +156,10 @@ module _ {Id : Type 0} {same : Id → Id → Bool} {file : Id → FileModel} (ta
       lanes_are = ap (λ (g : GivenFile Id). lanes_given g.lanes.items) is.file_is ∙ told.lanes_are;
       starts = ap (λ (g : GivenFile Id). start_byte g.start) is.file_is ∙ ap start_byte told.start_is ∙ start-is same file f.id xs;
       each = steps_of-file config.layout (file f.id) plan.steps.items steps-in;
-      fits = subst DoFit (sym steps-are) (snippet-fits same file table.equivalence table.one_file table.some_line config xs es all.permutation all.sorted k f.id at);
-      rows = ap (rows_of_steps (file f.id) (file_lanes (labelled f.id))) steps-are ∙ snippet-rows same file table.equivalence table.one_file table.some_line config xs es all.permutation all.sorted k f.id at;
+      fits = subst DoFit (sym steps-are) (snippet k f.id at).fits;
+      rows = ap (rows_of_steps (file f.id) (file_lanes (labelled f.id))) steps-are ∙ (snippet k f.id at).rows;
       asked = steps-ask config.layout (file f.id) plan.steps.items steps-in ∙ ap (λ (steps : List Step). flat_map (of_filled config.layout) (fills_of steps)) steps-are
-          ∙ ap (λ (ls : List ℕ). flat_map (of_filled config.layout) ls) (snippet-fills same file table.equivalence table.one_file table.some_line config xs es all.permutation all.sorted k f.id at);
+          ∙ ap (λ (ls : List ℕ). flat_map (of_filled config.layout) ls) (snippet k f.id at).fills;
     }
 
     -- in the unbroken layout the digits of its numbers are those that the padding has room for
@@ -151,7 +167,7 @@ module _ {Id : Type 0} {same : Id → Id → Bool} {file : Id → FileModel} (ta
     file-digits unbroken =
         steps-digits (file f.id) plan.steps.items (subst (λ (layout : Layout). AllByRecursion (IsStepIn layout (file f.id)) plan.steps.items) unbroken steps-in)
         ∙ ap (λ (steps : List Step). digits_of (labelled f.id) (lines_of_steps steps)) steps-are
-        ∙ ap (digits_of (labelled f.id)) (snippet-lines same file table.equivalence table.one_file table.some_line config xs es all.permutation all.sorted k f.id at ∙ sym (numbered config unbroken (labelled f.id)))
+        ∙ ap (digits_of (labelled f.id)) ((snippet k f.id at).lines ∙ sym (numbered config unbroken (labelled f.id)))
 
   -- the ids from a place on stand at their places
   abbrev AreAt : ℕ → List Id → Type 0
