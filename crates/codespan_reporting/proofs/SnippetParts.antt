@@ -32,8 +32,8 @@ rows-three look a b c =
     flat_map-append row (a ++ b) c ∙ ap (λ (s : Stream). s ++ stream_of_rows look c) (flat_map-append row a b)
 
 -- a call that sends what a configuration decides sends it by an equal one
-pub sends_at : {K : Type 0} (f : K → Stream) (k m : K) → m ≡ k → (s t : Sink) (r : Result (Unit {0}) Error) → Sends s (f m) r t → Sends s (f k) r t
-sends_at f k m same s t r sends = subst (λ (x : _). Sends s (f x) r t) same sends
+pub sends_at : {K : Type 0} (f : K → Stream) {k m : K} → m ≡ k → (s t : Sink) (r : Result (Unit {0}) Error) → Sends s (f m) r t → Sends s (f k) r t
+sends_at f same s t r sends = subst (λ (x : _). Sends s (f x) r t) same sends
 
 -- a stream came, and then a call sent another one
 pub sends_after : (s t u : Sink) (a b : Stream) (r : Result (Unit {0}) Error) → Came s a t → Sends t b r u → Sends s (a ++ b) r u

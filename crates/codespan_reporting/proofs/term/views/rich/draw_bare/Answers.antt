@@ -16,4 +16,4 @@ pub returns-clause-sends : goal.returns-clause-sends
 returns-clause-sends g c =
     let d = c.args.diagnostic.now in
     sends_after _ _ _ _ _ c.draw_closing.result c.in_ok-draw_header.ensures.sends
-    (sends_at (λ (k : Config). whole_of_notes (look_of k d.severity 0) (notes_of d)) _ _ c.in_ok-draw_header.ensures.same.config _ _ c.draw_closing.result c.draw_closing.ensures.sends)
+    (sends_at (λ (k : Config). whole_of_notes (look_of k d.severity 0) (notes_of d)) c.in_ok-draw_header.ensures.same.config _ _ c.draw_closing.result c.draw_closing.ensures.sends)

@@ -2,32 +2,26 @@ use Rattle.std.proofs.Common.{Err, sym, ap, ◌∙◌}
 use Rattle.std.proofs.lemmas.Result.{err_from_is_err_and}
 use Rattle.codespan_picture.specs.Given.{place_of_given}
 use Rattle.codespan_picture.specs.Picture.{label_of}
-use Rattle.codespan_renderer.specs.Renderers.{config_of}
 use Rattle.codespan_reporting.proofs.HeaderRuns.{came_one, refused_one, secondary_one, stopped_one}
 use Rattle.codespan_reporting.proofs.term.views.short.draw_if_primary.Goals as goal
 
 pub returns-then-not-is_primary-clause-draws : goal.returns-then-not-is_primary-clause-draws
-returns-then-not-is_primary-clause-draws g c =
-    secondary_one (config_of c.args.renderer.now) (g.F.Files.file c.args.files.now) (g.F.Files.refusal c.args.files.now) c.args.diagnostic.now (label_of c.args.label.now) _
-    (sym c.is_primary.ensures ∙ c.if-not-is_primary.true)
+returns-then-not-is_primary-clause-draws g c = secondary_one (label_of c.args.label.now) (sym c.is_primary.ensures ∙ c.if-not-is_primary.true)
 
 pub returns-in_err-locus-clause-draws : goal.returns-in_err-locus-clause-draws
 returns-in_err-locus-clause-draws g c =
     let p = err_from_is_err_and c.from_residual.result c.from_residual.ensures.1 in
     rw (p.1 ∙ ap Err p.2)
-    (refused_one (config_of c.args.renderer.now) (g.F.Files.file c.args.files.now) (g.F.Files.refusal c.args.files.now) c.args.diagnostic.now (label_of c.args.label.now) _ _
-    (sym c.is_primary.ensures ∙ c.if-not-is_primary.false) c.in_err-locus.ensures.refused)
+    (refused_one (label_of c.args.label.now) (sym c.is_primary.ensures ∙ c.if-not-is_primary.false) c.in_err-locus.ensures.refused)
 
 pub returns-in_err-draw_header-clause-draws : goal.returns-in_err-draw_header-clause-draws
 returns-in_err-draw_header-clause-draws g c =
     let p = err_from_is_err_and c.from_residual-in_err-draw_header.result c.from_residual-in_err-draw_header.ensures.1 in
     rw (p.1 ∙ ap Err p.2)
-    (stopped_one (config_of c.args.renderer.now) (g.F.Files.file c.args.files.now) (g.F.Files.refusal c.args.files.now) c.args.diagnostic.now (label_of c.args.label.now)
-    (place_of_given c.in_ok-locus.locus) _ _ _ (sym c.is_primary.ensures ∙ c.if-not-is_primary.false) c.in_ok-locus.ensures.locus
-    c.in_err-draw_header.ensures.io c.in_err-draw_header.ensures.sends.0 c.in_err-draw_header.ensures.sends.1)
+    (stopped_one (label_of c.args.label.now) (place_of_given c.in_ok-locus.locus) (sym c.is_primary.ensures ∙ c.if-not-is_primary.false) c.in_ok-locus.ensures.locus
+    c.in_err-draw_header.ensures.io c.in_err-draw_header.ensures.sends)
 
 pub returns-clause-draws : goal.returns-clause-draws
 returns-clause-draws g c =
-    came_one (config_of c.args.renderer.now) (g.F.Files.file c.args.files.now) (g.F.Files.refusal c.args.files.now) c.args.diagnostic.now (label_of c.args.label.now)
-    (place_of_given c.in_ok-locus.locus) _ _ (sym c.is_primary.ensures ∙ c.if-not-is_primary.false) c.in_ok-locus.ensures.locus c.in_ok-locus.ensures.refused
-    c.in_ok-draw_header.ensures.sends.0 c.in_ok-draw_header.ensures.sends.1
+    came_one (label_of c.args.label.now) (place_of_given c.in_ok-locus.locus) (sym c.is_primary.ensures ∙ c.if-not-is_primary.false) c.in_ok-locus.ensures.locus
+    c.in_ok-locus.ensures.refused c.in_ok-draw_header.ensures.sends

@@ -58,5 +58,5 @@ returns-clause-draws g c =
     snippet-drawn g.F.Files.file g.F.Files.refusal page snippet c.args.is_followed (config_of c.args.renderer.now) c.in_ok-source.ensures.refused _ _ _ _ c.draw_end.result c.in_ok-draw_start.ensures.sends
     (lines-drawn g.F.Files.file g.F.Files.refusal page snippet c.args.is_followed (config_of c.args.renderer.now) _ _ (Ok tt)
     c.as_slice.ensures.value c.deref.ensures.value first c.in_ok-draw_steps.ensures.draws)
-    (sends_at (λ (k : Config). stream_of_rows (look_of k page.severity page.padding) (end_rows snippet c.args.is_followed)) _ _ (second ∙ first) _ _ c.draw_end.result c.draw_end.ensures.sends)
+    (sends_at (λ (k : Config). stream_of_rows (look_of k page.severity page.padding) (end_rows snippet c.args.is_followed)) (second ∙ first) _ _ c.draw_end.result c.draw_end.ensures.sends)
     c.draw_end.ensures.io
