@@ -52,85 +52,78 @@ module _ {Id : Type 0} (refusal : Refusals Id) where
 -- ---- one part
 
 -- an error that is equal to want of memory
-pub out_of_memory : {T : Type 0} (e x : Error) → e ≡ x → IsErrOf {T = T} (Err x) OutOfMemory → e ≡ OutOfMemory
-out_of_memory {T} e x same is = same ∙ inside x is
+pub out_of_memory : {T : Type 0} {e x : Error} → e ≡ x → IsErrOf {T = T} (Err x) OutOfMemory → e ≡ OutOfMemory
+out_of_memory {T} {x = x} same is = same ∙ inside x is
   where
     inside : (y : Error) → IsErrOf {T = T} (Err y) OutOfMemory → y ≡ OutOfMemory
     inside y h = cc
 
+-- a call sends and asks so; from a record antt finds what it speaks of
+pub record IsAsking (refused : Option Error) (old : Sink) (items : Stream) (r : Result (Unit {0}) Error) (new : Sink) : Type 0 where
+  pub draws : SendsAsking refused old items r new
+
 -- nothing is sent and nothing is asked
-pub asking_nothing : (s : Sink) → SendsAsking None s [] (Ok tt) s
-asking_nothing s = (refl, (refl, λ told. sym (sent-nil s)))
+pub asking_nothing : {s : Sink} → IsAsking None s [] (Ok tt) s
+asking_nothing {s} = record { draws = (refl, (refl, λ told. sym (sent-nil s))) }
 
 -- a lookup that is answered sends nothing
-pub asking_answered : (o : Option Error) (s : Sink) → o ≡ None → SendsAsking o s [] (Ok tt) s
-asking_answered o s answered = (answered, (refl, λ told. sym (sent-nil s)))
+asking_answered : {o : Option Error} {s : Sink} → o ≡ None → IsAsking o s [] (Ok tt) s
+asking_answered {s = s} answered = record { draws = (answered, (refl, λ told. sym (sent-nil s))) }
 
 -- a call that sends asks for nothing
-pub asking_of_sends : (s t : Sink) (a : Stream) (r : Result (Unit {0}) Error) → Sends s a r t → IfErr r IsIo → SendsAsking None s a r t
-asking_of_sends s t a (Ok x) sends io = (refl, sends)
-asking_of_sends s t a (Err e) sends io = inl (io, sends)
+pub asking_of_sends : {s t : Sink} {a : Stream} (r : Result (Unit {0}) Error) → Sends s a r t → IfErr r IsIo → IsAsking None s a r t
+asking_of_sends (Ok x) sends io = record { draws = (refl, sends) }
+asking_of_sends (Err e) sends io = record { draws = inl (io, sends) }
 
 -- a lookup that is refused leaves the writer as it was; any stream could have come
-pub asking_refused : (o : Option Error) (s : Sink) (a : Stream) (e : Error) → (e ≢ OutOfMemory → o ≡ Some e) → SendsAsking o s a (Err e) s
-asking_refused o s a e told = inr (record { frame = refl; begun = λ tells. Began-none s a s refl; told = told })
+pub asking_refused : {o : Option Error} {s : Sink} {a : Stream} {e : Error} → (e ≢ OutOfMemory → o ≡ Some e) → SendsAsking o s a (Err e) s
+asking_refused {s = s} {a = a} told = inr (record { frame = refl; begun = λ tells. Began-none s a s refl; told = told })
 
 -- the same where more would have been asked
-pub asking_refused_before : (o p : Option Error) (s : Sink) (a : Stream) (e : Error) → (e ≢ OutOfMemory → o ≡ Some e) → SendsAsking (or_refusal o p) s a (Err e) s
-asking_refused_before o p s a e told = asking_refused (or_refusal o p) s a e (λ m. or_refusal-some o p e (told m))
+pub asking_refused_before : {o : Option Error} (p : Option Error) {s : Sink} {a : Stream} {e : Error} → (e ≢ OutOfMemory → o ≡ Some e) → SendsAsking (or_refusal o p) s a (Err e) s
+asking_refused_before {o} p {e = e} told = asking_refused (λ m. or_refusal-some o p e (told m))
 
 -- memory ran out before anything was sent
-pub asking_no_memory : (o : Option Error) (s : Sink) (a : Stream) (e : Error) → e ≡ OutOfMemory → SendsAsking o s a (Err e) s
-asking_no_memory o s a e is = asking_refused o s a e (λ other. absurd (other is))
+pub asking_no_memory : {o : Option Error} {s : Sink} {a : Stream} {e : Error} → e ≡ OutOfMemory → SendsAsking o s a (Err e) s
+asking_no_memory is = asking_refused (λ other. absurd (other is))
 
 -- ---- one part after another
 
 -- a part that went well, and then another, however that one ends
-pub asking_then : (o p : Option Error) (s t u : Sink) (a b : Stream) (x : Unit {0}) (r : Result (Unit {0}) Error)
-    → SendsAsking o s a (Ok x) t → SendsAsking p t b r u → SendsAsking (or_refusal o p) s (a ++ b) r u
-asking_then o p s t u a b x (Ok y) first second =
-    (or_refusal-answered o p first.0 ∙ second.0, came-then s a b first.1 second.1)
-asking_then o p s t u a b x (Err e) first second =
-    ⊎_elim
-    (λ (w : IsIo e × Stopped t b u). inl (w.0, stopped-then a first.1 w.1))
-    (λ (w : EndedAsking p t b e u). inr (record {
-      frame = w.frame ∙ first.1.0;
-      begun = λ tells. Began-last s a b u (subst (λ (y : Sink). Began y b u) (first.1.1 tells) (w.begun (told-after s t a tells (first.1.1 tells))));
-      told = λ m. or_refusal-answered o p first.0 ∙ w.told m;
-    }))
-    second
+pub asking_then : {o p : Option Error} {s t u : Sink} {a b : Stream} {r : Result (Unit {0}) Error} → IsAsking o s a (Ok tt) t → IsAsking p t b r u → IsAsking (or_refusal o p) s (a ++ b) r u
+asking_then {o = o} {p = p} {s = s} {a = a} {b = b} {r = Ok y} first second =
+    record { draws = (or_refusal-answered o p first.draws.0 ∙ second.draws.0, came-then s a b first.draws.1 second.draws.1) }
+asking_then {o = o} {p = p} {s = s} {t = t} {u = u} {a = a} {b = b} {r = Err e} first second =
+    let came = first.draws.1 in
+    record {
+      draws = ⊎_elim
+          (λ (w : IsIo e × Stopped t b u). inl (w.0, stopped-then a came w.1))
+          (λ (w : EndedAsking p t b e u). inr (record {
+            frame = w.frame ∙ came.0;
+            begun = λ tells. Began-last s a b u (subst (λ (y : Sink). Began y b u) (came.1 tells) (w.begun (told-after s t a tells (came.1 tells))));
+            told = λ m. or_refusal-answered o p first.draws.0 ∙ w.told m;
+          }))
+          second.draws;
+    }
 
 -- a part that was refused, with more that would have come and been asked after it
-pub asking_cut : (o p : Option Error) (s t : Sink) (a b : Stream) (e : Error) → SendsAsking o s a (Err e) t → SendsAsking (or_refusal o p) s (a ++ b) (Err e) t
-asking_cut o p s t a b e part =
-    ⊎_elim
-    (λ (w : IsIo e × Stopped s a t). inl (w.0, stopped-before b w.1))
-    (λ (w : EndedAsking o s a e t). inr (record {
-      frame = w.frame;
-      begun = λ tells. Began-first s a t b (w.begun tells);
-      told = λ m. or_refusal-some o p e (w.told m);
-    }))
-    part
+pub asking_cut : (p : Option Error) (b : Stream) {o : Option Error} {s t : Sink} {a : Stream} {e : Error} → IsAsking o s a (Err e) t → IsAsking (or_refusal o p) s (a ++ b) (Err e) t
+asking_cut p b {o} {s} {t} {a} {e} part = record {
+  draws = ⊎_elim
+      (λ (w : IsIo e × Stopped s a t). inl (w.0, stopped-before b w.1))
+      (λ (w : EndedAsking o s a e t). inr (record {
+        frame = w.frame;
+        begun = λ tells. Began-first s a t b (w.begun tells);
+        told = λ m. or_refusal-some o p e (w.told m);
+      }))
+      part.draws;
+}
 
 -- a lookup was answered, and then a part
-pub asking_after : (o p : Option Error) (s t : Sink) (a : Stream) (r : Result (Unit {0}) Error) → o ≡ None → SendsAsking p s a r t → SendsAsking (or_refusal o p) s a r t
-asking_after o p s t a r answered part = asking_then o p s s t [] a tt r (asking_answered o s answered) part
-
--- ---- the same in other words
+pub asking_after : {o p : Option Error} {s t : Sink} {a : Stream} {r : Result (Unit {0}) Error} → o ≡ None → IsAsking p s a r t → IsAsking (or_refusal o p) s a r t
+asking_after answered part = asking_then (asking_answered answered) part
 
 -- an equal refusal and an equal stream
-pub asking_as : (o p : Option Error) (s t : Sink) (a b : Stream) (r : Result (Unit {0}) Error) → o ≡ p → a ≡ b → SendsAsking o s a r t → SendsAsking p s b r t
-asking_as o p s t a b r same_refusal same_stream part =
-    subst (λ (x : Option Error). SendsAsking x s b r t) same_refusal (subst (λ (x : Stream). SendsAsking o s x r t) same_stream part)
-
--- an equal refusal
-pub asking_as_refusal : (o p : Option Error) (s t : Sink) (a : Stream) (r : Result (Unit {0}) Error) → o ≡ p → SendsAsking o s a r t → SendsAsking p s a r t
-asking_as_refusal o p s t a r same part = asking_as o p s t a a r same refl part
-
--- an equal stream
-pub asking_as_stream : (o : Option Error) (s t : Sink) (a b : Stream) (r : Result (Unit {0}) Error) → a ≡ b → SendsAsking o s a r t → SendsAsking o s b r t
-asking_as_stream o s t a b r same part = asking_as o o s t a b r refl same part
-
--- a stream that a configuration decides, at an equal one
-pub asking_at : {K : Type 0} (f : K → Stream) (k m : K) → m ≡ k → (o : Option Error) (s t : Sink) (r : Result (Unit {0}) Error) → SendsAsking o s (f m) r t → SendsAsking o s (f k) r t
-asking_at f k m same o s t r part = subst (λ (x : _). SendsAsking o s (f x) r t) same part
+pub asking_as : {o p : Option Error} {s t : Sink} {a b : Stream} {r : Result (Unit {0}) Error} → o ≡ p → a ≡ b → IsAsking o s a r t → IsAsking p s b r t
+asking_as {o} {s = s} {t = t} {b = b} {r = r} same_refusal same_stream part =
+    subst (λ (x : Option Error). IsAsking x s b r t) same_refusal (subst (λ (x : Stream). IsAsking o s x r t) same_stream part)

@@ -28,7 +28,7 @@ use Rattle.codespan_reporting.specs.Views.{diagnostic_of, view_config_of}
 use Rattle.codespan_reporting.specs.declared.term.views.rich.RichDiagnostic.{RichDiagnostic}
 use Rattle.codespan_reporting.specs.declared.term.views.sheet.Sheet.{Sheet}
 use Rattle.codespan_reporting.specs.declared.term.views.sheet.SheetFile.{SheetFile}
-use Rattle.codespan_reporting.proofs.Askings.{asking_cut, asking_nothing, asking_then, first_refusal-append}
+use Rattle.codespan_reporting.proofs.Askings.{IsAsking, asking_as, asking_cut, asking_nothing, asking_then, first_refusal-append}
 use Rattle.codespan_reporting.proofs.LaneMarks.{file_lanes-count}
 
 -- the elements from one on: that one, and those after it
@@ -141,7 +141,7 @@ module _ {Id : Type 0} (same : Id → Id → Bool) (file : Id → FileModel) (vi
     -- the files before this place are drawn, and all lookups with them were answered
     pub record SnippetsLeft (refusal : Refusals Id) (renderer : Config) (k : ℕ) (old now : Sink) : Type 0 where
       pub rows : List Row
-      pub drawn : SendsAsking None old (stream_of_rows (look_of renderer (diagnostic_of view).severity sheet.padding) rows) (Ok tt) now
+      pub drawn : IsAsking None old (stream_of_rows (look_of renderer (diagnostic_of view).severity sheet.padding) rows) (Ok tt) now
       pub rows_whole : rows ++ rows_left k ≡ rows_left 0
       pub asked : List (Id × Lookup)
       pub answered : first_refusal refusal asked ≡ None
@@ -150,7 +150,7 @@ module _ {Id : Type 0} (same : Id → Id → Bool) (file : Id → FileModel) (vi
 -- no file is drawn
 pub left-start : {Id : Type 0} {same : Id → Id → Bool} {file : Id → FileModel} {refusal : Refusals Id} {view : RichDiagnostic Id} {renderer : Config} {sheet : Sheet Id} {s : Sink}
     → SnippetsLeft same file view sheet refusal renderer 0 s s
-left-start {s = s} = record { rows = []; drawn = asking_nothing s; rows_whole = refl; asked = []; answered = refl; asked_whole = refl }
+left-start = record { rows = []; drawn = asking_nothing; rows_whole = refl; asked = []; answered = refl; asked_whole = refl }
 
 module _ {Id : Type 0} {same : Id → Id → Bool} {file : Id → FileModel} {refusal : Refusals Id} {view : RichDiagnostic Id} {renderer : Config} {sheet : Sheet Id} {k : ℕ} {old mid : Sink}
     (prepared : IsPrepared same file (view_config_of view) (labels_of (diagnostic_of view)) sheet) (left : SnippetsLeft same file view sheet refusal renderer k old mid) where
@@ -208,7 +208,7 @@ module _ {Id : Type 0} {same : Id → Id → Bool} {file : Id → FileModel} {re
       (sym left.answered ∙ ap (first_refusal refusal) (sym (append-nil left.asked) ∙ ap (λ js. left.asked ++ flat_map (asked_with same file view) js) (sym none) ∙ left.asked_whole) ∙ refusal-all)
       (ap (stream_of_rows look) (sym (append-nil left.rows) ∙ ap (λ r. left.rows ++ r) (sym (no-rows (drop k places)) ∙ ap (drawn_at (drop k places)) (sym none))
       ∙ left.rows_whole ∙ rows-all))
-      left.drawn
+      left.drawn.draws
     where
       no-rows : (ps : List Place) → drawn_at ps [] ≡ []
       no-rows [] = refl
@@ -247,15 +247,15 @@ module _ {Id : Type 0} {same : Id → Id → Bool} {file : Id → FileModel} {re
         SendsAsking (first_refusal refusal (asked_of f.file.now.id (lookups_with f))) mid (stream_of_rows (look_by now) (rows_in f (file f.file.now.id) (notes || nat_lt (k + 1) count))) r new
 
     -- these are the rows and the lookups at the place
-    drawn-here : (r : Result (Unit {0}) Error) (new : Sink) → DrawsHere r new → SendsAsking (first_refusal refusal asked_here) mid (stream_of_rows look rows_here) r new
+    drawn-here : (r : Result (Unit {0}) Error) (new : Sink) → DrawsHere r new → IsAsking (first_refusal refusal asked_here) mid (stream_of_rows look rows_here) r new
     drawn-here r new draws =
         let is = is-sheet_file prepared at in
         let followed : (notes || nat_lt (k + 1) count) ≡ is_followed has_notes (drop (k + 1) ids) =
         (λ i. notes_are i || nat_lt (k + 1) ((count_is ∙ sym (ids-count sheet.files.items)) i)) ∙ sym (followed-at has_notes ids k) in
-        subst₂ (λ (o : Option Error) (s : Stream). SendsAsking o mid s r new) (ap (λ (ls : List Lookup). first_refusal refusal (asked_of f.file.now.id (Source ∷ ls))) is.asked)
+        asking_as (ap (λ (ls : List Lookup). first_refusal refusal (asked_of f.file.now.id (Source ∷ ls))) is.asked)
         ((λ i. stream_of_rows (look_by (alike i)) (rows-are is (notes || nat_lt (k + 1) count) i))
         ∙ ap (λ (b : Bool). stream_of_rows look (placed_snippet (view_config_of view) b (place_of_given f.locus) own)) followed)
-        draws
+        (record { draws = draws })
 
     -- the file is drawn
     pub left-next : {new : Sink} → DrawsHere (Ok tt) new → SnippetsLeft same file view sheet refusal renderer (k + 1) old new
@@ -263,11 +263,10 @@ module _ {Id : Type 0} {same : Id → Id → Bool} {file : Id → FileModel} {re
         let drawn = drawn-here (Ok tt) new draws in
         record {
           rows = left.rows ++ rows_here;
-          drawn = subst₂ (λ (o : Option Error) (s : Stream). SendsAsking o old s (Ok tt) new) drawn.0 (sym (rows-two look left.rows rows_here))
-              (asking_then None (first_refusal refusal asked_here) old mid new _ _ tt (Ok tt) left.drawn drawn);
+          drawn = asking_as drawn.draws.0 (sym (rows-two look left.rows rows_here)) (asking_then left.drawn drawn);
           rows_whole = append_assoc left.rows rows_here (rest (k + 1)) ∙ ap (λ (r : List Row). left.rows ++ r) (sym rows-next) ∙ left.rows_whole;
           asked = left.asked ++ asked_here;
-          answered = first_refusal-append refusal left.asked asked_here ∙ ap (λ (o : Option Error). or_refusal o (first_refusal refusal asked_here)) left.answered ∙ drawn.0;
+          answered = first_refusal-append refusal left.asked asked_here ∙ ap (λ (o : Option Error). or_refusal o (first_refusal refusal asked_here)) left.answered ∙ drawn.draws.0;
           asked_whole = append_assoc left.asked asked_here (asks (k + 1)) ∙ ap (λ (ls : List (Id × Lookup)). left.asked ++ ls) (sym asked-next) ∙ left.asked_whole;
         }
 
@@ -276,11 +275,10 @@ module _ {Id : Type 0} {same : Id → Id → Bool} {file : Id → FileModel} {re
     left-cut {new} {e} draws =
         let here = first_refusal refusal asked_here in
         let after = first_refusal refusal (asks (k + 1)) in
-        subst₂ (λ (o : Option Error) (s : Stream). SendsAsking o old s (Err e) new)
+        (asking_as
         (sym (ap (λ (o : Option Error). or_refusal o (or_refusal here after)) left.answered)
         ∙ ap (or_refusal (first_refusal refusal left.asked)) (sym (first_refusal-append refusal asked_here (asks (k + 1))) ∙ ap (first_refusal refusal) (sym asked-next))
         ∙ sym (first_refusal-append refusal left.asked (asks k)) ∙ ap (first_refusal refusal) left.asked_whole ∙ refusal-all)
         (ap (λ (s : Stream). stream_of_rows look left.rows ++ s) (sym (rows-two look rows_here (rest (k + 1))) ∙ ap (stream_of_rows look) (sym rows-next))
         ∙ sym (rows-two look left.rows (rest k)) ∙ ap (stream_of_rows look) (left.rows_whole ∙ rows-all))
-        (asking_then None (or_refusal here after) old mid new _ _ tt (Err e) left.drawn
-        (asking_cut here after mid new (stream_of_rows look rows_here) (stream_of_rows look (rest (k + 1))) e (drawn-here (Err e) new draws)))
+        (asking_then left.drawn (asking_cut after (stream_of_rows look (rest (k + 1))) (drawn-here (Err e) new draws)))).draws

@@ -1,4 +1,4 @@
-use Rattle.std.proofs.Common.{map, None, ap, ◌∙◌}
+use Rattle.std.proofs.Common.{map, ap, ◌∙◌}
 use Rattle.std.proofs.lemmas.Result.{err_from_is_err_and}
 use Rattle.codespan_picture.specs.Given.{mark_of_given}
 use Rattle.codespan_reporting.proofs.Askings.{asking_no_memory, out_of_memory}
@@ -8,7 +8,7 @@ use Rattle.codespan_reporting.proofs.term.views.lines.FileLines.draw_break.Goals
 pub returns-in_err-refill-clause-draws : goal.returns-in_err-refill-clause-draws
 returns-in_err-refill-clause-draws g c =
     let p = err_from_is_err_and c.from_residual.result c.from_residual.ensures.1 in
-    rw p.1 (asking_no_memory None _ _ _ (out_of_memory _ _ p.2 c.in_err-refill.ensures.refused))
+    rw p.1 (asking_no_memory (out_of_memory p.2 c.in_err-refill.ensures.refused))
 
 pub render_snippet_break-requires : goal.render_snippet_break-requires
 render_snippet_break-requires g c = lanes_fit c.args.self.now.lanes.now c.args.next.index c.args.next.start _ (ap (map mark_of_given) c.as_slice.ensures.value ∙ c.in_ok-refill.ensures.multis)

@@ -1,4 +1,4 @@
-use Rattle.std.proofs.Common.{map, None, ap, ◌∙◌}
+use Rattle.std.proofs.Common.{map, ap, ◌∙◌}
 use Rattle.std.proofs.lemmas.Result.{err_from_is_err_and}
 use Rattle.codespan_picture.specs.Given.{mark_of_given}
 use Rattle.codespan_reporting.proofs.Askings.{asking_no_memory, out_of_memory}
@@ -8,12 +8,12 @@ use Rattle.codespan_reporting.proofs.term.views.lines.FileLines.draw_line.Goals 
 pub returns-in_err-refill-clause-draws : goal.returns-in_err-refill-clause-draws
 returns-in_err-refill-clause-draws g c =
     let p = err_from_is_err_and c.from_residual.result c.from_residual.ensures.1 in
-    rw p.1 (asking_no_memory None _ _ _ (out_of_memory _ _ p.2 c.in_err-refill.ensures.refused))
+    rw p.1 (asking_no_memory (out_of_memory p.2 c.in_err-refill.ensures.refused))
 
 pub returns-in_err-refill-2-clause-draws : goal.returns-in_err-refill-2-clause-draws
 returns-in_err-refill-2-clause-draws g c =
     let p = err_from_is_err_and c.from_residual-in_err-refill-2.result c.from_residual-in_err-refill-2.ensures.1 in
-    rw p.1 (asking_no_memory None _ _ _ (out_of_memory _ _ p.2 c.in_err-refill-2.ensures.refused))
+    rw p.1 (asking_no_memory (out_of_memory p.2 c.in_err-refill-2.ensures.refused))
 
 pub render_snippet_source-requires : goal.render_snippet_source-requires
 render_snippet_source-requires g c =

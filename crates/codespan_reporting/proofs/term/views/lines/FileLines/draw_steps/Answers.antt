@@ -1,17 +1,16 @@
-use Rattle.std.proofs.Common.{◌≡◌, true, Ok, Err, refl, ap, ◌∙◌}
+use Rattle.std.proofs.Common.{◌≡◌, ◌+◌, true, Err, refl, ap, ◌∙◌}
 use Rattle.std.proofs.lemmas.List.Elements.{All-from_recursion}
 use Rattle.std.proofs.lemmas.Result.{err_from_is_err_and}
 use Rattle.codespan_laws.proofs.SortedLists.{all-mapped}
-use Rattle.codespan_renderer.specs.Renderers.{config_of, writer_of}
 use Rattle.codespan_reporting.specs.Inner.GivenSteps.{IsStepOf, step_of}
 use Rattle.codespan_reporting.specs.Inner.Steps.{does_step_fit}
-use Rattle.codespan_reporting.proofs.StepsDrawn.{drawn-by, drawn-cut, drawn-next, drawn-nothing}
+use Rattle.codespan_reporting.proofs.StepsDrawn.{drawn-cut, drawn-next, drawn-nothing}
 use Rattle.codespan_reporting.proofs.term.views.lines.FileLines.draw_steps.Goals as goal
 
 pub loop-step-init : goal.loop-step-init
 loop-step-init g c = record {
   same = record { reference = refl; config = refl };
-  drawn = drawn-nothing g.F.Files.file g.F.Files.refusal c.args.self.now (config_of c.args.renderer.now) (g.W.WriteStyle.sink (writer_of c.args.renderer.now));
+  drawn = drawn-nothing;
 }
 
 pub draw_step-requires : goal.draw_step-requires
@@ -33,27 +32,17 @@ draw_step-requires g c κs =
 
 pub returns-in_err-draw_step-clause-draws : goal.returns-in_err-draw_step-clause-draws
 returns-in_err-draw_step-clause-draws g c =
-    let lines = c.args.self.now in
     let steps = c.args.steps.now in
     let i = c.loop-step.step-index in
-    let k = config_of c.args.renderer.now in
-    let e = c.in_err-draw_step.field-0.0 in
+    let was = c.loop-step.invariant in
     let p = err_from_is_err_and c.from_residual.result c.from_residual.ensures.1 in
-    rw (p.1 ∙ ap Err p.2)
-    (drawn-cut g.F.Files.file g.F.Files.refusal lines k steps _ _ _ e
-    (drawn-next g.F.Files.file g.F.Files.refusal lines k steps i _ c.loop-step-test.true _ _ _ tt (Err e) c.loop-step.invariant.drawn
-    (drawn-by g.F.Files.file g.F.Files.refusal lines k _ c.loop-step.invariant.same.config _ _ _ _ (Err e) c.in_err-draw_step.ensures.draws)))
+    rw (p.1 ∙ ap Err p.2) (drawn-cut steps (i + 1) (drawn-next steps i _ c.loop-step-test.true was.drawn was.same.config c.in_err-draw_step.ensures.draws)).drawn.draws
 
 pub loop-step-preserved : goal.loop-step-preserved
 loop-step-preserved g c =
-    let lines = c.args.self.now in
-    let steps = c.args.steps.now in
-    let i = c.loop-step.step-index in
-    let k = config_of c.args.renderer.now in
     let same = c.in_ok-draw_step.ensures.same in
-    let was = c.loop-step.invariant.same in
+    let was = c.loop-step.invariant in
     record {
-      same = record { reference = same.reference ∙ was.reference; config = same.config ∙ was.config };
-      drawn = drawn-next g.F.Files.file g.F.Files.refusal lines k steps i _ c.loop-step-test.true _ _ _ tt (Ok tt) c.loop-step.invariant.drawn
-          (drawn-by g.F.Files.file g.F.Files.refusal lines k _ was.config _ _ _ _ (Ok tt) c.in_ok-draw_step.ensures.draws);
+      same = record { reference = same.reference ∙ was.same.reference; config = same.config ∙ was.same.config };
+      drawn = drawn-next c.args.steps.now c.loop-step.step-index _ c.loop-step-test.true was.drawn was.same.config c.in_ok-draw_step.ensures.draws;
     }
