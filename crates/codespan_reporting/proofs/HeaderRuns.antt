@@ -40,6 +40,7 @@ kept true x y ys zs later h =
     (Contains-append_cases (y ∷ []) zs x h)
 kept false x y ys zs later h = Contains-append_right (y ∷ []) ys x (later h)
 
+-- what is left of a list was in it
 unfiltered : {X : Type 0} (p : X → Bool) (x : X) (ys : List X) → Contains (filter p ys) x → Contains ys x
 unfiltered p x [] m = m
 unfiltered p x (y ∷ ys) m = kept (p y) x y ys (filter p ys) (unfiltered p x ys) m
@@ -49,10 +50,12 @@ any_there : {X : Type 0} (xs : List X) (x : X) (ys : List X) → has_any (xs ++ 
 any_there [] x ys = refl
 any_there (w ∷ xs) x ys = refl
 
+-- a list that has none is empty
 none_there : {X : Type 0} (xs : List X) → has_any xs ≡ false → xs ≡ []
 none_there [] h = refl
 none_there (x ∷ xs) h = cc
 
+-- two lists have one where either has
 has_any-append : {X : Type 0} (xs ys : List X) → has_any (xs ++ ys) ≡ (has_any xs || has_any ys)
 has_any-append [] ys = refl
 has_any-append (x ∷ xs) ys = refl
@@ -94,19 +97,23 @@ primary_cut {Id} items i =
 
 -- ---- one label's lookups
 
+-- whether both lookups for a header are answered
 abbrev is_answered : {Id : Type 0} → Refusals Id → InFile Id → Bool
 is_answered refusal x = is_none (refusal x.id Name) && is_none (refusal x.id (LocationAt x.label.start))
 
+-- where the two refuse nothing, each is answered
 both_answered : (o p : Option Error) → or_refusal o (or_refusal p None) ≡ None → (is_none o && is_none p) ≡ true
 both_answered None None h = refl
 both_answered None (Some e) h = cc
 both_answered (Some e) p h = cc
 
+-- where one of the two refuses, not both are answered
 one_refused : (o p : Option Error) (e : Error) → or_refusal o (or_refusal p None) ≡ Some e → (is_none o && is_none p) ≡ false
 one_refused None None e h = cc
 one_refused None (Some x) e h = refl
 one_refused (Some x) p e h = refl
 
+-- where the two refuse nothing, neither does
 none_first : (o p : Option Error) → or_refusal o p ≡ None → (o ≡ None) × (p ≡ None)
 none_first None p h = (refl, h)
 none_first (Some x) p h = cc
@@ -164,6 +171,7 @@ module _ {Id : Type 0} (config : Config) (file : Id → FileModel) (d : Diagnost
   abbrev headed : List (InFile Id) → Stream
   headed xs = stream_of_rows look (map (header_at file (heading_of d)) xs)
 
+  -- those of some labels, and then of others
   headed-append : (xs ys : List (InFile Id)) → headed (xs ++ ys) ≡ headed xs ++ headed ys
   headed-append xs ys =
       ap (stream_of_rows look) (map-append (header_at file (heading_of d)) xs ys)
@@ -173,6 +181,7 @@ module _ {Id : Type 0} (config : Config) (file : Id → FileModel) (d : Diagnost
   abbrev placed : List Place → Stream
   placed ps = stream_of_rows look (placed_headers (heading_of d) ps)
 
+  -- those of some places, and then of others
   placed-append : (ps qs : List Place) → placed (ps ++ qs) ≡ placed ps ++ placed qs
   placed-append ps qs =
       ap (stream_of_rows look) (map-append (λ (p : Place). HeaderRow (Some p) (heading_of d)) ps qs)
@@ -411,7 +420,7 @@ module _ {Id : Type 0} {config : Config} {file : Id → FileModel} {refusal : Re
     headers = λ named told of.
         let here_refused : is_answered refusal w.here ≡ false = one_refused _ _ e (stop.told of.no_memory of.no_display) in
         let run : take_while (is_answered refusal) (causes d) ≡ w.before =
-            ap (take_while (is_answered refusal)) (sym w.whole) ∙ run_before refusal w.before w.here w.after w.came.answered here_refused in
+        ap (take_while (is_answered refusal)) (sym w.whole) ∙ run_before refusal w.before w.here w.after w.came.answered here_refused in
         stop.same ∙ came_before named told ∙ ap (λ (xs : List (InFile Id)). sent old (headed config file d xs)) (sym run);
   }
     where
@@ -466,7 +475,8 @@ module _ {Id : Type 0} {config : Config} {file : Id → FileModel} {refusal : Re
       came.came told ∙ ap (λ (ps : List Place). sent old (placed config file d ps)) nowhere ∙ sent-nil old
 
   -- then a header without a place was sent
-  pub bare_header : {same : Id → Id → Bool} {new : Sink} (r : Result (Unit {0}) Error) → has_any (causes d) ≡ false → Sends mid (header config file d None) r new → IfErr r IsIo → DrawsSo same r new
+  pub bare_header : {same : Id → Id → Bool} {new : Sink} (r : Result (Unit {0}) Error) → has_any (causes d) ≡ false → Sends mid (header config file d None) r new → IfErr r IsIo
+      → DrawsSo same r new
   bare_header {new = new} (Ok x) none sends io = record {
     drawn = record {
       frame = sends.0 ∙ came.frame;
@@ -526,7 +536,8 @@ module _ {Id : Type 0} {config : Config} {same : Id → Id → Bool} {file : Id 
       sends.1 (ap is_told is ∙ is_told-sent old before ∙ told) ∙ ap (λ (y : Sink). sent y notes) is ∙ sym (sent-append old before notes)
 
   -- the notes were sent after them, by an equal configuration
-  pub medium_sent : {now : Config} {new : Sink} (r : Result (Unit {0}) Error) → now ≡ config → Sends mid (noted now file d) r new → IfErr r IsIo → DrawsShort config same file refusal d Medium old r new
+  pub medium_sent : {now : Config} {new : Sink} (r : Result (Unit {0}) Error) → now ≡ config → Sends mid (noted now file d) r new → IfErr r IsIo
+      → DrawsShort config same file refusal d Medium old r new
   medium_sent {now} {new} r alike sends io = by r (sends_at (λ (k : Config). noted k file d) alike mid new r sends) io
     where
       by : (r : Result (Unit {0}) Error) → Sends mid notes r new → IfErr r IsIo → DrawsShort config same file refusal d Medium old r new
@@ -537,10 +548,11 @@ module _ {Id : Type 0} {config : Config} {same : Id → Id → Bool} {file : Id 
           answered = drawn.drawn.answered;
           by_names = λ told.
               let by_names = drawn.drawn.by_names told in
+              let rows = placed_header_rows (heading_of d) by_names.places in
               record {
                 places = by_names.places;
                 are = by_names.are;
-                holds = notes_came (stream_of_rows (look config file d) (placed_header_rows (heading_of d) by_names.places)) sends by_names.holds told ∙ ap (sent old) (sym (noted-after config file d (placed_header_rows (heading_of d) by_names.places)));
+                holds = notes_came (stream_of_rows (look config file d) rows) sends by_names.holds told ∙ ap (sent old) (sym (noted-after config file d rows));
               };
         };
         headers = λ named told. tt;

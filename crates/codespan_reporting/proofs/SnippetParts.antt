@@ -103,10 +103,14 @@ module _ {F Id : Type 0} {file : F → Id → FileModel} {refusal : F → Refusa
       let start : IsAsking None s (stream (start_rows snippet)) (Ok tt) t = asking_of_sends (Ok tt) came tt in
       whole-drawn (Err e) (asking_cut None (stream (end_rows snippet is_followed)) (asking_then start lines))
 
-  -- all lines came, and then the last row, by an equal configuration
-  pub snippet-drawn : (s v : Sink) {by : Config} {t u : Sink} (r : Result (Unit {0}) Error) → Came s (stream (start_rows snippet)) t → DrawsLines t (Ok tt) u
-      → by ≡ config → Sends u (stream_of_rows (look_by by) (end_rows snippet is_followed)) r v → IfErr r IsIo → DrawsWhole s r v
-  snippet-drawn s v {t = t} {u = u} r came lines alike sends io =
+  -- the row after it was drawn, by an equal configuration
+  pub end-drawn : {by : Config} {s t : Sink} (r : Result (Unit {0}) Error) → by ≡ config → Sends s (stream_of_rows (look_by by) (end_rows snippet is_followed)) r t → IfErr r IsIo
+      → IsAsking None s (stream (end_rows snippet is_followed)) r t
+  end-drawn {s = s} {t = t} r alike sends io = asking_of_sends r (sends_at (λ (k : Config). stream_of_rows (look_by k) (end_rows snippet is_followed)) alike s t r sends) io
+
+  -- all lines came, and then that row
+  pub snippet-drawn : (s : Sink) {t u v : Sink} {r : Result (Unit {0}) Error} → Came s (stream (start_rows snippet)) t → DrawsLines t (Ok tt) u
+      → IsAsking None u (stream (end_rows snippet is_followed)) r v → DrawsWhole s r v
+  snippet-drawn s {t = t} {r = r} came lines end =
       let start : IsAsking None s (stream (start_rows snippet)) (Ok tt) t = asking_of_sends (Ok tt) came tt in
-      let end : Sends u (stream (end_rows snippet is_followed)) r v = sends_at (λ (k : Config). stream_of_rows (look_by k) (end_rows snippet is_followed)) alike u v r sends in
-      whole-drawn r (asking_then (asking_then start lines) (asking_of_sends r end io))
+      whole-drawn r (asking_then (asking_then start lines) end)

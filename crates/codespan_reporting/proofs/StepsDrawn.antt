@@ -62,21 +62,19 @@ module _ {F Id Name Source : Type 0} (file : F → Id → FileModel) (refusal : 
   asked-append xs ys =
       ap asked (flat_map-append asked_by xs ys) ∙ first_refusal-asked (refusal lines.page.now.files.now) lines.id (asked_by_all xs) (asked_by_all ys)
 
-  -- one step is drawn
-  drawn-one : (step : GivenStep) (s t : Sink) (r : Result (Unit {0}) Error) → DrawsOne step s r t → DrawsAll (step ∷ []) s r t
-  drawn-one step s t r draws =
-      let here : IsAsking (asked (asked_by step)) s (stream_of_rows look (rows_of_step f (lanes_given lines.lanes.now) (step_of step))) r t = record { draws = draws } in
-      record {
-        drawn = asking_as
-            (ap asked (sym (append-nil (asked_by step))))
-            (ap (stream_of_rows look) (sym (append-nil (rows_of_step f (lanes_given lines.lanes.now) (step_of step)))))
-            here;
-      }
-
 module _ {F Id Name Source : Type 0} {file : F → Id → FileModel} {refusal : F → Refusals Id} {lines : FileLines F Id Name Source} {config : Config} where
   -- nothing is drawn
   pub drawn-nothing : {s : Sink} → DrawsAll file refusal lines config [] s (Ok tt) s
   drawn-nothing = record { drawn = asking_nothing }
+
+  -- one step is drawn
+  drawn-one : {step : GivenStep} {s t : Sink} {r : Result (Unit {0}) Error} → DrawsOne file refusal lines config step s r t → DrawsAll file refusal lines config (step ∷ []) s r t
+  drawn-one {step} draws = record {
+    drawn = asking_as
+        (ap (asked file refusal lines config) (sym (append-nil (asked_by step))))
+        (ap (stream_of_rows (look file refusal lines config)) (sym (append-nil (rows_of_step (f file refusal lines config) (lanes_given lines.lanes.now) (step_of step)))))
+        (record { draws = draws });
+  }
 
   -- steps are drawn, and then others, however that ends
   drawn-then : {xs ys : List GivenStep} {s t u : Sink} {r : Result (Unit {0}) Error} → DrawsAll file refusal lines config xs s (Ok tt) t → DrawsAll file refusal lines config ys t r u
@@ -92,7 +90,7 @@ module _ {F Id Name Source : Type 0} {file : F → Id → FileModel} {refusal : 
   drawn-next whole i d {s = s} {t = t} {u = u} {r = r} inside before alike next =
       let step = get_or whole i d in
       let here = subst (λ (k : Config). DrawsOne file refusal lines k step t r u) alike next in
-      subst (λ (steps : List GivenStep). DrawsAll file refusal lines config steps s r u) (sym (take_more whole i d inside)) (drawn-then before (drawn-one file refusal lines config step t u r here))
+      subst (λ (steps : List GivenStep). DrawsAll file refusal lines config steps s r u) (sym (take_more whole i d inside)) (drawn-then before (drawn-one {step = step} here))
 
   -- the first steps were refused, and so all are
   pub drawn-cut : (whole : List GivenStep) (i : ℕ) {s t : Sink} {e : Error} → DrawsAll file refusal lines config (take i whole) s (Err e) t → DrawsAll file refusal lines config whole s (Err e) t

@@ -6,7 +6,7 @@ use Rattle.codespan_reporting.specs.declared.term.views.steps.Step.{Step}
 use Rattle.codespan_reporting.specs.Inner.GivenSteps.{IsStepOf, step_of}
 use Rattle.codespan_reporting.specs.Inner.StepDrawing.{DoFit}
 use Rattle.codespan_reporting.proofs.Askings.{asking_refused_before}
-use Rattle.codespan_reporting.proofs.SnippetParts.{IsOpen, lines-drawn, snippet-at_start, snippet-in_lines, snippet-drawn}
+use Rattle.codespan_reporting.proofs.SnippetParts.{IsOpen, end-drawn, lines-drawn, snippet-at_start, snippet-in_lines, snippet-drawn}
 use Rattle.codespan_reporting.proofs.term.views.snippets.draw_snippet.Goals as goal
 
 pub draw_steps-requires : goal.draw_steps-requires
@@ -42,5 +42,6 @@ returns-clause-draws g c =
     let first = c.in_ok-draw_start.ensures.same.config in
     let second = c.in_ok-draw_steps.ensures.same.config in
     let opened : IsOpen g.F.Files.file g.F.Files.refusal c.args.page.now c.args.snippet.now c.args.is_followed (config_of c.args.renderer.now) = record { answered = c.in_ok-source.ensures.refused } in
-    snippet-drawn opened _ _ c.draw_end.result c.in_ok-draw_start.ensures.sends
-    (lines-drawn opened c.as_slice.ensures.value c.deref.ensures.value first c.in_ok-draw_steps.ensures.draws) (second ∙ first) c.draw_end.ensures.sends c.draw_end.ensures.io
+    snippet-drawn opened _ c.in_ok-draw_start.ensures.sends
+    (lines-drawn opened c.as_slice.ensures.value c.deref.ensures.value first c.in_ok-draw_steps.ensures.draws)
+    (end-drawn opened c.draw_end.result (second ∙ first) c.draw_end.ensures.sends c.draw_end.ensures.io)
