@@ -530,17 +530,20 @@ module _ {Id : Type 0} {config : Config} {same : Id → Id → Bool} {file : Id 
   abbrev notes : Stream
   notes = noted config file d
 
+  -- the call draws in medium style
+  abbrev DrawsMedium : Result (Unit {0}) Error → Sink → Type 0
+  DrawsMedium r new = DrawsShort config same file refusal d Medium old r new
+
   -- the writer has a stream, and then is sent the notes
   notes_came : (before : Stream) {new : Sink} → Sends {E = Error} mid notes (Ok tt) new → mid ≡ sent old before → is_told old ≡ true → new ≡ sent old (before ++ notes)
   notes_came before sends is told =
       sends.1 (ap is_told is ∙ is_told-sent old before ∙ told) ∙ ap (λ (y : Sink). sent y notes) is ∙ sym (sent-append old before notes)
 
   -- the notes were sent after them, by an equal configuration
-  pub medium_sent : {now : Config} {new : Sink} (r : Result (Unit {0}) Error) → now ≡ config → Sends mid (noted now file d) r new → IfErr r IsIo
-      → DrawsShort config same file refusal d Medium old r new
+  pub medium_sent : {now : Config} {new : Sink} (r : Result (Unit {0}) Error) → now ≡ config → Sends mid (noted now file d) r new → IfErr r IsIo → DrawsMedium r new
   medium_sent {now} {new} r alike sends io = by r (sends_at (λ (k : Config). noted k file d) alike mid new r sends) io
     where
-      by : (r : Result (Unit {0}) Error) → Sends mid notes r new → IfErr r IsIo → DrawsShort config same file refusal d Medium old r new
+      by : (r : Result (Unit {0}) Error) → Sends mid notes r new → IfErr r IsIo → DrawsMedium r new
       by (Ok x) sends io = record {
         drawn = record {
           frame = sends.0 ∙ drawn.drawn.frame;
