@@ -69,6 +69,16 @@ module _ {F Id : Type 0} {file : F → Id → FileModel} {refusal : F → Refusa
   abbrev asked : List Step → Option Error
   asked steps = first_refusal (refusal page.files.now) (asked_of snippet.file.now.id (asked_by_all steps))
 
+  -- the streams of its first rows, of its lines, and of the row after it
+  abbrev at_start : Stream
+  at_start = stream (start_rows snippet)
+
+  abbrev in_lines : Stream
+  in_lines = stream line_rows
+
+  abbrev at_end : Stream
+  at_end = stream (end_rows snippet is_followed)
+
   -- a call draws all of it, and makes all its lookups
   abbrev DrawsWhole : Sink → Result (Unit {0}) Error → Sink → Type 0
   DrawsWhole s r t =
@@ -76,11 +86,11 @@ module _ {F Id : Type 0} {file : F → Id → FileModel} {refusal : F → Refusa
 
   -- a call draws its lines, and makes their lookups
   abbrev DrawsLines : Sink → Result (Unit {0}) Error → Sink → Type 0
-  DrawsLines s r t = IsAsking (asked snippet.steps.items) s (stream line_rows) r t
+  DrawsLines s r t = IsAsking (asked snippet.steps.items) s in_lines r t
 
   -- its first rows, its lines and the row after it, one after another
   whole-drawn : {s t : Sink} (r : Result (Unit {0}) Error)
-      → IsAsking (or_refusal (asked snippet.steps.items) None) s (stream (start_rows snippet) ++ stream line_rows ++ stream (end_rows snippet is_followed)) r t → DrawsWhole s r t
+      → IsAsking (or_refusal (asked snippet.steps.items) None) s (at_start ++ in_lines ++ at_end) r t → DrawsWhole s r t
   whole-drawn r parts =
       let whole = asking_as (or_refusal-none (asked snippet.steps.items)) (sym (rows-three (look_by config) (start_rows snippet) line_rows (end_rows snippet is_followed))) parts in
       (asking_after opened.answered whole).draws
@@ -92,25 +102,25 @@ module _ {F Id : Type 0} {file : F → Id → FileModel} {refusal : F → Refusa
   lines-drawn own all alike drawn = asking_as (ap asked all) (λ i. stream_of_rows (look_by (alike i)) (rows_with (own i) (all i))) (record { draws = drawn })
 
   -- the first rows were cut short
-  pub snippet-at_start : {s t : Sink} {e : Error} → Sends s (stream (start_rows snippet)) (Err e) t → IsIo e → DrawsWhole s (Err e) t
+  pub snippet-at_start : {s t : Sink} {e : Error} → Sends s at_start (Err e) t → IsIo e → DrawsWhole s (Err e) t
   snippet-at_start {s} {t} {e} sends io =
-      let start : IsAsking None s (stream (start_rows snippet)) (Err e) t = asking_of_sends (Err e) sends io in
-      whole-drawn (Err e) (asking_cut None (stream (end_rows snippet is_followed)) (asking_cut (asked snippet.steps.items) (stream line_rows) start))
+      let start : IsAsking None s at_start (Err e) t = asking_of_sends (Err e) sends io in
+      whole-drawn (Err e) (asking_cut None at_end (asking_cut (asked snippet.steps.items) in_lines start))
+
+  -- the first rows came
+  start-drawn : (s : Sink) {t : Sink} → Came s at_start t → IsAsking None s at_start (Ok tt) t
+  start-drawn s came = asking_of_sends (Ok tt) came tt
 
   -- the lines were cut short
-  pub snippet-in_lines : {s t u : Sink} {e : Error} → Came s (stream (start_rows snippet)) t → DrawsLines t (Err e) u → DrawsWhole s (Err e) u
-  snippet-in_lines {s} {t} {u} {e} came lines =
-      let start : IsAsking None s (stream (start_rows snippet)) (Ok tt) t = asking_of_sends (Ok tt) came tt in
-      whole-drawn (Err e) (asking_cut None (stream (end_rows snippet is_followed)) (asking_then start lines))
+  pub snippet-in_lines : {s t u : Sink} {e : Error} → Came s at_start t → DrawsLines t (Err e) u → DrawsWhole s (Err e) u
+  snippet-in_lines {s} {e = e} came lines = whole-drawn (Err e) (asking_cut None at_end (asking_then (start-drawn s came) lines))
 
   -- the row after it was drawn, by an equal configuration
   pub end-drawn : {by : Config} {s t : Sink} (r : Result (Unit {0}) Error) → by ≡ config → Sends s (stream_of_rows (look_by by) (end_rows snippet is_followed)) r t → IfErr r IsIo
-      → IsAsking None s (stream (end_rows snippet is_followed)) r t
+      → IsAsking None s at_end r t
   end-drawn {s = s} {t = t} r alike sends io = asking_of_sends r (sends_at (λ (k : Config). stream_of_rows (look_by k) (end_rows snippet is_followed)) alike s t r sends) io
 
   -- all lines came, and then that row
-  pub snippet-drawn : (s : Sink) {t u v : Sink} {r : Result (Unit {0}) Error} → Came s (stream (start_rows snippet)) t → DrawsLines t (Ok tt) u
-      → IsAsking None u (stream (end_rows snippet is_followed)) r v → DrawsWhole s r v
-  snippet-drawn s {t = t} {r = r} came lines end =
-      let start : IsAsking None s (stream (start_rows snippet)) (Ok tt) t = asking_of_sends (Ok tt) came tt in
-      whole-drawn r (asking_then (asking_then start lines) end)
+  pub snippet-drawn : (s : Sink) {t u v : Sink} {r : Result (Unit {0}) Error} → Came s at_start t → DrawsLines t (Ok tt) u
+      → IsAsking None u at_end r v → DrawsWhole s r v
+  snippet-drawn s {r = r} came lines end = whole-drawn r (asking_then (asking_then (start-drawn s came) lines) end)
