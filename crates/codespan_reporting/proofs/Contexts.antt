@@ -6,21 +6,20 @@ use Rattle.std.proofs.lemmas.Bool.{le-leb, lt-leb, lt-ltb, cases_Bool, cases_lt}
 use borrow.Author.Tests.{le-ltb}
 use Rattle.std.proofs.lemmas.Grind.{common_steps, flat_map-append}
 use Rattle.std.proofs.lemmas.List.{append-nil, map-append}
-use Rattle.codespan_base.specs.declared.term.config.Config.{Config}
 use Rattle.codespan_base.specs.declared.files.Error.{Error}
 use Rattle.codespan_base.specs.declared.files.Error.TheVariants.{FileMissing, IndexTooLarge, LineTooLarge, ColumnTooLarge, InvalidCharBoundary, Io, FormatError, OutOfMemory}
-use Rattle.codespan_base.specs.FileModel.{FileModel, IsLawful, Lookup, RefusesPastEnd, TellsPastEnd, line_count, or_refusal}
+use Rattle.codespan_base.specs.FileModel.{IsLawful, Lookup, RefusesPastEnd, TellsPastEnd, line_count, or_refusal}
 use Rattle.codespan_base.specs.FileModel.Lookup.{LineRange, LineNumber}
-use Rattle.codespan_base.specs.Labels.{Labelled, first_line, last_line}
+use Rattle.codespan_base.specs.Labels.{first_line, last_line}
 use Rattle.codespan_base.specs.Lemmas.Lines.{lines_have_indices, lines_within_text}
-use Rattle.codespan_reporting.specs.declared.term.views.gather.LabelPlace.{LabelPlace}
+use Rattle.codespan_reporting.specs.Inner.AskedLabels.{AskedLabel, AsksFor, FindsLine, FindsLines, HasAskedLine, MakesRoom, MakesRoomForLine, lines_refusal, refusal_on}
 use Rattle.codespan_reporting.specs.Inner.Entries.{Entry, entries_of, line_entries}
 use Rattle.codespan_reporting.specs.declared.term.views.entry.Entry.{Entry as GivenEntry}
 use Rattle.codespan_reporting.specs.declared.term.views.gather.FoundLines.{FoundLines}
 use Rattle.codespan_reporting.specs.Inner.FileLookups.{refusal_in}
-use Rattle.codespan_reporting.specs.Inner.GivenEntries.{Adds, entries_on, lookups_on}
+use Rattle.codespan_reporting.specs.Inner.GivenEntries.{AddsOf, IsLineOf, entries_on, lookups_on}
 use Rattle.codespan_reporting.specs.Inner.SpannedDigits.{digits_on, label_digits}
-use Rattle.codespan_picture.specs.Lookups.{Refusals, asked_lines, asked_of, ends_context, first_refusal, is_around, is_asked, line_refusal, of_line, probe}
+use Rattle.codespan_picture.specs.Lookups.{asked_lines, asked_of, ends_context, first_refusal, is_around, is_asked, line_refusal, of_line, probe}
 use Rattle.codespan_picture.specs.Padding.{digit_count, spans, spans_line}
 use Rattle.codespan_laws.proofs.CaretLemmas.{range_with_len-append}
 use Rattle.codespan_laws.proofs.Greatest.{greatest-append}
@@ -87,154 +86,159 @@ below_both s e b a l low high = grind (arith, common_steps)
 near_after : (s e b a l : ℕ) → s < l → e < l → is_near s e b a l ≡ true → l ≤ e + a
 near_after s e b a l low high near = grind (arith, common_steps)
 
-module _ {Id : Type 0} (refusal : Refusals Id) (id : Id) (config : Config) (f : FileModel) (x : Labelled) where
+module _ {Id : Type 0} (x : AskedLabel Id) where
+  -- what an entry of the label's file is
+  abbrev IsOwn : GivenEntry → Type 0
+  IsOwn e = IsLineOf x.file e.line
+
   -- what some lookups of the file are refused with
   abbrev refused : List Lookup → Option Error
-  refused = refusal_in refusal id
+  refused = refusal_in x.refusal x.id
 
   -- what is said of the lines below this one
-  abbrev pub entries_below : LabelPlace → ℕ → List Entry
-  entries_below at n = flat_map (entries_on config f x at) (range_with_len 0 n)
+  abbrev entries_below : ℕ → List Entry
+  entries_below n = flat_map (entries_on x.config x.file x.label x.at) (range_with_len 0 n)
 
   -- what is asked of them
-  abbrev pub lookups_below : ℕ → List Lookup
-  lookups_below n = flat_map (lookups_on config f x) (range_with_len 0 n)
+  abbrev lookups_below : ℕ → List Lookup
+  lookups_below n = flat_map (lookups_on x.config x.file x.label) (range_with_len 0 n)
 
   -- the digits of those that it spans
-  abbrev pub digits_below : ℕ → List ℕ
-  digits_below n = flat_map (digits_on f x) (range_with_len 0 n)
-
-  -- all that is asked for
-  abbrev pub all_lookups : List Lookup
-  all_lookups = flat_map of_line (asked_lines config f x) ++ probe config f (refusal id) x
+  abbrev digits_below : ℕ → List ℕ
+  digits_below n = flat_map (digits_on x.file x.label) (range_with_len 0 n)
 
   -- a line that is not asked for gives nothing
-  no_entries : (at : LabelPlace) (l : ℕ) → is_asked config f x l ≡ false → entries_on config f x at l ≡ []
-  no_entries at l skipped = ap (λ (b : Bool). if b then line_entries config f at x l else []) skipped
+  no_entries : (l : ℕ) → is_asked x.config x.file x.label l ≡ false → entries_on x.config x.file x.label x.at l ≡ []
+  no_entries l skipped = ap (λ (b : Bool). if b then line_entries x.config x.file x.at x.label l else []) skipped
 
-  no_lookups : (l : ℕ) → is_asked config f x l ≡ false → lookups_on config f x l ≡ []
+  no_lookups : (l : ℕ) → is_asked x.config x.file x.label l ≡ false → lookups_on x.config x.file x.label l ≡ []
   no_lookups l skipped = ap (λ (b : Bool). if b then of_line l else []) skipped
 
   -- a line that is asked for has its lookups
-  some_lookups : (l : ℕ) → is_asked config f x l ≡ true → lookups_on config f x l ≡ of_line l
+  some_lookups : (l : ℕ) → is_asked x.config x.file x.label l ≡ true → lookups_on x.config x.file x.label l ≡ of_line l
   some_lookups l asked = ap (λ (b : Bool). if b then of_line l else []) asked
 
   -- lookups that are answered, and others after them
   answered_then : (ls ms : List Lookup) → refused ls ≡ None → refused (ls ++ ms) ≡ refused ms
-  answered_then ls ms none = ap (first_refusal refusal) (map-append (λ l. (id, l)) ls ms) ∙ first_refusal-none refusal (asked_of id ls) (asked_of id ms) none
+  answered_then ls ms none = ap (first_refusal x.refusal) (map-append (λ l. (x.id, l)) ls ms) ∙ first_refusal-none x.refusal (asked_of x.id ls) (asked_of x.id ms) none
 
   -- lookups that are refused, and others after them
   refused_then : (ls ms : List Lookup) (e : Error) → refused ls ≡ Some e → refused (ls ++ ms) ≡ Some e
-  refused_then ls ms e some = ap (first_refusal refusal) (map-append (λ l. (id, l)) ls ms) ∙ first_refusal-some refusal (asked_of id ls) (asked_of id ms) e some
+  refused_then ls ms e some = ap (first_refusal x.refusal) (map-append (λ l. (x.id, l)) ls ms) ∙ first_refusal-some x.refusal (asked_of x.id ls) (asked_of x.id ms) e some
 
   -- a line that is not asked for is not spanned
-  no_digits : (l : ℕ) → is_asked config f x l ≡ false → digits_on f x l ≡ []
-  no_digits l skipped = ap (λ (b : Bool). if b then digit_count (f.number l) ∷ [] else []) (neither (spans f x l) (is_around config (first_line f x) (last_line f x) l) skipped)
+  no_digits : (l : ℕ) → is_asked x.config x.file x.label l ≡ false → digits_on x.file x.label l ≡ []
+  no_digits l skipped = ap (λ (b : Bool). if b then digit_count (x.file.number l) ∷ [] else []) (neither (spans x.file x.label l) (is_around x.config (first_line x.file x.label) (last_line x.file x.label) l) skipped)
     where
       neither : (a b : Bool) → (a || b) ≡ false → a ≡ false
       neither false b h = refl
       neither true b h = h
 
+  -- the file has the lines that the label starts and ends on
+  pub record HasEnds : Type 0 where
+    pub first : first_line x.file x.label < line_count x.file
+    pub last : last_line x.file x.label < line_count x.file
+
   -- the lines below this one are done with: the file has them, what the label says of them is there, those that it spans have room, and
   -- no lookup was refused
-  pub record GathersLines (P : GivenEntry → Type 0) (at : LabelPlace) (old new : FoundLines) (n : ℕ) : Type 0 where
-    pub within : n ≤ line_count f
-    pub added : Adds P old.entries.items new.entries.items (entries_below at n)
+  pub record GathersLines (old new : FoundLines) (n : ℕ) : Type 0 where
+    pub within : n ≤ line_count x.file
+    pub added : AddsOf x.file old.entries.items new.entries.items (entries_below n)
     pub counted : new.padding ≡ fold max old.padding (digits_below n)
     pub answered : refused (lookups_below n) ≡ None
 
   -- all lines are done with
-  pub record GathersLabel (P : GivenEntry → Type 0) (at : LabelPlace) (old new : FoundLines) : Type 0 where
-    pub added : Adds P old.entries.items new.entries.items (entries_of config f at x)
-    pub counted : new.padding ≡ fold max old.padding (label_digits f x)
-    pub answered : refused all_lookups ≡ None
+  pub record GathersLabel (old new : FoundLines) : Type 0 where
+    pub added : FindsLines x old new
+    pub counted : MakesRoom x old new
+    pub answered : lines_refusal x ≡ None
 
-  module _ (P : GivenEntry → Type 0) (at : LabelPlace) where
-    -- no line below the first one that is near enough
-    pub gathered-start : (xs : FoundLines) (n : ℕ) → last_line f x < line_count f → n ≤ last_line f x → n ≤ first_line f x - config.before_label_lines
-        → GathersLines P at xs xs n
-    gathered-start xs n inside low far = record {
-      within = omega arith;
-      added = Adds-as P xs.entries.items xs.entries.items [] _ (gives_none (entries_on config f x at) 0 n (λ l _ high. no_entries at l (too_far l (omega arith)))) (Adds-none P xs.entries.items);
-      counted = sym (ap (fold max xs.padding) (gives_none (digits_on f x) 0 n (λ l _ high. no_digits l (too_far l (omega arith)))));
-      answered = ap refused (gives_none (lookups_on config f x) 0 n (λ l _ high. no_lookups l (too_far l (omega arith))));
-    }
-      where
-        too_far : (l : ℕ) → l < n → is_asked config f x l ≡ false
-        too_far l below = below_both (first_line f x) (last_line f x) config.before_label_lines config.after_label_lines l (omega arith) (omega arith)
+module _ {Id : Type 0} {x : AskedLabel Id} where
+  -- no line below the first one that is near enough
+  pub gathered-start : {xs : FoundLines} {n : ℕ} → HasEnds x → n ≤ last_line x.file x.label → n ≤ first_line x.file x.label - x.config.before_label_lines
+      → GathersLines x xs xs n
+  gathered-start {xs} {n} there low far = record {
+    within = omega (arith, there.last);
+    added = Adds-as (IsOwn x) xs.entries.items xs.entries.items [] _ (gives_none (entries_on x.config x.file x.label x.at) 0 n (λ l _ high. no_entries x l (too_far l (omega arith)))) (Adds-none (IsOwn x) xs.entries.items);
+    counted = sym (ap (fold max xs.padding) (gives_none (digits_on x.file x.label) 0 n (λ l _ high. no_digits x l (too_far l (omega arith)))));
+    answered = ap (refused x) (gives_none (lookups_on x.config x.file x.label) 0 n (λ l _ high. no_lookups x l (too_far l (omega arith))));
+  }
+    where
+      too_far : (l : ℕ) → l < n → is_asked x.config x.file x.label l ≡ false
+      too_far l below = below_both (first_line x.file x.label) (last_line x.file x.label) x.config.before_label_lines x.config.after_label_lines l (omega arith) (omega arith)
 
+  module _ {xs ys : FoundLines} {n : ℕ} (g : GathersLines x xs ys n) where
     -- one more line
-    pub gathered-step : (xs ys zs : FoundLines) (n : ℕ) → first_line f x < line_count f → last_line f x < line_count f
-        → n ≤ max (last_line f x + config.after_label_lines) (first_line f x)
-        → GathersLines P at xs ys n → (is_asked config f x n ≡ true → n < line_count f) → Adds P ys.entries.items zs.entries.items (entries_on config f x at n)
-        → zs.padding ≡ fold max ys.padding (digits_on f x n) → refused (lookups_on config f x n) ≡ None
-        → GathersLines P at xs zs (n + 1)
-    gathered-step xs ys zs n first last near g inside adds counts none = record {
-      within = ⊎_elim (λ asked. let k = inside asked in omega arith) (λ skipped. further skipped) (cases_Bool (is_asked config f x n));
-      added = Adds-as P _ _ _ _ (gives_more (entries_on config f x at) n) (Adds-both P _ _ _ _ _ g.added adds);
-      counted = counts ∙ ap (λ k. fold max k (digits_on f x n)) g.counted ∙ sym (greatest-append xs.padding (digits_below n) (digits_on f x n)) ∙ sym (ap (fold max xs.padding) (gives_more (digits_on f x) n));
-      answered = ap refused (gives_more (lookups_on config f x) n) ∙ answered_then (lookups_below n) (lookups_on config f x n) g.answered ∙ none;
+    pub gathered-step : {zs : FoundLines} → HasEnds x
+        → n ≤ max (last_line x.file x.label + x.config.after_label_lines) (first_line x.file x.label)
+        → HasAskedLine x n → FindsLine x ys zs n → MakesRoomForLine x ys zs n → refusal_on x n ≡ None
+        → GathersLines x xs zs (n + 1)
+    gathered-step there near inside adds counts none = record {
+      within = ⊎_elim (λ asked. let k = inside asked in omega arith) (λ skipped. further skipped) (cases_Bool (is_asked x.config x.file x.label n));
+      added = Adds-as (IsOwn x) _ _ _ _ (gives_more (entries_on x.config x.file x.label x.at) n) (Adds-both (IsOwn x) _ _ _ _ _ g.added adds);
+      counted = counts ∙ ap (λ k. fold max k (digits_on x.file x.label n)) g.counted ∙ sym (greatest-append xs.padding (digits_below x n) (digits_on x.file x.label n)) ∙ sym (ap (fold max xs.padding) (gives_more (digits_on x.file x.label) n));
+      answered = ap (refused x) (gives_more (lookups_on x.config x.file x.label) n) ∙ answered_then x (lookups_below x n) (lookups_on x.config x.file x.label n) g.answered ∙ none;
     }
       where
-        at_end : is_asked config f x n ≡ false → line_count f ≤ n → ⊥
+        at_end : is_asked x.config x.file x.label n ≡ false → line_count x.file ≤ n → ⊥
         at_end skipped past =
-            true≢false (sym (after_both (first_line f x) (last_line f x) config.before_label_lines config.after_label_lines n (omega arith) (omega arith) (omega arith)) ∙ skipped)
+            true≢false (sym (after_both (first_line x.file x.label) (last_line x.file x.label) x.config.before_label_lines x.config.after_label_lines n (omega (arith, there.first)) (omega (arith, there.last)) (omega (arith, there.first))) ∙ skipped)
 
-        further : is_asked config f x n ≡ false → n + 1 ≤ line_count f
-        further skipped = ⊎_elim (λ (h : n < line_count f). omega arith) (λ (h : line_count f ≤ n). absurd (at_end skipped h)) (cases_lt n (line_count f))
+        further : is_asked x.config x.file x.label n ≡ false → n + 1 ≤ line_count x.file
+        further skipped = ⊎_elim (λ (h : n < line_count x.file). omega arith) (λ (h : line_count x.file ≤ n). absurd (at_end skipped h)) (cases_lt n (line_count x.file))
 
     -- all that the label says
-    all_said : (n : ℕ) → n ≤ line_count f → ((l : ℕ) → n ≤ l → l < line_count f → is_asked config f x l ≡ false)
-        → (entries_of config f at x ≡ entries_below at n) × (flat_map of_line (asked_lines config f x) ≡ lookups_below n) × (label_digits f x ≡ digits_below n)
-    all_said n within skipped = (
-      gives_filtered (line_entries config f at x) (is_asked config f x) (range_with_len 0 (line_count f))
-          ∙ gives_same (entries_on config f x at) n (line_count f) within (λ l low high. no_entries at l (skipped l low high)),
-      gives_filtered of_line (is_asked config f x) (range_with_len 0 (line_count f))
-          ∙ gives_same (lookups_on config f x) n (line_count f) within (λ l low high. no_lookups l (skipped l low high)),
-      gives_same (digits_on f x) n (line_count f) within (λ l low high. no_digits l (skipped l low high)),
+    all_said : ((l : ℕ) → n ≤ l → l < line_count x.file → is_asked x.config x.file x.label l ≡ false)
+        → (entries_of x.config x.file x.at x.label ≡ entries_below x n) × (flat_map of_line (asked_lines x.config x.file x.label) ≡ lookups_below x n) × (label_digits x.file x.label ≡ digits_below x n)
+    all_said skipped = (
+      gives_filtered (line_entries x.config x.file x.at x.label) (is_asked x.config x.file x.label) (range_with_len 0 (line_count x.file))
+          ∙ gives_same (entries_on x.config x.file x.label x.at) n (line_count x.file) g.within (λ l low high. no_entries x l (skipped l low high)),
+      gives_filtered of_line (is_asked x.config x.file x.label) (range_with_len 0 (line_count x.file))
+          ∙ gives_same (lookups_on x.config x.file x.label) n (line_count x.file) g.within (λ l low high. no_lookups x l (skipped l low high)),
+      gives_same (digits_on x.file x.label) n (line_count x.file) g.within (λ l low high. no_digits x l (skipped l low high)),
     )
 
     -- the lines that are done with are all
-    gathered-up : (xs ys : FoundLines) (n : ℕ) → GathersLines P at xs ys n → entries_of config f at x ≡ entries_below at n → flat_map of_line (asked_lines config f x) ≡ lookups_below n
-        → label_digits f x ≡ digits_below n → probe config f (refusal id) x ≡ [] → GathersLabel P at xs ys
-    gathered-up xs ys n g said asked digits no_probe = record {
-      added = Adds-as P _ _ _ _ said g.added;
+    gathered-up : entries_of x.config x.file x.at x.label ≡ entries_below x n → flat_map of_line (asked_lines x.config x.file x.label) ≡ lookups_below x n
+        → label_digits x.file x.label ≡ digits_below x n → probe x.config x.file (x.refusal x.id) x.label ≡ [] → GathersLabel x xs ys
+    gathered-up said asked digits no_probe = record {
+      added = Adds-as (IsOwn x) _ _ _ _ said g.added;
       counted = g.counted ∙ sym (ap (fold max xs.padding) digits);
-      answered = ap refused (ap (λ (ls : List Lookup). flat_map of_line (asked_lines config f x) ++ ls) no_probe ∙ append-nil _ ∙ asked) ∙ g.answered;
+      answered = ap (refused x) (ap (λ (ls : List Lookup). flat_map of_line (asked_lines x.config x.file x.label) ++ ls) no_probe ∙ append-nil _ ∙ asked) ∙ g.answered;
     }
 
     -- the end of the lines that are near enough
-    gathered-end : (xs ys : FoundLines) (n : ℕ) → GathersLines P at xs ys n → first_line f x < n → last_line f x + config.after_label_lines < n
-        → GathersLabel P at xs ys
-    gathered-end xs ys n g first far =
-        let all = all_said n g.within (λ l low high. above_both (first_line f x) (last_line f x) config.before_label_lines config.after_label_lines l (omega arith) (omega arith)) in
-        let unreached : nat_le (line_count f) (last_line f x + config.after_label_lines) ≡ false = lt-leb _ _ (omega (arith, g.within)) in
-        let no_probe : probe config f (refusal id) x ≡ [] =
-        ap (λ (b : Bool). if b && not (ends_context (refusal id (LineRange (line_count f)))) then LineRange (line_count f) ∷ [] else []) unreached in
-        gathered-up xs ys n g all.0 all.1 all.2 no_probe
+    gathered-end : first_line x.file x.label < n → last_line x.file x.label + x.config.after_label_lines < n
+        → GathersLabel x xs ys
+    gathered-end first far =
+        let all = all_said (λ l low high. above_both (first_line x.file x.label) (last_line x.file x.label) x.config.before_label_lines x.config.after_label_lines l (omega arith) (omega arith)) in
+        let unreached : nat_le (line_count x.file) (last_line x.file x.label + x.config.after_label_lines) ≡ false = lt-leb _ _ (omega (arith, g.within)) in
+        let no_probe : probe x.config x.file (x.refusal x.id) x.label ≡ [] =
+        ap (λ (b : Bool). if b && not (ends_context (x.refusal x.id (LineRange (line_count x.file)))) then LineRange (line_count x.file) ∷ [] else []) unreached in
+        gathered-up all.0 all.1 all.2 no_probe
 
     -- the end of the file
-    pub gathered-context : (xs ys : FoundLines) (n : ℕ) → GathersLines P at xs ys n → line_count f ≤ n → ends_context (refusal id (LineRange n)) ≡ true
-        → GathersLabel P at xs ys
-    gathered-context xs ys n g past ends =
-        let here : n ≡ line_count f = omega (arith, g.within) in
-        let all = all_said n g.within (λ l low high. absurd (omega arith)) in
-        let ended : ends_context (refusal id (LineRange (line_count f))) ≡ true = ap (λ k. ends_context (refusal id (LineRange k))) (sym here) ∙ ends in
-        let no_probe : probe config f (refusal id) x ≡ [] =
-        ap (λ (b : Bool). if nat_le (line_count f) (last_line f x + config.after_label_lines) && not b then LineRange (line_count f) ∷ [] else []) ended
-        ∙ neither (nat_le (line_count f) (last_line f x + config.after_label_lines)) in
-        gathered-up xs ys n g all.0 all.1 all.2 no_probe
+    pub gathered-context : line_count x.file ≤ n → ends_context (x.refusal x.id (LineRange n)) ≡ true
+        → GathersLabel x xs ys
+    gathered-context past ends =
+        let here : n ≡ line_count x.file = omega (arith, g.within) in
+        let all = all_said (λ l low high. absurd (omega arith)) in
+        let ended : ends_context (x.refusal x.id (LineRange (line_count x.file))) ≡ true = ap (λ k. ends_context (x.refusal x.id (LineRange k))) (sym here) ∙ ends in
+        let no_probe : probe x.config x.file (x.refusal x.id) x.label ≡ [] =
+        ap (λ (b : Bool). if nat_le (line_count x.file) (last_line x.file x.label + x.config.after_label_lines) && not b then LineRange (line_count x.file) ∷ [] else []) ended
+        ∙ neither (nat_le (line_count x.file) (last_line x.file x.label + x.config.after_label_lines)) in
+        gathered-up all.0 all.1 all.2 no_probe
       where
-        neither : (b : Bool) → (if b && false then LineRange (line_count f) ∷ [] else []) ≡ []
+        neither : (b : Bool) → (if b && false then LineRange (line_count x.file) ∷ [] else []) ≡ []
         neither true = refl
         neither false = refl
 
     -- the end of all indices
-    gathered-whole : (xs ys : FoundLines) (n : ℕ) → GathersLines P at xs ys n → n ≡ 2 ^ 64 → IsLawful f → RefusesPastEnd f n (refusal id (LineRange n))
-        → GathersLabel P at xs ys
-    gathered-whole xs ys n g all law past_end =
-        let past : line_count f ≤ n = omega (arith, all, lines_have_indices f law) in
-        gathered-context xs ys n g past (too_large (refusal id (LineRange n)) ((past_end (is_there f.there refl)).1 past))
+    gathered-whole : n ≡ 2 ^ 64 → IsLawful x.file → RefusesPastEnd x.file n (x.refusal x.id (LineRange n))
+        → GathersLabel x xs ys
+    gathered-whole all law past_end =
+        let past : line_count x.file ≤ n = omega (arith, all, lines_have_indices x.file law) in
+        gathered-context past (too_large (x.refusal x.id (LineRange n)) ((past_end (is_there x.file.there refl)).1 past))
       where
         too_large : (o : Option Error) → TellsPastEnd o → ends_context o ≡ true
         too_large (Some (LineTooLarge given last)) h = refl
@@ -248,25 +252,25 @@ module _ {Id : Type 0} (refusal : Refusals Id) (id : Id) (config : Config) (f : 
         too_large (Some OutOfMemory) h = absurd h
 
         -- a file that is not there has one line
-        is_there : (b : Bool) → f.there ≡ b → f.there ≡ true
+        is_there : (b : Bool) → x.file.there ≡ b → x.file.there ≡ true
         is_there true there = there
         is_there false missing =
-            let none : length f.text ≡ 0 = ap length (law.missing_text missing) in
-            absurd (omega (arith, none, all, g.within, lines_within_text f law))
+            let none : length x.file.text ≡ 0 = ap length (law.missing_text missing) in
+            absurd (omega (arith, none, all, g.within, lines_within_text x.file law))
 
     -- the end of the context, or of all indices
-    pub gathered-reach : (xs ys : FoundLines) (n : ℕ) → GathersLines P at xs ys n → first_line f x < n → min (last_line f x + config.after_label_lines + 1) (2 ^ 64) ≤ n → n ≤ 2 ^ 64
-        → IsLawful f → RefusesPastEnd f n (refusal id (LineRange n)) → GathersLabel P at xs ys
-    gathered-reach xs ys n g first far below law past_end =
-        ⊎_elim (λ (h : last_line f x + config.after_label_lines < n). gathered-end xs ys n g first h)
-        (λ (h : n ≤ last_line f x + config.after_label_lines). gathered-whole xs ys n g (omega (arith, h, far, below)) law past_end)
-        (cases_lt (last_line f x + config.after_label_lines) n)
+    pub gathered-reach : first_line x.file x.label < n → min (last_line x.file x.label + x.config.after_label_lines + 1) (2 ^ 64) ≤ n → n ≤ 2 ^ 64
+        → IsLawful x.file → RefusesPastEnd x.file n (x.refusal x.id (LineRange n)) → GathersLabel x xs ys
+    gathered-reach first far below law past_end =
+        ⊎_elim (λ (h : last_line x.file x.label + x.config.after_label_lines < n). gathered-end first h)
+        (λ (h : n ≤ last_line x.file x.label + x.config.after_label_lines). gathered-whole (omega (arith, h, far, below)) law past_end)
+        (cases_lt (last_line x.file x.label + x.config.after_label_lines) n)
 
     -- a line whose lookups are refused
-    pub gathered-refused : (xs ys : FoundLines) (n : ℕ) (e : Error) → first_line f x < line_count f → last_line f x < line_count f → GathersLines P at xs ys n → is_asked config f x n ≡ true
-        → line_refusal f (refusal id) (last_line f x) n ≡ Some e → refused all_lookups ≡ Some e
-    gathered-refused xs ys n e first last g asked told =
-        ⊎_elim (λ (h : n < line_count f). before_end h) (λ (h : line_count f ≤ n). at_end (omega (arith, g.within))) (cases_lt n (line_count f))
+    pub gathered-refused : {e : Error} → HasEnds x → AsksFor x n
+        → line_refusal x.file (x.refusal x.id) (last_line x.file x.label) n ≡ Some e → lines_refusal x ≡ Some e
+    gathered-refused {e} there asked told =
+        ⊎_elim (λ (h : n < line_count x.file). before_end h) (λ (h : line_count x.file ≤ n). at_end (omega (arith, g.within))) (cases_lt n (line_count x.file))
       where
         -- the lookups of the line, from what the line is refused with
         by_line : (ends : Bool) (o p : Option Error) → (if ends then None else or_refusal o p) ≡ Some e → or_refusal o (or_refusal p None) ≡ Some e
@@ -275,19 +279,19 @@ module _ {Id : Type 0} (refusal : Refusals Id) (id : Id) (config : Config) (f : 
         by_line false None (Some y) h = h
         by_line false (Some y) p h = h
 
-        line_told : nat_lt n (line_count f) ≡ true → refused (of_line n) ≡ Some e
+        line_told : nat_lt n (line_count x.file) ≡ true → refused x (of_line n) ≡ Some e
         line_told inside =
-            by_line (nat_lt (last_line f x) n && ends_context (refusal id (LineRange n))) (refusal id (LineRange n)) (refusal id (LineNumber n))
-            (ap (λ (b : Bool). if nat_lt (last_line f x) n && ends_context (refusal id (LineRange n)) then None else or_refusal (refusal id (LineRange n)) (if b then refusal id (LineNumber n) else None)) (sym inside) ∙ told)
+            by_line (nat_lt (last_line x.file x.label) n && ends_context (x.refusal x.id (LineRange n))) (x.refusal x.id (LineRange n)) (x.refusal x.id (LineNumber n))
+            (ap (λ (b : Bool). if nat_lt (last_line x.file x.label) n && ends_context (x.refusal x.id (LineRange n)) then None else or_refusal (x.refusal x.id (LineRange n)) (if b then x.refusal x.id (LineNumber n) else None)) (sym inside) ∙ told)
 
-        before_end : n < line_count f → refused all_lookups ≡ Some e
+        before_end : n < line_count x.file → lines_refusal x ≡ Some e
         before_end h =
-            let upto : refused (lookups_below (n + 1)) ≡ Some e =
-            ap refused (gives_more (lookups_on config f x) n) ∙ answered_then (lookups_below n) (lookups_on config f x n) g.answered
-            ∙ ap refused (some_lookups n asked) ∙ line_told (lt-ltb n (line_count f) h) in
-            let whole : flat_map of_line (asked_lines config f x) ≡ lookups_below (n + 1) ++ flat_map (lookups_on config f x) (range_with_len (n + 1) (line_count f - (n + 1))) =
-            gives_filtered of_line (is_asked config f x) (range_with_len 0 (line_count f)) ∙ gives_split (lookups_on config f x) (n + 1) (line_count f) (omega arith) in
-            refused_then (flat_map of_line (asked_lines config f x)) (probe config f (refusal id) x) e (ap refused whole ∙ refused_then (lookups_below (n + 1)) _ e upto)
+            let upto : refused x (lookups_below x (n + 1)) ≡ Some e =
+            ap (refused x) (gives_more (lookups_on x.config x.file x.label) n) ∙ answered_then x (lookups_below x n) (lookups_on x.config x.file x.label n) g.answered
+            ∙ ap (refused x) (some_lookups x n asked) ∙ line_told (lt-ltb n (line_count x.file) h) in
+            let whole : flat_map of_line (asked_lines x.config x.file x.label) ≡ lookups_below x (n + 1) ++ flat_map (lookups_on x.config x.file x.label) (range_with_len (n + 1) (line_count x.file - (n + 1))) =
+            gives_filtered of_line (is_asked x.config x.file x.label) (range_with_len 0 (line_count x.file)) ∙ gives_split (lookups_on x.config x.file x.label) (n + 1) (line_count x.file) (omega arith) in
+            refused_then x (flat_map of_line (asked_lines x.config x.file x.label)) (probe x.config x.file (x.refusal x.id) x.label) e (ap (refused x) whole ∙ refused_then x (lookups_below x (n + 1)) _ e upto)
 
         -- the range alone, where the line is past the last one
         by_range : (after ends inside : Bool) (o p : Option Error) → after ≡ true → inside ≡ false → (if after && ends then None else or_refusal o (if inside then p else None)) ≡ Some e
@@ -297,17 +301,17 @@ module _ {Id : Type 0} (refusal : Refusals Id) (id : Id) (config : Config) (f : 
         by_range true false false o p t u h = (refl, h)
         by_range false ends inside o p t u h = cc
 
-        at_end : n ≡ line_count f → refused all_lookups ≡ Some e
+        at_end : n ≡ line_count x.file → lines_refusal x ≡ Some e
         at_end here =
-            let all = all_said n g.within (λ l low high. absurd (omega (arith, here))) in
-            let reach : n ≤ last_line f x + config.after_label_lines =
-            near_after (first_line f x) (last_line f x) config.before_label_lines config.after_label_lines n (omega (arith, here)) (omega (arith, here)) asked in
-            let parts = by_range (nat_lt (last_line f x) n) (ends_context (refusal id (LineRange n))) (nat_lt n (line_count f)) (refusal id (LineRange n)) (refusal id (LineNumber n))
-            (lt-ltb (last_line f x) n (omega (arith, here))) (le-ltb n (line_count f) (omega (arith, here))) told in
-            let probed : probe config f (refusal id) x ≡ LineRange n ∷ [] =
-            ap (λ (b : Bool). if b && not (ends_context (refusal id (LineRange (line_count f)))) then LineRange (line_count f) ∷ [] else [])
-            (le-leb (line_count f) (last_line f x + config.after_label_lines) (omega (arith, reach, here)))
-            ∙ ap (λ k. if not (ends_context (refusal id (LineRange k))) then LineRange k ∷ [] else []) (sym here)
+            let all = all_said (λ l low high. absurd (omega (arith, here))) in
+            let reach : n ≤ last_line x.file x.label + x.config.after_label_lines =
+            near_after (first_line x.file x.label) (last_line x.file x.label) x.config.before_label_lines x.config.after_label_lines n (omega (arith, here)) (omega (arith, here)) asked in
+            let parts = by_range (nat_lt (last_line x.file x.label) n) (ends_context (x.refusal x.id (LineRange n))) (nat_lt n (line_count x.file)) (x.refusal x.id (LineRange n)) (x.refusal x.id (LineNumber n))
+            (lt-ltb (last_line x.file x.label) n (omega (arith, here))) (le-ltb n (line_count x.file) (omega (arith, here))) told in
+            let probed : probe x.config x.file (x.refusal x.id) x.label ≡ LineRange n ∷ [] =
+            ap (λ (b : Bool). if b && not (ends_context (x.refusal x.id (LineRange (line_count x.file)))) then LineRange (line_count x.file) ∷ [] else [])
+            (le-leb (line_count x.file) (last_line x.file x.label + x.config.after_label_lines) (omega (arith, reach, here)))
+            ∙ ap (λ k. if not (ends_context (x.refusal x.id (LineRange k))) then LineRange k ∷ [] else []) (sym here)
             ∙ ap (λ (b : Bool). if not b then LineRange n ∷ [] else []) parts.0 in
-            answered_then (flat_map of_line (asked_lines config f x)) (probe config f (refusal id) x) (ap refused all.1 ∙ g.answered)
-            ∙ ap refused probed ∙ parts.1
+            answered_then x (flat_map of_line (asked_lines x.config x.file x.label)) (probe x.config x.file (x.refusal x.id) x.label) (ap (refused x) all.1 ∙ g.answered)
+            ∙ ap (refused x) probed ∙ parts.1
