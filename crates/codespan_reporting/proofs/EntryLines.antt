@@ -34,9 +34,13 @@ is_of_range start end e = says_range start end (single_of e.says)
 
 -- ---- the labels of a file among those of a diagnostic
 
-module _ {Id : Type 0} (same : Id → Id → Bool) (file : Id → FileModel) (config : Config)
-    (ids : List Id) (f : ℕ) (id : Id) (place : (i : Id) → (file_place same ids i == f) ≡ same id i)
-    (one_file : (i : Id) → same id i ≡ true → file i ≡ file id) (some_line : 0 < line_count (file id)) where
+-- a file has its place among those of a diagnostic: its id is equal to those that have the place, they name it, and it has a line
+pub record HasPlace {Id : Type 0} (same : Id → Id → Bool) (file : Id → FileModel) (ids : List Id) (f : ℕ) (id : Id) : Type 0 where
+  pub place : (i : Id) → (file_place same ids i == f) ≡ same id i
+  pub one_file : (i : Id) → same id i ≡ true → file i ≡ file id
+  pub some_line : 0 < line_count (file id)
+
+module _ {Id : Type 0} {same : Id → Id → Bool} {file : Id → FileModel} {ids : List Id} {f : ℕ} {id : Id} (here : HasPlace same file ids f id) (config : Config) where
   -- the file
   abbrev own_file : FileModel
   own_file = file id
@@ -53,7 +57,7 @@ module _ {Id : Type 0} (same : Id → Id → Bool) (file : Id → FileModel) (co
 
   -- a label is on lines that the file has
   ends-below : (x : Labelled) → (first_line own_file x < line_count own_file) × (last_line own_file x < line_count own_file)
-  ends-below x = (line_of-below own_file.starts x.start some_line, line_of-below own_file.starts x.end some_line)
+  ends-below x = (line_of-below own_file.starts x.start here.some_line, line_of-below own_file.starts x.end here.some_line)
 
   -- its entries of the file are of such lines
   pub entries-below : (xs before : List (InFile Id)) → AllByRecursion (λ e. is_of_file f e ≡ true → e.line < line_count own_file) (entries_after same file config ids before xs)
@@ -63,7 +67,7 @@ module _ {Id : Type 0} (same : Id → Id → Bool) (file : Id → FileModel) (co
       (entries_of config (file x.id) (place_after same ids before x) x.label) (entries_after same file config ids (before ++ x ∷ []) xs)
       (⊎_elim
       (λ (t : same id x.id ≡ true). all-weaker (λ e. e.line < line_count (file x.id)) (λ e. is_of_file f e ≡ true → e.line < line_count own_file)
-      (λ e h _. subst (λ m. e.line < line_count m) (one_file x.id t) h)
+      (λ e h _. subst (λ m. e.line < line_count m) (here.one_file x.id t) h)
       (entries_of config (file x.id) (place_after same ids before x) x.label)
       (all-below config (file x.id) (place_after same ids before x) x.label))
       (λ (t : same id x.id ≡ false). all-weaker (λ e. e.file ≡ file_place same ids x.id) (λ e. is_of_file f e ≡ true → e.line < line_count own_file)
@@ -74,7 +78,7 @@ module _ {Id : Type 0} (same : Id → Id → Bool) (file : Id → FileModel) (co
       (entries-below xs (before ++ x ∷ []))
     where
       other : (x : InFile Id) → same id x.id ≡ false → (e : Entry) → e.file ≡ file_place same ids x.id → is_of_file f e ≡ true → ⊥
-      other x t e h k = let both = sym k ∙ ap (λ i. i == f) h ∙ place x.id ∙ t in cc
+      other x t e h k = let both = sym k ∙ ap (λ i. i == f) h ∙ here.place x.id ∙ t in cc
 
   module _ (l : ℕ) where
     -- where a label of the file is after these
@@ -96,13 +100,13 @@ module _ {Id : Type 0} (same : Id → Id → Bool) (file : Id → FileModel) (co
     one-said before x =
         ⊎_elim
         (λ (t : same id x.id ≡ true).
-        let at : file_place same ids x.id ≡ f = eqb-true (file_place same ids x.id) f (place x.id ∙ t) in
+        let at : file_place same ids x.id ≡ f = eqb-true (file_place same ids x.id) f (here.place x.id ∙ t) in
         ap (filter (is_on_line l)) (filter-whole (is_of_file f) es (all-weaker (λ e. e.file ≡ file_place same ids x.id) (λ e. is_of_file f e ≡ true) (λ e h. eq-eqb e.file f (h ∙ at)) es of))
-        ∙ (λ i. filter (is_on_line l) (entries_of config (one_file x.id t i) (record { file = at i; place = length before }) x.label))
+        ∙ (λ i. filter (is_on_line l) (entries_of config (here.one_file x.id t i) (record { file = at i; place = length before }) x.label))
         ∙ entries-of_line config own_file (place_at before) x.label l
         ∙ sym (ap (λ b. cond (b && nat_lt l (line_count own_file)) (line_entries config own_file (place_at before) x.label l) []) t))
         (λ (t : same id x.id ≡ false).
-        ap (filter (is_on_line l)) (filter-nothing (is_of_file f) es (all-weaker (λ e. e.file ≡ file_place same ids x.id) (λ e. is_of_file f e ≡ false) (λ e h. ap (λ i. i == f) h ∙ place x.id ∙ t) es of))
+        ap (filter (is_on_line l)) (filter-nothing (is_of_file f) es (all-weaker (λ e. e.file ≡ file_place same ids x.id) (λ e. is_of_file f e ≡ false) (λ e h. ap (λ i. i == f) h ∙ here.place x.id ∙ t) es of))
         ∙ sym (ap (λ b. cond (b && nat_lt l (line_count own_file)) (line_entries config own_file (place_at before) x.label l) []) t))
         (cases_Bool (same id x.id))
       where

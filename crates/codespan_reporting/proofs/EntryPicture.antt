@@ -1,8 +1,6 @@
 -- From all entries of a diagnostic in order the walk makes, for each file, the rows of its snippet.
 use Rattle.std.proofs.Common.{◌≡◌, ℕ, suc, ◌+◌, ◌<◌, ◌≤◌, Bool, true, false, cond, ◌==◌, ◌&&◌, List, [], ◌∷◌, ◌++◌, drop, map, filter, reverse, Option, Some, None, refl, sym, ◌∙◌, ap, subst, arith, true≢false}
-use Rattle.std.specs.Cmp.{IsEquivalence}
 use Rattle.std.specs.List.{prefix_len, list_any, cons_option, range_with_len, AllByRecursion}
-use Rattle.std.specs.List.Sorted.{IsPermutation, IsSortedBy}
 use Rattle.std.proofs.lemmas.Bool.{eqb-true}
 use Rattle.std.proofs.lemmas.List.{append-nil}
 use Rattle.std.proofs.lemmas.List.Elements.{filter_map-append, filter_agree, recursion_from_All, All-from_recursion}
@@ -10,22 +8,26 @@ use Rattle.std.proofs.lemmas.List.Sorted.{All-permutation, list_any-IsPermutatio
 use Rattle.codespan_base.specs.declared.term.config.Config.{Config}
 use Rattle.codespan_base.specs.FileModel.{FileModel, line_count}
 use Rattle.codespan_base.specs.Labels.{Labelled, is_single, first_line, drawn_label, single_labels, sorted}
+use Rattle.codespan_reporting.specs.declared.term.views.gather.Gathered.{Gathered}
 use Rattle.codespan_reporting.specs.Inner.Entries.{Entry, Says, Shown, Single, kind_of, is_below, tells_shown, is_on_line, is_of_file}
+use Rattle.codespan_reporting.specs.Inner.GivenEntries.{entry_of}
+use Rattle.codespan_reporting.specs.Inner.GivenSheets.{IsGathered}
 use Rattle.codespan_reporting.specs.Inner.Lanes.{file_lanes}
 use Rattle.codespan_picture.specs.Lines as lines
 use Rattle.codespan_picture.specs.Lines.{drawn_lines}
 use Rattle.codespan_picture.specs.Lookups.{filled_lines}
-use Rattle.codespan_reporting.specs.Inner.PlacedLabels.{IsIdAt, file_place, all_entries}
+use Rattle.codespan_reporting.specs.Inner.PlacedLabels.{IsIdAt, all_entries}
 use Rattle.codespan_picture.specs.Snippets.{InFile, LabelledFile, labelled_file, line_at, drawing, rows_after, has_any, file_ids}
 use Rattle.codespan_reporting.specs.Inner.Steps.{without_shown, steps_of, single_of, singles_in, line_of_group, rows_of_steps, fills_of, lines_of_steps, does_step_fit}
 use Rattle.codespan_reporting.proofs.EntryGroups.{IsRising, steps_after, steps-by_line, all-on_line}
 use Rattle.codespan_reporting.proofs.EntryLines as entry_lines
-use Rattle.codespan_reporting.proofs.EntryLines.{says_range, is_of_range}
+use Rattle.codespan_reporting.proofs.EntryLines.{HasPlace, says_range, is_of_range}
 use Rattle.codespan_reporting.proofs.EntryOrder.{below_order, line_rises, IsOn, singles-ascend}
 use Rattle.codespan_reporting.proofs.FilePlaces.{file_place-at}
 use Rattle.codespan_reporting.proofs.LaneMarks.{lane_marks-on, file_lanes-count}
 use Rattle.codespan_laws.proofs.FillLemmas.{drawing_of_shown, none_past}
 use Rattle.codespan_reporting.proofs.LabelEntries.{is_kind}
+use Rattle.codespan_reporting.proofs.LabelPlaces.{AreFiles}
 use Rattle.codespan_laws.proofs.OrderSorts.{has_range, ascending-same, sorted-ascends, sorted-keeps}
 use Rattle.codespan_laws.proofs.SortedLists.{Rises, Falls, all-weaker, all-filter, all-both, all-pass, filter-filter, filter-reverse, any-filtered, reverse-cons, rises-filter, rises-from_sorted, filter-sorted_falls}
 use Rattle.codespan_renderer.specs.Inner.Sweeps.{starts_in_order}
@@ -105,14 +107,16 @@ lines-rise f (x ∷ xs) h a = (
 
 -- ---- the entries of a file
 
-module _ {Id : Type 0} (same : Id → Id → Bool) (file : Id → FileModel) (o : IsEquivalence same)
-    (one_file : (i j : Id) → same i j ≡ true → file i ≡ file j) (some_line : (i : Id) → 0 < line_count (file i))
-    (config : Config) (xs : List (InFile Id)) (entries : List Entry)
-    (perm : IsPermutation (all_entries same file config xs) entries) (up : IsSortedBy is_below entries)
+module _ {Id : Type 0} {same : Id → Id → Bool} {file : Id → FileModel} (table : AreFiles same file)
+    {config : Config} {xs : List (InFile Id)} {gathered : Gathered Id} (told : IsGathered same file config xs gathered)
     (f : ℕ) (id : Id) (at : IsIdAt (file_ids same xs) f id) where
   -- the entries as they were given
   abbrev all : List Entry
   all = all_entries same file config xs
+
+  -- the entries in order
+  abbrev entries : List Entry
+  entries = map entry_of gathered.entries.items
 
   -- the file with its labels
   abbrev s : LabelledFile
@@ -130,13 +134,13 @@ module _ {Id : Type 0} (same : Id → Id → Bool) (file : Id → FileModel) (o 
   abbrev own : ℕ → List Entry
   own l = without_shown (bucket l)
 
-  -- the file's place is that of its labels
-  place : (i : Id) → (file_place same (file_ids same xs) i == f) ≡ same id i
-  place = file_place-at same o xs f id at
-
-  -- equal ids name its model
-  model : (i : Id) → same id i ≡ true → file i ≡ file id
-  model i t = sym (one_file id i t)
+  -- the file has this place among those of the labels
+  here : HasPlace same file (file_ids same xs) f id
+  here = record {
+    place = file_place-at same table.equivalence xs f id at;
+    one_file = λ i t. sym (table.one_file id i t);
+    some_line = table.some_line id;
+  }
 
   -- its entries are of the file
   part-file : AllByRecursion (λ e. e.file ≡ f) part
@@ -144,14 +148,14 @@ module _ {Id : Type 0} (same : Id → Id → Bool) (file : Id → FileModel) (o 
 
   -- they are in order
   part-rises : Rises is_below part
-  part-rises = rises-filter is_below (is_of_file f) entries (rises-from_sorted is_below below_order entries up)
+  part-rises = rises-filter is_below (is_of_file f) entries (rises-from_sorted is_below below_order entries told.sorted)
 
   -- they are of lines that the file has
   part-below : AllByRecursion (λ e. e.line < line_count (file id)) part
   part-below =
       let IsInside : (e : Entry) → Type 0 = λ e. is_of_file f e ≡ true → e.line < line_count (file id) in
-      let given : AllByRecursion IsInside all = entry_lines.entries-below same file config (file_ids same xs) f id place model (some_line id) xs [] in
-      let whole : AllByRecursion IsInside entries = recursion_from_All IsInside entries (All-permutation IsInside all entries perm (All-from_recursion IsInside all given)) in
+      let given : AllByRecursion IsInside all = entry_lines.entries-below here config xs [] in
+      let whole : AllByRecursion IsInside entries = recursion_from_All IsInside entries (All-permutation IsInside all entries told.permutation (All-from_recursion IsInside all given)) in
       all-weaker (λ e. (is_of_file f e ≡ true) × IsInside e) (λ e. e.line < line_count (file id)) (λ e h. h.1 h.0) part
       (all-both (λ e. is_of_file f e ≡ true) IsInside part (all-pass (is_of_file f) entries) (all-filter IsInside (is_of_file f) entries whole))
 
@@ -177,11 +181,11 @@ module _ {Id : Type 0} (same : Id → Id → Bool) (file : Id → FileModel) (o 
 
   -- what the labels say of a line
   abbrev said : ℕ → List Entry
-  said l = entry_lines.said_after same file config (file_ids same xs) f id place model (some_line id) l [] xs
+  said l = entry_lines.said_after here config l [] xs
 
   -- the entries of a line as they were given
   given-said : (l : ℕ) → filter (is_on_line l) (filter (is_of_file f) all) ≡ said l
-  given-said l = entry_lines.all-said same file config (file_ids same xs) f id place model (some_line id) l xs []
+  given-said l = entry_lines.all-said here config l xs []
 
   -- ---- the labels of a line
 
@@ -199,27 +203,27 @@ module _ {Id : Type 0} (same : Id → Id → Bool) (file : Id → FileModel) (o 
       turned = reverse drawn
 
       from : List Entry
-      from = entry_lines.singles_from same file config (file_ids same xs) f id place model (some_line id) l 0 xs
+      from = entry_lines.singles_from here config l 0 xs
 
       given : (start end : ℕ) → filter (pick l (is_of_range start end)) all ≡ filter (is_of_range start end) from
       given start end =
           sym (picked l (is_of_range start end) all) ∙ ap (filter (is_of_range start end)) (given-said l)
           ∙ sym (range-kind start end (said l))
-          ∙ ap (filter (is_of_range start end)) (entry_lines.all-singles same file config (file_ids same xs) f id place model (some_line id) l xs [] 0 refl)
+          ∙ ap (filter (is_of_range start end)) (entry_lines.all-singles here config l xs [] 0 refl)
 
       falls : (start end : ℕ) → Falls is_below (filter (pick l (is_of_range start end)) all)
       falls start end =
-          subst (Falls is_below) (sym (given start end)) (entry_lines.singles-fall same file config (file_ids same xs) f id place model (some_line id) l start end 0 xs)
+          subst (Falls is_below) (sym (given start end)) (entry_lines.singles-fall here config l start end 0 xs)
 
       ranges : (start end : ℕ) → filter (has_range start end) (singles_in (bucket l)) ≡ filter (has_range start end) turned
       ranges start end =
           singles-of_range start end (bucket l)
           ∙ ap singles_in (picked l (is_of_range start end) entries
-          ∙ filter-sorted_falls is_below below_order all entries perm up (pick l (is_of_range start end)) (falls start end)
+          ∙ filter-sorted_falls is_below below_order all entries told.permutation told.sorted (pick l (is_of_range start end)) (falls start end)
           ∙ ap (λ (r : List Entry). reverse r) (given start end))
           ∙ singles-reverse (filter (is_of_range start end) from)
           ∙ ap (λ (r : List Labelled). reverse r) (sym (singles-of_range start end from)
-          ∙ ap (filter (has_range start end)) (entry_lines.singles-labels same file config (file_ids same xs) f id place model (some_line id) l 0 xs))
+          ∙ ap (filter (has_range start end)) (entry_lines.singles-labels here config l 0 xs))
           ∙ sym (filter-reverse (has_range start end) drawn)
 
   -- a line is drawn with what its labels do on it
@@ -236,9 +240,9 @@ module _ {Id : Type 0} (same : Id → Id → Bool) (file : Id → FileModel) (o 
   shown-is : (l : ℕ) → has_any (bucket l) ≡ is_shown l
   shown-is l =
       has_any-any (bucket l)
-      ∙ any-picked l (λ _. true) entries ∙ sym (list_any-IsPermutation (pick l (λ _. true)) all entries perm) ∙ sym (any-picked l (λ _. true) all)
+      ∙ any-picked l (λ _. true) entries ∙ sym (list_any-IsPermutation (pick l (λ _. true)) all entries told.permutation) ∙ sym (any-picked l (λ _. true) all)
       ∙ ap (list_any (λ _. true)) (given-said l)
-      ∙ entry_lines.any-said same file config (file_ids same xs) f id place model (some_line id) l xs []
+      ∙ entry_lines.any-said here config l xs []
 
   -- no label is inside a line that is not shown
   hidden-bare : (l : ℕ) → is_shown l ≡ false → own l ≡ []

@@ -120,10 +120,10 @@ module _ {Id : Type 0} {same : Id → Id → Bool} {file : Id → FileModel} (ta
   -- the steps at a file's place are those of its snippet
   snippet : (k : ℕ) (id : Id) → IsIdAt (file_ids same xs) k id → DrawSnippet config (labelled id) (steps_at es k)
   snippet k id at = record {
-    fills = snippet-fills same file table.equivalence table.one_file table.some_line config xs es all.permutation all.sorted k id at;
-    lines = snippet-lines same file table.equivalence table.one_file table.some_line config xs es all.permutation all.sorted k id at;
-    rows = snippet-rows same file table.equivalence table.one_file table.some_line config xs es all.permutation all.sorted k id at;
-    fits = snippet-fits same file table.equivalence table.one_file table.some_line config xs es all.permutation all.sorted k id at;
+    fills = snippet-fills table all k id at;
+    lines = snippet-lines table all k id at;
+    rows = snippet-rows table all k id at;
+    fits = snippet-fits table all k id at;
   }
 
   -- the numbers that are asked for before the header are those of the padding
