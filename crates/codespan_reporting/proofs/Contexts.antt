@@ -14,10 +14,9 @@ use Rattle.codespan_base.specs.Labels.{first_line, last_line}
 use Rattle.codespan_base.specs.Lemmas.Lines.{lines_have_indices, lines_within_text}
 use Rattle.codespan_reporting.specs.Inner.AskedLabels.{AskedLabel, AsksFor, FindsLine, FindsLines, HasAskedLine, MakesRoom, MakesRoomForLine, lines_refusal, refusal_on}
 use Rattle.codespan_reporting.specs.Inner.Entries.{Entry, entries_of, line_entries}
-use Rattle.codespan_reporting.specs.declared.term.views.entry.Entry.{Entry as GivenEntry}
 use Rattle.codespan_reporting.specs.declared.term.views.gather.FoundLines.{FoundLines}
 use Rattle.codespan_reporting.specs.Inner.FileLookups.{refusal_in}
-use Rattle.codespan_reporting.specs.Inner.GivenEntries.{AddsOf, IsLineOf, entries_on, lookups_on}
+use Rattle.codespan_reporting.specs.Inner.GivenEntries.{AddsOf, entries_on, lookups_on}
 use Rattle.codespan_reporting.specs.Inner.SpannedDigits.{digits_on, label_digits}
 use Rattle.codespan_picture.specs.Lookups.{asked_lines, asked_of, ends_context, first_refusal, is_around, is_asked, line_refusal, of_line, probe}
 use Rattle.codespan_picture.specs.Padding.{digit_count, spans, spans_line}
@@ -87,10 +86,6 @@ near_after : (s e b a l : ℕ) → s < l → e < l → is_near s e b a l ≡ tru
 near_after s e b a l low high near = grind (arith, common_steps)
 
 module _ {Id : Type 0} (x : AskedLabel Id) where
-  -- what an entry of the label's file is
-  abbrev IsOwn : GivenEntry → Type 0
-  IsOwn e = IsLineOf x.file e.line
-
   -- what some lookups of the file are refused with
   abbrev refused : List Lookup → Option Error
   refused = refusal_in x.refusal x.id
@@ -159,7 +154,7 @@ module _ {Id : Type 0} {x : AskedLabel Id} where
       → GathersLines x xs xs n
   gathered-start {xs} {n} there low far = record {
     within = omega (arith, there.last);
-    added = Adds-as (IsOwn x) xs.entries.items xs.entries.items [] _ (gives_none (entries_on x.config x.file x.label x.at) 0 n (λ l _ high. no_entries x l (too_far l (omega arith)))) (Adds-none (IsOwn x) xs.entries.items);
+    added = Adds-as (gives_none (entries_on x.config x.file x.label x.at) 0 n (λ l _ high. no_entries x l (too_far l (omega arith)))) Adds-none;
     counted = sym (ap (fold max xs.padding) (gives_none (digits_on x.file x.label) 0 n (λ l _ high. no_digits x l (too_far l (omega arith)))));
     answered = ap (refused x) (gives_none (lookups_on x.config x.file x.label) 0 n (λ l _ high. no_lookups x l (too_far l (omega arith))));
   }
@@ -175,7 +170,7 @@ module _ {Id : Type 0} {x : AskedLabel Id} where
         → GathersLines x xs zs (n + 1)
     gathered-step there near inside adds counts none = record {
       within = ⊎_elim (λ asked. let k = inside asked in omega arith) (λ skipped. further skipped) (cases_Bool (is_asked x.config x.file x.label n));
-      added = Adds-as (IsOwn x) _ _ _ _ (gives_more (entries_on x.config x.file x.label x.at) n) (Adds-both (IsOwn x) _ _ _ _ _ g.added adds);
+      added = Adds-as (gives_more (entries_on x.config x.file x.label x.at) n) (Adds-both g.added adds);
       counted = counts ∙ ap (λ k. fold max k (digits_on x.file x.label n)) g.counted ∙ sym (greatest-append xs.padding (digits_below x n) (digits_on x.file x.label n)) ∙ sym (ap (fold max xs.padding) (gives_more (digits_on x.file x.label) n));
       answered = ap (refused x) (gives_more (lookups_on x.config x.file x.label) n) ∙ answered_then x (lookups_below x n) (lookups_on x.config x.file x.label n) g.answered ∙ none;
     }
@@ -202,7 +197,7 @@ module _ {Id : Type 0} {x : AskedLabel Id} where
     gathered-up : entries_of x.config x.file x.at x.label ≡ entries_below x n → flat_map of_line (asked_lines x.config x.file x.label) ≡ lookups_below x n
         → label_digits x.file x.label ≡ digits_below x n → probe x.config x.file (x.refusal x.id) x.label ≡ [] → GathersLabel x xs ys
     gathered-up said asked digits no_probe = record {
-      added = Adds-as (IsOwn x) _ _ _ _ said g.added;
+      added = Adds-as said g.added;
       counted = g.counted ∙ sym (ap (fold max xs.padding) digits);
       answered = ap (refused x) (ap (λ (ls : List Lookup). flat_map of_line (asked_lines x.config x.file x.label) ++ ls) no_probe ∙ append-nil _ ∙ asked) ∙ g.answered;
     }

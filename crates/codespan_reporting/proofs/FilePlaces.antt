@@ -90,11 +90,12 @@ at-before (j ∷ js) more (suc f) id h a = at-before js more f id (omega (arith,
 
 -- ---- places as labels are gone over
 
-module _ {Id : Type 0} (same : Id → Id → Bool) (o : IsEquivalence same) where
-  -- an id that is the same as the one at a place has that place
-  pub guessed-place : (ids : List Id) (k : ℕ) (j i : Id) → AreApart same ids → IsIdAt ids k j → same j i ≡ true → k ≡ file_place same ids i
-  guessed-place ids k j i apart at t = sym (eqb-true (file_place same ids i) k (place-is same o ids k j apart at i ∙ t))
+-- an id that is the same as the one at a place has that place
+pub guessed-place : {Id : Type 0} {same : Id → Id → Bool} (o : IsEquivalence same) (ids : List Id) {k : ℕ} (j i : Id) → AreApart same ids → IsIdAt ids k j → same j i ≡ true
+    → k ≡ file_place same ids i
+guessed-place {same = same} o ids {k} j i apart at t = sym (eqb-true (file_place same ids i) k (place-is same o ids k j apart at i ∙ t))
 
+module _ {Id : Type 0} (same : Id → Id → Bool) (o : IsEquivalence same) where
   -- an id that is none of these has the place after them
   pub no-place : (ids : List Id) (i : Id) → has same o ids i ≡ false → file_place same ids i ≡ length ids
   no-place [] i none = refl

@@ -133,11 +133,11 @@ module _ {Id : Type 0} {same : Id → Id → Bool} {file : Id → FileModel} (ta
               all-weaker (λ (e : GivenEntry). IsLineOf f e.line × (e.file ≡ file_place same ids label.file_id)) (IsOfFiles file ids) (λ e h. of_files e h.0 h.1) adds.more
               (all-both (λ e. IsLineOf f e.line) (λ e. e.file ≡ file_place same ids label.file_id) adds.more adds.each own);
         } in
-        Adds-as (IsOfFiles file ids) [] _ _ _
+        Adds-as
         (ap (entries_after same file config ids []) (before-more turn)
         ∙ entries_after-more same file config ids [] (before labels place) (label_of label)
         ∙ ap (λ (at : LabelPlace). entries_after same file config ids [] (before labels place) ++ entries_of config f at x) (sym here-is))
-        (Adds-both (IsOfFiles file ids) [] _ _ _ _ g.added widened)
+        (Adds-both g.added widened)
 
     -- the lines that it spans have room
     counted-more : (more : FoundLines) → more.padding ≡ fold max found.padding (label_digits (file label.file_id) (label_of label).label) → more.padding ≡ fold max 0 (all_digits file (before labels (place + 1)))

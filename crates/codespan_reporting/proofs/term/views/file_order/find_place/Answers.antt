@@ -17,5 +17,5 @@ returns-in-Some g c =
     let found = c.in-Some.ensures.lookup in
     let inside : guess < length files = ltb-true guess _ (sym found.0) in
     let there : file.id ≡ get_or ids guess file.id = ap name found.1 ∙ sym (get_or-map name files guess file file.id inside) in
-    guessed-place g.FileId.PartialEq.eq g.met.FileId.Eq.laws ids guess file.id c.args.id c.requires
+    guessed-place g.met.FileId.Eq.laws ids file.id c.args.id c.requires
     (subst (IsIdAt ids guess) (sym there) (at-get ids guess file.id (omega (arith, inside, length-map files name)))) (sym c.if-eq.ensures)
