@@ -203,7 +203,7 @@ module _ {Id : Type 0} {same : Id → Id → Bool} {file : Id → FileModel} {id
             let d = drawn_label own_file x.label in
             let same_start : c.start ≡ d.start = grind (arith, nat_tests) in
             let same_end : c.end ≡ d.end = grind (arith, nat_tests) in
-            (place_below f l k j c d same_start same_end h, rest)
+            (place_below f l c d same_start same_end h, rest)
         by_range false u rest = rest
 
         by_test : (b : Bool) → AllByRecursion IsLower (filter (is_of_range start end) (singles_from (j + 1) xs))

@@ -54,9 +54,9 @@ pub line_rises : (x y : Entry) → x.file ≡ y.file → is_below y x ≡ false 
 line_rises x y e h = not_less y.line x.line _ (sym (then_same y.file x.file _ (sym e)) ∙ h)
 
 -- the ranges of a line's labels do not fall
-range_rises : (x y : Entry) (p q : ℕ) (a b : Labelled) → x.says ≡ Single p a → y.says ≡ Single q b → x.file ≡ y.file → x.line ≡ y.line
+range_rises : (x y : Entry) {p q : ℕ} {a b : Labelled} → x.says ≡ Single p a → y.says ≡ Single q b → x.file ≡ y.file → x.line ≡ y.line
     → is_below y x ≡ false → stands_before b a ≡ false
-range_rises x y p q a b xs ys e f h =
+range_rises x y {a = a} {b = b} xs ys e f h =
     let k : kind_of y.says ≡ kind_of x.says = ap kind_of ys ∙ sym (ap kind_of xs) in
     let s : first_of x.says ≡ a.start = ap first_of xs in
     let t : first_of y.says ≡ b.start = ap first_of ys in
@@ -92,7 +92,7 @@ singles-ascend f l (x ∷ xs) on up = by_says x.says refl (singles-ascend f l xs
         by_other : (s : Says) → y.says ≡ s → AllByRecursion (λ b. stands_before b a ≡ false) (singles_in ys)
             → AllByRecursion (λ b. stands_before b a ≡ false) (cons_option (single_of s) (singles_in ys))
         by_other Shown d rest = rest
-        by_other (Single q b) d rest = (range_rises x y p q a b e d (on.0.0 ∙ sym k.0.0) (on.0.1 ∙ sym k.0.1) h.0, rest)
+        by_other (Single q b) d rest = (range_rises x y e d (on.0.0 ∙ sym k.0.0) (on.0.1 ∙ sym k.0.1) h.0, rest)
 
     by_says : (s : Says) → x.says ≡ s → Ascends (singles_in xs) → Ascends (cons_option (single_of s) (singles_in xs))
     by_says Shown e rest = rest
@@ -101,7 +101,7 @@ singles-ascend f l (x ∷ xs) on up = by_says x.says refl (singles-ascend f l xs
 -- ---- entries of one line
 
 -- of labels with equal ranges the one at the later place is below
-pub place_below : (f l p q : ℕ) (x y : Labelled) → x.start ≡ y.start → x.end ≡ y.end → p < q
+pub place_below : (f l : ℕ) {p q : ℕ} (x y : Labelled) → x.start ≡ y.start → x.end ≡ y.end → p < q
     → is_below (record { file = f; line = l; says = Single q y }) (record { file = f; line = l; says = Single p x }) ≡ true
-place_below f l p q x y s e h =
+place_below f l {p} {q} x y s e h =
     then_same f f _ refl ∙ then_same l l _ refl ∙ then_same y.start x.start _ (sym s) ∙ then_same y.end x.end _ (sym e) ∙ ap is_lt (cmp_less p q h)

@@ -6,9 +6,9 @@ use Rattle.std.proofs.lemmas.List.{take_more}
 use Rattle.codespan_laws.proofs.Greatest.{greatest-any, greatest-append}
 
 -- one more element
-pub greatest_more : {X : Type 0} (give : X → List ℕ) (items : List X) (i : ℕ) (d : X) → i < length items → (now own new : ℕ)
+pub greatest_more : {X : Type 0} (give : X → List ℕ) (items : List X) (i : ℕ) (d : X) → i < length items → {now own new : ℕ}
     → now ≡ fold max 0 (flat_map give (take i items)) → own ≡ fold max 0 (give (get_or items i d)) → new ≡ max own now → new ≡ fold max 0 (flat_map give (take (i + 1) items))
-greatest_more {X} give items i d inside now own new is_now is_own is_new =
+greatest_more {X} give items i d inside {now} {own} is_now is_own is_new =
     let x : X = get_or items i d in
     let whole : fold max 0 (flat_map give (take (i + 1) items)) ≡ fold max (fold max 0 (flat_map give (take i items))) (give x) =
     ap (λ (l : List X). fold max 0 (flat_map give l)) (take_more items i d inside) ∙ ap (fold max 0) (flat_map-append give (take i items) (x ∷ []))

@@ -5,4 +5,4 @@ use Rattle.codespan_reporting.proofs.term.views.padding.file_padding.Goals as go
 pub loop-step-preserved : goal.loop-step-preserved
 loop-step-preserved c =
     greatest_more step_digits c.args.steps.now c.loop-step.step-index _ c.loop-step-test.true
-    _ c.digits_in.result _ c.loop-step.invariant c.digits_in.ensures c.max-padding.ensures
+    c.loop-step.invariant c.digits_in.ensures c.max-padding.ensures
