@@ -102,10 +102,11 @@ module _ {Id : Type 0} (x : AskedLabel Id) where
   abbrev digits_below : ℕ → List ℕ
   digits_below n = flat_map (digits_on x.file x.label) (range_with_len 0 n)
 
-  -- a line that is not asked for gives nothing
+  -- nothing is said of a line that is not asked for
   no_entries : (l : ℕ) → is_asked x.config x.file x.label l ≡ false → entries_on x.config x.file x.label x.at l ≡ []
   no_entries l skipped = ap (λ (b : Bool). if b then line_entries x.config x.file x.at x.label l else []) skipped
 
+  -- nor has it lookups
   no_lookups : (l : ℕ) → is_asked x.config x.file x.label l ≡ false → lookups_on x.config x.file x.label l ≡ []
   no_lookups l skipped = ap (λ (b : Bool). if b then of_line l else []) skipped
 
