@@ -2,6 +2,7 @@
 pub mod Headers
 pub mod Loci
 pub mod Asking
+pub mod Tables
 pub mod FileLookups
 pub mod LabelLines
 pub mod LabelledFiles

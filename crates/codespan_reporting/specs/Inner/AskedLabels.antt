@@ -18,10 +18,11 @@ use Rattle.codespan_reporting.specs.Inner.Entries.{Says, entries_of, line_entrie
 use Rattle.codespan_reporting.specs.Inner.FileLookups.{refusal_in}
 use Rattle.codespan_reporting.specs.Inner.GivenEntries.{AddsOf, entries_on, lookups_on, says_at}
 use Rattle.codespan_reporting.specs.Inner.SpannedDigits.{digits_on, label_digits}
+use Rattle.codespan_reporting.specs.Inner.Tables.{FileTable}
 
 -- what the lookups of these labels are refused with
-abbrev pub labels_refusal : {Id : Type 0} → Config → (Id → FileModel) → Refusals Id → List (InFile Id) → Option Error
-labels_refusal config file refusal xs = first_refusal refusal (label_lookups config file refusal xs)
+abbrev pub labels_refusal : {Id : Type 0} → Config → FileTable Id → List (InFile Id) → Option Error
+labels_refusal config table xs = first_refusal table.refusal (label_lookups config table.file table.refusal xs)
 
 -- a label in its file, with what the file refuses, the configuration that it is asked for by, and its place among the labels of the diagnostic
 pub record AskedLabel (Id : Type 0) : Type 0 where
@@ -32,20 +33,20 @@ pub record AskedLabel (Id : Type 0) : Type 0 where
   pub at : LabelPlace
   pub label : Labelled
 
--- a label of files that is asked for by a configuration
-abbrev pub asked_label : {F Id : Type 0} → (F → Id → FileModel) → (F → Refusals Id) → F → Config → LabelPlace → Label Id → AskedLabel Id
-asked_label file refusal files config at label = record {
+-- a label of a table's files that is asked for by a configuration
+abbrev pub asked_label : {Id : Type 0} → FileTable Id → Config → LabelPlace → Label Id → AskedLabel Id
+asked_label table config at label = record {
   id = label.file_id;
-  file = file files label.file_id;
-  refusal = refusal files;
+  file = table.file label.file_id;
+  refusal = table.refusal;
   config = config;
   at = at;
   label = (label_of label).label;
 }
 
 -- the label of an asking
-abbrev pub asked_as : {F Id : Type 0} → (F → Id → FileModel) → (F → Refusals Id) → Asking F → Label Id → AskedLabel Id
-asked_as file refusal asking label = asked_label file refusal asking.files.now asking.config.now asking.at label
+abbrev pub asked_as : {F Id : Type 0} → (F → FileTable Id) → Asking F → Label Id → AskedLabel Id
+asked_as table asking label = asked_label (table asking.files.now) asking.config.now asking.at label
 
 module _ {Id : Type 0} (x : AskedLabel Id) where
   -- ---- one line
@@ -97,15 +98,19 @@ abbrev pub says_by : {F Id : Type 0} → Asking F → Label Id → SourceLine �
 says_by asking label line =
     says_at asking.config.now asking.at asking.lines.first asking.lines.last line.index line.start (label_of label).label
 
-module _ {F Id : Type 0} (file : F → Id → FileModel) (refusal : F → Refusals Id) (asking : Asking F) where
+module _ {F Id : Type 0} (table : F → FileTable Id) (asking : Asking F) where
   -- the file ends before a line, and the line's range is refused as past the end
   abbrev pub EndsBefore : Id → ℕ → Type 0
-  EndsBefore id l = (line_count (file asking.files.now id) ≤ l) × (ends_context (refusal asking.files.now id (LineRange l)) ≡ true)
+  EndsBefore id l =
+      let t = table asking.files.now in
+      (line_count (t.file id) ≤ l) × (ends_context (t.refusal id (LineRange l)) ≡ true)
 
   -- what a line of the file is refused with
   abbrev pub refusal_at : Id → ℕ → Option Error
-  refusal_at id l = line_refusal (file asking.files.now id) (refusal asking.files.now id) asking.lines.last l
+  refusal_at id l =
+      let t = table asking.files.now in
+      line_refusal (t.file id) (t.refusal id) asking.lines.last l
 
   -- the label asks for a line, which is refused with this error
   abbrev pub RefusesLine : Label Id → ℕ → Error → Type 0
-  RefusesLine label l e = AsksFor (asked_as file refusal asking label) l × (refusal_at label.file_id l ≡ Some e)
+  RefusesLine label l e = AsksFor (asked_as table asking label) l × (refusal_at label.file_id l ≡ Some e)

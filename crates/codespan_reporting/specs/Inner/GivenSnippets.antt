@@ -5,7 +5,6 @@ use Rattle.codespan_base.specs.FileModel.{FileModel, Lookup}
 use Rattle.codespan_base.specs.FileModel.Lookup.{Source}
 use Rattle.codespan_base.specs.WriterLaw.{Sink}
 use Rattle.codespan_picture.specs.Given.{place_of_given}
-use Rattle.codespan_picture.specs.Lookups.{Refusals}
 use Rattle.codespan_picture.specs.Rows.{Row, StartRow, EmptyRow}
 use Rattle.codespan_renderer.specs.declared.term.renderer.Renderer.{Renderer}
 use Rattle.codespan_reporting.specs.declared.term.views.lines.Page.{Page}
@@ -15,6 +14,7 @@ use Rattle.codespan_reporting.specs.Inner.GivenSteps.{asked_by_all, step_of}
 use Rattle.codespan_reporting.specs.Inner.Lanes.{lanes_given}
 use Rattle.codespan_reporting.specs.Inner.Rendering.{DrawsRowsAsking}
 use Rattle.codespan_reporting.specs.Inner.Steps.{rows_of_steps}
+use Rattle.codespan_reporting.specs.Inner.Tables.{FileTable}
 
 module _ {Id : Type 0} (file : SheetFile Id) where
   -- its first rows
@@ -34,6 +34,8 @@ module _ {Id : Type 0} (file : SheetFile Id) where
   lookups_with = Source ∷ asked_by_all file.steps.items
 
 -- the call draws the snippet of a file, with a row after it where something follows, and makes its lookups
-abbrev pub DrawsSnippet : {W F Id : Type 0} → (W → Sink) → (F → Id → FileModel) → (F → Refusals Id) → Page F → SheetFile Id → Bool → Renderer W → Result (Unit {0}) Error → Renderer W → Type 0
-DrawsSnippet sink file refusal page f is_followed =
-    DrawsRowsAsking sink (refusal_in (refusal page.files.now) f.file.now.id (lookups_with f)) page.severity page.padding (rows_in f (file page.files.now f.file.now.id) is_followed)
+abbrev pub DrawsSnippet : {W F Id : Type 0} → (W → Sink) → (F → FileTable Id) → Page F → SheetFile Id → Bool → Renderer W → Result (Unit {0}) Error → Renderer W → Type 0
+DrawsSnippet sink table page f is_followed =
+    let t = table page.files.now in
+    let id = f.file.now.id in
+    DrawsRowsAsking sink (refusal_in t.refusal id (lookups_with f)) page.severity page.padding (rows_in f (t.file id) is_followed)

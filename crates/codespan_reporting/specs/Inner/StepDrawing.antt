@@ -4,7 +4,6 @@ use Rattle.std.specs.List.{AllByRecursion}
 use Rattle.codespan_base.specs.declared.files.Error.{Error}
 use Rattle.codespan_base.specs.FileModel.{FileModel, Lookup}
 use Rattle.codespan_base.specs.WriterLaw.{Sink}
-use Rattle.codespan_picture.specs.Lookups.{Refusals}
 use Rattle.codespan_picture.specs.Rows.{Row}
 use Rattle.codespan_renderer.specs.declared.term.renderer.Renderer.{Renderer}
 use Rattle.codespan_reporting.specs.declared.term.views.lines.FileLines.{FileLines}
@@ -12,6 +11,7 @@ use Rattle.codespan_reporting.specs.Inner.FileLookups.{refusal_in}
 use Rattle.codespan_reporting.specs.Inner.Lanes.{lanes_given}
 use Rattle.codespan_reporting.specs.Inner.Rendering.{DrawsRowsAsking}
 use Rattle.codespan_reporting.specs.Inner.Steps.{Step, does_step_fit, rows_of_step, rows_of_steps}
+use Rattle.codespan_reporting.specs.Inner.Tables.{FileTable}
 
 -- the labels of each step are in the order of their starts
 abbrev pub DoFit : List Step → Type 0
@@ -21,16 +21,17 @@ DoFit steps = AllByRecursion (λ step. does_step_fit step ≡ true) steps
 abbrev pub drawn_file : {F Id Name Source : Type 0} → (F → Id → FileModel) → FileLines F Id Name Source → FileModel
 drawn_file file lines = file lines.page.now.files.now lines.id
 
-module _ {W F Id Name Source : Type 0} (sink : W → Sink) (file : F → Id → FileModel) (refusal : F → Refusals Id) (lines : FileLines F Id Name Source) where
+module _ {W F Id Name Source : Type 0} (sink : W → Sink) (table : F → FileTable Id) (lines : FileLines F Id Name Source) where
   -- the call draws these rows of the file, and makes these lookups
   abbrev pub DrawsFileRows : List Lookup → List Row → Renderer W → Result (Unit {0}) Error → Renderer W → Type 0
   DrawsFileRows lookups =
-      DrawsRowsAsking sink (refusal_in (refusal lines.page.now.files.now) lines.id lookups) lines.page.now.severity lines.page.now.padding
+      let page = lines.page.now in
+      DrawsRowsAsking sink (refusal_in (table page.files.now).refusal lines.id lookups) page.severity page.padding
 
   -- the call draws a step of the file, and makes these lookups
   abbrev pub DrawsStep : List Lookup → Step → Renderer W → Result (Unit {0}) Error → Renderer W → Type 0
-  DrawsStep lookups step = DrawsFileRows lookups (rows_of_step (drawn_file file lines) (lanes_given lines.lanes.now) step)
+  DrawsStep lookups step = DrawsFileRows lookups (rows_of_step (drawn_file (λ files. (table files).file) lines) (lanes_given lines.lanes.now) step)
 
   -- the same of steps, one after another
   abbrev pub DrawsSteps : List Lookup → List Step → Renderer W → Result (Unit {0}) Error → Renderer W → Type 0
-  DrawsSteps lookups steps = DrawsFileRows lookups (rows_of_steps (drawn_file file lines) (lanes_given lines.lanes.now) steps)
+  DrawsSteps lookups steps = DrawsFileRows lookups (rows_of_steps (drawn_file (λ files. (table files).file) lines) (lanes_given lines.lanes.now) steps)

@@ -22,6 +22,7 @@ use Rattle.codespan_reporting.specs.Views.{diagnostic_of, view_config_of}
 use Rattle.codespan_reporting.specs.Inner.GivenSheets.{places_of}
 use Rattle.codespan_reporting.specs.Inner.Headers.{DrawsHeaders}
 use Rattle.codespan_reporting.specs.Inner.Rendering.{DrawsRowsAsking}
+use Rattle.codespan_reporting.specs.Inner.Tables.{FileTable}
 
 -- ---- parts
 
@@ -40,31 +41,30 @@ module _ {Id : Type 0} (d : Diagnostic Id) where
 
 -- ---- calls
 
-module _ {W F Id : Type 0} (sink : W → Sink) (file : F → Id → FileModel) (refusal : F → Refusals Id) (files : F) where
+module _ {W Id : Type 0} (sink : W → Sink) (table : FileTable Id) where
   -- the call draws the headers of those of these labels that are primary, and answers whether there is one
   abbrev pub DrawsHeadersOf : Diagnostic Id → List (InFile Id) → Renderer W → Result Bool Error → Renderer W → Type 0
   DrawsHeadersOf d xs old r new =
-      DrawsHeaders (config_of old) (file files) (refusal files) d (primary_of xs) (sink (writer_of old)) r (sink (writer_of new))
+      DrawsHeaders (config_of old) table.file table.refusal d (primary_of xs) (sink (writer_of old)) r (sink (writer_of new))
 
-  module _ (same : Id → Id → Bool) where
-    -- the call draws a diagnostic in short or medium style
-    abbrev pub DrawsInStyle : DisplayStyle → Diagnostic Id → Renderer W → Result (Unit {0}) Error → Renderer W → Type 0
-    DrawsInStyle style d old r new =
-        DrawsShort (config_of old) same (file files) (refusal files) d style (sink (writer_of old)) r (sink (writer_of new))
+  -- the call draws a diagnostic in short or medium style
+  abbrev pub DrawsInStyle : DisplayStyle → Diagnostic Id → Renderer W → Result (Unit {0}) Error → Renderer W → Type 0
+  DrawsInStyle style d old r new =
+      DrawsShort (config_of old) table.same table.file table.refusal d style (sink (writer_of old)) r (sink (writer_of new))
 
-    module _ (view : RichDiagnostic Id) where
-      -- the call draws the picture of a rich view
-      abbrev pub DrawsView : Renderer W → Result (Unit {0}) Error → Renderer W → Type 0
-      DrawsView old r new =
-          DrawsRich (config_of old) (view_config_of view) same (file files) (refusal files) (diagnostic_of view) (sink (writer_of old)) r (sink (writer_of new))
+  module _ (view : RichDiagnostic Id) where
+    -- the call draws the picture of a rich view
+    abbrev pub DrawsView : Renderer W → Result (Unit {0}) Error → Renderer W → Type 0
+    DrawsView old r new =
+        DrawsRich (config_of old) (view_config_of view) table.same table.file table.refusal (diagnostic_of view) (sink (writer_of old)) r (sink (writer_of new))
 
-      -- what the lookups after its header are refused with
-      abbrev pub late_refusal : Option Error
-      late_refusal = first_refusal (refusal files) (late_lookups (view_config_of view) same (file files) (refusal files) (labels_of (diagnostic_of view)))
+    -- what the lookups after its header are refused with
+    abbrev pub late_refusal : Option Error
+    late_refusal = first_refusal table.refusal (late_lookups (view_config_of view) table.same table.file table.refusal (labels_of (diagnostic_of view)))
 
-      -- the call draws its snippets, which start where a sheet says, and makes their lookups
-      abbrev pub DrawsSnippets : Sheet Id → Renderer W → Result (Unit {0}) Error → Renderer W → Type 0
-      DrawsSnippets sheet =
-          let d = diagnostic_of view in
-          DrawsRowsAsking sink late_refusal d.severity sheet.padding
-          (placed_snippets (view_config_of view) (has_any (notes_of d)) (places_of sheet.files.items) (labelled_files same (file files) (labels_of d)))
+    -- the call draws its snippets, which start where a sheet says, and makes their lookups
+    abbrev pub DrawsSnippets : Sheet Id → Renderer W → Result (Unit {0}) Error → Renderer W → Type 0
+    DrawsSnippets sheet =
+        let d = diagnostic_of view in
+        DrawsRowsAsking sink late_refusal d.severity sheet.padding
+        (placed_snippets (view_config_of view) (has_any (notes_of d)) (places_of sheet.files.items) (labelled_files table.same table.file (labels_of d)))

@@ -18,6 +18,7 @@ mod short;
 mod snippets;
 mod sort;
 mod steps;
+mod table;
 
 pub use rich::RichDiagnostic;
 pub use short::ShortDiagnostic;

@@ -17,6 +17,7 @@ use crate::term::views::entry::{Entry, Says, SourceLine};
 use crate::term::views::file_order::{LabelledFile, place_file, tell_file};
 use crate::term::views::label_lines::{LabelLines, label_lines};
 use crate::term::views::sort::sort;
+use crate::term::views::table::Table;
 use codespan_base::diagnostic::Label;
 use codespan_base::files::{Error, Files};
 use codespan_base::term::Config;
@@ -74,8 +75,8 @@ impl<'a, 'c, 'files, F: Files<'files>> Asking<'a, 'c, 'files, F> {
     fn find_line(&self, id: F::FileId, index: usize) -> Result<Option<SourceLine>, Error>
         ensures found { IfOk result (λ found. IfSome found (λ line. IsLineAt (F.file self.now.files.now id) index line)) }
         ensures answered { IfOk result (λ found. IfSome found (λ _. refusal_in (F.refusal self.now.files.now) id (of_line index) ≡ None)) }
-        ensures ended { IfOk result (λ found. found ≡ None → EndsBefore F.file F.refusal self.now id index) }
-        ensures refused { Tells (refusal_at F.file F.refusal self.now id index) result }
+        ensures ended { IfOk result (λ found. found ≡ None → EndsBefore ⟦<F as Table<'files>>⟧.table self.now id index) }
+        ensures refused { Tells (refusal_at ⟦<F as Table<'files>>⟧.table self.now id index) result }
     {
         let range = match self.files.line_range(id, index) {
             Ok(range) => range,
@@ -114,7 +115,7 @@ impl<'a, 'c, 'files, F: Files<'files>> Asking<'a, 'c, 'files, F> {
         requires first { line_of_start (F.file self.now.files.now) label.now ≡ self.now.lines.first }
         requires last { line_of_end (F.file self.now.files.now) label.now ≡ self.now.lines.last }
         requires line { IsLineOf (F.file self.now.files.now label.now.file_id) line }
-        ensures added { OnOk result (AddsLine (asked_as F.file F.refusal self.now label.now) entries.old.items entries.new.items line.index) }
+        ensures added { OnOk result (AddsLine (asked_as ⟦<F as Table<'files>>⟧.table self.now label.now) entries.old.items entries.new.items line.index) }
         ensures refused { OnErr result (IsErrOf result Error.OutOfMemory) }
     {
         if let Some(says) = self.says_of_line(label, line) {
@@ -137,12 +138,12 @@ impl<'a, 'c, 'files, F: Files<'files>> Asking<'a, 'c, 'files, F> {
     ) -> Result<bool, Error>
         requires first { line_of_start (F.file self.now.files.now) label.now ≡ self.now.lines.first }
         requires last { line_of_end (F.file self.now.files.now) label.now ≡ self.now.lines.last }
-        ensures inside { IfOk result (λ goes_on. goes_on ≡ true → HasAskedLine (asked_as F.file F.refusal self.now label.now) index) }
-        ensures added { IfOk result (λ goes_on. goes_on ≡ true → FindsLine (asked_as F.file F.refusal self.now label.now) found.old found.new index) }
-        ensures padding { IfOk result (λ goes_on. goes_on ≡ true → MakesRoomForLine (asked_as F.file F.refusal self.now label.now) found.old found.new index) }
-        ensures answered { IfOk result (λ goes_on. goes_on ≡ true → refusal_on (asked_as F.file F.refusal self.now label.now) index ≡ None) }
-        ensures ended { IfOk result (λ goes_on. goes_on ≡ false → (found.new ≡ found.old) × EndsBefore F.file F.refusal self.now label.now.file_id index) }
-        ensures refused { IfErr result (λ e. e ≢ Error.OutOfMemory → RefusesLine F.file F.refusal self.now label.now index e) }
+        ensures inside { IfOk result (λ goes_on. goes_on ≡ true → HasAskedLine (asked_as ⟦<F as Table<'files>>⟧.table self.now label.now) index) }
+        ensures added { IfOk result (λ goes_on. goes_on ≡ true → FindsLine (asked_as ⟦<F as Table<'files>>⟧.table self.now label.now) found.old found.new index) }
+        ensures padding { IfOk result (λ goes_on. goes_on ≡ true → MakesRoomForLine (asked_as ⟦<F as Table<'files>>⟧.table self.now label.now) found.old found.new index) }
+        ensures answered { IfOk result (λ goes_on. goes_on ≡ true → refusal_on (asked_as ⟦<F as Table<'files>>⟧.table self.now label.now) index ≡ None) }
+        ensures ended { IfOk result (λ goes_on. goes_on ≡ false → (found.new ≡ found.old) × EndsBefore ⟦<F as Table<'files>>⟧.table self.now label.now.file_id index) }
+        ensures refused { IfErr result (λ e. e ≢ Error.OutOfMemory → RefusesLine ⟦<F as Table<'files>>⟧.table self.now label.now index e) }
     {
         let is_spanned = self.lines.spans(index);
         if !is_spanned && !self.lines.is_around(self.config, index) {
@@ -166,9 +167,9 @@ impl<'a, 'c, 'files, F: Files<'files>> Asking<'a, 'c, 'files, F> {
     ) -> Result<(), Error>
         requires first { line_of_start (F.file self.now.files.now) label.now ≡ self.now.lines.first }
         requires last { line_of_end (F.file self.now.files.now) label.now ≡ self.now.lines.last }
-        ensures added { OnOk result (FindsLines (asked_as F.file F.refusal self.now label.now) found.old found.new) }
-        ensures padding { OnOk result (MakesRoom (asked_as F.file F.refusal self.now label.now) found.old found.new) }
-        ensures refused { Tells (lines_refusal (asked_as F.file F.refusal self.now label.now)) result }
+        ensures added { OnOk result (FindsLines (asked_as ⟦<F as Table<'files>>⟧.table self.now label.now) found.old found.new) }
+        ensures padding { OnOk result (MakesRoom (asked_as ⟦<F as Table<'files>>⟧.table self.now label.now) found.old found.new) }
+        ensures refused { Tells (lines_refusal (asked_as ⟦<F as Table<'files>>⟧.table self.now label.now)) result }
     {
         let lines = self.lines;
         let first = lines.first.saturating_sub(self.config.before_label_lines);
@@ -192,9 +193,9 @@ fn gather_label<'files, 'd, F: Files<'files>>(
 ) -> Result<LabelLines, Error>
     ensures first { IfOk result (λ lines. lines.first ≡ line_of_start (F.file files.now) label.now) }
     ensures last { IfOk result (λ lines. lines.last ≡ line_of_end (F.file files.now) label.now) }
-    ensures added { OnOk result (FindsLines (asked_label F.file F.refusal files.now config.now at label.now) found.old found.new) }
-    ensures padding { OnOk result (MakesRoom (asked_label F.file F.refusal files.now config.now at label.now) found.old found.new) }
-    ensures refused { Tells (label_refusal (asked_label F.file F.refusal files.now config.now at label.now)) result }
+    ensures added { OnOk result (FindsLines (asked_label (⟦<F as Table<'files>>⟧.table files.now) config.now at label.now) found.old found.new) }
+    ensures padding { OnOk result (MakesRoom (asked_label (⟦<F as Table<'files>>⟧.table files.now) config.now at label.now) found.old found.new) }
+    ensures refused { Tells (label_refusal (asked_label (⟦<F as Table<'files>>⟧.table files.now) config.now at label.now)) result }
 {
     let lines = label_lines(files, label)?;
     let asking = Asking {
@@ -231,7 +232,7 @@ pub fn gather<'files, 'd, F: Files<'files>>(
 ) -> Result<Gathered<'d, F::FileId>, Error>
     ensures labels { IfOk result (λ gathered. gathered.labels.now ≡ labels.now) }
     ensures gathered { IfOk result (IsGathered F.FileId.eq (F.file files.now) config.now (map label_of labels.now)) }
-    ensures refused { Tells (labels_refusal config.now (F.file files.now) (F.refusal files.now) (map label_of labels.now)) result }
+    ensures refused { Tells (labels_refusal config.now (⟦<F as Table<'files>>⟧.table files.now) (map label_of labels.now)) result }
 {
     let mut gathered = gather_in_turn(alloc, files, config, labels)?;
     sort(&mut gathered.entries);
@@ -247,7 +248,7 @@ fn gather_in_turn<'files, 'd, F: Files<'files>>(
 ) -> Result<Gathered<'d, F::FileId>, Error>
     ensures labels { IfOk result (λ gathered. gathered.labels.now ≡ labels.now) }
     ensures gathered { IfOk result (IsGatheredInTurn F.FileId.eq (F.file files.now) config.now (map label_of labels.now)) }
-    ensures refused { Tells (labels_refusal config.now (F.file files.now) (F.refusal files.now) (map label_of labels.now)) result }
+    ensures refused { Tells (labels_refusal config.now (⟦<F as Table<'files>>⟧.table files.now) (map label_of labels.now)) result }
 {
     let mut labelled = Vec::new(alloc);
     let mut found = FoundLines {

@@ -16,6 +16,7 @@ use crate::term::views::entry::{Entry, SourceLine};
 use crate::term::views::lanes::Lane;
 use crate::term::views::marks::LineMarks;
 use crate::term::views::steps::Step;
+use crate::term::views::table::Table;
 use codespan_base::diagnostic::Severity;
 use codespan_base::files::{Error, Files};
 use codespan_base::term::WriteStyle;
@@ -59,7 +60,7 @@ impl<'page, 'd, 'files, F: Files<'files>> FileLines<'page, 'd, 'files, F> {
         requires steps { AllByRecursion (IsStepOf (drawn_file F.file self.now)) steps.now }
         requires fits { DoFit (map step_of steps.now) }
         ensures same { SameRenderer renderer.old renderer.new }
-        ensures draws { DrawsSteps W.sink F.file F.refusal self.now (asked_by_all steps.now) (map step_of steps.now) renderer.old result renderer.new }
+        ensures draws { DrawsSteps W.sink ⟦<F as Table<'files>>⟧.table self.now (asked_by_all steps.now) (map step_of steps.now) renderer.old result renderer.new }
     {
         for step in steps {
             self.draw_step(renderer, marks, step)?;
@@ -79,7 +80,7 @@ impl<'page, 'd, 'files, F: Files<'files>> FileLines<'page, 'd, 'files, F> {
         requires step { IsStepOf (drawn_file F.file self.now) step.now }
         requires fits { IsTrue (does_step_fit (step_of step.now)) }
         ensures same { SameRenderer renderer.old renderer.new }
-        ensures draws { DrawsStep W.sink F.file F.refusal self.now (asked_by step.now) (step_of step.now) renderer.old result renderer.new }
+        ensures draws { DrawsStep W.sink ⟦<F as Table<'files>>⟧.table self.now (asked_by step.now) (step_of step.now) renderer.old result renderer.new }
     {
         match step {
             Step::Shown { line, singles } => self.draw_line(renderer, marks, *line, *singles)?,
@@ -126,7 +127,7 @@ impl<'page, 'd, 'files, F: Files<'files>> FileLines<'page, 'd, 'files, F> {
         requires line { IsLineOf (drawn_file F.file self.now) line }
         requires fits { IsTrue (starts_in_order (singles_in (map entry_of entries.now))) }
         ensures same { SameRenderer renderer.old renderer.new }
-        ensures draws { DrawsStep W.sink F.file F.refusal self.now [] (Draw line.index (map entry_of entries.now)) renderer.old result renderer.new }
+        ensures draws { DrawsStep W.sink ⟦<F as Table<'files>>⟧.table self.now [] (Draw line.index (map entry_of entries.now)) renderer.old result renderer.new }
     {
         marks.refill(self.lanes, line, entries)?;
         let source = &self.text[line.start..line.end];
@@ -168,7 +169,7 @@ impl<'page, 'd, 'files, F: Files<'files>> FileLines<'page, 'd, 'files, F> {
     ) -> Result<(), Error>
         requires next { IsLineOf (drawn_file F.file self.now) next }
         ensures same { SameRenderer renderer.old renderer.new }
-        ensures draws { DrawsStep W.sink F.file F.refusal self.now [] (Break next.index) renderer.old result renderer.new }
+        ensures draws { DrawsStep W.sink ⟦<F as Table<'files>>⟧.table self.now [] (Break next.index) renderer.old result renderer.new }
     {
         marks.refill(self.lanes, next, &[])?;
         renderer.render_snippet_break(

@@ -18,6 +18,7 @@ use crate::term::views::marks::LineMarks;
 use crate::term::views::parts::{draw_header, draw_notes};
 use crate::term::views::sheet::{Sheet, prepare};
 use crate::term::views::snippets::draw_snippet;
+use crate::term::views::table::Table;
 use codespan_base::diagnostic::Diagnostic;
 use codespan_base::files::{Error, Files};
 use codespan_base::term::{Config, WriteStyle};
@@ -87,7 +88,7 @@ impl<'diagnostic, 'config, FileId: Copy + Eq> RichDiagnostic<'diagnostic, 'confi
         FileId: 'files,
         requires { 0 < length (diagnostic_of self.now).labels.items }
         ensures same { SameRenderer renderer.old renderer.new }
-        ensures draws { DrawsView W.sink F.file F.refusal files.now FileId.eq self.now renderer.old result renderer.new }
+        ensures draws { DrawsView W.sink (⟦<F as Table<'files>>⟧.table files.now) self.now renderer.old result renderer.new }
     {
         let diagnostic = self.diagnostic;
         let alloc = *diagnostic.labels.allocator();
@@ -112,7 +113,7 @@ impl<'diagnostic, 'config, FileId: Copy + Eq> RichDiagnostic<'diagnostic, 'confi
         FileId: 'files,
         requires { IsPrepared FileId.eq (F.file files.now) (view_config_of self.now) (labels_of (diagnostic_of self.now)) sheet.now }
         ensures same { SameRenderer renderer.old renderer.new }
-        ensures draws { DrawsSnippets W.sink F.file F.refusal files.now FileId.eq self.now sheet.now renderer.old result renderer.new }
+        ensures draws { DrawsSnippets W.sink (⟦<F as Table<'files>>⟧.table files.now) self.now sheet.now renderer.old result renderer.new }
     {
         let diagnostic = self.diagnostic;
         let page = Page {

@@ -10,6 +10,7 @@ ghost use Rattle.codespan_reporting.specs.Inner.ViewDrawing.{DrawsHeadersOf, Dra
 use crate::term::renderer::Renderer;
 use crate::term::views::loci::{is_primary, locus_at};
 use crate::term::views::parts::{draw_header, draw_notes};
+use crate::term::views::table::Table;
 use codespan_base::diagnostic::{Diagnostic, Label};
 use codespan_base::files::{Error, Files};
 use codespan_base::term::WriteStyle;
@@ -75,7 +76,7 @@ fn draw_medium<'files, F: Files<'files>, W: WriteStyle>(
     renderer: &mut Renderer<'_, '_, W>,
 ) -> Result<(), Error>
     ensures same { SameRenderer renderer.old renderer.new }
-    ensures draws { DrawsInStyle W.sink F.file F.refusal files.now F.FileId.eq Medium diagnostic.now renderer.old result renderer.new }
+    ensures draws { DrawsInStyle W.sink (⟦<F as Table<'files>>⟧.table files.now) Medium diagnostic.now renderer.old result renderer.new }
 {
     draw_headers(files, diagnostic, renderer)?;
     draw_notes(diagnostic, renderer, 0)
@@ -88,7 +89,7 @@ fn draw_headers<'files, F: Files<'files>, W: WriteStyle>(
     renderer: &mut Renderer<'_, '_, W>,
 ) -> Result<(), Error>
     ensures same { SameRenderer renderer.old renderer.new }
-    ensures draws { DrawsInStyle W.sink F.file F.refusal files.now F.FileId.eq Short diagnostic.now renderer.old result renderer.new }
+    ensures draws { DrawsInStyle W.sink (⟦<F as Table<'files>>⟧.table files.now) Short diagnostic.now renderer.old result renderer.new }
 {
     if draw_located(files, diagnostic, renderer)? {
         Ok(())
@@ -104,7 +105,7 @@ fn draw_located<'files, F: Files<'files>, W: WriteStyle>(
     renderer: &mut Renderer<'_, '_, W>,
 ) -> Result<bool, Error>
     ensures same { SameRenderer renderer.old renderer.new }
-    ensures draws { DrawsHeadersOf W.sink F.file F.refusal files.now diagnostic.now (labels_of diagnostic.now) renderer.old result renderer.new }
+    ensures draws { DrawsHeadersOf W.sink (⟦<F as Table<'files>>⟧.table files.now) diagnostic.now (labels_of diagnostic.now) renderer.old result renderer.new }
 {
     let mut is_located = false;
     for label in &diagnostic.labels {
@@ -121,7 +122,7 @@ fn draw_if_primary<'files, F: Files<'files>, W: WriteStyle>(
     label: &Label<F::FileId>,
 ) -> Result<bool, Error>
     ensures same { SameRenderer renderer.old renderer.new }
-    ensures draws { DrawsHeadersOf W.sink F.file F.refusal files.now diagnostic.now (label_of label.now ∷ []) renderer.old result renderer.new }
+    ensures draws { DrawsHeadersOf W.sink (⟦<F as Table<'files>>⟧.table files.now) diagnostic.now (label_of label.now ∷ []) renderer.old result renderer.new }
 {
     if !is_primary(label) {
         return Ok(false);

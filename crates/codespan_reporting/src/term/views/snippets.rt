@@ -13,6 +13,7 @@ use crate::term::renderer::Renderer;
 use crate::term::views::lines::{FileLines, Page};
 use crate::term::views::marks::LineMarks;
 use crate::term::views::sheet::SheetFile;
+use crate::term::views::table::Table;
 use codespan_base::files::{Error, Files};
 use codespan_base::term::WriteStyle;
 use std::convert::AsStr;
@@ -64,7 +65,7 @@ pub fn draw_snippet<'files, 'd, F: Files<'files>, W: WriteStyle>(
     requires steps { AllByRecursion (IsStepOf (F.file page.now.files.now snippet.now.file.now.id)) snippet.now.steps.items }
     requires fits { DoFit (map step_of snippet.now.steps.items) }
     ensures same { SameRenderer renderer.old renderer.new }
-    ensures draws { DrawsSnippet W.sink F.file F.refusal page.now snippet.now is_followed renderer.old result renderer.new }
+    ensures draws { DrawsSnippet W.sink ⟦<F as Table<'files>>⟧.table page.now snippet.now is_followed renderer.old result renderer.new }
 {
     let source = page.files.source(snippet.file.id)?;
     draw_start(page, renderer, snippet)?;
