@@ -19,6 +19,7 @@ use Rattle.codespan_picture.specs.Lookups.{filled_lines}
 use Rattle.codespan_reporting.specs.Inner.PlacedLabels.{IsIdAt, all_entries}
 use Rattle.codespan_picture.specs.Snippets.{InFile, LabelledFile, labelled_file, line_at, drawing, rows_after, has_any, file_ids}
 use Rattle.codespan_reporting.specs.Inner.Steps.{without_shown, steps_of, single_of, singles_in, line_of_group, rows_of_steps, fills_of, lines_of_steps, does_step_fit}
+use Rattle.codespan_reporting.specs.Inner.Tables.{FileTable}
 use Rattle.codespan_reporting.proofs.EntryGroups.{IsRising, steps_after, steps-by_line, all-on_line}
 use Rattle.codespan_reporting.proofs.EntryLines as entry_lines
 use Rattle.codespan_reporting.proofs.EntryLines.{HasPlace, says_range, is_of_range}
@@ -107,9 +108,16 @@ lines-rise f (x ∷ xs) h a = (
 
 -- ---- the entries of a file
 
-module _ {Id : Type 0} {same : Id → Id → Bool} {file : Id → FileModel} (table : AreFiles same file)
-    {config : Config} {xs : List (InFile Id)} {gathered : Gathered Id} (told : IsGathered same file config xs gathered)
-    (f : ℕ) (id : Id) (at : IsIdAt (file_ids same xs) f id) where
+module _ {Id : Type 0} {table : FileTable Id} (lawful : AreFiles table.same table.file)
+    {config : Config} {xs : List (InFile Id)} {gathered : Gathered Id} (told : IsGathered table config xs gathered)
+    (f : ℕ) (id : Id) (at : IsIdAt (file_ids table.same xs) f id) where
+  -- which ids name one file, and the file that an id names
+  abbrev same : Id → Id → Bool
+  same = table.same
+
+  abbrev file : Id → FileModel
+  file = table.file
+
   -- the entries as they were given
   abbrev all : List Entry
   all = all_entries same file config xs
@@ -137,9 +145,9 @@ module _ {Id : Type 0} {same : Id → Id → Bool} {file : Id → FileModel} (ta
   -- the file has this place among those of the labels
   here : HasPlace same file (file_ids same xs) f id
   here = record {
-    place = file_place-at same table.equivalence xs f id at;
-    one_file = λ i t. sym (table.one_file id i t);
-    some_line = table.some_line id;
+    place = file_place-at same lawful.equivalence xs f id at;
+    one_file = λ i t. sym (lawful.one_file id i t);
+    some_line = lawful.some_line id;
   }
 
   -- its entries are of the file

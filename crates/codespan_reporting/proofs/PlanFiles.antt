@@ -24,7 +24,7 @@ use Rattle.codespan_reporting.specs.declared.term.views.sheet.SheetFile.{SheetFi
 use Rattle.codespan_reporting.specs.declared.term.views.steps.Step.{Step as GivenStep}
 use Rattle.codespan_reporting.specs.declared.term.views.steps.Step.TheVariants as given
 use Rattle.codespan_reporting.specs.Inner.Entries.{Entry}
-use Rattle.codespan_reporting.specs.Inner.GivenSheets.{IsGathered, IsPlacedPlan, IsPrepared, IsSheetFile, ids_of, sheet_lookups}
+use Rattle.codespan_reporting.specs.Inner.GivenSheets.{sheet_numbers, sheet_refusal, IsGathered, IsPlacedPlan, IsPrepared, IsSheetFile, ids_of, sheet_lookups}
 use Rattle.codespan_reporting.specs.Inner.GivenEntries.{entry_of}
 use Rattle.codespan_reporting.specs.Inner.LabelledFiles.{IsTold, ids_given}
 use Rattle.codespan_reporting.specs.Inner.Lanes.{file_lanes, lanes_given}
@@ -35,6 +35,7 @@ use Rattle.codespan_reporting.specs.Inner.PlacedLabels.{IsIdAt}
 use Rattle.codespan_reporting.specs.Inner.Plans.{ArePlans, ArePlansOf, IsPlan, plan_digits, planned_lookups, plans_refusal, step_digits, steps_at}
 use Rattle.codespan_reporting.specs.Inner.StepDrawing.{DoFit}
 use Rattle.codespan_reporting.specs.Inner.Steps.{Step, fill_of, fills_of, line_of_step, lines_of_steps, rows_of_steps}
+use Rattle.codespan_reporting.specs.Inner.Tables.{FileTable}
 use Rattle.codespan_reporting.proofs.Askings.{or_refusal-answered}
 use Rattle.codespan_reporting.proofs.PlansFound.{by_place-same}
 use Rattle.codespan_reporting.proofs.SheetPrepared.{numbers-refused, sheet-is}
@@ -108,7 +109,14 @@ record DrawSnippet (config : Config) (s : LabelledFile) (steps : List Step) : Ty
 numbered : (config : Config) → config.layout ≡ Unbroken → (s : LabelledFile) → numbered_lines config s ≡ drawn_lines config s.file s.labels
 numbered config unbroken s = ap (λ v. numbered_lines (record config { layout = v }) s) unbroken
 
-module _ {Id : Type 0} {same : Id → Id → Bool} {file : Id → FileModel} (table : AreFiles same file) {config : Config} {xs : List (InFile Id)} {gathered : Gathered Id} (all : IsGathered same file config xs gathered) where
+module _ {Id : Type 0} {table : FileTable Id} (lawful : AreFiles table.same table.file) {config : Config} {xs : List (InFile Id)} {gathered : Gathered Id} (all : IsGathered table config xs gathered) where
+  -- which ids name one file, and the file that an id names
+  abbrev same : Id → Id → Bool
+  same = table.same
+
+  abbrev file : Id → FileModel
+  file = table.file
+
   -- its entries
   abbrev es : List Entry
   es = map entry_of gathered.entries.items
@@ -120,24 +128,23 @@ module _ {Id : Type 0} {same : Id → Id → Bool} {file : Id → FileModel} (ta
   -- the steps at a file's place are those of its snippet
   snippet : (k : ℕ) (id : Id) → IsIdAt (file_ids same xs) k id → DrawSnippet config (labelled id) (steps_at es k)
   snippet k id at = record {
-    fills = snippet-fills table all k id at;
-    lines = snippet-lines table all k id at;
-    rows = snippet-rows table all k id at;
-    fits = snippet-fits table all k id at;
+    fills = snippet-fills lawful all k id at;
+    lines = snippet-lines lawful all k id at;
+    rows = snippet-rows lawful all k id at;
+    fits = snippet-fits lawful all k id at;
   }
 
   -- the numbers that are asked for before the header are those of the padding
-  numbers-are : (refusal : Refusals Id) → planned_lookups config.layout es (ids_given gathered.files.items)
-      ≡ flat_map (λ id. asked_of id (numbers_for_padding config same file refusal xs config.layout id)) (file_ids same xs)
-  numbers-are refusal =
+  numbers-are : planned_lookups config.layout es (ids_given gathered.files.items) ≡ sheet_numbers config table xs
+  numbers-are =
       ap (planned_lookups config.layout es) all.files.ids_are
-      ∙ by_place-same (λ k id. asked_of id (numbers_asked config.layout (fills_of (steps_at es k)))) (λ id. asked_of id (numbers_for_padding config same file refusal xs config.layout id)) 0 (file_ids same xs)
+      ∙ by_place-same (λ k id. asked_of id (numbers_asked config.layout (fills_of (steps_at es k)))) (λ id. asked_of id (numbers_for_padding config same file table.refusal xs config.layout id)) 0 (file_ids same xs)
       (λ i id at. let e : 0 + i ≡ i = omega arith in
       ap (λ k. asked_of id (numbers_asked config.layout (fills_of (steps_at es k)))) e
       ∙ ap (λ (ls : List ℕ). asked_of id (numbers_asked config.layout ls)) (snippet i id at).fills
       ∙ ap (λ (ls : List Lookup). asked_of id ls) (by_layout config.layout id))
     where
-      by_layout : (layout : Layout) (id : Id) → numbers_asked layout (filled_lines config (labelled id)) ≡ numbers_for_padding config same file refusal xs layout id
+      by_layout : (layout : Layout) (id : Id) → numbers_asked layout (filled_lines config (labelled id)) ≡ numbers_for_padding config same file table.refusal xs layout id
       by_layout Classic id = refl
       by_layout Unbroken id = refl
 
@@ -227,7 +234,7 @@ module _ {Id : Type 0} {same : Id → Id → Bool} {file : Id → FileModel} (ta
 
     -- in the classic layout the labels tell the room for numbers
     pub spanned-padding : config.layout ≡ Classic → {padding : ℕ} → padding ≡ gathered.padding → padding ≡ padding_of config (labelled_files same file xs)
-    spanned-padding classic is = is ∙ all.files.padding_is ∙ spanned-room same file table.equivalence table.one_file config xs classic
+    spanned-padding classic is = is ∙ all.files.padding_is ∙ spanned-room same file lawful.equivalence lawful.one_file config xs classic
 
     -- in the unbroken layout the plans do
     pub drawn-padding : config.layout ≡ Unbroken → {padding : ℕ} → padding ≡ fold max 0 (flat_map plan_digits plans) → padding ≡ padding_of config (labelled_files same file xs)
@@ -274,23 +281,23 @@ module _ {Id : Type 0} (same : Id → Id → Bool) (file : Id → FileModel) (co
 
 -- ---- what was gathered, with its plans
 
-module _ {Id : Type 0} {same : Id → Id → Bool} {file : Id → FileModel} (table : AreFiles same file) {config : Config} {xs : List (InFile Id)} {gathered : Gathered Id} (all : IsGathered same file config xs gathered) where
+module _ {Id : Type 0} {table : FileTable Id} (lawful : AreFiles table.same table.file) {config : Config} {xs : List (InFile Id)} {gathered : Gathered Id} (all : IsGathered table config xs gathered) where
   -- a lookup of a number refuses
-  pub plans-refuse : (refusal : Refusals Id) {e : Error} → plans_refusal config.layout refusal gathered ≡ Some e → first_refusal refusal (sheet_lookups config same file refusal xs) ≡ Some e
-  plans-refuse refusal told = numbers-refused same file config xs refusal (numbers-are table all refusal) told
+  pub plans-refuse : {e : Error} → plans_refusal config.layout table.refusal gathered ≡ Some e → sheet_refusal config table xs ≡ Some e
+  plans-refuse told = numbers-refused table config xs (numbers-are lawful all) told
 
-  module _ (plans : List (FilePlan Id)) (found : ArePlansOf config.layout file gathered plans) where
+  module _ (plans : List (FilePlan Id)) (found : ArePlansOf config.layout table.file gathered plans) where
     -- the numbers are answered, and the places tell the rest
-    pub places-tell : (refusal : Refusals Id) → plans_refusal config.layout refusal gathered ≡ None → first_refusal refusal (sheet_lookups config same file refusal xs) ≡ first_refusal refusal (place_lookups plans)
-    places-tell refusal answered =
-        sheet-is same file config xs refusal plans (numbers-are table all refusal)
-        (ap (flat_map (λ id. asked_of id (locus_lookups same file xs id))) (sym (plan_ids table all plans found)) ∙ places-are same file config xs plans (file_plans table all plans found))
-        ∙ or_refusal-answered (plans_refusal config.layout refusal gathered) (first_refusal refusal (place_lookups plans)) answered
+    pub places-tell : plans_refusal config.layout table.refusal gathered ≡ None → sheet_refusal config table xs ≡ first_refusal table.refusal (place_lookups plans)
+    places-tell answered =
+        sheet-is table config xs plans (numbers-are lawful all)
+        (ap (flat_map (λ id. asked_of id (locus_lookups table.same table.file xs id))) (sym (plan_ids lawful all plans found)) ∙ places-are table.same table.file config xs plans (file_plans lawful all plans found))
+        ∙ or_refusal-answered (plans_refusal config.layout table.refusal gathered) (first_refusal table.refusal (place_lookups plans)) answered
 
     -- plans with their places, and the room for their numbers, are the sheet of the labels
-    pub sheet-prepared : {sheet : Sheet Id} → AllZip (IsPlacedPlan file) plans sheet.files.items → sheet.padding ≡ padding_of config (labelled_files same file xs) → IsPrepared same file config xs sheet
+    pub sheet-prepared : {sheet : Sheet Id} → AllZip (IsPlacedPlan table.file) plans sheet.files.items → sheet.padding ≡ padding_of config (labelled_files table.same table.file xs) → IsPrepared table config xs sheet
     sheet-prepared {sheet} placed padding = record {
-      ids_are = sheet_ids same file config xs plans sheet.files.items placed ∙ plan_ids table all plans found;
-      files_are = sheet_files same file config xs plans sheet.files.items placed (file_plans table all plans found);
+      ids_are = sheet_ids table.same table.file config xs plans sheet.files.items placed ∙ plan_ids lawful all plans found;
+      files_are = sheet_files table.same table.file config xs plans sheet.files.items placed (file_plans lawful all plans found);
       padding_is = padding;
     }

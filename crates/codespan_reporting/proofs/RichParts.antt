@@ -17,8 +17,10 @@ use Rattle.codespan_base.specs.WriterLaw.{Sink, Sends, Began, is_told, sent}
 use Rattle.codespan_base.proofs.Sends.{Began-first, Began-last, sent-nil}
 use Rattle.codespan_reporting.specs.declared.term.views.sheet.Sheet.{Sheet}
 use Rattle.codespan_reporting.specs.declared.term.views.sheet.SheetFile.{SheetFile}
+use Rattle.codespan_reporting.specs.Inner.AskedLabels.{labels_refusal}
 use Rattle.codespan_reporting.specs.Inner.Asking.{Came, Stopped, EndedAsking, SendsAsking}
 use Rattle.codespan_reporting.specs.Inner.GivenSheets.{IsPrepared, IsSheetFile, ids_of, places_of, sheet_refusal}
+use Rattle.codespan_reporting.specs.Inner.Tables.{FileTable}
 use Rattle.codespan_reporting.specs.Headline.{DrawsRich, ForSomeNames, NamesAreStated, drawn_picture}
 use Rattle.codespan_picture.specs.Lookups.{Refusals, early_lookups, first_refusal, label_lookups, late_lookups}
 use Rattle.codespan_picture.specs.Picture.{heading_of, label_of, labels_of, look_of, notes_of}
@@ -75,60 +77,60 @@ bare-whole {renderer = renderer} {view = view} {same = same} {file = file} {refu
 -- ---- before the header
 
 -- where the labels' lookups are answered, those of the sheet tell what those before the header are refused with
-early-is_sheet : {Id : Type 0} (view : Config) (same : Id → Id → Bool) (file : Id → FileModel) (refusal : Refusals Id) {given gathered items : List (Label Id)} → given ≡ items → gathered ≡ given
-    → first_refusal refusal (label_lookups view file refusal (map label_of given)) ≡ None
-    → first_refusal refusal (early_lookups view same file refusal (map label_of items)) ≡ sheet_refusal view same file refusal (map label_of gathered)
-early-is_sheet view same file refusal {given} given_are gathered_are answered =
-    ap (λ ls. first_refusal refusal (early_lookups view same file refusal (map label_of ls))) (sym given_are)
-    ∙ labels-answered same file view (map label_of given) refusal answered
-    ∙ ap (λ ls. sheet_refusal view same file refusal (map label_of ls)) (sym gathered_are)
+early-is_sheet : {Id : Type 0} (view : Config) (table : FileTable Id) {given gathered items : List (Label Id)} → given ≡ items → gathered ≡ given
+    → labels_refusal view table (map label_of given) ≡ None
+    → first_refusal table.refusal (early_lookups view table.same table.file table.refusal (map label_of items)) ≡ sheet_refusal view table (map label_of gathered)
+early-is_sheet view table {given} given_are gathered_are answered =
+    ap (λ ls. first_refusal table.refusal (early_lookups view table.same table.file table.refusal (map label_of ls))) (sym given_are)
+    ∙ labels-answered table view (map label_of given) answered
+    ∙ ap (λ ls. sheet_refusal view table (map label_of ls)) (sym gathered_are)
 
 -- a sheet that is prepared of the labels that were gathered is that of the diagnostic's
-pub prepared-of_all : {Id : Type 0} {view : Config} {same : Id → Id → Bool} {file : Id → FileModel} {given gathered items : List (Label Id)} {sheet : Sheet Id} → given ≡ items → gathered ≡ given
-    → IsPrepared same file view (map label_of gathered) sheet → IsPrepared same file view (map label_of items) sheet
-prepared-of_all {view = view} {same = same} {file = file} {sheet = sheet} given_are gathered_are prepared =
-    subst (λ ls. IsPrepared same file view (map label_of ls) sheet) (gathered_are ∙ given_are) prepared
+pub prepared-of_all : {Id : Type 0} {view : Config} {table : FileTable Id} {given gathered items : List (Label Id)} {sheet : Sheet Id} → given ≡ items → gathered ≡ given
+    → IsPrepared table view (map label_of gathered) sheet → IsPrepared table view (map label_of items) sheet
+prepared-of_all {view = view} {table = table} {sheet = sheet} given_are gathered_are prepared =
+    subst (λ ls. IsPrepared table view (map label_of ls) sheet) (gathered_are ∙ given_are) prepared
 
 -- a view is ready to draw: its sheet is prepared, and the lookups before the header are answered
-pub record IsReady {Id : Type 0} (view : Config) (same : Id → Id → Bool) (file : Id → FileModel) (refusal : Refusals Id) (d : Diagnostic Id) (sheet : Sheet Id) : Type 0 where
-  pub prepared : IsPrepared same file view (labels_of d) sheet
-  pub early : early_refusal view same file refusal d ≡ None
+pub record IsReady {Id : Type 0} (view : Config) (table : FileTable Id) (d : Diagnostic Id) (sheet : Sheet Id) : Type 0 where
+  pub prepared : IsPrepared table view (labels_of d) sheet
+  pub early : early_refusal view table.same table.file table.refusal d ≡ None
 
-module _ {Id : Type 0} {view : Config} {same : Id → Id → Bool} {file : Id → FileModel} {refusal : Refusals Id} {d : Diagnostic Id} {given : List (Label Id)} (given_are : given ≡ d.labels.items) where
+module _ {Id : Type 0} {view : Config} {table : FileTable Id} {d : Diagnostic Id} {given : List (Label Id)} (given_are : given ≡ d.labels.items) where
   -- a label's lookup refused
   pub stopped-gathering : {renderer : Config} {s : Sink} {e : Error} → 0 < length d.labels.items
-      → (e ≢ OutOfMemory → first_refusal refusal (label_lookups view file refusal (map label_of given)) ≡ Some e) → DrawsRich renderer view same file refusal d s (Err e) s
+      → (e ≢ OutOfMemory → labels_refusal view table (map label_of given) ≡ Some e) → DrawsRich renderer view table.same table.file table.refusal d s (Err e) s
   stopped-gathering {e = e} some told =
-      refused_early refl (some_early view same file refusal d some)
-      (λ memory display. ap (λ ls. first_refusal refusal (early_lookups view same file refusal (map label_of ls))) (sym given_are)
-      ∙ labels-refused same file view (map label_of given) refusal e (told memory))
+      refused_early refl (some_early view table.same table.file table.refusal d some)
+      (λ memory display. ap (λ ls. first_refusal table.refusal (early_lookups view table.same table.file table.refusal (map label_of ls))) (sym given_are)
+      ∙ labels-refused table view (map label_of given) e (told memory))
 
-  module _ {gathered : List (Label Id)} (gathered_are : gathered ≡ given) (answered : first_refusal refusal (label_lookups view file refusal (map label_of given)) ≡ None) where
+  module _ {gathered : List (Label Id)} (gathered_are : gathered ≡ given) (answered : labels_refusal view table (map label_of given) ≡ None) where
     -- a lookup of the sheet refused
     pub stopped-preparing : {renderer : Config} {s : Sink} {e : Error} → 0 < length d.labels.items
-        → (e ≢ OutOfMemory → e ≢ FormatError → sheet_refusal view same file refusal (map label_of gathered) ≡ Some e) → DrawsRich renderer view same file refusal d s (Err e) s
+        → (e ≢ OutOfMemory → e ≢ FormatError → sheet_refusal view table (map label_of gathered) ≡ Some e) → DrawsRich renderer view table.same table.file table.refusal d s (Err e) s
     stopped-preparing some told =
-        refused_early refl (some_early view same file refusal d some)
-        (λ memory display. early-is_sheet view same file refusal given_are gathered_are answered ∙ told memory display)
+        refused_early refl (some_early view table.same table.file table.refusal d some)
+        (λ memory display. early-is_sheet view table given_are gathered_are answered ∙ told memory display)
 
     -- all of these lookups are answered
-    pub ready : {sheet : Sheet Id} → IsPrepared same file view (map label_of gathered) sheet → sheet_refusal view same file refusal (map label_of gathered) ≡ None
-        → IsReady view same file refusal d sheet
+    pub ready : {sheet : Sheet Id} → IsPrepared table view (map label_of gathered) sheet → sheet_refusal view table (map label_of gathered) ≡ None
+        → IsReady view table d sheet
     ready prepared told = record {
       prepared = prepared-of_all given_are gathered_are prepared;
-      early = early-is_sheet view same file refusal given_are gathered_are answered ∙ told;
+      early = early-is_sheet view table given_are gathered_are answered ∙ told;
     }
 
 -- ---- from the header on
 
-module _ {Id : Type 0} {view : Config} {same : Id → Id → Bool} {file : Id → FileModel} {refusal : Refusals Id} {d : Diagnostic Id} {sheet : Sheet Id} (ready : IsReady view same file refusal d sheet) where
+module _ {Id : Type 0} {view : Config} {table : FileTable Id} {d : Diagnostic Id} {sheet : Sheet Id} (ready : IsReady view table d sheet) where
   -- the header, with the end of its row
   abbrev header : Stream
   header = header_row d.severity None (heading_of d) ++ newline
 
   -- the snippets, as a configuration draws them
   abbrev middle : Config → Stream
-  middle k = stream_of_rows (look_of k d.severity sheet.padding) (placed_snippets view (has_any (notes_of d)) (places_of sheet.files.items) (labelled_files same file (labels_of d)))
+  middle k = stream_of_rows (look_of k d.severity sheet.padding) (placed_snippets view (has_any (notes_of d)) (places_of sheet.files.items) (labelled_files table.same table.file (labels_of d)))
 
   -- the notes and the empty line
   abbrev end : Config → Stream
@@ -140,22 +142,22 @@ module _ {Id : Type 0} {view : Config} {same : Id → Id → Bool} {file : Id �
 
   -- the call draws the snippets so, and makes their lookups
   abbrev DrawsMiddle : Config → Sink → Result (Unit {0}) Error → Sink → Type 0
-  DrawsMiddle k old r new = SendsAsking (late_refusal view same file refusal d) old (middle k) r new
+  DrawsMiddle k old r new = SendsAsking (late_refusal view table.same table.file table.refusal d) old (middle k) r new
 
   -- where the snippets start are places of the files
-  places-are : AllZip IsPlaceOfFile (labelled_files same file (labels_of d)) (places_of sheet.files.items)
+  places-are : AllZip IsPlaceOfFile (labelled_files table.same table.file (labels_of d)) (places_of sheet.files.items)
   places-are =
-      subst (λ (ids : List Id). AllZip IsPlaceOfFile (map (labelled_file same file (labels_of d)) ids) (places_of sheet.files.items)) ready.prepared.ids_are (from sheet.files.items ready.prepared.files_are)
+      subst (λ (ids : List Id). AllZip IsPlaceOfFile (map (labelled_file table.same table.file (labels_of d)) ids) (places_of sheet.files.items)) ready.prepared.ids_are (from sheet.files.items ready.prepared.files_are)
     where
-      from : (fs : List (SheetFile Id)) → AllByRecursion (λ (f : SheetFile Id). IsSheetFile view (labelled_file same file (labels_of d) f.file.now.id) f) fs
-          → AllZip IsPlaceOfFile (map (labelled_file same file (labels_of d)) (ids_of fs)) (places_of fs)
+      from : (fs : List (SheetFile Id)) → AllByRecursion (λ (f : SheetFile Id). IsSheetFile view (labelled_file table.same table.file (labels_of d) f.file.now.id) f) fs
+          → AllZip IsPlaceOfFile (map (labelled_file table.same table.file (labels_of d)) (ids_of fs)) (places_of fs)
       from [] are = tt
       from (f ∷ fs) are = (are.0.place, from fs are.1)
 
   -- the picture with these places is all of these
-  placed-is : (renderer : Config) → ForSomeNames renderer view same file refusal d Rich (λ s. s ≡ whole renderer)
+  placed-is : (renderer : Config) → ForSomeNames renderer view table.same table.file table.refusal d Rich (λ s. s ≡ whole renderer)
   placed-is renderer =
-      let rows = placed_snippets view (has_any (notes_of d)) (places_of sheet.files.items) (labelled_files same file (labels_of d)) in
+      let rows = placed_snippets view (has_any (notes_of d)) (places_of sheet.files.items) (labelled_files table.same table.file (labels_of d)) in
       let look = look_of renderer d.severity sheet.padding in
       let ended : Row → Stream = λ row. stream_of look row ++ newline in
       record {
@@ -167,25 +169,25 @@ module _ {Id : Type 0} {view : Config} {same : Id → Id → Bool} {file : Id �
       }
 
   -- a beginning of that is one of the picture, where the names are stated
-  begun-as : (renderer : Config) {old new : Sink} → (is_told old ≡ true → Began old (whole renderer) new) → NamesAreStated file d → is_told old ≡ true
-      → Began old (drawn_picture renderer view same file refusal d Rich) new
+  begun-as : (renderer : Config) {old new : Sink} → (is_told old ≡ true → Began old (whole renderer) new) → NamesAreStated table.file d → is_told old ≡ true
+      → Began old (drawn_picture renderer view table.same table.file table.refusal d Rich) new
   begun-as renderer {old} {new} begun named told =
       let names = placed-is renderer in
       Began-as old new (whole renderer) _ (sym (named-is names named) ∙ names.holds) (begun told)
 
   module _ {renderer : Config} where
     -- the header was cut short
-    pub stopped-in_header : {old new : Sink} {e : Error} → Sends old header (Err e) new → IsIo e → DrawsRich renderer view same file refusal d old (Err e) new
+    pub stopped-in_header : {old new : Sink} {e : Error} → Sends old header (Err e) new → IsIo e → DrawsRich renderer view table.same table.file table.refusal d old (Err e) new
     stopped-in_header sends io = refused_by_writer ready.early sends.0 io (begun-as renderer (stopped-before (end renderer) (stopped-before (middle renderer) sends)).1)
 
     -- the snippets were cut short, drawn by an equal configuration
     pub stopped-in_snippets : {now : Config} {old mid new : Sink} {e : Error} → 0 < length d.labels.items → Came old header mid → now ≡ renderer
-        → DrawsMiddle now mid (Err e) new → DrawsRich renderer view same file refusal d old (Err e) new
+        → DrawsMiddle now mid (Err e) new → DrawsRich renderer view table.same table.file table.refusal d old (Err e) new
     stopped-in_snippets {now} {old} {mid} {new} {e} some came alike part =
         ⊎_elim
         (λ (w : IsIo e × Stopped mid (middle renderer) new). let stopped = stopped-before (end renderer) (stopped-then header came w.1) in refused_by_writer ready.early stopped.0 w.0 (begun-as renderer stopped.1))
-        (λ (w : EndedAsking (late_refusal view same file refusal d) mid (middle renderer) e new).
-        refused_late ready.early (w.frame ∙ came.0) (some_late view same file refusal d some) w.told
+        (λ (w : EndedAsking (late_refusal view table.same table.file table.refusal d) mid (middle renderer) e new).
+        refused_late ready.early (w.frame ∙ came.0) (some_late view table.same table.file table.refusal d some) w.told
         (begun-as renderer (λ told. cut told (came.1 told) w.begun)))
         (subst (λ (k : Config). DrawsMiddle k mid (Err e) new) alike part)
       where
@@ -197,7 +199,7 @@ module _ {Id : Type 0} {view : Config} {same : Id → Id → Bool} {file : Id �
     -- header and snippets came, and then the notes were sent
     pub drawn-whole : {second third : Config} {old mid last new : Sink} (r : Result (Unit {0}) Error) → Came old header mid
         → second ≡ renderer → DrawsMiddle second mid (Ok tt) last
-        → third ≡ renderer → Sends last (end third) r new → IfErr r IsIo → DrawsRich renderer view same file refusal d old r new
+        → third ≡ renderer → Sends last (end third) r new → IfErr r IsIo → DrawsRich renderer view table.same table.file table.refusal d old r new
     drawn-whole {old = old} {mid = mid} {last = last} {new = new} r came alike part alike_end sends io =
         let drawn = subst (λ (k : Config). DrawsMiddle k mid (Ok tt) last) alike part in
         finished (header ++ middle renderer) (end renderer) r ready.early (drawn.0, came-then old header (middle renderer) came drawn.1)

@@ -23,6 +23,7 @@ use Rattle.codespan_reporting.specs.Inner.GivenSheets.{IsPrepared, IsSheetFile, 
 use Rattle.codespan_reporting.specs.Inner.GivenSnippets.{lookups_with, rows_in}
 use Rattle.codespan_reporting.specs.Inner.GivenSteps.{step_of}
 use Rattle.codespan_reporting.specs.Inner.Lanes.{lane_given}
+use Rattle.codespan_reporting.specs.Inner.Tables.{FileTable}
 use Rattle.codespan_reporting.specs.Inner.Steps.{rows_of_steps}
 use Rattle.codespan_reporting.specs.Views.{diagnostic_of, view_config_of}
 use Rattle.codespan_reporting.specs.declared.term.views.rich.RichDiagnostic.{RichDiagnostic}
@@ -100,10 +101,10 @@ module _ {Id : Type 0} {files : List (SheetFile Id)} {k : ℕ} {f : SheetFile Id
   place-at = ap (λ (g : SheetFile Id). place_of_given g.locus) at.is ∙ sym (get_or-map (λ (g : SheetFile Id). place_of_given g.locus) files k f (place_of_given f.locus) at.inside)
 
 -- it is the file of its labels
-pub is-sheet_file : {Id : Type 0} {same : Id → Id → Bool} {file : Id → FileModel} {config : Config} {xs : List (InFile Id)} {sheet : Sheet Id} {k : ℕ} {f : SheetFile Id}
-    → IsPrepared same file config xs sheet → IsFileAt sheet.files.items k f → IsSheetFile config (labelled_file same file xs f.file.now.id) f
-is-sheet_file {Id} {same} {file} {config} {xs} {sheet} {k} {f} prepared at =
-    let Is : SheetFile Id → Type 0 = λ h. IsSheetFile config (labelled_file same file xs h.file.now.id) h in
+pub is-sheet_file : {Id : Type 0} {table : FileTable Id} {config : Config} {xs : List (InFile Id)} {sheet : Sheet Id} {k : ℕ} {f : SheetFile Id}
+    → IsPrepared table config xs sheet → IsFileAt sheet.files.items k f → IsSheetFile config (labelled_file table.same table.file xs f.file.now.id) f
+is-sheet_file {Id} {table} {config} {xs} {sheet} {k} {f} prepared at =
+    let Is : SheetFile Id → Type 0 = λ h. IsSheetFile config (labelled_file table.same table.file xs h.file.now.id) h in
     subst Is (sym at.is) (All-from_recursion Is sheet.files.items prepared.files_are k f at.inside)
 
 module _ {Id : Type 0} {config : Config} {own : LabelledFile} {f : SheetFile Id} (is : IsSheetFile config own f) where
@@ -120,14 +121,14 @@ module _ {Id : Type 0} {config : Config} {own : LabelledFile} {f : SheetFile Id}
 
 -- ---- the files from a place on
 
-module _ {Id : Type 0} (same : Id → Id → Bool) (file : Id → FileModel) (view : RichDiagnostic Id) where
+module _ {Id : Type 0} (table : FileTable Id) (view : RichDiagnostic Id) where
   -- a file with its labels
   abbrev pub labelled : Id → LabelledFile
-  labelled = labelled_file same file (labels_of (diagnostic_of view))
+  labelled = labelled_file table.same table.file (labels_of (diagnostic_of view))
 
   -- the lookups with a file's snippet
   abbrev pub asked_with : Id → List (Id × Lookup)
-  asked_with = snippet_lookups (view_config_of view) same file (labels_of (diagnostic_of view))
+  asked_with = snippet_lookups (view_config_of view) table.same table.file (labels_of (diagnostic_of view))
 
   module _ (sheet : Sheet Id) where
     -- the rows of the files from a place on
@@ -139,21 +140,21 @@ module _ {Id : Type 0} (same : Id → Id → Bool) (file : Id → FileModel) (vi
     asked_left k = flat_map asked_with (drop k (ids_of sheet.files.items))
 
     -- the files before this place are drawn, and all lookups with them were answered
-    pub record SnippetsLeft (refusal : Refusals Id) (renderer : Config) (k : ℕ) (old now : Sink) : Type 0 where
+    pub record SnippetsLeft (renderer : Config) (k : ℕ) (old now : Sink) : Type 0 where
       pub rows : List Row
       pub drawn : IsAsking None old (stream_of_rows (look_of renderer (diagnostic_of view).severity sheet.padding) rows) (Ok tt) now
       pub rows_whole : rows ++ rows_left k ≡ rows_left 0
       pub asked : List (Id × Lookup)
-      pub answered : first_refusal refusal asked ≡ None
+      pub answered : first_refusal table.refusal asked ≡ None
       pub asked_whole : asked ++ asked_left k ≡ asked_left 0
 
 -- no file is drawn
-pub left-start : {Id : Type 0} {same : Id → Id → Bool} {file : Id → FileModel} {refusal : Refusals Id} {view : RichDiagnostic Id} {renderer : Config} {sheet : Sheet Id} {s : Sink}
-    → SnippetsLeft same file view sheet refusal renderer 0 s s
+pub left-start : {Id : Type 0} {table : FileTable Id} {view : RichDiagnostic Id} {renderer : Config} {sheet : Sheet Id} {s : Sink}
+    → SnippetsLeft table view sheet renderer 0 s s
 left-start = record { rows = []; drawn = asking_nothing; rows_whole = refl; asked = []; answered = refl; asked_whole = refl }
 
-module _ {Id : Type 0} {same : Id → Id → Bool} {file : Id → FileModel} {refusal : Refusals Id} {view : RichDiagnostic Id} {renderer : Config} {sheet : Sheet Id} {k : ℕ} {old mid : Sink}
-    (prepared : IsPrepared same file (view_config_of view) (labels_of (diagnostic_of view)) sheet) (left : SnippetsLeft same file view sheet refusal renderer k old mid) where
+module _ {Id : Type 0} {table : FileTable Id} {view : RichDiagnostic Id} {renderer : Config} {sheet : Sheet Id} {k : ℕ} {old mid : Sink}
+    (prepared : IsPrepared table (view_config_of view) (labels_of (diagnostic_of view)) sheet) (left : SnippetsLeft table view sheet renderer k old mid) where
   -- what all rows share, as a configuration draws them
   abbrev look_by : Config → Look
   look_by config = look_of config (diagnostic_of view).severity sheet.padding
@@ -175,29 +176,29 @@ module _ {Id : Type 0} {same : Id → Id → Bool} {file : Id → FileModel} {re
 
   -- the rows of these files, whose snippets start at these places
   abbrev drawn_at : List Place → List Id → List Row
-  drawn_at ps js = placed_snippets (view_config_of view) has_notes ps (map (labelled same file view) js)
+  drawn_at ps js = placed_snippets (view_config_of view) has_notes ps (map (labelled table view) js)
 
   -- the rows of the files from a place on, and their lookups
   abbrev rest : ℕ → List Row
-  rest = rows_left same file view sheet
+  rest = rows_left table view sheet
 
   abbrev asks : ℕ → List (Id × Lookup)
-  asks = asked_left same file view sheet
+  asks = asked_left table view sheet
 
   -- the rows of all files
   abbrev all_rows : List Row
-  all_rows = placed_snippets (view_config_of view) has_notes places (labelled_files same file (labels_of (diagnostic_of view)))
+  all_rows = placed_snippets (view_config_of view) has_notes places (labelled_files table.same table.file (labels_of (diagnostic_of view)))
 
   -- what all their lookups are refused with
   abbrev all_refusal : Option Error
-  all_refusal = first_refusal refusal (late_lookups (view_config_of view) same file refusal (labels_of (diagnostic_of view)))
+  all_refusal = first_refusal table.refusal (late_lookups (view_config_of view) table.same table.file table.refusal (labels_of (diagnostic_of view)))
 
   -- from the first place on these are all of them
   rows-all : rest 0 ≡ all_rows
   rows-all = ap (drawn_at places) prepared.ids_are
 
-  refusal-all : first_refusal refusal (asks 0) ≡ all_refusal
-  refusal-all = ap (λ js. first_refusal refusal (flat_map (asked_with same file view) js)) prepared.ids_are
+  refusal-all : first_refusal table.refusal (asks 0) ≡ all_refusal
+  refusal-all = ap (λ js. first_refusal table.refusal (flat_map (asked_with table view) js)) prepared.ids_are
 
   -- all files are drawn
   pub left-end : {gs : List (SheetFile Id)} → gs ≡ sheet.files.items → length gs ≤ k → SendsAsking all_refusal old (stream_of_rows look all_rows) (Ok tt) mid
@@ -205,7 +206,7 @@ module _ {Id : Type 0} {same : Id → Id → Bool} {file : Id → FileModel} {re
       let none : drop k ids ≡ [] =
       drop-end ids k (omega (arith, ids-count sheet.files.items, subst (λ (hs : List (SheetFile Id)). length hs ≤ k) alike past)) in
       subst₂ (λ (o : Option Error) (s : Stream). SendsAsking o old s (Ok tt) mid)
-      (sym left.answered ∙ ap (first_refusal refusal) (sym (append-nil left.asked) ∙ ap (λ js. left.asked ++ flat_map (asked_with same file view) js) (sym none) ∙ left.asked_whole) ∙ refusal-all)
+      (sym left.answered ∙ ap (first_refusal table.refusal) (sym (append-nil left.asked) ∙ ap (λ js. left.asked ++ flat_map (asked_with table view) js) (sym none) ∙ left.asked_whole) ∙ refusal-all)
       (ap (stream_of_rows look) (sym (append-nil left.rows) ∙ ap (λ r. left.rows ++ r) (sym (no-rows (drop k places)) ∙ ap (drawn_at (drop k places)) (sym none))
       ∙ left.rows_whole ∙ rows-all))
       left.drawn.draws
@@ -217,7 +218,7 @@ module _ {Id : Type 0} {same : Id → Id → Bool} {file : Id → FileModel} {re
   module _ {f : SheetFile Id} {notes : Bool} {count : ℕ} {now : Config} (at : IsFileAt sheet.files.items k f) (notes_are : notes ≡ has_notes) (count_is : count ≡ length sheet.files.items) (alike : now ≡ renderer) where
     -- the file with its labels
     abbrev own : LabelledFile
-    own = labelled same file view f.file.now.id
+    own = labelled table view f.file.now.id
 
     -- the rows of the file at the place
     abbrev rows_here : List Row
@@ -225,7 +226,7 @@ module _ {Id : Type 0} {same : Id → Id → Bool} {file : Id → FileModel} {re
 
     -- its lookups
     abbrev asked_here : List (Id × Lookup)
-    asked_here = asked_with same file view f.file.now.id
+    asked_here = asked_with table view f.file.now.id
 
     -- these rows come first among those that are left
     rows-next : rest k ≡ rows_here ++ rest (k + 1)
@@ -233,32 +234,32 @@ module _ {Id : Type 0} {same : Id → Id → Bool} {file : Id → FileModel} {re
         ∙ ap (drawn_at (place_of_given f.locus ∷ drop (k + 1) places)) (drop-one ids k f.file.now.id (id-inside at) (id-at at))
         ∙ ap (λ (b : Bool). placed_snippet (view_config_of view) b (place_of_given f.locus) own ++ rest (k + 1)) (followed-mapped (drop (k + 1) ids))
       where
-        followed-mapped : (js : List Id) → is_followed has_notes (map (labelled same file view) js) ≡ is_followed has_notes js
+        followed-mapped : (js : List Id) → is_followed has_notes (map (labelled table view) js) ≡ is_followed has_notes js
         followed-mapped [] = refl
         followed-mapped (j ∷ js) = refl
 
     -- and so do its lookups
     asked-next : asks k ≡ asked_here ++ asks (k + 1)
-    asked-next = ap (flat_map (asked_with same file view)) (drop-one ids k f.file.now.id (id-inside at) (id-at at))
+    asked-next = ap (flat_map (asked_with table view)) (drop-one ids k f.file.now.id (id-inside at) (id-at at))
 
     -- the call draws it so: its own lookups, and its own rows, by an equal configuration
     abbrev DrawsHere : Result (Unit {0}) Error → Sink → Type 0
     DrawsHere r new =
-        SendsAsking (first_refusal refusal (asked_of f.file.now.id (lookups_with f))) mid (stream_of_rows (look_by now) (rows_in f (file f.file.now.id) (notes || nat_lt (k + 1) count))) r new
+        SendsAsking (first_refusal table.refusal (asked_of f.file.now.id (lookups_with f))) mid (stream_of_rows (look_by now) (rows_in f (table.file f.file.now.id) (notes || nat_lt (k + 1) count))) r new
 
     -- these are the rows and the lookups at the place
-    drawn-here : (r : Result (Unit {0}) Error) (new : Sink) → DrawsHere r new → IsAsking (first_refusal refusal asked_here) mid (stream_of_rows look rows_here) r new
+    drawn-here : (r : Result (Unit {0}) Error) (new : Sink) → DrawsHere r new → IsAsking (first_refusal table.refusal asked_here) mid (stream_of_rows look rows_here) r new
     drawn-here r new draws =
         let is = is-sheet_file prepared at in
         let followed : (notes || nat_lt (k + 1) count) ≡ is_followed has_notes (drop (k + 1) ids) =
         (λ i. notes_are i || nat_lt (k + 1) ((count_is ∙ sym (ids-count sheet.files.items)) i)) ∙ sym (followed-at has_notes ids k) in
-        asking_as (ap (λ (ls : List Lookup). first_refusal refusal (asked_of f.file.now.id (Source ∷ ls))) is.asked)
+        asking_as (ap (λ (ls : List Lookup). first_refusal table.refusal (asked_of f.file.now.id (Source ∷ ls))) is.asked)
         ((λ i. stream_of_rows (look_by (alike i)) (rows-are is (notes || nat_lt (k + 1) count) i))
         ∙ ap (λ (b : Bool). stream_of_rows look (placed_snippet (view_config_of view) b (place_of_given f.locus) own)) followed)
         (record { draws = draws })
 
     -- the file is drawn
-    pub left-next : {new : Sink} → DrawsHere (Ok tt) new → SnippetsLeft same file view sheet refusal renderer (k + 1) old new
+    pub left-next : {new : Sink} → DrawsHere (Ok tt) new → SnippetsLeft table view sheet renderer (k + 1) old new
     left-next {new} draws =
         let drawn = drawn-here (Ok tt) new draws in
         record {
@@ -266,19 +267,19 @@ module _ {Id : Type 0} {same : Id → Id → Bool} {file : Id → FileModel} {re
           drawn = asking_as drawn.draws.0 (sym (rows-two look left.rows rows_here)) (asking_then left.drawn drawn);
           rows_whole = append_assoc left.rows rows_here (rest (k + 1)) ∙ ap (λ (r : List Row). left.rows ++ r) (sym rows-next) ∙ left.rows_whole;
           asked = left.asked ++ asked_here;
-          answered = first_refusal-append refusal left.asked asked_here ∙ ap (λ (o : Option Error). or_refusal o (first_refusal refusal asked_here)) left.answered ∙ drawn.draws.0;
+          answered = first_refusal-append table.refusal left.asked asked_here ∙ ap (λ (o : Option Error). or_refusal o (first_refusal table.refusal asked_here)) left.answered ∙ drawn.draws.0;
           asked_whole = append_assoc left.asked asked_here (asks (k + 1)) ∙ ap (λ (ls : List (Id × Lookup)). left.asked ++ ls) (sym asked-next) ∙ left.asked_whole;
         }
 
     -- the file was cut short
     pub left-cut : {new : Sink} {e : Error} → DrawsHere (Err e) new → SendsAsking all_refusal old (stream_of_rows look all_rows) (Err e) new
     left-cut {new} {e} draws =
-        let here = first_refusal refusal asked_here in
-        let after = first_refusal refusal (asks (k + 1)) in
+        let here = first_refusal table.refusal asked_here in
+        let after = first_refusal table.refusal (asks (k + 1)) in
         (asking_as
         (sym (ap (λ (o : Option Error). or_refusal o (or_refusal here after)) left.answered)
-        ∙ ap (or_refusal (first_refusal refusal left.asked)) (sym (first_refusal-append refusal asked_here (asks (k + 1))) ∙ ap (first_refusal refusal) (sym asked-next))
-        ∙ sym (first_refusal-append refusal left.asked (asks k)) ∙ ap (first_refusal refusal) left.asked_whole ∙ refusal-all)
+        ∙ ap (or_refusal (first_refusal table.refusal left.asked)) (sym (first_refusal-append table.refusal asked_here (asks (k + 1))) ∙ ap (first_refusal table.refusal) (sym asked-next))
+        ∙ sym (first_refusal-append table.refusal left.asked (asks k)) ∙ ap (first_refusal table.refusal) left.asked_whole ∙ refusal-all)
         (ap (λ (s : Stream). stream_of_rows look left.rows ++ s) (sym (rows-two look rows_here (rest (k + 1))) ∙ ap (stream_of_rows look) (sym rows-next))
         ∙ sym (rows-two look left.rows (rest k)) ∙ ap (stream_of_rows look) (left.rows_whole ∙ rows-all))
         (asking_then left.drawn (asking_cut after (stream_of_rows look (rest (k + 1))) (drawn-here (Err e) new draws)))).draws

@@ -1,5 +1,5 @@
 -- What a view knows before it draws: what labels say of lines, in order, and the files of the picture with what is drawn of them.
-use Rattle.std.specs.Prelude.{◌≡◌, Bool, List, [], ◌++◌, flat_map, fold, map, max, Option, None}
+use Rattle.std.specs.Prelude.{◌≡◌, List, [], ◌++◌, flat_map, fold, map, max, Option, None}
 use Rattle.std.specs.List.{AllByRecursion}
 use Rattle.std.specs.List.Sorted.{IsPermutation, IsSortedBy}
 use Rattle.codespan_base.specs.declared.files.Error.{Error}
@@ -7,7 +7,7 @@ use Rattle.codespan_base.specs.declared.term.config.Config.{Config}
 use Rattle.codespan_base.specs.FileModel.{FileModel, Lookup}
 use Rattle.codespan_picture.specs.Given.{place_of_given}
 use Rattle.codespan_picture.specs.Lines.{drawn_lines}
-use Rattle.codespan_picture.specs.Lookups.{Refusals, asked_of, filled_lines, first_refusal, locus_lookups, numbers_for_padding, of_filled}
+use Rattle.codespan_picture.specs.Lookups.{asked_of, filled_lines, first_refusal, locus_lookups, numbers_for_padding, of_filled}
 use Rattle.codespan_picture.specs.Padding.{padding_of}
 use Rattle.codespan_picture.specs.Placed.{IsPlaceIn, IsPlaceOfFile}
 use Rattle.codespan_picture.specs.Rows.{Place}
@@ -26,6 +26,7 @@ use Rattle.codespan_reporting.specs.Inner.PlacedLabels.{all_entries}
 use Rattle.codespan_reporting.specs.Inner.SpannedDigits.{all_digits}
 use Rattle.codespan_reporting.specs.Inner.StepDrawing.{DoFit}
 use Rattle.codespan_reporting.specs.Inner.Steps.{rows_of_steps}
+use Rattle.codespan_reporting.specs.Inner.Tables.{FileTable}
 
 -- where the snippet of each file starts
 abbrev pub places_of : {Id : Type 0} → List (SheetFile Id) → List Place
@@ -50,37 +51,44 @@ pub record IsPlacedPlan {Id : Type 0} (file : Id → FileModel) (plan : FilePlan
   pub steps_are : placed.steps.items ≡ plan.steps.items
   pub place : IsPlaceIn (file plan.file.now.id) (start_byte plan.file.now.start) (place_of_given placed.locus)
 
-module _ {Id : Type 0} (same : Id → Id → Bool) (file : Id → FileModel) where
+module _ {Id : Type 0} (table : FileTable Id) where
   -- the files of these labels were gathered, with what the labels tell of each, and the room for the numbers of lines
   pub record AreFilesGathered (xs : List (InFile Id)) (gathered : Gathered Id) : Type 0 where
-    pub ids_are : ids_given gathered.files.items ≡ file_ids same xs
-    pub told : AllByRecursion (IsTold same file xs) gathered.files.items
-    pub padding_is : gathered.padding ≡ fold max 0 (all_digits file xs)
+    pub ids_are : ids_given gathered.files.items ≡ file_ids table.same xs
+    pub told : AllByRecursion (IsTold table.same table.file xs) gathered.files.items
+    pub padding_is : gathered.padding ≡ fold max 0 (all_digits table.file xs)
 
   -- this was gathered of these labels, one after another
   pub record IsGatheredInTurn (config : Config) (xs : List (InFile Id)) (gathered : Gathered Id) : Type 0 where
     pub files : AreFilesGathered xs gathered
-    pub adds : Adds (IsOfFiles file (ids_given gathered.files.items)) [] gathered.entries.items (all_entries same file config xs)
+    pub adds : Adds (IsOfFiles table.file (ids_given gathered.files.items)) [] gathered.entries.items (all_entries table.same table.file config xs)
 
   -- this was gathered of these labels, and is in order
   pub record IsGathered (config : Config) (xs : List (InFile Id)) (gathered : Gathered Id) : Type 0 where
     pub files : AreFilesGathered xs gathered
     pub sorted : IsSortedBy is_below (map entry_of gathered.entries.items)
-    pub permutation : IsPermutation (all_entries same file config xs) (map entry_of gathered.entries.items)
-    pub lines : AllByRecursion (IsOfFiles file (ids_given gathered.files.items)) gathered.entries.items
+    pub permutation : IsPermutation (all_entries table.same table.file config xs) (map entry_of gathered.entries.items)
+    pub lines : AllByRecursion (IsOfFiles table.file (ids_given gathered.files.items)) gathered.entries.items
 
   -- the sheet is that of these labels
   pub record IsPrepared (config : Config) (xs : List (InFile Id)) (sheet : Sheet Id) : Type 0 where
-    pub ids_are : ids_of sheet.files.items ≡ file_ids same xs
-    pub files_are : AllByRecursion (λ f. IsSheetFile config (labelled_file same file xs f.file.now.id) f) sheet.files.items
-    pub padding_is : sheet.padding ≡ padding_of config (labelled_files same file xs)
+    pub ids_are : ids_of sheet.files.items ≡ file_ids table.same xs
+    pub files_are : AllByRecursion (λ f. IsSheetFile config (labelled_file table.same table.file xs f.file.now.id) f) sheet.files.items
+    pub padding_is : sheet.padding ≡ padding_of config (labelled_files table.same table.file xs)
 
--- the lookups of the numbers and places of a picture's files, which come after those of its labels
-abbrev pub sheet_lookups : {Id : Type 0} → Config → (Id → Id → Bool) → (Id → FileModel) → Refusals Id → List (InFile Id) → List (Id × Lookup)
-sheet_lookups config same file refusal xs =
-    flat_map (λ id. asked_of id (numbers_for_padding config same file refusal xs config.layout id)) (file_ids same xs)
-    ++ flat_map (λ id. asked_of id (locus_lookups same file xs id)) (file_ids same xs)
+-- the lookups of the numbers of a picture's files
+abbrev pub sheet_numbers : {Id : Type 0} → Config → FileTable Id → List (InFile Id) → List (Id × Lookup)
+sheet_numbers config table xs =
+    flat_map (λ id. asked_of id (numbers_for_padding config table.same table.file table.refusal xs config.layout id)) (file_ids table.same xs)
+
+-- those of their names and places
+abbrev pub sheet_places : {Id : Type 0} → FileTable Id → List (InFile Id) → List (Id × Lookup)
+sheet_places table xs = flat_map (λ id. asked_of id (locus_lookups table.same table.file xs id)) (file_ids table.same xs)
+
+-- both, which come after those of its labels
+abbrev pub sheet_lookups : {Id : Type 0} → Config → FileTable Id → List (InFile Id) → List (Id × Lookup)
+sheet_lookups config table xs = sheet_numbers config table xs ++ sheet_places table xs
 
 -- what these lookups are refused with
-abbrev pub sheet_refusal : {Id : Type 0} → Config → (Id → Id → Bool) → (Id → FileModel) → Refusals Id → List (InFile Id) → Option Error
-sheet_refusal config same file refusal xs = first_refusal refusal (sheet_lookups config same file refusal xs)
+abbrev pub sheet_refusal : {Id : Type 0} → Config → FileTable Id → List (InFile Id) → Option Error
+sheet_refusal config table xs = first_refusal table.refusal (sheet_lookups config table xs)

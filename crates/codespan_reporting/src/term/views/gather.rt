@@ -231,7 +231,7 @@ pub fn gather<'files, 'd, F: Files<'files>>(
     labels: &'d [Label<F::FileId>],
 ) -> Result<Gathered<'d, F::FileId>, Error>
     ensures labels { IfOk result (λ gathered. gathered.labels.now ≡ labels.now) }
-    ensures gathered { IfOk result (IsGathered F.FileId.eq (F.file files.now) config.now (map label_of labels.now)) }
+    ensures gathered { IfOk result (IsGathered (⟦<F as Table<'files>>⟧.table files.now) config.now (map label_of labels.now)) }
     ensures refused { Tells (labels_refusal config.now (⟦<F as Table<'files>>⟧.table files.now) (map label_of labels.now)) result }
 {
     let mut gathered = gather_in_turn(alloc, files, config, labels)?;
@@ -247,7 +247,7 @@ fn gather_in_turn<'files, 'd, F: Files<'files>>(
     labels: &'d [Label<F::FileId>],
 ) -> Result<Gathered<'d, F::FileId>, Error>
     ensures labels { IfOk result (λ gathered. gathered.labels.now ≡ labels.now) }
-    ensures gathered { IfOk result (IsGatheredInTurn F.FileId.eq (F.file files.now) config.now (map label_of labels.now)) }
+    ensures gathered { IfOk result (IsGatheredInTurn (⟦<F as Table<'files>>⟧.table files.now) config.now (map label_of labels.now)) }
     ensures refused { Tells (labels_refusal config.now (⟦<F as Table<'files>>⟧.table files.now) (map label_of labels.now)) result }
 {
     let mut labelled = Vec::new(alloc);

@@ -111,7 +111,7 @@ impl<'diagnostic, 'config, FileId: Copy + Eq> RichDiagnostic<'diagnostic, 'confi
         F: Files<'files, FileId = FileId>,
         W: WriteStyle,
         FileId: 'files,
-        requires { IsPrepared FileId.eq (F.file files.now) (view_config_of self.now) (labels_of (diagnostic_of self.now)) sheet.now }
+        requires { IsPrepared (⟦<F as Table<'files>>⟧.table files.now) (view_config_of self.now) (labels_of (diagnostic_of self.now)) sheet.now }
         ensures same { SameRenderer renderer.old renderer.new }
         ensures draws { DrawsSnippets W.sink (⟦<F as Table<'files>>⟧.table files.now) self.now sheet.now renderer.old result renderer.new }
     {

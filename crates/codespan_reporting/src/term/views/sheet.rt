@@ -12,6 +12,7 @@ use crate::term::views::loci::place_files;
 use crate::term::views::padding::drawn_padding;
 use crate::term::views::plan::plan_files;
 use crate::term::views::steps::Step;
+use crate::term::views::table::Table;
 use codespan_base::files::{Error, Files};
 use codespan_base::term::{Config, Layout};
 use std::alloc::Global;
@@ -47,9 +48,9 @@ pub fn prepare<'files, 'e, 'd, F: Files<'files>>(
     config: &Config<'_>,
     gathered: &'e Gathered<'d, F::FileId>,
 ) -> Result<Sheet<'e, 'd, F::FileId>, Error>
-    requires { IsGathered F.FileId.eq (F.file files.now) config.now (map label_of gathered.now.labels.now) gathered.now }
-    ensures prepared { IfOk result (IsPrepared F.FileId.eq (F.file files.now) config.now (map label_of gathered.now.labels.now)) }
-    ensures refused { TellsNaming (sheet_refusal config.now F.FileId.eq (F.file files.now) (F.refusal files.now) (map label_of gathered.now.labels.now)) result }
+    requires { IsGathered (⟦<F as Table<'files>>⟧.table files.now) config.now (map label_of gathered.now.labels.now) gathered.now }
+    ensures prepared { IfOk result (IsPrepared (⟦<F as Table<'files>>⟧.table files.now) config.now (map label_of gathered.now.labels.now)) }
+    ensures refused { TellsNaming (sheet_refusal config.now (⟦<F as Table<'files>>⟧.table files.now) (map label_of gathered.now.labels.now)) result }
 {
     let plans = plan_files(alloc, files, config.layout, gathered)?;
     let padding = match config.layout {

@@ -1,11 +1,13 @@
 use Rattle.codespan_renderer.specs.Renderers.{SameRenderer, config_of, writer_of}
+use Rattle.codespan_reporting.specs.Inner.Tables.{table_by}
 use Rattle.codespan_reporting.proofs.SheetDrawing.{SnippetsLeft}
+use Rattle.codespan_reporting.specs.Inner.Tables.{table_by}
 use Rattle.codespan_reporting.proofs.term.views.rich.RichDiagnostic.draw_snippets.Given as goal
 
 -- the files before this one are drawn
 abbrev pub invariant-loop-place : goal.invariant-loop-place
 invariant-loop-place g l = record {
   same : SameRenderer l.initial.renderer l.renderer;
-  left : SnippetsLeft g.FileId.PartialEq.eq (g.F.Files.file l.files) l.self l.sheet (g.F.Files.refusal l.files) (config_of l.initial.renderer) l.place
+  left : SnippetsLeft (table_by g.FileId.PartialEq.eq g.F.Files.file g.F.Files.refusal l.files) l.self l.sheet (config_of l.initial.renderer) l.place
       (g.W.WriteStyle.sink (writer_of l.initial.renderer)) (g.W.WriteStyle.sink (writer_of l.renderer));
 }
