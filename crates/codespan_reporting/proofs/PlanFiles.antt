@@ -13,7 +13,7 @@ use Rattle.codespan_base.specs.FileModel.{FileModel, Lookup}
 use Rattle.codespan_base.specs.FileModel.Lookup.{LocationAt, Name}
 use Rattle.codespan_picture.specs.Given.{place_of_given}
 use Rattle.codespan_picture.specs.Lines.{drawn_lines}
-use Rattle.codespan_picture.specs.Lookups.{Refusals, asked_of, filled_lines, first_refusal, locus_lookups, numbers_for_padding, of_filled}
+use Rattle.codespan_picture.specs.Lookups.{asked_of, filled_lines, first_refusal, locus_lookups, numbers_for_padding, of_filled}
 use Rattle.codespan_picture.specs.Padding.{digit_count, digits_of, numbered_lines, padding_of}
 use Rattle.codespan_picture.specs.Placed.{IsPlaceIn}
 use Rattle.codespan_picture.specs.Snippets.{InFile, LabelledFile, labelled_file, labelled_files, locus_start, rows_after, file_ids}
@@ -24,7 +24,7 @@ use Rattle.codespan_reporting.specs.declared.term.views.sheet.SheetFile.{SheetFi
 use Rattle.codespan_reporting.specs.declared.term.views.steps.Step.{Step as GivenStep}
 use Rattle.codespan_reporting.specs.declared.term.views.steps.Step.TheVariants as given
 use Rattle.codespan_reporting.specs.Inner.Entries.{Entry}
-use Rattle.codespan_reporting.specs.Inner.GivenSheets.{sheet_numbers, sheet_refusal, IsGathered, IsPlacedPlan, IsPrepared, IsSheetFile, ids_of, sheet_lookups}
+use Rattle.codespan_reporting.specs.Inner.GivenSheets.{sheet_numbers, sheet_refusal, IsGathered, IsPlacedPlan, IsPrepared, IsSheetFile, ids_of}
 use Rattle.codespan_reporting.specs.Inner.GivenEntries.{entry_of}
 use Rattle.codespan_reporting.specs.Inner.LabelledFiles.{IsTold, ids_given}
 use Rattle.codespan_reporting.specs.Inner.Lanes.{file_lanes, lanes_given}

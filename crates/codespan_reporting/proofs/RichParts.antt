@@ -22,7 +22,7 @@ use Rattle.codespan_reporting.specs.Inner.Asking.{Came, Stopped, EndedAsking, Se
 use Rattle.codespan_reporting.specs.Inner.GivenSheets.{IsPrepared, IsSheetFile, ids_of, places_of, sheet_refusal}
 use Rattle.codespan_reporting.specs.Inner.Tables.{FileTable}
 use Rattle.codespan_reporting.specs.Headline.{DrawsRich, ForSomeNames, NamesAreStated, drawn_picture}
-use Rattle.codespan_picture.specs.Lookups.{Refusals, early_lookups, first_refusal, label_lookups, late_lookups}
+use Rattle.codespan_picture.specs.Lookups.{Refusals, early_lookups, first_refusal, late_lookups}
 use Rattle.codespan_picture.specs.Picture.{heading_of, label_of, labels_of, look_of, notes_of}
 use Rattle.codespan_picture.specs.Padding.{padding_of}
 use Rattle.codespan_picture.specs.Placed.{IsPlaceOfFile, placed_snippets}

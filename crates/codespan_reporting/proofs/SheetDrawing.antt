@@ -12,7 +12,7 @@ use Rattle.codespan_base.specs.Streams.{Stream, newline}
 use Rattle.codespan_base.specs.WriterLaw.{Sink}
 use Rattle.codespan_reporting.specs.Inner.Asking.{SendsAsking}
 use Rattle.codespan_picture.specs.Placed.{placed_snippet, placed_snippets}
-use Rattle.codespan_picture.specs.Lookups.{Refusals, asked_of, first_refusal, late_lookups, snippet_lookups}
+use Rattle.codespan_picture.specs.Lookups.{asked_of, first_refusal, late_lookups, snippet_lookups}
 use Rattle.codespan_picture.specs.Picture.{labels_of, look_of, notes_of}
 use Rattle.codespan_picture.specs.Rows.{EmptyRow, Look, Place, Row, StartRow}
 use Rattle.codespan_picture.specs.RowStreams.{stream_of, stream_of_rows}

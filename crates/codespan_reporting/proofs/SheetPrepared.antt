@@ -1,9 +1,9 @@
 -- What was gathered and prepared is that of the labels, and what refuses it.
-use Rattle.std.proofs.Common.{◌≡◌, Bool, List, map, flat_map, Option, Some, None, Vec, Global, sym, ◌∙◌, ap, append_assoc}
+use Rattle.std.proofs.Common.{◌≡◌, List, map, Option, Some, None, Vec, Global, sym, ◌∙◌, ap, append_assoc}
 use Rattle.std.specs.List.Sorted.{IsPermutation, IsSortedBy}
 use Rattle.codespan_base.specs.declared.files.Error.{Error}
 use Rattle.codespan_base.specs.declared.term.config.Config.{Config}
-use Rattle.codespan_base.specs.FileModel.{FileModel, Lookup, or_refusal}
+use Rattle.codespan_base.specs.FileModel.{Lookup, or_refusal}
 use Rattle.codespan_picture.specs.Lookups.{early_lookups, first_refusal, label_lookups}
 use Rattle.codespan_picture.specs.Snippets.{InFile}
 use Rattle.codespan_reporting.specs.declared.term.views.entry.Entry.{Entry as GivenEntry}

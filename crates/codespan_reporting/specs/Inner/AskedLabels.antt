@@ -1,5 +1,5 @@
 -- Labels whose lines are asked for, one after another.
-use Rattle.std.specs.Prelude.{◌≡◌, ℕ, ◌<◌, ◌≤◌, true, List, ◌++◌, flat_map, fold, max, Option, Some}
+use Rattle.std.specs.Prelude.{◌≡◌, ℕ, ◌<◌, ◌≤◌, Bool, true, false, List, ◌++◌, flat_map, fold, max, Option, Some, IfOk, Result}
 use Rattle.codespan_base.specs.declared.diagnostic.Label.{Label}
 use Rattle.codespan_base.specs.declared.files.Error.{Error}
 use Rattle.codespan_base.specs.declared.term.config.Config.{Config}
@@ -92,6 +92,14 @@ module _ {Id : Type 0} (x : AskedLabel Id) where
   -- what its lookups are refused with, those of the lines of its ends first
   abbrev pub label_refusal : Option Error
   label_refusal = refusal_in x.refusal x.id (of_label x.config x.file (x.refusal x.id) x.label)
+
+-- where the call gives that the lines around a label go on
+abbrev pub IfOn : Result Bool Error → Type 0 → Type 0
+IfOn r then = IfOk r (λ goes_on. goes_on ≡ true → then)
+
+-- where it gives that they ended with the file
+abbrev pub IfEnded : Result Bool Error → Type 0 → Type 0
+IfEnded r then = IfOk r (λ goes_on. goes_on ≡ false → then)
 
 -- what a label says of a line, by the lines of its ends
 abbrev pub says_by : {F Id : Type 0} → Asking F → Label Id → SourceLine → Option Says

@@ -33,9 +33,10 @@ module _ {Id : Type 0} (file : SheetFile Id) where
   abbrev pub lookups_with : List Lookup
   lookups_with = Source ∷ asked_by_all file.steps.items
 
--- the call draws the snippet of a file, with a row after it where something follows, and makes its lookups
-abbrev pub DrawsSnippet : {W F Id : Type 0} → (W → Sink) → (F → FileTable Id) → Page F → SheetFile Id → Bool → Renderer W → Result (Unit {0}) Error → Renderer W → Type 0
-DrawsSnippet sink table page f is_followed =
-    let t = table page.files.now in
-    let id = f.file.now.id in
-    DrawsRowsAsking sink (refusal_in t.refusal id (lookups_with f)) page.severity page.padding (rows_in f (t.file id) is_followed)
+module _ {W F Id : Type 0} (sink : W → Sink) (table : F → FileTable Id) (page : Page F) where
+  -- the call draws the snippet of a file, with a row after it where something follows, and makes its lookups
+  abbrev pub DrawsSnippet : SheetFile Id → Bool → Renderer W → Result (Unit {0}) Error → Renderer W → Type 0
+  DrawsSnippet f is_followed =
+      let t = table page.files.now in
+      let id = f.file.now.id in
+      DrawsRowsAsking sink (refusal_in t.refusal id (lookups_with f)) page.severity page.padding (rows_in f (t.file id) is_followed)

@@ -1,5 +1,5 @@
 -- The steps of one file, drawn: what is sent for them and what is asked.
-use Rattle.std.specs.Prelude.{◌≡◌, true, List, Result}
+use Rattle.std.specs.Prelude.{◌≡◌, true, List, map, Result}
 use Rattle.std.specs.List.{AllByRecursion}
 use Rattle.codespan_base.specs.declared.files.Error.{Error}
 use Rattle.codespan_base.specs.FileModel.{FileModel, Lookup}
@@ -7,7 +7,9 @@ use Rattle.codespan_base.specs.WriterLaw.{Sink}
 use Rattle.codespan_picture.specs.Rows.{Row}
 use Rattle.codespan_renderer.specs.declared.term.renderer.Renderer.{Renderer}
 use Rattle.codespan_reporting.specs.declared.term.views.lines.FileLines.{FileLines}
+use Rattle.codespan_reporting.specs.declared.term.views.steps.Step.{Step as GivenStep}
 use Rattle.codespan_reporting.specs.Inner.FileLookups.{refusal_in}
+use Rattle.codespan_reporting.specs.Inner.GivenSteps.{asked_by_all, step_of}
 use Rattle.codespan_reporting.specs.Inner.Lanes.{lanes_given}
 use Rattle.codespan_reporting.specs.Inner.Rendering.{DrawsRowsAsking}
 use Rattle.codespan_reporting.specs.Inner.Steps.{Step, does_step_fit, rows_of_step, rows_of_steps}
@@ -32,6 +34,7 @@ module _ {W F Id Name Source : Type 0} (sink : W → Sink) (table : F → FileTa
   abbrev pub DrawsStep : List Lookup → Step → Renderer W → Result (Unit {0}) Error → Renderer W → Type 0
   DrawsStep lookups step = DrawsFileRows lookups (rows_of_step (drawn_file (λ files. (table files).file) lines) (lanes_given lines.lanes.now) step)
 
-  -- the same of steps, one after another
-  abbrev pub DrawsSteps : List Lookup → List Step → Renderer W → Result (Unit {0}) Error → Renderer W → Type 0
-  DrawsSteps lookups steps = DrawsFileRows lookups (rows_of_steps (drawn_file (λ files. (table files).file) lines) (lanes_given lines.lanes.now) steps)
+  -- the call draws these steps, one after another, and makes their lookups
+  abbrev pub DrawsSteps : List GivenStep → Renderer W → Result (Unit {0}) Error → Renderer W → Type 0
+  DrawsSteps steps =
+      DrawsFileRows (asked_by_all steps) (rows_of_steps (drawn_file (λ files. (table files).file) lines) (lanes_given lines.lanes.now) (map step_of steps))

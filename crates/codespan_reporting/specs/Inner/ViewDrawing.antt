@@ -4,10 +4,9 @@ use Rattle.codespan_base.specs.declared.diagnostic.Diagnostic.{Diagnostic}
 use Rattle.codespan_base.specs.declared.files.Error.{Error}
 use Rattle.codespan_base.specs.declared.term.config.Config.{Config}
 use Rattle.codespan_base.specs.declared.term.config.DisplayStyle.{DisplayStyle}
-use Rattle.codespan_base.specs.FileModel.{FileModel}
 use Rattle.codespan_base.specs.Streams.{Stream, newline}
 use Rattle.codespan_base.specs.WriterLaw.{Sink}
-use Rattle.codespan_picture.specs.Lookups.{Refusals, first_refusal, late_lookups}
+use Rattle.codespan_picture.specs.Lookups.{first_refusal, late_lookups}
 use Rattle.codespan_picture.specs.Picture.{heading_of, labels_of, look_of, notes_of}
 use Rattle.codespan_picture.specs.Placed.{placed_snippets}
 use Rattle.codespan_picture.specs.Rows.{BlankRow, Place, Row}

@@ -1,12 +1,12 @@
 //! What labels say of lines, gathered in one vector.
 
-ghost use Rattle.std.specs.Prelude.{◌≡◌, ◌≢◌, true, false, None, map, IfErr, IfOk, IfSome, OnOk, OnErr, IsErrOf};
+ghost use Rattle.std.specs.Prelude.{◌≡◌, ◌≢◌, None, map, IfErr, IfOk, IfSome, OnOk, OnErr, IsErrOf};
 ghost use Rattle.std.specs.Option.{option_map};
 ghost use Rattle.codespan_base.specs.FileModel.{Tells};
 ghost use Rattle.codespan_base.specs.Labels.{from_line_start};
 ghost use Rattle.codespan_picture.specs.Lookups.{of_line};
 ghost use Rattle.codespan_picture.specs.Picture.{label_of};
-ghost use Rattle.codespan_reporting.specs.Inner.AskedLabels.{AddsLine, EndsBefore, FindsLine, FindsLines, HasAskedLine, MakesRoom, MakesRoomForLine, RefusesLine, asked_as, asked_label, label_refusal, labels_refusal, lines_refusal, refusal_at, refusal_on, says_by};
+ghost use Rattle.codespan_reporting.specs.Inner.AskedLabels.{AddsLine, EndsBefore, FindsLine, FindsLines, HasAskedLine, IfEnded, IfOn, MakesRoom, MakesRoomForLine, RefusesLine, asked_as, asked_label, label_refusal, labels_refusal, lines_refusal, refusal_at, refusal_on, says_by};
 ghost use Rattle.codespan_reporting.specs.Inner.Entries.{Single};
 ghost use Rattle.codespan_reporting.specs.Inner.FileLookups.{refusal_in};
 ghost use Rattle.codespan_reporting.specs.Inner.GivenEntries.{IsLineAt, IsLineOf, says_of};
@@ -138,11 +138,11 @@ impl<'a, 'c, 'files, F: Files<'files>> Asking<'a, 'c, 'files, F> {
     ) -> Result<bool, Error>
         requires first { line_of_start (F.file self.now.files.now) label.now ≡ self.now.lines.first }
         requires last { line_of_end (F.file self.now.files.now) label.now ≡ self.now.lines.last }
-        ensures inside { IfOk result (λ goes_on. goes_on ≡ true → HasAskedLine (asked_as ⟦<F as Table<'files>>⟧.table self.now label.now) index) }
-        ensures added { IfOk result (λ goes_on. goes_on ≡ true → FindsLine (asked_as ⟦<F as Table<'files>>⟧.table self.now label.now) found.old found.new index) }
-        ensures padding { IfOk result (λ goes_on. goes_on ≡ true → MakesRoomForLine (asked_as ⟦<F as Table<'files>>⟧.table self.now label.now) found.old found.new index) }
-        ensures answered { IfOk result (λ goes_on. goes_on ≡ true → refusal_on (asked_as ⟦<F as Table<'files>>⟧.table self.now label.now) index ≡ None) }
-        ensures ended { IfOk result (λ goes_on. goes_on ≡ false → (found.new ≡ found.old) × EndsBefore ⟦<F as Table<'files>>⟧.table self.now label.now.file_id index) }
+        ensures inside { IfOn result (HasAskedLine (asked_as ⟦<F as Table<'files>>⟧.table self.now label.now) index) }
+        ensures added { IfOn result (FindsLine (asked_as ⟦<F as Table<'files>>⟧.table self.now label.now) found.old found.new index) }
+        ensures padding { IfOn result (MakesRoomForLine (asked_as ⟦<F as Table<'files>>⟧.table self.now label.now) found.old found.new index) }
+        ensures answered { IfOn result (refusal_on (asked_as ⟦<F as Table<'files>>⟧.table self.now label.now) index ≡ None) }
+        ensures ended { IfEnded result ((found.new ≡ found.old) × EndsBefore ⟦<F as Table<'files>>⟧.table self.now label.now.file_id index) }
         ensures refused { IfErr result (λ e. e ≢ Error.OutOfMemory → RefusesLine ⟦<F as Table<'files>>⟧.table self.now label.now index e) }
     {
         let is_spanned = self.lines.spans(index);

@@ -6,7 +6,7 @@ ghost use Rattle.codespan_base.specs.FileModel.{Tells};
 ghost use Rattle.codespan_renderer.specs.Renderers.{SameRenderer};
 ghost use Rattle.codespan_reporting.specs.Inner.FileLookups.{refusal_in};
 ghost use Rattle.codespan_reporting.specs.Inner.GivenEntries.{IsLineAt, IsLineOf, entry_of};
-ghost use Rattle.codespan_reporting.specs.Inner.GivenSteps.{IsStepOf, asked_by, asked_by_all, asked_with, step_of};
+ghost use Rattle.codespan_reporting.specs.Inner.GivenSteps.{IsStepOf, asked_by, asked_with, step_of};
 ghost use Rattle.codespan_reporting.specs.Inner.StepDrawing.{DoFit, DrawsStep, DrawsSteps, drawn_file};
 ghost use Rattle.codespan_renderer.specs.Inner.Sweeps.{starts_in_order};
 ghost use Rattle.codespan_reporting.specs.Inner.Steps.{Draw, Break, does_step_fit, singles_in};
@@ -60,7 +60,7 @@ impl<'page, 'd, 'files, F: Files<'files>> FileLines<'page, 'd, 'files, F> {
         requires steps { AllByRecursion (IsStepOf (drawn_file F.file self.now)) steps.now }
         requires fits { DoFit (map step_of steps.now) }
         ensures same { SameRenderer renderer.old renderer.new }
-        ensures draws { DrawsSteps W.sink ⟦<F as Table<'files>>⟧.table self.now (asked_by_all steps.now) (map step_of steps.now) renderer.old result renderer.new }
+        ensures draws { DrawsSteps W.sink ⟦<F as Table<'files>>⟧.table self.now steps.now renderer.old result renderer.new }
     {
         for step in steps {
             self.draw_step(renderer, marks, step)?;
