@@ -243,12 +243,6 @@ filter-sorted {X} lt o given sorted perm up q zs climbs sums has =
     kept (all-in_itself zs) (rises-filter lt q sorted (rises-from_sorted lt o sorted up)) (climbs-rises lt o zs climbs)
     (λ f. same_sums-filter q sorted given (λ g. sum_by-IsPermutation g given sorted perm) f ∙ sums f)
 
--- a filter keeps of a sorted list what it keeps of the list that was sorted, where that climbs
-pub filter-sorted_climbs : {X : Type 0} (lt : X → X → Bool) → IsStrictWeakOrder lt → (given sorted : List X) → IsPermutation given sorted → IsSortedBy lt sorted
-    → (q : X → Bool) → Climbs lt (filter q given) → filter q sorted ≡ filter q given
-filter-sorted_climbs lt o given sorted perm up q climbs =
-    filter-sorted lt o given sorted perm up q (filter q given) climbs (λ f. refl) (λ x i. i)
-
 -- ---- a list from its end
 
 -- the first goes last

@@ -41,11 +41,6 @@ narrow-front [] ys h k d less = absurd (omega arith)
 narrow-front (x ∷ xs) ys h zero d less = h 0 d (omega arith)
 narrow-front (x ∷ xs) ys h (suc k) d less = narrow-front xs ys (λ i e low. h (suc i) e (omega arith)) k d (omega arith)
 
-pub narrow-without : (tab : ℕ) (text : List ℕ) (all : List Cell) → all ≡ cells_to_end tab text → AreNarrow all → AreNarrow (cells tab text)
-narrow-without tab text all is h =
-    let e = to_end-is tab 0 0 (chars text) in
-    narrow-front (cells tab text) (e.0 ∷ []) (rw (is ∙ e.1) at h)
-
 pub narrow-none : AreNarrow []
 narrow-none k d less = absurd (omega arith)
 

@@ -16,15 +16,6 @@ use Rattle.codespan_picture.specs.Carets.{covers}
 use Rattle.codespan_picture.specs.Given.{GivenLabel, labelled, all_labelled}
 use Rattle.codespan_renderer.specs.Inner.Sweeps.{starts_from, is_covered, end_with, IsReached, HasMet}
 
--- no label has been met
-pub reached-none : (passes : Labelled → Bool) (labels : List Labelled) (place : ℕ) → IsReached passes labels labels place 0
-reached-none passes labels place = record { is = λ c h some. (let none : nat_lt c.place 0 ≡ false = grind (arith, nat_tests) in rw none refl) }
-
--- the walk goes on to a later place
-pub reached-later : (passes : Labelled → Bool) (labels left : List Labelled) (place later end : ℕ) → place ≤ later
-    → IsReached passes labels left place end → IsReached passes labels left later end
-reached-later passes labels left place later end far r = record { is = λ c h some. r.is c (omega arith) some }
-
 -- a label that begins before the character's end has a byte of it where it has one at all and ends past the character's place
 covers-begun : (x : Labelled) (c : Cell) → x.start < c.place + c.bytes → 1 ≤ c.bytes → covers x c ≡ (nat_lt x.start x.end && nat_lt c.place x.end)
 covers-begun x c h some = grind (arith, nat_tests)

@@ -17,7 +17,7 @@ use Rattle.codespan_reporting.specs.Inner.PlacedLabels.{IsIdAt, entries_after, f
 use Rattle.codespan_reporting.proofs.FileOrder.{file_ids-has, file_ids-more, has, none-of_file}
 use Rattle.codespan_reporting.proofs.FilePlaces.{at-stays, no-place, place-here, place-past, place-stays}
 use Rattle.codespan_reporting.proofs.LabelEntries.{all-of_file}
-use Rattle.codespan_reporting.proofs.LabelPlaces.{IsAt, has-place, take-at}
+use Rattle.codespan_reporting.proofs.LabelPlaces.{StandsAt, has-place, take-at}
 use Rattle.codespan_reporting.proofs.SheetDrawing.{drop-one}
 use Rattle.codespan_laws.proofs.SortedLists.{all-append, all-both, all-mapped, all-weaker}
 
@@ -123,7 +123,7 @@ module _ {Id : Type 0} where
       let long = length-map files name in
       omega (arith, after, long)
 
-  module _ {files : List (GivenFile Id)} {k : ℕ} {f : GivenFile Id} (at : IsAt files k f) where
+  module _ {files : List (GivenFile Id)} {k : ℕ} {f : GivenFile Id} (at : StandsAt files k f) where
     -- the file is not of the id either
     pub none-more : (same : Id → Id → Bool) (id : Id) → AllByRecursion (λ j. same j id ≡ false) (ids_given (take k files)) → same f.id id ≡ false
         → AllByRecursion (λ j. same j id ≡ false) (ids_given (take (k + 1) files))

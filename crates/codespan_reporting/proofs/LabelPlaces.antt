@@ -1,5 +1,5 @@
 -- Elements at their places, the files of ids, and the places and lanes of labels, one label after another.
-use Rattle.std.proofs.Common.{◌≡◌, ℕ, ◌+◌, ◌<◌, Bool, true, false, not, ◌||◌, cond, List, [], ◌∷◌, ◌++◌, length, take, get_or, set, map, refl, sym, ap, ◌∙◌, arith, ⊎_elim, true≢false}
+use Rattle.std.proofs.Common.{◌≡◌, ℕ, ◌+◌, ◌<◌, Bool, true, false, not, ◌||◌, cond, List, [], ◌∷◌, ◌++◌, length, take, get_or, set, map, refl, sym, ap, subst, ◌∙◌, arith, ⊎_elim, true≢false}
 use Rattle.std.specs.Prelude.{filter, if◌then◌else◌}
 use Rattle.std.specs.Cmp.{IsEquivalence}
 use Rattle.std.specs.List.{AllByRecursion}
@@ -7,29 +7,37 @@ use Rattle.std.proofs.lemmas.Bool.{cases_Bool}
 use Rattle.std.proofs.lemmas.List.{append-nil, append_assoc, get_or-map, map-append, map-set, take_more}
 use Rattle.std.proofs.lemmas.List.Elements.{filter-append}
 use Rattle.codespan_base.specs.declared.term.config.Config.{Config}
-use Rattle.codespan_base.specs.FileModel.{FileModel, line_count}
+use Rattle.codespan_base.specs.FileModel.{FileModel, IsLawful, line_count}
 use Rattle.codespan_base.specs.Labels.{Labelled, first_line, is_single, last_line, multi_labels}
 use Rattle.codespan_reporting.specs.declared.term.views.label_lines.LabelLines.{LabelLines}
 use Rattle.codespan_reporting.specs.Inner.Entries.{Entry, entries_of}
 use Rattle.codespan_reporting.specs.Inner.LabelledFiles.{lanes_by}
 use Rattle.codespan_reporting.specs.Inner.Lanes.{Lane, file_lanes, lane_of, lanes_in}
 use Rattle.codespan_reporting.specs.Inner.PlacedLabels.{file_place, place_after, entries_after}
+use Rattle.codespan_picture.specs.Lookups.{Refusals}
 use Rattle.codespan_picture.specs.Snippets.{InFile}
 use Rattle.codespan_laws.proofs.SortedLists.{filter-nothing}
 use Rattle.codespan_reporting.proofs.FileOrder.{has}
 use Rattle.codespan_reporting.proofs.FilePlaces.{Differ, place-here, place-later}
 
 -- the element at a place of a list
-pub record IsAt {X : Type 0} (xs : List X) (place : ℕ) (x : X) : Type 0 where
+pub record StandsAt {X : Type 0} (xs : List X) (place : ℕ) (x : X) : Type 0 where
   pub inside : place < length xs
   pub is : x ≡ get_or xs place x
 
+-- it is there in a list that is alike
+pub stands-alike : {X : Type 0} {ys xs : List X} {place : ℕ} {x : X} → ys ≡ xs → place < length ys → x ≡ get_or ys place x → StandsAt xs place x
+stands-alike {X} {place = place} {x = x} alike inside is = record {
+  inside = subst (λ (zs : List X). place < length zs) alike inside;
+  is = is ∙ ap (λ (zs : List X). get_or zs place x) alike;
+}
+
 -- the elements up to it are those before it, and it
-pub take-at : {X : Type 0} {xs : List X} {place : ℕ} {x : X} → IsAt xs place x → take (place + 1) xs ≡ take place xs ++ x ∷ []
+pub take-at : {X : Type 0} {xs : List X} {place : ℕ} {x : X} → StandsAt xs place x → take (place + 1) xs ≡ take place xs ++ x ∷ []
 take-at {X} {xs} {place} {x} at = take_more xs place x at.inside ∙ ap (λ (y : X). take place xs ++ y ∷ []) (sym at.is)
 
 -- what is known of each element, where the one at the place changes
-pub map-changed : {X A : Type 0} (h : X → A) (d : A) (step : A → A) {xs : List X} {place : ℕ} {x : X} → IsAt xs place x → (new : X) → h new ≡ step (h x)
+pub map-changed : {X A : Type 0} (h : X → A) (d : A) (step : A → A) {xs : List X} {place : ℕ} {x : X} → StandsAt xs place x → (new : X) → h new ≡ step (h x)
     → map h (set xs place new) ≡ set (map h xs) place (step (get_or (map h xs) place d))
 map-changed h d step {xs} {place} {x} at new is =
     map-set h xs place new ∙ ap (set (map h xs) place) (is ∙ ap step (ap h at.is ∙ sym (get_or-map h xs place x d at.inside)))
@@ -39,6 +47,16 @@ pub record AreFiles {Id : Type 0} (same : Id → Id → Bool) (file : Id → Fil
   pub equivalence : IsEquivalence same
   pub one_file : (i j : Id) → same i j ≡ true → file i ≡ file j
   pub some_line : (i : Id) → 0 < line_count (file i)
+
+-- a type of lawful tables has such files
+pub are-files : {F Id : Type 0} {same : Id → Id → Bool} {file : F → Id → FileModel} {refusal : F → Refusals Id} → IsEquivalence same
+    → ((files : F) (i j : Id) → same i j ≡ true → (file files i ≡ file files j) × (refusal files i ≡ refusal files j))
+    → ((files : F) (id : Id) → IsLawful (file files id)) → (files : F) → AreFiles same (file files)
+are-files equivalence same_file lawful files = record {
+  equivalence = equivalence;
+  one_file = λ i j alike. (same_file files i j alike).0;
+  some_line = λ id. (lawful files id).some_line;
+}
 
 -- where what is kept for each id changes, it is this for those that are the same as one, and stays for the others
 pub record IsChanged {Id A : Type 0} (same : Id → Id → Bool) (i : Id) (h more : Id → A) (v : A) : Type 0 where

@@ -8,13 +8,13 @@ use Rattle.codespan_picture.specs.Snippets.{InFile, file_ids}
 use Rattle.codespan_reporting.specs.Inner.PlacedLabels.{file_place}
 use Rattle.codespan_reporting.proofs.FileOrder.{file_ids-has, has}
 use Rattle.codespan_reporting.proofs.FilePlaces.{Differ, first_seen-differ}
-use Rattle.codespan_reporting.proofs.LabelPlaces.{IsAt, has-place, take-at}
+use Rattle.codespan_reporting.proofs.LabelPlaces.{StandsAt, has-place, take-at}
 
 -- the labels before a place
 abbrev pub before : {Id : Type 0} → List (Label Id) → ℕ → List (InFile Id)
 before labels place = map label_of (take place labels)
 
-module _ {Id : Type 0} {labels : List (Label Id)} {place : ℕ} {label : Label Id} (turn : IsAt labels place label) where
+module _ {Id : Type 0} {labels : List (Label Id)} {place : ℕ} {label : Label Id} (turn : StandsAt labels place label) where
   -- the labels before the next place
   pub before-more : before labels (place + 1) ≡ before labels place ++ label_of label ∷ []
   before-more = ap (map label_of) (take-at turn) ∙ map-append label_of (take place labels) (label ∷ [])

@@ -31,7 +31,7 @@ use Rattle.codespan_reporting.proofs.FileOrder.{file_ids-more}
 use Rattle.codespan_reporting.proofs.FilePlaces.{file_place-at}
 use Rattle.codespan_reporting.proofs.Gathering.{Adds-as, Adds-both}
 use Rattle.codespan_reporting.proofs.LabelEntries.{all-of_file}
-use Rattle.codespan_reporting.proofs.LabelPlaces.{AreFiles, IsAt, IsChanged, entries_after-more, kept-at, label_lanes, lanes_in-alike, lanes_in-more, lanes_in-none, set-at}
+use Rattle.codespan_reporting.proofs.LabelPlaces.{AreFiles, StandsAt, IsChanged, entries_after-more, kept-at, label_lanes, lanes_in-alike, lanes_in-more, lanes_in-none, set-at}
 use Rattle.codespan_reporting.proofs.LabelFiles.{added-with_file, known-more}
 use Rattle.codespan_reporting.proofs.LocusStarts.{start-unknown, starts-set}
 use Rattle.codespan_reporting.proofs.LabelTurns.{before, before-more, file-inside, has-file, ids-differ}
@@ -65,7 +65,7 @@ pub record IsPlacedFile {Id : Type 0} (same : Id → Id → Bool) (id : Id) (fil
   pub starts : starts_given now ≡ with_file same (ids_given files) id (starts_given files) no_start
   pub lanes : all_lanes_given now ≡ with_file same (ids_given files) id (all_lanes_given files) []
 
-module _ {Id : Type 0} {same : Id → Id → Bool} {file : Id → FileModel} (table : AreFiles same file) {labels : List (Label Id)} {place : ℕ} {label : Label Id} (turn : IsAt labels place label) where
+module _ {Id : Type 0} {same : Id → Id → Bool} {file : Id → FileModel} (table : AreFiles same file) {labels : List (Label Id)} {place : ℕ} {label : Label Id} (turn : StandsAt labels place label) where
   -- sameness of ids is an equivalence
   abbrev o : IsEquivalence same
   o = table.equivalence

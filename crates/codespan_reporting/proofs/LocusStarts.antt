@@ -20,7 +20,7 @@ use Rattle.codespan_reporting.specs.Inner.LabelledFiles.{start_told}
 use Rattle.codespan_reporting.specs.Inner.Loci.{file_start, is_asked_label, least_if_any, least_with, no_start, start_byte, start_with, label_starts}
 use Rattle.codespan_reporting.specs.Inner.PlacedLabels.{file_place}
 use Rattle.codespan_laws.proofs.SortedLists.{all-weaker, filter-nothing}
-use Rattle.codespan_reporting.proofs.LabelPlaces.{IsAt, IsChanged, kept-at, set-at}
+use Rattle.codespan_reporting.proofs.LabelPlaces.{StandsAt, IsChanged, kept-at, set-at}
 use Rattle.codespan_reporting.proofs.LabelTurns.{before, before-more, has-file, ids-differ}
 
 -- ---- the least start
@@ -161,7 +161,7 @@ start-alike {Id} same o xs i j t = λ k. record { primary = least_if_any (starts
     starts : (only : Bool) → label_starts same i only xs ≡ label_starts same j only xs
     starts only = λ k. map (λ (y : InFile Id). y.label.start) (filter (λ (y : InFile Id). o.congr i j y.id t k && (not only || is_primary y.label)) xs)
 
-module _ {Id : Type 0} {labels : List (Label Id)} {place : ℕ} {label : Label Id} (turn : IsAt labels place label) {same : Id → Id → Bool} (o : IsEquivalence same) where
+module _ {Id : Type 0} {labels : List (Label Id)} {place : ℕ} {label : Label Id} (turn : StandsAt labels place label) {same : Id → Id → Bool} (o : IsEquivalence same) where
   -- the files of the labels up to this one
   abbrev ids : List Id
   ids = file_ids same (before labels (place + 1))

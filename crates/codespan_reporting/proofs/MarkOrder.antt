@@ -1,19 +1,11 @@
 -- The labels of a line in the order of their starts.
-use Rattle.std.proofs.Common.{◌≡◌, ℕ, ◌≤◌, false, true, nat_le, List, [], ◌∷◌, refl, ap, ◌∙◌, arith}
+use Rattle.std.proofs.Common.{◌≡◌, ℕ, ◌≤◌, false, true, nat_le, List, [], ◌∷◌, refl, arith}
 use Rattle.std.specs.List.{AllByRecursion}
 use Rattle.std.proofs.lemmas.Bool.Decides.{nat_tests}
 use Rattle.codespan_base.specs.Labels.{Labelled, stands_before}
-use Rattle.codespan_picture.specs.Given.{GivenLabel, all_labelled}
 use Rattle.codespan_laws.proofs.OrderSorts.{Ascends}
 use Rattle.codespan_laws.proofs.SortedLists.{all-weaker}
 use Rattle.codespan_renderer.specs.Inner.Sweeps.{starts_from, starts_in_order}
-use Rattle.codespan_reporting.specs.Inner.Entries.{Entry}
-use Rattle.codespan_reporting.specs.Inner.Steps.{singles_in}
-
--- a renderer may be given the labels of entries in order
-pub starts_fit : (xs : List GivenLabel) (es : List Entry) → all_labelled xs ≡ singles_in es → starts_in_order (singles_in es) ≡ true
-    → starts_in_order (all_labelled xs) ≡ true
-starts_fit xs es same fit = ap starts_in_order same ∙ fit
 
 -- ---- labels by their ranges
 

@@ -22,7 +22,7 @@ use Rattle.codespan_reporting.specs.Inner.Plans.{ArePlans, IsPlan, by_place, pla
 use Rattle.codespan_reporting.specs.Inner.Steps.{fills_of, steps_of}
 use Rattle.codespan_reporting.proofs.FileParts.{IsFilePart, from_file, next-file, next_part}
 use Rattle.codespan_reporting.proofs.FilePlaces.{at-get}
-use Rattle.codespan_reporting.proofs.LabelPlaces.{IsAt, take-at}
+use Rattle.codespan_reporting.proofs.LabelPlaces.{StandsAt, take-at}
 use Rattle.codespan_reporting.proofs.Refusals.{first_refusal-none, first_refusal-some}
 use Rattle.codespan_laws.proofs.SortedLists.{all-both, all-mapped, all-part, all-pass, all-weaker}
 
@@ -74,7 +74,7 @@ pub record IsTurn {Id : Type 0} (files : List (GivenFile Id)) (xs : List GivenEn
   pub left : drop at (map entry_of xs) ≡ from_file k (map entry_of xs)
   pub counted : n ≡ prefix_len (λ e. is_of_file k (entry_of e)) (take (length xs - at) (drop at xs))
   pub within : n ≤ length (take (length xs - at) (drop at xs))
-  pub here : IsAt files k f
+  pub here : StandsAt files k f
 
 module _ {Id : Type 0} {files : List (GivenFile Id)} {xs : List GivenEntry} {at n k : ℕ} {f : GivenFile Id} (turn : IsTurn files xs at n k f) where
   -- the file's part of the entries
@@ -130,7 +130,7 @@ pub record ArePlanned {Id : Type 0} (layout : Layout) (file : Id → FileModel) 
   pub plans : ArePlans layout file es 0 files now
   pub answered : first_refusal refusal (planned_lookups layout es (ids_given files)) ≡ None
 
-module _ {Id : Type 0} {files : List (GivenFile Id)} {k : ℕ} {f : GivenFile Id} (here : IsAt files k f) where
+module _ {Id : Type 0} {files : List (GivenFile Id)} {k : ℕ} {f : GivenFile Id} (here : StandsAt files k f) where
   -- how many files are before this one
   files_before : length (take k files) ≡ k
   files_before = let inside = here.inside in length-take-le k files (omega (arith, inside))

@@ -30,6 +30,7 @@ use Rattle.codespan_reporting.specs.declared.term.views.rich.RichDiagnostic.{Ric
 use Rattle.codespan_reporting.specs.declared.term.views.sheet.Sheet.{Sheet}
 use Rattle.codespan_reporting.specs.declared.term.views.sheet.SheetFile.{SheetFile}
 use Rattle.codespan_reporting.proofs.Askings.{IsAsking, asking_as, asking_cut, asking_nothing, asking_then, first_refusal-append}
+use Rattle.codespan_reporting.proofs.LabelPlaces.{StandsAt}
 use Rattle.codespan_reporting.proofs.LaneMarks.{file_lanes-count}
 
 -- the elements from one on: that one, and those after it
@@ -70,23 +71,11 @@ followed-at has_notes xs k =
 
 -- ---- the file at a place
 
--- a sheet's files have this one at this place
-pub record IsFileAt {Id : Type 0} (files : List (SheetFile Id)) (k : ℕ) (f : SheetFile Id) : Type 0 where
-  pub inside : k < length files
-  pub is : f ≡ get_or files k f
-
 -- each file has one name
 ids-count : {Id : Type 0} (files : List (SheetFile Id)) → length (ids_of files) ≡ length files
 ids-count {Id} files = length-map files (λ (g : SheetFile Id). g.file.now.id)
 
--- one that equal files have there
-pub file-at : {Id : Type 0} {gs files : List (SheetFile Id)} {k : ℕ} {f : SheetFile Id} → gs ≡ files → k < length gs → f ≡ get_or gs k f → IsFileAt files k f
-file-at {Id} {k = k} {f = f} alike inside is = record {
-  inside = subst (λ (hs : List (SheetFile Id)). k < length hs) alike inside;
-  is = is ∙ ap (λ (hs : List (SheetFile Id)). get_or hs k f) alike;
-}
-
-module _ {Id : Type 0} {files : List (SheetFile Id)} {k : ℕ} {f : SheetFile Id} (at : IsFileAt files k f) where
+module _ {Id : Type 0} {files : List (SheetFile Id)} {k : ℕ} {f : SheetFile Id} (at : StandsAt files k f) where
   -- its id and its place stand where it does
   id-inside : k < length (ids_of files)
   id-inside = omega (arith, at.inside, ids-count files)
@@ -102,7 +91,7 @@ module _ {Id : Type 0} {files : List (SheetFile Id)} {k : ℕ} {f : SheetFile Id
 
 -- it is the file of its labels
 pub is-sheet_file : {Id : Type 0} {table : FileTable Id} {config : Config} {xs : List (InFile Id)} {sheet : Sheet Id} {k : ℕ} {f : SheetFile Id}
-    → IsPrepared table config xs sheet → IsFileAt sheet.files.items k f → IsSheetFile config (labelled_file table.same table.file xs f.file.now.id) f
+    → IsPrepared table config xs sheet → StandsAt sheet.files.items k f → IsSheetFile config (labelled_file table.same table.file xs f.file.now.id) f
 is-sheet_file {Id} {table} {config} {xs} {sheet} {k} {f} prepared at =
     let Is : SheetFile Id → Type 0 = λ h. IsSheetFile config (labelled_file table.same table.file xs h.file.now.id) h in
     subst Is (sym at.is) (All-from_recursion Is sheet.files.items prepared.files_are k f at.inside)
@@ -127,8 +116,8 @@ module _ {Id : Type 0} (table : FileTable Id) (view : RichDiagnostic Id) where
   labelled = labelled_file table.same table.file (labels_of (diagnostic_of view))
 
   -- the lookups with a file's snippet
-  abbrev pub asked_with : Id → List (Id × Lookup)
-  asked_with = snippet_lookups (view_config_of view) table.same table.file (labels_of (diagnostic_of view))
+  abbrev pub snippet_asked : Id → List (Id × Lookup)
+  snippet_asked = snippet_lookups (view_config_of view) table.same table.file (labels_of (diagnostic_of view))
 
   module _ (sheet : Sheet Id) where
     -- the rows of the files from a place on
@@ -137,7 +126,7 @@ module _ {Id : Type 0} (table : FileTable Id) (view : RichDiagnostic Id) where
 
     -- their lookups
     abbrev pub asked_left : ℕ → List (Id × Lookup)
-    asked_left k = flat_map asked_with (drop k (ids_of sheet.files.items))
+    asked_left k = flat_map snippet_asked (drop k (ids_of sheet.files.items))
 
     -- the files before this place are drawn, and all lookups with them were answered
     pub record SnippetsLeft (renderer : Config) (k : ℕ) (old now : Sink) : Type 0 where
@@ -198,7 +187,7 @@ module _ {Id : Type 0} {table : FileTable Id} {view : RichDiagnostic Id} {render
   rows-all = ap (drawn_at places) prepared.ids_are
 
   refusal-all : first_refusal table.refusal (asks 0) ≡ all_refusal
-  refusal-all = ap (λ js. first_refusal table.refusal (flat_map (asked_with table view) js)) prepared.ids_are
+  refusal-all = ap (λ js. first_refusal table.refusal (flat_map (snippet_asked table view) js)) prepared.ids_are
 
   -- all files are drawn
   pub left-end : {gs : List (SheetFile Id)} → gs ≡ sheet.files.items → length gs ≤ k → SendsAsking all_refusal old (stream_of_rows look all_rows) (Ok tt) mid
@@ -206,7 +195,7 @@ module _ {Id : Type 0} {table : FileTable Id} {view : RichDiagnostic Id} {render
       let none : drop k ids ≡ [] =
       drop-end ids k (omega (arith, ids-count sheet.files.items, subst (λ (hs : List (SheetFile Id)). length hs ≤ k) alike past)) in
       subst₂ (λ (o : Option Error) (s : Stream). SendsAsking o old s (Ok tt) mid)
-      (sym left.answered ∙ ap (first_refusal table.refusal) (sym (append-nil left.asked) ∙ ap (λ js. left.asked ++ flat_map (asked_with table view) js) (sym none) ∙ left.asked_whole) ∙ refusal-all)
+      (sym left.answered ∙ ap (first_refusal table.refusal) (sym (append-nil left.asked) ∙ ap (λ js. left.asked ++ flat_map (snippet_asked table view) js) (sym none) ∙ left.asked_whole) ∙ refusal-all)
       (ap (stream_of_rows look) (sym (append-nil left.rows) ∙ ap (λ r. left.rows ++ r) (sym (no-rows (drop k places)) ∙ ap (drawn_at (drop k places)) (sym none))
       ∙ left.rows_whole ∙ rows-all))
       left.drawn.draws
@@ -215,7 +204,7 @@ module _ {Id : Type 0} {table : FileTable Id} {view : RichDiagnostic Id} {render
       no-rows [] = refl
       no-rows (p ∷ ps) = refl
 
-  module _ {f : SheetFile Id} {notes : Bool} {count : ℕ} {now : Config} (at : IsFileAt sheet.files.items k f) (notes_are : notes ≡ has_notes) (count_is : count ≡ length sheet.files.items) (alike : now ≡ renderer) where
+  module _ {f : SheetFile Id} {notes : Bool} {count : ℕ} {now : Config} (at : StandsAt sheet.files.items k f) (notes_are : notes ≡ has_notes) (count_is : count ≡ length sheet.files.items) (alike : now ≡ renderer) where
     -- the file with its labels
     abbrev own : LabelledFile
     own = labelled table view f.file.now.id
@@ -226,7 +215,7 @@ module _ {Id : Type 0} {table : FileTable Id} {view : RichDiagnostic Id} {render
 
     -- its lookups
     abbrev asked_here : List (Id × Lookup)
-    asked_here = asked_with table view f.file.now.id
+    asked_here = snippet_asked table view f.file.now.id
 
     -- these rows come first among those that are left
     rows-next : rest k ≡ rows_here ++ rest (k + 1)
@@ -240,7 +229,7 @@ module _ {Id : Type 0} {table : FileTable Id} {view : RichDiagnostic Id} {render
 
     -- and so do its lookups
     asked-next : asks k ≡ asked_here ++ asks (k + 1)
-    asked-next = ap (flat_map (asked_with table view)) (drop-one ids k f.file.now.id (id-inside at) (id-at at))
+    asked-next = ap (flat_map (snippet_asked table view)) (drop-one ids k f.file.now.id (id-inside at) (id-at at))
 
     -- the call draws it so: its own lookups, and its own rows, by an equal configuration
     abbrev DrawsHere : Result (Unit {0}) Error → Sink → Type 0

@@ -1,12 +1,11 @@
 -- What holds over the tables of a case.
-use Rattle.std.proofs.Common.{◌≡◌, ℕ, true, nat_eq, List, [], ◌∷◌, map, Option, Some, Result, Ok, Err, OnOk, IfOk, sym, ◌∙◌, ap, subst, string_bytes}
+use Rattle.std.proofs.Common.{◌≡◌, ℕ, true, nat_eq, List, [], map, Option, Some, Result, Ok, Err, OnOk, IfOk, sym, subst}
 use Rattle.codespan_base.specs.declared.diagnostic.Diagnostic.{Diagnostic}
 use Rattle.codespan_base.specs.declared.files.Error.{Error}
 use Rattle.codespan_base.specs.FileModel.{FileModel, Lookup}
 use Rattle.codespan_base.specs.MappedModel.{mapped_file, mapped_refusal}
 use Rattle.codespan_base.specs.SimpleModel.{simple_file, simple_refusal, table_file, table_refusal}
 use Rattle.gallery.specs.declared.case.Case.{Case}
-use Rattle.gallery.specs.declared.case.File.{File}
 use Rattle.gallery.specs.declared.case.Table.TheVariants.{One, Several, Mapped}
 use Rattle.gallery.specs.Cases.{file_view}
 use Rattle.gallery.specs.Pictures.{InTable, IsAlone, IsAmong, LentFile, Shown, lent_view, with_numbers}
@@ -18,14 +17,6 @@ pub over_several : (case : Case) (files : List LentFile) (Holds : Shown) → cas
 over_several case files Holds table same holds =
     let among : IsAmong case Holds = record { files = files; same = same; holds = holds } in
     subst (λ t. InTable t case Holds) (sym table) among
-
--- what the only file is, by its texts
-pub only_view : (files held : List File) (file : File) (name source : List ℕ) → held ≡ files → held ≡ file ∷ [] → (name, source) ≡ file_view file → map file_view files ≡ (name, source) ∷ []
-only_view files held file name source same only view = ap (map file_view) (sym same ∙ only) ∙ ap (λ v. v ∷ []) (sym view)
-
--- a name and a source are those of a file
-pub same_texts : (file : File) (name source : List ℕ) → name ≡ string_bytes file.name → source ≡ string_bytes file.source → (name, source) ≡ file_view file
-same_texts file name source n s = ap (λ bytes. (bytes, source)) n ∙ ap (λ bytes. (string_bytes file.name, bytes)) s
 
 module _ (case : Case) (name source : List ℕ) (said : Diagnostic (Unit {0})) (alone : StandsAlone case name source said) (Holds : Shown) where
   -- it holds over such a file that stands alone

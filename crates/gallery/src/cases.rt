@@ -7,7 +7,7 @@
 //! [`Statement`]: crate::statement::Statement
 //! [`unescape`]: crate::escape::unescape
 
-ghost use Rattle.std.specs.Prelude.{◌≡◌, [], map, OnOk, IfOk, IfErr};
+ghost use Rattle.std.specs.Prelude.{[], map, OnOk, IfOk, IfErr};
 ghost use Rattle.std.specs.Str.Lines.{lines};
 ghost use Rattle.gallery.specs.Cases.{TakesLine, TakesLines, IsMistaken, IsFirstMistake, LastTakes, LastRefuses};
 

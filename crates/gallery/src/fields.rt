@@ -1,7 +1,6 @@
 //! The fields of a line.
 
-ghost use Rattle.std.specs.Prelude.{◌≡◌, ◌≤◌, IfOk, IfErr, length};
-ghost use Rattle.std.specs.List.{before_first, after_first};
+ghost use Rattle.std.specs.Prelude.{◌≡◌, IfOk, IfErr};
 ghost use Rattle.std.specs.Str.Parse.{ParsesUnsigned};
 ghost use Rattle.gallery.specs.Fields.{field_of, past_blank, IsNumber, IsNoNumber, is_silent};
 ghost use Rattle.gallery.specs.declared.fault.Mistake.TheVariants.{BadNumber};

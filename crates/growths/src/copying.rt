@@ -1,6 +1,6 @@
 //! A table of files that takes memory for each line that it is asked for.
 
-ghost use Rattle.std.specs.Prelude.{◌≡◌, refl, Some};
+ghost use Rattle.std.specs.Prelude.{refl, Some};
 
 use codespan_reporting::files::{Error, Files, Location, SimpleFile};
 use std::alloc::Global;

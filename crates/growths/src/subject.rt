@@ -1,6 +1,5 @@
 //! The subjects, and what they are called.
 
-ghost use Rattle.std.specs.Prelude.{◌≡◌, IfSome};
 
 use crate::data::{DiagnosticCall, LabelCall, judge_diagnostic, judge_label};
 use crate::drawing::{DrawCall, judge_drawing};

@@ -2,8 +2,8 @@
 
 ghost use Rattle.std.specs.Prelude.{◌≡◌, IfOk, IfErr, Ok, string_bytes};
 ghost use Rattle.codespan_base.specs.Diagnostics.{diagnostic_view};
-ghost use Rattle.report.specs.Drawings.{drawing_of, drawing_of_script, picture_text, said_of_request, IsDrawRefusal};
-ghost use Rattle.report.specs.Requests.{asked_view, request_view};
+ghost use Rattle.report.specs.Drawings.{drawing_of, drawing_of_script, picture_text, IsDrawRefusal};
+ghost use Rattle.report.specs.Requests.{asked_view};
 ghost use Rattle.report.specs.Scripts.{read_script};
 
 use crate::fault::Fault;

@@ -3,7 +3,7 @@
 //! A script is a text of lines, up to the first line that is `---`; the source follows that line. Each line begins with a word, which goes
 //! up to the first blank, one space; its rest is what follows that blank. Lines that are empty or begin with `#` say nothing.
 
-ghost use Rattle.std.specs.Prelude.{◌≡◌, MatchResult, IfErr};
+ghost use Rattle.std.specs.Prelude.{◌≡◌, MatchResult};
 ghost use Rattle.report.specs.Scripts.{read_script, script_view};
 ghost use Rattle.report.specs.ScriptFaults.{IsFaultOf};
 ghost use Rattle.report.specs.declared.script.ScriptError.TheVariants.{OutOfMemory};

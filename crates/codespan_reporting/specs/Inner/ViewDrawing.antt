@@ -57,13 +57,13 @@ module _ {W Id : Type 0} (sink : W → Sink) (table : FileTable Id) where
     DrawsView old r new =
         DrawsRich (config_of old) (view_config_of view) table.same table.file table.refusal (diagnostic_of view) (sink (writer_of old)) r (sink (writer_of new))
 
-    -- what the lookups after its header are refused with
-    abbrev pub late_refusal : Option Error
-    late_refusal = first_refusal table.refusal (late_lookups (view_config_of view) table.same table.file table.refusal (labels_of (diagnostic_of view)))
+    -- what the lookups of its snippets are refused with, which come after its header
+    abbrev pub snippets_refusal : Option Error
+    snippets_refusal = first_refusal table.refusal (late_lookups (view_config_of view) table.same table.file table.refusal (labels_of (diagnostic_of view)))
 
     -- the call draws its snippets, which start where a sheet says, and makes their lookups
     abbrev pub DrawsSnippets : Sheet Id → Renderer W → Result (Unit {0}) Error → Renderer W → Type 0
     DrawsSnippets sheet =
         let d = diagnostic_of view in
-        DrawsRowsAsking sink late_refusal d.severity sheet.padding
+        DrawsRowsAsking sink snippets_refusal d.severity sheet.padding
         (placed_snippets (view_config_of view) (has_any (notes_of d)) (places_of sheet.files.items) (labelled_files table.same table.file (labels_of d)))

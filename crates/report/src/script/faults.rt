@@ -2,7 +2,7 @@
 
 ghost use Rattle.std.specs.Prelude.{◌≡◌, [], map};
 ghost use Rattle.report.specs.ScriptLines.{line_view};
-ghost use Rattle.report.specs.ScriptFaults.{fault_from, line_fault, severity_fault, number_fault, repetition, or_fault};
+ghost use Rattle.report.specs.ScriptFaults.{fault_from, line_fault, severity_fault, number_fault, repetition};
 
 use super::line::Line;
 use super::lines::cut;

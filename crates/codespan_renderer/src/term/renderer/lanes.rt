@@ -1,6 +1,6 @@
 //! The lanes of a row, left of the text.
 
-ghost use Rattle.std.specs.Prelude.{◌≡◌, ◌+◌, ◌<◌, ◌≤◌, ◌&&◌, ◌++◌, ℕ, None, drop, max};
+ghost use Rattle.std.specs.Prelude.{◌≡◌, ◌+◌, ◌<◌, ◌≤◌, ◌&&◌, ℕ, None, drop, max};
 ghost use Rattle.std.specs.Option.{option_map};
 ghost use Rattle.codespan_base.specs.WriterLaw.{Sends};
 ghost use Rattle.codespan_picture.specs.Given.{mark_of_given, part_of};

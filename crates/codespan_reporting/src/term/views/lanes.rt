@@ -5,7 +5,7 @@ ghost use Rattle.std.specs.Option.{option_map};
 ghost use Rattle.codespan_base.specs.Labels.{part_at};
 ghost use Rattle.codespan_picture.specs.Given.{part_of};
 ghost use Rattle.codespan_picture.specs.Picture.{label_of};
-ghost use Rattle.codespan_reporting.specs.Inner.Lanes.{Lane as LaneWord, lane_given};
+ghost use Rattle.codespan_reporting.specs.Inner.Lanes.{lane_given};
 
 use crate::term::renderer::MultiLabel;
 use crate::term::views::entry::SourceLine;

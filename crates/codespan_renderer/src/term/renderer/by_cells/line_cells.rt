@@ -1,6 +1,6 @@
 //! The characters of a line and the pointers under them, in memory that serves many lines.
 
-ghost use Rattle.std.specs.Prelude.{◌≡◌, [], IfErr, IfOk, IsErrOf, IsTrue, OnErr};
+ghost use Rattle.std.specs.Prelude.{◌≡◌, IfErr, IfOk, IsErrOf, IsTrue, OnErr};
 ghost use Rattle.codespan_base.specs.Errors.{IsIo};
 ghost use Rattle.codespan_base.specs.WriterLaw.{Sends};
 ghost use Rattle.codespan_picture.specs.Cells.{cells_to_end, drawn_text};

@@ -1,6 +1,6 @@
 //! All rows of a line, from its characters.
 
-ghost use Rattle.std.specs.Prelude.{◌≡◌, ◌++◌, IsTrue};
+ghost use Rattle.std.specs.Prelude.{◌≡◌, IsTrue};
 ghost use Rattle.codespan_base.specs.WriterLaw.{Sends};
 ghost use Rattle.codespan_picture.specs.Cells.{cells, cells_to_end};
 ghost use Rattle.codespan_picture.specs.Given.{all_labelled};

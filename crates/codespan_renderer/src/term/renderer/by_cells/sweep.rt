@@ -1,7 +1,6 @@
 //! A walk over the characters of a line that meets its labels as they begin.
 
-ghost use Rattle.std.specs.Prelude.{◌≡◌, ◌+◌, ◌<◌, ◌≤◌, ◌&&◌, IsTrue, nat_lt, length, true, if◌then◌else◌, max, filter};
-ghost use Rattle.std.specs.List.{slice_index_or};
+ghost use Rattle.std.specs.Prelude.{◌≡◌, ◌+◌, ◌<◌, ◌≤◌, ◌&&◌, IsTrue, nat_lt, true, max, filter};
 ghost use Rattle.codespan_base.specs.Labels.{has_message, is_primary};
 ghost use Rattle.codespan_picture.specs.Carets.{style_under};
 ghost use Rattle.codespan_picture.specs.Given.{labelled, all_labelled};

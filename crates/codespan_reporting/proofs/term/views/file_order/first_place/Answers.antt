@@ -5,7 +5,7 @@ use Rattle.std.proofs.lemmas.Bool.{ltb-false, ltb-true}
 use Rattle.codespan_reporting.specs.declared.term.views.file_order.LabelledFile.{LabelledFile as GivenFile}
 use Rattle.codespan_reporting.specs.Inner.LabelledFiles.{ids_given}
 use Rattle.codespan_reporting.proofs.LabelFiles.{none-more, place-first, place-nowhere}
-use Rattle.codespan_reporting.proofs.LabelPlaces.{IsAt}
+use Rattle.codespan_reporting.proofs.LabelPlaces.{StandsAt}
 use Rattle.codespan_reporting.proofs.term.views.file_order.first_place.Given.{Over}
 use Rattle.codespan_reporting.proofs.term.views.file_order.first_place.Goals.{After-index-files-place, After-index-files-place-in-loop-place, Else-eq, In-Some}
 use Rattle.codespan_reporting.proofs.term.views.file_order.first_place.Goals as goal
@@ -15,22 +15,22 @@ more : (g : Over) (c : After-index-files-place g) → c.loop-place.place + 1 < l
 more g c = omega (arith, c.loop-place-test.true, c.saturating_sub-last.ensures)
 
 -- the file at the place
-here : (g : Over) (c : After-index-files-place g) → IsAt c.args.files.now c.loop-place.place c.index-files-place.result
+here : (g : Over) (c : After-index-files-place g) → StandsAt c.args.files.now c.loop-place.place c.index-files-place.result
 here g c = record { inside = omega (arith, more g c); is = c.index-files-place.is }
 
 -- it is not of the id
-none_here : (g : Over) (c : Else-eq g) → IsAt c.args.files.now c.loop-place.place c.index-files-place.result
+none_here : (g : Over) (c : Else-eq g) → StandsAt c.args.files.now c.loop-place.place c.index-files-place.result
     → AllByRecursion (λ j. g.FileId.PartialEq.eq j c.args.id ≡ false) (ids_given (take (c.loop-place.place + 1) c.args.files.now))
 none_here g c at =
     let same = g.FileId.PartialEq.eq in
     none-more at same c.args.id c.loop-place.invariant.none (ap (λ (f : GivenFile g.row.FileId.Denot). same f.id c.args.id) c.index-files-place.is ∙ sym c.eq.ensures ∙ c.if-eq.false)
 
 -- the file after it
-next : (g : Over) (c : After-index-files-place-in-loop-place g) → c.loop-place.place + 1 < length c.args.files.now → IsAt c.args.files.now (c.loop-place.place + 1) c.index-files-place-in-loop-place.result
+next : (g : Over) (c : After-index-files-place-in-loop-place g) → c.loop-place.place + 1 < length c.args.files.now → StandsAt c.args.files.now (c.loop-place.place + 1) c.index-files-place-in-loop-place.result
 next g c inside = record { inside = inside; is = c.index-files-place-in-loop-place.is }
 
 -- the last file
-last : (g : Over) (c : In-Some g) → IsAt c.args.files.now c.loop-place.place c.in-Some.file.now
+last : (g : Over) (c : In-Some g) → StandsAt c.args.files.now c.loop-place.place c.in-Some.file.now
 last g c = let found = c.in-Some.ensures.lookup in record { inside = ltb-true _ _ (sym found.0); is = found.1 }
 
 pub loop-place-preserved : goal.loop-place-preserved

@@ -6,13 +6,13 @@ use Rattle.codespan_reporting.specs.declared.term.views.loci.FileStart.{FileStar
 use Rattle.codespan_reporting.specs.Inner.LabelledFiles.{ids_given, lanes_by}
 use Rattle.codespan_reporting.specs.Inner.Lanes.{Lane, lanes_given}
 use Rattle.codespan_reporting.specs.Inner.Loci.{no_start, start_with}
-use Rattle.codespan_reporting.proofs.LabelPlaces.{IsAt, map-changed}
+use Rattle.codespan_reporting.proofs.LabelPlaces.{StandsAt, map-changed}
 use Rattle.codespan_reporting.proofs.term.views.file_order.tell_file.Given.{Over}
 use Rattle.codespan_reporting.proofs.term.views.file_order.tell_file.Goals.{In_ok-tell}
 use Rattle.codespan_reporting.proofs.term.views.file_order.tell_file.Goals as goal
 
 -- the file at the place
-at : (g : Over) (c : In_ok-tell g) → IsAt c.args.files.now.items c.args.place c.index_mut.result.now
+at : (g : Over) (c : In_ok-tell g) → StandsAt c.args.files.now.items c.args.place c.index_mut.result.now
 at g c = record { inside = c.requires.place; is = c.index_mut.ensures.value }
 
 pub returns-clause-ids : goal.returns-clause-ids

@@ -9,7 +9,7 @@ use Rattle.codespan_picture.specs.Picture.{label_of}
 use Rattle.codespan_picture.specs.Snippets.{file_ids}
 use Rattle.codespan_reporting.specs.Inner.PlacedLabels.{AreApart, entries_after}
 use Rattle.codespan_reporting.proofs.FilePlaces.{first_seen-differ}
-use Rattle.codespan_reporting.proofs.LabelPlaces.{AreFiles, IsAt, lanes_by-are}
+use Rattle.codespan_reporting.proofs.LabelPlaces.{AreFiles, StandsAt, are-files, lanes_by-are}
 use Rattle.codespan_reporting.proofs.LabelTurns.{before}
 use Rattle.codespan_reporting.proofs.LabelsGathered.{AreGathered, each-told, file-placed, gathered-all, gathered-more, gathered-refused, place-inside}
 use Rattle.codespan_reporting.proofs.term.views.gather.gather_in_turn.Given.{Over}
@@ -18,21 +18,17 @@ use Rattle.codespan_reporting.proofs.term.views.gather.gather_in_turn.Goals as g
 
 -- the files are lawful, and equal ids name one file
 are_files : (g : Over) (κs : Lfts 8) → g.claim κs → (files : g.row.F.Denot) → AreFiles g.F.FileId.PartialEq.eq (g.F.Files.file files)
-are_files g κs claim files = record {
-  equivalence = g.met.F.FileId.Eq.laws;
-  one_file = λ i j same. ((g.met.F.Files κs claim).same_file files i j same).0;
-  some_line = λ i. ((g.met.F.Files κs claim).lawful files i).some_line;
-}
+are_files g κs claim = let laws = g.met.F.Files κs claim in are-files g.met.F.FileId.Eq.laws laws.same_file laws.lawful
 
 pub place_file-requires : goal.place_file-requires
 place_file-requires g c = subst (AreApart g.F.FileId.PartialEq.eq) (sym c.loop-place.invariant.ids_are) (first_seen-differ g.F.FileId.PartialEq.eq g.met.F.FileId.Eq.laws _)
 
 -- it is the label's turn
-turn : (g : Over) (c : After-index-labels-place g) → IsAt c.args.labels.now c.loop-place.place c.index-labels-place.result
+turn : (g : Over) (c : After-index-labels-place g) → StandsAt c.args.labels.now c.loop-place.place c.index-labels-place.result
 turn g c = record { inside = c.loop-place-test.true; is = c.index-labels-place.is }
 
 -- its file is there too
-placed : (g : Over) (c : In_ok-file g) → IsAt c.args.labels.now c.loop-place.place c.index-labels-place.result
+placed : (g : Over) (c : In_ok-file g) → StandsAt c.args.labels.now c.loop-place.place c.index-labels-place.result
     → let same = g.F.FileId.PartialEq.eq in
     let labels = c.args.labels.now in
     let place = c.loop-place.place in

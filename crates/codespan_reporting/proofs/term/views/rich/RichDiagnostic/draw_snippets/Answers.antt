@@ -1,6 +1,7 @@
 use Rattle.std.proofs.Common.{Err, refl, ap, ◌∙◌}
 use Rattle.std.proofs.lemmas.Result.{err_from_is_err_and}
-use Rattle.codespan_reporting.proofs.SheetDrawing.{file-at, is-sheet_file, left-cut, left-end, left-next, left-start}
+use Rattle.codespan_reporting.proofs.LabelPlaces.{stands-alike}
+use Rattle.codespan_reporting.proofs.SheetDrawing.{is-sheet_file, left-cut, left-end, left-next, left-start}
 use Rattle.codespan_reporting.proofs.term.views.rich.RichDiagnostic.draw_snippets.Goals as goal
 
 pub loop-place-init : goal.loop-place-init
@@ -8,12 +9,12 @@ loop-place-init g c = record { same = record { reference = refl; config = refl }
 
 pub draw_snippet-requires : goal.draw_snippet-requires
 draw_snippet-requires g c κs =
-    let is = is-sheet_file c.requires (file-at c.deref-file-items.ensures.value c.loop-place-test.true c.file-item.is) in
+    let is = is-sheet_file c.requires (stands-alike c.deref-file-items.ensures.value c.loop-place-test.true c.file-item.is) in
     ((refl, tt), (is.each, is.fits))
 
 pub returns-in_err-draw_snippet-clause-draws : goal.returns-in_err-draw_snippet-clause-draws
 returns-in_err-draw_snippet-clause-draws g c =
-    let at = file-at c.deref-file-items.ensures.value c.loop-place-test.true c.file-item.is in
+    let at = stands-alike c.deref-file-items.ensures.value c.loop-place-test.true c.file-item.is in
     let count = c.len.ensures ∙ c.args.sheet.now.files.ok.0 in
     let p = err_from_is_err_and c.from_residual.result c.from_residual.ensures.1 in
     rw (p.1 ∙ ap Err p.2)
@@ -21,7 +22,7 @@ returns-in_err-draw_snippet-clause-draws g c =
 
 pub loop-place-preserved : goal.loop-place-preserved
 loop-place-preserved g c =
-    let at = file-at c.deref-file-items.ensures.value c.loop-place-test.true c.file-item.is in
+    let at = stands-alike c.deref-file-items.ensures.value c.loop-place-test.true c.file-item.is in
     let count = c.len.ensures ∙ c.args.sheet.now.files.ok.0 in
     let same = c.in_ok-draw_snippet.ensures.same in
     let was = c.loop-place.invariant.same in
