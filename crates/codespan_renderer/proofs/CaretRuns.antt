@@ -1,6 +1,6 @@
 -- The carets under a line, run by run.
 use Rattle.std.proofs.Common.{◌≡◌, ℕ, ◌+◌, ◌≤◌, Bool, true, false, List, [], ◌∷◌, ◌++◌, Option, None, Some, refl, sym, ap, ◌∙◌, append_assoc, append-nil, add-zero, arith, le-ltb}
-use Rattle.std.specs.Prelude.{nat_lt}
+use Rattle.std.specs.Prelude.{nat_lt, if◌then◌else◌}
 use Rattle.codespan_base.specs.declared.diagnostic.Severity.{Severity}
 use Rattle.codespan_base.specs.declared.diagnostic.LabelStyle.{LabelStyle}
 use Rattle.codespan_base.specs.declared.term.config.chars.Chars.{Chars}
@@ -10,7 +10,7 @@ use Rattle.codespan_picture.specs.declared.cells.Cell.{Cell}
 use Rattle.codespan_picture.specs.Carets.{style_under, caret_for, greatest_end}
 use Rattle.codespan_picture.specs.Rows.{Look}
 use Rattle.codespan_picture.specs.RowParts.{change, styled, caret_glyphs, carets}
-use Rattle.codespan_renderer.specs.Inner.Runs.{caret_count, caret_run}
+use Rattle.codespan_renderer.specs.Inner.Runs.{caret_run}
 use Rattle.codespan_picture.proofs.CaretEnds.{style_under-below}
 use Rattle.codespan_renderer.proofs.RowWords.{blanks-add, repeated-add, change-same, regroup}
 use Rattle.codespan_renderer.proofs.Sweeping.{Follow}
@@ -30,6 +30,11 @@ unfolding carets caret_run blanks bytes
 carets-start look labels cs = refl
 
 -- ---- a run
+
+-- how many cells of carets or blanks a character has under it, where they reach to this end
+abbrev pub caret_count : ℕ → Option LabelStyle → Cell → ℕ
+caret_count end None c = if nat_lt c.place end then c.width else 0
+caret_count end (Some style) c = c.width
 
 blanks-count : (chars : Chars) (end : ℕ) (c : Cell) (run : ℕ) (b : Bool) → nat_lt c.place end ≡ b
     → caret_run chars None (run + caret_count end None c) ≡ caret_run chars None run ++ caret_glyphs chars end None c

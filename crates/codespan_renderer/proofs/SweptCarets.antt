@@ -6,9 +6,9 @@ use Rattle.codespan_picture.specs.Carets.{style_under, greatest_end}
 use Rattle.codespan_picture.specs.Given.{GivenLabel, all_labelled}
 use Rattle.codespan_picture.specs.Rows.{Look}
 use Rattle.codespan_picture.specs.RowParts.{change}
-use Rattle.codespan_renderer.specs.Inner.Runs.{caret_count, caret_run}
+use Rattle.codespan_renderer.specs.Inner.Runs.{caret_run}
 use Rattle.codespan_renderer.specs.declared.term.renderer.by_cells.sweep.Sweep.{Sweep}
-use Rattle.codespan_renderer.proofs.CaretRuns.{carets_left, carets-past, carets-same, carets-turn}
+use Rattle.codespan_renderer.proofs.CaretRuns.{caret_count, carets_left, carets-past, carets-same, carets-turn}
 use Rattle.codespan_renderer.proofs.Sweeping.{Follow, IsWalk, cells-step}
 
 -- the cell at a place of the list begins another run

@@ -1,5 +1,5 @@
 -- Words of the loops that send rows: runs of one character, and the best style found so far.
-use Rattle.std.specs.Prelude.{◌≡◌, ℕ, ◌+◌, Bool, nat_lt, List, ◌++◌, map, filter, fold, reverse, take, drop, slice_get, Option, Some, None, if◌then◌else◌}
+use Rattle.std.specs.Prelude.{◌≡◌, ℕ, ◌+◌, Bool, List, ◌++◌, map, filter, fold, reverse, take, drop, slice_get, Option, Some, None, if◌then◌else◌}
 use Rattle.std.specs.List.{list_any}
 use Rattle.std.specs.Option.{option_map}
 use Rattle.std.specs.Borrow.{Bor}
@@ -19,11 +19,6 @@ use Rattle.codespan_picture.specs.RowStreams.{stream_of_rows}
 unfoldable pub caret_run : Chars → Option LabelStyle → ℕ → Stream
 caret_run chars None count = blanks count
 caret_run chars (Some style) count = repeated count (caret_for chars (Some style))
-
--- how many cells of carets or blanks a character has under it, where they reach to this end
-abbrev pub caret_count : ℕ → Option LabelStyle → Cell → ℕ
-caret_count end None c = if nat_lt c.place end then c.width else 0
-caret_count end (Some style) c = c.width
 
 -- of two styles a primary one goes first
 abbrev pub better : Option LabelStyle → LabelStyle → Option LabelStyle

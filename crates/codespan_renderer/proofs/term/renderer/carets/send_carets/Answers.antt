@@ -8,8 +8,8 @@ use Rattle.codespan_picture.specs.Cells.{cells_to_end}
 use Rattle.codespan_renderer.specs.Inner.CellsLeft.{cells_left}
 use Rattle.codespan_picture.specs.Given.{all_labelled}
 use Rattle.codespan_renderer.specs.Inner.GivenLine.{look_of_given}
-use Rattle.codespan_renderer.specs.Inner.Runs.{caret_count, caret_run}
-use Rattle.codespan_renderer.proofs.CaretRuns.{carets_left, carets-start, carets-same, carets-turn, carets-end, carets-past}
+use Rattle.codespan_renderer.specs.Inner.Runs.{caret_run}
+use Rattle.codespan_renderer.proofs.CaretRuns.{caret_count, carets_left, carets-start, carets-same, carets-turn, carets-end, carets-past}
 use Rattle.codespan_renderer.proofs.SweptCarets.{counts-all}
 use Rattle.codespan_renderer.proofs.Laying.{Laying, lays-follow, laying-to_end, laying-fits, laying-more}
 use Rattle.codespan_renderer.proofs.term.renderer.carets.send_carets.Goals.{then-ne+in_ok-end_caret_run, else-ne, in-None, in-Some+then-cell-end}
