@@ -37,8 +37,11 @@ pub fn emit_into_string<'files, F: Files<'files>>(
         // SAFETY: what a picture writes is UTF-8: its characters are characters, its texts are texts, and a line is cut between
         // characters alone. The condition of the call is proved from `codespan_reporting::laws::pictures_are_texts`.
         Ok(()) => Ok(unsafe { String::from_utf8_unchecked(plain.into_inner()) }),
-        Err(_) if plain.has_refused() => Err(Error::OutOfMemory),
-        Err(error) => Err(error),
+        Err(error) => Err(if plain.has_refused() {
+            Error::OutOfMemory
+        } else {
+            error
+        }),
     }
 }
 

@@ -1,6 +1,7 @@
 //! The files of labels, in the order of their first label.
 
-ghost use Rattle.std.specs.Prelude.{◌≡◌, ◌<◌, [], ◌∷◌, ◌++◌, IfOk, OnOk, OnErr, IsErrOf, length};
+ghost use Rattle.std.specs.Prelude.{◌≡◌, ◌<◌, ◌≤◌, ◌+◌, false, [], ◌∷◌, ◌++◌, IfOk, OnOk, OnErr, IsErrOf, length, take};
+ghost use Rattle.std.specs.List.{AllByRecursion};
 ghost use Rattle.codespan_picture.specs.Picture.{label_of};
 ghost use Rattle.codespan_reporting.specs.Inner.LabelledFiles.{all_lanes_given, ids_given, lanes_by, lanes_told, start_told, starts_given, with_file};
 ghost use Rattle.codespan_reporting.specs.Inner.Lanes.{lanes_given};
@@ -125,13 +126,29 @@ fn first_place<FileId: Copy + Eq>(files: &[LabelledFile<'_, FileId>], id: FileId
         if files[place].id == id {
             return place;
         }
-        if files[place + 1].id == id {
-            return place + 1;
+        let next = place + 1;
+        let is_next = files[next].id == id;
+        if is_next {
+            return next;
         }
         place += 2;
     }
-    match files.get(place) {
-        Some(file) if file.id == id => place,
-        _ => files.len(),
-    }
+    last_place(files, place, id)
+}
+
+/// This place, if there is a file of this id, and the number of the files otherwise. No file before it is of the id, and none comes after it.
+#[inline(always)]
+fn last_place<FileId: Copy + Eq>(
+    files: &[LabelledFile<'_, FileId>],
+    place: usize,
+    id: FileId,
+) -> usize
+    requires last { length files.now ≤ place + 1 }
+    requires none { AllByRecursion (λ other. FileId.eq other id ≡ false) (ids_given (take place files.now)) }
+    ensures { result ≡ file_place FileId.eq (ids_given files.now) id }
+{
+    let Some(file) = files.get(place) else {
+        return files.len();
+    };
+    if file.id == id { place } else { files.len() }
 }

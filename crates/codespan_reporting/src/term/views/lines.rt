@@ -131,19 +131,20 @@ impl<'page, 'd, 'files, F: Files<'files>> FileLines<'page, 'd, 'files, F> {
     {
         marks.refill(self.lanes, line, entries)?;
         let source = &self.text[line.start..line.end];
-        if marks.have_several_places() {
-            marks
-                .cells
-                .refill(renderer, source, marks.singles.as_slice())?;
+        let several = marks.have_several_places();
+        let singles = marks.singles.as_slice();
+        let multis = marks.multis.as_slice();
+        if several {
+            marks.cells.take_line(renderer, source, singles)?;
             marks.cells.render(
                 renderer,
                 self.page.padding,
                 line.number,
                 source,
                 self.page.severity,
-                marks.singles.as_slice(),
+                singles,
                 self.lanes.len(),
-                marks.multis.as_slice(),
+                multis,
             )?;
         } else {
             renderer.render_snippet_source(
@@ -151,9 +152,9 @@ impl<'page, 'd, 'files, F: Files<'files>> FileLines<'page, 'd, 'files, F> {
                 line.number,
                 source,
                 self.page.severity,
-                marks.singles.as_slice(),
+                singles,
                 self.lanes.len(),
-                marks.multis.as_slice(),
+                multis,
             )?;
         }
         Ok(())

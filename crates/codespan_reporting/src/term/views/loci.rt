@@ -97,7 +97,8 @@ pub fn locus_at<'files, F: Files<'files>>(
     ensures locus { IfOk result (λ locus. IsPlaceIn (F.file files.now id) byte_index (place_of_given locus)) }
     ensures refused { TellsNaming (first_refusal (F.refusal files.now) (asked_of id (NameLookup ∷ LocationAt byte_index ∷ []))) result }
 {
-    let name = display_text(alloc, files.name(id)?)?;
+    let named = files.name(id)?;
+    let name = display_text(alloc, named)?;
     let location = files.location(id, byte_index)?;
     Ok(Locus { name, location })
 }

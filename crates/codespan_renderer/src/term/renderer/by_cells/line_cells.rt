@@ -47,7 +47,7 @@ impl LineCells {
     /// Takes the characters of a line of the source, as the renderer draws them, and the pointers of these labels, in place of those
     /// before. Refuses with `OutOfMemory`.
     #[inline(always)]
-    pub fn refill<W: WriteStyle>(
+    pub fn take_line<W: WriteStyle>(
         &mut self,
         renderer: &Renderer<'_, '_, W>,
         source: &str,

@@ -1,9 +1,10 @@
-use Rattle.std.proofs.Common.{rules, ◌≡◌, ℕ, List, [], Some, inl, refl, ap, ◌∙◌}
+use Rattle.std.proofs.Common.{rules, ◌≡◌, ℕ, List, [], Some, inl, refl, sym, ap, ◌∙◌}
 use Rattle.codespan_base.specs.FileModel.{IsLawful}
 use Rattle.codespan_base.specs.Streams.{no_marks}
 use Rattle.codespan_base.specs.WriterLaw.{Sink}
 use Rattle.codespan_base.specs.Writers.{fresh_sink}
 use Rattle.codespan_reporting.proofs.Emitting.{common, string_drawn, text_held, told_of_string}
+use Rattle.codespan_reporting.proofs.term.emitting.emit_into_string.Goals.{then-has_refused, else-has_refused}
 use Rattle.codespan_reporting.proofs.term.emitting.emit_into_string.Goals as goal
 
 -- a writer of plain text that begins with what an empty buffer holds begins with nothing
@@ -22,10 +23,9 @@ pub returns-in-Ok : goal.returns-in-Ok
 returns-in-Ok g c =
     string_drawn (common c.args.config.now.display_style c.in-Ok.ensures.draws) (begins-empty c.new-plain.ensures.begins c.in_ok-bytes.ensures.items) (search rules) c.in-Ok.ensures.meaning
 
--- a growth was refused
-pub returns-in-Err : goal.returns-in-Err
-returns-in-Err g c = inl refl
-
--- the writer has refused nothing
-pub returns : goal.returns
-returns g c = told_of_string (common c.args.config.now.display_style c.in-Err-2.ensures.draws) (search rules)
+-- a growth was refused, or the writer has refused nothing
+pub returns-after-has_refused : goal.returns-after-has_refused
+returns-after-has_refused g c = elim c.if-has_refused.branch [
+  | then-has_refused w ↦ rw w.result-is (inl refl)
+  | else-has_refused w ↦ rw w.result-is (told_of_string (common c.args.config.now.display_style c.in-Err.ensures.draws) (sym c.has_refused.ensures ∙ w.if-has_refused.false))
+]

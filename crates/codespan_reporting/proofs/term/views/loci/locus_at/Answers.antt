@@ -6,27 +6,27 @@ use Rattle.codespan_base.specs.FileModel.{or_refusal}
 use Rattle.codespan_base.specs.FileModel.Lookup.{LocationAt, Name}
 use Rattle.codespan_reporting.proofs.LocusStarts.{located_place}
 use Rattle.codespan_reporting.proofs.term.views.loci.locus_at.Given.{Over}
-use Rattle.codespan_reporting.proofs.term.views.loci.locus_at.Goals.{In_ok-name}
+use Rattle.codespan_reporting.proofs.term.views.loci.locus_at.Goals.{In_ok-named}
 use Rattle.codespan_reporting.proofs.term.views.loci.locus_at.Goals as goal
 
 -- the name is told, and the location tells the rest
-location-tells : (g : Over) (c : In_ok-name g) {o : Option Error}
+location-tells : (g : Over) (c : In_ok-named g) {o : Option Error}
     → let refusal = g.F.Files.refusal c.args.files.now c.args.id in
     refusal (LocationAt c.args.byte_index) ≡ o → or_refusal (refusal Name) (or_refusal (refusal (LocationAt c.args.byte_index)) None) ≡ or_refusal o None
 location-tells g c is =
     let refusal = g.F.Files.refusal c.args.files.now c.args.id in
-    ap (λ o. or_refusal o (or_refusal (refusal (LocationAt c.args.byte_index)) None)) c.in_ok-name.ensures.refused ∙ ap (λ o. or_refusal o None) is
+    ap (λ o. or_refusal o (or_refusal (refusal (LocationAt c.args.byte_index)) None)) c.in_ok-named.ensures.refused ∙ ap (λ o. or_refusal o None) is
 
 pub returns-in_err-location-clause-refused : goal.returns-in_err-location-clause-refused
 returns-in_err-location-clause-refused g c =
     let p = err_from_is_err_and c.from_residual-in_err-location.result c.from_residual-in_err-location.ensures.1 in
-    rw (p.1 ∙ ap Err p.2) (λ told _. location-tells g (goal.at.returns-in_err-location-clause-refused g c).In_ok-name (c.in_err-location.ensures.refused told))
+    rw (p.1 ∙ ap Err p.2) (λ told _. location-tells g (goal.at.returns-in_err-location-clause-refused g c).In_ok-named (c.in_err-location.ensures.refused told))
 
 pub returns-clause-locus : goal.returns-clause-locus
 returns-clause-locus g c =
     let file = g.F.Files.file c.args.files.now in
-    let text : IfSome (file c.args.id).name (λ bytes. string_bytes c.in_ok-name-2.name ≡ bytes) = rw (sym c.in_ok-name.ensures.value) c.in_ok-name-2.ensures.text in
-    located_place (file c.args.id) c.args.byte_index (record { name = c.in_ok-name-2.name; location = c.in_ok-location.location }) text c.in_ok-location.ensures.value
+    let text : IfSome (file c.args.id).name (λ bytes. string_bytes c.in_ok-name.name ≡ bytes) = rw (sym c.in_ok-named.ensures.value) c.in_ok-name.ensures.text in
+    located_place (file c.args.id) c.args.byte_index (record { name = c.in_ok-name.name; location = c.in_ok-location.location }) text c.in_ok-location.ensures.value
 
 pub returns-clause-refused : goal.returns-clause-refused
-returns-clause-refused g c = location-tells g (goal.at.returns-clause-refused g c).In_ok-name c.in_ok-location.ensures.refused
+returns-clause-refused g c = location-tells g (goal.at.returns-clause-refused g c).In_ok-named c.in_ok-location.ensures.refused

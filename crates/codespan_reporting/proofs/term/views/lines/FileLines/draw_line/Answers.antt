@@ -10,15 +10,15 @@ returns-in_err-refill-clause-draws g c =
     let p = err_from_is_err_and c.from_residual.result c.from_residual.ensures.1 in
     rw p.1 (asking_no_memory (out_of_memory p.2 c.in_err-refill.ensures.refused))
 
-pub returns-in_err-refill-2-clause-draws : goal.returns-in_err-refill-2-clause-draws
-returns-in_err-refill-2-clause-draws g c =
-    let p = err_from_is_err_and c.from_residual-in_err-refill-2.result c.from_residual-in_err-refill-2.ensures.1 in
-    rw p.1 (asking_no_memory (out_of_memory p.2 c.in_err-refill-2.ensures.refused))
+pub returns-in_err-take_line-clause-draws : goal.returns-in_err-take_line-clause-draws
+returns-in_err-take_line-clause-draws g c =
+    let p = err_from_is_err_and c.from_residual-in_err-take_line.result c.from_residual-in_err-take_line.ensures.1 in
+    rw p.1 (asking_no_memory (out_of_memory p.2 c.in_err-take_line.ensures.refused))
 
 pub render_snippet_source-requires : goal.render_snippet_source-requires
 render_snippet_source-requires g c =
-    lanes_fit c.args.self.now.lanes.now c.args.line.index c.args.line.start _ (ap (map mark_of_given) c.as_slice-else-have_several_places-2.ensures.value ∙ c.in_ok-refill.ensures.multis)
+    lanes_fit c.args.self.now.lanes.now c.args.line.index c.args.line.start _ (ap (map mark_of_given) c.as_slice-multis.ensures.value ∙ c.in_ok-refill.ensures.multis)
 
 pub render-requires-clause-lanes : goal.render-requires-clause-lanes
 render-requires-clause-lanes g c =
-    lanes_fit c.args.self.now.lanes.now c.args.line.index c.args.line.start _ (ap (map mark_of_given) c.as_slice-then-have_several_places-2.ensures.value ∙ c.in_ok-refill.ensures.multis)
+    lanes_fit c.args.self.now.lanes.now c.args.line.index c.args.line.start _ (ap (map mark_of_given) c.as_slice-multis.ensures.value ∙ c.in_ok-refill.ensures.multis)

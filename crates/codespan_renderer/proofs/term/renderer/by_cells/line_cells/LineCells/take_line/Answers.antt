@@ -1,5 +1,5 @@
 use Rattle.codespan_renderer.proofs.Pieces.{before-ordered, after-ordered}
-use Rattle.codespan_renderer.proofs.term.renderer.by_cells.line_cells.LineCells.refill.Goals as goal
+use Rattle.codespan_renderer.proofs.term.renderer.by_cells.line_cells.LineCells.take_line.Goals as goal
 
 pub find_pointers-requires-clause-before : goal.find_pointers-requires-clause-before
 find_pointers-requires-clause-before g c = before-ordered _ _ _ c.of.ensures.pieces c.requires.ordered
