@@ -30,7 +30,6 @@ pub mod PlanFiles
 pub mod LocusStarts
 pub mod PlansFound
 pub mod PlanPadding
-pub mod PlansPlaced
 pub mod StepsDrawn
 pub mod SpannedRoom
 pub mod NoteRows

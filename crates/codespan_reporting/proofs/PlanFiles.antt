@@ -1,11 +1,10 @@
 -- The plans of files: what their steps draw and ask for is what the pictures of the files show.
-use Rattle.std.proofs.Common.{◌≡◌, ℕ, suc, ◌+◌, Bool, List, [], ◌∷◌, ◌++◌, map, max, Option, None, Some, refl, sym, subst, ap, ◌∙◌, arith}
+use Rattle.std.proofs.Common.{◌≡◌, ℕ, suc, ◌+◌, Bool, List, [], ◌∷◌, ◌++◌, map, max, Option, None, refl, sym, subst, ap, ◌∙◌, arith}
 use Rattle.std.specs.Prelude.{IfSome, flat_map, fold}
-use Rattle.std.specs.List.{AllByRecursion, AllZip}
+use Rattle.std.specs.List.{AllByRecursion}
 use Rattle.std.proofs.lemmas.Grind.{flat_map-append}
 use Rattle.std.proofs.lemmas.List.{map-append}
 use Rattle.std.proofs.lemmas.List.Folds.{flat_map-map}
-use Rattle.codespan_base.specs.declared.files.Error.{Error}
 use Rattle.codespan_base.specs.declared.term.config.Config.{Config}
 use Rattle.codespan_base.specs.declared.term.config.Layout.{Layout}
 use Rattle.codespan_base.specs.declared.term.config.Layout.TheVariants.{Classic, Unbroken}
@@ -19,12 +18,11 @@ use Rattle.codespan_picture.specs.Placed.{IsPlaceIn}
 use Rattle.codespan_picture.specs.Snippets.{InFile, LabelledFile, labelled_file, labelled_files, locus_start, rows_after, file_ids}
 use Rattle.codespan_reporting.specs.declared.term.views.gather.Gathered.{Gathered}
 use Rattle.codespan_reporting.specs.declared.term.views.file_order.LabelledFile.{LabelledFile as GivenFile}
-use Rattle.codespan_reporting.specs.declared.term.views.plan.FilePlan.{FilePlan}
 use Rattle.codespan_reporting.specs.declared.term.views.sheet.SheetFile.{SheetFile}
 use Rattle.codespan_reporting.specs.declared.term.views.steps.Step.{Step as GivenStep}
 use Rattle.codespan_reporting.specs.declared.term.views.steps.Step.TheVariants as given
 use Rattle.codespan_reporting.specs.Inner.Entries.{Entry}
-use Rattle.codespan_reporting.specs.Inner.GivenSheets.{sheet_numbers, sheet_refusal, IsGathered, IsPlacedPlan, IsPrepared, IsSheetFile, ids_of}
+use Rattle.codespan_reporting.specs.Inner.GivenSheets.{IsGathered, IsPrepared, IsSheetFile, ids_of, sheet_numbers, sheet_places, sheet_refusal}
 use Rattle.codespan_reporting.specs.Inner.GivenEntries.{entry_of}
 use Rattle.codespan_reporting.specs.Inner.LabelledFiles.{IsTold, ids_given}
 use Rattle.codespan_reporting.specs.Inner.Lanes.{file_lanes, lanes_given}
@@ -32,13 +30,11 @@ use Rattle.codespan_reporting.specs.declared.term.views.sheet.Sheet.{Sheet}
 use Rattle.codespan_reporting.specs.Inner.GivenSteps.{IsStepIn, IsStepOf, asked_by, asked_by_all, asked_with, numbers_asked, step_of}
 use Rattle.codespan_reporting.specs.Inner.Loci.{place_lookups, start_byte}
 use Rattle.codespan_reporting.specs.Inner.PlacedLabels.{IsIdAt}
-use Rattle.codespan_reporting.specs.Inner.Plans.{ArePlans, ArePlansOf, IsPlan, plan_digits, planned_lookups, plans_refusal, step_digits, steps_at}
+use Rattle.codespan_reporting.specs.Inner.Plans.{ArePlans, ArePlansOf, IsPlan, number_lookups, plan_digits, plans_refusal, step_digits, steps_at}
 use Rattle.codespan_reporting.specs.Inner.StepDrawing.{DoFit}
 use Rattle.codespan_reporting.specs.Inner.Steps.{Step, fill_of, fills_of, line_of_step, lines_of_steps, rows_of_steps}
 use Rattle.codespan_reporting.specs.Inner.Tables.{FileTable}
-use Rattle.codespan_reporting.proofs.Askings.{or_refusal-answered}
 use Rattle.codespan_reporting.proofs.PlansFound.{by_place-same}
-use Rattle.codespan_reporting.proofs.SheetPrepared.{numbers-refused, sheet-is}
 use Rattle.codespan_reporting.proofs.SpannedRoom.{spanned-room}
 use Rattle.codespan_reporting.proofs.EntryPicture.{snippet-fills, snippet-fits, snippet-lines, snippet-rows}
 use Rattle.codespan_reporting.proofs.LabelPlaces.{AreFiles}
@@ -89,15 +85,6 @@ steps-digits f (g ∷ gs) h =
 
 -- ---- plans
 
--- the plan of a file is that of its labels: its lanes, where it starts, what its steps draw, and what they ask for
-pub record IsFilePlan {Id : Type 0} (config : Config) (s : LabelledFile) (plan : FilePlan Id) : Type 0 where
-  pub lanes_are : lanes_given plan.file.now.lanes.items ≡ file_lanes s
-  pub starts : start_byte plan.file.now.start ≡ locus_start s.labels
-  pub each : AllByRecursion (IsStepOf s.file) plan.steps.items
-  pub fits : DoFit (map step_of plan.steps.items)
-  pub rows : rows_of_steps s.file (file_lanes s) (map step_of plan.steps.items) ≡ rows_after s None (drawn_lines config s.file s.labels)
-  pub asked : asked_by_all plan.steps.items ≡ flat_map (of_filled config.layout) (filled_lines config s)
-
 -- the steps draw a file's labels: the lines that they fill in, the lines that they draw, and their rows are those of its snippet
 record DrawSnippet (config : Config) (s : LabelledFile) (steps : List Step) : Type 0 where
   fills : fills_of steps ≡ filled_lines config s
@@ -135,9 +122,9 @@ module _ {Id : Type 0} {table : FileTable Id} (lawful : AreFiles table.same tabl
   }
 
   -- the numbers that are asked for before the header are those of the padding
-  numbers-are : planned_lookups config.layout es (ids_given gathered.files.items) ≡ sheet_numbers config table xs
+  numbers-are : number_lookups config.layout es (ids_given gathered.files.items) ≡ sheet_numbers config table xs
   numbers-are =
-      ap (planned_lookups config.layout es) all.files.ids_are
+      ap (number_lookups config.layout es) all.files.ids_are
       ∙ by_place-same (λ k id. asked_of id (numbers_asked config.layout (fills_of (steps_at es k)))) (λ id. asked_of id (numbers_for_padding config same file table.refusal xs config.layout id)) 0 (file_ids same xs)
       (λ i id at. let e : 0 + i ≡ i = omega arith in
       ap (λ k. asked_of id (numbers_asked config.layout (fills_of (steps_at es k)))) e
@@ -148,7 +135,20 @@ module _ {Id : Type 0} {table : FileTable Id} (lawful : AreFiles table.same tabl
       by_layout Classic id = refl
       by_layout Unbroken id = refl
 
-  module _ {k : ℕ} {f : GivenFile Id} (at : IsIdAt (file_ids same xs) k f.id) (told : IsTold same file xs f) {plan : FilePlan Id} (is : IsPlan config.layout file es k f plan) where
+  -- where a file's snippet starts
+  file_start-is : {f : GivenFile Id} → IsTold same file xs f → start_byte f.start ≡ locus_start (labelled f.id).labels
+  file_start-is {f} told = ap start_byte told.start_is ∙ start-is same file f.id xs
+
+  -- the places of files that are asked for are those of their snippets
+  places-asked : (fs : List (GivenFile Id)) → AllByRecursion (IsTold same file xs) fs → place_lookups fs ≡ flat_map (λ id. asked_of id (locus_lookups same file xs id)) (ids_given fs)
+  places-asked [] told = refl
+  places-asked (f ∷ fs) told = λ i. asked_of f.id (Name ∷ LocationAt (file_start-is told.0 i) ∷ []) ++ places-asked fs told.1 i
+
+  -- so are those of all files
+  places-are : place_lookups gathered.files.items ≡ sheet_places table xs
+  places-are = places-asked gathered.files.items all.files.told ∙ ap (flat_map (λ id. asked_of id (locus_lookups same file xs id))) all.files.ids_are
+
+  module _ {k : ℕ} {f : GivenFile Id} (at : IsIdAt (file_ids same xs) k f.id) (told : IsTold same file xs f) {plan : SheetFile Id} (is : IsPlan config.layout file es k f plan) where
     -- its steps
     steps-are : map step_of plan.steps.items ≡ steps_at es k
     steps-are = ap (map step_of) is.adds.whole ∙ is.adds.are
@@ -157,11 +157,11 @@ module _ {Id : Type 0} {table : FileTable Id} (lawful : AreFiles table.same tabl
     steps-in : AllByRecursion (IsStepIn config.layout (file f.id)) plan.steps.items
     steps-in = subst (AllByRecursion (IsStepIn config.layout (file f.id))) (sym is.adds.whole) is.adds.each
 
-    -- the plan is that of the file
-    file-plan : IsFilePlan config (labelled f.id) plan
+    -- it is a file of the picture
+    file-plan : IsSheetFile config (labelled f.id) plan
     file-plan = record {
       lanes_are = ap (λ (g : GivenFile Id). lanes_given g.lanes.items) is.file_is ∙ told.lanes_are;
-      starts = ap (λ (g : GivenFile Id). start_byte g.start) is.file_is ∙ ap start_byte told.start_is ∙ start-is same file f.id xs;
+      place = subst (λ n. IsPlaceIn (file f.id) n (place_of_given plan.locus)) (file_start-is told) is.place;
       each = steps_of-file config.layout (file f.id) plan.steps.items steps-in;
       fits = subst DoFit (sym steps-are) (snippet k f.id at).fits;
       rows = ap (rows_of_steps (file f.id) (file_lanes (labelled f.id))) steps-are ∙ (snippet k f.id at).rows;
@@ -193,25 +193,25 @@ module _ {Id : Type 0} {table : FileTable Id} (lawful : AreFiles table.same tabl
   all_at = λ i id h. let e : i ≡ 0 + i = omega arith in subst (λ n. IsIdAt (file_ids same xs) n id) e h
 
   -- the ids of plans
-  ids-from : (k : ℕ) (fs : List (GivenFile Id)) (plans : List (FilePlan Id)) → ArePlans config.layout file es k fs plans → map (λ (p : FilePlan Id). p.file.now.id) plans ≡ ids_given fs
+  ids-from : (k : ℕ) (fs : List (GivenFile Id)) (plans : List (SheetFile Id)) → ArePlans config.layout file es k fs plans → ids_of plans ≡ ids_given fs
   ids-from k [] [] h = refl
   ids-from k [] (p ∷ ps) h = absurd h
   ids-from k (f ∷ fs) [] h = absurd h
   ids-from k (f ∷ fs) (p ∷ ps) h = λ i. (h.0.file_is i).id ∷ ids-from (k + 1) fs ps h.1 i
 
   -- plans are those of their files
-  plans-from : (k : ℕ) (fs : List (GivenFile Id)) (plans : List (FilePlan Id)) → AreAt k (ids_given fs) → AllByRecursion (IsTold same file xs) fs → ArePlans config.layout file es k fs plans
-      → AllByRecursion (λ (p : FilePlan Id). IsFilePlan config (labelled p.file.now.id) p) plans
+  plans-from : (k : ℕ) (fs : List (GivenFile Id)) (plans : List (SheetFile Id)) → AreAt k (ids_given fs) → AllByRecursion (IsTold same file xs) fs → ArePlans config.layout file es k fs plans
+      → AllByRecursion (λ (p : SheetFile Id). IsSheetFile config (labelled p.file.now.id) p) plans
   plans-from k [] [] at told h = tt
   plans-from k [] (p ∷ ps) at told h = absurd h
   plans-from k (f ∷ fs) [] at told h = absurd h
   plans-from k (f ∷ fs) (p ∷ ps) at told h = (
-    subst (λ (g : GivenFile Id). IsFilePlan config (labelled g.id) p) (sym h.0.file_is) (file-plan (are_at-here k f.id (ids_given fs) at) told.0 h.0),
+    subst (λ (g : GivenFile Id). IsSheetFile config (labelled g.id) p) (sym h.0.file_is) (file-plan (are_at-here k f.id (ids_given fs) at) told.0 h.0),
     plans-from (k + 1) fs ps (are_at-next k f.id (ids_given fs) at) told.1 h.1,
   )
 
   -- in the unbroken layout their digits are those that the padding has room for
-  digits-from : config.layout ≡ Unbroken → (k : ℕ) (fs : List (GivenFile Id)) (plans : List (FilePlan Id)) → AreAt k (ids_given fs) → AllByRecursion (IsTold same file xs) fs
+  digits-from : config.layout ≡ Unbroken → (k : ℕ) (fs : List (GivenFile Id)) (plans : List (SheetFile Id)) → AreAt k (ids_given fs) → AllByRecursion (IsTold same file xs) fs
       → ArePlans config.layout file es k fs plans → flat_map plan_digits plans ≡ flat_map (λ id. digits_of (labelled id) (numbered_lines config (labelled id))) (ids_given fs)
   digits-from unbroken k [] [] at told h = refl
   digits-from unbroken k [] (p ∷ ps) at told h = absurd h
@@ -219,17 +219,17 @@ module _ {Id : Type 0} {table : FileTable Id} (lawful : AreFiles table.same tabl
   digits-from unbroken k (f ∷ fs) (p ∷ ps) at told h =
       λ i. file-digits (are_at-here k f.id (ids_given fs) at) told.0 h.0 unbroken i ++ digits-from unbroken (k + 1) fs ps (are_at-next k f.id (ids_given fs) at) told.1 h.1 i
 
-  module _ (plans : List (FilePlan Id)) (found : ArePlans config.layout file es 0 gathered.files.items plans) where
+  module _ (plans : List (SheetFile Id)) (found : ArePlans config.layout file es 0 gathered.files.items plans) where
     -- the ids stand at their places
     ids_at : AreAt 0 (ids_given gathered.files.items)
     ids_at = subst (λ (ids : List Id). AreAt 0 ids) (sym all.files.ids_are) all_at
 
     -- the ids of all plans
-    plan_ids : map (λ (p : FilePlan Id). p.file.now.id) plans ≡ file_ids same xs
+    plan_ids : ids_of plans ≡ file_ids same xs
     plan_ids = ids-from 0 gathered.files.items plans found ∙ all.files.ids_are
 
     -- all plans
-    file_plans : AllByRecursion (λ (p : FilePlan Id). IsFilePlan config (labelled p.file.now.id) p) plans
+    file_plans : AllByRecursion (λ (p : SheetFile Id). IsSheetFile config (labelled p.file.now.id) p) plans
     file_plans = plans-from 0 gathered.files.items plans ids_at all.files.told found
 
     -- in the classic layout the labels tell the room for numbers
@@ -243,61 +243,18 @@ module _ {Id : Type 0} {table : FileTable Id} (lawful : AreFiles table.same tabl
         ∙ ap (flat_map (λ id. digits_of (labelled id) (numbered_lines config (labelled id)))) all.files.ids_are
         ∙ sym (flat_map-map (λ (s : LabelledFile). digits_of s (numbered_lines config s)) labelled (file_ids same xs)))
 
--- ---- files with their places
-
-module _ {Id : Type 0} (same : Id → Id → Bool) (file : Id → FileModel) (config : Config) (xs : List (InFile Id)) where
-  -- a plan with its place is a file of the picture
-  sheet_file : (p : FilePlan Id) (f : SheetFile Id) → IsPlacedPlan file p f → IsFilePlan config (labelled_file same file xs p.file.now.id) p → IsSheetFile config (labelled_file same file xs f.file.now.id) f
-  sheet_file p f placed plan =
-      subst (λ (g : GivenFile Id). IsSheetFile config (labelled_file same file xs g.id) f) (sym placed.file_is) (record {
-        lanes_are = ap (λ (g : GivenFile Id). lanes_given g.lanes.items) placed.file_is ∙ plan.lanes_are;
-        place = subst (λ n. IsPlaceIn (file p.file.now.id) n (place_of_given f.locus)) plan.starts placed.place;
-        each = subst (AllByRecursion (IsStepOf (file p.file.now.id))) (sym placed.steps_are) plan.each;
-        fits = subst (λ (gs : List GivenStep). DoFit (map step_of gs)) (sym placed.steps_are) plan.fits;
-        rows = ap (λ (gs : List GivenStep). rows_of_steps (file p.file.now.id) (file_lanes (labelled_file same file xs p.file.now.id)) (map step_of gs)) placed.steps_are ∙ plan.rows;
-        asked = ap asked_by_all placed.steps_are ∙ plan.asked;
-      })
-
-  -- the lookups of the places of plans are those of their files
-  places-are : (ps : List (FilePlan Id)) → AllByRecursion (λ (p : FilePlan Id). IsFilePlan config (labelled_file same file xs p.file.now.id) p) ps
-      → flat_map (λ id. asked_of id (locus_lookups same file xs id)) (map (λ (p : FilePlan Id). p.file.now.id) ps) ≡ place_lookups ps
-  places-are [] plans = refl
-  places-are (p ∷ ps) plans = λ i. asked_of p.file.now.id (Name ∷ LocationAt (sym plans.0.starts i) ∷ []) ++ places-are ps plans.1 i
-
-  -- so are all
-  sheet_files : (ps : List (FilePlan Id)) (fs : List (SheetFile Id)) → AllZip (IsPlacedPlan file) ps fs
-      → AllByRecursion (λ (p : FilePlan Id). IsFilePlan config (labelled_file same file xs p.file.now.id) p) ps → AllByRecursion (λ (f : SheetFile Id). IsSheetFile config (labelled_file same file xs f.file.now.id) f) fs
-  sheet_files [] [] placed plans = tt
-  sheet_files [] (f ∷ fs) placed plans = absurd placed
-  sheet_files (p ∷ ps) [] placed plans = absurd placed
-  sheet_files (p ∷ ps) (f ∷ fs) placed plans = (sheet_file p f placed.0 plans.0, sheet_files ps fs placed.1 plans.1)
-
-  -- their ids are those of the plans
-  sheet_ids : (ps : List (FilePlan Id)) (fs : List (SheetFile Id)) → AllZip (IsPlacedPlan file) ps fs → ids_of fs ≡ map (λ (p : FilePlan Id). p.file.now.id) ps
-  sheet_ids [] [] placed = refl
-  sheet_ids [] (f ∷ fs) placed = absurd placed
-  sheet_ids (p ∷ ps) [] placed = absurd placed
-  sheet_ids (p ∷ ps) (f ∷ fs) placed = λ i. (placed.0.file_is i).id ∷ sheet_ids ps fs placed.1 i
-
 -- ---- what was gathered, with its plans
 
 module _ {Id : Type 0} {table : FileTable Id} (lawful : AreFiles table.same table.file) {config : Config} {xs : List (InFile Id)} {gathered : Gathered Id} (all : IsGathered table config xs gathered) where
-  -- a lookup of a number refuses
-  pub plans-refuse : {e : Error} → plans_refusal config.layout table.refusal gathered ≡ Some e → sheet_refusal config table xs ≡ Some e
-  plans-refuse told = numbers-refused table config xs (numbers-are lawful all) told
+  -- plans are refused with what the sheet is refused with
+  pub refusal-is : plans_refusal config.layout table.refusal gathered ≡ sheet_refusal config table xs
+  refusal-is = λ i. first_refusal table.refusal (numbers-are lawful all i ++ places-are lawful all i)
 
-  module _ (plans : List (FilePlan Id)) (found : ArePlansOf config.layout table.file gathered plans) where
-    -- the numbers are answered, and the places tell the rest
-    pub places-tell : plans_refusal config.layout table.refusal gathered ≡ None → sheet_refusal config table xs ≡ first_refusal table.refusal (place_lookups plans)
-    places-tell answered =
-        sheet-is table config xs plans (numbers-are lawful all)
-        (ap (flat_map (λ id. asked_of id (locus_lookups table.same table.file xs id))) (sym (plan_ids lawful all plans found)) ∙ places-are table.same table.file config xs plans (file_plans lawful all plans found))
-        ∙ or_refusal-answered (plans_refusal config.layout table.refusal gathered) (first_refusal table.refusal (place_lookups plans)) answered
-
-    -- plans with their places, and the room for their numbers, are the sheet of the labels
-    pub sheet-prepared : {sheet : Sheet Id} → AllZip (IsPlacedPlan table.file) plans sheet.files.items → sheet.padding ≡ padding_of config (labelled_files table.same table.file xs) → IsPrepared table config xs sheet
-    sheet-prepared {sheet} placed padding = record {
-      ids_are = sheet_ids table.same table.file config xs plans sheet.files.items placed ∙ plan_ids lawful all plans found;
-      files_are = sheet_files table.same table.file config xs plans sheet.files.items placed (file_plans lawful all plans found);
-      padding_is = padding;
-    }
+  -- plans, and the room for their numbers, are the sheet of the labels
+  pub sheet-prepared : {sheet : Sheet Id} → ArePlansOf config.layout table.file gathered sheet.files.items → sheet.padding ≡ padding_of config (labelled_files table.same table.file xs)
+      → IsPrepared table config xs sheet
+  sheet-prepared {sheet} found padding = record {
+    ids_are = plan_ids lawful all sheet.files.items found;
+    files_are = file_plans lawful all sheet.files.items found;
+    padding_is = padding;
+  }

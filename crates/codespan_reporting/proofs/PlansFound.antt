@@ -1,25 +1,31 @@
 -- The files' plans that a loop finds, one after another.
-use Rattle.std.proofs.Common.{◌≡◌, ℕ, suc, ◌+◌, ◌-◌, ◌≤◌, true, List, [], ◌∷◌, ◌++◌, length, take, drop, map, filter, Some, None, refl, sym, ap, ◌∙◌, subst, arith}
-use Rattle.std.specs.Prelude.{All, flat_map}
+use Rattle.std.proofs.Common.{◌≡◌, ◌≢◌, ℕ, suc, ◌+◌, ◌-◌, ◌≤◌, true, List, [], ◌∷◌, ◌++◌, length, take, drop, map, filter, Option, Some, None, Result, Ok, Err, refl, sym, ap, ◌∙◌, subst, arith}
+use Rattle.std.specs.Prelude.{All, IfOk, flat_map}
 use Rattle.std.specs.List.{AllByRecursion, prefix_len}
 use Rattle.std.specs.List.Sorted.{IsSortedBy}
+use Rattle.std.specs.Result.{result_and}
 use Rattle.std.proofs.lemmas.Bool.{eqb-true}
-use Rattle.std.proofs.lemmas.List.{append-nil, append_assoc, get_or-map, length-map, length-take-le, map-append, take-append-drop}
+use Rattle.std.proofs.lemmas.Grind.{flat_map-append}
+use Rattle.std.proofs.lemmas.List.{append-nil, append_assoc, get_or-map, length-map, length-take-le, map-append, take-append-drop, take_all}
 use Rattle.std.proofs.lemmas.List.Elements.{All-from_recursion}
+use Rattle.std.proofs.lemmas.Result.{IfOk-weaker}
 use Rattle.codespan_base.specs.declared.files.Error.{Error}
+use Rattle.codespan_base.specs.declared.files.Error.TheVariants.{FormatError, OutOfMemory}
 use Rattle.codespan_base.specs.declared.term.config.Layout.{Layout}
-use Rattle.codespan_base.specs.FileModel.{FileModel, Lookup}
-use Rattle.codespan_picture.specs.Lookups.{Refusals, asked_of, first_refusal}
+use Rattle.codespan_base.specs.FileModel.{FileModel, Lookup, or_refusal}
+use Rattle.codespan_picture.specs.Lookups.{Refusals, TellsNaming, asked_of, first_refusal}
 use Rattle.codespan_reporting.specs.declared.term.views.entry.Entry.{Entry as GivenEntry}
 use Rattle.codespan_reporting.specs.declared.term.views.file_order.LabelledFile.{LabelledFile as GivenFile}
-use Rattle.codespan_reporting.specs.declared.term.views.plan.FilePlan.{FilePlan}
+use Rattle.codespan_reporting.specs.declared.term.views.sheet.SheetFile.{SheetFile}
 use Rattle.codespan_reporting.specs.Inner.Entries.{Entry, is_below, is_of_file}
 use Rattle.codespan_reporting.specs.Inner.GivenEntries.{IsLineOf, IsOfFiles, entry_of}
 use Rattle.codespan_reporting.specs.Inner.GivenSteps.{numbers_asked}
 use Rattle.codespan_reporting.specs.Inner.LabelledFiles.{ids_given}
+use Rattle.codespan_reporting.specs.Inner.Loci.{place_asked, place_lookups}
 use Rattle.codespan_reporting.specs.Inner.PlacedLabels.{IsIdAt}
-use Rattle.codespan_reporting.specs.Inner.Plans.{ArePlans, IsPlan, by_place, planned_lookups, steps_at}
+use Rattle.codespan_reporting.specs.Inner.Plans.{ArePlans, IsPlan, by_place, number_lookups, steps_at}
 use Rattle.codespan_reporting.specs.Inner.Steps.{fills_of, steps_of}
+use Rattle.codespan_reporting.proofs.Askings.{first_refusal-append, or_refusal-answered, or_refusal-none, or_refusal-some}
 use Rattle.codespan_reporting.proofs.FileParts.{IsFilePart, from_file, next-file, next_part}
 use Rattle.codespan_reporting.proofs.FilePlaces.{at-get}
 use Rattle.codespan_reporting.proofs.LabelPlaces.{StandsAt, take-at}
@@ -116,7 +122,7 @@ module _ {Id : Type 0} {files : List (GivenFile Id)} {xs : List GivenEntry} {at 
 -- ---- plans
 
 -- plans from a place on, and then one more
-plans-more : {Id : Type 0} {layout : Layout} {file : Id → FileModel} {es : List Entry} {f : GivenFile Id} {plan : FilePlan Id} (k : ℕ) (fs : List (GivenFile Id)) (ps : List (FilePlan Id))
+plans-more : {Id : Type 0} {layout : Layout} {file : Id → FileModel} {es : List Entry} {f : GivenFile Id} {plan : SheetFile Id} (k : ℕ) (fs : List (GivenFile Id)) (ps : List (SheetFile Id))
     → ArePlans layout file es k fs ps → IsPlan layout file es (k + length fs) f plan → ArePlans layout file es k (fs ++ f ∷ []) (ps ++ plan ∷ [])
 plans-more {Id} {layout} {file} {es} {f} {plan} k [] [] h own = let e : k + 0 ≡ k = omega arith in (subst (λ n. IsPlan layout file es n f plan) e own, tt)
 plans-more k [] (p ∷ ps) h own = absurd h
@@ -125,10 +131,29 @@ plans-more {Id} {layout} {file} {es} {f} {plan} k (g ∷ fs) (p ∷ ps) h own =
     let e : k + suc (length fs) ≡ k + 1 + length fs = omega arith in
     (h.0, plans-more (k + 1) fs ps h.1 (subst (λ n. IsPlan layout file es n f plan) e own))
 
--- the plans of these files are found, and their lookups were answered
-pub record ArePlanned {Id : Type 0} (layout : Layout) (file : Id → FileModel) (es : List Entry) (refusal : Refusals Id) (files : List (GivenFile Id)) (now : List (FilePlan Id)) : Type 0 where
-  pub plans : ArePlans layout file es 0 files now
-  pub answered : first_refusal refusal (planned_lookups layout es (ids_given files)) ≡ None
+-- of two refusals the first is kept
+first-kept : (o p : Option Error) (placed : Result (Unit {0}) Error) (e : Error) → TellsNaming o placed → (e ≢ OutOfMemory → e ≢ FormatError → p ≡ Some e)
+    → TellsNaming {T = Unit {0}} (or_refusal o p) (result_and placed (Err e))
+first-kept o p (Ok x) e none told = λ memory display. or_refusal-answered o p none ∙ told memory display
+first-kept o p (Err x) e kept told = λ memory display. or_refusal-some o p x (kept memory display)
+
+-- a refusal is kept
+some-kept : (placed : Result (Unit {0}) Error) (e : Error) (P : Unit {0} → Type 0) → IfOk (result_and placed (Err e)) P
+some-kept (Ok x) e P = tt
+some-kept (Err x) e P = tt
+
+-- the numbers of these files are answered, the first refusal of their places is kept, and where no place is refused these are their plans
+pub record ArePlanned {Id : Type 0} (layout : Layout) (file : Id → FileModel) (es : List Entry) (refusal : Refusals Id) (files : List (GivenFile Id)) (now : List (SheetFile Id)) (placed : Result (Unit {0}) Error) : Type 0 where
+  pub answered : first_refusal refusal (number_lookups layout es (ids_given files)) ≡ None
+  pub kept : TellsNaming (first_refusal refusal (place_lookups files)) placed
+  pub plans : IfOk placed (λ _. ArePlans layout file es 0 files now)
+
+-- past the last file the lookups of all are refused with what is kept
+pub plans-tell : {Id : Type 0} {layout : Layout} {file : Id → FileModel} {es : List Entry} {refusal : Refusals Id} (files : List (GivenFile Id)) (k : ℕ) {now : List (SheetFile Id)} {placed : Result (Unit {0}) Error}
+    → length files ≤ k → ArePlanned layout file es refusal (take k files) now placed → TellsNaming (first_refusal refusal (number_lookups layout es (ids_given files) ++ place_lookups files)) placed
+plans-tell {Id} {layout} {file} {es} {refusal} files k {now} {placed} past found =
+    let all = subst (λ (fs : List (GivenFile Id)). ArePlanned layout file es refusal fs now placed) (take_all k files past) found in
+    subst (λ o. TellsNaming o placed) (sym (first_refusal-none refusal (number_lookups layout es (ids_given files)) (place_lookups files) all.answered)) all.kept
 
 module _ {Id : Type 0} {files : List (GivenFile Id)} {k : ℕ} {f : GivenFile Id} (here : StandsAt files k f) where
   -- how many files are before this one
@@ -139,32 +164,56 @@ module _ {Id : Type 0} {files : List (GivenFile Id)} {k : ℕ} {f : GivenFile Id
   ids-more : ids_given (take (k + 1) files) ≡ ids_given (take k files) ++ f.id ∷ []
   ids-more = ap ids_given (take-at here) ∙ map-append (λ (g : GivenFile Id). g.id) (take k files) (f ∷ [])
 
-  module _ {layout : Layout} {file : Id → FileModel} {es : List Entry} {refusal : Refusals Id} {now : List (FilePlan Id)} (before : ArePlanned layout file es refusal (take k files) now) where
+  -- what the places of these are refused with, or its own
+  places-more : (refusal : Refusals Id) → or_refusal (first_refusal refusal (place_lookups (take k files))) (first_refusal refusal (place_asked f)) ≡ first_refusal refusal (place_lookups (take (k + 1) files))
+  places-more refusal =
+      sym (first_refusal-append refusal (place_lookups (take k files)) (place_asked f))
+      ∙ ap (λ (ls : List (Id × Lookup)). first_refusal refusal (place_lookups (take k files) ++ ls)) (sym (append-nil (place_asked f)))
+      ∙ ap (first_refusal refusal) (sym (flat_map-append place_asked (take k files) (f ∷ [])))
+      ∙ ap (λ (fs : List (GivenFile Id)). first_refusal refusal (place_lookups fs)) (sym (take-at here))
+
+  module _ {layout : Layout} {file : Id → FileModel} {es : List Entry} {refusal : Refusals Id} {now : List (SheetFile Id)} {placed : Result (Unit {0}) Error} (before : ArePlanned layout file es refusal (take k files) now placed) where
     -- the lookups of the numbers of a file's lines
     abbrev asked_at : ℕ → Id → List (Id × Lookup)
     asked_at i id = asked_of id (numbers_asked layout (fills_of (steps_at es i)))
 
     -- the lookups with this one's
-    asked-more : first_refusal refusal (planned_lookups layout es (ids_given (take (k + 1) files))) ≡ first_refusal refusal (asked_at k f.id)
+    asked-more : first_refusal refusal (number_lookups layout es (ids_given (take (k + 1) files))) ≡ first_refusal refusal (asked_at k f.id)
     asked-more =
         ap (first_refusal refusal) (by_place-more asked_at k (ids_given (take k files)) (ids_given (take (k + 1) files)) f.id (length-map (take k files) _ ∙ files_before) ids-more)
-        ∙ first_refusal-none refusal (planned_lookups layout es (ids_given (take k files))) (asked_at k f.id) before.answered
+        ∙ first_refusal-none refusal (number_lookups layout es (ids_given (take k files))) (asked_at k f.id) before.answered
 
     -- it is planned too
-    pub planned-more : {new : List (FilePlan Id)} {plan : FilePlan Id} → new ≡ now ++ plan ∷ [] → IsPlan layout file es k f plan
-        → first_refusal refusal (asked_at k f.id) ≡ None → ArePlanned layout file es refusal (take (k + 1) files) new
-    planned-more {new} {plan} whole own answered = record {
+    pub planned-more : {new : List (SheetFile Id)} {plan : SheetFile Id} → new ≡ now ++ plan ∷ [] → IsPlan layout file es k f plan
+        → first_refusal refusal (asked_at k f.id) ≡ None → first_refusal refusal (place_asked f) ≡ None → ArePlanned layout file es refusal (take (k + 1) files) new placed
+    planned-more {new} {plan} whole own answered there = record {
+      answered = asked-more ∙ answered;
+      kept =
+          let before_it = first_refusal refusal (place_lookups (take k files)) in
+          subst (λ o. TellsNaming o placed) (sym (or_refusal-none before_it) ∙ ap (or_refusal before_it) (sym there) ∙ places-more refusal) before.kept;
       plans =
           let place : k ≡ 0 + length (take k files) = omega (arith, files_before) in
-          subst (λ fs. ArePlans layout file es 0 fs new) (sym (take-at here))
-          (subst (ArePlans layout file es 0 (take k files ++ f ∷ [])) (sym whole) (plans-more 0 (take k files) now before.plans (subst (λ n. IsPlan layout file es n f plan) place own)));
-      answered = asked-more ∙ answered;
+          IfOk-weaker placed (λ _. ArePlans layout file es 0 (take k files) now) (λ _. ArePlans layout file es 0 (take (k + 1) files) new)
+          (λ _ found. subst (λ fs. ArePlans layout file es 0 fs new) (sym (take-at here))
+          (subst (ArePlans layout file es 0 (take k files ++ f ∷ [])) (sym whole) (plans-more 0 (take k files) now found (subst (λ n. IsPlan layout file es n f plan) place own))))
+          before.plans;
     }
 
-    -- what it is refused with refuses all
-    pub planned-refuses : {e : Error} → first_refusal refusal (asked_at k f.id) ≡ Some e → first_refusal refusal (planned_lookups layout es (ids_given files)) ≡ Some e
+    -- its numbers are answered, and its place is refused
+    pub planned-without : {e : Error} → first_refusal refusal (asked_at k f.id) ≡ None → (e ≢ OutOfMemory → e ≢ FormatError → first_refusal refusal (place_asked f) ≡ Some e)
+        → ArePlanned layout file es refusal (take (k + 1) files) now (result_and placed (Err e))
+    planned-without {e} answered told = record {
+      answered = asked-more ∙ answered;
+      kept = subst (λ o. TellsNaming {T = Unit {0}} o (result_and placed (Err e))) (places-more refusal) (first-kept _ _ placed e before.kept told);
+      plans = some-kept placed e (λ _. ArePlans layout file es 0 (take (k + 1) files) now);
+    }
+
+    -- what its numbers are refused with refuses all
+    pub planned-refuses : {e : Error} → first_refusal refusal (asked_at k f.id) ≡ Some e
+        → first_refusal refusal (number_lookups layout es (ids_given files) ++ place_lookups files) ≡ Some e
     planned-refuses {e} told =
         let rest = drop (k + 1) files in
-        ap (λ fs. first_refusal refusal (planned_lookups layout es fs)) (ap ids_given (sym (take-append-drop (k + 1) files)) ∙ map-append (λ (g : GivenFile Id). g.id) (take (k + 1) files) rest)
+        first_refusal-some refusal (number_lookups layout es (ids_given files)) (place_lookups files) e
+        (ap (λ fs. first_refusal refusal (number_lookups layout es fs)) (ap ids_given (sym (take-append-drop (k + 1) files)) ∙ map-append (λ (g : GivenFile Id). g.id) (take (k + 1) files) rest)
         ∙ ap (first_refusal refusal) (by_place-append asked_at 0 (ids_given (take (k + 1) files)) (ids_given rest))
-        ∙ first_refusal-some refusal (planned_lookups layout es (ids_given (take (k + 1) files))) _ e (asked-more ∙ told)
+        ∙ first_refusal-some refusal (number_lookups layout es (ids_given (take (k + 1) files))) _ e (asked-more ∙ told))

@@ -1,5 +1,5 @@
 -- What was gathered and prepared is that of the labels, and what refuses it.
-use Rattle.std.proofs.Common.{◌≡◌, List, map, Option, Some, None, Vec, Global, sym, ◌∙◌, ap, append_assoc}
+use Rattle.std.proofs.Common.{◌≡◌, List, map, Option, Some, None, Vec, Global, ◌∙◌, ap, append_assoc}
 use Rattle.std.specs.List.Sorted.{IsPermutation, IsSortedBy}
 use Rattle.codespan_base.specs.declared.files.Error.{Error}
 use Rattle.codespan_base.specs.declared.term.config.Config.{Config}
@@ -8,19 +8,16 @@ use Rattle.codespan_picture.specs.Lookups.{early_lookups, first_refusal, label_l
 use Rattle.codespan_picture.specs.Snippets.{InFile}
 use Rattle.codespan_reporting.specs.declared.term.views.entry.Entry.{Entry as GivenEntry}
 use Rattle.codespan_reporting.specs.declared.term.views.gather.Gathered.{Gathered}
-use Rattle.codespan_reporting.specs.declared.term.views.plan.FilePlan.{FilePlan}
 use Rattle.codespan_reporting.specs.Inner.AskedLabels.{labels_refusal}
 use Rattle.codespan_reporting.specs.Inner.Entries.{is_below}
 use Rattle.codespan_reporting.specs.Inner.GivenEntries.{IsOfFiles, entry_of}
 use Rattle.codespan_reporting.specs.Inner.GivenSheets.{IsGathered, IsGatheredInTurn, sheet_lookups, sheet_numbers, sheet_places, sheet_refusal}
 use Rattle.codespan_reporting.specs.Inner.LabelledFiles.{ids_given}
-use Rattle.codespan_reporting.specs.Inner.Loci.{place_lookups}
 use Rattle.codespan_reporting.specs.Inner.PlacedLabels.{all_entries}
 use Rattle.codespan_reporting.specs.Inner.Tables.{FileTable}
 use Rattle.codespan_reporting.proofs.Askings.{first_refusal-append}
 use Rattle.codespan_reporting.proofs.Gathering.{gathered-each, gathered-says}
 use Rattle.codespan_reporting.proofs.FileParts.{gathered-sorted}
-use Rattle.codespan_reporting.proofs.Refusals.{first_refusal-some}
 
 -- what was gathered, put in order
 pub gathered-in_order : {Id : Type 0} {table : FileTable Id} {config : Config} {xs : List (InFile Id)} {was : Gathered Id} (entries : Vec GivenEntry Global) → IsGatheredInTurn table config xs was
@@ -49,16 +46,6 @@ module _ {Id : Type 0} (table : FileTable Id) (config : Config) (xs : List (InFi
   early-is =
       let of_labels = label_lookups config table.file table.refusal xs in
       ap refused (append_assoc of_labels (sheet_numbers config table xs) (sheet_places table xs)) ∙ first_refusal-append table.refusal of_labels (sheet_lookups config table xs)
-
-  -- of those of the files the numbers come first, and then the places
-  pub sheet-is : {numbers : List (Id × Lookup)} (plans : List (FilePlan Id)) → numbers ≡ sheet_numbers config table xs → sheet_places table xs ≡ place_lookups plans
-      → sheet_refusal config table xs ≡ or_refusal (refused numbers) (refused (place_lookups plans))
-  sheet-is plans are places =
-      first_refusal-append table.refusal (sheet_numbers config table xs) (sheet_places table xs) ∙ (λ i. or_refusal (refused (sym are i)) (refused (places i)))
-
-  -- a lookup of a number refuses
-  pub numbers-refused : {numbers : List (Id × Lookup)} → numbers ≡ sheet_numbers config table xs → {e : Error} → refused numbers ≡ Some e → sheet_refusal config table xs ≡ Some e
-  numbers-refused are {e} told = first_refusal-some table.refusal (sheet_numbers config table xs) (sheet_places table xs) e (ap refused (sym are) ∙ told)
 
   -- a lookup of a label refuses
   pub labels-refused : (e : Error) → labels_refusal config table xs ≡ Some e → refused early ≡ Some e

@@ -9,11 +9,10 @@ use Rattle.codespan_picture.specs.Given.{place_of_given}
 use Rattle.codespan_picture.specs.Lines.{drawn_lines}
 use Rattle.codespan_picture.specs.Lookups.{asked_of, filled_lines, first_refusal, locus_lookups, numbers_for_padding, of_filled}
 use Rattle.codespan_picture.specs.Padding.{padding_of}
-use Rattle.codespan_picture.specs.Placed.{IsPlaceIn, IsPlaceOfFile}
+use Rattle.codespan_picture.specs.Placed.{IsPlaceOfFile}
 use Rattle.codespan_picture.specs.Rows.{Place}
 use Rattle.codespan_picture.specs.Snippets.{InFile, LabelledFile, labelled_file, labelled_files, rows_after, file_ids}
 use Rattle.codespan_reporting.specs.declared.term.views.gather.Gathered.{Gathered}
-use Rattle.codespan_reporting.specs.declared.term.views.plan.FilePlan.{FilePlan}
 use Rattle.codespan_reporting.specs.declared.term.views.sheet.Sheet.{Sheet}
 use Rattle.codespan_reporting.specs.declared.term.views.sheet.SheetFile.{SheetFile}
 use Rattle.codespan_reporting.specs.Inner.Entries.{is_below}
@@ -21,7 +20,6 @@ use Rattle.codespan_reporting.specs.Inner.GivenEntries.{Adds, IsOfFiles, entry_o
 use Rattle.codespan_reporting.specs.Inner.GivenSteps.{IsStepOf, asked_by_all, step_of}
 use Rattle.codespan_reporting.specs.Inner.LabelledFiles.{IsTold, ids_given}
 use Rattle.codespan_reporting.specs.Inner.Lanes.{file_lanes, lanes_given}
-use Rattle.codespan_reporting.specs.Inner.Loci.{start_byte}
 use Rattle.codespan_reporting.specs.Inner.PlacedLabels.{all_entries}
 use Rattle.codespan_reporting.specs.Inner.SpannedDigits.{all_digits}
 use Rattle.codespan_reporting.specs.Inner.StepDrawing.{DoFit}
@@ -44,12 +42,6 @@ pub record IsSheetFile {Id : Type 0} (config : Config) (s : LabelledFile) (f : S
   pub fits : DoFit (map step_of f.steps.items)
   pub rows : rows_of_steps s.file (file_lanes s) (map step_of f.steps.items) ≡ rows_after s None (drawn_lines config s.file s.labels)
   pub asked : asked_by_all f.steps.items ≡ flat_map (of_filled config.layout) (filled_lines config s)
-
--- a plan, with the place at which the file's snippet starts
-pub record IsPlacedPlan {Id : Type 0} (file : Id → FileModel) (plan : FilePlan Id) (placed : SheetFile Id) : Type 0 where
-  pub file_is : placed.file.now ≡ plan.file.now
-  pub steps_are : placed.steps.items ≡ plan.steps.items
-  pub place : IsPlaceIn (file plan.file.now.id) (start_byte plan.file.now.start) (place_of_given placed.locus)
 
 module _ {Id : Type 0} (table : FileTable Id) where
   -- the files of these labels were gathered, with what the labels tell of each, and the room for the numbers of lines

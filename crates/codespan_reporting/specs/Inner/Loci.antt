@@ -5,8 +5,8 @@ use Rattle.codespan_base.specs.FileModel.Lookup.{LocationAt, Name}
 use Rattle.codespan_base.specs.Labels.{Labelled, is_primary}
 use Rattle.codespan_picture.specs.Lookups.{asked_of}
 use Rattle.codespan_picture.specs.Snippets.{InFile}
+use Rattle.codespan_reporting.specs.declared.term.views.file_order.LabelledFile.{LabelledFile as GivenFile}
 use Rattle.codespan_reporting.specs.declared.term.views.loci.FileStart.{FileStart}
-use Rattle.codespan_reporting.specs.declared.term.views.plan.FilePlan.{FilePlan}
 
 -- the least of some numbers, if there is one
 abbrev pub least_if_any : List ℕ → Option ℕ
@@ -42,6 +42,10 @@ start_with s x = record { primary = if is_primary x then Some (least_with s.prim
 abbrev pub start_byte : FileStart → ℕ
 start_byte s = unwrap_or s.primary (unwrap_or s.any 0)
 
--- the lookups of the places of files
-abbrev pub place_lookups : {Id : Type 0} → List (FilePlan Id) → List (Id × Lookup)
-place_lookups {Id} plans = flat_map (λ (p : FilePlan Id). asked_of p.file.now.id (Name ∷ LocationAt (start_byte p.file.now.start) ∷ [])) plans
+-- the lookups of the place at which a file's snippet starts
+abbrev pub place_asked : {Id : Type 0} → GivenFile Id → List (Id × Lookup)
+place_asked f = asked_of f.id (Name ∷ LocationAt (start_byte f.start) ∷ [])
+
+-- those of all files
+abbrev pub place_lookups : {Id : Type 0} → List (GivenFile Id) → List (Id × Lookup)
+place_lookups files = flat_map place_asked files

@@ -1,19 +1,22 @@
--- What is drawn of each file, as entries in order tell it.
+-- What is drawn of each file, as entries in order tell it, and where its snippet starts.
 use Rattle.std.specs.Prelude.{◌≡◌, ℕ, ◌+◌, List, [], ◌∷◌, ◌++◌, flat_map, filter, map, Option, Some, None}
 use Rattle.codespan_base.specs.declared.files.Error.{Error}
 use Rattle.codespan_base.specs.declared.term.config.Layout.{Layout}
 use Rattle.codespan_base.specs.FileModel.{FileModel, Lookup}
+use Rattle.codespan_picture.specs.Given.{place_of_given}
 use Rattle.codespan_picture.specs.Lookups.{Refusals, asked_of, first_refusal}
 use Rattle.codespan_picture.specs.Padding.{digit_count}
+use Rattle.codespan_picture.specs.Placed.{IsPlaceIn}
 use Rattle.codespan_reporting.specs.declared.term.views.file_order.LabelledFile.{LabelledFile as GivenFile}
 use Rattle.codespan_reporting.specs.declared.term.views.gather.Gathered.{Gathered}
-use Rattle.codespan_reporting.specs.declared.term.views.plan.FilePlan.{FilePlan}
+use Rattle.codespan_reporting.specs.declared.term.views.sheet.SheetFile.{SheetFile}
 use Rattle.codespan_reporting.specs.declared.term.views.steps.Step.{Step as GivenStep}
 use Rattle.codespan_reporting.specs.declared.term.views.steps.Step.TheVariants as given
 use Rattle.codespan_reporting.specs.Inner.Entries.{Entry, is_of_file}
 use Rattle.codespan_reporting.specs.Inner.GivenEntries.{entry_of}
 use Rattle.codespan_reporting.specs.Inner.GivenSteps.{AddsSteps, numbers_asked}
 use Rattle.codespan_reporting.specs.Inner.LabelledFiles.{ids_given}
+use Rattle.codespan_reporting.specs.Inner.Loci.{place_lookups, start_byte}
 use Rattle.codespan_reporting.specs.Inner.Steps.{Step, fills_of, steps_of}
 
 -- the steps of the file at a place
@@ -26,29 +29,35 @@ by_place give k [] = []
 by_place give k (id ∷ ids) = give k id ++ by_place give (k + 1) ids
 
 -- the lookups of the numbers of lines that are filled in
-abbrev pub planned_lookups : {Id : Type 0} → Layout → List Entry → List Id → List (Id × Lookup)
-planned_lookups layout es ids = by_place (λ k id. asked_of id (numbers_asked layout (fills_of (steps_at es k)))) 0 ids
+abbrev pub number_lookups : {Id : Type 0} → Layout → List Entry → List Id → List (Id × Lookup)
+number_lookups layout es ids = by_place (λ k id. asked_of id (numbers_asked layout (fills_of (steps_at es k)))) 0 ids
 
 module _ {Id : Type 0} (layout : Layout) (file : Id → FileModel) (es : List Entry) where
-  -- the plan is that of this file, which is at a place
-  pub record IsPlan (k : ℕ) (f : GivenFile Id) (plan : FilePlan Id) : Type 0 where
+  -- the plan is that of this file, which is at a place: where its snippet starts, and what is drawn of it
+  pub record IsPlan (k : ℕ) (f : GivenFile Id) (plan : SheetFile Id) : Type 0 where
     pub file_is : plan.file.now ≡ f
+    pub place : IsPlaceIn (file f.id) (start_byte f.start) (place_of_given plan.locus)
     pub adds : AddsSteps layout (file f.id) [] plan.steps.items (steps_at es k)
 
   -- the plans are those of the files from a place on
-  abbrev pub ArePlans : ℕ → List (GivenFile Id) → List (FilePlan Id) → Type 0
+  abbrev pub ArePlans : ℕ → List (GivenFile Id) → List (SheetFile Id) → Type 0
   ArePlans k [] [] = Unit {0}
   ArePlans k [] (p ∷ ps) = ⊥
   ArePlans k (f ∷ fs) [] = ⊥
   ArePlans k (f ∷ fs) (p ∷ ps) = IsPlan k f p × ArePlans (k + 1) fs ps
 
 -- the plans are those of the files that were gathered
-abbrev pub ArePlansOf : {Id : Type 0} → Layout → (Id → FileModel) → Gathered Id → List (FilePlan Id) → Type 0
+abbrev pub ArePlansOf : {Id : Type 0} → Layout → (Id → FileModel) → Gathered Id → List (SheetFile Id) → Type 0
 ArePlansOf layout file gathered plans = ArePlans layout file (map entry_of gathered.entries.items) 0 gathered.files.items plans
 
--- what the lookups of the numbers of lines that are filled in are refused with
+-- the lookups that plans rest on: first the numbers of lines that are filled in, of all files, and then the places of all files
+abbrev pub plan_lookups : {Id : Type 0} → Layout → Gathered Id → List (Id × Lookup)
+plan_lookups layout gathered =
+    number_lookups layout (map entry_of gathered.entries.items) (ids_given gathered.files.items) ++ place_lookups gathered.files.items
+
+-- what these lookups are refused with
 abbrev pub plans_refusal : {Id : Type 0} → Layout → Refusals Id → Gathered Id → Option Error
-plans_refusal layout refusal gathered = first_refusal refusal (planned_lookups layout (map entry_of gathered.entries.items) (ids_given gathered.files.items))
+plans_refusal layout refusal gathered = first_refusal refusal (plan_lookups layout gathered)
 
 -- the digits of the number of a step's line, where it has one
 abbrev pub step_digits : GivenStep → List ℕ
@@ -58,5 +67,5 @@ step_digits (given.Filled index None) = []
 step_digits (given.Break next) = []
 
 -- those of a file
-abbrev pub plan_digits : {Id : Type 0} → FilePlan Id → List ℕ
+abbrev pub plan_digits : {Id : Type 0} → SheetFile Id → List ℕ
 plan_digits plan = flat_map step_digits plan.steps.items

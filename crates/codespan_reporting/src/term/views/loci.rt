@@ -1,19 +1,15 @@
 //! Where the snippet of each file starts.
 
 ghost use Rattle.std.specs.Prelude.{◌≡◌, ◌∷◌, [], IfOk};
-ghost use Rattle.std.specs.List.{AllZip};
 ghost use Rattle.codespan_base.specs.FileModel.Lookup.{Name as NameLookup, LocationAt};
 ghost use Rattle.codespan_base.specs.Labels.{is_primary};
 ghost use Rattle.codespan_picture.specs.Given.{place_of_given};
 ghost use Rattle.codespan_picture.specs.Lookups.{TellsNaming, asked_of, first_refusal};
 ghost use Rattle.codespan_picture.specs.Picture.{label_of};
 ghost use Rattle.codespan_picture.specs.Placed.{IsPlaceIn};
-ghost use Rattle.codespan_reporting.specs.Inner.GivenSheets.{IsPlacedPlan};
-ghost use Rattle.codespan_reporting.specs.Inner.Loci.{least_with, no_start, place_lookups, start_byte, start_with};
+ghost use Rattle.codespan_reporting.specs.Inner.Loci.{least_with, no_start, start_byte, start_with};
 
 use crate::term::renderer::Locus;
-use crate::term::views::plan::FilePlan;
-use crate::term::views::sheet::SheetFile;
 use codespan_base::diagnostic::text::display_text;
 use codespan_base::diagnostic::{Label, LabelStyle};
 use codespan_base::files::{Error, Files};
@@ -101,26 +97,4 @@ pub fn locus_at<'files, F: Files<'files>>(
     let name = display_text(alloc, named)?;
     let location = files.location(id, byte_index)?;
     Ok(Locus { name, location })
-}
-
-/// Looks up where the snippet of each file starts, and adds it to what is drawn of the file.
-///
-/// Refuses as the first lookup of a name or a location that refuses does, with `FormatError` where the `Display` of a name
-/// refuses, and with `OutOfMemory`.
-pub fn place_files<'files, 'e, 'd, F: Files<'files>>(
-    alloc: Global,
-    files: &'files F,
-    plans: Vec<FilePlan<'e, 'd, F::FileId>>,
-) -> Result<Vec<SheetFile<'e, 'd, F::FileId>>, Error>
-    ensures placed { IfOk result (λ placed. AllZip (IsPlacedPlan (F.file files.now)) plans.entry.items placed.items) }
-    ensures refused { TellsNaming (first_refusal (F.refusal files.now) (place_lookups plans.entry.items)) result }
-{
-    let mut placed = Vec::with_capacity(alloc, plans.len())?;
-    for plan in plans {
-        let file = plan.file;
-        let locus = locus_at(alloc, files, file.id, file.start.byte())?;
-        let steps = plan.steps;
-        placed.push(SheetFile { file, locus, steps })?;
-    }
-    Ok(placed)
 }

@@ -3,17 +3,17 @@
 ghost use Rattle.std.specs.Prelude.{◌≡◌, flat_map, fold, max};
 ghost use Rattle.codespan_reporting.specs.Inner.Plans.{plan_digits, step_digits};
 
-use crate::term::views::plan::FilePlan;
+use crate::term::views::sheet::SheetFile;
 use crate::term::views::steps::Step;
 use codespan_renderer::term::renderer::count_digits;
 
 /// How many digits the longest number has of the lines that are drawn of all files; 0 where none is drawn.
-pub fn drawn_padding<FileId>(plans: &[FilePlan<'_, '_, FileId>]) -> usize
-    ensures { result ≡ fold max 0 (flat_map plan_digits plans.now) }
+pub fn drawn_padding<FileId>(files: &[SheetFile<'_, '_, FileId>]) -> usize
+    ensures { result ≡ fold max 0 (flat_map plan_digits files.now) }
 {
     let mut padding = 0;
-    for plan in plans {
-        padding = file_padding(&plan.steps).max(padding);
+    for file in files {
+        padding = file_padding(&file.steps).max(padding);
     }
     padding
 }

@@ -1,47 +1,42 @@
-//! What is drawn of each file of a picture.
+//! What is drawn of each file of a picture, and where its snippet starts.
 
 ghost use Rattle.std.specs.Prelude.{IfOk, map};
 ghost use Rattle.std.specs.List.{AllByRecursion};
 ghost use Rattle.std.specs.List.Sorted.{IsSortedBy};
-ghost use Rattle.codespan_base.specs.FileModel.{Tells};
+ghost use Rattle.codespan_picture.specs.Lookups.{TellsNaming};
 ghost use Rattle.codespan_reporting.specs.Inner.Entries.{is_below};
 ghost use Rattle.codespan_reporting.specs.Inner.GivenEntries.{IsOfFiles, entry_of};
 ghost use Rattle.codespan_reporting.specs.Inner.LabelledFiles.{ids_given};
 ghost use Rattle.codespan_reporting.specs.Inner.Plans.{ArePlansOf, plans_refusal};
 
-use crate::term::views::file_order::LabelledFile;
 use crate::term::views::gather::Gathered;
 use crate::term::views::groups::file_len;
-use crate::term::views::steps::{Step, Walk};
+use crate::term::views::loci::locus_at;
+use crate::term::views::sheet::SheetFile;
+use crate::term::views::steps::Walk;
 use codespan_base::files::{Error, Files};
 use codespan_base::term::Layout;
 use std::alloc::Global;
 
-/// What is drawn of a file.
-#[derive(Drop)]
-pub struct FilePlan<'e, 'd, FileId> {
-    /// The file.
-    pub file: &'e LabelledFile<'d, FileId>,
-    /// What is drawn of it, in order.
-    pub steps: Vec<Step<'e, 'd>>,
-}
-
-/// What is drawn of each file, in the order of the files' first labels.
+/// The files of a picture, in the order of their first labels: what is drawn of each, and where its snippet starts.
 ///
-/// In the unbroken layout this asks for the numbers of the lines that are filled in. Refuses as the first of these lookups that refuses
-/// does, and with `OutOfMemory`.
+/// In the unbroken layout this asks for the numbers of the lines that are filled in, and in both for the name and the place of each file. A
+/// number that is refused, of whatever file, is told before a name or a place that is: the first of these is kept until all numbers are
+/// asked for. Refuses as the first of these lookups that refuses does, with `FormatError` where the `Display` of a name refuses, and with
+/// `OutOfMemory`.
 pub fn plan_files<'files, 'e, 'd, F: Files<'files>>(
     alloc: Global,
     files: &'files F,
     layout: Layout,
     gathered: &'e Gathered<'d, F::FileId>,
-) -> Result<Vec<FilePlan<'e, 'd, F::FileId>>, Error>
+) -> Result<Vec<SheetFile<'e, 'd, F::FileId>>, Error>
     requires sorted { IsSortedBy is_below (map entry_of gathered.now.entries.items) }
     requires lines { AllByRecursion (IsOfFiles (F.file files.now) (ids_given gathered.now.files.items)) gathered.now.entries.items }
     ensures plans { IfOk result (λ plans. ArePlansOf layout (F.file files.now) gathered.now plans.items) }
-    ensures refused { Tells (plans_refusal layout (F.refusal files.now) gathered.now) result }
+    ensures refused { TellsNaming (plans_refusal layout (F.refusal files.now) gathered.now) result }
 {
     let mut plans = Vec::with_capacity(alloc, gathered.files.len())?;
+    let mut placed = Ok(());
     let mut start = 0;
     for (place, file) in gathered.files.iter().enumerate() {
         let len = file_len(&gathered.entries[start..], place);
@@ -51,8 +46,12 @@ pub fn plan_files<'files, 'e, 'd, F: Files<'files>>(
             layout,
         };
         let steps = walk.steps(alloc, &gathered.entries[start..start + len])?;
-        plans.push(FilePlan { file, steps })?;
         start += len;
+        match locus_at(alloc, files, file.id, file.start.byte()) {
+            Ok(locus) => plans.push(SheetFile { file, locus, steps })?,
+            Err(refused) => placed = placed.and(Err(refused)),
+        }
     }
+    placed?;
     Ok(plans)
 }

@@ -8,7 +8,6 @@ ghost use Rattle.codespan_reporting.specs.Inner.GivenSheets.{IsGathered, IsPrepa
 use crate::term::renderer::Locus;
 use crate::term::views::file_order::LabelledFile;
 use crate::term::views::gather::Gathered;
-use crate::term::views::loci::place_files;
 use crate::term::views::padding::drawn_padding;
 use crate::term::views::plan::plan_files;
 use crate::term::views::steps::Step;
@@ -52,11 +51,10 @@ pub fn prepare<'files, 'e, 'd, F: Files<'files>>(
     ensures prepared { IfOk result (IsPrepared (⟦<F as Table<'files>>⟧.table files.now) config.now (map label_of gathered.now.labels.now)) }
     ensures refused { TellsNaming (sheet_refusal config.now (⟦<F as Table<'files>>⟧.table files.now) (map label_of gathered.now.labels.now)) result }
 {
-    let plans = plan_files(alloc, files, config.layout, gathered)?;
+    let files = plan_files(alloc, files, config.layout, gathered)?;
     let padding = match config.layout {
         Layout::Classic => gathered.padding,
-        Layout::Unbroken => drawn_padding(&plans),
+        Layout::Unbroken => drawn_padding(&files),
     };
-    let files = place_files(alloc, files, plans)?;
     Ok(Sheet { files, padding })
 }

@@ -1,12 +1,13 @@
-use Rattle.std.proofs.Common.{◌<◌, [], Err, length, map, get_or, refl, sym, ap, ◌∙◌, subst, arith}
+use Rattle.std.proofs.Common.{◌<◌, ◌≤◌, [], Err, length, map, get_or, refl, sym, ap, ◌∙◌, subst, arith}
 use Rattle.std.proofs.lemmas.Result.{err_from_is_err_and}
+use Rattle.codespan_picture.specs.Lookups.{TellsNaming}
 use Rattle.codespan_reporting.specs.Inner.GivenEntries.{entry_of}
 use Rattle.codespan_reporting.specs.Inner.GivenSteps.{AddsSteps}
-use Rattle.codespan_reporting.specs.Inner.Plans.{ArePlans}
+use Rattle.codespan_reporting.specs.Inner.Plans.{ArePlans, plans_refusal}
 use Rattle.codespan_reporting.proofs.FileParts.{from_file-first}
-use Rattle.codespan_reporting.proofs.PlansFound.{IsTurn, next_inside, next_left, own_asked, own_lines, own_steps, planned-more, planned-refuses}
+use Rattle.codespan_reporting.proofs.PlansFound.{IsTurn, next_inside, next_left, own_asked, own_lines, own_steps, planned-more, planned-refuses, planned-without, plans-tell}
 use Rattle.codespan_reporting.proofs.term.views.plan.plan_files.Given.{Over}
-use Rattle.codespan_reporting.proofs.term.views.plan.plan_files.Goals.{After-file_len-len}
+use Rattle.codespan_reporting.proofs.term.views.plan.plan_files.Goals.{After-branch-placed, After-file_len-len, in-Err, in-Ok+in_ok-push-in-Ok}
 use Rattle.codespan_reporting.proofs.term.views.plan.plan_files.Goals as goal
 
 pub loop-place-init : goal.loop-place-init
@@ -16,6 +17,7 @@ loop-place-init g c = record {
   planned = record {
     plans = subst (ArePlans c.args.layout (g.F.Files.file c.args.files.now) (map entry_of c.args.gathered.now.entries.items) 0 []) (sym c.in_ok-plans.ensures.items) tt;
     answered = refl;
+    kept = refl;
   };
 }
 
@@ -45,18 +47,44 @@ returns-in_err-steps-clause-refused g c =
     let at = turn g (goal.at.returns-in_err-steps-clause-refused g c).After-file_len-len in
     let asked = own_asked at c.deref-in-loop-place.ensures.value c.args.layout (g.F.Files.refusal c.args.files.now) in
     let p = err_from_is_err_and c.from_residual-in_err-steps.result c.from_residual-in_err-steps.ensures.1 in
-    rw (p.1 ∙ ap Err p.2) (λ told. planned-refuses at.here c.loop-place.invariant.planned (sym asked ∙ c.in_err-steps.ensures.refused told))
+    rw (p.1 ∙ ap Err p.2) (λ memory display. planned-refuses at.here c.loop-place.invariant.planned (sym asked ∙ c.in_err-steps.ensures.refused memory))
 
 pub loop-place-preserved : goal.loop-place-preserved
 loop-place-preserved g c =
     let file = g.F.Files.file c.args.files.now in
     let at = turn g (goal.at.loop-place-preserved g c).After-file_len-len in
+    let before = c.loop-place.invariant.planned in
     let zs_are = c.deref-in-loop-place.ensures.value in
-    let asked = own_asked at zs_are c.args.layout (g.F.Files.refusal c.args.files.now) in
+    let numbers = sym (own_asked at zs_are c.args.layout (g.F.Files.refusal c.args.files.now)) ∙ c.in_ok-steps.ensures.refused in
     record {
       inside = next_inside at;
       left = next_left at;
-      planned = planned-more at.here c.loop-place.invariant.planned c.in_ok-push.ensures.items
-          (record { file_is = refl; adds = subst (AddsSteps c.args.layout (file c.file-item.result.id) [] _) (own_steps at zs_are) c.in_ok-steps.ensures.steps })
-          (sym asked ∙ c.in_ok-steps.ensures.refused);
+      planned = elim c.match-locus_at.branch [
+        | in-Ok+in_ok-push-in-Ok w ↦
+            rw w.placed-is (planned-more at.here before (ap (λ plans. plans.items) w.plans-is ∙ w.in_ok-push-in-Ok.ensures.items)
+            (record {
+              file_is = refl;
+              place = rw c.byte.ensures at w.in-Ok.ensures.locus;
+              adds = subst (AddsSteps c.args.layout (file c.file-item.result.id) [] _) (own_steps at zs_are) c.in_ok-steps.ensures.steps;
+            })
+            numbers (rw c.byte.ensures at w.in-Ok.ensures.refused))
+        | in-Err w ↦ rw (w.plans-is, w.placed-is ∙ w.and-placed.ensures) (planned-without at.here before numbers (rw c.byte.ensures at w.in-Err.ensures.refused))
+      ];
     }
+
+-- after the last file what is kept tells what the lookups of all are refused with
+all-tell : (g : Over) (c : After-branch-placed g) → TellsNaming (plans_refusal c.args.layout (g.F.Files.refusal c.args.files.now) c.args.gathered.now) c.loop-place.placed
+all-tell g c =
+    plans-tell c.args.gathered.now.files.items c.loop-place.place
+    (subst (λ fs. length fs ≤ c.loop-place.place) c.deref-file-items.ensures.value c.loop-place-test.false) c.loop-place.invariant.planned
+
+pub returns-in_err-placed-clause-refused : goal.returns-in_err-placed-clause-refused
+returns-in_err-placed-clause-refused g c =
+    let tells = all-tell g (goal.at.returns-in_err-placed-clause-refused g c).After-branch-placed in
+    let p = err_from_is_err_and c.from_residual-in_err-placed.result c.from_residual-in_err-placed.ensures.1 in
+    rw (p.1 ∙ ap Err p.2) (rw c.in_err-placed.was at tells)
+
+pub returns-clause-refused : goal.returns-clause-refused
+returns-clause-refused g c =
+    let tells = all-tell g (goal.at.returns-clause-refused g c).After-branch-placed in
+    rw c.in_ok-placed.was at tells

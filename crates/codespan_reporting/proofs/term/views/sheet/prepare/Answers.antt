@@ -1,5 +1,5 @@
 use contract.Lifetimes.{Lfts}
-use Rattle.std.proofs.Common.{rules, ◌≡◌, Err, map, max, refl, ap, ◌∙◌}
+use Rattle.std.proofs.Common.{rules, ◌≡◌, Err, map, max, refl, sym, ap, ◌∙◌}
 use Rattle.std.specs.Prelude.{flat_map, fold}
 use Rattle.std.proofs.lemmas.Result.{err_from_is_err_and}
 use Rattle.codespan_picture.specs.Picture.{label_of}
@@ -7,7 +7,7 @@ use Rattle.codespan_picture.specs.Padding.{padding_of}
 use Rattle.codespan_picture.specs.Snippets.{labelled_files}
 use Rattle.codespan_reporting.specs.Inner.Plans.{plan_digits}
 use Rattle.codespan_reporting.proofs.LabelPlaces.{AreFiles, are-files}
-use Rattle.codespan_reporting.proofs.PlanFiles.{drawn-padding, places-tell, plans-refuse, sheet-prepared, spanned-padding}
+use Rattle.codespan_reporting.proofs.PlanFiles.{drawn-padding, refusal-is, sheet-prepared, spanned-padding}
 use Rattle.codespan_reporting.proofs.term.views.sheet.prepare.Given.{Over}
 use Rattle.codespan_reporting.proofs.term.views.sheet.prepare.Goals.{in-Classic, in-Unbroken}
 use Rattle.codespan_reporting.proofs.term.views.sheet.prepare.Goals as goal
@@ -19,32 +19,25 @@ are_files g κs claim = let laws = g.met.F.Files κs claim in are-files g.met.F.
 pub plan_files-requires : goal.plan_files-requires
 plan_files-requires g c κs = ((refl, tt), (c.requires.sorted, c.requires.lines))
 
-pub returns-in_err-plans-clause-refused : goal.returns-in_err-plans-clause-refused
-returns-in_err-plans-clause-refused g c =
-    let lawful = are_files g c.lifetimes (search rules) c.args.files.now in
-    let p = err_from_is_err_and c.from_residual.result c.from_residual.ensures.1 in
-    rw (p.1 ∙ ap Err p.2) (λ memory display. plans-refuse lawful c.requires (c.in_err-plans.ensures.refused memory))
-
 pub returns-in_err-files-clause-refused : goal.returns-in_err-files-clause-refused
 returns-in_err-files-clause-refused g c =
-    let lawful = are_files g c.lifetimes (search rules) c.args.files.now in
-    let p = err_from_is_err_and c.from_residual-in_err-files.result c.from_residual-in_err-files.ensures.1 in
-    rw (p.1 ∙ ap Err p.2)
-    (λ memory display. places-tell lawful c.requires c.in_ok-plans.plans.items c.in_ok-plans.ensures.plans c.in_ok-plans.ensures.refused ∙ c.in_err-files.ensures.refused memory display)
+    let same = refusal-is (are_files g c.lifetimes (search rules) c.args.files.now) c.requires in
+    let p = err_from_is_err_and c.from_residual.result c.from_residual.ensures.1 in
+    rw (p.1 ∙ ap Err p.2) (λ memory display. sym same ∙ c.in_err-files.ensures.refused memory display)
 
 pub returns-clause-prepared : goal.returns-clause-prepared
 returns-clause-prepared g c =
     let lawful = are_files g c.lifetimes (search rules) c.args.files.now in
-    let plans = c.in_ok-plans.plans.items in
-    let found = c.in_ok-plans.ensures.plans in
+    let plans = c.in_ok-files.files.items in
+    let found = c.in_ok-files.ensures.plans in
     let labelled = labelled_files g.F.FileId.PartialEq.eq (g.F.Files.file c.args.files.now) (map label_of c.args.gathered.now.labels.now) in
     let room : c.match-config.padding ≡ padding_of c.args.config.now labelled = elim c.match-config.branch [
       | in-Classic w ↦ spanned-padding lawful c.requires plans found w.in-Classic.is w.padding-is
       | in-Unbroken w ↦ drawn-padding lawful c.requires plans found w.in-Unbroken.is (w.padding-is ∙ w.drawn_padding-padding.ensures ∙ ap (λ ps. fold max 0 (flat_map plan_digits ps)) w.deref.ensures.value)
     ] in
-    sheet-prepared lawful c.requires plans found c.in_ok-files.ensures.placed room
+    sheet-prepared lawful c.requires found room
 
 pub returns-clause-refused : goal.returns-clause-refused
 returns-clause-refused g c =
-    let lawful = are_files g c.lifetimes (search rules) c.args.files.now in
-    places-tell lawful c.requires c.in_ok-plans.plans.items c.in_ok-plans.ensures.plans c.in_ok-plans.ensures.refused ∙ c.in_ok-files.ensures.refused
+    let same = refusal-is (are_files g c.lifetimes (search rules) c.args.files.now) c.requires in
+    sym same ∙ c.in_ok-files.ensures.refused
