@@ -7,7 +7,7 @@ use Rattle.std.proofs.lemmas.List.{append-nil, append_assoc, get_or-map, length-
 use Rattle.std.proofs.lemmas.List.Elements.{All-from_recursion}
 use Rattle.codespan_base.specs.declared.term.config.Config.{Config}
 use Rattle.codespan_base.specs.declared.files.Error.{Error}
-use Rattle.codespan_base.specs.FileModel.{FileModel, Lookup, or_refusal}
+use Rattle.codespan_base.specs.FileModel.{Lookup, or_refusal}
 use Rattle.codespan_base.specs.Streams.{Stream, newline}
 use Rattle.codespan_base.specs.WriterLaw.{Sink}
 use Rattle.codespan_reporting.specs.Inner.Asking.{SendsAsking}
