@@ -32,7 +32,7 @@ use Rattle.codespan_picture.specs.Snippets.{InFile, LabelledFile, bare_lanes, br
 use Rattle.codespan_laws.specs.TextLaws.{AreCharacters, IsText, PictureIsText}
 use Rattle.codespan_laws.proofs.LaneLineLemmas.{each_all, each_map}
 use Rattle.codespan_picture.proofs.Rightmost.{around_is}
-use Rattle.codespan_laws.proofs.PlacedPictures.{are_stated, placed_of_stated}
+use Rattle.codespan_laws.proofs.PlacedPictures.{HasPlaces, are_stated, placed_of_stated}
 use Rattle.codespan_laws.proofs.RowTexts.{IsTextLine, IsTextPart, IsTextRow, text-bytes, text-rows}
 use Rattle.codespan_laws.proofs.SortedLists.{all-append, all-filter, all-reverse}
 
@@ -349,20 +349,27 @@ module _ {Id : Type 0} (same : Id → Id → Bool) (file : Id → FileModel) (d 
   names-are Medium places are = texts_in (IsPlaceOfLabel file) (λ x p h. h.is_text) _ places are
   names-are Short places are = texts_in (IsPlaceOfLabel file) (λ x p h. h.is_text) _ places are
 
+module _ {Id : Type 0} {same : Id → Id → Bool} {file : Id → FileModel} {d : Diagnostic Id} {style : DisplayStyle} {places : List Place} where
   -- whatever the names, the picture is a text
-  pub text-placed_picture : (renderer view : Config) (style : DisplayStyle) (places : List Place) → AreCharacters renderer.chars → ArePlaces same file d style places
+  pub text-placed_picture : (renderer view : Config) → ((id : Id) → IsLawful (file id)) → AreCharacters renderer.chars → HasPlaces same file d style places
       → IsText (placed_picture renderer view same file d style places)
-  text-placed_picture renderer view Rich places ok are =
-      text-rows (look_of renderer d.severity (padding_of view (files_of same file d))) ok (placed_rich_rows view (heading_of d) places (files_of same file d) (notes_of d))
-      (rows-placed_rich view places (names-are Rich places are))
-  text-placed_picture renderer view Medium places ok are =
-      text-rows (look_of renderer d.severity 0) ok (placed_header_rows (heading_of d) places ++ note_rows (notes_of d))
-      (all-append IsTextRow (placed_header_rows (heading_of d) places) (note_rows (notes_of d)) (rows-placed_short places (names-are Medium places are)) (rows-notes (notes_of d) text-notes))
-  text-placed_picture renderer view Short places ok are =
-      text-rows (look_of renderer d.severity 0) ok (placed_header_rows (heading_of d) places) (rows-placed_short places (names-are Short places are))
+  text-placed_picture renderer view lawful ok placed = by style (names-are same file d lawful style places placed.are)
+    where
+      by : (style : DisplayStyle) → AllByRecursion (λ (p : Place). IsUtf8 p.name) places → IsText (placed_picture renderer view same file d style places)
+      by Rich named =
+          text-rows (look_of renderer d.severity (padding_of view (files_of same file d))) ok
+          (placed_rich_rows view (heading_of d) places (files_of same file d) (notes_of d))
+          (rows-placed_rich same file d lawful view places named)
+      by Medium named =
+          text-rows (look_of renderer d.severity 0) ok (placed_header_rows (heading_of d) places ++ note_rows (notes_of d))
+          (all-append IsTextRow (placed_header_rows (heading_of d) places) (note_rows (notes_of d))
+          (rows-placed_short same file d lawful places named) (rows-notes (notes_of d) (text-notes same file d lawful)))
+      by Short named =
+          text-rows (look_of renderer d.severity 0) ok (placed_header_rows (heading_of d) places) (rows-placed_short same file d lawful places named)
 
 -- the picture is a text in each style
 pub picture_is_text : {Id : Type 0} (config : Config) (same : Id → Id → Bool) (file : Id → FileModel) (d : Diagnostic Id) → PictureIsText config same file d
 picture_is_text config same file d = λ ok lawful named.
-    subst IsText (placed_of_stated same file d config config config.display_style)
-    (text-placed_picture same file d lawful config config config.display_style (stated_places same file d config.display_style) ok (are_stated same file d named config.display_style))
+    let style = config.display_style in
+    let stated : HasPlaces same file d style (stated_places same file d style) = record { are = are_stated same file d named style } in
+    subst IsText (placed_of_stated same file d config config style) (text-placed_picture config config lawful ok stated)

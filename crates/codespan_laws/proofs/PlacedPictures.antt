@@ -156,7 +156,14 @@ module _ {Id : Type 0} (same : Id → Id → Bool) (file : Id → FileModel) (d 
     placed_of_stated Short =
         ap (stream_of_rows (look_of renderer d.severity 0)) (header_rows-are file (heading_of d) causes)
 
-    -- where all names are stated each picture with places is that one
-    pub placed-named : ((x : InFile Id) → Contains (labels_of d) x → IsSome (file x.id).name) → (style : DisplayStyle) (places : List Place) → ArePlaces same file d style places
-        → placed_picture renderer view same file d style places ≡ viewed_picture style renderer view same file d.severity (heading_of d) (labels_of d) (notes_of d)
-    placed-named named style places are = ap (placed_picture renderer view same file d style) (stated-are named style places are) ∙ placed_of_stated style
+  -- these are the places of a picture in one of the styles
+  pub record HasPlaces (style : DisplayStyle) (places : List Place) : Type 0 where
+    pub are : ArePlaces same file d style places
+
+module _ {Id : Type 0} {same : Id → Id → Bool} {file : Id → FileModel} {d : Diagnostic Id} {style : DisplayStyle} {places : List Place} where
+  -- where all names are stated each picture with places is that one
+  pub placed-named : (renderer view : Config) → ((x : InFile Id) → Contains (labels_of d) x → IsSome (file x.id).name) → HasPlaces same file d style places
+      → placed_picture renderer view same file d style places ≡ viewed_picture style renderer view same file d.severity (heading_of d) (labels_of d) (notes_of d)
+  placed-named renderer view named placed =
+      ap (placed_picture renderer view same file d style) (stated-are same file d named style places placed.are)
+      ∙ placed_of_stated same file d renderer view style

@@ -17,7 +17,7 @@ use Rattle.codespan_picture.specs.Placed.{placed_picture}
 use Rattle.codespan_picture.specs.Lookups.{Refusals, early_lookups, late_lookups, first_refusal}
 use Rattle.codespan_reporting.specs.Headline.{DrawsRich, ForSomeNames, NamesAreStated, drawn_picture}
 use Rattle.codespan_reporting.specs.Inner.Asking.{Came}
-use Rattle.codespan_laws.proofs.PlacedPictures.{placed-named}
+use Rattle.codespan_laws.proofs.PlacedPictures.{HasPlaces, placed-named}
 use Rattle.codespan_base.proofs.Chains.{came-then, stopped-then}
 use Rattle.codespan_reporting.proofs.Refusals.{first_refusal-some, first_refusal-none, all_answered, some_refused}
 
@@ -102,7 +102,9 @@ module _ {Id : Type 0} {renderer view : Config} {same : Id → Id → Bool} {fil
   -- where the names are stated the picture by some names is the picture
   pub named-is : {Holds : Stream → Type 0} (names : ForSomeNames renderer view same file refusal d Rich Holds) → NamesAreStated file d
       → placed_picture renderer view same file d Rich names.places ≡ drawn_picture renderer view same file refusal d Rich
-  named-is names named = placed-named same file d renderer view named Rich names.places names.are
+  named-is names named =
+      let placed : HasPlaces same file d Rich names.places = record { are = names.are } in
+      placed-named renderer view named placed
 
   -- all was answered and written
   drawn : {old new : Sink} → early_refusal view same file refusal d ≡ None → late_refusal view same file refusal d ≡ None → new.frame ≡ old.frame

@@ -18,6 +18,7 @@ use Rattle.codespan_picture.specs.Lookups.{Refusals, lookups_in}
 use Rattle.codespan_laws.specs.Meanings.{MeansLabels}
 use Rattle.codespan_laws.specs.TextLaws.{AreCharacters}
 use Rattle.codespan_laws.proofs.PictureTexts.{text-placed_picture}
+use Rattle.codespan_laws.proofs.PlacedPictures.{HasPlaces}
 use Rattle.codespan_reporting.specs.Headline.{Blames, Draws, DrawsShort, DrawsTo, ForSomeNames, IsDrawn, IsStringRefusal, IsTold, IsWriteRefusal, KeepsWriter, WritesText}
 
 -- a plain writer that held nothing and was sent a stream holds its text
@@ -110,8 +111,8 @@ module _ {Id : Type 0} {config : Config} {same : Id → Id → Bool} {file : Id 
   unfolding is_told tells
   text_held parts fresh held characters lawful =
       let by_names = parts.by_names (ap is_told fresh) in
-      subst IsUtf8 (sym (held_text _ fresh held (λ told. by_names.holds)))
-      (text-placed_picture same file d lawful config config config.display_style by_names.places characters by_names.are).utf8
+      let placed : HasPlaces same file d config.display_style by_names.places = record { are = by_names.are } in
+      subst IsUtf8 (sym (held_text _ fresh held (λ told. by_names.holds))) (text-placed_picture config config lawful characters placed).utf8
 
   -- what a string call tells where its writer has refused nothing
   pub told_of_string : {old new : Sink} {e : Error} → Draws config config same file refusal d config.display_style old (Err e) new → new.frame.refused ≡ false

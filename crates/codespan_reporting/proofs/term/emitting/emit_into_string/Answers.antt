@@ -25,7 +25,9 @@ returns-in-Ok g c =
 
 -- a growth was refused, or the writer has refused nothing
 pub returns-after-has_refused : goal.returns-after-has_refused
-returns-after-has_refused g c = elim c.if-has_refused.branch [
-  | then-has_refused w ↦ rw w.result-is (inl refl)
-  | else-has_refused w ↦ rw w.result-is (told_of_string (common c.args.config.now.display_style c.in-Err.ensures.draws) (sym c.has_refused.ensures ∙ w.if-has_refused.false))
-]
+returns-after-has_refused g c =
+    let drawn = common c.args.config.now.display_style c.in-Err.ensures.draws in
+    elim c.if-has_refused.branch [
+      | then-has_refused w ↦ rw w.result-is (inl refl)
+      | else-has_refused w ↦ rw w.result-is (told_of_string drawn (sym c.has_refused.ensures ∙ w.if-has_refused.false))
+    ]

@@ -24,7 +24,8 @@ none_here g c at =
     none-more at same c.args.id c.loop-place.invariant.none (ap (λ (f : GivenFile g.row.FileId.Denot). same f.id c.args.id) c.index-files-place.is ∙ sym c.eq.ensures ∙ c.if-eq.false)
 
 -- the file after it
-next : (g : Over) (c : After-index-files-next g) → c.loop-place.place + 1 < length c.args.files.now → StandsAt c.args.files.now (c.loop-place.place + 1) c.index-files-next.result
+next : (g : Over) (c : After-index-files-next g) → c.loop-place.place + 1 < length c.args.files.now
+    → StandsAt c.args.files.now (c.loop-place.place + 1) c.index-files-next.result
 next g c inside = record { inside = inside; is = c.index-files-next.is }
 
 pub loop-place-preserved : goal.loop-place-preserved

@@ -17,8 +17,10 @@ returns-in_err-take_line-clause-draws g c =
 
 pub render_snippet_source-requires : goal.render_snippet_source-requires
 render_snippet_source-requires g c =
-    lanes_fit c.args.self.now.lanes.now c.args.line.index c.args.line.start _ (ap (map mark_of_given) c.as_slice-multis.ensures.value ∙ c.in_ok-refill.ensures.multis)
+    let marks = ap (map mark_of_given) c.as_slice-multis.ensures.value ∙ c.in_ok-refill.ensures.multis in
+    lanes_fit c.args.self.now.lanes.now c.args.line.index c.args.line.start _ marks
 
 pub render-requires-clause-lanes : goal.render-requires-clause-lanes
 render-requires-clause-lanes g c =
-    lanes_fit c.args.self.now.lanes.now c.args.line.index c.args.line.start _ (ap (map mark_of_given) c.as_slice-multis.ensures.value ∙ c.in_ok-refill.ensures.multis)
+    let marks = ap (map mark_of_given) c.as_slice-multis.ensures.value ∙ c.in_ok-refill.ensures.multis in
+    lanes_fit c.args.self.now.lanes.now c.args.line.index c.args.line.start _ marks
