@@ -122,8 +122,9 @@ module _ {Id : Type 0} {files : List (GivenFile Id)} {xs : List GivenEntry} {at 
 -- ---- plans
 
 -- plans from a place on, and then one more
-plans-more : {Id : Type 0} {layout : Layout} {file : Id → FileModel} {es : List Entry} {f : GivenFile Id} {plan : SheetFile Id} (k : ℕ) (fs : List (GivenFile Id)) (ps : List (SheetFile Id))
-    → ArePlans layout file es k fs ps → IsPlan layout file es (k + length fs) f plan → ArePlans layout file es k (fs ++ f ∷ []) (ps ++ plan ∷ [])
+plans-more : {Id : Type 0} {layout : Layout} {file : Id → FileModel} {es : List Entry} {f : GivenFile Id} {plan : SheetFile Id} (k : ℕ)
+    → (fs : List (GivenFile Id)) (ps : List (SheetFile Id)) → ArePlans layout file es k fs ps → IsPlan layout file es (k + length fs) f plan
+    → ArePlans layout file es k (fs ++ f ∷ []) (ps ++ plan ∷ [])
 plans-more {Id} {layout} {file} {es} {f} {plan} k [] [] h own = let e : k + 0 ≡ k = omega arith in (subst (λ n. IsPlan layout file es n f plan) e own, tt)
 plans-more k [] (p ∷ ps) h own = absurd h
 plans-more k (g ∷ fs) [] h own = absurd h
@@ -142,18 +143,21 @@ some-kept : (placed : Result (Unit {0}) Error) (e : Error) (P : Unit {0} → Typ
 some-kept (Ok x) e P = tt
 some-kept (Err x) e P = tt
 
--- the numbers of these files are answered, the first refusal of their places is kept, and where no place is refused these are their plans
-pub record ArePlanned {Id : Type 0} (layout : Layout) (file : Id → FileModel) (es : List Entry) (refusal : Refusals Id) (files : List (GivenFile Id)) (now : List (SheetFile Id)) (placed : Result (Unit {0}) Error) : Type 0 where
-  pub answered : first_refusal refusal (number_lookups layout es (ids_given files)) ≡ None
-  pub kept : TellsNaming (first_refusal refusal (place_lookups files)) placed
-  pub plans : IfOk placed (λ _. ArePlans layout file es 0 files now)
+module _ {Id : Type 0} (layout : Layout) (file : Id → FileModel) (es : List Entry) (refusal : Refusals Id) where
+  -- the numbers of these files are answered, the first refusal of their places is kept, and where no place is refused these are their plans
+  pub record ArePlanned (files : List (GivenFile Id)) (now : List (SheetFile Id)) (placed : Result (Unit {0}) Error) : Type 0 where
+    pub answered : first_refusal refusal (number_lookups layout es (ids_given files)) ≡ None
+    pub kept : TellsNaming (first_refusal refusal (place_lookups files)) placed
+    pub plans : IfOk placed (λ _. ArePlans layout file es 0 files now)
 
--- past the last file the lookups of all are refused with what is kept
-pub plans-tell : {Id : Type 0} {layout : Layout} {file : Id → FileModel} {es : List Entry} {refusal : Refusals Id} (files : List (GivenFile Id)) (k : ℕ) {now : List (SheetFile Id)} {placed : Result (Unit {0}) Error}
-    → length files ≤ k → ArePlanned layout file es refusal (take k files) now placed → TellsNaming (first_refusal refusal (number_lookups layout es (ids_given files) ++ place_lookups files)) placed
-plans-tell {Id} {layout} {file} {es} {refusal} files k {now} {placed} past found =
-    let all = subst (λ (fs : List (GivenFile Id)). ArePlanned layout file es refusal fs now placed) (take_all k files past) found in
-    subst (λ o. TellsNaming o placed) (sym (first_refusal-none refusal (number_lookups layout es (ids_given files)) (place_lookups files) all.answered)) all.kept
+module _ {Id : Type 0} {layout : Layout} {file : Id → FileModel} {es : List Entry} {refusal : Refusals Id} {now : List (SheetFile Id)} {placed : Result (Unit {0}) Error} where
+  -- past the last file the lookups of all are refused with what is kept
+  pub plans-tell : (files : List (GivenFile Id)) (k : ℕ) → length files ≤ k → ArePlanned layout file es refusal (take k files) now placed
+      → TellsNaming (first_refusal refusal (number_lookups layout es (ids_given files) ++ place_lookups files)) placed
+  plans-tell files k past found =
+      let all = subst (λ (fs : List (GivenFile Id)). ArePlanned layout file es refusal fs now placed) (take_all k files past) found in
+      let numbers = number_lookups layout es (ids_given files) in
+      subst (λ o. TellsNaming o placed) (sym (first_refusal-none refusal numbers (place_lookups files) all.answered)) all.kept
 
 module _ {Id : Type 0} {files : List (GivenFile Id)} {k : ℕ} {f : GivenFile Id} (here : StandsAt files k f) where
   -- how many files are before this one
@@ -164,15 +168,19 @@ module _ {Id : Type 0} {files : List (GivenFile Id)} {k : ℕ} {f : GivenFile Id
   ids-more : ids_given (take (k + 1) files) ≡ ids_given (take k files) ++ f.id ∷ []
   ids-more = ap ids_given (take-at here) ∙ map-append (λ (g : GivenFile Id). g.id) (take k files) (f ∷ [])
 
-  -- what the places of these are refused with, or its own
-  places-more : (refusal : Refusals Id) → or_refusal (first_refusal refusal (place_lookups (take k files))) (first_refusal refusal (place_asked f)) ≡ first_refusal refusal (place_lookups (take (k + 1) files))
-  places-more refusal =
-      sym (first_refusal-append refusal (place_lookups (take k files)) (place_asked f))
-      ∙ ap (λ (ls : List (Id × Lookup)). first_refusal refusal (place_lookups (take k files) ++ ls)) (sym (append-nil (place_asked f)))
-      ∙ ap (first_refusal refusal) (sym (flat_map-append place_asked (take k files) (f ∷ [])))
-      ∙ ap (λ (fs : List (GivenFile Id)). first_refusal refusal (place_lookups fs)) (sym (take-at here))
+  -- the places of these, and its own
+  places-more : place_lookups (take (k + 1) files) ≡ place_lookups (take k files) ++ place_asked f
+  places-more =
+      ap (λ (fs : List (GivenFile Id)). place_lookups fs) (take-at here) ∙ flat_map-append place_asked (take k files) (f ∷ [])
+      ∙ ap (λ (ls : List (Id × Lookup)). place_lookups (take k files) ++ ls) (append-nil (place_asked f))
 
-  module _ {layout : Layout} {file : Id → FileModel} {es : List Entry} {refusal : Refusals Id} {now : List (SheetFile Id)} {placed : Result (Unit {0}) Error} (before : ArePlanned layout file es refusal (take k files) now placed) where
+  -- they are refused with what those of these are, or its own
+  place-refuses : (refusal : Refusals Id)
+      → first_refusal refusal (place_lookups (take (k + 1) files)) ≡ or_refusal (first_refusal refusal (place_lookups (take k files))) (first_refusal refusal (place_asked f))
+  place-refuses refusal = ap (first_refusal refusal) places-more ∙ first_refusal-append refusal (place_lookups (take k files)) (place_asked f)
+
+  module _ {layout : Layout} {file : Id → FileModel} {es : List Entry} {refusal : Refusals Id} {now : List (SheetFile Id)} {placed : Result (Unit {0}) Error}
+      (before : ArePlanned layout file es refusal (take k files) now placed) where
     -- the lookups of the numbers of a file's lines
     abbrev asked_at : ℕ → Id → List (Id × Lookup)
     asked_at i id = asked_of id (numbers_asked layout (fills_of (steps_at es i)))
@@ -183,28 +191,35 @@ module _ {Id : Type 0} {files : List (GivenFile Id)} {k : ℕ} {f : GivenFile Id
         ap (first_refusal refusal) (by_place-more asked_at k (ids_given (take k files)) (ids_given (take (k + 1) files)) f.id (length-map (take k files) _ ∙ files_before) ids-more)
         ∙ first_refusal-none refusal (number_lookups layout es (ids_given (take k files))) (asked_at k f.id) before.answered
 
+    -- the plans with this one
+    plans-with : {new : List (SheetFile Id)} {plan : SheetFile Id} → new ≡ now ++ plan ∷ [] → IsPlan layout file es k f plan
+        → ArePlans layout file es 0 (take k files) now → ArePlans layout file es 0 (take (k + 1) files) new
+    plans-with {new} {plan} whole own found =
+        let place : k ≡ 0 + length (take k files) = omega (arith, files_before) in
+        let all = plans-more 0 (take k files) now found (subst (λ n. IsPlan layout file es n f plan) place own) in
+        subst (λ fs. ArePlans layout file es 0 fs new) (sym (take-at here)) (subst (ArePlans layout file es 0 (take k files ++ f ∷ [])) (sym whole) all)
+
     -- it is planned too
     pub planned-more : {new : List (SheetFile Id)} {plan : SheetFile Id} → new ≡ now ++ plan ∷ [] → IsPlan layout file es k f plan
-        → first_refusal refusal (asked_at k f.id) ≡ None → first_refusal refusal (place_asked f) ≡ None → ArePlanned layout file es refusal (take (k + 1) files) new placed
-    planned-more {new} {plan} whole own answered there = record {
+        → first_refusal refusal (asked_at k f.id) ≡ None → first_refusal refusal (place_asked f) ≡ None
+        → ArePlanned layout file es refusal (take (k + 1) files) new placed
+    planned-more {new} whole own answered there = record {
       answered = asked-more ∙ answered;
       kept =
-          let before_it = first_refusal refusal (place_lookups (take k files)) in
-          subst (λ o. TellsNaming o placed) (sym (or_refusal-none before_it) ∙ ap (or_refusal before_it) (sym there) ∙ places-more refusal) before.kept;
+          let others = first_refusal refusal (place_lookups (take k files)) in
+          subst (λ o. TellsNaming o placed) (sym (place-refuses refusal ∙ ap (or_refusal others) there ∙ or_refusal-none others)) before.kept;
       plans =
-          let place : k ≡ 0 + length (take k files) = omega (arith, files_before) in
           IfOk-weaker placed (λ _. ArePlans layout file es 0 (take k files) now) (λ _. ArePlans layout file es 0 (take (k + 1) files) new)
-          (λ _ found. subst (λ fs. ArePlans layout file es 0 fs new) (sym (take-at here))
-          (subst (ArePlans layout file es 0 (take k files ++ f ∷ [])) (sym whole) (plans-more 0 (take k files) now found (subst (λ n. IsPlan layout file es n f plan) place own))))
-          before.plans;
+          (λ _ found. plans-with whole own found) before.plans;
     }
 
     -- its numbers are answered, and its place is refused
-    pub planned-without : {e : Error} → first_refusal refusal (asked_at k f.id) ≡ None → (e ≢ OutOfMemory → e ≢ FormatError → first_refusal refusal (place_asked f) ≡ Some e)
+    pub planned-unplaced : {e : Error} → first_refusal refusal (asked_at k f.id) ≡ None
+        → (e ≢ OutOfMemory → e ≢ FormatError → first_refusal refusal (place_asked f) ≡ Some e)
         → ArePlanned layout file es refusal (take (k + 1) files) now (result_and placed (Err e))
-    planned-without {e} answered told = record {
+    planned-unplaced {e} answered told = record {
       answered = asked-more ∙ answered;
-      kept = subst (λ o. TellsNaming {T = Unit {0}} o (result_and placed (Err e))) (places-more refusal) (first-kept _ _ placed e before.kept told);
+      kept = subst (λ o. TellsNaming {T = Unit {0}} o (result_and placed (Err e))) (sym (place-refuses refusal)) (first-kept _ _ placed e before.kept told);
       plans = some-kept placed e (λ _. ArePlans layout file es 0 (take (k + 1) files) now);
     }
 
@@ -213,7 +228,8 @@ module _ {Id : Type 0} {files : List (GivenFile Id)} {k : ℕ} {f : GivenFile Id
         → first_refusal refusal (number_lookups layout es (ids_given files) ++ place_lookups files) ≡ Some e
     planned-refuses {e} told =
         let rest = drop (k + 1) files in
+        let whole = ap ids_given (sym (take-append-drop (k + 1) files)) ∙ map-append (λ (g : GivenFile Id). g.id) (take (k + 1) files) rest in
         first_refusal-some refusal (number_lookups layout es (ids_given files)) (place_lookups files) e
-        (ap (λ fs. first_refusal refusal (number_lookups layout es fs)) (ap ids_given (sym (take-append-drop (k + 1) files)) ∙ map-append (λ (g : GivenFile Id). g.id) (take (k + 1) files) rest)
+        (ap (λ ids. first_refusal refusal (number_lookups layout es ids)) whole
         ∙ ap (first_refusal refusal) (by_place-append asked_at 0 (ids_given (take (k + 1) files)) (ids_given rest))
         ∙ first_refusal-some refusal (number_lookups layout es (ids_given (take (k + 1) files))) _ e (asked-more ∙ told))

@@ -20,10 +20,10 @@ use std::alloc::Global;
 
 /// The files of a picture, in the order of their first labels: what is drawn of each, and where its snippet starts.
 ///
-/// In the unbroken layout this asks for the numbers of the lines that are filled in, and in both for the name and the place of each file. A
-/// number that is refused, of whatever file, is told before a name or a place that is: the first of these is kept until all numbers are
-/// asked for. Refuses as the first of these lookups that refuses does, with `FormatError` where the `Display` of a name refuses, and with
-/// `OutOfMemory`.
+/// In the unbroken layout this asks for the numbers of the lines that are filled in, and in each for the name and the place of each file.
+///
+/// Refuses as the first of these lookups that refuses does, the numbers of all files before the names and places: what refuses a place is
+/// kept until all numbers are asked for. Refuses with `FormatError` where the `Display` of a name refuses, and with `OutOfMemory`.
 pub fn plan_files<'files, 'e, 'd, F: Files<'files>>(
     alloc: Global,
     files: &'files F,

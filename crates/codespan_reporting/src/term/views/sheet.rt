@@ -37,10 +37,10 @@ pub struct Sheet<'e, 'd, FileId> {
 }
 
 /// Asks for the numbers of lines that are filled in where the room for line numbers depends on them, and for the name and the place of
-/// each file, in this order.
+/// each file.
 ///
-/// Refuses as the first of these lookups that refuses does, with `FormatError` where the `Display` of a name refuses, and with
-/// `OutOfMemory`.
+/// Refuses as the first of these lookups that refuses does, the numbers of all files before the names and places, with `FormatError`
+/// where the `Display` of a name refuses, and with `OutOfMemory`.
 pub fn prepare<'files, 'e, 'd, F: Files<'files>>(
     alloc: Global,
     files: &'files F,

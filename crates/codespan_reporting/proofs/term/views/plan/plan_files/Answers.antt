@@ -5,7 +5,7 @@ use Rattle.codespan_reporting.specs.Inner.GivenEntries.{entry_of}
 use Rattle.codespan_reporting.specs.Inner.GivenSteps.{AddsSteps}
 use Rattle.codespan_reporting.specs.Inner.Plans.{ArePlans, plans_refusal}
 use Rattle.codespan_reporting.proofs.FileParts.{from_file-first}
-use Rattle.codespan_reporting.proofs.PlansFound.{IsTurn, next_inside, next_left, own_asked, own_lines, own_steps, planned-more, planned-refuses, planned-without, plans-tell}
+use Rattle.codespan_reporting.proofs.PlansFound.{IsTurn, next_inside, next_left, own_asked, own_lines, own_steps, planned-more, planned-refuses, planned-unplaced, plans-tell}
 use Rattle.codespan_reporting.proofs.term.views.plan.plan_files.Given.{Over}
 use Rattle.codespan_reporting.proofs.term.views.plan.plan_files.Goals.{After-branch-placed, After-file_len-len, in-Err, in-Ok+in_ok-push-in-Ok}
 use Rattle.codespan_reporting.proofs.term.views.plan.plan_files.Goals as goal
@@ -68,7 +68,7 @@ loop-place-preserved g c =
               adds = subst (AddsSteps c.args.layout (file c.file-item.result.id) [] _) (own_steps at zs_are) c.in_ok-steps.ensures.steps;
             })
             numbers (rw c.byte.ensures at w.in-Ok.ensures.refused))
-        | in-Err w ↦ rw (w.plans-is, w.placed-is ∙ w.and-placed.ensures) (planned-without at.here before numbers (rw c.byte.ensures at w.in-Err.ensures.refused))
+        | in-Err w ↦ rw (w.plans-is, w.placed-is ∙ w.and-placed.ensures) (planned-unplaced at.here before numbers (rw c.byte.ensures at w.in-Err.ensures.refused))
       ];
     }
 
