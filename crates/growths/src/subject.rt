@@ -1,6 +1,5 @@
 //! The subjects, and what they are called.
 
-
 use crate::data::{DiagnosticCall, LabelCall, judge_diagnostic, judge_label};
 use crate::drawing::{DrawCall, judge_drawing};
 use crate::looks::{Look, judge_look};
