@@ -1,5 +1,5 @@
 -- Headers of labels, one after another.
-use Rattle.std.proofs.Common.{◌≡◌, ◌≢◌, ℕ, ◌+◌, ◌<◌, Bool, true, false, cond, ◌&&◌, ◌||◌, List, [], ◌∷◌, ◌++◌, length, map, filter, flat_map, take, drop, get_or, Option, None, Some, Result, Ok, Err, ⊎_elim, inl, inr, refl, sym, subst, ap, ap₂, ◌∙◌, append_assoc, append-nil, arith}
+use Rattle.std.proofs.Common.{◌≡◌, ◌≢◌, ℕ, ◌+◌, ◌<◌, Bool, true, false, cond, ◌&&◌, ◌||◌, List, [], ◌∷◌, ◌++◌, length, map, filter, flat_map, take, drop, Option, None, Some, Result, Ok, Err, ⊎_elim, inl, inr, refl, sym, subst, ap, ap₂, ◌∙◌, append_assoc, append-nil, arith}
 use Rattle.std.specs.Prelude.{Contains, IsSome, IfErr, is_none, take_while}
 use Rattle.std.specs.List.{AllZip}
 use Rattle.std.proofs.lemmas.Grind.{flat_map-append}
@@ -28,6 +28,7 @@ use Rattle.codespan_picture.specs.Snippets.{InFile, has_any, header_at, header_r
 use Rattle.codespan_reporting.specs.Headline.{DrawsShort, NamesAreStated}
 use Rattle.codespan_reporting.specs.Inner.Headers.{AreNamed, HeaderRefused, HeadersCame, HeadersEnded, HeaderStopped}
 use Rattle.codespan_laws.proofs.PlacedPictures.{each_of, headers-are, place_is, places_of_labels, zip_append}
+use Rattle.codespan_reporting.proofs.LabelPlaces.{StandsAt}
 use Rattle.codespan_reporting.proofs.Drawing.{Began-none}
 use Rattle.codespan_reporting.proofs.Refusals.{all_answered, first_refusal-none, first_refusal-some}
 use Rattle.codespan_reporting.proofs.SnippetParts.{sends_at}
@@ -62,19 +63,7 @@ has_any-append (x ∷ xs) ys = refl
 
 -- ---- the label at a place
 
--- these labels have this one at this place
-pub record IsLabelAt {Id : Type 0} (items : List (Label Id)) (i : ℕ) (label : Label Id) : Type 0 where
-  pub inside : i < length items
-  pub is : label ≡ get_or items i label
-
--- one that equal labels have there
-pub label-at : {Id : Type 0} {given items : List (Label Id)} {i : ℕ} {label : Label Id} → given ≡ items → i < length given → label ≡ get_or given i label → IsLabelAt items i label
-label-at {Id} {i = i} {label = label} alike inside is = record {
-  inside = subst (λ (ls : List (Label Id)). i < length ls) alike inside;
-  is = is ∙ ap (λ (ls : List (Label Id)). get_or ls i label) alike;
-}
-
-module _ {Id : Type 0} {items : List (Label Id)} {i : ℕ} {label : Label Id} (at : IsLabelAt items i label) where
+module _ {Id : Type 0} {items : List (Label Id)} {i : ℕ} {label : Label Id} (at : StandsAt items i label) where
   -- the primary labels up to a place, and one more
   primary_next : primary_of (map label_of (take (i + 1) items)) ≡ primary_of (map label_of (take i items)) ++ primary_of (label_of label ∷ [])
   primary_next =
@@ -279,7 +268,7 @@ module _ {Id : Type 0} {config : Config} {file : Id → FileModel} {refusal : Re
 
 -- the headers of the labels before one came, and that one is next, by an equal configuration
 module _ {Id : Type 0} {config now : Config} {file : Id → FileModel} {refusal : Refusals Id} {d : Diagnostic Id} {i : ℕ} {label : Label Id} {s t : Sink}
-    (at : IsLabelAt d.labels.items i label) (alike : now ≡ config) (before : HeadersCame config file refusal d s (primary_of (map label_of (take i d.labels.items))) t) where
+    (at : StandsAt d.labels.items i label) (alike : now ≡ config) (before : HeadersCame config file refusal d s (primary_of (map label_of (take i d.labels.items))) t) where
   -- its header came too
   pub came_next : {u : Sink} → HeadersCame now file refusal d t (primary_of (label_of label ∷ [])) u → HeadersCame config file refusal d s (primary_of (map label_of (take (i + 1) d.labels.items))) u
   came_next {u} here =
