@@ -108,7 +108,7 @@ lines-rise f (x ∷ xs) h a = (
 
 -- ---- the entries of a file
 
-module _ {Id : Type 0} {table : FileTable Id} (lawful : AreFiles table.same table.file)
+module _ {Id : Type 0} {table : FileTable Id} (lawful : AreFiles table)
     {config : Config} {xs : List (InFile Id)} {gathered : Gathered Id} (told : IsGathered table config xs gathered)
     (f : ℕ) (id : Id) (at : IsIdAt (file_ids table.same xs) f id) where
   -- which ids name one file, and the file that an id names

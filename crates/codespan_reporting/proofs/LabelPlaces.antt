@@ -16,6 +16,7 @@ use Rattle.codespan_reporting.specs.Inner.Lanes.{Lane, file_lanes, lane_of, lane
 use Rattle.codespan_reporting.specs.Inner.PlacedLabels.{file_place, place_after, entries_after}
 use Rattle.codespan_picture.specs.Lookups.{Refusals}
 use Rattle.codespan_picture.specs.Snippets.{InFile}
+use Rattle.codespan_reporting.specs.Inner.Tables.{FileTable, table_by}
 use Rattle.codespan_laws.proofs.SortedLists.{filter-nothing}
 use Rattle.codespan_reporting.proofs.FileOrder.{has}
 use Rattle.codespan_reporting.proofs.FilePlaces.{Differ, place-here, place-later}
@@ -42,16 +43,16 @@ pub map-changed : {X A : Type 0} (h : X → A) (d : A) (step : A → A) {xs : Li
 map-changed h d step {xs} {place} {x} at new is =
     map-set h xs place new ∙ ap (set (map h xs) place) (is ∙ ap step (ap h at.is ∙ sym (get_or-map h xs place x d at.inside)))
 
--- the files are those of a lawful table: sameness of ids is an equivalence, the same ids name one file, and each file has a line
-pub record AreFiles {Id : Type 0} (same : Id → Id → Bool) (file : Id → FileModel) : Type 0 where
-  pub equivalence : IsEquivalence same
-  pub one_file : (i j : Id) → same i j ≡ true → file i ≡ file j
-  pub some_line : (i : Id) → 0 < line_count (file i)
+-- the table is lawful: sameness of ids is an equivalence, the same ids name one file, and each file has a line
+pub record AreFiles {Id : Type 0} (table : FileTable Id) : Type 0 where
+  pub equivalence : IsEquivalence table.same
+  pub one_file : (i j : Id) → table.same i j ≡ true → table.file i ≡ table.file j
+  pub some_line : (i : Id) → 0 < line_count (table.file i)
 
 -- a type of lawful tables has such files
 pub are-files : {F Id : Type 0} {same : Id → Id → Bool} {file : F → Id → FileModel} {refusal : F → Refusals Id} → IsEquivalence same
     → ((files : F) (i j : Id) → same i j ≡ true → (file files i ≡ file files j) × (refusal files i ≡ refusal files j))
-    → ((files : F) (id : Id) → IsLawful (file files id)) → (files : F) → AreFiles same (file files)
+    → ((files : F) (id : Id) → IsLawful (file files id)) → (files : F) → AreFiles (table_by same file refusal files)
 are-files equivalence same_file lawful files = record {
   equivalence = equivalence;
   one_file = λ i j alike. (same_file files i j alike).0;
@@ -115,11 +116,11 @@ module _ {Id : Type 0} {same : Id → Id → Bool} (o : IsEquivalence same) wher
         (cases_Bool (same j i))
 
 -- equal ids have the same lanes
-pub lanes_in-alike : {Id : Type 0} {same : Id → Id → Bool} {file : Id → FileModel} (table : AreFiles same file) (before : List (InFile Id)) (i j : Id) → same i j ≡ true
-    → lanes_in same file before i ≡ lanes_in same file before j
-lanes_in-alike {Id} table before i j t = λ k. file_lanes (record {
-  file = table.one_file i j t k;
-  labels = map (λ (x : InFile Id). x.label) (filter (λ (x : InFile Id). table.equivalence.congr i j x.id t k) before);
+pub lanes_in-alike : {Id : Type 0} {table : FileTable Id} (lawful : AreFiles table) (before : List (InFile Id)) (i j : Id) → table.same i j ≡ true
+    → lanes_in table.same table.file before i ≡ lanes_in table.same table.file before j
+lanes_in-alike {Id} lawful before i j t = λ k. file_lanes (record {
+  file = lawful.one_file i j t k;
+  labels = map (λ (x : InFile Id). x.label) (filter (λ (x : InFile Id). lawful.equivalence.congr i j x.id t k) before);
 })
 
 module _ {Id : Type 0} (same : Id → Id → Bool) (file : Id → FileModel) where

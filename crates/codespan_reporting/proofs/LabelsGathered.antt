@@ -15,11 +15,13 @@ use Rattle.codespan_reporting.specs.declared.term.views.file_order.LabelledFile.
 use Rattle.codespan_reporting.specs.declared.term.views.gather.FoundLines.{FoundLines}
 use Rattle.codespan_reporting.specs.declared.term.views.loci.FileStart.{FileStart}
 use Rattle.codespan_reporting.specs.declared.term.views.gather.LabelPlace.{LabelPlace}
+use Rattle.codespan_reporting.specs.Inner.AskedLabels.{FindsLines, MakesRoom, asked_label, label_refusal, labels_refusal}
 use Rattle.codespan_reporting.specs.Inner.Entries.{Entry, entries_of}
 use Rattle.codespan_reporting.specs.Inner.GivenEntries.{Adds, AddsOf, IsLineOf, IsOfFiles, entry_of}
 use Rattle.codespan_reporting.specs.Inner.LabelledFiles.{IsTold, all_lanes_given, ids_given, lanes_told, start_told, starts_given, with_file}
 use Rattle.codespan_reporting.specs.Inner.Lanes.{Lane, lanes_in}
 use Rattle.codespan_reporting.specs.Inner.Loci.{file_start, no_start}
+use Rattle.codespan_reporting.specs.Inner.Tables.{FileTable}
 use Rattle.codespan_picture.specs.Lookups.{Refusals, asked_of, first_refusal, label_asked, label_lookups, of_label}
 use Rattle.codespan_picture.specs.Picture.{label_of}
 use Rattle.codespan_reporting.specs.Inner.PlacedLabels.{IsIdAt, entries_after, file_place, place_after}
@@ -38,20 +40,19 @@ use Rattle.codespan_reporting.proofs.LabelTurns.{before, before-more, file-insid
 use Rattle.codespan_reporting.proofs.Refusals.{first_refusal-none, first_refusal-some}
 
 -- these labels are done with: each file has what they tell, what they say is there, the lines that they span have room, and no lookup was refused
-pub record AreGathered {Id : Type 0} (same : Id → Id → Bool) (file : Id → FileModel) (refusal : Refusals Id) (config : Config) (ids : List Id)
-    (done : List (InFile Id)) (files : List (GivenFile Id)) (found : FoundLines) : Type 0 where
+pub record AreGathered {Id : Type 0} (table : FileTable Id) (config : Config) (ids : List Id) (done : List (InFile Id)) (files : List (GivenFile Id)) (found : FoundLines) : Type 0 where
   pub ids_are : ids_given files ≡ ids
-  pub starts_are : starts_given files ≡ map (file_start same done) ids
-  pub lanes_are : all_lanes_given files ≡ map (lanes_in same file done) ids
-  pub added : Adds (IsOfFiles file ids) [] found.entries.items (entries_after same file config ids [] done)
-  pub counted : found.padding ≡ fold max 0 (all_digits file done)
-  pub answered : first_refusal refusal (label_lookups config file refusal done) ≡ None
+  pub starts_are : starts_given files ≡ map (file_start table.same done) ids
+  pub lanes_are : all_lanes_given files ≡ map (lanes_in table.same table.file done) ids
+  pub added : Adds (IsOfFiles table.file ids) [] found.entries.items (entries_after table.same table.file config ids [] done)
+  pub counted : found.padding ≡ fold max 0 (all_digits table.file done)
+  pub answered : labels_refusal config table done ≡ None
 
 -- what a label says was added, the lines that it spans have room, and no lookup of it was refused
-pub record IsGatheredLabel {Id : Type 0} (file : Id → FileModel) (refusal : Refusals Id) (config : Config) (at : LabelPlace) (label : Label Id) (found more : FoundLines) : Type 0 where
-  pub added : AddsOf (file label.file_id) found.entries.items more.entries.items (entries_of config (file label.file_id) at (label_of label).label)
-  pub counted : more.padding ≡ fold max found.padding (label_digits (file label.file_id) (label_of label).label)
-  pub answered : first_refusal refusal (asked_of label.file_id (of_label config (file label.file_id) (refusal label.file_id) (label_of label).label)) ≡ None
+pub record IsGatheredLabel {Id : Type 0} (table : FileTable Id) (config : Config) (at : LabelPlace) (label : Label Id) (found more : FoundLines) : Type 0 where
+  pub added : FindsLines (asked_label table config at label) found more
+  pub counted : MakesRoom (asked_label table config at label) found more
+  pub answered : label_refusal (asked_label table config at label) ≡ None
 
 -- the file at this place was told of a label
 pub record IsToldLabel {Id : Type 0} (file : Id → FileModel) (at : ℕ) (label : Label Id) (files next : List (GivenFile Id)) : Type 0 where
@@ -65,10 +66,17 @@ pub record IsPlacedFile {Id : Type 0} (same : Id → Id → Bool) (id : Id) (fil
   pub starts : starts_given now ≡ with_file same (ids_given files) id (starts_given files) no_start
   pub lanes : all_lanes_given now ≡ with_file same (ids_given files) id (all_lanes_given files) []
 
-module _ {Id : Type 0} {same : Id → Id → Bool} {file : Id → FileModel} (table : AreFiles same file) {labels : List (Label Id)} {place : ℕ} {label : Label Id} (turn : StandsAt labels place label) where
+module _ {Id : Type 0} {table : FileTable Id} (lawful : AreFiles table) {labels : List (Label Id)} {place : ℕ} {label : Label Id} (turn : StandsAt labels place label) where
+  -- which ids name one file, and the file that an id names
+  abbrev same : Id → Id → Bool
+  same = table.same
+
+  abbrev file : Id → FileModel
+  file = table.file
+
   -- sameness of ids is an equivalence
   abbrev o : IsEquivalence same
-  o = table.equivalence
+  o = lawful.equivalence
 
   -- the files of the labels up to this one
   abbrev ids : List Id
@@ -83,7 +91,7 @@ module _ {Id : Type 0} {same : Id → Id → Bool} {file : Id → FileModel} (ta
   of_files e is_line own id there =
       let alike : same id label.file_id ≡ true =
       sym (file_place-at same o (before labels (place + 1)) _ id (subst (λ k. IsIdAt ids k id) own there) label.file_id) ∙ eq-eqb _ _ refl in
-      subst (λ (f : FileModel). IsLineOf f e.line) (sym (table.one_file id label.file_id alike)) is_line
+      subst (λ (f : FileModel). IsLineOf f e.line) (sym (lawful.one_file id label.file_id alike)) is_line
 
   -- where the label is
   abbrev here : LabelPlace
@@ -99,7 +107,7 @@ module _ {Id : Type 0} {same : Id → Id → Bool} {file : Id → FileModel} (ta
   lanes-changed = record {
     own = λ j t. more j
         ∙ ap (λ (b : Bool). lanes_in same file (before labels place) j ++ (if b then label_lanes (file j) (label_of label).label else [])) t
-        ∙ (λ i. lanes_in-alike table (before labels place) j label.file_id t i ++ label_lanes (table.one_file j label.file_id t i) (label_of label).label);
+        ∙ (λ i. lanes_in-alike lawful (before labels place) j label.file_id t i ++ label_lanes (lawful.one_file j label.file_id t i) (label_of label).label);
     others = λ j f. more j
         ∙ ap (λ (b : Bool). lanes_in same file (before labels place) j ++ (if b then label_lanes (file j) (label_of label).label else [])) f ∙ append-nil _;
   }
@@ -109,12 +117,12 @@ module _ {Id : Type 0} {same : Id → Id → Bool} {file : Id → FileModel} (ta
 
   -- ---- the labels before it are done with, and its file is there too
 
-  module _ {refusal : Refusals Id} {config : Config} {files : List (GivenFile Id)} {found : FoundLines} (g : AreGathered same file refusal config (file_ids same (before labels (place + 1))) (before labels place) files found) where
+  module _ {config : Config} {files : List (GivenFile Id)} {found : FoundLines} (g : AreGathered table config (file_ids same (before labels (place + 1))) (before labels place) files found) where
     -- the lanes that are kept at its file's place are those of its file
     lanes-kept : get_or (all_lanes_given files) (file_place same ids label.file_id) [] ≡ lanes_in same file (before labels place) label.file_id
     lanes-kept =
         ap (λ (all : List (List Lane)). get_or all (file_place same ids label.file_id) []) g.lanes_are
-        ∙ kept-at o (lanes_in same file (before labels place)) (lanes_in-alike table (before labels place)) ids label.file_id [] (has-file turn o)
+        ∙ kept-at o (lanes_in same file (before labels place)) (lanes_in-alike lawful (before labels place)) ids label.file_id [] (has-file turn o)
 
     -- what the label says was added
     added-more : (more : FoundLines) → AddsOf (file label.file_id) found.entries.items more.entries.items (entries_of config (file label.file_id) here (label_of label).label)
@@ -169,8 +177,8 @@ module _ {Id : Type 0} {same : Id → Id → Bool} {file : Id → FileModel} (ta
           omega (arith, low, place-found, long)
 
       -- one more label, whose file is at this place
-      pub gathered-more : {next : List (GivenFile Id)} {more : FoundLines} → IsGatheredLabel file refusal config (record { file = at; place = place }) label found more → IsToldLabel file at label files next
-          → AreGathered same file refusal config (file_ids same (before labels (place + 1))) (before labels (place + 1)) next more
+      pub gathered-more : {next : List (GivenFile Id)} {more : FoundLines} → IsGatheredLabel table config (record { file = at; place = place }) label found more → IsToldLabel file at label files next
+          → AreGathered table config (file_ids same (before labels (place + 1))) (before labels (place + 1)) next more
       gathered-more {next} {more} own told = record {
         ids_are = told.ids ∙ g.ids_are;
         starts_are = starts-set turn o g.starts_are (told.starts ∙ ap (λ k. start_told (starts_given files) k (label_of label).label) place-found);
@@ -179,21 +187,21 @@ module _ {Id : Type 0} {same : Id → Id → Bool} {file : Id → FileModel} (ta
             (subst (λ k. AddsOf (file label.file_id) found.entries.items more.entries.items (entries_of config (file label.file_id) (record { file = k; place = place }) (label_of label).label)) place-found own.added);
         counted = counted-more more own.counted;
         answered =
-            ap (λ xs. first_refusal refusal (label_lookups config file refusal xs)) (before-more turn)
-            ∙ ap (first_refusal refusal) (flat_map-append (label_asked config file refusal) (before labels place) (label_of label ∷ []))
-            ∙ first_refusal-none refusal (label_lookups config file refusal (before labels place)) _ g.answered
-            ∙ ap (first_refusal refusal) (append-nil (label_asked config file refusal (label_of label))) ∙ own.answered;
+            ap (λ xs. first_refusal table.refusal (label_lookups config file table.refusal xs)) (before-more turn)
+            ∙ ap (first_refusal table.refusal) (flat_map-append (label_asked config file table.refusal) (before labels place) (label_of label ∷ []))
+            ∙ first_refusal-none table.refusal (label_lookups config file table.refusal (before labels place)) _ g.answered
+            ∙ ap (first_refusal table.refusal) (append-nil (label_asked config file table.refusal (label_of label))) ∙ own.answered;
       }
 
   -- ---- the labels before it are done with
 
-  module _ {refusal : Refusals Id} {config : Config} {files : List (GivenFile Id)} {found : FoundLines} (g : AreGathered same file refusal config (file_ids same (before labels place)) (before labels place) files found) where
+  module _ {config : Config} {files : List (GivenFile Id)} {found : FoundLines} (g : AreGathered table config (file_ids same (before labels place)) (before labels place) files found) where
     -- its file was placed: it is one of those of the labels before, or after them
-    pub file-placed : {now : List (GivenFile Id)} → IsPlacedFile same label.file_id files now → AreGathered same file refusal config (file_ids same (before labels (place + 1))) (before labels place) now found
+    pub file-placed : {now : List (GivenFile Id)} → IsPlacedFile same label.file_id files now → AreGathered table config (file_ids same (before labels (place + 1))) (before labels place) now found
     file-placed {now} placed =
         let xs = before labels place in
         let x = label_of label in
-        subst (λ ys. AreGathered same file refusal config (file_ids same ys) xs now found) (sym (before-more turn)) (record {
+        subst (λ ys. AreGathered table config (file_ids same ys) xs now found) (sym (before-more turn)) (record {
           ids_are = placed.ids ∙ ap (λ (js : List Id). with_file same js label.file_id js label.file_id) g.ids_are ∙ sym (file_ids-more same o xs x);
           starts_are = known-more o xs x (file_start same xs) (start-unknown same xs label.file_id) g.starts_are
               (placed.starts ∙ ap (λ (js : List Id). with_file same js label.file_id (starts_given files) no_start) g.ids_are);
@@ -205,27 +213,27 @@ module _ {Id : Type 0} {same : Id → Id → Bool} {file : Id → FileModel} (ta
         })
 
     -- its lookups are refused
-    pub gathered-refused : (e : Error) → first_refusal refusal (asked_of label.file_id (of_label config (file label.file_id) (refusal label.file_id) (label_of label).label)) ≡ Some e
-        → first_refusal refusal (label_lookups config file refusal (map label_of labels)) ≡ Some e
+    pub gathered-refused : (e : Error) → first_refusal table.refusal (asked_of label.file_id (of_label config (file label.file_id) (table.refusal label.file_id) (label_of label).label)) ≡ Some e
+        → first_refusal table.refusal (label_lookups config file table.refusal (map label_of labels)) ≡ Some e
     gathered-refused e some =
         let rest = map label_of (drop (place + 1) labels) in
         let whole : map label_of labels ≡ (before labels place ++ label_of label ∷ []) ++ rest =
         ap (map label_of) (sym (take-append-drop (place + 1) labels)) ∙ map-append label_of (take (place + 1) labels) (drop (place + 1) labels)
         ∙ ap (λ (xs : List (InFile Id)). xs ++ rest) (before-more turn) in
-        let asked = label_asked config file refusal in
-        ap (λ xs. first_refusal refusal (flat_map asked xs)) whole
-        ∙ ap (first_refusal refusal) (flat_map-append asked (before labels place ++ label_of label ∷ []) rest)
-        ∙ first_refusal-some refusal (flat_map asked (before labels place ++ label_of label ∷ [])) (flat_map asked rest) e
-        (ap (first_refusal refusal) (flat_map-append asked (before labels place) (label_of label ∷ []))
-        ∙ first_refusal-none refusal (label_lookups config file refusal (before labels place)) _ g.answered
-        ∙ ap (first_refusal refusal) (append-nil (label_asked config file refusal (label_of label))) ∙ some)
+        let asked = label_asked config file table.refusal in
+        ap (λ xs. first_refusal table.refusal (flat_map asked xs)) whole
+        ∙ ap (first_refusal table.refusal) (flat_map-append asked (before labels place ++ label_of label ∷ []) rest)
+        ∙ first_refusal-some table.refusal (flat_map asked (before labels place ++ label_of label ∷ [])) (flat_map asked rest) e
+        (ap (first_refusal table.refusal) (flat_map-append asked (before labels place) (label_of label ∷ []))
+        ∙ first_refusal-none table.refusal (label_lookups config file table.refusal (before labels place)) _ g.answered
+        ∙ ap (first_refusal table.refusal) (append-nil (label_asked config file table.refusal (label_of label))) ∙ some)
 
 -- all labels are done with after the last one
-pub gathered-all : {Id : Type 0} {same : Id → Id → Bool} {file : Id → FileModel} {refusal : Refusals Id} {config : Config} {files : List (GivenFile Id)} {found : FoundLines} (labels : List (Label Id)) (place : ℕ)
-    → length labels ≤ place → AreGathered same file refusal config (file_ids same (before labels place)) (before labels place) files found
-    → AreGathered same file refusal config (file_ids same (map label_of labels)) (map label_of labels) files found
-gathered-all {Id} {same} {file} {refusal} {config} {files} {found} labels place past g =
-    subst (λ (ls : List (Label Id)). AreGathered same file refusal config (file_ids same (map label_of ls)) (map label_of ls) files found) (take_all place labels past) g
+pub gathered-all : {Id : Type 0} {table : FileTable Id} {config : Config} {files : List (GivenFile Id)} {found : FoundLines} (labels : List (Label Id)) (place : ℕ)
+    → length labels ≤ place → AreGathered table config (file_ids table.same (before labels place)) (before labels place) files found
+    → AreGathered table config (file_ids table.same (map label_of labels)) (map label_of labels) files found
+gathered-all {Id} {table} {config} {files} {found} labels place past g =
+    subst (λ (ls : List (Label Id)). AreGathered table config (file_ids table.same (map label_of ls)) (map label_of ls) files found) (take_all place labels past) g
 
 -- each file has what the labels tell of it
 pub each-told : {Id : Type 0} (same : Id → Id → Bool) (file : Id → FileModel) (xs : List (InFile Id)) (files : List (GivenFile Id))

@@ -96,7 +96,7 @@ record DrawSnippet (config : Config) (s : LabelledFile) (steps : List Step) : Ty
 numbered : (config : Config) → config.layout ≡ Unbroken → (s : LabelledFile) → numbered_lines config s ≡ drawn_lines config s.file s.labels
 numbered config unbroken s = ap (λ v. numbered_lines (record config { layout = v }) s) unbroken
 
-module _ {Id : Type 0} {table : FileTable Id} (lawful : AreFiles table.same table.file) {config : Config} {xs : List (InFile Id)} {gathered : Gathered Id} (all : IsGathered table config xs gathered) where
+module _ {Id : Type 0} {table : FileTable Id} (lawful : AreFiles table) {config : Config} {xs : List (InFile Id)} {gathered : Gathered Id} (all : IsGathered table config xs gathered) where
   -- which ids name one file, and the file that an id names
   abbrev same : Id → Id → Bool
   same = table.same
@@ -245,7 +245,7 @@ module _ {Id : Type 0} {table : FileTable Id} (lawful : AreFiles table.same tabl
 
 -- ---- what was gathered, with its plans
 
-module _ {Id : Type 0} {table : FileTable Id} (lawful : AreFiles table.same table.file) {config : Config} {xs : List (InFile Id)} {gathered : Gathered Id} (all : IsGathered table config xs gathered) where
+module _ {Id : Type 0} {table : FileTable Id} (lawful : AreFiles table) {config : Config} {xs : List (InFile Id)} {gathered : Gathered Id} (all : IsGathered table config xs gathered) where
   -- plans are refused with what the sheet is refused with
   pub refusal-is : plans_refusal config.layout table.refusal gathered ≡ sheet_refusal config table xs
   refusal-is = λ i. first_refusal table.refusal (numbers-are lawful all i ++ places-are lawful all i)

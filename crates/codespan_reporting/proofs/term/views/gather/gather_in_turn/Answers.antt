@@ -8,6 +8,7 @@ use Rattle.codespan_reporting.specs.Inner.Loci.{file_start}
 use Rattle.codespan_picture.specs.Picture.{label_of}
 use Rattle.codespan_picture.specs.Snippets.{file_ids}
 use Rattle.codespan_reporting.specs.Inner.PlacedLabels.{AreApart, entries_after}
+use Rattle.codespan_reporting.specs.Inner.Tables.{table_by}
 use Rattle.codespan_reporting.proofs.FilePlaces.{first_seen-differ}
 use Rattle.codespan_reporting.proofs.LabelPlaces.{AreFiles, StandsAt, are-files, lanes_by-are}
 use Rattle.codespan_reporting.proofs.LabelTurns.{before}
@@ -17,7 +18,7 @@ use Rattle.codespan_reporting.proofs.term.views.gather.gather_in_turn.Goals.{Aft
 use Rattle.codespan_reporting.proofs.term.views.gather.gather_in_turn.Goals as goal
 
 -- the files are lawful, and equal ids name one file
-are_files : (g : Over) (κs : Lfts 8) → g.claim κs → (files : g.row.F.Denot) → AreFiles g.F.FileId.PartialEq.eq (g.F.Files.file files)
+are_files : (g : Over) (κs : Lfts 8) → g.claim κs → (files : g.row.F.Denot) → AreFiles (table_by g.F.FileId.PartialEq.eq g.F.Files.file g.F.Files.refusal files)
 are_files g κs claim = let laws = g.met.F.Files κs claim in are-files g.met.F.FileId.Eq.laws laws.same_file laws.lawful
 
 pub place_file-requires : goal.place_file-requires
@@ -32,36 +33,36 @@ placed : (g : Over) (c : In_ok-file g) → StandsAt c.args.labels.now c.loop-pla
     → let same = g.F.FileId.PartialEq.eq in
     let labels = c.args.labels.now in
     let place = c.loop-place.place in
-    AreGathered same (g.F.Files.file c.args.files.now) (g.F.Files.refusal c.args.files.now) c.args.config.now (file_ids same (before labels (place + 1))) (before labels place) c.place_file.new.files.items c.loop-place.found
+    AreGathered (table_by g.F.FileId.PartialEq.eq g.F.Files.file g.F.Files.refusal c.args.files.now) c.args.config.now (file_ids same (before labels (place + 1))) (before labels place) c.place_file.new.files.items c.loop-place.found
 placed g c at =
-    let table = are_files g c.lifetimes (search rules) c.args.files.now in
+    let lawful = are_files g c.lifetimes (search rules) c.args.files.now in
     let now = c.in_ok-file.ensures in
-    file-placed table at c.loop-place.invariant (record { ids = now.ids; starts = now.starts; lanes = now.lanes })
+    file-placed lawful at c.loop-place.invariant (record { ids = now.ids; starts = now.starts; lanes = now.lanes })
 
 pub returns-in_err-lines-clause-refused : goal.returns-in_err-lines-clause-refused
 returns-in_err-lines-clause-refused g c =
-    let table = are_files g c.lifetimes (search rules) c.args.files.now in
+    let lawful = are_files g c.lifetimes (search rules) c.args.files.now in
     let at = turn g (goal.at.returns-in_err-lines-clause-refused g c).After-index-labels-place in
     let p = err_from_is_err_and c.from_residual-in_err-lines.result c.from_residual-in_err-lines.ensures.1 in
-    rw (p.1 ∙ ap Err p.2) (λ told. gathered-refused table at c.loop-place.invariant _ (c.in_err-lines.ensures.refused told))
+    rw (p.1 ∙ ap Err p.2) (λ told. gathered-refused lawful at c.loop-place.invariant _ (c.in_err-lines.ensures.refused told))
 
 pub tell_file-requires : goal.tell_file-requires
 tell_file-requires g c =
-    let table = are_files g c.lifetimes (search rules) c.args.files.now in
+    let lawful = are_files g c.lifetimes (search rules) c.args.files.now in
     let at = turn g (goal.at.tell_file-requires g c).After-index-labels-place in
     let there = placed g (goal.at.tell_file-requires g c).In_ok-file at in
-    record { place = place-inside table at there c.in_ok-file.ensures.place }
+    record { place = place-inside lawful at there c.in_ok-file.ensures.place }
 
 pub loop-place-preserved : goal.loop-place-preserved
 loop-place-preserved g c =
-    let table = are_files g c.lifetimes (search rules) c.args.files.now in
+    let lawful = are_files g c.lifetimes (search rules) c.args.files.now in
     let at = turn g (goal.at.loop-place-preserved g c).After-index-labels-place in
     let there = placed g (goal.at.loop-place-preserved g c).In_ok-file at in
     let label = c.index-labels-place.result in
     let found = c.in_ok-lines.ensures in
     let told = c.in_ok-tell_file.ensures in
     let own = lanes_by-are (g.F.Files.file c.args.files.now label.file_id) (label_of label).label c.in_ok-lines.lines found.first found.last in
-    gathered-more table at there c.in_ok-file.ensures.place (record { added = found.added; counted = found.padding; answered = found.refused }) (record {
+    gathered-more lawful at there c.in_ok-file.ensures.place (record { added = found.added; counted = found.padding; answered = found.refused }) (record {
       ids = told.ids;
       starts = told.starts;
       lanes = told.lanes ∙ ap (lanes_told (all_lanes_given c.place_file.new.files.items) c.in_ok-file.file) own;

@@ -6,6 +6,7 @@ use Rattle.codespan_picture.specs.Picture.{label_of}
 use Rattle.codespan_picture.specs.Padding.{padding_of}
 use Rattle.codespan_picture.specs.Snippets.{labelled_files}
 use Rattle.codespan_reporting.specs.Inner.Plans.{plan_digits}
+use Rattle.codespan_reporting.specs.Inner.Tables.{table_by}
 use Rattle.codespan_reporting.proofs.LabelPlaces.{AreFiles, are-files}
 use Rattle.codespan_reporting.proofs.PlanFiles.{drawn-padding, refusal-is, sheet-prepared, spanned-padding}
 use Rattle.codespan_reporting.proofs.term.views.sheet.prepare.Given.{Over}
@@ -13,7 +14,7 @@ use Rattle.codespan_reporting.proofs.term.views.sheet.prepare.Goals.{in-Classic,
 use Rattle.codespan_reporting.proofs.term.views.sheet.prepare.Goals as goal
 
 -- the files are lawful, and equal ids name one file
-are_files : (g : Over) (κs : Lfts 9) → g.claim κs → (files : g.row.F.Denot) → AreFiles g.F.FileId.PartialEq.eq (g.F.Files.file files)
+are_files : (g : Over) (κs : Lfts 9) → g.claim κs → (files : g.row.F.Denot) → AreFiles (table_by g.F.FileId.PartialEq.eq g.F.Files.file g.F.Files.refusal files)
 are_files g κs claim = let laws = g.met.F.Files κs claim in are-files g.met.F.FileId.Eq.laws laws.same_file laws.lawful
 
 pub plan_files-requires : goal.plan_files-requires
