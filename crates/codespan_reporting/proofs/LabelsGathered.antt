@@ -22,7 +22,7 @@ use Rattle.codespan_reporting.specs.Inner.LabelledFiles.{IsTold, all_lanes_given
 use Rattle.codespan_reporting.specs.Inner.Lanes.{Lane, lanes_in}
 use Rattle.codespan_reporting.specs.Inner.Loci.{file_start, no_start}
 use Rattle.codespan_reporting.specs.Inner.Tables.{FileTable}
-use Rattle.codespan_picture.specs.Lookups.{Refusals, asked_of, first_refusal, label_asked, label_lookups, of_label}
+use Rattle.codespan_picture.specs.Lookups.{asked_of, first_refusal, label_asked, label_lookups, of_label}
 use Rattle.codespan_picture.specs.Picture.{label_of}
 use Rattle.codespan_reporting.specs.Inner.PlacedLabels.{IsIdAt, entries_after, file_place, place_after}
 use Rattle.codespan_reporting.specs.Inner.SpannedDigits.{all_digits, label_digits}

@@ -5,7 +5,7 @@ use Rattle.std.proofs.lemmas.Grind.{flat_map-append}
 use Rattle.codespan_base.specs.declared.files.Error.{Error}
 use Rattle.codespan_base.specs.declared.term.config.Config.{Config}
 use Rattle.codespan_base.specs.Errors.{IsIo}
-use Rattle.codespan_base.specs.FileModel.{FileModel, or_refusal}
+use Rattle.codespan_base.specs.FileModel.{or_refusal}
 use Rattle.codespan_base.specs.FileModel.Lookup.{Source}
 use Rattle.codespan_base.specs.Streams.{Stream, newline}
 use Rattle.codespan_base.specs.WriterLaw.{Sink, Sends}
@@ -18,7 +18,8 @@ use Rattle.codespan_reporting.specs.Inner.GivenSnippets.{end_rows, start_rows}
 use Rattle.codespan_reporting.specs.Inner.GivenSteps.{asked_by_all, step_of}
 use Rattle.codespan_reporting.specs.Inner.Lanes.{lanes_given}
 use Rattle.codespan_reporting.specs.Inner.Steps.{rows_of_steps}
-use Rattle.codespan_picture.specs.Lookups.{Refusals, asked_of, first_refusal}
+use Rattle.codespan_reporting.specs.Inner.Tables.{FileTable}
+use Rattle.codespan_picture.specs.Lookups.{asked_of, first_refusal}
 use Rattle.codespan_picture.specs.Picture.{look_of}
 use Rattle.codespan_picture.specs.Rows.{Look, Row}
 use Rattle.codespan_picture.specs.RowStreams.{stream_of, stream_of_rows}
@@ -42,13 +43,13 @@ sends_after s t u a b (Err e) came sends = stopped-then a came sends
 
 -- ---- the snippet of a file
 
-module _ {F Id : Type 0} (file : F → Id → FileModel) (refusal : F → Refusals Id) (page : Page F) (snippet : SheetFile Id) (is_followed : Bool) (config : Config) where
+module _ {F Id : Type 0} (table : F → FileTable Id) (page : Page F) (snippet : SheetFile Id) (is_followed : Bool) (config : Config) where
   -- the source of its file was asked for and is there, and so it is drawn
   pub record IsOpen : Type 0 where
-    pub answered : refusal page.files.now snippet.file.now.id Source ≡ None
+    pub answered : (table page.files.now).refusal snippet.file.now.id Source ≡ None
 
-module _ {F Id : Type 0} {file : F → Id → FileModel} {refusal : F → Refusals Id} {page : Page F} {snippet : SheetFile Id} {is_followed : Bool} {config : Config}
-    (opened : IsOpen file refusal page snippet is_followed config) where
+module _ {F Id : Type 0} {table : F → FileTable Id} {page : Page F} {snippet : SheetFile Id} {is_followed : Bool} {config : Config}
+    (opened : IsOpen table page snippet is_followed config) where
   -- what rows share, as a configuration draws them
   abbrev look_by : Config → Look
   look_by by = look_of by page.severity page.padding
@@ -59,7 +60,7 @@ module _ {F Id : Type 0} {file : F → Id → FileModel} {refusal : F → Refusa
 
   -- the rows of lines, with these lanes and steps
   abbrev rows_with : List GivenLane → List Step → List Row
-  rows_with lanes steps = rows_of_steps (file page.files.now snippet.file.now.id) (lanes_given lanes) (map step_of steps)
+  rows_with lanes steps = rows_of_steps ((table page.files.now).file snippet.file.now.id) (lanes_given lanes) (map step_of steps)
 
   -- the rows of its lines
   abbrev line_rows : List Row
@@ -67,7 +68,7 @@ module _ {F Id : Type 0} {file : F → Id → FileModel} {refusal : F → Refusa
 
   -- what the lookups of these steps are refused with
   abbrev asked : List Step → Option Error
-  asked steps = first_refusal (refusal page.files.now) (asked_of snippet.file.now.id (asked_by_all steps))
+  asked steps = first_refusal (table page.files.now).refusal (asked_of snippet.file.now.id (asked_by_all steps))
 
   -- the streams of its first rows, of its lines, and of the row after it
   abbrev at_start : Stream
@@ -82,7 +83,7 @@ module _ {F Id : Type 0} {file : F → Id → FileModel} {refusal : F → Refusa
   -- a call draws all of it, and makes all its lookups
   abbrev DrawsWhole : Sink → Result (Unit {0}) Error → Sink → Type 0
   DrawsWhole s r t =
-      SendsAsking (or_refusal (refusal page.files.now snippet.file.now.id Source) (asked snippet.steps.items)) s (stream (start_rows snippet ++ line_rows ++ end_rows snippet is_followed)) r t
+      SendsAsking (or_refusal ((table page.files.now).refusal snippet.file.now.id Source) (asked snippet.steps.items)) s (stream (start_rows snippet ++ line_rows ++ end_rows snippet is_followed)) r t
 
   -- a call draws its lines, and makes their lookups
   abbrev DrawsLines : Sink → Result (Unit {0}) Error → Sink → Type 0

@@ -7,7 +7,6 @@ use Rattle.codespan_base.specs.declared.term.config.Config.{Config}
 use Rattle.codespan_base.specs.FileModel.{FileModel, Lookup, or_refusal}
 use Rattle.codespan_base.specs.Streams.{Stream, newline}
 use Rattle.codespan_base.specs.WriterLaw.{Sink}
-use Rattle.codespan_picture.specs.Lookups.{Refusals}
 use Rattle.codespan_picture.specs.Picture.{look_of}
 use Rattle.codespan_picture.specs.Rows.{Look, Row}
 use Rattle.codespan_picture.specs.RowStreams.{stream_of, stream_of_rows}
@@ -19,16 +18,17 @@ use Rattle.codespan_reporting.specs.Inner.GivenSteps.{asked_by, asked_by_all, st
 use Rattle.codespan_reporting.specs.Inner.Lanes.{lanes_given}
 use Rattle.codespan_reporting.specs.Inner.StepDrawing.{drawn_file}
 use Rattle.codespan_reporting.specs.Inner.Steps.{Step, rows_of_step, rows_of_steps}
+use Rattle.codespan_reporting.specs.Inner.Tables.{FileTable}
 use Rattle.codespan_reporting.proofs.Askings.{IsAsking, asking_as, asking_cut, asking_nothing, asking_then, first_refusal-asked}
 
-module _ {F Id Name Source : Type 0} (file : F → Id → FileModel) (refusal : F → Refusals Id) (lines : FileLines F Id Name Source) (config : Config) where
+module _ {F Id Name Source : Type 0} (table : F → FileTable Id) (lines : FileLines F Id Name Source) (config : Config) where
   -- the file
   abbrev f : FileModel
-  f = drawn_file file lines
+  f = drawn_file (λ files. (table files).file) lines
 
   -- what its lookups are refused with
   abbrev asked : List Lookup → Option Error
-  asked = refusal_in (refusal lines.page.now.files.now) lines.id
+  asked = refusal_in (table lines.page.now.files.now).refusal lines.id
 
   -- what its rows share
   abbrev look : Look
@@ -60,44 +60,44 @@ module _ {F Id Name Source : Type 0} (file : F → Id → FileModel) (refusal : 
   -- the lookups of steps, one after another
   asked-append : (xs ys : List GivenStep) → asked_all (xs ++ ys) ≡ or_refusal (asked_all xs) (asked_all ys)
   asked-append xs ys =
-      ap asked (flat_map-append asked_by xs ys) ∙ first_refusal-asked (refusal lines.page.now.files.now) lines.id (asked_by_all xs) (asked_by_all ys)
+      ap asked (flat_map-append asked_by xs ys) ∙ first_refusal-asked (table lines.page.now.files.now).refusal lines.id (asked_by_all xs) (asked_by_all ys)
 
-module _ {F Id Name Source : Type 0} {file : F → Id → FileModel} {refusal : F → Refusals Id} {lines : FileLines F Id Name Source} {config : Config} where
+module _ {F Id Name Source : Type 0} {table : F → FileTable Id} {lines : FileLines F Id Name Source} {config : Config} where
   -- nothing is drawn
-  pub drawn-nothing : {s : Sink} → DrawsAll file refusal lines config [] s (Ok tt) s
+  pub drawn-nothing : {s : Sink} → DrawsAll table lines config [] s (Ok tt) s
   drawn-nothing = record { drawn = asking_nothing }
 
   -- one step is drawn
-  drawn-one : {step : GivenStep} {s t : Sink} {r : Result (Unit {0}) Error} → DrawsOne file refusal lines config step s r t → DrawsAll file refusal lines config (step ∷ []) s r t
+  drawn-one : {step : GivenStep} {s t : Sink} {r : Result (Unit {0}) Error} → DrawsOne table lines config step s r t → DrawsAll table lines config (step ∷ []) s r t
   drawn-one {step} draws = record {
     drawn = asking_as
-        (ap (asked file refusal lines config) (sym (append-nil (asked_by step))))
-        (ap (stream_of_rows (look file refusal lines config)) (sym (append-nil (rows_of_step (f file refusal lines config) (lanes_given lines.lanes.now) (step_of step)))))
+        (ap (asked table lines config) (sym (append-nil (asked_by step))))
+        (ap (stream_of_rows (look table lines config)) (sym (append-nil (rows_of_step (f table lines config) (lanes_given lines.lanes.now) (step_of step)))))
         (record { draws = draws });
   }
 
   -- steps are drawn, and then others, however that ends
-  drawn-then : {xs ys : List GivenStep} {s t u : Sink} {r : Result (Unit {0}) Error} → DrawsAll file refusal lines config xs s (Ok tt) t → DrawsAll file refusal lines config ys t r u
-      → DrawsAll file refusal lines config (xs ++ ys) s r u
+  drawn-then : {xs ys : List GivenStep} {s t u : Sink} {r : Result (Unit {0}) Error} → DrawsAll table lines config xs s (Ok tt) t → DrawsAll table lines config ys t r u
+      → DrawsAll table lines config (xs ++ ys) s r u
   drawn-then {xs} {ys} first second = record {
-    drawn = asking_as (sym (asked-append file refusal lines config xs ys)) (sym (rows-append file refusal lines config xs ys)) (asking_then first.drawn second.drawn);
+    drawn = asking_as (sym (asked-append table lines config xs ys)) (sym (rows-append table lines config xs ys)) (asking_then first.drawn second.drawn);
   }
 
   -- steps were drawn, and then one more, by an equal configuration, however that ends
   pub drawn-next : (whole : List GivenStep) (i : ℕ) (d : GivenStep) {now : Config} {s t u : Sink} {r : Result (Unit {0}) Error} → i < length whole
-      → DrawsAll file refusal lines config (take i whole) s (Ok tt) t → now ≡ config → DrawsOne file refusal lines now (get_or whole i d) t r u
-      → DrawsAll file refusal lines config (take (i + 1) whole) s r u
+      → DrawsAll table lines config (take i whole) s (Ok tt) t → now ≡ config → DrawsOne table lines now (get_or whole i d) t r u
+      → DrawsAll table lines config (take (i + 1) whole) s r u
   drawn-next whole i d {s = s} {t = t} {u = u} {r = r} inside before alike next =
       let step = get_or whole i d in
-      let here = subst (λ (k : Config). DrawsOne file refusal lines k step t r u) alike next in
-      subst (λ (steps : List GivenStep). DrawsAll file refusal lines config steps s r u) (sym (take_more whole i d inside)) (drawn-then before (drawn-one {step = step} here))
+      let here = subst (λ (k : Config). DrawsOne table lines k step t r u) alike next in
+      subst (λ (steps : List GivenStep). DrawsAll table lines config steps s r u) (sym (take_more whole i d inside)) (drawn-then before (drawn-one {step = step} here))
 
   -- the first steps were refused, and so all are
-  pub drawn-cut : (whole : List GivenStep) (i : ℕ) {s t : Sink} {e : Error} → DrawsAll file refusal lines config (take i whole) s (Err e) t → DrawsAll file refusal lines config whole s (Err e) t
+  pub drawn-cut : (whole : List GivenStep) (i : ℕ) {s t : Sink} {e : Error} → DrawsAll table lines config (take i whole) s (Err e) t → DrawsAll table lines config whole s (Err e) t
   drawn-cut whole i {s} {t} {e} cut =
       let first = take i whole in
       let later = drop i whole in
-      subst (λ (steps : List GivenStep). DrawsAll file refusal lines config steps s (Err e) t) (take-append-drop i whole) (record {
-        drawn = asking_as (sym (asked-append file refusal lines config first later)) (sym (rows-append file refusal lines config first later))
-            (asking_cut (asked_all file refusal lines config later) (rows file refusal lines config later) cut.drawn);
+      subst (λ (steps : List GivenStep). DrawsAll table lines config steps s (Err e) t) (take-append-drop i whole) (record {
+        drawn = asking_as (sym (asked-append table lines config first later)) (sym (rows-append table lines config first later))
+            (asking_cut (asked_all table lines config later) (rows table lines config later) cut.drawn);
       })
