@@ -20,7 +20,8 @@ use std::alloc::Global;
 
 /// The files of a picture, in the order of their first labels: what is drawn of each, and where its snippet starts.
 ///
-/// In the unbroken layout this asks for the numbers of the lines that are filled in, and in each for the name and the place of each file.
+/// In the unbroken layout this asks for the numbers of the lines that are filled in, and in both layouts for the name and the place of each
+/// file.
 ///
 /// Refuses as the first of these lookups that refuses does, the numbers of all files before the names and places: what refuses a place is
 /// kept until all numbers are asked for. Refuses with `FormatError` where the `Display` of a name refuses, and with `OutOfMemory`.
