@@ -16,7 +16,6 @@ use Rattle.codespan_reporting.specs.Inner.Asking.{SendsAsking}
 use Rattle.codespan_reporting.specs.Inner.FileLookups.{refusal_in}
 use Rattle.codespan_reporting.specs.Inner.GivenSteps.{asked_by, asked_by_all, step_of}
 use Rattle.codespan_reporting.specs.Inner.Lanes.{lanes_given}
-use Rattle.codespan_reporting.specs.Inner.StepDrawing.{drawn_file}
 use Rattle.codespan_reporting.specs.Inner.Steps.{Step, rows_of_step, rows_of_steps}
 use Rattle.codespan_reporting.specs.Inner.Tables.{FileTable}
 use Rattle.codespan_reporting.proofs.Askings.{IsAsking, asking_as, asking_cut, asking_nothing, asking_then, first_refusal-asked}
@@ -24,7 +23,7 @@ use Rattle.codespan_reporting.proofs.Askings.{IsAsking, asking_as, asking_cut, a
 module _ {F Id Name Source : Type 0} (table : F → FileTable Id) (lines : FileLines F Id Name Source) (config : Config) where
   -- the file
   abbrev f : FileModel
-  f = drawn_file (λ files. (table files).file) lines
+  f = (table lines.page.now.files.now).file lines.id
 
   -- what its lookups are refused with
   abbrev asked : List Lookup → Option Error

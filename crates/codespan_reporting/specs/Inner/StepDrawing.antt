@@ -24,17 +24,17 @@ abbrev pub drawn_file : {F Id Name Source : Type 0} → (F → Id → FileModel)
 drawn_file file lines = file lines.page.now.files.now lines.id
 
 module _ {W F Id Name Source : Type 0} (sink : W → Sink) (table : F → FileTable Id) (lines : FileLines F Id Name Source) where
-  -- the call draws these rows of the file, and makes these lookups
-  abbrev pub DrawsFileRows : List Lookup → List Row → Renderer W → Result (Unit {0}) Error → Renderer W → Type 0
-  DrawsFileRows lookups =
+  -- the call draws rows of the file, and makes these lookups
+  abbrev pub DrawsFileRows : List Lookup → (FileModel → List Row) → Renderer W → Result (Unit {0}) Error → Renderer W → Type 0
+  DrawsFileRows lookups rows =
       let page = lines.page.now in
-      DrawsRowsAsking sink (refusal_in (table page.files.now).refusal lines.id lookups) page.severity page.padding
+      let t = table page.files.now in
+      DrawsRowsAsking sink (refusal_in t.refusal lines.id lookups) page.severity page.padding (rows (t.file lines.id))
 
   -- the call draws a step of the file, and makes these lookups
   abbrev pub DrawsStep : List Lookup → Step → Renderer W → Result (Unit {0}) Error → Renderer W → Type 0
-  DrawsStep lookups step = DrawsFileRows lookups (rows_of_step (drawn_file (λ files. (table files).file) lines) (lanes_given lines.lanes.now) step)
+  DrawsStep lookups step = DrawsFileRows lookups (λ f. rows_of_step f (lanes_given lines.lanes.now) step)
 
   -- the call draws these steps, one after another, and makes their lookups
   abbrev pub DrawsSteps : List GivenStep → Renderer W → Result (Unit {0}) Error → Renderer W → Type 0
-  DrawsSteps steps =
-      DrawsFileRows (asked_by_all steps) (rows_of_steps (drawn_file (λ files. (table files).file) lines) (lanes_given lines.lanes.now) (map step_of steps))
+  DrawsSteps steps = DrawsFileRows (asked_by_all steps) (λ f. rows_of_steps f (lanes_given lines.lanes.now) (map step_of steps))
