@@ -137,21 +137,21 @@ module _ {Id : Type 0} (x : AskedLabel Id) where
 
   -- the lines below this one are done with: the file has them, what the label says of them is there, those that it spans have room, and
   -- no lookup was refused
-  pub record GathersLines (old new : FoundLines) (n : ℕ) : Type 0 where
+  pub record GathersLines (old new : FoundLines Id) (n : ℕ) : Type 0 where
     pub within : n ≤ line_count x.file
     pub added : AddsOf x.file old.entries.items new.entries.items (entries_below n)
     pub counted : new.padding ≡ fold max old.padding (digits_below n)
     pub answered : refused (lookups_below n) ≡ None
 
   -- all lines are done with
-  pub record GathersLabel (old new : FoundLines) : Type 0 where
+  pub record GathersLabel (old new : FoundLines Id) : Type 0 where
     pub added : FindsLines x old new
     pub counted : MakesRoom x old new
     pub answered : lines_refusal x ≡ None
 
 module _ {Id : Type 0} {x : AskedLabel Id} where
   -- no line below the first one that is near enough
-  pub gathered-start : {xs : FoundLines} {n : ℕ} → HasEnds x → n ≤ last_line x.file x.label → n ≤ first_line x.file x.label - x.config.before_label_lines
+  pub gathered-start : {xs : FoundLines Id} {n : ℕ} → HasEnds x → n ≤ last_line x.file x.label → n ≤ first_line x.file x.label - x.config.before_label_lines
       → GathersLines x xs xs n
   gathered-start {xs} {n} there low far = record {
     within = omega (arith, there.last);
@@ -163,9 +163,9 @@ module _ {Id : Type 0} {x : AskedLabel Id} where
       too_far : (l : ℕ) → l < n → is_asked x.config x.file x.label l ≡ false
       too_far l below = below_both (first_line x.file x.label) (last_line x.file x.label) x.config.before_label_lines x.config.after_label_lines l (omega arith) (omega arith)
 
-  module _ {xs ys : FoundLines} {n : ℕ} (g : GathersLines x xs ys n) where
+  module _ {xs ys : FoundLines Id} {n : ℕ} (g : GathersLines x xs ys n) where
     -- one more line
-    pub gathered-step : {zs : FoundLines} → HasEnds x
+    pub gathered-step : {zs : FoundLines Id} → HasEnds x
         → n ≤ max (last_line x.file x.label + x.config.after_label_lines) (first_line x.file x.label)
         → HasAskedLine x n → FindsLine x ys zs n → MakesRoomForLine x ys zs n → refusal_on x n ≡ None
         → GathersLines x xs zs (n + 1)

@@ -18,7 +18,7 @@ use Rattle.codespan_picture.specs.Lines.{drawn_lines}
 use Rattle.codespan_picture.specs.Lookups.{filled_lines}
 use Rattle.codespan_reporting.specs.Inner.PlacedLabels.{IsIdAt, all_entries}
 use Rattle.codespan_picture.specs.Snippets.{InFile, LabelledFile, labelled_file, line_at, drawing, rows_after, has_any, file_ids}
-use Rattle.codespan_reporting.specs.Inner.Steps.{without_shown, steps_of, single_of, singles_in, line_of_group, rows_of_steps, fills_of, lines_of_steps, does_step_fit}
+use Rattle.codespan_reporting.specs.Inner.Steps.{without_shown, steps_of, single_of, singles_in, line_of_group, rows_of_steps, fills_of, does_step_fit}
 use Rattle.codespan_reporting.specs.Inner.Tables.{FileTable}
 use Rattle.codespan_reporting.proofs.EntryGroups.{IsRising, steps_after, steps-by_line, all-on_line}
 use Rattle.codespan_reporting.proofs.EntryLines as entry_lines
@@ -33,7 +33,7 @@ use Rattle.codespan_laws.proofs.OrderSorts.{has_range, ascending-same, sorted-as
 use Rattle.codespan_laws.proofs.SortedLists.{Rises, Falls, all-weaker, all-filter, all-both, all-pass, filter-filter, filter-reverse, any-filtered, reverse-cons, rises-filter, rises-from_sorted, filter-sorted_falls}
 use Rattle.codespan_renderer.specs.Inner.Sweeps.{starts_in_order}
 use Rattle.codespan_reporting.proofs.MarkOrder.{ascends-starts}
-use Rattle.codespan_reporting.proofs.StepLines.{steps-drawing, steps-fit, steps-lines, steps-fills}
+use Rattle.codespan_reporting.proofs.StepLines.{lines_of_steps, steps-drawing, steps-fit, steps-lines, steps-fills}
 
 -- ---- what a group says
 

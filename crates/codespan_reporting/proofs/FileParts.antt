@@ -10,7 +10,6 @@ use Rattle.std.proofs.lemmas.List.{drop-drop, drop-map, take-map, length-map}
 use Rattle.std.proofs.lemmas.List.Elements.{filter_agree}
 use Rattle.std.proofs.lemmas.List.Sorted.{IsPermutation-map}
 use Rattle.codespan_reporting.specs.declared.term.views.entry.Entry.{Entry as GivenEntry}
-use Rattle.codespan_reporting.specs.declared.term.views.entry.Says.TheVariants.{Shown}
 use Rattle.codespan_reporting.specs.Inner.Entries.{Entry, is_below, is_of_file}
 use Rattle.codespan_reporting.specs.Inner.GivenEntries.{entry_of}
 use Rattle.codespan_reporting.proofs.EntryGroups.{IsRising, rising-filter, split_at}
@@ -80,23 +79,19 @@ pub prefix-map : {X Y : Type 0} (f : X → Y) (p : Y → Bool) (xs : List X) →
 prefix-map f p [] = refl
 prefix-map f p (x ∷ xs) = ap (λ n. cond (p (f x)) (1 + n) 0) (prefix-map f p xs)
 
--- the entry that is answered past the end of a list
-abbrev pub no_entry : GivenEntry
-no_entry = record { file = 0; line = record { index = 0; number = 0; start = 0; end = 0 }; says = Shown }
-
--- the next n entries, as a loop takes them
-abbrev pub next_part : List GivenEntry → ℕ → ℕ → List GivenEntry
+-- the next n elements, as a loop takes them
+abbrev pub next_part : {X : Type 0} → List X → ℕ → ℕ → List X
 next_part xs at n = take (at + n - at) (drop at xs)
 
 -- the next n entries are those of the file, and later files are left
-pub record IsFilePart (xs : List GivenEntry) (at n f : ℕ) : Type 0 where
+pub record IsFilePart {Id : Type 0} (xs : List (GivenEntry Id)) (at n f : ℕ) : Type 0 where
   pub len : length (next_part xs at n) ≡ n
   pub within : at + length (next_part xs at n) ≤ length xs
   pub own : map entry_of (next_part xs at n) ≡ filter (is_of_file f) (map entry_of xs)
   pub rest : drop (at + length (next_part xs at n)) (map entry_of xs) ≡ from_file (f + 1) (map entry_of xs)
 
 -- a loop over the files takes the part of the next one
-pub next-file : (xs : List GivenEntry) (at n f : ℕ) → IsSortedBy is_below (map entry_of xs) → at ≤ length xs → drop at (map entry_of xs) ≡ from_file f (map entry_of xs)
+pub next-file : {Id : Type 0} (xs : List (GivenEntry Id)) (at n f : ℕ) → IsSortedBy is_below (map entry_of xs) → at ≤ length xs → drop at (map entry_of xs) ≡ from_file f (map entry_of xs)
     → n ≡ prefix_len (λ e. is_of_file f (entry_of e)) (take (length xs - at) (drop at xs)) → n ≤ length (take (length xs - at) (drop at xs)) → IsFilePart xs at n f
 next-file xs at n f up inside left is low =
     let ys = map entry_of xs in
@@ -121,5 +116,5 @@ next-file xs at n f up inside left is low =
     }
 
 -- sorted entries are those that were gathered
-pub gathered-sorted : (all : List Entry) (gathered entries : List GivenEntry) → map entry_of gathered ≡ all → IsPermutation gathered entries → IsPermutation all (map entry_of entries)
+pub gathered-sorted : {Id : Type 0} (all : List Entry) (gathered entries : List (GivenEntry Id)) → map entry_of gathered ≡ all → IsPermutation gathered entries → IsPermutation all (map entry_of entries)
 gathered-sorted all gathered entries is perm = subst (λ (l : List Entry). IsPermutation l (map entry_of entries)) is (IsPermutation-map entry_of gathered entries perm)

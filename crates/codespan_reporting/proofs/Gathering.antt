@@ -16,30 +16,30 @@ use Rattle.codespan_reporting.specs.Inner.Entries.{Entry, Says, Single, line_ent
 use Rattle.codespan_reporting.specs.Inner.GivenEntries.{Adds, IsLineOf, entry_of, says_at}
 use Rattle.codespan_laws.proofs.SortedLists.{all-append}
 
-module _ {P : GivenEntry → Type 0} where
+module _ {Id : Type 0} {P : GivenEntry Id → Type 0} where
   -- nothing was added
-  pub Adds-none : {xs : List GivenEntry} → Adds P xs xs []
+  pub Adds-none : {xs : List (GivenEntry Id)} → Adds P xs xs []
   Adds-none {xs} = record { more = []; whole = sym (append-nil xs); say = refl; each = tt }
 
   -- some entries were added, and then others
-  pub Adds-both : {xs ys zs : List GivenEntry} {es fs : List Entry} → Adds P xs ys es → Adds P ys zs fs → Adds P xs zs (es ++ fs)
+  pub Adds-both : {xs ys zs : List (GivenEntry Id)} {es fs : List Entry} → Adds P xs ys es → Adds P ys zs fs → Adds P xs zs (es ++ fs)
   Adds-both {xs} {es = es} a b = record {
     more = a.more ++ b.more;
-    whole = b.whole ∙ ap (λ (l : List GivenEntry). l ++ b.more) a.whole ∙ append_assoc xs a.more b.more;
+    whole = b.whole ∙ ap (λ (l : List (GivenEntry Id)). l ++ b.more) a.whole ∙ append_assoc xs a.more b.more;
     say = map-append entry_of a.more b.more ∙ ap (λ (l : List Entry). l ++ map entry_of b.more) a.say ∙ ap (λ (l : List Entry). es ++ l) b.say;
     each = all-append P a.more b.more a.each b.each;
   }
 
   -- the same entries in other words
-  pub Adds-as : {xs ys : List GivenEntry} {es fs : List Entry} → fs ≡ es → Adds P xs ys es → Adds P xs ys fs
+  pub Adds-as : {xs ys : List (GivenEntry Id)} {es fs : List Entry} → fs ≡ es → Adds P xs ys es → Adds P xs ys fs
   Adds-as same a = record { more = a.more; whole = a.whole; say = a.say ∙ sym same; each = a.each }
 
 -- what was gathered says this
-pub gathered-says : (P : GivenEntry → Type 0) (gathered : List GivenEntry) (es : List Entry) → Adds P [] gathered es → map entry_of gathered ≡ es
+pub gathered-says : {Id : Type 0} (P : GivenEntry Id → Type 0) (gathered : List (GivenEntry Id)) (es : List Entry) → Adds P [] gathered es → map entry_of gathered ≡ es
 gathered-says P gathered es adds = ap (map entry_of) adds.whole ∙ adds.say
 
 -- what holds of what was gathered holds of the same entries in another order
-pub gathered-each : (P : GivenEntry → Type 0) (gathered entries : List GivenEntry) (es : List Entry) → Adds P [] gathered es → IsPermutation gathered entries → AllByRecursion P entries
+pub gathered-each : {Id : Type 0} (P : GivenEntry Id → Type 0) (gathered entries : List (GivenEntry Id)) (es : List Entry) → Adds P [] gathered es → IsPermutation gathered entries → AllByRecursion P entries
 gathered-each P gathered entries es adds perm =
     recursion_from_All P entries (All-permutation P gathered entries perm (All-from_recursion P gathered (subst (AllByRecursion P) (sym adds.whole) adds.each)))
 

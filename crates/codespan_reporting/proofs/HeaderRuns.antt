@@ -26,7 +26,7 @@ use Rattle.codespan_picture.specs.Rows.{HeaderRow, Heading, Look, Place, Row}
 use Rattle.codespan_picture.specs.RowStreams.{header_row, stream_of, stream_of_rows}
 use Rattle.codespan_picture.specs.Snippets.{InFile, has_any, header_at, header_rows_of, note_rows, primary_of, short_rows}
 use Rattle.codespan_reporting.specs.Headline.{DrawsShort, NamesAreStated}
-use Rattle.codespan_reporting.specs.Inner.Headers.{AreNamed, HeaderRefused, HeadersCame, HeadersEnded, HeaderStopped}
+use Rattle.codespan_reporting.specs.Inner.Headers.{HeaderRefused, HeadersCame, HeadersEnded, HeaderStopped}
 use Rattle.codespan_laws.proofs.PlacedPictures.{each_of, headers-are, place_is, places_of_labels, zip_append}
 use Rattle.codespan_reporting.proofs.LabelPlaces.{StandsAt}
 use Rattle.codespan_reporting.proofs.Drawing.{Began-none}
@@ -146,6 +146,10 @@ run_before {Id} refusal (x ∷ xs) here after answered refused =
 -- the labels that have headers
 abbrev causes : {Id : Type 0} → Diagnostic Id → List (InFile Id)
 causes d = primary_of (labels_of d)
+
+-- the names of these labels' files are stated
+abbrev AreNamed : {Id : Type 0} → (Id → FileModel) → List (InFile Id) → Type 0
+AreNamed {Id} file xs = (x : InFile Id) → Contains xs x → IsSome (file x.id).name
 
 -- they are of files that state their names
 named_causes : {Id : Type 0} (file : Id → FileModel) (d : Diagnostic Id) → NamesAreStated file d → AreNamed file (causes d)

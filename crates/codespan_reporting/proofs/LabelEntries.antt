@@ -10,7 +10,7 @@ use Rattle.codespan_base.specs.declared.term.config.Config.{Config}
 use Rattle.codespan_base.specs.FileModel.{FileModel, line_count}
 use Rattle.codespan_base.specs.Labels.{Labelled, first_line, last_line, is_single, drawn_label}
 use Rattle.codespan_reporting.specs.declared.term.views.gather.LabelPlace.{LabelPlace}
-use Rattle.codespan_reporting.specs.Inner.Entries.{Entry, Says, Shown, Single, kind_of, is_on_line, entry_on, line_entries, entries_of, said}
+use Rattle.codespan_reporting.specs.Inner.Entries.{Entry, Says, Shown, Single, kind_of, is_on_line, line_entries, entries_of, said}
 use Rattle.codespan_picture.specs.Lines.{shows}
 use Rattle.codespan_picture.specs.Lookups.{is_around, is_asked}
 use Rattle.codespan_laws.proofs.SortedLists.{all-append, filter-whole, filter-nothing, all-weaker}
@@ -117,16 +117,20 @@ module _ (config : Config) where
 -- ---- the entries of a label
 
 module _ (config : Config) (f : FileModel) (at : LabelPlace) (x : Labelled) where
+  -- an entry of its file
+  abbrev entry_on : ℕ → Says → Entry
+  entry_on l says = record { file = at.file; line = l; says = says }
+
   -- its carets on a line
   abbrev carets : ℕ → Entry
-  carets l = entry_on config f at x l (Single at.place (drawn_label f x))
+  carets l = entry_on l (Single at.place (drawn_label f x))
 
   -- what it says of a line, where it is inside the line and where it shows it
   abbrev said_where : ℕ → Bool → Bool → List Entry
   said_where l a b = said at.file l (cond a (Some (Single at.place (drawn_label f x))) (cond b (Some Shown) None))
 
   -- what holds of each entry that it can give of a line
-  each-of_line : (P : Entry → Type 0) (l : ℕ) → ((s : Says) → P (entry_on config f at x l s)) → AllByRecursion P (line_entries config f at x l)
+  each-of_line : (P : Entry → Type 0) (l : ℕ) → ((s : Says) → P (entry_on l s)) → AllByRecursion P (line_entries config f at x l)
   each-of_line P l h = by_tests (is_single f x && (first_line f x == l)) (shows config (first_line f x) (last_line f x) l)
     where
       by_tests : (a b : Bool) → AllByRecursion P (said_where l a b)

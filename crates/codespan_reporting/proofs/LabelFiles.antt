@@ -69,14 +69,14 @@ module _ {Id : Type 0} {same : Id → Id → Bool} (o : IsEquivalence same) (xs 
         (entries-inside (before ++ y ∷ []) ys there.1)
 
     -- what the labels say was added, and their lines are those of their files
-    pub added-with_file : {items : List GivenEntry} → Adds (IsOfFiles file were) [] items (entries_after same file config were [] xs)
+    pub added-with_file : {items : List (GivenEntry Id)} → Adds (IsOfFiles file were) [] items (entries_after same file config were [] xs)
         → Adds (IsOfFiles file are) [] items (entries_after same file config are [] xs)
     added-with_file adds = record {
       more = adds.more;
       whole = adds.whole;
       say = adds.say ∙ sym (entries-stay [] xs all-there);
       each =
-          all-weaker (λ (e : GivenEntry). IsOfFiles file were e × (e.file < length were)) (IsOfFiles file are)
+          all-weaker (λ (e : GivenEntry Id). IsOfFiles file were e × (e.file < length were)) (IsOfFiles file are)
           (λ e h id at. h.0 id (at-stays same o were x.id e.file id h.1 (subst (λ (js : List Id). IsIdAt js e.file id) (file_ids-more same o xs x) at))) adds.more
           (all-both (IsOfFiles file were) (λ e. e.file < length were) adds.more adds.each (all-mapped entry_of (λ (e : Entry). e.file < length were) adds.more
           (subst (λ (es : List Entry). AllByRecursion (λ (e : Entry). e.file < length were) es) (sym adds.say) (entries-inside [] xs all-there))));

@@ -40,7 +40,7 @@ use Rattle.codespan_reporting.proofs.LabelTurns.{before, before-more, file-insid
 use Rattle.codespan_reporting.proofs.Refusals.{first_refusal-none, first_refusal-some}
 
 -- these labels are done with: each file has what they tell, what they say is there, the lines that they span have room, and no lookup was refused
-pub record AreGathered {Id : Type 0} (table : FileTable Id) (config : Config) (ids : List Id) (done : List (InFile Id)) (files : List (GivenFile Id)) (found : FoundLines) : Type 0 where
+pub record AreGathered {Id : Type 0} (table : FileTable Id) (config : Config) (ids : List Id) (done : List (InFile Id)) (files : List (GivenFile Id)) (found : FoundLines Id) : Type 0 where
   pub ids_are : ids_given files ≡ ids
   pub starts_are : starts_given files ≡ map (file_start table.same done) ids
   pub lanes_are : all_lanes_given files ≡ map (lanes_in table.same table.file done) ids
@@ -49,7 +49,7 @@ pub record AreGathered {Id : Type 0} (table : FileTable Id) (config : Config) (i
   pub answered : labels_refusal config table done ≡ None
 
 -- what a label says was added, the lines that it spans have room, and no lookup of it was refused
-pub record IsGatheredLabel {Id : Type 0} (table : FileTable Id) (config : Config) (at : LabelPlace) (label : Label Id) (found more : FoundLines) : Type 0 where
+pub record IsGatheredLabel {Id : Type 0} (table : FileTable Id) (config : Config) (at : LabelPlace) (label : Label Id) (found more : FoundLines Id) : Type 0 where
   pub added : FindsLines (asked_label table config at label) found more
   pub counted : MakesRoom (asked_label table config at label) found more
   pub answered : label_refusal (asked_label table config at label) ≡ None
@@ -87,7 +87,7 @@ module _ {Id : Type 0} {table : FileTable Id} (lawful : AreFiles table) {labels 
   before-length = let inside = turn.inside in length-map (take place labels) label_of ∙ length-take-le place labels (omega (arith, inside))
 
   -- an entry of the label's file is one of the files with these ids
-  of_files : (e : GivenEntry) → IsLineOf (file label.file_id) e.line → e.file ≡ file_place same ids label.file_id → IsOfFiles file ids e
+  of_files : (e : GivenEntry Id) → IsLineOf (file label.file_id) e.line → e.file ≡ file_place same ids label.file_id → IsOfFiles file ids e
   of_files e is_line own id there =
       let alike : same id label.file_id ≡ true =
       sym (file_place-at same o (before labels (place + 1)) _ id (subst (λ k. IsIdAt ids k id) own there) label.file_id) ∙ eq-eqb _ _ refl in
@@ -117,7 +117,7 @@ module _ {Id : Type 0} {table : FileTable Id} (lawful : AreFiles table) {labels 
 
   -- ---- the labels before it are done with, and its file is there too
 
-  module _ {config : Config} {files : List (GivenFile Id)} {found : FoundLines} (g : AreGathered table config (file_ids same (before labels (place + 1))) (before labels place) files found) where
+  module _ {config : Config} {files : List (GivenFile Id)} {found : FoundLines Id} (g : AreGathered table config (file_ids same (before labels (place + 1))) (before labels place) files found) where
     -- the lanes that are kept at its file's place are those of its file
     lanes-kept : get_or (all_lanes_given files) (file_place same ids label.file_id) [] ≡ lanes_in same file (before labels place) label.file_id
     lanes-kept =
@@ -125,12 +125,12 @@ module _ {Id : Type 0} {table : FileTable Id} (lawful : AreFiles table) {labels 
         ∙ kept-at o (lanes_in same file (before labels place)) (lanes_in-alike lawful (before labels place)) ids label.file_id [] (has-file turn o)
 
     -- what the label says was added
-    added-more : (more : FoundLines) → AddsOf (file label.file_id) found.entries.items more.entries.items (entries_of config (file label.file_id) here (label_of label).label)
+    added-more : (more : FoundLines Id) → AddsOf (file label.file_id) found.entries.items more.entries.items (entries_of config (file label.file_id) here (label_of label).label)
         → Adds (IsOfFiles file ids) [] more.entries.items (entries_after same file config ids [] (before labels (place + 1)))
     added-more more adds =
         let f = file label.file_id in
         let x = (label_of label).label in
-        let own : AllByRecursion (λ (e : GivenEntry). e.file ≡ file_place same ids label.file_id) adds.more =
+        let own : AllByRecursion (λ (e : GivenEntry Id). e.file ≡ file_place same ids label.file_id) adds.more =
         all-mapped entry_of (λ (e : Entry). e.file ≡ file_place same ids label.file_id) adds.more
         (subst (λ (es : List Entry). AllByRecursion (λ (e : Entry). e.file ≡ file_place same ids label.file_id) es) (sym adds.say) (all-of_file config f here x)) in
         let widened : Adds (IsOfFiles file ids) found.entries.items more.entries.items (entries_of config f here x) = record {
@@ -138,7 +138,7 @@ module _ {Id : Type 0} {table : FileTable Id} (lawful : AreFiles table) {labels 
           whole = adds.whole;
           say = adds.say;
           each =
-              all-weaker (λ (e : GivenEntry). IsLineOf f e.line × (e.file ≡ file_place same ids label.file_id)) (IsOfFiles file ids) (λ e h. of_files e h.0 h.1) adds.more
+              all-weaker (λ (e : GivenEntry Id). IsLineOf f e.line × (e.file ≡ file_place same ids label.file_id)) (IsOfFiles file ids) (λ e h. of_files e h.0 h.1) adds.more
               (all-both (λ e. IsLineOf f e.line) (λ e. e.file ≡ file_place same ids label.file_id) adds.more adds.each own);
         } in
         Adds-as
@@ -148,7 +148,7 @@ module _ {Id : Type 0} {table : FileTable Id} (lawful : AreFiles table) {labels 
         (Adds-both g.added widened)
 
     -- the lines that it spans have room
-    counted-more : (more : FoundLines) → more.padding ≡ fold max found.padding (label_digits (file label.file_id) (label_of label).label) → more.padding ≡ fold max 0 (all_digits file (before labels (place + 1)))
+    counted-more : (more : FoundLines Id) → more.padding ≡ fold max found.padding (label_digits (file label.file_id) (label_of label).label) → more.padding ≡ fold max 0 (all_digits file (before labels (place + 1)))
     counted-more more counts =
         let digits : InFile Id → List ℕ = λ x. label_digits (file x.id) x.label in
         counts ∙ ap (λ n. fold max n (digits (label_of label))) g.counted
@@ -177,7 +177,7 @@ module _ {Id : Type 0} {table : FileTable Id} (lawful : AreFiles table) {labels 
           omega (arith, low, place-found, long)
 
       -- one more label, whose file is at this place
-      pub gathered-more : {next : List (GivenFile Id)} {more : FoundLines} → IsGatheredLabel table config (record { file = at; place = place }) label found more → IsToldLabel file at label files next
+      pub gathered-more : {next : List (GivenFile Id)} {more : FoundLines Id} → IsGatheredLabel table config (record { file = at; place = place }) label found more → IsToldLabel file at label files next
           → AreGathered table config (file_ids same (before labels (place + 1))) (before labels (place + 1)) next more
       gathered-more {next} {more} own told = record {
         ids_are = told.ids ∙ g.ids_are;
@@ -195,7 +195,7 @@ module _ {Id : Type 0} {table : FileTable Id} (lawful : AreFiles table) {labels 
 
   -- ---- the labels before it are done with
 
-  module _ {config : Config} {files : List (GivenFile Id)} {found : FoundLines} (g : AreGathered table config (file_ids same (before labels place)) (before labels place) files found) where
+  module _ {config : Config} {files : List (GivenFile Id)} {found : FoundLines Id} (g : AreGathered table config (file_ids same (before labels place)) (before labels place) files found) where
     -- its file was placed: it is one of those of the labels before, or after them
     pub file-placed : {now : List (GivenFile Id)} → IsPlacedFile same label.file_id files now → AreGathered table config (file_ids same (before labels (place + 1))) (before labels place) now found
     file-placed {now} placed =
@@ -229,7 +229,7 @@ module _ {Id : Type 0} {table : FileTable Id} (lawful : AreFiles table) {labels 
         ∙ ap (first_refusal table.refusal) (append-nil (label_asked config file table.refusal (label_of label))) ∙ some)
 
 -- all labels are done with after the last one
-pub gathered-all : {Id : Type 0} {table : FileTable Id} {config : Config} {files : List (GivenFile Id)} {found : FoundLines} (labels : List (Label Id)) (place : ℕ)
+pub gathered-all : {Id : Type 0} {table : FileTable Id} {config : Config} {files : List (GivenFile Id)} {found : FoundLines Id} (labels : List (Label Id)) (place : ℕ)
     → length labels ≤ place → AreGathered table config (file_ids table.same (before labels place)) (before labels place) files found
     → AreGathered table config (file_ids table.same (map label_of labels)) (map label_of labels) files found
 gathered-all {Id} {table} {config} {files} {found} labels place past g =

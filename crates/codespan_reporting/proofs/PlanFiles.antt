@@ -1,9 +1,9 @@
 -- The plans of files: what their steps draw and ask for is what the pictures of the files show.
-use Rattle.std.proofs.Common.{◌≡◌, ℕ, suc, ◌+◌, Bool, List, [], ◌∷◌, ◌++◌, map, max, Option, None, refl, sym, subst, ap, ◌∙◌, arith}
+use Rattle.std.proofs.Common.{◌≡◌, ℕ, suc, ◌+◌, Bool, List, [], ◌∷◌, ◌++◌, take, drop, map, max, Option, None, refl, sym, subst, ap, ◌∙◌, arith}
 use Rattle.std.specs.Prelude.{IfSome, flat_map, fold}
 use Rattle.std.specs.List.{AllByRecursion}
 use Rattle.std.proofs.lemmas.Grind.{flat_map-append}
-use Rattle.std.proofs.lemmas.List.{map-append}
+use Rattle.std.proofs.lemmas.List.{map-append, take-append-drop}
 use Rattle.std.proofs.lemmas.List.Folds.{flat_map-map}
 use Rattle.codespan_base.specs.declared.term.config.Config.{Config}
 use Rattle.codespan_base.specs.declared.term.config.Layout.{Layout}
@@ -22,7 +22,7 @@ use Rattle.codespan_reporting.specs.declared.term.views.sheet.SheetFile.{SheetFi
 use Rattle.codespan_reporting.specs.declared.term.views.steps.Step.{Step as GivenStep}
 use Rattle.codespan_reporting.specs.declared.term.views.steps.Step.TheVariants as given
 use Rattle.codespan_reporting.specs.Inner.Entries.{Entry}
-use Rattle.codespan_reporting.specs.Inner.GivenSheets.{IsGathered, IsPrepared, IsSheetFile, ids_of, sheet_numbers, sheet_places, sheet_refusal}
+use Rattle.codespan_reporting.specs.Inner.GivenSheets.{AreSheetFiles, IsGathered, IsPrepared, IsSheetFile, ids_of, sheet_numbers, sheet_places, sheet_refusal}
 use Rattle.codespan_reporting.specs.Inner.GivenEntries.{entry_of}
 use Rattle.codespan_reporting.specs.Inner.LabelledFiles.{IsTold, ids_given}
 use Rattle.codespan_reporting.specs.Inner.Lanes.{file_lanes, lanes_given}
@@ -30,54 +30,55 @@ use Rattle.codespan_reporting.specs.declared.term.views.sheet.Sheet.{Sheet}
 use Rattle.codespan_reporting.specs.Inner.GivenSteps.{IsStepIn, IsStepOf, asked_by, asked_by_all, asked_with, numbers_asked, step_of}
 use Rattle.codespan_reporting.specs.Inner.Loci.{place_lookups, start_byte}
 use Rattle.codespan_reporting.specs.Inner.PlacedLabels.{IsIdAt}
-use Rattle.codespan_reporting.specs.Inner.Plans.{ArePlans, ArePlansOf, IsPlan, number_lookups, plan_digits, plans_refusal, step_digits, steps_at}
+use Rattle.codespan_reporting.specs.Inner.Plans.{ArePlans, ArePlansOf, IsPlan, number_lookups, plans_refusal, step_digits, steps_at}
 use Rattle.codespan_reporting.specs.Inner.StepDrawing.{DoFit}
-use Rattle.codespan_reporting.specs.Inner.Steps.{Step, fill_of, fills_of, line_of_step, lines_of_steps, rows_of_steps}
+use Rattle.codespan_reporting.specs.Inner.Steps.{Step, fill_of, fills_of, rows_of_steps}
 use Rattle.codespan_reporting.specs.Inner.Tables.{FileTable}
 use Rattle.codespan_reporting.proofs.PlansFound.{by_place-same}
 use Rattle.codespan_reporting.proofs.SpannedRoom.{spanned-room}
 use Rattle.codespan_reporting.proofs.EntryPicture.{snippet-fills, snippet-fits, snippet-lines, snippet-rows}
 use Rattle.codespan_reporting.proofs.LabelPlaces.{AreFiles}
 use Rattle.codespan_reporting.proofs.LocusStarts.{start-is}
+use Rattle.codespan_reporting.proofs.StepLines.{line_of_step, lines_of_steps}
 
 -- ---- one step
 
 -- a step in a layout is one of the file
-step_of-file : (layout : Layout) (f : FileModel) (g : GivenStep) → IsStepIn layout f g → IsStepOf f g
+step_of-file : {Id : Type 0} (layout : Layout) (f : FileModel) (g : GivenStep Id) → IsStepIn layout f g → IsStepOf f g
 step_of-file layout f (given.Shown line singles) is = is
 step_of-file Classic f (given.Filled index number) is = subst (λ (o : Option ℕ). IfSome o (λ known. known ≡ f.number index)) (sym is) tt
 step_of-file Unbroken f (given.Filled index number) is = subst (λ (o : Option ℕ). IfSome o (λ known. known ≡ f.number index)) (sym is) refl
 step_of-file layout f (given.Break next) is = is
 
 -- it asks for what the layout asks for of the line that it fills in
-step-asks : (layout : Layout) (f : FileModel) (g : GivenStep) → IsStepIn layout f g → asked_by g ≡ flat_map (of_filled layout) (fill_of (step_of g))
+step-asks : {Id : Type 0} (layout : Layout) (f : FileModel) (g : GivenStep Id) → IsStepIn layout f g → asked_by g ≡ flat_map (of_filled layout) (fill_of (step_of g))
 step-asks layout f (given.Shown line singles) is = refl
 step-asks Classic f (given.Filled index number) is = ap (λ (o : Option ℕ). asked_with o index) is
 step-asks Unbroken f (given.Filled index number) is = ap (λ (o : Option ℕ). asked_with o index) is
 step-asks layout f (given.Break next) is = refl
 
 -- in the unbroken layout the digits of its number are those of its line's
-step-digits : (f : FileModel) (g : GivenStep) → IsStepIn Unbroken f g → step_digits g ≡ map (λ l. digit_count (f.number l)) (line_of_step (step_of g))
+step-digits : {Id : Type 0} (f : FileModel) (g : GivenStep Id) → IsStepIn Unbroken f g → step_digits g ≡ map (λ l. digit_count (f.number l)) (line_of_step (step_of g))
 step-digits f (given.Shown line singles) is = ap (λ n. digit_count n ∷ []) is.number_is
-step-digits f (given.Filled index number) is = ap (λ (o : Option ℕ). step_digits (given.Filled index o)) is
+step-digits {Id} f (given.Filled index number) is = ap (λ (o : Option ℕ). step_digits {Id = Id} (given.Filled index o)) is
 step-digits f (given.Break next) is = refl
 
 -- ---- steps
 
 -- steps in a layout are those of the file
-steps_of-file : (layout : Layout) (f : FileModel) (gs : List GivenStep) → AllByRecursion (IsStepIn layout f) gs → AllByRecursion (IsStepOf f) gs
+steps_of-file : {Id : Type 0} (layout : Layout) (f : FileModel) (gs : List (GivenStep Id)) → AllByRecursion (IsStepIn layout f) gs → AllByRecursion (IsStepOf f) gs
 steps_of-file layout f [] h = tt
 steps_of-file layout f (g ∷ gs) h = (step_of-file layout f g h.0, steps_of-file layout f gs h.1)
 
 -- they ask for what the layout asks for of the lines that they fill in
-steps-ask : (layout : Layout) (f : FileModel) (gs : List GivenStep) → AllByRecursion (IsStepIn layout f) gs → asked_by_all gs ≡ flat_map (of_filled layout) (fills_of (map step_of gs))
+steps-ask : {Id : Type 0} (layout : Layout) (f : FileModel) (gs : List (GivenStep Id)) → AllByRecursion (IsStepIn layout f) gs → asked_by_all gs ≡ flat_map (of_filled layout) (fills_of (map step_of gs))
 steps-ask layout f [] h = refl
 steps-ask layout f (g ∷ gs) h =
     (λ i. step-asks layout f g h.0 i ++ steps-ask layout f gs h.1 i)
     ∙ sym (flat_map-append (of_filled layout) (fill_of (step_of g)) (fills_of (map step_of gs)))
 
 -- in the unbroken layout the digits of their numbers are those of their lines'
-steps-digits : (f : FileModel) (gs : List GivenStep) → AllByRecursion (IsStepIn Unbroken f) gs → flat_map step_digits gs ≡ map (λ l. digit_count (f.number l)) (lines_of_steps (map step_of gs))
+steps-digits : {Id : Type 0} (f : FileModel) (gs : List (GivenStep Id)) → AllByRecursion (IsStepIn Unbroken f) gs → flat_map step_digits gs ≡ map (λ l. digit_count (f.number l)) (lines_of_steps (map step_of gs))
 steps-digits f [] h = refl
 steps-digits f (g ∷ gs) h =
     (λ i. step-digits f g h.0 i ++ steps-digits f gs h.1 i)
@@ -148,32 +149,26 @@ module _ {Id : Type 0} {table : FileTable Id} (lawful : AreFiles table) {config 
   places-are : place_lookups gathered.files.items ≡ sheet_places table xs
   places-are = places-asked gathered.files.items all.files.told ∙ ap (flat_map (λ id. asked_of id (locus_lookups same file xs id))) all.files.ids_are
 
-  module _ {k : ℕ} {f : GivenFile Id} (at : IsIdAt (file_ids same xs) k f.id) (told : IsTold same file xs f) {plan : SheetFile Id} (is : IsPlan config.layout file es k f plan) where
-    -- its steps
-    steps-are : map step_of plan.steps.items ≡ steps_at es k
-    steps-are = ap (map step_of) is.adds.whole ∙ is.adds.are
-
-    -- they are in the layout
-    steps-in : AllByRecursion (IsStepIn config.layout (file f.id)) plan.steps.items
-    steps-in = subst (AllByRecursion (IsStepIn config.layout (file f.id))) (sym is.adds.whole) is.adds.each
-
+  module _ {k : ℕ} {f : GivenFile Id} (at : IsIdAt (file_ids same xs) k f.id) (told : IsTold same file xs f) {plan : SheetFile Id} {own : List (GivenStep Id)}
+      (is : IsPlan config.layout file es k f plan own) where
     -- it is a file of the picture
-    file-plan : IsSheetFile config (labelled f.id) plan
+    file-plan : IsSheetFile config (labelled f.id) plan own
     file-plan = record {
       lanes_are = ap (λ (g : GivenFile Id). lanes_given g.lanes.items) is.file_is ∙ told.lanes_are;
       place = subst (λ n. IsPlaceIn (file f.id) n (place_of_given plan.locus)) (file_start-is told) is.place;
-      each = steps_of-file config.layout (file f.id) plan.steps.items steps-in;
-      fits = subst DoFit (sym steps-are) (snippet k f.id at).fits;
-      rows = ap (rows_of_steps (file f.id) (file_lanes (labelled f.id))) steps-are ∙ (snippet k f.id at).rows;
-      asked = steps-ask config.layout (file f.id) plan.steps.items steps-in ∙ ap (λ (steps : List Step). flat_map (of_filled config.layout) (fills_of steps)) steps-are
+      count_is = is.count_is;
+      each = steps_of-file config.layout (file f.id) own is.each;
+      fits = subst DoFit (sym is.are) (snippet k f.id at).fits;
+      rows = ap (rows_of_steps (file f.id) (file_lanes (labelled f.id))) is.are ∙ (snippet k f.id at).rows;
+      asked = steps-ask config.layout (file f.id) own is.each ∙ ap (λ (steps : List Step). flat_map (of_filled config.layout) (fills_of steps)) is.are
           ∙ ap (λ (ls : List ℕ). flat_map (of_filled config.layout) ls) (snippet k f.id at).fills;
     }
 
     -- in the unbroken layout the digits of its numbers are those that the padding has room for
-    file-digits : config.layout ≡ Unbroken → plan_digits plan ≡ digits_of (labelled f.id) (numbered_lines config (labelled f.id))
+    file-digits : config.layout ≡ Unbroken → flat_map step_digits own ≡ digits_of (labelled f.id) (numbered_lines config (labelled f.id))
     file-digits unbroken =
-        steps-digits (file f.id) plan.steps.items (subst (λ (layout : Layout). AllByRecursion (IsStepIn layout (file f.id)) plan.steps.items) unbroken steps-in)
-        ∙ ap (λ (steps : List Step). digits_of (labelled f.id) (lines_of_steps steps)) steps-are
+        steps-digits (file f.id) own (subst (λ (layout : Layout). AllByRecursion (IsStepIn layout (file f.id)) own) unbroken is.each)
+        ∙ ap (λ (steps : List Step). digits_of (labelled f.id) (lines_of_steps steps)) is.are
         ∙ ap (digits_of (labelled f.id)) ((snippet k f.id at).lines ∙ sym (numbered config unbroken (labelled f.id)))
 
   -- the ids from a place on stand at their places
@@ -193,53 +188,57 @@ module _ {Id : Type 0} {table : FileTable Id} (lawful : AreFiles table) {config 
   all_at = λ i id h. let e : i ≡ 0 + i = omega arith in subst (λ n. IsIdAt (file_ids same xs) n id) e h
 
   -- the ids of plans
-  ids-from : (k : ℕ) (fs : List (GivenFile Id)) (plans : List (SheetFile Id)) → ArePlans config.layout file es k fs plans → ids_of plans ≡ ids_given fs
-  ids-from k [] [] h = refl
-  ids-from k [] (p ∷ ps) h = absurd h
-  ids-from k (f ∷ fs) [] h = absurd h
-  ids-from k (f ∷ fs) (p ∷ ps) h = λ i. (h.0.file_is i).id ∷ ids-from (k + 1) fs ps h.1 i
+  ids-from : (k : ℕ) (fs : List (GivenFile Id)) (plans : List (SheetFile Id)) (steps : List (GivenStep Id)) → ArePlans config.layout file es k fs plans steps → ids_of plans ≡ ids_given fs
+  ids-from k [] [] steps h = refl
+  ids-from k [] (p ∷ ps) steps h = absurd h
+  ids-from k (f ∷ fs) [] steps h = absurd h
+  ids-from k (f ∷ fs) (p ∷ ps) steps h = λ i. (h.0.file_is i).id ∷ ids-from (k + 1) fs ps (drop p.step_count steps) h.1 i
 
   -- plans are those of their files
-  plans-from : (k : ℕ) (fs : List (GivenFile Id)) (plans : List (SheetFile Id)) → AreAt k (ids_given fs) → AllByRecursion (IsTold same file xs) fs → ArePlans config.layout file es k fs plans
-      → AllByRecursion (λ (p : SheetFile Id). IsSheetFile config (labelled p.file.now.id) p) plans
-  plans-from k [] [] at told h = tt
-  plans-from k [] (p ∷ ps) at told h = absurd h
-  plans-from k (f ∷ fs) [] at told h = absurd h
-  plans-from k (f ∷ fs) (p ∷ ps) at told h = (
-    subst (λ (g : GivenFile Id). IsSheetFile config (labelled g.id) p) (sym h.0.file_is) (file-plan (are_at-here k f.id (ids_given fs) at) told.0 h.0),
-    plans-from (k + 1) fs ps (are_at-next k f.id (ids_given fs) at) told.1 h.1,
+  plans-from : (k : ℕ) (fs : List (GivenFile Id)) (plans : List (SheetFile Id)) (steps : List (GivenStep Id)) → AreAt k (ids_given fs) → AllByRecursion (IsTold same file xs) fs
+      → ArePlans config.layout file es k fs plans steps → AreSheetFiles table config xs plans steps
+  plans-from k [] [] steps at told h = tt
+  plans-from k [] (p ∷ ps) steps at told h = absurd h
+  plans-from k (f ∷ fs) [] steps at told h = absurd h
+  plans-from k (f ∷ fs) (p ∷ ps) steps at told h = (
+    subst (λ (g : GivenFile Id). IsSheetFile config (labelled g.id) p (take p.step_count steps)) (sym h.0.file_is) (file-plan (are_at-here k f.id (ids_given fs) at) told.0 h.0),
+    plans-from (k + 1) fs ps (drop p.step_count steps) (are_at-next k f.id (ids_given fs) at) told.1 h.1,
   )
 
-  -- in the unbroken layout their digits are those that the padding has room for
-  digits-from : config.layout ≡ Unbroken → (k : ℕ) (fs : List (GivenFile Id)) (plans : List (SheetFile Id)) → AreAt k (ids_given fs) → AllByRecursion (IsTold same file xs) fs
-      → ArePlans config.layout file es k fs plans → flat_map plan_digits plans ≡ flat_map (λ id. digits_of (labelled id) (numbered_lines config (labelled id))) (ids_given fs)
-  digits-from unbroken k [] [] at told h = refl
-  digits-from unbroken k [] (p ∷ ps) at told h = absurd h
-  digits-from unbroken k (f ∷ fs) [] at told h = absurd h
-  digits-from unbroken k (f ∷ fs) (p ∷ ps) at told h =
-      λ i. file-digits (are_at-here k f.id (ids_given fs) at) told.0 h.0 unbroken i ++ digits-from unbroken (k + 1) fs ps (are_at-next k f.id (ids_given fs) at) told.1 h.1 i
+  -- in the unbroken layout the digits of their steps are those that the padding has room for
+  digits-from : config.layout ≡ Unbroken → (k : ℕ) (fs : List (GivenFile Id)) (plans : List (SheetFile Id)) (steps : List (GivenStep Id)) → AreAt k (ids_given fs)
+      → AllByRecursion (IsTold same file xs) fs → ArePlans config.layout file es k fs plans steps
+      → flat_map step_digits steps ≡ flat_map (λ id. digits_of (labelled id) (numbered_lines config (labelled id))) (ids_given fs)
+  digits-from unbroken k [] [] steps at told h = ap (flat_map step_digits) h
+  digits-from unbroken k [] (p ∷ ps) steps at told h = absurd h
+  digits-from unbroken k (f ∷ fs) [] steps at told h = absurd h
+  digits-from unbroken k (f ∷ fs) (p ∷ ps) steps at told h =
+      let own = take p.step_count steps in
+      let later = drop p.step_count steps in
+      ap (flat_map step_digits) (sym (take-append-drop p.step_count steps)) ∙ flat_map-append step_digits own later
+      ∙ (λ i. file-digits (are_at-here k f.id (ids_given fs) at) told.0 h.0 unbroken i ++ digits-from unbroken (k + 1) fs ps later (are_at-next k f.id (ids_given fs) at) told.1 h.1 i)
 
-  module _ (plans : List (SheetFile Id)) (found : ArePlans config.layout file es 0 gathered.files.items plans) where
+  module _ (plans : List (SheetFile Id)) (steps : List (GivenStep Id)) (found : ArePlans config.layout file es 0 gathered.files.items plans steps) where
     -- the ids stand at their places
     ids_at : AreAt 0 (ids_given gathered.files.items)
     ids_at = subst (λ (ids : List Id). AreAt 0 ids) (sym all.files.ids_are) all_at
 
     -- the ids of all plans
     plan_ids : ids_of plans ≡ file_ids same xs
-    plan_ids = ids-from 0 gathered.files.items plans found ∙ all.files.ids_are
+    plan_ids = ids-from 0 gathered.files.items plans steps found ∙ all.files.ids_are
 
     -- all plans
-    file_plans : AllByRecursion (λ (p : SheetFile Id). IsSheetFile config (labelled p.file.now.id) p) plans
-    file_plans = plans-from 0 gathered.files.items plans ids_at all.files.told found
+    file_plans : AreSheetFiles table config xs plans steps
+    file_plans = plans-from 0 gathered.files.items plans steps ids_at all.files.told found
 
     -- in the classic layout the labels tell the room for numbers
     pub spanned-padding : config.layout ≡ Classic → {padding : ℕ} → padding ≡ gathered.padding → padding ≡ padding_of config (labelled_files same file xs)
     spanned-padding classic is = is ∙ all.files.padding_is ∙ spanned-room same file lawful.equivalence lawful.one_file config xs classic
 
-    -- in the unbroken layout the plans do
-    pub drawn-padding : config.layout ≡ Unbroken → {padding : ℕ} → padding ≡ fold max 0 (flat_map plan_digits plans) → padding ≡ padding_of config (labelled_files same file xs)
+    -- in the unbroken layout the steps do
+    pub drawn-padding : config.layout ≡ Unbroken → {padding : ℕ} → padding ≡ fold max 0 (flat_map step_digits steps) → padding ≡ padding_of config (labelled_files same file xs)
     drawn-padding unbroken is =
-        is ∙ ap (fold max 0) (digits-from unbroken 0 gathered.files.items plans ids_at all.files.told found
+        is ∙ ap (fold max 0) (digits-from unbroken 0 gathered.files.items plans steps ids_at all.files.told found
         ∙ ap (flat_map (λ id. digits_of (labelled id) (numbered_lines config (labelled id)))) all.files.ids_are
         ∙ sym (flat_map-map (λ (s : LabelledFile). digits_of s (numbered_lines config s)) labelled (file_ids same xs)))
 
@@ -251,10 +250,10 @@ module _ {Id : Type 0} {table : FileTable Id} (lawful : AreFiles table) {config 
   refusal-is = λ i. first_refusal table.refusal (numbers-are lawful all i ++ places-are lawful all i)
 
   -- plans, and the room for their numbers, are the sheet of the labels
-  pub sheet-prepared : {sheet : Sheet Id} → ArePlansOf config.layout table.file gathered sheet.files.items → sheet.padding ≡ padding_of config (labelled_files table.same table.file xs)
+  pub sheet-prepared : {sheet : Sheet Id} → ArePlansOf config.layout table.file gathered sheet.files.items sheet.steps.items → sheet.padding ≡ padding_of config (labelled_files table.same table.file xs)
       → IsPrepared table config xs sheet
   sheet-prepared {sheet} found padding = record {
-    ids_are = plan_ids lawful all sheet.files.items found;
-    files_are = file_plans lawful all sheet.files.items found;
+    ids_are = plan_ids lawful all sheet.files.items sheet.steps.items found;
+    files_are = file_plans lawful all sheet.files.items sheet.steps.items found;
     padding_is = padding;
   }

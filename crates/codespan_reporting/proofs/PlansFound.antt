@@ -1,12 +1,12 @@
 -- The files' plans that a loop finds, one after another.
-use Rattle.std.proofs.Common.{◌≡◌, ◌≢◌, ℕ, suc, ◌+◌, ◌-◌, ◌≤◌, true, List, [], ◌∷◌, ◌++◌, length, take, drop, map, filter, Option, Some, None, Result, Ok, Err, refl, sym, ap, ◌∙◌, subst, arith}
+use Rattle.std.proofs.Common.{◌≡◌, ◌≢◌, ℕ, suc, ◌+◌, ◌-◌, ◌≤◌, true, List, [], ◌∷◌, ◌++◌, length, take, drop, map, filter, Option, Some, None, Result, Ok, Err, refl, sym, ap, ◌∙◌, subst, subst₂, arith}
 use Rattle.std.specs.Prelude.{All, IfOk, flat_map}
 use Rattle.std.specs.List.{AllByRecursion, prefix_len}
 use Rattle.std.specs.List.Sorted.{IsSortedBy}
 use Rattle.std.specs.Result.{result_and}
 use Rattle.std.proofs.lemmas.Bool.{eqb-true}
 use Rattle.std.proofs.lemmas.Grind.{flat_map-append}
-use Rattle.std.proofs.lemmas.List.{append-nil, append_assoc, get_or-map, length-map, length-take-le, map-append, take-append-drop, take_all}
+use Rattle.std.proofs.lemmas.List.{append-nil, append_assoc, drop-append-le, drop_all, get_or-map, length-append, length-map, length-take, length-take-le, map-append, take-append-drop, take-append-le, take_all}
 use Rattle.std.proofs.lemmas.List.Elements.{All-from_recursion}
 use Rattle.std.proofs.lemmas.Result.{IfOk-weaker}
 use Rattle.codespan_base.specs.declared.files.Error.{Error}
@@ -17,14 +17,15 @@ use Rattle.codespan_picture.specs.Lookups.{Refusals, TellsNaming, asked_of, firs
 use Rattle.codespan_reporting.specs.declared.term.views.entry.Entry.{Entry as GivenEntry}
 use Rattle.codespan_reporting.specs.declared.term.views.file_order.LabelledFile.{LabelledFile as GivenFile}
 use Rattle.codespan_reporting.specs.declared.term.views.sheet.SheetFile.{SheetFile}
+use Rattle.codespan_reporting.specs.declared.term.views.steps.Step.{Step as GivenStep}
 use Rattle.codespan_reporting.specs.Inner.Entries.{Entry, is_below, is_of_file}
 use Rattle.codespan_reporting.specs.Inner.GivenEntries.{IsLineOf, IsOfFiles, entry_of}
-use Rattle.codespan_reporting.specs.Inner.GivenSteps.{numbers_asked}
+use Rattle.codespan_reporting.specs.Inner.GivenSteps.{AddsSteps, numbers_asked}
 use Rattle.codespan_reporting.specs.Inner.LabelledFiles.{ids_given}
 use Rattle.codespan_reporting.specs.Inner.Loci.{place_asked, place_lookups}
 use Rattle.codespan_reporting.specs.Inner.PlacedLabels.{IsIdAt}
 use Rattle.codespan_reporting.specs.Inner.Plans.{ArePlans, IsPlan, by_place, number_lookups, steps_at}
-use Rattle.codespan_reporting.specs.Inner.Steps.{fills_of, steps_of}
+use Rattle.codespan_reporting.specs.Inner.Steps.{Step, fills_of, steps_of}
 use Rattle.codespan_reporting.proofs.Askings.{first_refusal-append, or_refusal-answered, or_refusal-none, or_refusal-some}
 use Rattle.codespan_reporting.proofs.FileParts.{IsFilePart, from_file, next-file, next_part}
 use Rattle.codespan_reporting.proofs.FilePlaces.{at-get}
@@ -62,7 +63,7 @@ by_place-same {Id} {A} give each k (j ∷ js) same =
 
 module _ {Id : Type 0} (file : Id → FileModel) where
   -- a file's part of the entries is of lines that the file has
-  part-lines : (ids : List Id) (xs : List GivenEntry) (at n f : ℕ) (id : Id) (ys : List Entry) → IsIdAt ids f id → AllByRecursion (IsOfFiles file ids) xs
+  part-lines : (ids : List Id) (xs : List (GivenEntry Id)) (at n f : ℕ) (id : Id) (ys : List Entry) → IsIdAt ids f id → AllByRecursion (IsOfFiles file ids) xs
       → map entry_of (take n (drop at xs)) ≡ filter (is_of_file f) ys → AllByRecursion (λ e. IsLineOf (file id) e.line) (take n (drop at xs))
   part-lines ids xs at n f id ys is_at lines own =
       let part = take n (drop at xs) in
@@ -74,7 +75,7 @@ module _ {Id : Type 0} (file : Id → FileModel) where
 -- ---- the turn of a file
 
 -- a loop over the files is at one of them: the entries from a place on are those of it and of later files, and so many are counted as its own
-pub record IsTurn {Id : Type 0} (files : List (GivenFile Id)) (xs : List GivenEntry) (at n k : ℕ) (f : GivenFile Id) : Type 0 where
+pub record IsTurn {Id : Type 0} (files : List (GivenFile Id)) (xs : List (GivenEntry Id)) (at n k : ℕ) (f : GivenFile Id) : Type 0 where
   pub up : IsSortedBy is_below (map entry_of xs)
   pub inside : at ≤ length xs
   pub left : drop at (map entry_of xs) ≡ from_file k (map entry_of xs)
@@ -82,15 +83,15 @@ pub record IsTurn {Id : Type 0} (files : List (GivenFile Id)) (xs : List GivenEn
   pub within : n ≤ length (take (length xs - at) (drop at xs))
   pub here : StandsAt files k f
 
-module _ {Id : Type 0} {files : List (GivenFile Id)} {xs : List GivenEntry} {at n k : ℕ} {f : GivenFile Id} (turn : IsTurn files xs at n k f) where
+module _ {Id : Type 0} {files : List (GivenFile Id)} {xs : List (GivenEntry Id)} {at n k : ℕ} {f : GivenFile Id} (turn : IsTurn files xs at n k f) where
   -- the file's part of the entries
   own_part : IsFilePart xs at n k
   own_part = next-file xs at n k turn.up turn.inside turn.left turn.counted turn.within
 
-  module _ {zs : List GivenEntry} (same : zs ≡ xs) where
+  module _ {zs : List (GivenEntry Id)} (same : zs ≡ xs) where
     -- it is the same in an equal list
     own_entries : map entry_of (next_part zs at n) ≡ filter (is_of_file k) (map entry_of xs)
-    own_entries = ap (λ (es : List GivenEntry). map entry_of (next_part es at n)) same ∙ own_part.own
+    own_entries = ap (λ (es : List (GivenEntry Id)). map entry_of (next_part es at n)) same ∙ own_part.own
 
     -- its lines are the file's
     pub own_lines : (file : Id → FileModel) → AllByRecursion (IsOfFiles file (ids_given files)) xs → All (λ e. IsLineOf (file f.id) e.line) (next_part zs at n)
@@ -121,16 +122,38 @@ module _ {Id : Type 0} {files : List (GivenFile Id)} {xs : List GivenEntry} {at 
 
 -- ---- plans
 
--- plans from a place on, and then one more
-plans-more : {Id : Type 0} {layout : Layout} {file : Id → FileModel} {es : List Entry} {f : GivenFile Id} {plan : SheetFile Id} (k : ℕ)
-    → (fs : List (GivenFile Id)) (ps : List (SheetFile Id)) → ArePlans layout file es k fs ps → IsPlan layout file es (k + length fs) f plan
-    → ArePlans layout file es k (fs ++ f ∷ []) (ps ++ plan ∷ [])
-plans-more {Id} {layout} {file} {es} {f} {plan} k [] [] h own = let e : k + 0 ≡ k = omega arith in (subst (λ n. IsPlan layout file es n f plan) e own, tt)
-plans-more k [] (p ∷ ps) h own = absurd h
-plans-more k (g ∷ fs) [] h own = absurd h
-plans-more {Id} {layout} {file} {es} {f} {plan} k (g ∷ fs) (p ∷ ps) h own =
-    let e : k + suc (length fs) ≡ k + 1 + length fs = omega arith in
-    (h.0, plans-more (k + 1) fs ps h.1 (subst (λ n. IsPlan layout file es n f plan) e own))
+-- so many steps were added
+pub added-count : {Id : Type 0} {layout : Layout} {f : FileModel} {old new : List (GivenStep Id)} {steps : List Step} {now before : ℕ} → now ≡ length new → before ≡ length old
+    → (added : AddsSteps layout f old new steps) → now - before ≡ length added.more
+added-count {old = old} is was added = let whole = ap length added.whole in omega (arith, is, was, whole, length-append old added.more)
+
+-- there are at least as many steps as a plan counts in front
+count-within : {Id : Type 0} {layout : Layout} {file : Id → FileModel} {es : List Entry} {k : ℕ} {f : GivenFile Id} {plan : SheetFile Id} (steps : List (GivenStep Id))
+    → IsPlan layout file es k f plan (take plan.step_count steps) → plan.step_count ≤ length steps
+count-within {plan = plan} steps is = omega (arith, is.count_is, length-take plan.step_count steps)
+
+module _ {Id : Type 0} {layout : Layout} {file : Id → FileModel} {es : List Entry} {f : GivenFile Id} {plan : SheetFile Id} {own : List (GivenStep Id)} where
+  -- one plan, with its steps
+  plan-alone : (k : ℕ) → IsPlan layout file es k f plan own → ArePlans layout file es k (f ∷ []) (plan ∷ []) own
+  plan-alone k is =
+      let count = is.count_is in
+      (subst (IsPlan layout file es k f plan) (sym (take_all plan.step_count own (omega (arith, count)))) is, drop_all plan.step_count own (omega (arith, count)))
+
+  -- plans from a place on, and then one more
+  plans-more : (k : ℕ) (fs : List (GivenFile Id)) (ps : List (SheetFile Id)) (steps : List (GivenStep Id)) → ArePlans layout file es k fs ps steps
+      → IsPlan layout file es (k + length fs) f plan own → ArePlans layout file es k (fs ++ f ∷ []) (ps ++ plan ∷ []) (steps ++ own)
+  plans-more k [] [] steps h is =
+      let e : k + 0 ≡ k = omega arith in
+      subst (λ (front : List (GivenStep Id)). ArePlans layout file es k (f ∷ []) (plan ∷ []) (front ++ own)) (sym h) (plan-alone k (subst (λ n. IsPlan layout file es n f plan own) e is))
+  plans-more k [] (p ∷ ps) steps h is = absurd h
+  plans-more k (g ∷ fs) [] steps h is = absurd h
+  plans-more k (g ∷ fs) (p ∷ ps) steps h is =
+      let e : k + suc (length fs) ≡ k + 1 + length fs = omega arith in
+      let within = count-within steps h.0 in (
+        subst (IsPlan layout file es k g p) (sym (take-append-le p.step_count steps own within)) h.0,
+        subst (ArePlans layout file es (k + 1) (fs ++ f ∷ []) (ps ++ plan ∷ [])) (sym (drop-append-le p.step_count steps own within))
+            (plans-more (k + 1) fs ps (drop p.step_count steps) h.1 (subst (λ n. IsPlan layout file es n f plan own) e is)),
+      )
 
 -- of two refusals the first is kept
 first-kept : (o p : Option Error) (placed : Result (Unit {0}) Error) (e : Error) → TellsNaming o placed → (e ≢ OutOfMemory → e ≢ FormatError → p ≡ Some e)
@@ -145,17 +168,18 @@ some-kept (Err x) e P = tt
 
 module _ {Id : Type 0} (layout : Layout) (file : Id → FileModel) (es : List Entry) (refusal : Refusals Id) where
   -- the numbers of these files are answered, the first refusal of their places is kept, and where no place is refused these are their plans
-  pub record ArePlanned (files : List (GivenFile Id)) (now : List (SheetFile Id)) (placed : Result (Unit {0}) Error) : Type 0 where
+  pub record ArePlanned (files : List (GivenFile Id)) (now : List (SheetFile Id)) (steps : List (GivenStep Id)) (placed : Result (Unit {0}) Error) : Type 0 where
     pub answered : first_refusal refusal (number_lookups layout es (ids_given files)) ≡ None
     pub kept : TellsNaming (first_refusal refusal (place_lookups files)) placed
-    pub plans : IfOk placed (λ _. ArePlans layout file es 0 files now)
+    pub plans : IfOk placed (λ _. ArePlans layout file es 0 files now steps)
 
-module _ {Id : Type 0} {layout : Layout} {file : Id → FileModel} {es : List Entry} {refusal : Refusals Id} {now : List (SheetFile Id)} {placed : Result (Unit {0}) Error} where
+module _ {Id : Type 0} {layout : Layout} {file : Id → FileModel} {es : List Entry} {refusal : Refusals Id} {now : List (SheetFile Id)} {steps : List (GivenStep Id)}
+    {placed : Result (Unit {0}) Error} where
   -- past the last file the lookups of all are refused with what is kept
-  pub plans-tell : (files : List (GivenFile Id)) (k : ℕ) → length files ≤ k → ArePlanned layout file es refusal (take k files) now placed
+  pub plans-tell : (files : List (GivenFile Id)) (k : ℕ) → length files ≤ k → ArePlanned layout file es refusal (take k files) now steps placed
       → TellsNaming (first_refusal refusal (number_lookups layout es (ids_given files) ++ place_lookups files)) placed
   plans-tell files k past found =
-      let all = subst (λ (fs : List (GivenFile Id)). ArePlanned layout file es refusal fs now placed) (take_all k files past) found in
+      let all = subst (λ (fs : List (GivenFile Id)). ArePlanned layout file es refusal fs now steps placed) (take_all k files past) found in
       let numbers = number_lookups layout es (ids_given files) in
       subst (λ o. TellsNaming o placed) (sym (first_refusal-none refusal numbers (place_lookups files) all.answered)) all.kept
 
@@ -179,8 +203,8 @@ module _ {Id : Type 0} {files : List (GivenFile Id)} {k : ℕ} {f : GivenFile Id
       → first_refusal refusal (place_lookups (take (k + 1) files)) ≡ or_refusal (first_refusal refusal (place_lookups (take k files))) (first_refusal refusal (place_asked f))
   place-refuses refusal = ap (first_refusal refusal) places-more ∙ first_refusal-append refusal (place_lookups (take k files)) (place_asked f)
 
-  module _ {layout : Layout} {file : Id → FileModel} {es : List Entry} {refusal : Refusals Id} {now : List (SheetFile Id)} {placed : Result (Unit {0}) Error}
-      (before : ArePlanned layout file es refusal (take k files) now placed) where
+  module _ {layout : Layout} {file : Id → FileModel} {es : List Entry} {refusal : Refusals Id} {now : List (SheetFile Id)} {steps : List (GivenStep Id)}
+      {placed : Result (Unit {0}) Error} (before : ArePlanned layout file es refusal (take k files) now steps placed) where
     -- the lookups of the numbers of a file's lines
     abbrev asked_at : ℕ → Id → List (Id × Lookup)
     asked_at i id = asked_of id (numbers_asked layout (fills_of (steps_at es i)))
@@ -192,35 +216,36 @@ module _ {Id : Type 0} {files : List (GivenFile Id)} {k : ℕ} {f : GivenFile Id
         ∙ first_refusal-none refusal (number_lookups layout es (ids_given (take k files))) (asked_at k f.id) before.answered
 
     -- the plans with this one
-    plans-with : {new : List (SheetFile Id)} {plan : SheetFile Id} → new ≡ now ++ plan ∷ [] → IsPlan layout file es k f plan
-        → ArePlans layout file es 0 (take k files) now → ArePlans layout file es 0 (take (k + 1) files) new
-    plans-with {new} {plan} whole own found =
+    plans-with : {new : List (SheetFile Id)} {plan : SheetFile Id} {all own : List (GivenStep Id)} → new ≡ now ++ plan ∷ [] → all ≡ steps ++ own → IsPlan layout file es k f plan own
+        → ArePlans layout file es 0 (take k files) now steps → ArePlans layout file es 0 (take (k + 1) files) new all
+    plans-with {new} {plan} {all} {own} whole whole_steps is found =
         let place : k ≡ 0 + length (take k files) = omega (arith, files_before) in
-        let all = plans-more 0 (take k files) now found (subst (λ n. IsPlan layout file es n f plan) place own) in
-        subst (λ fs. ArePlans layout file es 0 fs new) (sym (take-at here)) (subst (ArePlans layout file es 0 (take k files ++ f ∷ [])) (sym whole) all)
+        let planned = plans-more 0 (take k files) now steps found (subst (λ n. IsPlan layout file es n f plan own) place is) in
+        subst (λ fs. ArePlans layout file es 0 fs new all) (sym (take-at here))
+        (subst₂ (ArePlans layout file es 0 (take k files ++ f ∷ [])) (sym whole) (sym whole_steps) planned)
 
     -- it is planned too
-    pub planned-more : {new : List (SheetFile Id)} {plan : SheetFile Id} → new ≡ now ++ plan ∷ [] → IsPlan layout file es k f plan
+    pub planned-more : {new : List (SheetFile Id)} {plan : SheetFile Id} {all own : List (GivenStep Id)} → new ≡ now ++ plan ∷ [] → all ≡ steps ++ own → IsPlan layout file es k f plan own
         → first_refusal refusal (asked_at k f.id) ≡ None → first_refusal refusal (place_asked f) ≡ None
-        → ArePlanned layout file es refusal (take (k + 1) files) new placed
-    planned-more {new} whole own answered there = record {
+        → ArePlanned layout file es refusal (take (k + 1) files) new all placed
+    planned-more {new} {all = all} whole whole_steps is answered there = record {
       answered = asked-more ∙ answered;
       kept =
           let others = first_refusal refusal (place_lookups (take k files)) in
           subst (λ o. TellsNaming o placed) (sym (place-refuses refusal ∙ ap (or_refusal others) there ∙ or_refusal-none others)) before.kept;
       plans =
-          IfOk-weaker placed (λ _. ArePlans layout file es 0 (take k files) now) (λ _. ArePlans layout file es 0 (take (k + 1) files) new)
-          (λ _ found. plans-with whole own found) before.plans;
+          IfOk-weaker placed (λ _. ArePlans layout file es 0 (take k files) now steps) (λ _. ArePlans layout file es 0 (take (k + 1) files) new all)
+          (λ _ found. plans-with whole whole_steps is found) before.plans;
     }
 
     -- its numbers are answered, and its place is refused
-    pub planned-unplaced : {e : Error} → first_refusal refusal (asked_at k f.id) ≡ None
+    pub planned-unplaced : {all : List (GivenStep Id)} {e : Error} → first_refusal refusal (asked_at k f.id) ≡ None
         → (e ≢ OutOfMemory → e ≢ FormatError → first_refusal refusal (place_asked f) ≡ Some e)
-        → ArePlanned layout file es refusal (take (k + 1) files) now (result_and placed (Err e))
-    planned-unplaced {e} answered told = record {
+        → ArePlanned layout file es refusal (take (k + 1) files) now all (result_and placed (Err e))
+    planned-unplaced {all} {e} answered told = record {
       answered = asked-more ∙ answered;
       kept = subst (λ o. TellsNaming {T = Unit {0}} o (result_and placed (Err e))) (sym (place-refuses refusal)) (first-kept _ _ placed e before.kept told);
-      plans = some-kept placed e (λ _. ArePlans layout file es 0 (take (k + 1) files) now);
+      plans = some-kept placed e (λ _. ArePlans layout file es 0 (take (k + 1) files) now all);
     }
 
     -- what its numbers are refused with refuses all

@@ -1,7 +1,7 @@
 -- A rich picture, drawn part by part: its header, its snippets, and its notes.
-use Rattle.std.proofs.Common.{◌≡◌, ◌≢◌, ◌<◌, Bool, true, List, [], ◌∷◌, ◌++◌, length, map, None, Some, Result, Ok, Err, ⊎_elim, refl, sym, subst, ap, ◌∙◌, arith}
+use Rattle.std.proofs.Common.{◌≡◌, ◌≢◌, ◌<◌, Bool, true, List, [], ◌∷◌, ◌++◌, length, drop, map, None, Some, Result, Ok, Err, ⊎_elim, refl, sym, subst, ap, ◌∙◌, arith}
 use Rattle.std.specs.Prelude.{IfErr}
-use Rattle.std.specs.List.{AllByRecursion, AllZip}
+use Rattle.std.specs.List.{AllZip}
 use Rattle.std.proofs.lemmas.Grind.{flat_map-append}
 use Rattle.std.proofs.lemmas.List.{append_assoc, length-map, nil_from_length}
 use Rattle.codespan_base.specs.declared.term.config.Config.{Config}
@@ -17,9 +17,10 @@ use Rattle.codespan_base.specs.WriterLaw.{Sink, Sends, Began, is_told, sent}
 use Rattle.codespan_base.proofs.Sends.{Began-first, Began-last, sent-nil}
 use Rattle.codespan_reporting.specs.declared.term.views.sheet.Sheet.{Sheet}
 use Rattle.codespan_reporting.specs.declared.term.views.sheet.SheetFile.{SheetFile}
+use Rattle.codespan_reporting.specs.declared.term.views.steps.Step.{Step as GivenStep}
 use Rattle.codespan_reporting.specs.Inner.AskedLabels.{labels_refusal}
 use Rattle.codespan_reporting.specs.Inner.Asking.{Came, Stopped, EndedAsking, SendsAsking}
-use Rattle.codespan_reporting.specs.Inner.GivenSheets.{IsPrepared, IsSheetFile, ids_of, places_of, sheet_refusal}
+use Rattle.codespan_reporting.specs.Inner.GivenSheets.{AreSheetFiles, IsPrepared, ids_of, places_of, sheet_refusal}
 use Rattle.codespan_reporting.specs.Inner.Tables.{FileTable}
 use Rattle.codespan_reporting.specs.Headline.{DrawsRich, ForSomeNames, NamesAreStated, drawn_picture}
 use Rattle.codespan_picture.specs.Lookups.{Refusals, early_lookups, first_refusal, late_lookups}
@@ -147,12 +148,12 @@ module _ {Id : Type 0} {view : Config} {table : FileTable Id} {d : Diagnostic Id
   -- where the snippets start are places of the files
   places-are : AllZip IsPlaceOfFile (labelled_files table.same table.file (labels_of d)) (places_of sheet.files.items)
   places-are =
-      subst (λ (ids : List Id). AllZip IsPlaceOfFile (map (labelled_file table.same table.file (labels_of d)) ids) (places_of sheet.files.items)) ready.prepared.ids_are (from sheet.files.items ready.prepared.files_are)
+      subst (λ (ids : List Id). AllZip IsPlaceOfFile (map (labelled_file table.same table.file (labels_of d)) ids) (places_of sheet.files.items)) ready.prepared.ids_are (from sheet.files.items sheet.steps.items ready.prepared.files_are)
     where
-      from : (fs : List (SheetFile Id)) → AllByRecursion (λ (f : SheetFile Id). IsSheetFile view (labelled_file table.same table.file (labels_of d) f.file.now.id) f) fs
+      from : (fs : List (SheetFile Id)) (steps : List (GivenStep Id)) → AreSheetFiles table view (labels_of d) fs steps
           → AllZip IsPlaceOfFile (map (labelled_file table.same table.file (labels_of d)) (ids_of fs)) (places_of fs)
-      from [] are = tt
-      from (f ∷ fs) are = (are.0.place, from fs are.1)
+      from [] steps are = tt
+      from (f ∷ fs) steps are = (are.0.place, from fs (drop f.step_count steps) are.1)
 
   -- the picture with these places is all of these
   placed-is : (renderer : Config) → ForSomeNames renderer view table.same table.file table.refusal d Rich (λ s. s ≡ whole renderer)

@@ -1,26 +1,27 @@
 -- The snippets of a sheet, one after another.
-use Rattle.std.proofs.Common.{◌≡◌, ℕ, zero, suc, ◌+◌, ◌-◌, ◌<◌, ◌≤◌, Bool, true, false, ◌||◌, List, [], ◌∷◌, ◌++◌, length, drop, get_or, map, Option, None, Result, Ok, Err, refl, sym, subst, subst₂, ap, ◌∙◌, arith, lt-ltb}
-use Rattle.std.specs.Prelude.{flat_map, nat_lt, if◌then◌else◌}
+use Rattle.std.proofs.Common.{◌≡◌, ℕ, zero, suc, ◌+◌, ◌-◌, ◌<◌, ◌≤◌, Bool, true, false, ◌||◌, List, [], ◌∷◌, ◌++◌, length, take, drop, get_or, map, Option, None, Result, Ok, Err, refl, sym, subst, subst₂, ap, ◌∙◌, arith, lt-ltb}
+use Rattle.std.specs.Prelude.{IfErr, flat_map, nat_lt, if◌then◌else◌}
+use Rattle.std.proofs.Math.Nat.{add-sub_cancel_left}
 use Rattle.std.proofs.Math.Seq.{drop-cons}
-use Rattle.std.proofs.lemmas.Grind.{common_steps, flat_map-append}
-use Rattle.std.proofs.lemmas.List.{append-nil, append_assoc, get_or-map, length-drop, length-map}
-use Rattle.std.proofs.lemmas.List.Elements.{All-from_recursion}
+use Rattle.std.proofs.lemmas.Grind.{common_steps}
+use Rattle.std.proofs.lemmas.List.{append-nil, append_assoc, drop-drop, get_or-map, length-drop, length-map, length-take}
 use Rattle.codespan_base.specs.declared.term.config.Config.{Config}
 use Rattle.codespan_base.specs.declared.files.Error.{Error}
 use Rattle.codespan_base.specs.FileModel.{Lookup, or_refusal}
-use Rattle.codespan_base.specs.Streams.{Stream, newline}
-use Rattle.codespan_base.specs.WriterLaw.{Sink}
-use Rattle.codespan_reporting.specs.Inner.Asking.{SendsAsking}
+use Rattle.codespan_base.specs.Streams.{Stream}
+use Rattle.codespan_base.specs.WriterLaw.{Sends, Sink}
+use Rattle.codespan_base.specs.Errors.{IsIo}
+use Rattle.codespan_reporting.specs.Inner.Asking.{Came, SendsAsking}
 use Rattle.codespan_picture.specs.Placed.{placed_snippet, placed_snippets}
 use Rattle.codespan_picture.specs.Lookups.{asked_of, first_refusal, late_lookups, snippet_lookups}
 use Rattle.codespan_picture.specs.Picture.{labels_of, look_of, notes_of}
 use Rattle.codespan_picture.specs.Rows.{EmptyRow, Look, Place, Row, StartRow}
-use Rattle.codespan_picture.specs.RowStreams.{stream_of, stream_of_rows}
+use Rattle.codespan_picture.specs.RowStreams.{stream_of_rows}
 use Rattle.codespan_picture.specs.Snippets.{InFile, LabelledFile, bare_lanes, has_any, is_followed, labelled_file, labelled_files, lane_count}
 use Rattle.codespan_base.specs.FileModel.Lookup.{Source}
 use Rattle.codespan_picture.specs.Given.{place_of_given}
-use Rattle.codespan_reporting.specs.Inner.GivenSheets.{IsPrepared, IsSheetFile, ids_of, places_of}
-use Rattle.codespan_reporting.specs.Inner.GivenSnippets.{lookups_with, rows_in}
+use Rattle.codespan_reporting.specs.Inner.GivenSheets.{AreSheetFiles, IsPrepared, IsSheetFile, ids_of, places_of}
+use Rattle.codespan_reporting.specs.Inner.GivenSnippets.{end_rows, lookups_with, rows_in}
 use Rattle.codespan_reporting.specs.Inner.GivenSteps.{step_of}
 use Rattle.codespan_reporting.specs.Inner.Lanes.{lane_given}
 use Rattle.codespan_reporting.specs.Inner.Tables.{FileTable}
@@ -29,9 +30,12 @@ use Rattle.codespan_reporting.specs.Views.{diagnostic_of, view_config_of}
 use Rattle.codespan_reporting.specs.declared.term.views.rich.RichDiagnostic.{RichDiagnostic}
 use Rattle.codespan_reporting.specs.declared.term.views.sheet.Sheet.{Sheet}
 use Rattle.codespan_reporting.specs.declared.term.views.sheet.SheetFile.{SheetFile}
-use Rattle.codespan_reporting.proofs.Askings.{IsAsking, asking_as, asking_cut, asking_nothing, asking_then, first_refusal-append}
+use Rattle.codespan_reporting.specs.declared.term.views.steps.Step.{Step as GivenStep}
+use Rattle.codespan_reporting.proofs.Askings.{IsAsking, asking_as, asking_cut, asking_nothing, asking_of_sends, asking_then, first_refusal-append, or_refusal-none}
+use Rattle.codespan_reporting.proofs.FileParts.{next_part}
 use Rattle.codespan_reporting.proofs.LabelPlaces.{StandsAt}
 use Rattle.codespan_reporting.proofs.LaneMarks.{file_lanes-count}
+use Rattle.codespan_reporting.proofs.SnippetParts.{rows-two, sends_at}
 
 -- the elements from one on: that one, and those after it
 pub drop-one : {X : Type 0} (xs : List X) (k : ℕ) (x : X) → k < length xs → x ≡ get_or xs k x → drop k xs ≡ x ∷ drop (k + 1) xs
@@ -44,10 +48,6 @@ drop-end [] zero past = refl
 drop-end [] (suc k) past = refl
 drop-end (x ∷ xs) zero past = absurd (omega arith)
 drop-end (x ∷ xs) (suc k) past = drop-end xs k (omega arith)
-
--- the streams of rows, one after the other
-pub rows-two : (look : Look) (a b : List Row) → stream_of_rows look (a ++ b) ≡ stream_of_rows look a ++ stream_of_rows look b
-rows-two look a b = flat_map-append (λ r. stream_of look r ++ newline) a b
 
 -- ---- what follows a snippet
 
@@ -89,22 +89,52 @@ module _ {Id : Type 0} {files : List (SheetFile Id)} {k : ℕ} {f : SheetFile Id
   place-at : place_of_given f.locus ≡ get_or (places_of files) k (place_of_given f.locus)
   place-at = ap (λ (g : SheetFile Id). place_of_given g.locus) at.is ∙ sym (get_or-map (λ (g : SheetFile Id). place_of_given g.locus) files k f (place_of_given f.locus) at.inside)
 
--- it is the file of its labels
-pub is-sheet_file : {Id : Type 0} {table : FileTable Id} {config : Config} {xs : List (InFile Id)} {sheet : Sheet Id} {k : ℕ} {f : SheetFile Id}
-    → IsPrepared table config xs sheet → StandsAt sheet.files.items k f → IsSheetFile config (labelled_file table.same table.file xs f.file.now.id) f
-is-sheet_file {Id} {table} {config} {xs} {sheet} {k} {f} prepared at =
-    let Is : SheetFile Id → Type 0 = λ h. IsSheetFile config (labelled_file table.same table.file xs h.file.now.id) h in
-    subst Is (sym at.is) (All-from_recursion Is sheet.files.items prepared.files_are k f at.inside)
+module _ {Id : Type 0} (table : FileTable Id) (config : Config) (xs : List (InFile Id)) where
+  -- the file is that of its labels, with the steps that it counts in front, and the rest is of the files after it
+  abbrev pub IsFirstFile : List (SheetFile Id) → SheetFile Id → List (GivenStep Id) → Type 0
+  IsFirstFile later f steps =
+      IsSheetFile config (labelled_file table.same table.file xs f.file.now.id) f (take f.step_count steps) × AreSheetFiles table config xs later (drop f.step_count steps)
 
-module _ {Id : Type 0} {config : Config} {own : LabelledFile} {f : SheetFile Id} (is : IsSheetFile config own f) where
+  -- the files from a place on are those of their labels, with the steps from a place on
+  pub record AreFilesFrom (files : List (SheetFile Id)) (k : ℕ) (steps : List (GivenStep Id)) (start : ℕ) : Type 0 where
+    pub inside : start ≤ length steps
+    pub are : AreSheetFiles table config xs (drop k files) (drop start steps)
+
+module _ {Id : Type 0} {table : FileTable Id} {config : Config} {xs : List (InFile Id)} {files : List (SheetFile Id)} {k : ℕ} {f : SheetFile Id} {steps : List (GivenStep Id)} {start : ℕ}
+    (at : StandsAt files k f) (from : AreFilesFrom table config xs files k steps start) where
+  -- from the file at a place on they are that file, and those after it
+  files-at : IsFirstFile table config xs (drop (k + 1) files) f (drop start steps)
+  files-at = subst (λ (fs : List (SheetFile Id)). AreSheetFiles table config xs fs (drop start steps)) (drop-one files k f at.inside at.is) from.are
+
+  -- there are as many steps as it counts
+  pub own-inside : start + f.step_count ≤ length steps
+  own-inside =
+      let count = files-at.0.count_is in
+      let inside = from.inside in
+      omega (arith, count, inside, length-take f.step_count (drop start steps), length-drop start steps)
+
+  -- it is the file of its labels, with these steps
+  pub own-steps : {zs : List (GivenStep Id)} → zs ≡ steps → IsSheetFile config (labelled_file table.same table.file xs f.file.now.id) f (next_part zs start f.step_count)
+  own-steps same =
+      subst₂ (λ n (ss : List (GivenStep Id)). IsSheetFile config (labelled_file table.same table.file xs f.file.now.id) f (take n (drop start ss)))
+      (sym (add-sub_cancel_left start f.step_count)) (sym same) files-at.0
+
+  -- the later files are those of their labels, with the steps after these
+  pub later-files : AreFilesFrom table config xs files (k + 1) steps (start + f.step_count)
+  later-files = record {
+    inside = own-inside;
+    are = subst (AreSheetFiles table config xs (drop (k + 1) files)) (drop-drop f.step_count start steps) files-at.1;
+  }
+
+module _ {Id : Type 0} {config : Config} {own : LabelledFile} {f : SheetFile Id} {steps : List (GivenStep Id)} (is : IsSheetFile config own f steps) where
   -- it has as many lanes as its labels need
   lanes-count : length f.file.now.lanes.items ≡ lane_count own
   lanes-count = sym (length-map f.file.now.lanes.items lane_given) ∙ ap length is.lanes_are ∙ file_lanes-count own
 
   -- its rows
-  rows-are : (followed : Bool) → rows_in f own.file followed ≡ placed_snippet config followed (place_of_given f.locus) own
+  rows-are : (followed : Bool) → rows_in f own.file steps ++ end_rows f followed ≡ placed_snippet config followed (place_of_given f.locus) own
   rows-are followed =
-      (λ i. (StartRow (place_of_given f.locus) ∷ EmptyRow (record { count = lanes-count i; marks = [] }) ∷ []) ++ rows_of_steps own.file (is.lanes_are i) (map step_of f.steps.items)
+      (λ i. (StartRow (place_of_given f.locus) ∷ EmptyRow (record { count = lanes-count i; marks = [] }) ∷ []) ++ rows_of_steps own.file (is.lanes_are i) (map step_of steps)
       ++ (if followed then EmptyRow (record { count = lanes-count i; marks = [] }) ∷ [] else []))
       ∙ ap (λ (r : List Row). (StartRow (place_of_given f.locus) ∷ EmptyRow (bare_lanes own) ∷ []) ++ r ++ (if followed then EmptyRow (bare_lanes own) ∷ [] else [])) is.rows
 
@@ -204,7 +234,8 @@ module _ {Id : Type 0} {table : FileTable Id} {view : RichDiagnostic Id} {render
       no-rows [] = refl
       no-rows (p ∷ ps) = refl
 
-  module _ {f : SheetFile Id} {notes : Bool} {count : ℕ} {now : Config} (at : StandsAt sheet.files.items k f) (notes_are : notes ≡ has_notes) (count_is : count ≡ length sheet.files.items) (alike : now ≡ renderer) where
+  module _ {f : SheetFile Id} {steps : List (GivenStep Id)} {notes : Bool} {count : ℕ} {now : Config} (at : StandsAt sheet.files.items k f)
+      (is : IsSheetFile (view_config_of view) (labelled table view f.file.now.id) f steps) (notes_are : notes ≡ has_notes) (count_is : count ≡ length sheet.files.items) (alike : now ≡ renderer) where
     -- the file with its labels
     abbrev own : LabelledFile
     own = labelled table view f.file.now.id
@@ -231,26 +262,41 @@ module _ {Id : Type 0} {table : FileTable Id} {view : RichDiagnostic Id} {render
     asked-next : asks k ≡ asked_here ++ asks (k + 1)
     asked-next = ap (flat_map (snippet_asked table view)) (drop-one ids k f.file.now.id (id-inside at) (id-at at))
 
-    -- the call draws it so: its own lookups, and its own rows, by an equal configuration
-    abbrev DrawsHere : Result (Unit {0}) Error → Sink → Type 0
-    DrawsHere r new =
-        SendsAsking (first_refusal table.refusal (asked_of f.file.now.id (lookups_with f))) mid (stream_of_rows (look_by now) (rows_in f (table.file f.file.now.id) (notes || nat_lt (k + 1) count))) r new
+    -- something follows the file
+    abbrev follows : Bool
+    follows = notes || nat_lt (k + 1) count
 
-    -- these are the rows and the lookups at the place
-    drawn-here : (r : Result (Unit {0}) Error) (new : Sink) → DrawsHere r new → IsAsking (first_refusal table.refusal asked_here) mid (stream_of_rows look rows_here) r new
-    drawn-here r new draws =
-        let is = is-sheet_file prepared at in
-        let followed : (notes || nat_lt (k + 1) count) ≡ is_followed has_notes (drop (k + 1) ids) =
+    -- the rows of its snippet, and the row after it
+    abbrev snippet_stream : Stream
+    snippet_stream = stream_of_rows look (rows_in f (table.file f.file.now.id) steps)
+
+    abbrev end_stream : Stream
+    end_stream = stream_of_rows look (end_rows f follows)
+
+    -- its lookups, as its steps make them
+    abbrev steps_refusal : Option Error
+    steps_refusal = first_refusal table.refusal (asked_of f.file.now.id (lookups_with steps))
+
+    -- the snippet is drawn, by an equal configuration
+    snippet-here : {r : Result (Unit {0}) Error} {new : Sink} → SendsAsking steps_refusal mid (stream_of_rows (look_by now) (rows_in f (table.file f.file.now.id) steps)) r new
+        → IsAsking steps_refusal mid snippet_stream r new
+    snippet-here draws = asking_as refl (λ i. stream_of_rows (look_by (alike i)) (rows_in f (table.file f.file.now.id) steps)) (record { draws = draws })
+
+    -- both are the rows and the lookups at the place
+    drawn-here : {r : Result (Unit {0}) Error} {new : Sink} → IsAsking (or_refusal steps_refusal None) mid (snippet_stream ++ end_stream) r new
+        → IsAsking (first_refusal table.refusal asked_here) mid (stream_of_rows look rows_here) r new
+    drawn-here both =
+        let followed : follows ≡ is_followed has_notes (drop (k + 1) ids) =
         (λ i. notes_are i || nat_lt (k + 1) ((count_is ∙ sym (ids-count sheet.files.items)) i)) ∙ sym (followed-at has_notes ids k) in
-        asking_as (ap (λ (ls : List Lookup). first_refusal table.refusal (asked_of f.file.now.id (Source ∷ ls))) is.asked)
-        ((λ i. stream_of_rows (look_by (alike i)) (rows-are is (notes || nat_lt (k + 1) count) i))
+        asking_as (or_refusal-none steps_refusal ∙ ap (λ (ls : List Lookup). first_refusal table.refusal (asked_of f.file.now.id (Source ∷ ls))) is.asked)
+        (sym (rows-two look (rows_in f (table.file f.file.now.id) steps) (end_rows f follows))
+        ∙ ap (stream_of_rows look) (rows-are is follows)
         ∙ ap (λ (b : Bool). stream_of_rows look (placed_snippet (view_config_of view) b (place_of_given f.locus) own)) followed)
-        (record { draws = draws })
+        both
 
     -- the file is drawn
-    pub left-next : {new : Sink} → DrawsHere (Ok tt) new → SnippetsLeft table view sheet renderer (k + 1) old new
-    left-next {new} draws =
-        let drawn = drawn-here (Ok tt) new draws in
+    left-next : {new : Sink} → IsAsking (first_refusal table.refusal asked_here) mid (stream_of_rows look rows_here) (Ok tt) new → SnippetsLeft table view sheet renderer (k + 1) old new
+    left-next drawn =
         record {
           rows = left.rows ++ rows_here;
           drawn = asking_as drawn.draws.0 (sym (rows-two look left.rows rows_here)) (asking_then left.drawn drawn);
@@ -261,8 +307,9 @@ module _ {Id : Type 0} {table : FileTable Id} {view : RichDiagnostic Id} {render
         }
 
     -- the file was cut short
-    pub left-cut : {new : Sink} {e : Error} → DrawsHere (Err e) new → SendsAsking all_refusal old (stream_of_rows look all_rows) (Err e) new
-    left-cut {new} {e} draws =
+    left-cut : {new : Sink} {e : Error} → IsAsking (first_refusal table.refusal asked_here) mid (stream_of_rows look rows_here) (Err e) new
+        → SendsAsking all_refusal old (stream_of_rows look all_rows) (Err e) new
+    left-cut drawn =
         let here = first_refusal table.refusal asked_here in
         let after = first_refusal table.refusal (asks (k + 1)) in
         (asking_as
@@ -271,4 +318,26 @@ module _ {Id : Type 0} {table : FileTable Id} {view : RichDiagnostic Id} {render
         ∙ sym (first_refusal-append table.refusal left.asked (asks k)) ∙ ap (first_refusal table.refusal) left.asked_whole ∙ refusal-all)
         (ap (λ (s : Stream). stream_of_rows look left.rows ++ s) (sym (rows-two look rows_here (rest (k + 1))) ∙ ap (stream_of_rows look) (sym rows-next))
         ∙ sym (rows-two look left.rows (rest k)) ∙ ap (stream_of_rows look) (left.rows_whole ∙ rows-all))
-        (asking_then left.drawn (asking_cut after (stream_of_rows look (rest (k + 1))) (drawn-here (Err e) new draws)))).draws
+        (asking_then left.drawn (asking_cut after (stream_of_rows look (rest (k + 1))) drawn))).draws
+
+    -- the snippet was cut short
+    pub cut-in_snippet : {new : Sink} {e : Error} → SendsAsking steps_refusal mid (stream_of_rows (look_by now) (rows_in f (table.file f.file.now.id) steps)) (Err e) new
+        → SendsAsking all_refusal old (stream_of_rows look all_rows) (Err e) new
+    cut-in_snippet draws = left-cut (drawn-here (asking_cut None end_stream (snippet-here draws)))
+
+    module _ {inner : Sink} (draws : SendsAsking steps_refusal mid (stream_of_rows (look_by now) (rows_in f (table.file f.file.now.id) steps)) (Ok tt) inner)
+        {after : Config} (alike_after : after ≡ now) where
+      -- then the row after it was drawn, by an equal configuration, however that ends
+      end-here : {r : Result (Unit {0}) Error} {new : Sink} → Sends inner (stream_of_rows (look_by after) (end_rows f follows)) r new → IfErr r IsIo
+          → IsAsking (first_refusal table.refusal asked_here) mid (stream_of_rows look rows_here) r new
+      end-here {r} {new} sends io =
+          drawn-here (asking_then (snippet-here draws) (asking_of_sends r (sends_at (λ (c : Config). stream_of_rows (look_by c) (end_rows f follows)) (alike_after ∙ alike) inner new r sends) io))
+
+      -- it came
+      pub next-file : {new : Sink} → Came inner (stream_of_rows (look_by after) (end_rows f follows)) new → SnippetsLeft table view sheet renderer (k + 1) old new
+      next-file came = left-next (end-here came tt)
+
+      -- it was cut short
+      pub cut-after_snippet : {new : Sink} {e : Error} → Sends inner (stream_of_rows (look_by after) (end_rows f follows)) (Err e) new → IsIo e
+          → SendsAsking all_refusal old (stream_of_rows look all_rows) (Err e) new
+      cut-after_snippet sends io = left-cut (end-here sends io)

@@ -20,7 +20,7 @@ use Rattle.codespan_reporting.proofs.Gathering.{gathered-each, gathered-says}
 use Rattle.codespan_reporting.proofs.FileParts.{gathered-sorted}
 
 -- what was gathered, put in order
-pub gathered-in_order : {Id : Type 0} {table : FileTable Id} {config : Config} {xs : List (InFile Id)} {was : Gathered Id} (entries : Vec GivenEntry Global) → IsGatheredInTurn table config xs was
+pub gathered-in_order : {Id : Type 0} {table : FileTable Id} {config : Config} {xs : List (InFile Id)} {was : Gathered Id} (entries : Vec (GivenEntry Id) Global) → IsGatheredInTurn table config xs was
     → IsPermutation was.entries.items entries.items → IsSortedBy is_below (map entry_of entries.items) → IsGathered table config xs (record was { entries = entries })
 gathered-in_order {Id} {table} {config} {xs} {was} entries g perm up =
     let of_files = IsOfFiles table.file (ids_given was.files.items) in

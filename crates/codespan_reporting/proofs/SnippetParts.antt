@@ -1,6 +1,5 @@
--- A snippet, drawn part by part: the lookup of its source, its first rows, its lines, and the row after it.
-use Rattle.std.proofs.Common.{◌≡◌, Bool, List, ◌++◌, map, Option, None, Result, Ok, Err, sym, subst, ap, ◌∙◌}
-use Rattle.std.specs.Prelude.{IfErr}
+-- A snippet, drawn part by part: the lookup of its source, its first rows, and its lines.
+use Rattle.std.proofs.Common.{◌≡◌, List, ◌++◌, map, Option, None, Result, Ok, Err, refl, sym, subst}
 use Rattle.std.proofs.lemmas.Grind.{flat_map-append}
 use Rattle.codespan_base.specs.declared.files.Error.{Error}
 use Rattle.codespan_base.specs.declared.term.config.Config.{Config}
@@ -14,7 +13,7 @@ use Rattle.codespan_reporting.specs.declared.term.views.lines.Page.{Page}
 use Rattle.codespan_reporting.specs.declared.term.views.sheet.SheetFile.{SheetFile}
 use Rattle.codespan_reporting.specs.declared.term.views.steps.Step.{Step}
 use Rattle.codespan_reporting.specs.Inner.Asking.{Came, SendsAsking}
-use Rattle.codespan_reporting.specs.Inner.GivenSnippets.{end_rows, start_rows}
+use Rattle.codespan_reporting.specs.Inner.GivenSnippets.{start_rows}
 use Rattle.codespan_reporting.specs.Inner.GivenSteps.{asked_by_all, step_of}
 use Rattle.codespan_reporting.specs.Inner.Lanes.{lanes_given}
 use Rattle.codespan_reporting.specs.Inner.Steps.{rows_of_steps}
@@ -24,13 +23,11 @@ use Rattle.codespan_picture.specs.Picture.{look_of}
 use Rattle.codespan_picture.specs.Rows.{Look, Row}
 use Rattle.codespan_picture.specs.RowStreams.{stream_of, stream_of_rows}
 use Rattle.codespan_base.proofs.Chains.{came-then, stopped-then}
-use Rattle.codespan_reporting.proofs.Askings.{IsAsking, asking_after, asking_as, asking_cut, asking_of_sends, asking_then, or_refusal-none}
+use Rattle.codespan_reporting.proofs.Askings.{IsAsking, asking_after, asking_as, asking_cut, asking_of_sends, asking_then}
 
--- the stream of three parts
-rows-three : (look : Look) (a b c : List Row) → stream_of_rows look (a ++ b ++ c) ≡ stream_of_rows look a ++ stream_of_rows look b ++ stream_of_rows look c
-rows-three look a b c =
-    let row : Row → Stream = λ r. stream_of look r ++ newline in
-    flat_map-append row (a ++ b) c ∙ ap (λ (s : Stream). s ++ stream_of_rows look c) (flat_map-append row a b)
+-- the streams of rows, one after the other
+pub rows-two : (look : Look) (a b : List Row) → stream_of_rows look (a ++ b) ≡ stream_of_rows look a ++ stream_of_rows look b
+rows-two look a b = flat_map-append (λ r. stream_of look r ++ newline) a b
 
 -- a call that sends what a configuration decides sends it by an equal one
 pub sends_at : {K : Type 0} (f : K → Stream) {k m : K} → m ≡ k → (s t : Sink) (r : Result (Unit {0}) Error) → Sends s (f m) r t → Sends s (f k) r t
@@ -43,13 +40,13 @@ sends_after s t u a b (Err e) came sends = stopped-then a came sends
 
 -- ---- the snippet of a file
 
-module _ {F Id : Type 0} (table : F → FileTable Id) (page : Page F) (snippet : SheetFile Id) (is_followed : Bool) (config : Config) where
+module _ {F Id : Type 0} (table : F → FileTable Id) (page : Page F) (snippet : SheetFile Id) (own : List (Step Id)) (config : Config) where
   -- the source of its file was asked for and is there, and so it is drawn
   pub record IsOpen : Type 0 where
     pub answered : (table page.files.now).refusal snippet.file.now.id Source ≡ None
 
-module _ {F Id : Type 0} {table : F → FileTable Id} {page : Page F} {snippet : SheetFile Id} {is_followed : Bool} {config : Config}
-    (opened : IsOpen table page snippet is_followed config) where
+module _ {F Id : Type 0} {table : F → FileTable Id} {page : Page F} {snippet : SheetFile Id} {own : List (Step Id)} {config : Config}
+    (opened : IsOpen table page snippet own config) where
   -- what rows share, as a configuration draws them
   abbrev look_by : Config → Look
   look_by by = look_of by page.severity page.padding
@@ -59,69 +56,48 @@ module _ {F Id : Type 0} {table : F → FileTable Id} {page : Page F} {snippet :
   stream = stream_of_rows (look_by config)
 
   -- the rows of lines, with these lanes and steps
-  abbrev rows_with : List GivenLane → List Step → List Row
+  abbrev rows_with : List GivenLane → List (Step Id) → List Row
   rows_with lanes steps = rows_of_steps ((table page.files.now).file snippet.file.now.id) (lanes_given lanes) (map step_of steps)
 
   -- the rows of its lines
   abbrev line_rows : List Row
-  line_rows = rows_with snippet.file.now.lanes.items snippet.steps.items
+  line_rows = rows_with snippet.file.now.lanes.items own
 
   -- what the lookups of these steps are refused with
-  abbrev asked : List Step → Option Error
+  abbrev asked : List (Step Id) → Option Error
   asked steps = first_refusal (table page.files.now).refusal (asked_of snippet.file.now.id (asked_by_all steps))
 
-  -- the streams of its first rows, of its lines, and of the row after it
+  -- the streams of its first rows, and of its lines
   abbrev at_start : Stream
   at_start = stream (start_rows snippet)
 
   abbrev in_lines : Stream
   in_lines = stream line_rows
 
-  abbrev at_end : Stream
-  at_end = stream (end_rows snippet is_followed)
-
   -- a call draws all of it, and makes all its lookups
   abbrev DrawsWhole : Sink → Result (Unit {0}) Error → Sink → Type 0
   DrawsWhole s r t =
-      SendsAsking (or_refusal ((table page.files.now).refusal snippet.file.now.id Source) (asked snippet.steps.items)) s (stream (start_rows snippet ++ line_rows ++ end_rows snippet is_followed)) r t
+      SendsAsking (or_refusal ((table page.files.now).refusal snippet.file.now.id Source) (asked own)) s (stream (start_rows snippet ++ line_rows)) r t
 
   -- a call draws its lines, and makes their lookups
   abbrev DrawsLines : Sink → Result (Unit {0}) Error → Sink → Type 0
-  DrawsLines s r t = IsAsking (asked snippet.steps.items) s in_lines r t
+  DrawsLines s r t = IsAsking (asked own) s in_lines r t
 
-  -- its first rows, its lines and the row after it, one after another
-  whole-drawn : {s t : Sink} (r : Result (Unit {0}) Error)
-      → IsAsking (or_refusal (asked snippet.steps.items) None) s (at_start ++ in_lines ++ at_end) r t → DrawsWhole s r t
-  whole-drawn r parts =
-      let whole = asking_as (or_refusal-none (asked snippet.steps.items)) (sym (rows-three (look_by config) (start_rows snippet) line_rows (end_rows snippet is_followed))) parts in
-      (asking_after opened.answered whole).draws
+  -- its first rows and its lines, one after the other
+  whole-drawn : {s t : Sink} {r : Result (Unit {0}) Error} → IsAsking (asked own) s (at_start ++ in_lines) r t → DrawsWhole s r t
+  whole-drawn parts = (asking_after opened.answered (asking_as refl (sym (rows-two (look_by config) (start_rows snippet) line_rows)) parts)).draws
 
-  -- the lines were drawn, by an equal configuration, with lanes and steps that are those of the file
-  pub lines-drawn : {lanes : List GivenLane} {steps : List Step} {by : Config} {s t : Sink} {r : Result (Unit {0}) Error}
-      → lanes ≡ snippet.file.now.lanes.items → steps ≡ snippet.steps.items → by ≡ config
-      → SendsAsking (asked steps) s (stream_of_rows (look_by by) (rows_with lanes steps)) r t → DrawsLines s r t
-  lines-drawn own all alike drawn = asking_as (ap asked all) (λ i. stream_of_rows (look_by (alike i)) (rows_with (own i) (all i))) (record { draws = drawn })
+  -- the lines were drawn, by an equal configuration, with lanes that are those of the file
+  pub lines-drawn : {lanes : List GivenLane} {by : Config} {s t : Sink} {r : Result (Unit {0}) Error} → lanes ≡ snippet.file.now.lanes.items → by ≡ config
+      → SendsAsking (asked own) s (stream_of_rows (look_by by) (rows_with lanes own)) r t → DrawsLines s r t
+  lines-drawn all alike drawn = asking_as refl (λ i. stream_of_rows (look_by (alike i)) (rows_with (all i) own)) (record { draws = drawn })
 
   -- the first rows were cut short
   pub snippet-at_start : {s t : Sink} {e : Error} → Sends s at_start (Err e) t → IsIo e → DrawsWhole s (Err e) t
   snippet-at_start {s} {t} {e} sends io =
       let start : IsAsking None s at_start (Err e) t = asking_of_sends (Err e) sends io in
-      whole-drawn (Err e) (asking_cut None at_end (asking_cut (asked snippet.steps.items) in_lines start))
+      whole-drawn (asking_cut (asked own) in_lines start)
 
-  -- the first rows came
-  start-drawn : (s : Sink) {t : Sink} → Came s at_start t → IsAsking None s at_start (Ok tt) t
-  start-drawn s came = asking_of_sends (Ok tt) came tt
-
-  -- the lines were cut short
-  pub snippet-in_lines : {s t u : Sink} {e : Error} → Came s at_start t → DrawsLines t (Err e) u → DrawsWhole s (Err e) u
-  snippet-in_lines {s} {e = e} came lines = whole-drawn (Err e) (asking_cut None at_end (asking_then (start-drawn s came) lines))
-
-  -- the row after it was drawn, by an equal configuration
-  pub end-drawn : {by : Config} {s t : Sink} (r : Result (Unit {0}) Error) → by ≡ config → Sends s (stream_of_rows (look_by by) (end_rows snippet is_followed)) r t → IfErr r IsIo
-      → IsAsking None s at_end r t
-  end-drawn {s = s} {t = t} r alike sends io = asking_of_sends r (sends_at (λ (k : Config). stream_of_rows (look_by k) (end_rows snippet is_followed)) alike s t r sends) io
-
-  -- all lines came, and then that row
-  pub snippet-drawn : (s : Sink) {t u v : Sink} {r : Result (Unit {0}) Error} → Came s at_start t → DrawsLines t (Ok tt) u
-      → IsAsking None u at_end r v → DrawsWhole s r v
-  snippet-drawn s {r = r} came lines end = whole-drawn r (asking_then (asking_then (start-drawn s came) lines) end)
+  -- the first rows came, and then the lines were drawn, however that ends
+  pub snippet-drawn : (s : Sink) {t u : Sink} (r : Result (Unit {0}) Error) → Came s at_start t → DrawsLines t r u → DrawsWhole s r u
+  snippet-drawn s r came lines = whole-drawn (asking_then (asking_of_sends (Ok tt) came tt) lines)

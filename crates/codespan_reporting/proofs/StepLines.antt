@@ -9,12 +9,22 @@ use Rattle.codespan_reporting.specs.Inner.Entries.{Entry}
 use Rattle.codespan_picture.specs.Lines.{is_broken}
 use Rattle.codespan_picture.specs.Rows.{Line, BreakRow, rows_of}
 use Rattle.codespan_picture.specs.Snippets.{drawing, between}
-use Rattle.codespan_reporting.specs.Inner.Steps.{Step, Draw, Fill, Break, gap_after, steps_to, singles_in, line_of_group, rows_of_step, rows_of_steps, fill_of, fills_of, line_of_step, lines_of_steps, does_step_fit}
+use Rattle.codespan_reporting.specs.Inner.Steps.{Step, Draw, Fill, Break, gap_after, steps_to, singles_in, line_of_group, rows_of_step, rows_of_steps, fill_of, fills_of, does_step_fit}
 use Rattle.codespan_reporting.specs.Inner.Lanes.{Lane}
 use Rattle.codespan_reporting.proofs.EntryGroups.{steps_after}
 use Rattle.codespan_laws.proofs.Filling.{gap_gives, given, is_filled, lines-flat, lines-shown, shown_give}
 use Rattle.codespan_laws.proofs.SortedLists.{all-append}
 use Rattle.codespan_renderer.specs.Inner.Sweeps.{starts_in_order}
+
+-- the line of a step that draws one
+abbrev pub line_of_step : Step → List ℕ
+line_of_step (Draw l es) = l ∷ []
+line_of_step (Fill l) = l ∷ []
+line_of_step (Break l) = []
+
+-- the lines that are drawn
+abbrev pub lines_of_steps : List Step → List ℕ
+lines_of_steps steps = flat_map line_of_step steps
 
 -- ---- one shown line after another
 

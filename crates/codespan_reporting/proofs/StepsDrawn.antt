@@ -1,6 +1,6 @@
 -- Steps that are drawn one after another: what is sent and what is asked.
-use Rattle.std.proofs.Common.{◌≡◌, ℕ, ◌+◌, ◌<◌, List, [], ◌∷◌, ◌++◌, length, get_or, take, drop, map, Option, Result, Ok, Err, sym, subst, ap, ◌∙◌, append-nil}
-use Rattle.std.proofs.lemmas.List.{map-append, take-append-drop, take_more}
+use Rattle.std.proofs.Common.{◌≡◌, ℕ, ◌+◌, List, [], ◌∷◌, ◌++◌, take, drop, map, Option, Result, Ok, Err, sym, subst, ap, ◌∙◌, append-nil}
+use Rattle.std.proofs.lemmas.List.{map-append, take-append-drop}
 use Rattle.std.proofs.lemmas.Grind.{flat_map-append}
 use Rattle.codespan_base.specs.declared.files.Error.{Error}
 use Rattle.codespan_base.specs.declared.term.config.Config.{Config}
@@ -19,6 +19,7 @@ use Rattle.codespan_reporting.specs.Inner.Lanes.{lanes_given}
 use Rattle.codespan_reporting.specs.Inner.Steps.{Step, rows_of_step, rows_of_steps}
 use Rattle.codespan_reporting.specs.Inner.Tables.{FileTable}
 use Rattle.codespan_reporting.proofs.Askings.{IsAsking, asking_as, asking_cut, asking_nothing, asking_then, first_refusal-asked}
+use Rattle.codespan_reporting.proofs.LabelPlaces.{StandsAt, take-at}
 
 module _ {F Id Name Source : Type 0} (table : F → FileTable Id) (lines : FileLines F Id Name Source) (config : Config) where
   -- the file
@@ -34,30 +35,30 @@ module _ {F Id Name Source : Type 0} (table : F → FileTable Id) (lines : FileL
   look = look_of config lines.page.now.severity lines.page.now.padding
 
   -- the rows of these steps
-  abbrev rows : List GivenStep → Stream
+  abbrev rows : List (GivenStep Id) → Stream
   rows steps = stream_of_rows look (rows_of_steps f (lanes_given lines.lanes.now) (map step_of steps))
 
   -- what their lookups are refused with
-  abbrev asked_all : List GivenStep → Option Error
+  abbrev asked_all : List (GivenStep Id) → Option Error
   asked_all steps = asked (asked_by_all steps)
 
   -- the call draws a step, with what it asks for
-  abbrev DrawsOne : GivenStep → Sink → Result (Unit {0}) Error → Sink → Type 0
+  abbrev DrawsOne : GivenStep Id → Sink → Result (Unit {0}) Error → Sink → Type 0
   DrawsOne step old r new = SendsAsking (asked (asked_by step)) old (stream_of_rows look (rows_of_step f (lanes_given lines.lanes.now) (step_of step))) r new
 
   -- these steps are drawn, with what they ask for
-  pub record DrawsAll (steps : List GivenStep) (old : Sink) (r : Result (Unit {0}) Error) (new : Sink) : Type 0 where
+  pub record DrawsAll (steps : List (GivenStep Id)) (old : Sink) (r : Result (Unit {0}) Error) (new : Sink) : Type 0 where
     pub drawn : IsAsking (asked_all steps) old (rows steps) r new
 
   -- the rows of steps, one after another
-  rows-append : (xs ys : List GivenStep) → rows (xs ++ ys) ≡ rows xs ++ rows ys
+  rows-append : (xs ys : List (GivenStep Id)) → rows (xs ++ ys) ≡ rows xs ++ rows ys
   rows-append xs ys =
       ap (λ (steps : List Step). stream_of_rows look (rows_of_steps f (lanes_given lines.lanes.now) steps)) (map-append step_of xs ys)
       ∙ ap (stream_of_rows look) (flat_map-append (rows_of_step f (lanes_given lines.lanes.now)) (map step_of xs) (map step_of ys))
       ∙ flat_map-append (λ (row : Row). stream_of look row ++ newline) (rows_of_steps f (lanes_given lines.lanes.now) (map step_of xs)) (rows_of_steps f (lanes_given lines.lanes.now) (map step_of ys))
 
   -- the lookups of steps, one after another
-  asked-append : (xs ys : List GivenStep) → asked_all (xs ++ ys) ≡ or_refusal (asked_all xs) (asked_all ys)
+  asked-append : (xs ys : List (GivenStep Id)) → asked_all (xs ++ ys) ≡ or_refusal (asked_all xs) (asked_all ys)
   asked-append xs ys =
       ap asked (flat_map-append asked_by xs ys) ∙ first_refusal-asked (table lines.page.now.files.now).refusal lines.id (asked_by_all xs) (asked_by_all ys)
 
@@ -67,7 +68,7 @@ module _ {F Id Name Source : Type 0} {table : F → FileTable Id} {lines : FileL
   drawn-nothing = record { drawn = asking_nothing }
 
   -- one step is drawn
-  drawn-one : {step : GivenStep} {s t : Sink} {r : Result (Unit {0}) Error} → DrawsOne table lines config step s r t → DrawsAll table lines config (step ∷ []) s r t
+  drawn-one : {step : GivenStep Id} {s t : Sink} {r : Result (Unit {0}) Error} → DrawsOne table lines config step s r t → DrawsAll table lines config (step ∷ []) s r t
   drawn-one {step} draws = record {
     drawn = asking_as
         (ap (asked table lines config) (sym (append-nil (asked_by step))))
@@ -76,27 +77,26 @@ module _ {F Id Name Source : Type 0} {table : F → FileTable Id} {lines : FileL
   }
 
   -- steps are drawn, and then others, however that ends
-  drawn-then : {xs ys : List GivenStep} {s t u : Sink} {r : Result (Unit {0}) Error} → DrawsAll table lines config xs s (Ok tt) t → DrawsAll table lines config ys t r u
+  drawn-then : {xs ys : List (GivenStep Id)} {s t u : Sink} {r : Result (Unit {0}) Error} → DrawsAll table lines config xs s (Ok tt) t → DrawsAll table lines config ys t r u
       → DrawsAll table lines config (xs ++ ys) s r u
   drawn-then {xs} {ys} first second = record {
     drawn = asking_as (sym (asked-append table lines config xs ys)) (sym (rows-append table lines config xs ys)) (asking_then first.drawn second.drawn);
   }
 
-  -- steps were drawn, and then one more, by an equal configuration, however that ends
-  pub drawn-next : (whole : List GivenStep) (i : ℕ) (d : GivenStep) {now : Config} {s t u : Sink} {r : Result (Unit {0}) Error} → i < length whole
-      → DrawsAll table lines config (take i whole) s (Ok tt) t → now ≡ config → DrawsOne table lines now (get_or whole i d) t r u
+  -- steps were drawn, and then the next one, by an equal configuration, however that ends
+  pub drawn-next : {whole : List (GivenStep Id)} {i : ℕ} {step : GivenStep Id} {now : Config} {s t u : Sink} {r : Result (Unit {0}) Error} → StandsAt whole i step
+      → DrawsAll table lines config (take i whole) s (Ok tt) t → now ≡ config → DrawsOne table lines now step t r u
       → DrawsAll table lines config (take (i + 1) whole) s r u
-  drawn-next whole i d {s = s} {t = t} {u = u} {r = r} inside before alike next =
-      let step = get_or whole i d in
+  drawn-next {step = step} {s = s} {t = t} {u = u} {r = r} at before alike next =
       let here = subst (λ (k : Config). DrawsOne table lines k step t r u) alike next in
-      subst (λ (steps : List GivenStep). DrawsAll table lines config steps s r u) (sym (take_more whole i d inside)) (drawn-then before (drawn-one {step = step} here))
+      subst (λ (steps : List (GivenStep Id)). DrawsAll table lines config steps s r u) (sym (take-at at)) (drawn-then before (drawn-one {step = step} here))
 
   -- the first steps were refused, and so all are
-  pub drawn-cut : (whole : List GivenStep) (i : ℕ) {s t : Sink} {e : Error} → DrawsAll table lines config (take i whole) s (Err e) t → DrawsAll table lines config whole s (Err e) t
+  pub drawn-cut : (whole : List (GivenStep Id)) (i : ℕ) {s t : Sink} {e : Error} → DrawsAll table lines config (take i whole) s (Err e) t → DrawsAll table lines config whole s (Err e) t
   drawn-cut whole i {s} {t} {e} cut =
       let first = take i whole in
       let later = drop i whole in
-      subst (λ (steps : List GivenStep). DrawsAll table lines config steps s (Err e) t) (take-append-drop i whole) (record {
+      subst (λ (steps : List (GivenStep Id)). DrawsAll table lines config steps s (Err e) t) (take-append-drop i whole) (record {
         drawn = asking_as (sym (asked-append table lines config first later)) (sym (rows-append table lines config first later))
             (asking_cut (asked_all table lines config later) (rows table lines config later) cut.drawn);
       })

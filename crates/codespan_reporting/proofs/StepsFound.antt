@@ -14,16 +14,16 @@ use Rattle.codespan_reporting.specs.Inner.Steps.{Step, fill_of, fills_of}
 use Rattle.codespan_reporting.proofs.Askings.{first_refusal-asked, or_refusal-answered, or_refusal-some}
 use Rattle.codespan_laws.proofs.SortedLists.{all-append}
 
-module _ {layout : Layout} {f : FileModel} where
+module _ {Id : Type 0} {layout : Layout} {f : FileModel} where
   -- no step was added
-  adds_nothing : {old new : List GivenStep} → new ≡ old → AddsSteps layout f old new []
+  adds_nothing : {old new : List (GivenStep Id)} → new ≡ old → AddsSteps layout f old new []
   adds_nothing {old} same = record { more = []; whole = same ∙ sym (append-nil old); are = refl; each = tt }
 
   -- steps were added, and then others
-  adds_then : {old mid new : List GivenStep} {xs ys : List Step} → AddsSteps layout f old mid xs → AddsSteps layout f mid new ys → AddsSteps layout f old new (xs ++ ys)
+  adds_then : {old mid new : List (GivenStep Id)} {xs ys : List Step} → AddsSteps layout f old mid xs → AddsSteps layout f mid new ys → AddsSteps layout f old new (xs ++ ys)
   adds_then {old} first second = record {
     more = first.more ++ second.more;
-    whole = second.whole ∙ ap (λ (l : List GivenStep). l ++ second.more) first.whole ∙ append_assoc old first.more second.more;
+    whole = second.whole ∙ ap (λ (l : List (GivenStep Id)). l ++ second.more) first.whole ∙ append_assoc old first.more second.more;
     are = map-append step_of first.more second.more ∙ (λ i. first.are i ++ second.are i);
     each = all-append (IsStepIn layout f) first.more second.more first.each second.each;
   }
@@ -50,16 +50,16 @@ module _ {Id : Type 0} (refusal : Refusals Id) (id : Id) (layout : Layout) where
       ∙ ap (λ (ls : List Lookup). first_refusal refusal (asked_of id ls)) (numbers_asked-append layout (fills_of xs) (fills_of ys))
       ∙ first_refusal-asked refusal id (numbers_asked layout (fills_of xs)) (numbers_asked layout (fills_of ys))
 
-  -- of all steps some were found, and the rest is left
-  pub record StepsLeft (f : FileModel) (whole rest : List Step) (now : List GivenStep) : Type 0 where
+  -- of all steps some were added, and the rest is left
+  pub record StepsLeft (f : FileModel) (whole rest : List Step) (old now : List (GivenStep Id)) : Type 0 where
     pub taken : List Step
     pub is_whole : taken ++ rest ≡ whole
-    pub adds : AddsSteps layout f [] now taken
+    pub adds : AddsSteps layout f old now taken
     pub answered : numbers_refused taken ≡ None
 
 -- nothing is found yet
-pub left_all : {Id : Type 0} {refusal : Refusals Id} {id : Id} {layout : Layout} {f : FileModel} {whole rest : List Step} {now : List GivenStep} → rest ≡ whole → now ≡ []
-    → StepsLeft refusal id layout f whole rest now
+pub left_all : {Id : Type 0} {refusal : Refusals Id} {id : Id} {layout : Layout} {f : FileModel} {whole rest : List Step} {old now : List (GivenStep Id)} → rest ≡ whole → now ≡ old
+    → StepsLeft refusal id layout f whole rest old now
 left_all {Id} {refusal} {id} {layout} same none = record {
   taken = [];
   is_whole = same;
@@ -67,7 +67,7 @@ left_all {Id} {refusal} {id} {layout} same none = record {
   answered = ap (λ (ls : List Lookup). first_refusal refusal (asked_of id ls)) (numbers_asked-nothing layout);
 }
 
-module _ {Id : Type 0} {refusal : Refusals Id} {id : Id} {layout : Layout} {f : FileModel} {whole rest : List Step} {now : List GivenStep} (left : StepsLeft refusal id layout f whole rest now)
+module _ {Id : Type 0} {refusal : Refusals Id} {id : Id} {layout : Layout} {f : FileModel} {whole rest : List Step} {old now : List (GivenStep Id)} (left : StepsLeft refusal id layout f whole rest old now)
     (steps next : List Step) (same : rest ≡ steps ++ next) where
   -- these come next
   next_whole : (left.taken ++ steps) ++ next ≡ whole
@@ -80,7 +80,7 @@ module _ {Id : Type 0} {refusal : Refusals Id} {id : Id} {layout : Layout} {f : 
       ∙ or_refusal-answered (numbers_refused refusal id layout left.taken) (numbers_refused refusal id layout steps) left.answered
 
   -- they are found
-  pub left_more : {new : List GivenStep} → AddsSteps layout f now new steps → numbers_refused refusal id layout steps ≡ None → StepsLeft refusal id layout f whole next new
+  pub left_more : {new : List (GivenStep Id)} → AddsSteps layout f now new steps → numbers_refused refusal id layout steps ≡ None → StepsLeft refusal id layout f whole next old new
   left_more adds answered = record { taken = left.taken ++ steps; is_whole = next_whole; adds = adds_then left.adds adds; answered = next_refused ∙ answered }
 
   -- the lookup of a number with them refuses

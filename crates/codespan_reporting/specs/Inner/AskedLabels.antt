@@ -60,15 +60,15 @@ module _ {Id : Type 0} (x : AskedLabel Id) where
   HasAskedLine l = AsksFor l → l < line_count x.file
 
   -- what it says of a line was added
-  abbrev pub AddsLine : List GivenEntry → List GivenEntry → ℕ → Type 0
+  abbrev pub AddsLine : List (GivenEntry Id) → List (GivenEntry Id) → ℕ → Type 0
   AddsLine old new l = AddsOf x.file old new (line_entries x.config x.file x.at x.label l)
 
   -- what it says of a line was found, where it asks for the line
-  abbrev pub FindsLine : FoundLines → FoundLines → ℕ → Type 0
+  abbrev pub FindsLine : FoundLines Id → FoundLines Id → ℕ → Type 0
   FindsLine old new l = AddsOf x.file old.entries.items new.entries.items (entries_on x.config x.file x.label x.at l)
 
   -- the padding has grown as far as the number of a line needs, where it spans the line
-  abbrev pub MakesRoomForLine : FoundLines → FoundLines → ℕ → Type 0
+  abbrev pub MakesRoomForLine : FoundLines Id → FoundLines Id → ℕ → Type 0
   MakesRoomForLine old new l = new.padding ≡ fold max old.padding (digits_on x.file x.label l)
 
   -- what the lookups of a line are refused with, where it asks for the line
@@ -78,11 +78,11 @@ module _ {Id : Type 0} (x : AskedLabel Id) where
   -- ---- all of its lines
 
   -- what it says of lines was found
-  abbrev pub FindsLines : FoundLines → FoundLines → Type 0
+  abbrev pub FindsLines : FoundLines Id → FoundLines Id → Type 0
   FindsLines old new = AddsOf x.file old.entries.items new.entries.items (entries_of x.config x.file x.at x.label)
 
   -- the padding has grown as far as the numbers of the lines that it spans need
-  abbrev pub MakesRoom : FoundLines → FoundLines → Type 0
+  abbrev pub MakesRoom : FoundLines Id → FoundLines Id → Type 0
   MakesRoom old new = new.padding ≡ fold max old.padding (label_digits x.file x.label)
 
   -- what the lookups of the lines that it asks for are refused with

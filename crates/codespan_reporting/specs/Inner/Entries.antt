@@ -80,10 +80,6 @@ said file l None = []
 said file l (Some says) = record { file = file; line = l; says = says } ∷ []
 
 module _ (config : Config) (f : FileModel) (at : LabelPlace) (x : Labelled) where
-  -- an entry of its file
-  abbrev pub entry_on : ℕ → Says → Entry
-  entry_on l says = record { file = at.file; line = l; says = says }
-
   -- what it says of a line: the carets of a label inside the line, or that another line is shown
   abbrev pub says_on : ℕ → Option Says
   says_on l =

@@ -4,7 +4,7 @@ use Rattle.std.specs.List.{AllByRecursion}
 use Rattle.codespan_base.specs.declared.term.config.Config.{Config}
 use Rattle.codespan_base.specs.FileModel.{FileModel, IsLineRange, Lookup}
 use Rattle.codespan_base.specs.Labels.{Labelled, from_line_start}
-use Rattle.codespan_base.specs.Streams.{bytes}
+use Rattle.codespan_picture.specs.Picture.{label_of}
 use Rattle.codespan_reporting.specs.declared.term.views.entry.Entry.{Entry as GivenEntry}
 use Rattle.codespan_reporting.specs.declared.term.views.entry.Says.{Says as GivenSays}
 use Rattle.codespan_reporting.specs.declared.term.views.entry.Says.TheVariants as given
@@ -15,14 +15,14 @@ use Rattle.codespan_picture.specs.Lines.{shows}
 use Rattle.codespan_picture.specs.Lookups.{is_asked, of_line}
 use Rattle.codespan_reporting.specs.Inner.PlacedLabels.{IsIdAt}
 
--- what an entry says
-abbrev pub says_of : GivenSays → Says
-says_of given.Shown = Shown
-says_of (given.Single place style start end message) = Single place (record { style = style; start = start; end = end; message = bytes message.now })
+-- what an entry says of a line that starts at this byte
+abbrev pub says_of : {Id : Type 0} → ℕ → GivenSays Id → Says
+says_of start given.Shown = Shown
+says_of start (given.Single place label) = Single place (from_line_start start (label_of label.now).label)
 
 -- an entry
-abbrev pub entry_of : GivenEntry → Entry
-entry_of e = record { file = e.file; line = e.line.index; says = says_of e.says }
+abbrev pub entry_of : {Id : Type 0} → GivenEntry Id → Entry
+entry_of e = record { file = e.file; line = e.line.index; says = says_of e.line.start e.says }
 
 -- the line is one of the file's, with its number and its range
 pub record IsLineOf (f : FileModel) (line : SourceLine) : Type 0 where
@@ -34,18 +34,18 @@ abbrev pub IsLineAt : FileModel → ℕ → SourceLine → Type 0
 IsLineAt f l line = (line.index ≡ l) × IsLineOf f line
 
 -- the entry's line is one of its file, of those with these ids
-abbrev pub IsOfFiles : {Id : Type 0} → (Id → FileModel) → List Id → GivenEntry → Type 0
+abbrev pub IsOfFiles : {Id : Type 0} → (Id → FileModel) → List Id → GivenEntry Id → Type 0
 IsOfFiles {Id} file ids e = (id : Id) → IsIdAt ids e.file id → IsLineOf (file id) e.line
 
 -- entries were added that say this, and this holds of each
-pub record Adds (P : GivenEntry → Type 0) (old new : List GivenEntry) (entries : List Entry) : Type 0 where
-  pub more : List GivenEntry
+pub record Adds {Id : Type 0} (P : GivenEntry Id → Type 0) (old new : List (GivenEntry Id)) (entries : List Entry) : Type 0 where
+  pub more : List (GivenEntry Id)
   pub whole : new ≡ old ++ more
   pub say : map entry_of more ≡ entries
   pub each : AllByRecursion P more
 
 -- entries of lines of this file were added
-abbrev pub AddsOf : FileModel → List GivenEntry → List GivenEntry → List Entry → Type 0
+abbrev pub AddsOf : {Id : Type 0} → FileModel → List (GivenEntry Id) → List (GivenEntry Id) → List Entry → Type 0
 AddsOf f old new entries = Adds (λ e. IsLineOf f e.line) old new entries
 
 -- what a label from line `s` to line `e` says of line `l`, which starts at this byte

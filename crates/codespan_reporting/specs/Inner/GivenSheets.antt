@@ -1,5 +1,5 @@
 -- What a view knows before it draws: what labels say of lines, in order, and the files of the picture with what is drawn of them.
-use Rattle.std.specs.Prelude.{◌≡◌, List, [], ◌++◌, flat_map, fold, map, max, Option, None}
+use Rattle.std.specs.Prelude.{◌≡◌, List, [], ◌∷◌, ◌++◌, length, take, drop, flat_map, fold, map, max, Option, None}
 use Rattle.std.specs.List.{AllByRecursion}
 use Rattle.std.specs.List.Sorted.{IsPermutation, IsSortedBy}
 use Rattle.codespan_base.specs.declared.files.Error.{Error}
@@ -15,6 +15,7 @@ use Rattle.codespan_picture.specs.Snippets.{InFile, LabelledFile, labelled_file,
 use Rattle.codespan_reporting.specs.declared.term.views.gather.Gathered.{Gathered}
 use Rattle.codespan_reporting.specs.declared.term.views.sheet.Sheet.{Sheet}
 use Rattle.codespan_reporting.specs.declared.term.views.sheet.SheetFile.{SheetFile}
+use Rattle.codespan_reporting.specs.declared.term.views.steps.Step.{Step as GivenStep}
 use Rattle.codespan_reporting.specs.Inner.Entries.{is_below}
 use Rattle.codespan_reporting.specs.Inner.GivenEntries.{Adds, IsOfFiles, entry_of}
 use Rattle.codespan_reporting.specs.Inner.GivenSteps.{IsStepOf, asked_by_all, step_of}
@@ -34,14 +35,15 @@ places_of {Id} files = map (λ (f : SheetFile Id). place_of_given f.locus) files
 abbrev pub ids_of : {Id : Type 0} → List (SheetFile Id) → List Id
 ids_of {Id} files = map (λ (f : SheetFile Id). f.file.now.id) files
 
--- the file of a picture is that of its labels: its lanes, where its snippet starts, what its steps draw, and what they ask for
-pub record IsSheetFile {Id : Type 0} (config : Config) (s : LabelledFile) (f : SheetFile Id) : Type 0 where
+-- the file of a picture is that of its labels: its lanes, where its snippet starts, what its own steps draw, and what they ask for
+pub record IsSheetFile {Id : Type 0} (config : Config) (s : LabelledFile) (f : SheetFile Id) (own : List (GivenStep Id)) : Type 0 where
   pub lanes_are : lanes_given f.file.now.lanes.items ≡ file_lanes s
   pub place : IsPlaceOfFile s (place_of_given f.locus)
-  pub each : AllByRecursion (IsStepOf s.file) f.steps.items
-  pub fits : DoFit (map step_of f.steps.items)
-  pub rows : rows_of_steps s.file (file_lanes s) (map step_of f.steps.items) ≡ rows_after s None (drawn_lines config s.file s.labels)
-  pub asked : asked_by_all f.steps.items ≡ flat_map (of_filled config.layout) (filled_lines config s)
+  pub count_is : f.step_count ≡ length own
+  pub each : AllByRecursion (IsStepOf s.file) own
+  pub fits : DoFit (map step_of own)
+  pub rows : rows_of_steps s.file (file_lanes s) (map step_of own) ≡ rows_after s None (drawn_lines config s.file s.labels)
+  pub asked : asked_by_all own ≡ flat_map (of_filled config.layout) (filled_lines config s)
 
 module _ {Id : Type 0} (table : FileTable Id) where
   -- the files of these labels were gathered, with what the labels tell of each, and the room for the numbers of lines
@@ -62,10 +64,16 @@ module _ {Id : Type 0} (table : FileTable Id) where
     pub permutation : IsPermutation (all_entries table.same table.file config xs) (map entry_of gathered.entries.items)
     pub lines : AllByRecursion (IsOfFiles table.file (ids_given gathered.files.items)) gathered.entries.items
 
+  -- the files are those of these labels, and the steps are theirs, those of the first file in front
+  abbrev pub AreSheetFiles : Config → List (InFile Id) → List (SheetFile Id) → List (GivenStep Id) → Type 0
+  AreSheetFiles config xs [] steps = Unit {0}
+  AreSheetFiles config xs (f ∷ fs) steps =
+      IsSheetFile config (labelled_file table.same table.file xs f.file.now.id) f (take f.step_count steps) × AreSheetFiles config xs fs (drop f.step_count steps)
+
   -- the sheet is that of these labels
   pub record IsPrepared (config : Config) (xs : List (InFile Id)) (sheet : Sheet Id) : Type 0 where
     pub ids_are : ids_of sheet.files.items ≡ file_ids table.same xs
-    pub files_are : AllByRecursion (λ f. IsSheetFile config (labelled_file table.same table.file xs f.file.now.id) f) sheet.files.items
+    pub files_are : AreSheetFiles config xs sheet.files.items sheet.steps.items
     pub padding_is : sheet.padding ≡ padding_of config (labelled_files table.same table.file xs)
 
 -- the lookups of the numbers of a picture's files

@@ -9,6 +9,7 @@ use Rattle.codespan_picture.specs.Rows.{Row, StartRow, EmptyRow}
 use Rattle.codespan_renderer.specs.declared.term.renderer.Renderer.{Renderer}
 use Rattle.codespan_reporting.specs.declared.term.views.lines.Page.{Page}
 use Rattle.codespan_reporting.specs.declared.term.views.sheet.SheetFile.{SheetFile}
+use Rattle.codespan_reporting.specs.declared.term.views.steps.Step.{Step as GivenStep}
 use Rattle.codespan_reporting.specs.Inner.FileLookups.{refusal_in}
 use Rattle.codespan_reporting.specs.Inner.GivenSteps.{asked_by_all, step_of}
 use Rattle.codespan_reporting.specs.Inner.Lanes.{lanes_given}
@@ -25,18 +26,18 @@ module _ {Id : Type 0} (file : SheetFile Id) where
   abbrev pub end_rows : Bool → List Row
   end_rows is_followed = if is_followed then EmptyRow (record { count = length file.file.now.lanes.items; marks = [] }) ∷ [] else []
 
-  -- all of its rows
-  abbrev pub rows_in : FileModel → Bool → List Row
-  rows_in f is_followed = start_rows ++ rows_of_steps f (lanes_given file.file.now.lanes.items) (map step_of file.steps.items) ++ end_rows is_followed
+  -- its rows before that one, as these steps draw them
+  abbrev pub rows_in : FileModel → List (GivenStep Id) → List Row
+  rows_in f steps = start_rows ++ rows_of_steps f (lanes_given file.file.now.lanes.items) (map step_of steps)
 
-  -- its lookups
-  abbrev pub lookups_with : List Lookup
-  lookups_with = Source ∷ asked_by_all file.steps.items
+-- the lookups of a snippet that these steps draw
+abbrev pub lookups_with : {Id : Type 0} → List (GivenStep Id) → List Lookup
+lookups_with steps = Source ∷ asked_by_all steps
 
 module _ {W F Id : Type 0} (sink : W → Sink) (table : F → FileTable Id) (page : Page F) where
-  -- the call draws the snippet of a file, with a row after it where something follows, and makes its lookups
-  abbrev pub DrawsSnippet : SheetFile Id → Bool → Renderer W → Result (Unit {0}) Error → Renderer W → Type 0
-  DrawsSnippet f is_followed =
+  -- the call draws the snippet of a file by these steps, and makes its lookups
+  abbrev pub DrawsSnippet : SheetFile Id → List (GivenStep Id) → Renderer W → Result (Unit {0}) Error → Renderer W → Type 0
+  DrawsSnippet f steps =
       let t = table page.files.now in
       let id = f.file.now.id in
-      DrawsRowsAsking sink (refusal_in t.refusal id (lookups_with f)) page.severity page.padding (rows_in f (t.file id) is_followed)
+      DrawsRowsAsking sink (refusal_in t.refusal id (lookups_with steps)) page.severity page.padding (rows_in f (t.file id) steps)

@@ -13,7 +13,7 @@ use Rattle.codespan_reporting.specs.Inner.GivenEntries.{IsLineOf, entry_of}
 use Rattle.codespan_reporting.specs.Inner.Steps.{Step, Draw, Fill, Break}
 
 -- a step
-abbrev pub step_of : GivenStep → Step
+abbrev pub step_of : {Id : Type 0} → GivenStep Id → Step
 step_of (given.Shown line singles) = Draw line.index (map entry_of singles.now)
 step_of (given.Filled index number) = Fill index
 step_of (given.Break next) = Break next.index
@@ -44,30 +44,30 @@ abbrev pub asked_with : Option ℕ → ℕ → List Lookup
 asked_with number l = LineRange l ∷ number_asked number l
 
 -- what is asked for when a step is drawn
-abbrev pub asked_by : GivenStep → List Lookup
+abbrev pub asked_by : {Id : Type 0} → GivenStep Id → List Lookup
 asked_by (given.Shown line singles) = []
 asked_by (given.Filled index number) = asked_with number index
 asked_by (given.Break next) = []
 
 -- what is asked for when steps are drawn
-abbrev pub asked_by_all : List GivenStep → List Lookup
+abbrev pub asked_by_all : {Id : Type 0} → List (GivenStep Id) → List Lookup
 asked_by_all steps = flat_map asked_by steps
 
 -- the step is one of the file: its line is, or the line after it, and a number that is known is the line's
-abbrev pub IsStepOf : FileModel → GivenStep → Type 0
+abbrev pub IsStepOf : {Id : Type 0} → FileModel → GivenStep Id → Type 0
 IsStepOf f (given.Shown line singles) = IsLineOf f line
 IsStepOf f (given.Filled index number) = IfSome number (λ known. known ≡ f.number index)
 IsStepOf f (given.Break next) = IsLineOf f next
 
 -- the step is one of the file in a layout, which says what numbers are known
-abbrev pub IsStepIn : Layout → FileModel → GivenStep → Type 0
+abbrev pub IsStepIn : {Id : Type 0} → Layout → FileModel → GivenStep Id → Type 0
 IsStepIn layout f (given.Shown line singles) = IsLineOf f line
 IsStepIn layout f (given.Filled index number) = number ≡ known_number layout (f.number index)
 IsStepIn layout f (given.Break next) = IsLineOf f next
 
 -- steps of the file were added, which are these
-pub record AddsSteps (layout : Layout) (f : FileModel) (old new : List GivenStep) (steps : List Step) : Type 0 where
-  pub more : List GivenStep
+pub record AddsSteps {Id : Type 0} (layout : Layout) (f : FileModel) (old new : List (GivenStep Id)) (steps : List Step) : Type 0 where
+  pub more : List (GivenStep Id)
   pub whole : new ≡ old ++ more
   pub are : map step_of more ≡ steps
   pub each : AllByRecursion (IsStepIn layout f) more

@@ -1,5 +1,5 @@
 -- Headers of labels, drawn one after another, each after the lookups of its place.
-use Rattle.std.specs.Prelude.{◌≡◌, ◌≢◌, ◌⊎◌, true, Bool, List, [], ◌∷◌, ◌++◌, flat_map, map, None, Some, Contains, IsSome, Result, MatchResult}
+use Rattle.std.specs.Prelude.{◌≡◌, ◌≢◌, ◌⊎◌, true, Bool, List, [], ◌∷◌, ◌++◌, flat_map, map, None, Some, IsSome, Result, MatchResult}
 use Rattle.std.specs.List.{AllZip}
 use Rattle.codespan_base.specs.declared.diagnostic.Diagnostic.{Diagnostic}
 use Rattle.codespan_base.specs.declared.files.Error.{Error}
@@ -15,10 +15,6 @@ use Rattle.codespan_picture.specs.Placed.{IsPlaceOfLabel, placed_headers}
 use Rattle.codespan_picture.specs.Rows.{Place}
 use Rattle.codespan_picture.specs.RowStreams.{stream_of_rows}
 use Rattle.codespan_picture.specs.Snippets.{InFile, has_any, header_at}
-
--- the names of these labels' files are stated
-abbrev pub AreNamed : {Id : Type 0} → (Id → FileModel) → List (InFile Id) → Type 0
-AreNamed {Id} file xs = (x : InFile Id) → Contains xs x → IsSome (file x.id).name
 
 module _ {Id : Type 0} (config : Config) (file : Id → FileModel) (refusal : Refusals Id) (d : Diagnostic Id) where
   -- the stream of these labels' headers

@@ -1,5 +1,6 @@
 -- What is drawn of each file, as entries in order tell it, and where its snippet starts.
-use Rattle.std.specs.Prelude.{◌≡◌, ℕ, ◌+◌, List, [], ◌∷◌, ◌++◌, flat_map, filter, map, Option, Some, None}
+use Rattle.std.specs.Prelude.{◌≡◌, ℕ, ◌+◌, List, [], ◌∷◌, ◌++◌, length, take, drop, filter, map, Option, Some, None}
+use Rattle.std.specs.List.{AllByRecursion}
 use Rattle.codespan_base.specs.declared.files.Error.{Error}
 use Rattle.codespan_base.specs.declared.term.config.Layout.{Layout}
 use Rattle.codespan_base.specs.FileModel.{FileModel, Lookup}
@@ -14,7 +15,7 @@ use Rattle.codespan_reporting.specs.declared.term.views.steps.Step.{Step as Give
 use Rattle.codespan_reporting.specs.declared.term.views.steps.Step.TheVariants as given
 use Rattle.codespan_reporting.specs.Inner.Entries.{Entry, is_of_file}
 use Rattle.codespan_reporting.specs.Inner.GivenEntries.{entry_of}
-use Rattle.codespan_reporting.specs.Inner.GivenSteps.{AddsSteps, numbers_asked}
+use Rattle.codespan_reporting.specs.Inner.GivenSteps.{IsStepIn, numbers_asked, step_of}
 use Rattle.codespan_reporting.specs.Inner.LabelledFiles.{ids_given}
 use Rattle.codespan_reporting.specs.Inner.Loci.{place_lookups, start_byte}
 use Rattle.codespan_reporting.specs.Inner.Steps.{Step, fills_of, steps_of}
@@ -33,22 +34,24 @@ abbrev pub number_lookups : {Id : Type 0} → Layout → List Entry → List Id 
 number_lookups layout es ids = by_place (λ k id. asked_of id (numbers_asked layout (fills_of (steps_at es k)))) 0 ids
 
 module _ {Id : Type 0} (layout : Layout) (file : Id → FileModel) (es : List Entry) where
-  -- the plan is that of this file, which is at a place: where its snippet starts, and what is drawn of it
-  pub record IsPlan (k : ℕ) (f : GivenFile Id) (plan : SheetFile Id) : Type 0 where
+  -- the plan is that of this file, which is at a place: where its snippet starts, and the steps that draw it
+  pub record IsPlan (k : ℕ) (f : GivenFile Id) (plan : SheetFile Id) (own : List (GivenStep Id)) : Type 0 where
     pub file_is : plan.file.now ≡ f
     pub place : IsPlaceIn (file f.id) (start_byte f.start) (place_of_given plan.locus)
-    pub adds : AddsSteps layout (file f.id) [] plan.steps.items (steps_at es k)
+    pub count_is : plan.step_count ≡ length own
+    pub are : map step_of own ≡ steps_at es k
+    pub each : AllByRecursion (IsStepIn layout (file f.id)) own
 
-  -- the plans are those of the files from a place on
-  abbrev pub ArePlans : ℕ → List (GivenFile Id) → List (SheetFile Id) → Type 0
-  ArePlans k [] [] = Unit {0}
-  ArePlans k [] (p ∷ ps) = ⊥
-  ArePlans k (f ∷ fs) [] = ⊥
-  ArePlans k (f ∷ fs) (p ∷ ps) = IsPlan k f p × ArePlans (k + 1) fs ps
+  -- the plans are those of the files from a place on, and these are all their steps, those of the first file in front
+  abbrev pub ArePlans : ℕ → List (GivenFile Id) → List (SheetFile Id) → List (GivenStep Id) → Type 0
+  ArePlans k [] [] steps = steps ≡ []
+  ArePlans k [] (p ∷ ps) steps = ⊥
+  ArePlans k (f ∷ fs) [] steps = ⊥
+  ArePlans k (f ∷ fs) (p ∷ ps) steps = IsPlan k f p (take p.step_count steps) × ArePlans (k + 1) fs ps (drop p.step_count steps)
 
--- the plans are those of the files that were gathered
-abbrev pub ArePlansOf : {Id : Type 0} → Layout → (Id → FileModel) → Gathered Id → List (SheetFile Id) → Type 0
-ArePlansOf layout file gathered plans = ArePlans layout file (map entry_of gathered.entries.items) 0 gathered.files.items plans
+-- the plans are those of the files that were gathered, with all their steps
+abbrev pub ArePlansOf : {Id : Type 0} → Layout → (Id → FileModel) → Gathered Id → List (SheetFile Id) → List (GivenStep Id) → Type 0
+ArePlansOf layout file gathered plans steps = ArePlans layout file (map entry_of gathered.entries.items) 0 gathered.files.items plans steps
 
 -- the lookups that plans rest on: first the numbers of lines that are filled in, of all files, and then the places of all files
 abbrev pub plan_lookups : {Id : Type 0} → Layout → Gathered Id → List (Id × Lookup)
@@ -60,12 +63,8 @@ abbrev pub plans_refusal : {Id : Type 0} → Layout → Refusals Id → Gathered
 plans_refusal layout refusal gathered = first_refusal refusal (plan_lookups layout gathered)
 
 -- the digits of the number of a step's line, where it has one
-abbrev pub step_digits : GivenStep → List ℕ
+abbrev pub step_digits : {Id : Type 0} → GivenStep Id → List ℕ
 step_digits (given.Shown line singles) = digit_count line.number ∷ []
 step_digits (given.Filled index (Some number)) = digit_count number ∷ []
 step_digits (given.Filled index None) = []
 step_digits (given.Break next) = []
-
--- those of a file
-abbrev pub plan_digits : {Id : Type 0} → SheetFile Id → List ℕ
-plan_digits plan = flat_map step_digits plan.steps.items

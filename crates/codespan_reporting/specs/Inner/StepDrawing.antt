@@ -36,5 +36,5 @@ module _ {W F Id Name Source : Type 0} (sink : W → Sink) (table : F → FileTa
   DrawsStep lookups step = DrawsFileRows lookups (λ f. rows_of_step f (lanes_given lines.lanes.now) step)
 
   -- the call draws these steps, one after another, and makes their lookups
-  abbrev pub DrawsSteps : List GivenStep → Renderer W → Result (Unit {0}) Error → Renderer W → Type 0
+  abbrev pub DrawsSteps : List (GivenStep Id) → Renderer W → Result (Unit {0}) Error → Renderer W → Type 0
   DrawsSteps steps = DrawsFileRows (asked_by_all steps) (λ f. rows_of_steps f (lanes_given lines.lanes.now) (map step_of steps))

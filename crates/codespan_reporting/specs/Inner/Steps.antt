@@ -99,16 +99,6 @@ fill_of (Break l) = []
 abbrev pub fills_of : List Step → List ℕ
 fills_of steps = flat_map fill_of steps
 
--- the line of a step that draws one
-abbrev pub line_of_step : Step → List ℕ
-line_of_step (Draw l es) = l ∷ []
-line_of_step (Fill l) = l ∷ []
-line_of_step (Break l) = []
-
--- the lines that are drawn
-abbrev pub lines_of_steps : List Step → List ℕ
-lines_of_steps steps = flat_map line_of_step steps
-
 -- ---- labels in order
 
 -- the labels of a step are in the order of their starts

@@ -15,7 +15,7 @@ module _ {F Id Name Source : Type 0} (file : F → Id → FileModel) (walk : Wal
   walked_file = file walk.files.now walk.id
 
   -- steps of that file were added, which are these
-  abbrev pub AddsWalked : List GivenStep → List GivenStep → List Step → Type 0
+  abbrev pub AddsWalked : List (GivenStep Id) → List (GivenStep Id) → List Step → Type 0
   AddsWalked = AddsSteps walk.layout walked_file
 
 -- what the numbers of these lines are refused with, where they are known before the header

@@ -1,6 +1,11 @@
 //! What labels say of lines.
 
-use codespan_base::diagnostic::LabelStyle;
+ghost use Rattle.std.specs.Prelude.{◌≡◌};
+ghost use Rattle.codespan_base.specs.Labels.{from_line_start};
+ghost use Rattle.codespan_picture.specs.Picture.{label_of};
+
+use codespan_base::diagnostic::Label;
+use std::ops::Range;
 
 /// A line of a file, as its lookups gave it.
 #[derive(Clone, Copy)]
@@ -17,31 +22,36 @@ pub struct SourceLine {
 
 /// What a label says of a line.
 #[derive(Clone, Copy)]
-pub enum Says<'d> {
+pub enum Says<'d, FileId> {
     /// The line is shown.
     Shown,
-    /// The label is inside the line, which is shown. Its range is in bytes from the line's start, and at least one byte long.
+    /// The label is inside the line, which is shown.
     Single {
         /// The label's place in the diagnostic's list, counted from 0.
         place: usize,
-        /// Its style.
-        style: LabelStyle,
-        /// The byte at which it starts.
-        start: usize,
-        /// The byte at which it ends.
-        end: usize,
-        /// Its message.
-        message: &'d str,
+        /// The label.
+        label: &'d Label<FileId>,
     },
 }
 
 /// What a label says of a line of a file.
 #[derive(Clone, Copy)]
-pub struct Entry<'d> {
+pub struct Entry<'d, FileId> {
     /// The file's place among those of the picture, counted from 0.
     pub file: usize,
     /// The line.
     pub line: SourceLine,
     /// What is said of it.
-    pub says: Says<'d>,
+    pub says: Says<'d, FileId>,
+}
+
+/// The range of a label inside a line that starts at this byte: in bytes from there, and at least one byte long.
+#[inline(always)]
+pub fn range_in_line<FileId>(label: &Label<FileId>, line_start: usize) -> Range<usize>
+    ensures start { result.start ≡ (from_line_start line_start (label_of label.now).label).start }
+    ensures end { result.end ≡ (from_line_start line_start (label_of label.now).label).end }
+{
+    let start = label.range.start.saturating_sub(line_start);
+    let end = label.range.end.saturating_sub(line_start);
+    start..end.max(start.saturating_add(1))
 }

@@ -3,11 +3,9 @@
 ghost use Rattle.std.specs.Prelude.{◌≡◌, ◌≢◌, None, map, IfErr, IfOk, IfSome, OnOk, OnErr, IsErrOf};
 ghost use Rattle.std.specs.Option.{option_map};
 ghost use Rattle.codespan_base.specs.FileModel.{Tells};
-ghost use Rattle.codespan_base.specs.Labels.{from_line_start};
 ghost use Rattle.codespan_picture.specs.Lookups.{of_line};
 ghost use Rattle.codespan_picture.specs.Picture.{label_of};
 ghost use Rattle.codespan_reporting.specs.Inner.AskedLabels.{AddsLine, EndsBefore, FindsLine, FindsLines, HasAskedLine, IfEnded, IfOn, MakesRoom, MakesRoomForLine, RefusesLine, asked_as, asked_label, label_refusal, labels_refusal, lines_refusal, refusal_at, refusal_on, says_by};
-ghost use Rattle.codespan_reporting.specs.Inner.Entries.{Single};
 ghost use Rattle.codespan_reporting.specs.Inner.FileLookups.{refusal_in};
 ghost use Rattle.codespan_reporting.specs.Inner.GivenEntries.{IsLineAt, IsLineOf, says_of};
 ghost use Rattle.codespan_reporting.specs.Inner.GivenSheets.{IsGathered, IsGatheredInTurn};
@@ -35,26 +33,11 @@ pub struct LabelPlace {
 
 /// What labels say of the lines that they ask for.
 #[derive(Drop)]
-pub struct FoundLines<'d> {
+pub struct FoundLines<'d, FileId> {
     /// What they say of them.
-    pub entries: Vec<Entry<'d>>,
+    pub entries: Vec<Entry<'d, FileId>>,
     /// How many digits the longest number has of the lines that they span; 0 where there is none.
     pub padding: usize,
-}
-
-/// What a label inside one line says of it.
-fn single_says<FileId>(label: &Label<FileId>, place: usize, line_start: usize) -> Says<'_>
-    ensures { says_of result ≡ Single place (from_line_start line_start (label_of label.now).label) }
-{
-    let start = label.range.start.saturating_sub(line_start);
-    let end = label.range.end.saturating_sub(line_start);
-    Says::Single {
-        place,
-        style: label.style,
-        start,
-        end: end.max(start.saturating_add(1)),
-        message: label.message.as_str(),
-    }
 }
 
 /// How the lines of a label are asked for.
@@ -93,11 +76,18 @@ impl<'a, 'c, 'files, F: Files<'files>> Asking<'a, 'c, 'files, F> {
     }
 
     /// What the label says of a line: its carets, where it is inside the line, or else that the line is shown, if the label shows it.
-    fn says_of_line<'d>(&self, label: &'d Label<F::FileId>, line: SourceLine) -> Option<Says<'d>>
-        ensures { option_map says_of result ≡ says_by self.now label.now line }
+    fn says_of_line<'d>(
+        &self,
+        label: &'d Label<F::FileId>,
+        line: SourceLine,
+    ) -> Option<Says<'d, F::FileId>>
+        ensures { option_map (says_of line.start) result ≡ says_by self.now label.now line }
     {
         if self.lines.is_single() && self.lines.first == line.index {
-            Some(single_says(label, self.at.place, line.start))
+            Some(Says::Single {
+                place: self.at.place,
+                label,
+            })
         } else if self.lines.shows(self.config, line.index) {
             Some(Says::Shown)
         } else {
@@ -110,7 +100,7 @@ impl<'a, 'c, 'files, F: Files<'files>> Asking<'a, 'c, 'files, F> {
         &self,
         label: &'d Label<F::FileId>,
         line: SourceLine,
-        entries: &mut Vec<Entry<'d>>,
+        entries: &mut Vec<Entry<'d, F::FileId>>,
     ) -> Result<(), Error>
         requires first { line_of_start (F.file self.now.files.now) label.now ≡ self.now.lines.first }
         requires last { line_of_end (F.file self.now.files.now) label.now ≡ self.now.lines.last }
@@ -134,7 +124,7 @@ impl<'a, 'c, 'files, F: Files<'files>> Asking<'a, 'c, 'files, F> {
         &self,
         label: &'d Label<F::FileId>,
         index: usize,
-        found: &mut FoundLines<'d>,
+        found: &mut FoundLines<'d, F::FileId>,
     ) -> Result<bool, Error>
         requires first { line_of_start (F.file self.now.files.now) label.now ≡ self.now.lines.first }
         requires last { line_of_end (F.file self.now.files.now) label.now ≡ self.now.lines.last }
@@ -163,7 +153,7 @@ impl<'a, 'c, 'files, F: Files<'files>> Asking<'a, 'c, 'files, F> {
     fn gather_lines<'d>(
         &self,
         label: &'d Label<F::FileId>,
-        found: &mut FoundLines<'d>,
+        found: &mut FoundLines<'d, F::FileId>,
     ) -> Result<(), Error>
         requires first { line_of_start (F.file self.now.files.now) label.now ≡ self.now.lines.first }
         requires last { line_of_end (F.file self.now.files.now) label.now ≡ self.now.lines.last }
@@ -189,7 +179,7 @@ fn gather_label<'files, 'd, F: Files<'files>>(
     config: &Config<'_>,
     at: LabelPlace,
     label: &'d Label<F::FileId>,
-    found: &mut FoundLines<'d>,
+    found: &mut FoundLines<'d, F::FileId>,
 ) -> Result<LabelLines, Error>
     ensures first { IfOk result (λ lines. lines.first ≡ line_of_start (F.file files.now) label.now) }
     ensures last { IfOk result (λ lines. lines.last ≡ line_of_end (F.file files.now) label.now) }
@@ -216,7 +206,7 @@ pub struct Gathered<'d, FileId> {
     /// The labels' files, in the order of their first label, with what the labels tell of them.
     pub files: Vec<LabelledFile<'d, FileId>>,
     /// What the labels say, in their order.
-    pub entries: Vec<Entry<'d>>,
+    pub entries: Vec<Entry<'d, FileId>>,
     /// How many digits the longest number has of the lines that labels span; 0 where there is none.
     pub padding: usize,
 }

@@ -8,14 +8,14 @@ ghost use Rattle.codespan_reporting.specs.Inner.GivenEntries.{entry_of};
 use crate::term::views::entry::{Entry, Says};
 
 /// Whether an entry says that its line is shown.
-pub fn is_shown(entry: &Entry<'_>) -> bool
+pub fn is_shown<FileId>(entry: &Entry<'_, FileId>) -> bool
     ensures { result ≡ tells_shown (entry_of entry.now) }
 {
     matches!(entry.says, Says::Shown)
 }
 
 /// How many entries in front are of the line.
-pub fn line_len(entries: &[Entry<'_>], line: usize) -> usize
+pub fn line_len<FileId>(entries: &[Entry<'_, FileId>], line: usize) -> usize
     ensures value { result ≡ prefix_len (λ e. is_on_line line (entry_of e)) entries.now }
     ensures within { result ≤ length entries.now }
 {
@@ -26,7 +26,7 @@ pub fn line_len(entries: &[Entry<'_>], line: usize) -> usize
 }
 
 /// How many entries in front say that their line is shown.
-pub fn shown_len(entries: &[Entry<'_>]) -> usize
+pub fn shown_len<FileId>(entries: &[Entry<'_, FileId>]) -> usize
     ensures value { result ≡ prefix_len (λ e. tells_shown (entry_of e)) entries.now }
     ensures within { result ≤ length entries.now }
 {
@@ -34,7 +34,7 @@ pub fn shown_len(entries: &[Entry<'_>]) -> usize
 }
 
 /// How many entries in front are of the file.
-pub fn file_len(entries: &[Entry<'_>], file: usize) -> usize
+pub fn file_len<FileId>(entries: &[Entry<'_, FileId>], file: usize) -> usize
     ensures value { result ≡ prefix_len (λ e. is_of_file file (entry_of e)) entries.now }
     ensures within { result ≤ length entries.now }
 {

@@ -14,7 +14,7 @@ ghost use Rattle.codespan_reporting.specs.Inner.Steps.{Draw, Break, does_step_fi
 use crate::term::renderer::Renderer;
 use crate::term::views::entry::{Entry, SourceLine};
 use crate::term::views::lanes::Lane;
-use crate::term::views::marks::LineMarks;
+use crate::term::views::marks::{LineMarks, fill_multis};
 use crate::term::views::steps::Step;
 use crate::term::views::table::Table;
 use codespan_base::diagnostic::Severity;
@@ -54,7 +54,7 @@ impl<'page, 'd, 'files, F: Files<'files>> FileLines<'page, 'd, 'files, F> {
         &self,
         renderer: &mut Renderer<'_, '_, W>,
         marks: &mut LineMarks<'d>,
-        steps: &[Step<'_, 'd>],
+        steps: &[Step<'_, 'd, F::FileId>],
     ) -> Result<(), Error>
         requires text { self.now.text.now ≡ (drawn_file F.file self.now).text }
         requires steps { AllByRecursion (IsStepOf (drawn_file F.file self.now)) steps.now }
@@ -74,7 +74,7 @@ impl<'page, 'd, 'files, F: Files<'files>> FileLines<'page, 'd, 'files, F> {
         &self,
         renderer: &mut Renderer<'_, '_, W>,
         marks: &mut LineMarks<'d>,
-        step: &Step<'_, 'd>,
+        step: &Step<'_, 'd, F::FileId>,
     ) -> Result<(), Error>
         requires text { self.now.text.now ≡ (drawn_file F.file self.now).text }
         requires step { IsStepOf (drawn_file F.file self.now) step.now }
@@ -121,7 +121,7 @@ impl<'page, 'd, 'files, F: Files<'files>> FileLines<'page, 'd, 'files, F> {
         renderer: &mut Renderer<'_, '_, W>,
         marks: &mut LineMarks<'d>,
         line: SourceLine,
-        entries: &[Entry<'d>],
+        entries: &[Entry<'d, F::FileId>],
     ) -> Result<(), Error>
         requires text { self.now.text.now ≡ (drawn_file F.file self.now).text }
         requires line { IsLineOf (drawn_file F.file self.now) line }
@@ -172,7 +172,7 @@ impl<'page, 'd, 'files, F: Files<'files>> FileLines<'page, 'd, 'files, F> {
         ensures same { SameRenderer renderer.old renderer.new }
         ensures draws { DrawsStep W.sink ⟦<F as Table<'files>>⟧.table self.now [] (Break next.index) renderer.old result renderer.new }
     {
-        marks.refill(self.lanes, next, &[])?;
+        fill_multis(&mut marks.multis, self.lanes, next)?;
         renderer.render_snippet_break(
             self.page.padding,
             self.page.severity,

@@ -1,15 +1,17 @@
 //! What the entries of a line are to a renderer: labels inside the line, and marks of the others.
 
 ghost use Rattle.std.specs.Prelude.{◌≡◌, [], IfOk, OnErr, IsErrOf, map};
-ghost use Rattle.codespan_picture.specs.Given.{all_labelled, mark_of_given};
+ghost use Rattle.codespan_base.specs.Labels.{from_line_start};
+ghost use Rattle.codespan_picture.specs.Given.{all_labelled, labelled, mark_of_given};
+ghost use Rattle.codespan_picture.specs.Picture.{label_of};
 ghost use Rattle.codespan_reporting.specs.Inner.GivenEntries.{entry_of};
 ghost use Rattle.codespan_reporting.specs.Inner.Lanes.{lane_marks, lanes_given};
 ghost use Rattle.codespan_reporting.specs.Inner.Steps.{singles_in};
 
 use crate::term::renderer::{MultiLabel, SingleLabel};
-use crate::term::views::entry::{Entry, Says, SourceLine};
+use crate::term::views::entry::{Entry, Says, SourceLine, range_in_line};
 use crate::term::views::lanes::Lane;
-use codespan_base::diagnostic::LabelStyle;
+use codespan_base::diagnostic::{Label, LabelStyle};
 use codespan_base::files::Error;
 use codespan_renderer::term::renderer::by_cells::LineCells;
 use std::alloc::Global;
@@ -43,11 +45,11 @@ impl<'d> LineMarks<'d> {
     /// Takes what labels do on a line in place of what was there: the marks of these lanes, and the labels of these entries, in their order.
     /// Refuses with `OutOfMemory`.
     #[inline(always)]
-    pub fn refill(
+    pub fn refill<FileId>(
         &mut self,
         lanes: &[Lane<'d>],
         line: SourceLine,
-        entries: &[Entry<'d>],
+        entries: &[Entry<'d, FileId>],
     ) -> Result<(), Error>
         ensures singles { IfOk result (λ _. all_labelled self.new.singles.items ≡ singles_in (map entry_of entries.now)) }
         ensures multis { IfOk result (λ _. map mark_of_given self.new.multis.items ≡ lane_marks (lanes_given lanes.now) line.index line.start) }
@@ -69,7 +71,8 @@ impl<'d> LineMarks<'d> {
 }
 
 /// Takes the marks of these lanes on a line in place of those before. Refuses with `OutOfMemory`.
-fn fill_multis<'d>(
+#[inline(always)]
+pub fn fill_multis<'d>(
     multis: &mut Vec<(usize, LabelStyle, MultiLabel<'d>)>,
     lanes: &[Lane<'d>],
     line: SourceLine,
@@ -87,7 +90,10 @@ fn fill_multis<'d>(
 }
 
 /// Takes the labels of these entries, in their order, in place of those before. Refuses with `OutOfMemory`.
-fn fill_singles<'d>(singles: &mut Vec<SingleLabel<'d>>, entries: &[Entry<'d>]) -> Result<(), Error>
+fn fill_singles<'d, FileId>(
+    singles: &mut Vec<SingleLabel<'d>>,
+    entries: &[Entry<'d, FileId>],
+) -> Result<(), Error>
     ensures singles { IfOk result (λ _. all_labelled singles.new.items ≡ singles_in (map entry_of entries.now)) }
     ensures refused { OnErr result (IsErrOf result Error.OutOfMemory) }
 {
@@ -95,14 +101,21 @@ fn fill_singles<'d>(singles: &mut Vec<SingleLabel<'d>>, entries: &[Entry<'d>]) -
     for entry in entries {
         match entry.says {
             Says::Shown => {}
-            Says::Single {
-                place: _,
-                style,
-                start,
-                end,
-                message,
-            } => singles.push((style, start..end, message))?,
+            Says::Single { place: _, label } => {
+                singles.push(single_label(label, entry.line.start))?;
+            }
         }
     }
     Ok(())
+}
+
+/// A label inside a line that starts at this byte, as a renderer takes it.
+fn single_label<FileId>(label: &Label<FileId>, line_start: usize) -> SingleLabel<'_>
+    ensures { labelled result ≡ from_line_start line_start (label_of label.now).label }
+{
+    (
+        label.style,
+        range_in_line(label, line_start),
+        label.message.as_str(),
+    )
 }

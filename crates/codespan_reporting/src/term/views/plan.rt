@@ -1,6 +1,6 @@
 //! What is drawn of each file of a picture, and where its snippet starts.
 
-ghost use Rattle.std.specs.Prelude.{IfOk, map};
+ghost use Rattle.std.specs.Prelude.{◌≡◌, [], IfOk, map};
 ghost use Rattle.std.specs.List.{AllByRecursion};
 ghost use Rattle.std.specs.List.Sorted.{IsSortedBy};
 ghost use Rattle.codespan_picture.specs.Lookups.{TellsNaming};
@@ -13,12 +13,13 @@ use crate::term::views::gather::Gathered;
 use crate::term::views::groups::file_len;
 use crate::term::views::loci::locus_at;
 use crate::term::views::sheet::SheetFile;
-use crate::term::views::steps::Walk;
+use crate::term::views::steps::{Step, Walk};
 use codespan_base::files::{Error, Files};
 use codespan_base::term::Layout;
 use std::alloc::Global;
 
-/// The files of a picture, in the order of their first labels: what is drawn of each, and where its snippet starts.
+/// The files of a picture, in the order of their first labels: where the snippet of each starts, and how many steps draw it. The steps
+/// are added to the vector that is handed in, which is empty.
 ///
 /// In the unbroken layout this asks for the numbers of the lines that are filled in, and in both layouts for the name and the place of each
 /// file.
@@ -30,10 +31,12 @@ pub fn plan_files<'files, 'e, 'd, F: Files<'files>>(
     files: &'files F,
     layout: Layout,
     gathered: &'e Gathered<'d, F::FileId>,
+    steps: &mut Vec<Step<'e, 'd, F::FileId>>,
 ) -> Result<Vec<SheetFile<'e, 'd, F::FileId>>, Error>
+    requires empty { steps.now.items ≡ [] }
     requires sorted { IsSortedBy is_below (map entry_of gathered.now.entries.items) }
     requires lines { AllByRecursion (IsOfFiles (F.file files.now) (ids_given gathered.now.files.items)) gathered.now.entries.items }
-    ensures plans { IfOk result (λ plans. ArePlansOf layout (F.file files.now) gathered.now plans.items) }
+    ensures plans { IfOk result (λ plans. ArePlansOf layout (F.file files.now) gathered.now plans.items steps.new.items) }
     ensures refused { TellsNaming (plans_refusal layout (F.refusal files.now) gathered.now) result }
 {
     let mut plans = Vec::with_capacity(alloc, gathered.files.len())?;
@@ -46,10 +49,16 @@ pub fn plan_files<'files, 'e, 'd, F: Files<'files>>(
             id: file.id,
             layout,
         };
-        let steps = walk.steps(alloc, &gathered.entries[start..start + len])?;
+        let before = steps.len();
+        walk.push_steps(&gathered.entries[start..start + len], steps)?;
         start += len;
+        let step_count = steps.len() - before;
         match locus_at(alloc, files, file.id, file.start.byte()) {
-            Ok(locus) => plans.push(SheetFile { file, locus, steps })?,
+            Ok(locus) => plans.push(SheetFile {
+                file,
+                locus,
+                step_count,
+            })?,
             Err(refused) => placed = placed.and(Err(refused)),
         }
     }

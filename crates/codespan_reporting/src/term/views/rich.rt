@@ -17,7 +17,7 @@ use crate::term::views::lines::Page;
 use crate::term::views::marks::LineMarks;
 use crate::term::views::parts::{draw_header, draw_notes};
 use crate::term::views::sheet::{Sheet, prepare};
-use crate::term::views::snippets::draw_snippet;
+use crate::term::views::snippets::{draw_end, draw_snippet};
 use crate::term::views::table::Table;
 use codespan_base::diagnostic::Diagnostic;
 use codespan_base::files::{Error, Files};
@@ -123,9 +123,13 @@ impl<'diagnostic, 'config, FileId: Copy + Eq> RichDiagnostic<'diagnostic, 'confi
         };
         let mut marks = LineMarks::new(*diagnostic.labels.allocator());
         let notes_follow = has_notes(diagnostic);
+        let mut start = 0;
         for (place, file) in sheet.files.iter().enumerate() {
+            let steps = &sheet.steps[start..start + file.step_count];
+            start += file.step_count;
             let is_followed = notes_follow | (place + 1 < sheet.files.len());
-            draw_snippet(&page, renderer, &mut marks, file, is_followed)?;
+            draw_snippet(&page, renderer, &mut marks, file, steps)?;
+            draw_end(&page, renderer, file, is_followed)?;
         }
         Ok(())
     }

@@ -23,8 +23,8 @@ pub struct SheetFile<'e, 'd, FileId> {
     pub file: &'e LabelledFile<'d, FileId>,
     /// Where its snippet starts.
     pub locus: Locus,
-    /// What is drawn of it, in order.
-    pub steps: Vec<Step<'e, 'd>>,
+    /// How many steps draw it.
+    pub step_count: usize,
 }
 
 /// What a picture shows of the files of its labels.
@@ -32,6 +32,8 @@ pub struct SheetFile<'e, 'd, FileId> {
 pub struct Sheet<'e, 'd, FileId> {
     /// The files, in the order of their first labels.
     pub files: Vec<SheetFile<'e, 'd, FileId>>,
+    /// What is drawn of them, in order: the steps of the first file, then those of the next.
+    pub steps: Vec<Step<'e, 'd, FileId>>,
     /// The room for line numbers, in characters.
     pub padding: usize,
 }
@@ -51,10 +53,15 @@ pub fn prepare<'files, 'e, 'd, F: Files<'files>>(
     ensures prepared { IfOk result (IsPrepared (⟦<F as Table<'files>>⟧.table files.now) config.now (map label_of gathered.now.labels.now)) }
     ensures refused { TellsNaming (sheet_refusal config.now (⟦<F as Table<'files>>⟧.table files.now) (map label_of gathered.now.labels.now)) result }
 {
-    let files = plan_files(alloc, files, config.layout, gathered)?;
+    let mut steps = Vec::with_capacity(alloc, gathered.entries.len())?;
+    let files = plan_files(alloc, files, config.layout, gathered, &mut steps)?;
     let padding = match config.layout {
         Layout::Classic => gathered.padding,
-        Layout::Unbroken => drawn_padding(&files),
+        Layout::Unbroken => drawn_padding(&steps),
     };
-    Ok(Sheet { files, padding })
+    Ok(Sheet {
+        files,
+        steps,
+        padding,
+    })
 }

@@ -13,6 +13,7 @@ use crate::term::renderer::Renderer;
 use crate::term::views::lines::{FileLines, Page};
 use crate::term::views::marks::LineMarks;
 use crate::term::views::sheet::SheetFile;
+use crate::term::views::steps::Step;
 use crate::term::views::table::Table;
 use codespan_base::files::{Error, Files};
 use codespan_base::term::WriteStyle;
@@ -34,8 +35,36 @@ fn draw_start<F, FileId, W: WriteStyle>(
     Ok(())
 }
 
+/// Asks for the source of a file and draws its snippet by these steps.
+///
+/// Refuses as the first lookup that refuses does, with `OutOfMemory` where a growth is refused, and with `Io` where the writer
+/// refuses. What is written then is a beginning.
+pub fn draw_snippet<'files, 'd, F: Files<'files>, W: WriteStyle>(
+    page: &Page<'files, F>,
+    renderer: &mut Renderer<'_, '_, W>,
+    marks: &mut LineMarks<'d>,
+    snippet: &SheetFile<'_, 'd, F::FileId>,
+    steps: &[Step<'_, 'd, F::FileId>],
+) -> Result<(), Error>
+    requires steps { AllByRecursion (IsStepOf (F.file page.now.files.now snippet.now.file.now.id)) steps.now }
+    requires fits { DoFit (map step_of steps.now) }
+    ensures same { SameRenderer renderer.old renderer.new }
+    ensures draws { DrawsSnippet W.sink ⟦<F as Table<'files>>⟧.table page.now snippet.now steps.now renderer.old result renderer.new }
+{
+    let source = page.files.source(snippet.file.id)?;
+    draw_start(page, renderer, snippet)?;
+    let lines = FileLines {
+        page,
+        id: snippet.file.id,
+        text: source.as_str(),
+        lanes: snippet.file.lanes.as_slice(),
+    };
+    lines.draw_steps(renderer, marks, steps)?;
+    Ok(())
+}
+
 /// The row after a snippet, where something follows.
-fn draw_end<F, FileId, W: WriteStyle>(
+pub fn draw_end<F, FileId, W: WriteStyle>(
     page: &Page<'_, F>,
     renderer: &mut Renderer<'_, '_, W>,
     snippet: &SheetFile<'_, '_, FileId>,
@@ -49,32 +78,4 @@ fn draw_end<F, FileId, W: WriteStyle>(
         renderer.render_snippet_empty(page.padding, page.severity, snippet.file.lanes.len(), &[])?;
     }
     Ok(())
-}
-
-/// Asks for the source of a file and draws its snippet, with a row after it where something follows.
-///
-/// Refuses as the first lookup that refuses does, with `OutOfMemory` where a growth is refused, and with `Io` where the writer
-/// refuses. What is written then is a beginning.
-pub fn draw_snippet<'files, 'd, F: Files<'files>, W: WriteStyle>(
-    page: &Page<'files, F>,
-    renderer: &mut Renderer<'_, '_, W>,
-    marks: &mut LineMarks<'d>,
-    snippet: &SheetFile<'_, 'd, F::FileId>,
-    is_followed: bool,
-) -> Result<(), Error>
-    requires steps { AllByRecursion (IsStepOf (F.file page.now.files.now snippet.now.file.now.id)) snippet.now.steps.items }
-    requires fits { DoFit (map step_of snippet.now.steps.items) }
-    ensures same { SameRenderer renderer.old renderer.new }
-    ensures draws { DrawsSnippet W.sink ⟦<F as Table<'files>>⟧.table page.now snippet.now is_followed renderer.old result renderer.new }
-{
-    let source = page.files.source(snippet.file.id)?;
-    draw_start(page, renderer, snippet)?;
-    let lines = FileLines {
-        page,
-        id: snippet.file.id,
-        text: source.as_str(),
-        lanes: snippet.file.lanes.as_slice(),
-    };
-    lines.draw_steps(renderer, marks, &snippet.steps)?;
-    draw_end(page, renderer, snippet, is_followed)
 }

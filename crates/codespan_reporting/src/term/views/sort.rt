@@ -3,13 +3,13 @@
 ghost use Rattle.std.specs.Prelude.{◌≡◌, map};
 ghost use Rattle.std.specs.List.Sorted.{IsPermutation, IsSortedBy};
 ghost use Rattle.codespan_reporting.specs.Inner.Entries.{entry_cmp, is_below, kind_of, says_cmp};
-ghost use Rattle.codespan_reporting.specs.Inner.GivenEntries.{entry_of, says_of};
+ghost use Rattle.codespan_reporting.specs.Inner.GivenEntries.{entry_of};
 
-use crate::term::views::entry::{Entry, Says};
+use crate::term::views::entry::{Entry, Says, range_in_line};
 use std::cmp::Ordering;
 
 /// The order of entries: by file, by line, and by what is said. Only equal entries tie.
-fn compare(left: &Entry<'_>, right: &Entry<'_>) -> Ordering
+fn compare<FileId>(left: &Entry<'_, FileId>, right: &Entry<'_, FileId>) -> Ordering
     ensures { result ≡ entry_cmp (entry_of left.now) (entry_of right.now) }
 {
     let places = left
@@ -17,50 +17,48 @@ fn compare(left: &Entry<'_>, right: &Entry<'_>) -> Ordering
         .cmp(&right.file)
         .then(left.line.index.cmp(&right.line.index));
     match places {
-        Ordering::Equal => compare_says(&left.says, &right.says),
+        Ordering::Equal => compare_says(left, right),
         _ => places,
     }
 }
 
 /// The order of what is said of a line: that it is shown, then labels inside it by their ranges, and of equal ranges the one given last
 /// first.
-fn compare_says(left: &Says<'_>, right: &Says<'_>) -> Ordering
-    ensures { result ≡ says_cmp (says_of left.now) (says_of right.now) }
+fn compare_says<FileId>(left: &Entry<'_, FileId>, right: &Entry<'_, FileId>) -> Ordering
+    ensures { result ≡ says_cmp (entry_of left.now).says (entry_of right.now).says }
 {
-    match (left, right) {
+    match (&left.says, &right.says) {
         (
-            Says::Single {
-                place,
-                start,
-                end,
-                ..
-            },
+            Says::Single { place, label },
             Says::Single {
                 place: other_place,
-                start: other_start,
-                end: other_end,
-                ..
+                label: other_label,
             },
-        ) => start
-            .cmp(other_start)
-            .then(end.cmp(other_end))
-            .then(other_place.cmp(place)),
+        ) => {
+            let range = range_in_line(*label, left.line.start);
+            let other = range_in_line(*other_label, right.line.start);
+            let starts = range.start.cmp(&other.start);
+            match starts {
+                Ordering::Equal => range.end.cmp(&other.end).then(other_place.cmp(place)),
+                _ => starts,
+            }
+        }
         _ => kind(left).cmp(&kind(right)),
     }
 }
 
-/// 0 where the line is shown, 1 for a label inside it.
-fn kind(says: &Says<'_>) -> usize
-    ensures { result ≡ kind_of (says_of says.now) }
+/// 0 where the entry says that its line is shown, 1 for a label inside it.
+fn kind<FileId>(entry: &Entry<'_, FileId>) -> usize
+    ensures { result ≡ kind_of (entry_of entry.now).says }
 {
-    match says {
+    match &entry.says {
         Says::Shown => 0,
         Says::Single { .. } => 1,
     }
 }
 
 /// Puts the entries in order.
-pub fn sort(entries: &mut Vec<Entry<'_>>)
+pub fn sort<FileId>(entries: &mut Vec<Entry<'_, FileId>>)
     ensures permutation { IsPermutation entries.old.items entries.new.items }
     ensures sorted { IsSortedBy is_below (map entry_of entries.new.items) }
 {

@@ -11,17 +11,16 @@ use crate::term::views::entry::{Entry, SourceLine};
 use crate::term::views::groups::{line_len, shown_len};
 use codespan_base::files::{Error, Files};
 use codespan_base::term::Layout;
-use std::alloc::Global;
 
 /// What is drawn of a file at once.
 #[derive(Clone, Copy)]
-pub enum Step<'e, 'd> {
+pub enum Step<'e, 'd, FileId> {
     /// A line that is shown.
     Shown {
         /// The line.
         line: SourceLine,
         /// The entries of the labels inside it, in order.
-        singles: &'e [Entry<'d>],
+        singles: &'e [Entry<'d, FileId>],
     },
     /// The one line between two that are shown. No label is inside it.
     Filled {
@@ -95,7 +94,7 @@ impl<'files, F: Files<'files>> Walk<'files, F> {
         &self,
         gap: Gap,
         next: SourceLine,
-        steps: &mut Vec<Step<'e, 'd>>,
+        steps: &mut Vec<Step<'e, 'd, F::FileId>>,
     ) -> Result<(), Error>
         requires next { IsLineOf (walked_file F.file self.now) next }
         ensures added { OnOk result (AddsWalked F.file self.now steps.old.items steps.new.items (gap_steps gap next.index)) }
@@ -118,8 +117,8 @@ impl<'files, F: Files<'files>> Walk<'files, F> {
         &self,
         last: Option<usize>,
         line: SourceLine,
-        singles: &'e [Entry<'d>],
-        steps: &mut Vec<Step<'e, 'd>>,
+        singles: &'e [Entry<'d, F::FileId>],
+        steps: &mut Vec<Step<'e, 'd, F::FileId>>,
     ) -> Result<(), Error>
         requires line { IsLineOf (walked_file F.file self.now) line }
         ensures added { OnOk result (AddsWalked F.file self.now steps.old.items steps.new.items (steps_to last line.index (map entry_of singles.now))) }
@@ -130,27 +129,26 @@ impl<'files, F: Files<'files>> Walk<'files, F> {
         Ok(())
     }
 
-    /// The steps of the file, whose entries these are, in order: each line that has entries, a line between two that have, and breaks.
-    /// Refuses as the first lookup of a number that refuses does, and with `OutOfMemory`.
-    pub fn steps<'e, 'd>(
+    /// Adds the steps of the file, whose entries these are, in order: each line that has entries, a line between two that have, and
+    /// breaks. Refuses as the first lookup of a number that refuses does, and with `OutOfMemory`.
+    pub fn push_steps<'e, 'd>(
         &self,
-        alloc: Global,
-        entries: &'e [Entry<'d>],
-    ) -> Result<Vec<Step<'e, 'd>>, Error>
+        entries: &'e [Entry<'d, F::FileId>],
+        steps: &mut Vec<Step<'e, 'd, F::FileId>>,
+    ) -> Result<(), Error>
         requires lines { All (λ e. IsLineOf (walked_file F.file self.now) e.line) entries.now }
-        ensures steps { IfOk result (λ steps. AddsWalked F.file self.now [] steps.items (steps_of (map entry_of entries.now))) }
+        ensures added { OnOk result (AddsWalked F.file self.now steps.old.items steps.new.items (steps_of (map entry_of entries.now))) }
         ensures refused { Tells (numbers_refusal F.refusal self.now (fills_of (steps_of (map entry_of entries.now)))) result }
     {
-        let mut steps = Vec::with_capacity(alloc, entries.len())?;
         let mut last = None;
         let mut at = 0;
         while at < entries.len() {
             let line = entries[at].line;
             let group = &entries[at..at + line_len(&entries[at..], line.index)];
-            self.push_shown(last, line, &group[shown_len(group)..], &mut steps)?;
+            self.push_shown(last, line, &group[shown_len(group)..], steps)?;
             last = Some(line.index);
             at += group.len();
         }
-        Ok(steps)
+        Ok(())
     }
 }

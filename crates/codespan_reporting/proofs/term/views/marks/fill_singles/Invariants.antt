@@ -6,4 +6,4 @@ use Rattle.codespan_reporting.proofs.term.views.marks.fill_singles.Given as goal
 
 -- what is taken and what is left make the whole
 abbrev pub invariant-loop-entry : goal.invariant-loop-entry
-invariant-loop-entry l = all_labelled l.singles.items ++ singles_in (map entry_of (drop l.entry-index l.entries)) ≡ singles_in (map entry_of l.entries)
+invariant-loop-entry g l = all_labelled l.singles.items ++ singles_in (map entry_of (drop l.entry-index l.entries)) ≡ singles_in (map entry_of l.entries)

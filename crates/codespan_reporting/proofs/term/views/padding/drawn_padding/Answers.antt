@@ -1,10 +1,10 @@
 use Rattle.std.proofs.Common.{max, ap, ◌∙◌}
-use Rattle.std.specs.Prelude.{flat_map, fold}
-use Rattle.codespan_reporting.specs.Inner.Plans.{plan_digits, step_digits}
+use Rattle.std.specs.Prelude.{fold}
+use Rattle.codespan_reporting.specs.Inner.Plans.{step_digits}
 use Rattle.codespan_reporting.proofs.PlanPadding.{greatest_more}
 use Rattle.codespan_reporting.proofs.term.views.padding.drawn_padding.Goals as goal
 
-pub loop-file-preserved : goal.loop-file-preserved
-loop-file-preserved g c =
-    greatest_more plan_digits c.args.files.now c.loop-file.file-index c.file-item.result c.loop-file-test.true
-    c.loop-file.invariant (c.file_padding.ensures ∙ ap (λ steps. fold max 0 (flat_map step_digits steps)) c.deref.ensures.value ∙ ap (λ file. fold max 0 (plan_digits file)) c.file-item.is) c.max-padding.ensures
+pub loop-step-preserved : goal.loop-step-preserved
+loop-step-preserved g c =
+    greatest_more step_digits c.args.steps.now c.loop-step.step-index c.step-item.result c.loop-step-test.true
+    c.loop-step.invariant (c.digits_in.ensures ∙ ap (λ step. fold max 0 (step_digits step)) c.step-item.is) c.max-padding.ensures

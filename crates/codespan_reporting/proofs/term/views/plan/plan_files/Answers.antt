@@ -2,10 +2,9 @@ use Rattle.std.proofs.Common.{◌<◌, ◌≤◌, [], Err, length, map, get_or, 
 use Rattle.std.proofs.lemmas.Result.{err_from_is_err_and}
 use Rattle.codespan_picture.specs.Lookups.{TellsNaming}
 use Rattle.codespan_reporting.specs.Inner.GivenEntries.{entry_of}
-use Rattle.codespan_reporting.specs.Inner.GivenSteps.{AddsSteps}
 use Rattle.codespan_reporting.specs.Inner.Plans.{ArePlans, plans_refusal}
 use Rattle.codespan_reporting.proofs.FileParts.{from_file-first}
-use Rattle.codespan_reporting.proofs.PlansFound.{IsTurn, next_inside, next_left, own_asked, own_lines, own_steps, planned-more, planned-refuses, planned-unplaced, plans-tell}
+use Rattle.codespan_reporting.proofs.PlansFound.{IsTurn, added-count, next_inside, next_left, own_asked, own_lines, own_steps, planned-more, planned-refuses, planned-unplaced, plans-tell}
 use Rattle.codespan_reporting.proofs.term.views.plan.plan_files.Given.{Over}
 use Rattle.codespan_reporting.proofs.term.views.plan.plan_files.Goals.{After-branch-placed, After-file_len-len, in-Err, in-Ok+in_ok-push-in-Ok}
 use Rattle.codespan_reporting.proofs.term.views.plan.plan_files.Goals as goal
@@ -15,7 +14,9 @@ loop-place-init g c = record {
   inside = omega arith;
   left = from_file-first (map entry_of c.args.gathered.now.entries.items);
   planned = record {
-    plans = subst (ArePlans c.args.layout (g.F.Files.file c.args.files.now) (map entry_of c.args.gathered.now.entries.items) 0 []) (sym c.in_ok-plans.ensures.items) tt;
+    plans =
+        subst (λ plans. ArePlans c.args.layout (g.F.Files.file c.args.files.now) (map entry_of c.args.gathered.now.entries.items) 0 [] plans c.args.steps.now.items)
+        (sym c.in_ok-plans.ensures.items) c.requires.empty;
     answered = refl;
     kept = refl;
   };
@@ -39,15 +40,15 @@ turn g c =
       };
     }
 
-pub steps-requires : goal.steps-requires
-steps-requires g c κs = ((refl, tt), own_lines (turn g (goal.at.steps-requires g c).After-file_len-len) c.deref-in-loop-place.ensures.value (g.F.Files.file c.args.files.now) c.requires.lines)
+pub push_steps-requires : goal.push_steps-requires
+push_steps-requires g c κs = ((refl, tt), own_lines (turn g (goal.at.push_steps-requires g c).After-file_len-len) c.deref-in-loop-place.ensures.value (g.F.Files.file c.args.files.now) c.requires.lines)
 
-pub returns-in_err-steps-clause-refused : goal.returns-in_err-steps-clause-refused
-returns-in_err-steps-clause-refused g c =
-    let at = turn g (goal.at.returns-in_err-steps-clause-refused g c).After-file_len-len in
+pub returns-in_err-push_steps-clause-refused : goal.returns-in_err-push_steps-clause-refused
+returns-in_err-push_steps-clause-refused g c =
+    let at = turn g (goal.at.returns-in_err-push_steps-clause-refused g c).After-file_len-len in
     let asked = own_asked at c.deref-in-loop-place.ensures.value c.args.layout (g.F.Files.refusal c.args.files.now) in
-    let p = err_from_is_err_and c.from_residual-in_err-steps.result c.from_residual-in_err-steps.ensures.1 in
-    rw (p.1 ∙ ap Err p.2) (λ memory display. planned-refuses at.here c.loop-place.invariant.planned (sym asked ∙ c.in_err-steps.ensures.refused memory))
+    let p = err_from_is_err_and c.from_residual-in_err-push_steps.result c.from_residual-in_err-push_steps.ensures.1 in
+    rw (p.1 ∙ ap Err p.2) (λ memory display. planned-refuses at.here c.loop-place.invariant.planned (sym asked ∙ c.in_err-push_steps.ensures.refused memory))
 
 pub loop-place-preserved : goal.loop-place-preserved
 loop-place-preserved g c =
@@ -55,17 +56,20 @@ loop-place-preserved g c =
     let at = turn g (goal.at.loop-place-preserved g c).After-file_len-len in
     let before = c.loop-place.invariant.planned in
     let zs_are = c.deref-in-loop-place.ensures.value in
-    let numbers = sym (own_asked at zs_are c.args.layout (g.F.Files.refusal c.args.files.now)) ∙ c.in_ok-steps.ensures.refused in
+    let numbers = sym (own_asked at zs_are c.args.layout (g.F.Files.refusal c.args.files.now)) ∙ c.in_ok-push_steps.ensures.refused in
+    let added = c.in_ok-push_steps.ensures.added in
     record {
       inside = next_inside at;
       left = next_left at;
       planned = elim c.match-locus_at.branch [
         | in-Ok+in_ok-push-in-Ok w ↦
-            rw w.placed-is (planned-more at.here before (ap (λ plans. plans.items) w.plans-is ∙ w.in_ok-push-in-Ok.ensures.items)
+            rw w.placed-is (planned-more at.here before (ap (λ plans. plans.items) w.plans-is ∙ w.in_ok-push-in-Ok.ensures.items) added.whole
             (record {
               file_is = refl;
               place = rw c.byte.ensures at w.in-Ok.ensures.locus;
-              adds = subst (AddsSteps c.args.layout (file c.file-item.result.id) [] _) (own_steps at zs_are) c.in_ok-steps.ensures.steps;
+              count_is = added-count (c.len-in-loop-place.ensures ∙ c.push_steps.new.steps.ok.0) (c.len-before.ensures ∙ c.loop-place.steps.ok.0) added;
+              are = added.are ∙ own_steps at zs_are;
+              each = added.each;
             })
             numbers (rw c.byte.ensures at w.in-Ok.ensures.refused))
         | in-Err w ↦ rw (w.plans-is, w.placed-is ∙ w.and-placed.ensures) (planned-unplaced at.here before numbers (rw c.byte.ensures at w.in-Err.ensures.refused))

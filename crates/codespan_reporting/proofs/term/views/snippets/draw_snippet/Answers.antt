@@ -1,25 +1,15 @@
-use Rattle.std.proofs.Common.{rules, List, Err, map, refl, sym, ap, ◌∙◌, subst}
-use Rattle.std.specs.List.{AllByRecursion}
+use Rattle.std.proofs.Common.{rules, Ok, Err, refl, ap, ◌∙◌}
 use Rattle.std.proofs.lemmas.Result.{err_from_is_err_and}
 use Rattle.codespan_renderer.specs.Renderers.{config_of}
-use Rattle.codespan_reporting.specs.declared.term.views.steps.Step.{Step}
-use Rattle.codespan_reporting.specs.Inner.GivenSteps.{IsStepOf, step_of}
-use Rattle.codespan_reporting.specs.Inner.StepDrawing.{DoFit}
 use Rattle.codespan_reporting.specs.Inner.Tables.{table_by}
 use Rattle.codespan_reporting.proofs.Askings.{asking_refused_before}
-use Rattle.codespan_reporting.proofs.SnippetParts.{IsOpen, end-drawn, lines-drawn, snippet-at_start, snippet-in_lines, snippet-drawn}
+use Rattle.codespan_reporting.proofs.SnippetParts.{IsOpen, lines-drawn, snippet-at_start, snippet-drawn}
 use Rattle.codespan_reporting.proofs.term.views.snippets.draw_snippet.Given.{Over}
 use Rattle.codespan_reporting.proofs.term.views.snippets.draw_snippet.Goals.{In_ok-source}
 use Rattle.codespan_reporting.proofs.term.views.snippets.draw_snippet.Goals as goal
 
 pub draw_steps-requires : goal.draw_steps-requires
-draw_steps-requires g c κs =
-    let snippet = c.args.snippet.now in
-    let f = g.F.Files.file c.args.page.now.files.now snippet.file.now.id in
-    let steps = sym c.deref.ensures.value in (
-      (refl, (refl, (refl, tt))),
-      (search rules, (subst (AllByRecursion (IsStepOf f)) steps c.requires.steps, subst (λ (l : List Step). DoFit (map step_of l)) steps c.requires.fits)),
-    )
+draw_steps-requires g c κs = ((refl, (refl, (refl, tt))), (search rules, (c.requires.steps, c.requires.fits)))
 
 pub returns-in_err-source-clause-draws : goal.returns-in_err-source-clause-draws
 returns-in_err-source-clause-draws g c =
@@ -28,7 +18,7 @@ returns-in_err-source-clause-draws g c =
 
 -- the source of the file is there
 open_at : (g : Over) (c : In_ok-source g)
-    → IsOpen (table_by g.F.FileId.PartialEq.eq g.F.Files.file g.F.Files.refusal) c.args.page.now c.args.snippet.now c.args.is_followed (config_of c.args.renderer.now)
+    → IsOpen (table_by g.F.FileId.PartialEq.eq g.F.Files.file g.F.Files.refusal) c.args.page.now c.args.snippet.now c.args.steps.now (config_of c.args.renderer.now)
 open_at g c = record { answered = c.in_ok-source.ensures.refused }
 
 pub returns-in_err-draw_start-clause-draws : goal.returns-in_err-draw_start-clause-draws
@@ -42,14 +32,11 @@ returns-in_err-draw_steps-clause-draws g c =
     let p = err_from_is_err_and c.from_residual-in_err-draw_steps.result c.from_residual-in_err-draw_steps.ensures.1 in
     let opened = open_at g (goal.at.returns-in_err-draw_steps-clause-draws g c).In_ok-source in
     rw (p.1 ∙ ap Err p.2)
-    (snippet-in_lines opened c.in_ok-draw_start.ensures.sends
-    (lines-drawn opened c.as_slice.ensures.value c.deref.ensures.value c.in_ok-draw_start.ensures.same.config c.in_err-draw_steps.ensures.draws))
+    (snippet-drawn opened _ (Err _) c.in_ok-draw_start.ensures.sends
+    (lines-drawn opened c.as_slice.ensures.value c.in_ok-draw_start.ensures.same.config c.in_err-draw_steps.ensures.draws))
 
 pub returns-clause-draws : goal.returns-clause-draws
 returns-clause-draws g c =
-    let first = c.in_ok-draw_start.ensures.same.config in
-    let second = c.in_ok-draw_steps.ensures.same.config in
     let opened = open_at g (goal.at.returns-clause-draws g c).In_ok-source in
-    snippet-drawn opened _ c.in_ok-draw_start.ensures.sends
-    (lines-drawn opened c.as_slice.ensures.value c.deref.ensures.value first c.in_ok-draw_steps.ensures.draws)
-    (end-drawn opened c.draw_end.result (second ∙ first) c.draw_end.ensures.sends c.draw_end.ensures.io)
+    snippet-drawn opened _ (Ok tt) c.in_ok-draw_start.ensures.sends
+    (lines-drawn opened c.as_slice.ensures.value c.in_ok-draw_start.ensures.same.config c.in_ok-draw_steps.ensures.draws)

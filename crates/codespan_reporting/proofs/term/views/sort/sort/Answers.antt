@@ -8,7 +8,7 @@ use Rattle.codespan_laws.proofs.SortedLists.{sorted-map}
 use Rattle.codespan_reporting.proofs.term.views.sort.sort.Goals as goal
 
 pub returns-clause-sorted : goal.returns-clause-sorted
-returns-clause-sorted c =
+returns-clause-sorted g c =
     sorted-map entry_of is_below _
     (c.sort_unstable_by.ensures.sorted (λ x y. is_below (entry_of x) (entry_of y))
     (record { one_way = λ x y. below_order.one_way (entry_of x) (entry_of y); chain = λ x y z. below_order.chain (entry_of x) (entry_of y) (entry_of z) })

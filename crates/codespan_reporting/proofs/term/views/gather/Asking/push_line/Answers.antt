@@ -11,5 +11,5 @@ pub returns-in_default-clause-added : goal.returns-in_default-clause-added
 returns-in_default-clause-added g c =
     Adds-as
     (said-line (asked_as (table_by g.F.FileId.PartialEq.eq g.F.Files.file g.F.Files.refusal) c.args.self.now c.args.label.now) c.requires.first c.requires.last c.requires.line c.says_of_line.ensures
-    ∙ ap (λ says. said c.args.self.now.at.file c.args.line.index (option_map says_of says)) c.in_default.is)
+    ∙ ap (λ says. said c.args.self.now.at.file c.args.line.index (option_map (says_of c.args.line.start) says)) c.in_default.is)
     Adds-none

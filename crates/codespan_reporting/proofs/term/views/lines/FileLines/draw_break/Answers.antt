@@ -5,10 +5,10 @@ use Rattle.codespan_reporting.proofs.Askings.{asking_no_memory, out_of_memory}
 use Rattle.codespan_reporting.proofs.LaneMarks.{lanes_fit}
 use Rattle.codespan_reporting.proofs.term.views.lines.FileLines.draw_break.Goals as goal
 
-pub returns-in_err-refill-clause-draws : goal.returns-in_err-refill-clause-draws
-returns-in_err-refill-clause-draws g c =
+pub returns-in_err-fill_multis-clause-draws : goal.returns-in_err-fill_multis-clause-draws
+returns-in_err-fill_multis-clause-draws g c =
     let p = err_from_is_err_and c.from_residual.result c.from_residual.ensures.1 in
-    rw p.1 (asking_no_memory (out_of_memory p.2 c.in_err-refill.ensures.refused))
+    rw p.1 (asking_no_memory (out_of_memory p.2 c.in_err-fill_multis.ensures.refused))
 
 pub render_snippet_break-requires : goal.render_snippet_break-requires
-render_snippet_break-requires g c = lanes_fit c.args.self.now.lanes.now c.args.next.index c.args.next.start _ (ap (map mark_of_given) c.as_slice.ensures.value ∙ c.in_ok-refill.ensures.multis)
+render_snippet_break-requires g c = lanes_fit c.args.self.now.lanes.now c.args.next.index c.args.next.start _ (ap (map mark_of_given) c.as_slice.ensures.value ∙ c.in_ok-fill_multis.ensures.multis)

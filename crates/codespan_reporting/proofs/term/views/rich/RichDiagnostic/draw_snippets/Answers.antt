@@ -1,34 +1,50 @@
-use Rattle.std.proofs.Common.{Err, refl, ap, ◌∙◌}
+use Rattle.std.proofs.Common.{Err, refl, ap, ◌∙◌, arith}
 use Rattle.std.proofs.lemmas.Result.{err_from_is_err_and}
 use Rattle.codespan_reporting.proofs.LabelPlaces.{stands-alike}
-use Rattle.codespan_reporting.proofs.SheetDrawing.{is-sheet_file, left-cut, left-end, left-next, left-start}
+use Rattle.codespan_reporting.proofs.SheetDrawing.{cut-after_snippet, cut-after_snippet, cut-in_snippet, later-files, left-end, left-start, next-file, own-steps}
 use Rattle.codespan_reporting.proofs.term.views.rich.RichDiagnostic.draw_snippets.Goals as goal
 
 pub loop-place-init : goal.loop-place-init
-loop-place-init g c = record { same = record { reference = refl; config = refl }; left = left-start }
+loop-place-init g c = record { same = record { reference = refl; config = refl }; files = record { inside = omega arith; are = c.requires.files_are }; left = left-start }
 
 pub draw_snippet-requires : goal.draw_snippet-requires
 draw_snippet-requires g c κs =
-    let is = is-sheet_file c.requires (stands-alike c.deref-file-items.ensures.value c.loop-place-test.true c.file-item.is) in
-    ((refl, tt), (is.each, is.fits))
+    let at = stands-alike c.deref-file-items.ensures.value c.loop-place-test.true c.file-item.is in
+    let own = own-steps at c.loop-place.invariant.files c.deref.ensures.value in
+    ((refl, tt), (own.each, own.fits))
 
 pub returns-in_err-draw_snippet-clause-draws : goal.returns-in_err-draw_snippet-clause-draws
 returns-in_err-draw_snippet-clause-draws g c =
     let at = stands-alike c.deref-file-items.ensures.value c.loop-place-test.true c.file-item.is in
+    let own = own-steps at c.loop-place.invariant.files c.deref.ensures.value in
     let count = c.len.ensures ∙ c.args.sheet.now.files.ok.0 in
     let p = err_from_is_err_and c.from_residual.result c.from_residual.ensures.1 in
     rw (p.1 ∙ ap Err p.2)
-    (left-cut c.requires c.loop-place.invariant.left at c.has_notes-notes_follow.ensures count c.loop-place.invariant.same.config c.in_err-draw_snippet.ensures.draws)
+    (cut-in_snippet c.requires c.loop-place.invariant.left at own c.has_notes-notes_follow.ensures count c.loop-place.invariant.same.config c.in_err-draw_snippet.ensures.draws)
+
+pub returns-in_err-draw_end-clause-draws : goal.returns-in_err-draw_end-clause-draws
+returns-in_err-draw_end-clause-draws g c =
+    let at = stands-alike c.deref-file-items.ensures.value c.loop-place-test.true c.file-item.is in
+    let own = own-steps at c.loop-place.invariant.files c.deref.ensures.value in
+    let count = c.len.ensures ∙ c.args.sheet.now.files.ok.0 in
+    let p = err_from_is_err_and c.from_residual-in_err-draw_end.result c.from_residual-in_err-draw_end.ensures.1 in
+    rw (p.1 ∙ ap Err p.2)
+    (cut-after_snippet c.requires c.loop-place.invariant.left at own c.has_notes-notes_follow.ensures count c.loop-place.invariant.same.config c.in_ok-draw_snippet.ensures.draws
+    c.in_ok-draw_snippet.ensures.same.config c.in_err-draw_end.ensures.sends c.in_err-draw_end.ensures.io)
 
 pub loop-place-preserved : goal.loop-place-preserved
 loop-place-preserved g c =
     let at = stands-alike c.deref-file-items.ensures.value c.loop-place-test.true c.file-item.is in
+    let own = own-steps at c.loop-place.invariant.files c.deref.ensures.value in
     let count = c.len.ensures ∙ c.args.sheet.now.files.ok.0 in
-    let same = c.in_ok-draw_snippet.ensures.same in
+    let first = c.in_ok-draw_snippet.ensures.same in
+    let second = c.in_ok-draw_end.ensures.same in
     let was = c.loop-place.invariant.same in
     record {
-      same = record { reference = same.reference ∙ was.reference; config = same.config ∙ was.config };
-      left = left-next c.requires c.loop-place.invariant.left at c.has_notes-notes_follow.ensures count was.config c.in_ok-draw_snippet.ensures.draws;
+      same = record { reference = second.reference ∙ first.reference ∙ was.reference; config = second.config ∙ first.config ∙ was.config };
+      files = later-files at c.loop-place.invariant.files;
+      left = next-file c.requires c.loop-place.invariant.left at own c.has_notes-notes_follow.ensures count was.config c.in_ok-draw_snippet.ensures.draws
+          first.config c.in_ok-draw_end.ensures.sends;
     }
 
 pub returns-clause-draws : goal.returns-clause-draws

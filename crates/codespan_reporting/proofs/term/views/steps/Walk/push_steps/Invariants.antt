@@ -3,13 +3,13 @@ use Rattle.codespan_reporting.specs.Inner.GivenEntries.{entry_of}
 use Rattle.codespan_reporting.specs.Inner.Steps.{steps_of}
 use Rattle.codespan_reporting.proofs.GivenSteps.{steps_left}
 use Rattle.codespan_reporting.proofs.StepsFound.{StepsLeft}
-use Rattle.codespan_reporting.proofs.term.views.steps.Walk.steps.Given as goal
+use Rattle.codespan_reporting.proofs.term.views.steps.Walk.push_steps.Given as goal
 
 -- some steps are found, and the walk over the entries that are left makes the rest
 abbrev pub invariant-loop-at : goal.invariant-loop-at
 invariant-loop-at g l = record {
   within : l.at ≤ length l.entries;
-  left : StepsLeft (g.F.Files.refusal l.self.files.now) l.self.id l.self.layout (g.F.Files.file l.self.files.now l.self.id) (steps_of (map entry_of l.entries)) (steps_left l.entries l.at l.last) l.steps.items;
+  left : StepsLeft (g.F.Files.refusal l.self.files.now) l.self.id l.self.layout (g.F.Files.file l.self.files.now l.self.id) (steps_of (map entry_of l.entries)) (steps_left l.entries l.at l.last) l.fn.steps.items l.steps.items;
 }
 
 abbrev pub decreases-loop-at : goal.decreases-loop-at
