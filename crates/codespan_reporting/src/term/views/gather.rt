@@ -83,15 +83,16 @@ impl<'a, 'c, 'files, F: Files<'files>> Asking<'a, 'c, 'files, F> {
     ) -> Option<Says<'d, F::FileId>>
         ensures { option_map (says_of line.start) result ≡ says_by self.now label.now line }
     {
-        if self.lines.is_single() && self.lines.first == line.index {
+        // Of the lines that a long label asks for, it shows few.
+        if !self.lines.shows(self.config, line.index) {
+            None
+        } else if self.lines.is_single() && self.lines.first == line.index {
             Some(Says::Single {
                 place: self.at.place,
                 label,
             })
-        } else if self.lines.shows(self.config, line.index) {
-            Some(Says::Shown)
         } else {
-            None
+            Some(Says::Shown)
         }
     }
 
