@@ -31,10 +31,12 @@ ansi_bold false = []
 -- what sets a colour in a plane: `3` is the text, `4` what is behind it
 unfoldable pub ansi_color : List ℕ → Bool → Option Color → List ℕ
 ansi_color plane intense None = []
-ansi_color plane true (Some color) = escape (plane ++ codes "8;5;" ++ decimal (8 + color_number color))
+ansi_color plane true (Some color) =
+    escape (plane ++ codes "8;5;" ++ decimal (8 + color_number color))
 ansi_color plane false (Some color) = escape (plane ++ decimal (color_number color))
 
 -- what sets a style, whatever was set before
 unfoldable pub ansi_style : ColorSpec → List ℕ
 ansi_style spec =
-    ansi_reset ++ ansi_bold spec.bold ++ ansi_color (codes "3") spec.intense spec.fg ++ ansi_color (codes "4") spec.intense spec.bg
+    ansi_reset ++ ansi_bold spec.bold ++ ansi_color (codes "3") spec.intense spec.fg
+    ++ ansi_color (codes "4") spec.intense spec.bg

@@ -6,7 +6,8 @@ use Rattle.codespan_files.specs.declared.diagnostic.LabelStyle.TheVariants.{Prim
 use Rattle.codespan_base.specs.Streams.{Stream}
 use Rattle.codespan_files.specs.FileModel.{FileModel, line_of, line_start}
 
--- a label's range is of the file, or, once it is drawn, of its line; its message is a stream, so that a slot can stand for it
+-- a label's range is of the file, or, once it is drawn, of its line; its message is a stream, so
+-- that a slot can stand for it
 pub record Labelled : Type 0 where
   pub style : LabelStyle
   pub start : ℕ
@@ -45,7 +46,8 @@ last_line f x = line_of f.starts x.end
 abbrev pub is_single : FileModel → Labelled → Bool
 is_single f x = first_line f x == last_line f x
 
--- the label with its drawn range, where its line starts at this byte: at least one byte long, and counted from there
+-- the label with its drawn range, where its line starts at this byte: at least one byte long, and
+-- counted from there
 abbrev pub from_line_start : ℕ → Labelled → Labelled
 from_line_start start x = record x {
   start = x.start - start;
@@ -71,37 +73,41 @@ multi_labels f labels = filter (λ x. not (is_single f x)) labels
 abbrev pub stands_before : Labelled → Labelled → Bool
 stands_before x y = nat_lt x.start y.start || (x.start == y.start && nat_lt x.end y.end)
 
--- a label put in its place among labels in order, before those that are equal to it
+-- labels in order with one more, before those of its range
 abbrev pub put_in : Labelled → List Labelled → List Labelled
 put_in x [] = x ∷ []
 put_in x (y ∷ ys) = if stands_before y x then y ∷ put_in x ys else x ∷ y ∷ ys
 
--- labels in the order of their ranges, equal ones as they stand
+-- labels in the order of their ranges, those of one range in the order given
 abbrev pub sorted : List Labelled → List Labelled
 sorted [] = []
 sorted (x ∷ xs) = put_in x (sorted xs)
 
--- the single-line labels of a line by their drawn ranges; of equal ranges the one given last stands first
+-- the single-line labels of a line by their drawn ranges; of equal ranges the last given is first.
+-- `sorted xs` is the only permutation of `xs` that is sorted by `stands_before` and stable: the law
+-- `labels_are_sorted`
 abbrev pub single_labels : FileModel → List Labelled → ℕ → List Labelled
 single_labels f labels l =
-    sorted (reverse (map (drawn_label f) (filter (λ x. is_single f x && (first_line f x == l)) labels)))
+    sorted (reverse (map (drawn_label f)
+    (filter (λ x. is_single f x && (first_line f x == l)) labels)))
 
 -- ---- marks of the multi-line labels on a line
 
 -- what a label over several lines does on one of them
-pub data Part : Type 0 where
-  Top : ℕ → Part
-  Left : Part
-  Bottom : ℕ → Stream → Part
+pub data MultiLabel : Type 0 where
+  Top : ℕ → MultiLabel
+  Left : MultiLabel
+  Bottom : ℕ → Stream → MultiLabel
 
 -- a mark: what a label does on a line, with the label's lane and style
 pub record LaneMark : Type 0 where
   pub lane : ℕ
   pub style : LabelStyle
-  pub part : Part
+  pub part : MultiLabel
 
--- what a label from line `s` to line `e` does on line `l`, which starts at this byte: it begins there, ends there, goes through, or does nothing
-abbrev pub part_at : ℕ → ℕ → ℕ → ℕ → Labelled → Option Part
+-- what a label from line `s` to line `e` does on line `l`, which starts at this byte: it begins
+-- there, ends there, goes through, or does nothing
+abbrev pub part_at : ℕ → ℕ → ℕ → ℕ → Labelled → Option MultiLabel
 part_at s e l start x =
     if s == l then Some (Top (x.start - start))
     else if e == l then Some (Bottom (x.end - start) x.message)
@@ -109,15 +115,16 @@ part_at s e l start x =
     else None
 
 -- what the label does on a line of its file
-abbrev pub part_on : FileModel → ℕ → Labelled → Option Part
+abbrev pub part_on : FileModel → ℕ → Labelled → Option MultiLabel
 part_on f l x = part_at (first_line f x) (last_line f x) l (line_start f l) x
 
 -- a mark, where the label has one
-abbrev pub mark_of : ℕ → Labelled → Option Part → Option LaneMark
+abbrev pub mark_of : ℕ → Labelled → Option MultiLabel → Option LaneMark
 mark_of lane x None = None
 mark_of lane x (Some part) = Some (record { lane = lane; style = x.style; part = part })
 
 -- the marks of a line, in the order of the lanes
 abbrev pub marks_on : FileModel → List Labelled → ℕ → List LaneMark
 marks_on f labels l =
-    filter_map (λ (entry : ℕ × Labelled). mark_of entry.0 entry.1 (part_on f l entry.1)) (enumerate_from 0 (multi_labels f labels))
+    filter_map (λ (entry : ℕ × Labelled). mark_of entry.0 entry.1 (part_on f l entry.1))
+    (enumerate_from 0 (multi_labels f labels))

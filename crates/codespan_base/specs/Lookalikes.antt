@@ -1,4 +1,4 @@
--- When two sets of characters, or two configurations, draw alike, whatever memory their texts lie in.
+-- When two sets of characters, or two configurations, draw alike, whatever memory has their texts.
 use Rattle.std.specs.Prelude.{◌≡◌}
 use Rattle.codespan_base.specs.declared.term.config.chars.Chars.{Chars}
 use Rattle.codespan_base.specs.declared.term.config.Config.{Config}

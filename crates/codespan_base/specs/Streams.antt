@@ -1,4 +1,5 @@
--- What a writer is given: bytes, marks of style, and, where a law speaks of them, slots that stand for labels' messages.
+-- What a writer is given: bytes, marks of style, and, where a law speaks of them, slots that stand
+-- for labels' messages.
 use Rattle.std.specs.Prelude.{ℕ, Bool, not, List, [], ◌∷◌, ◌++◌, map, replicate, count_by}
 use Rattle.std.specs.List.{repeat}
 use Rattle.std.specs.Int.{is_in_range}

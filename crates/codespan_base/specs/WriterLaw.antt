@@ -62,7 +62,8 @@ KeepsFrame old r new = MatchResult r (λ _. new ≡ old) (λ _. new ≡ refusing
 
 -- of a writer that tells its bytes: the stream came, or where the call is refused a beginning of it
 abbrev pub Gains : {E : Type 0} → Sink → Stream → Result (Unit {0}) E → Sink → Type 0
-Gains old items r new = is_told old ≡ true → MatchResult r (λ _. new ≡ sent old items) (λ _. Began old items new)
+Gains old items r new =
+    is_told old ≡ true → MatchResult r (λ _. new ≡ sent old items) (λ _. Began old items new)
 
 -- the call sends the stream
 abbrev pub Sends : {E : Type 0} → Sink → Stream → Result (Unit {0}) E → Sink → Type 0
@@ -76,7 +77,8 @@ after_put f bs n = if n == 0 && nat_lt 0 (length bs) then refusing f else f
 abbrev pub Puts : {E : Type 0} → Sink → List ℕ → Result ℕ E → Sink → Type 0
 Puts old bs r new =
     MatchResult r (λ n. new.frame ≡ after_put old.frame bs n) (λ _. new.frame ≡ refusing old.frame)
-    × (is_told old ≡ true → MatchResult r (λ n. new.held ≡ append_known old.held (take n bs)) (λ _. new.held ≡ old.held))
+    × (is_told old ≡ true → MatchResult r
+    (λ n. new.held ≡ append_known old.held (take n bs)) (λ _. new.held ≡ old.held))
 
 -- a writer of this frame, but for whether it has refused, and with these bytes
 abbrev pub with_flag : Frame → Bool → Option (List ℕ) → Sink

@@ -38,18 +38,30 @@ pub record IsSilent {T E : Type 0} (old : T) (result : Result (Unit {0}) E) (new
 
 -- ---- the two that take marks
 
--- a writer that spells marks so and holds these bytes, owns what it writes to, and has refused nothing yet
+-- a writer that spells marks so and holds these bytes, owns what it writes to, and has refused
+-- nothing yet
 abbrev pub fresh_sink : Spelling → Option (List ℕ) → Sink
-fresh_sink spelling bytes = record { frame = record { spelling = spelling; refused = false; through = [] }; held = bytes }
+fresh_sink spelling bytes = record {
+  frame = record { spelling = spelling; refused = false; through = [] };
+  held = bytes;
+}
 
 -- a plain writer spells every mark as nothing
 abbrev pub plain_sink : {W : Type 0} → (W → Option (List ℕ)) → PlainWriter W → Sink
-plain_sink contents p = record { frame = record { spelling = no_marks; refused = p.refused; through = [] }; held = contents p.inner }
+plain_sink contents p = record {
+  frame = record { spelling = no_marks; refused = p.refused; through = [] };
+  held = contents p.inner;
+}
 
 -- a writer of styles spells each mark as the bytes of its style
-abbrev pub styles_sink : {W : Type 0} → (W → Option (List ℕ)) → (ColorSpec → List ℕ) → List ℕ → StylesWriter W → Sink
+abbrev pub styles_sink : {W : Type 0}
+    → (W → Option (List ℕ)) → (ColorSpec → List ℕ) → List ℕ → StylesWriter W → Sink
 styles_sink contents color reset p = record {
-  frame = record { spelling = spelling_by p.styles.now color reset; refused = p.refused; through = [] };
+  frame = record {
+    spelling = spelling_by p.styles.now color reset;
+    refused = p.refused;
+    through = [];
+  };
   held = contents p.inner;
 }
 
@@ -72,4 +84,7 @@ lent_sink contents l = record {
 
 -- one that has refused nothing yet
 abbrev pub fresh_lent : GName → Option (List ℕ) → Sink
-fresh_lent name bytes = record { frame = record { spelling = no_marks; refused = false; through = name ∷ [] }; held = bytes }
+fresh_lent name bytes = record {
+  frame = record { spelling = no_marks; refused = false; through = name ∷ [] };
+  held = bytes;
+}

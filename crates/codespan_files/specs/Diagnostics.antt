@@ -1,4 +1,5 @@
--- What labels and diagnostics say, whatever memory holds their texts, and the order of severities and styles.
+-- What labels and diagnostics say, whatever memory holds their texts, and the order of severities
+-- and styles.
 use Rattle.std.specs.Prelude.{ℕ, List, map, Option, string_bytes}
 use Rattle.std.specs.Option.{option_map}
 use Rattle.std.specs.declared.ops.Range.{Range}

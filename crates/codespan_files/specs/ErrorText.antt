@@ -7,9 +7,12 @@ use Rattle.codespan_files.specs.declared.files.error.Error.TheVariants.{FileMiss
 -- the text of an error; that of `Io` is the cause's, and nothing is said of it
 abbrev pub error_text : Error → Option (List ℕ)
 error_text FileMissing = Some (codes "file missing")
-error_text (IndexTooLarge given max) = Some (codes "invalid index " ++ (decimal given ++ (codes ", maximum index is " ++ decimal max)))
-error_text (LineTooLarge given max) = Some (codes "invalid line " ++ (decimal given ++ (codes ", maximum line is " ++ decimal max)))
-error_text (ColumnTooLarge given max) = Some (codes "invalid column " ++ (decimal given ++ (codes ", maximum column " ++ decimal max)))
+error_text (IndexTooLarge given max) =
+    Some (codes "invalid index " ++ (decimal given ++ (codes ", maximum index is " ++ decimal max)))
+error_text (LineTooLarge given max) =
+    Some (codes "invalid line " ++ (decimal given ++ (codes ", maximum line is " ++ decimal max)))
+error_text (ColumnTooLarge given max) =
+    Some (codes "invalid column " ++ (decimal given ++ (codes ", maximum column " ++ decimal max)))
 error_text (InvalidCharBoundary given) = Some (codes "index is not a code point boundary")
 error_text (Io cause) = None
 error_text FormatError = Some (codes "formatting error")

@@ -26,7 +26,7 @@ pub record FileModel : Type 0 where
   -- the place of a byte
   pub location : ℕ → Location
 
--- what is asked of a file
+-- what is looked up in a file
 pub data Lookup : Type 0 where
   Name : Lookup
   Source : Lookup
@@ -35,6 +35,15 @@ pub data Lookup : Type 0 where
   ColumnNumber : ℕ → ℕ → Lookup
   LocationAt : ℕ → Lookup
   LineRange : ℕ → Lookup
+
+-- a file database: which ids are equal, the file of an id, and what a lookup of it fails with
+pub record FileDatabase (Id : Type 0) : Type 0 where
+  -- whether two ids are equal
+  pub same : Id → Id → Bool
+  -- the file that an id names
+  pub file : Id → FileModel
+  -- the error that a lookup of it fails with, if any; that an allocation fails is no part of this
+  pub refusal : Id → Lookup → Option Error
 
 -- how many lines a file has
 abbrev pub line_count : FileModel → ℕ
@@ -50,11 +59,12 @@ pub record IsLineRange (f : FileModel) (i : ℕ) (r : Range ℕ) : Type 0 where
   pub start_is : r.start ≡ slice_index f.starts i
   pub end_is : r.end ≡ slice_index f.ends i
 
--- a lookup tells its refusal, or that memory ran out, and nothing else
+-- a lookup that is to fail with this error does, unless an allocation fails, and one that is not to
+-- fail fails only where an allocation does
 abbrev pub Tells : {T : Type 0} → Option Error → Result T Error → Type 0
 Tells o r = MatchResult r (λ _. o ≡ None) (λ e. e ≢ OutOfMemory → o ≡ Some e)
 
--- the call is not refused for want of memory
+-- the call does not fail for want of memory
 abbrev pub NeedsNoMemory : {T : Type 0} → Result T Error → Type 0
 NeedsNoMemory r = IfErr r (λ e. e ≢ OutOfMemory)
 
@@ -64,11 +74,13 @@ pub record IsLawful (f : FileModel) : Type 0 where
   pub fits : length f.text < 2 ^ 64
   pub some_line : 0 < length f.starts
   pub first : slice_index f.starts 0 ≡ 0
-  pub ascending : (i : ℕ) → i + 1 < length f.starts → slice_index f.starts i < slice_index f.starts (i + 1)
+  pub ascending : (i : ℕ) → i + 1 < length f.starts
+      → slice_index f.starts i < slice_index f.starts (i + 1)
   pub starts_cut : (i : ℕ) → i < length f.starts → IsCharBoundary f.text (slice_index f.starts i)
   pub ends_cut : (i : ℕ) → i < length f.starts → IsCharBoundary f.text (slice_index f.ends i)
   pub ends_after : (i : ℕ) → i < length f.starts → slice_index f.starts i ≤ slice_index f.ends i
-  pub ends_before : (i : ℕ) → i + 1 < length f.starts → slice_index f.ends i ≤ slice_index f.starts (i + 1)
+  pub ends_before : (i : ℕ) → i + 1 < length f.starts
+      → slice_index f.ends i ≤ slice_index f.starts (i + 1)
   pub one_end : length f.ends ≡ length f.starts
   pub missing_name : f.there ≡ false → f.name ≡ Some []
   pub missing_text : f.there ≡ false → f.text ≡ []
@@ -114,7 +126,8 @@ column_refusal refusal i = or_refusal (refusal Source) (refusal (LineRange i))
 abbrev pub location_refusal : FileModel → (Lookup → Option Error) → ℕ → Option Error
 location_refusal f refusal byte =
     let i = line_of f.starts byte in
-    or_refusal (refusal (LineIndex byte)) (or_refusal (refusal (LineNumber i)) (refusal (ColumnNumber i byte)))
+    or_refusal (refusal (LineIndex byte))
+    (or_refusal (refusal (LineNumber i)) (refusal (ColumnNumber i byte)))
 
 -- the first byte of line i
 abbrev pub line_start : FileModel → ℕ → ℕ

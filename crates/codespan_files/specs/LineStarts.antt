@@ -5,4 +5,6 @@ use Rattle.codespan_files.specs.declared.files.starts.LineStarts.{LineStarts}
 
 -- the starts that are still to come
 abbrev pub starts_left : LineStarts → List ℕ
-starts_left s = if s.begun then starts_after s.at (drop s.at s.source.now) else 0 ∷ starts_after s.at (drop s.at s.source.now)
+starts_left s =
+    if s.begun then starts_after s.at (drop s.at s.source.now)
+    else 0 ∷ starts_after s.at (drop s.at s.source.now)

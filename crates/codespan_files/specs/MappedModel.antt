@@ -1,4 +1,5 @@
--- A text as a file whose line numbers are set, in the manner of `#line`: a line's end leaves out its newline.
+-- A text as a file whose line numbers are set, in the manner of `#line`: a line's end leaves out
+-- its newline.
 use Rattle.std.specs.Prelude.{ℕ, ◌+◌, ◌-◌, ◌^◌, nat_le, nat_lt, ◌==◌, if◌then◌else◌, List, [], ◌∷◌, ◌++◌, length, map, slice_index, Option, Some, None}
 use Rattle.codespan_files.specs.declared.files.error.Error.{Error}
 use Rattle.codespan_files.specs.declared.files.error.Error.TheVariants.{LineTooLarge}
@@ -25,7 +26,9 @@ setting (s ∷ ss) i = nearer (setting ss i) (if nat_le s.0 i then Some s else N
 abbrev pub with_number : ℕ → ℕ → List (ℕ × ℕ) → List (ℕ × ℕ)
 with_number i number [] = (i, number) ∷ []
 with_number i number (s ∷ ss) =
-    if s.0 == i then (i, number) ∷ ss else if nat_lt i s.0 then (i, number) ∷ s ∷ ss else s ∷ with_number i number ss
+    if s.0 == i then (i, number) ∷ ss
+    else if nat_lt i s.0 then (i, number) ∷ s ∷ ss
+    else s ∷ with_number i number ss
 
 -- the number of a line, from its setting
 abbrev pub number_from : Option (ℕ × ℕ) → ℕ → ℕ
@@ -36,17 +39,23 @@ number_from (Some s) i = s.1 + (i - s.0)
 abbrev pub number_refusal : Option (ℕ × ℕ) → ℕ → Option Error
 number_refusal None i = line_number_refusal i
 number_refusal (Some s) i =
-    if nat_lt (s.1 + (i - s.0)) (2 ^ 64) then None else Some (LineTooLarge i (s.0 + (2 ^ 64 - 1 - s.1)))
+    if nat_lt (s.1 + (i - s.0)) (2 ^ 64) then None
+    else Some (LineTooLarge i (s.0 + (2 ^ 64 - 1 - s.1)))
 
 -- the column number of a byte on a line
 abbrev pub mapped_column : List ℕ → ℕ → ℕ → ℕ
-mapped_column text i byte = column_index_of text (slice_index (line_starts_of text) i) (slice_index (mapped_ends text) i) byte + 1
+mapped_column text i byte =
+    let start = slice_index (line_starts_of text) i in
+    column_index_of text start (slice_index (mapped_ends text) i) byte + 1
 
 -- the number of the byte's line, and its column number there
 abbrev pub mapped_location : List ℕ → List (ℕ × ℕ) → ℕ → Location
 mapped_location text settings byte =
     let i = line_of (line_starts_of text) byte in
-    record { line_number = number_from (setting settings i) i; column_number = mapped_column text i byte }
+    record {
+      line_number = number_from (setting settings i) i;
+      column_number = mapped_column text i byte;
+    }
 
 -- the file of a name, a text and settings
 abbrev pub mapped_file : Option (List ℕ) → List ℕ → List (ℕ × ℕ) → FileModel

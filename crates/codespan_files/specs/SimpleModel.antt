@@ -1,4 +1,5 @@
--- A text as a file, and a table of such files: a line starts after each newline, and ends where the next one starts.
+-- A text as a file, and a table of such files: a line starts after each newline, and ends where the
+-- next one starts.
 use Rattle.std.specs.Prelude.{ℕ, ◌+◌, ◌-◌, nat_lt, true, false, if◌then◌else◌, List, [], ◌∷◌, ◌++◌, length, drop, slice_index, slice_get, Option, Some, None}
 use Rattle.std.specs.Option.{option_map_or}
 use Rattle.codespan_files.specs.declared.files.error.Error.{Error}
@@ -14,7 +15,9 @@ line_ends text = drop 1 (line_starts_of text) ++ length text ∷ []
 
 -- the column number of a byte on line i
 abbrev pub simple_column : List ℕ → ℕ → ℕ → ℕ
-simple_column text i byte = column_index_of text (slice_index (line_starts_of text) i) (slice_index (line_ends text) i) byte + 1
+simple_column text i byte =
+    let start = slice_index (line_starts_of text) i in
+    column_index_of text start (slice_index (line_ends text) i) byte + 1
 
 -- the number of a byte's line, and its column number there
 abbrev pub simple_location : List ℕ → ℕ → Location
@@ -37,7 +40,9 @@ simple_file name text = record {
 
 -- a line past the last is refused
 abbrev pub past_end : List ℕ → ℕ → Option Error
-past_end text i = if nat_lt i (length (line_starts_of text)) then None else Some (LineTooLarge i (length (line_starts_of text) - 1))
+past_end text i =
+    if nat_lt i (length (line_starts_of text)) then None
+    else Some (LineTooLarge i (length (line_starts_of text) - 1))
 
 -- what a lookup is refused with
 abbrev pub simple_refusal : List ℕ → Lookup → Option Error
@@ -65,9 +70,15 @@ missing_refusal (LineNumber i) = line_number_refusal i
 missing_refusal _ = Some FileMissing
 
 -- the file of an id, in a table of names and sources
-abbrev pub table_file : {Name Source : Type 0} → (Name → Option (List ℕ)) → (Source → List ℕ) → List (Name × Source) → ℕ → FileModel
-table_file output text entries id = option_map_or (λ entry. simple_file (output entry.0) (text entry.1)) (slice_get entries id) missing_file
+abbrev pub table_file : {Name Source : Type 0} → (Name → Option (List ℕ)) → (Source → List ℕ)
+    → List (Name × Source) → ℕ → FileModel
+table_file output text entries id =
+    option_map_or (λ entry. simple_file (output entry.0) (text entry.1))
+    (slice_get entries id) missing_file
 
 -- what a lookup is refused with there
-abbrev pub table_refusal : {Name Source : Type 0} → (Source → List ℕ) → List (Name × Source) → ℕ → Lookup → Option Error
-table_refusal text entries id lookup = option_map_or (λ entry. simple_refusal (text entry.1) lookup) (slice_get entries id) (missing_refusal lookup)
+abbrev pub table_refusal : {Name Source : Type 0} → (Source → List ℕ) → List (Name × Source) → ℕ
+    → Lookup → Option Error
+table_refusal text entries id lookup =
+    option_map_or (λ entry. simple_refusal (text entry.1) lookup) (slice_get entries id)
+    (missing_refusal lookup)

@@ -103,7 +103,8 @@ impl<FileId: Drop> Label<FileId> {
     ///
     /// Refuses with `FormatError` where the `Display` refused, and with `OutOfMemory` where a growth was refused.
     pub fn with_message<D: Display + Drop>(mut self, message: D) -> Result<Self, Error>
-        ensures message { IfOk result (λ label. IfSome (D.output message) (λ bytes. string_bytes label.message ≡ bytes)) }
+        ensures message { IfOk result (λ label.
+            IfSome (D.output message) (λ bytes. string_bytes label.message ≡ bytes)) }
         ensures others { IfOk result (λ label. label ≡ record self { message = label.message }) }
         ensures refused { IfErr result IsTextRefusal }
     {
@@ -132,8 +133,8 @@ impl<FileId: Copy> Label<FileId> {
 
 /// A diagnostic of a compiler or of any program that speaks of texts.
 ///
-/// The order of its labels decides the order of files, of lanes and of equal ranges in rich style, and the order of
-/// headers in the other styles; nothing else.
+/// The order of its labels decides the order of files, of lanes and of equal ranges in rich style, the order of
+/// headers in the other styles, and which error is returned where several lookups fail; nothing else.
 #[derive(Debug, Drop, PartialEq, Eq)]
 pub struct Diagnostic<FileId> {
     /// How bad it is.
@@ -229,7 +230,8 @@ impl<FileId: Drop> Diagnostic<FileId> {
     ///
     /// Refuses with `FormatError` where the `Display` refused, and with `OutOfMemory` where a growth was refused.
     pub fn with_code<D: Display + Drop>(mut self, code: D) -> Result<Self, Error>
-        ensures code { IfOk result (λ d. IfSome (D.output code) (λ bytes. option_map string_bytes d.code ≡ Some bytes)) }
+        ensures code { IfOk result (λ d.
+            IfSome (D.output code) (λ bytes. option_map string_bytes d.code ≡ Some bytes)) }
         ensures set { IfOk result (λ d. IsSome d.code) }
         ensures others { IfOk result (λ d. d ≡ record self { code = d.code }) }
         ensures refused { IfErr result IsTextRefusal }
@@ -242,7 +244,8 @@ impl<FileId: Drop> Diagnostic<FileId> {
     ///
     /// Refuses with `FormatError` where the `Display` refused, and with `OutOfMemory` where a growth was refused.
     pub fn with_message<D: Display + Drop>(mut self, message: D) -> Result<Self, Error>
-        ensures message { IfOk result (λ d. IfSome (D.output message) (λ bytes. string_bytes d.message ≡ bytes)) }
+        ensures message { IfOk result (λ d.
+            IfSome (D.output message) (λ bytes. string_bytes d.message ≡ bytes)) }
         ensures others { IfOk result (λ d. d ≡ record self { message = d.message }) }
         ensures refused { IfErr result IsTextRefusal }
     {
@@ -283,7 +286,8 @@ impl<FileId: Drop> Diagnostic<FileId> {
             I.IntoIter.can_next it × IsFinite (I.IntoIter.remaining it) }
         ensures labels { IfOk result (λ d.
             (it : I.IntoIter) × I.into_iter_gives labels it
-            × WholeRun I.IntoIter.next_gives it (λ run. d.labels.items ≡ self.labels.items ++ run.items)) }
+            × WholeRun I.IntoIter.next_gives it (λ run.
+            d.labels.items ≡ self.labels.items ++ run.items)) }
         ensures others { IfOk result (λ d. d ≡ record self { labels = d.labels }) }
         ensures refused { OnErr result (IsErrOf result Error.OutOfMemory) }
     {
@@ -297,8 +301,11 @@ impl<FileId: Drop> Diagnostic<FileId> {
     /// Refuses with `FormatError` where the `Display` refused, and with `OutOfMemory` where a growth was refused.
     pub fn with_note<D: Display + Drop>(mut self, note: D) -> Result<Self, Error>
         ensures note { IfOk result (λ d.
-            IfSome (D.output note) (λ bytes. map string_bytes d.notes.items ≡ map string_bytes self.notes.items ++ bytes ∷ [])) }
-        ensures added { IfOk result (λ d. (added : String Global) × (d.notes.items ≡ self.notes.items ++ added ∷ [])) }
+            IfSome (D.output note) (λ bytes.
+            map string_bytes d.notes.items
+            ≡ map string_bytes self.notes.items ++ bytes ∷ [])) }
+        ensures added { IfOk result (λ d.
+            (added : String Global) × (d.notes.items ≡ self.notes.items ++ added ∷ [])) }
         ensures others { IfOk result (λ d. d ≡ record self { notes = d.notes }) }
         ensures refused { IfErr result IsTextRefusal }
     {
@@ -330,7 +337,8 @@ impl<FileId: Drop> Diagnostic<FileId> {
             I.IntoIter.can_next it × IsFinite (I.IntoIter.remaining it) }
         ensures notes { IfOk result (λ d.
             (it : I.IntoIter) × I.into_iter_gives notes it
-            × WholeRun I.IntoIter.next_gives it (λ run. d.notes.items ≡ self.notes.items ++ run.items)) }
+            × WholeRun I.IntoIter.next_gives it (λ run.
+            d.notes.items ≡ self.notes.items ++ run.items)) }
         ensures others { IfOk result (λ d. d ≡ record self { notes = d.notes }) }
         ensures refused { OnErr result (IsErrOf result Error.OutOfMemory) }
     {

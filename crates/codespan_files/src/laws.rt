@@ -21,8 +21,10 @@ use std::hash::Hash;
 /// Severities are ordered `Help` < `Note` < `Warning` < `Error` < `Bug`. Their two comparisons agree, two are equal
 /// exactly where they are one, and equal ones hash alike.
 pub fn severities_agree()
-    ensures order { (x y : Severity) → ⟦<Severity as Ord>⟧.cmp x y ≡ nat_cmp (severity_rank x) (severity_rank y) }
-    ensures partial { (x y : Severity) → ⟦<Severity as PartialOrd>⟧.partial_cmp x y ≡ Some (⟦<Severity as Ord>⟧.cmp x y) }
+    ensures order { (x y : Severity) →
+        ⟦<Severity as Ord>⟧.cmp x y ≡ nat_cmp (severity_rank x) (severity_rank y) }
+    ensures partial { (x y : Severity) →
+        ⟦<Severity as PartialOrd>⟧.partial_cmp x y ≡ Some (⟦<Severity as Ord>⟧.cmp x y) }
     ensures equal { (x y : Severity) → IsTrue (⟦<Severity as PartialEq>⟧.eq x y) ↔ (x ≡ y) }
     ensures hash { (x y : Severity) → IsTrue (⟦<Severity as PartialEq>⟧.eq x y) →
         ⟦<Severity as Hash>⟧.hash_input x ≡ ⟦<Severity as Hash>⟧.hash_input y }
@@ -31,26 +33,30 @@ pub fn severities_agree()
 /// Styles of labels are ordered `Primary` < `Secondary`, and two are equal exactly where they are one.
 pub fn label_styles_agree()
     ensures order { (x y : LabelStyle) →
-        ⟦<LabelStyle as PartialOrd>⟧.partial_cmp x y ≡ Some (nat_cmp (style_rank x) (style_rank y)) }
+        ⟦<LabelStyle as PartialOrd>⟧.partial_cmp x y
+        ≡ Some (nat_cmp (style_rank x) (style_rank y)) }
     ensures equal { (x y : LabelStyle) → IsTrue (⟦<LabelStyle as PartialEq>⟧.eq x y) ↔ (x ≡ y) }
 {}
 
 /// The line ranges of a text follow each other from 0 to its length, and its lines join to it.
 pub fn lines_join_to_source()
-    ensures { (name : Option (List ℕ)) (text : List ℕ) → IsUtf8 text → LinesJoin (simple_file name text) }
+    ensures { (name : Option (List ℕ)) (text : List ℕ) → IsUtf8 text →
+        LinesJoin (simple_file name text) }
 {}
 
 /// In the file of a text, the index of a byte's line is the number of newlines before the byte. Past the end it is that
 /// of the last line.
 pub fn line_counts_newlines()
-    ensures { (name : Option (List ℕ)) (text : List ℕ) → LineCountsNewlines (simple_file name text) }
+    ensures { (name : Option (List ℕ)) (text : List ℕ) →
+        LineCountsNewlines (simple_file name text) }
 {}
 
 /// Once a line's number is set in a [`MappedFile`](crate::files::MappedFile), that line and the lines after it count from
 /// there, up to the next line whose number is set; the lines above count as before.
 pub fn set_numbers_count_on()
     ensures { (settings : List (ℕ × ℕ)) (line number i : ℕ) → IsStrictlySorted settings →
-        setting (with_number line number settings) i ≡ setting_after line number i (setting settings i) }
+        setting (with_number line number settings) i
+        ≡ setting_after line number i (setting settings i) }
 {}
 
 /// On a line the column of a later byte is no smaller.
@@ -61,7 +67,9 @@ pub fn columns_rise()
 /// The iterator over line starts ends, and by then has given all starts that it had left; those that
 /// [`line_starts`](crate::files::line_starts) begins with are all of the text.
 pub fn line_starts_end()
-    ensures ends { (starts : LineStarts) → IsFinite (⟦<LineStarts<'static> as Iterator>⟧.remaining starts) }
+    ensures ends { (starts : LineStarts) →
+        IsFinite (⟦<LineStarts<'static> as Iterator>⟧.remaining starts) }
     ensures gives { (starts : LineStarts) (given : List ℕ) →
-        Drains ⟦<LineStarts<'static> as Iterator>⟧.next_gives starts given → given ≡ starts_left starts }
+        Drains ⟦<LineStarts<'static> as Iterator>⟧.next_gives starts given →
+        given ≡ starts_left starts }
 {}

@@ -12,12 +12,15 @@ ghost use Rattle.codespan_files.specs.declared.files.error.Error.TheVariants.{Fi
 /// Columns count the characters that begin after the line's start; lines start after each newline.
 fn columns_and_starts()
     ensures first_line { column_index_of (encode_utf8_all (codes "\n\n🗻∈🌏\n\n")) 0 1 0 ≡ 0 }
-    ensures in_line { map (column_index_of (encode_utf8_all (codes "\n\n🗻∈🌏\n\n")) 2 13) (0 ∷ 2 ∷ 3 ∷ 6 ∷ 10 ∷ 12 ∷ 13 ∷ 14 ∷ [])
+    ensures in_line { map (column_index_of (encode_utf8_all (codes "\n\n🗻∈🌏\n\n")) 2 13)
+        (0 ∷ 2 ∷ 3 ∷ 6 ∷ 10 ∷ 12 ∷ 13 ∷ 14 ∷ [])
         ≡ 0 ∷ 0 ∷ 0 ∷ 1 ∷ 2 ∷ 2 ∷ 3 ∷ 3 ∷ [] }
     ensures starts { line_starts_of (codes "foo\nbar\r\n\nbaz") ≡ 0 ∷ 4 ∷ 9 ∷ 10 ∷ [] }
-    ensures texts { map (line_text (simple_file None (codes "foo\nbar\r\n\nbaz"))) (0 ∷ 1 ∷ 2 ∷ 3 ∷ [])
+    ensures texts { map (line_text (simple_file None (codes "foo\nbar\r\n\nbaz")))
+        (0 ∷ 1 ∷ 2 ∷ 3 ∷ [])
         ≡ codes "foo\n" ∷ codes "bar\r\n" ∷ codes "\n" ∷ codes "baz" ∷ [] }
-    ensures indices { map (line_of (line_starts_of (codes "foo\nbar\r\n\nbaz"))) (5 ∷ 99 ∷ []) ≡ 1 ∷ 3 ∷ [] }
+    ensures indices { map (line_of (line_starts_of (codes "foo\nbar\r\n\nbaz"))) (5 ∷ 99 ∷ [])
+        ≡ 1 ∷ 3 ∷ [] }
 {}
 
 /// A file that is not there, and a line past the last.
@@ -30,17 +33,21 @@ fn missing_file()
 fn greatest_indices()
     ensures wide { column_index_of (encode_utf8_all (codes "é")) 0 9 (2 ^ 64 - 1) ≡ 1 }
     ensures reversed { column_index_of (codes "ab") 5 1 9 ≡ 0 }
-    ensures range { simple_refusal (codes "a\nb") (LineRange (2 ^ 64 - 1)) ≡ Some (LineTooLarge (2 ^ 64 - 1) 1) }
+    ensures range { simple_refusal (codes "a\nb") (LineRange (2 ^ 64 - 1))
+        ≡ Some (LineTooLarge (2 ^ 64 - 1) 1) }
     ensures answered { simple_refusal (codes "a\nb") (LineNumber (2 ^ 64 - 2)) ≡ None }
     ensures number { (simple_file None (codes "a\nb")).number (2 ^ 64 - 2) ≡ 2 ^ 64 - 1 }
-    ensures refused { simple_refusal (codes "a\nb") (LineNumber (2 ^ 64 - 1)) ≡ Some (LineTooLarge (2 ^ 64 - 1) (2 ^ 64 - 2)) }
+    ensures refused { simple_refusal (codes "a\nb") (LineNumber (2 ^ 64 - 1))
+        ≡ Some (LineTooLarge (2 ^ 64 - 1) (2 ^ 64 - 2)) }
 {}
 
 /// A set number from which the next line's number does not fit.
 fn mapped_overflow()
     ensures greatest { number_from (setting (with_number 1 (2 ^ 64 - 1) []) 1) 1 ≡ 2 ^ 64 - 1 }
-    ensures answered { mapped_refusal (codes "a\nb\nc\nd") (with_number 1 (2 ^ 64 - 1) []) (LineNumber 1) ≡ None }
-    ensures refused { mapped_refusal (codes "a\nb\nc\nd") (with_number 1 (2 ^ 64 - 1) []) (LineNumber 2) ≡ Some (LineTooLarge 2 1) }
+    ensures answered { let settings = with_number 1 (2 ^ 64 - 1) [] in
+        mapped_refusal (codes "a\nb\nc\nd") settings (LineNumber 1) ≡ None }
+    ensures refused { let settings = with_number 1 (2 ^ 64 - 1) [] in
+        mapped_refusal (codes "a\nb\nc\nd") settings (LineNumber 2) ≡ Some (LineTooLarge 2 1) }
     ensures no_line { past_end (codes "a\nb\nc\nd") 4 ≡ Some (LineTooLarge 4 3) }
 {}
 

@@ -4,7 +4,7 @@ use Rattle.std.specs.List.{enumerate_from, cons_option}
 use Rattle.std.proofs.lemmas.Bool.Decides.{nat_tests}
 use Rattle.codespan_base.specs.FileModel.{FileModel, line_start, line_text}
 use Rattle.codespan_base.specs.declared.term.config.Layout.{Layout}
-use Rattle.codespan_base.specs.Labels.{Labelled, first_line, last_line, part_on, mark_of, marks_on, multi_labels, LaneMark, Part, Top, Left, Bottom}
+use Rattle.codespan_base.specs.Labels.{Labelled, first_line, last_line, part_on, mark_of, marks_on, multi_labels, LaneMark, MultiLabel, Top, Left, Bottom}
 use Rattle.codespan_picture.specs.declared.lanes.Shape.{Shape}
 use Rattle.codespan_picture.specs.declared.lanes.Shape.TheVariants.{Gap, Bar, TopCorner}
 use Rattle.codespan_picture.specs.Lanes.{source_shape, plain_shape, mark_in, shape_of}
@@ -24,7 +24,7 @@ abbrev pub marks_from : FileModel → ℕ → ℕ → List Labelled → List Lan
 marks_from f l n xs = filter_map (λ (entry : ℕ × Labelled). mark_of entry.0 entry.1 (part_on f l entry.1)) (enumerate_from n xs)
 
 -- a mark of another lane is passed by
-pass_by : (lane n : ℕ) (x : Labelled) (part : Option Part) (marks : List LaneMark) → (n == lane) ≡ false
+pass_by : (lane n : ℕ) (x : Labelled) (part : Option MultiLabel) (marks : List LaneMark) → (n == lane) ≡ false
     → mark_in (cons_option (mark_of n x part) marks) lane ≡ mark_in marks lane
 pass_by lane n x None marks h = refl
 pass_by lane n x (Some part) marks h = simp h
@@ -35,7 +35,7 @@ none_before f l n lane [] low = refl
 none_before f l n lane (x ∷ xs) low =
     pass_by lane n x (part_on f l x) (marks_from f l (n + 1) xs) (grind (arith, nat_tests)) ∙ none_before f l (n + 1) lane xs (omega arith)
 
-found : (lane : ℕ) (x : Labelled) (part : Option Part) (marks : List LaneMark) → mark_in marks lane ≡ None
+found : (lane : ℕ) (x : Labelled) (part : Option MultiLabel) (marks : List LaneMark) → mark_in marks lane ≡ None
     → mark_in (cons_option (mark_of lane x part) marks) lane ≡ mark_of lane x part
 found lane x None marks none = none
 found lane x (Some part) marks none = let same : (lane == lane) ≡ true = grind (arith, nat_tests) in simp same
@@ -52,16 +52,16 @@ mark_in-from f l n (suc k) (x ∷ xs) =
 -- ---- bars
 
 -- a kind of row that shows no bar at a label's first line and one at its other lines
-module _ (shape : Part → Shape) (at_top : (start : ℕ) → shape (Top start) ≡ Bar → ⊥) (at_left : shape Left ≡ Bar)
+module _ (shape : MultiLabel → Shape) (at_top : (start : ℕ) → shape (Top start) ≡ Bar → ⊥) (at_left : shape Left ≡ Bar)
     (at_bottom : (end : ℕ) (message : Stream) → shape (Bottom end message) ≡ Bar) where
   bar_of : (f : FileModel) (l lane : ℕ) (x : Labelled) → first_line f x < last_line f x
       → (shape_of shape (mark_of lane x (part_on f l x)) ≡ Bar) ↔ IsCovered f x l
   bar_of f l lane x order = by_first (first_line f x == l) refl
     where
-      between : Option Part
+      between : Option MultiLabel
       between = if nat_lt (first_line f x) l && nat_lt l (last_line f x) then Some Left else None
 
-      bottom : Option Part
+      bottom : Option MultiLabel
       bottom = Some (Bottom (x.end - line_start f l) x.message)
 
       by_between : (first_line f x == l) ≡ false → (last_line f x == l) ≡ false → (b : Bool) → (nat_lt (first_line f x) l && nat_lt l (last_line f x)) ≡ b

@@ -64,4 +64,4 @@ breaks_from_start line (d ∷ more) =
     ∙ ap₂ (λ s t. s ++ t) (no_break_line (line d)) (breaks_of line d more)
 
 pub breaks_are_gaps : (config : Config) (s : LabelledFile) → DrawingOfShown config s → BreaksAreGaps config s
-breaks_are_gaps config s drawn = ap (filter_map broken_line) drawn ∙ breaks_from_start (line_at s) (shown_lines config s)
+breaks_are_gaps config s drawn = λ locus. ap (filter_map broken_line) drawn ∙ breaks_from_start (line_at s) (shown_lines config s)

@@ -4,13 +4,13 @@ use Rattle.std.specs.List.{list_any}
 use Rattle.codespan_base.specs.declared.diagnostic.Severity.{Severity}
 use Rattle.codespan_base.specs.declared.diagnostic.LabelStyle.{LabelStyle}
 use Rattle.codespan_base.specs.declared.term.config.chars.Chars.{Chars}
-use Rattle.codespan_base.specs.Labels.{Labelled, LaneMark, Part, Top, Left, Bottom}
+use Rattle.codespan_base.specs.Labels.{Labelled, LaneMark, MultiLabel, Top, Left, Bottom}
 use Rattle.codespan_base.specs.Streams.{Stream, StyleMark, Reset, LabelMark, SourceBorder, NoteBullet, one_mark, bytes, glyph, repeated, space, row_length, character_count}
 use Rattle.codespan_base.specs.Characters.{start_text}
 use Rattle.codespan_picture.specs.declared.cells.Cell.{Cell}
 use Rattle.codespan_picture.specs.Carets.{style_under, greatest_end}
 use Rattle.codespan_picture.specs.Lanes.{label_glyph}
-use Rattle.codespan_picture.specs.Rows.{Look, Place, Lanes, Line, Row, HeaderRow, StartRow, EmptyRow, BreakRow, SourceRow, CaretRow, PointerRow, HangingRow, UnderlineRow, FirstNoteRow, LaterNoteRow, BlankRow, hanging, trailing}
+use Rattle.codespan_picture.specs.Rows.{Look, Locus, Lanes, Line, Row, HeaderRow, StartRow, EmptyRow, BreakRow, SourceRow, CaretRow, PointerRow, HangingRow, UnderlineRow, FirstNoteRow, LaterNoteRow, BlankRow, hanging, trailing}
 use Rattle.codespan_picture.specs.RowParts.{gutter, numbered_gutter, border, break_border, change, styled, lanes_in, locus, line_cells, line_cells_to_end, source_lanes, plain_lanes, below_lanes, underline_lanes, coloured_text, caret_glyphs, carets, trailing_message, label_message, starts_in, greatest_start, blanks_up_to, pointer_style, pointer_at, pointers, cells_before, underline, underline_message}
 use Rattle.codespan_picture.specs.RowStreams.{stream_of, start_row, empty_row, break_row, source_row, opening, caret_row, pointer_row, hanging_row, underline_row, first_note_row}
 use Rattle.codespan_laws.specs.RowLaws.{CharactersAreFree}
@@ -61,7 +61,7 @@ module _ (look : Look) (chars : Chars) where
   abbrev other : Look
   other = record look { chars = chars }
 
-  lanes_alike : (crossing crossing' : ℕ → Option LaneMark) (shape shape' : ℕ → Part → _) (lanes : Lanes)
+  lanes_alike : (crossing crossing' : ℕ → Option LaneMark) (shape shape' : ℕ → MultiLabel → _) (lanes : Lanes)
       → AreAsLong (lanes_in other crossing shape lanes) (lanes_in look crossing' shape' lanes)
   lanes_alike crossing crossing' shape shape' lanes =
       record { same = row_length-lanes_in other crossing shape lanes ∙ sym (row_length-lanes_in look crossing' shape' lanes) }
@@ -109,7 +109,7 @@ module _ (look : Look) (chars : Chars) where
       flat_alike _ _ (λ c. pointed (list_any (starts_in c) (hanging labels)) (pointer_style (hanging labels) c)
       (blanks_up_to (greatest_start labels) c (c.width - 1)) (blanks_up_to (greatest_start labels) c c.width)) cs
 
-  underline_alike : (style : LabelStyle) (cs : List Cell) (part : Part) → AreAsLong (underline chars style cs part) (underline look.chars style cs part)
+  underline_alike : (style : LabelStyle) (cs : List Cell) (part : MultiLabel) → AreAsLong (underline chars style cs part) (underline look.chars style cs part)
   unfolding underline
   underline_alike style cs (Top start) = joined _ _ _ _ (repeats _ _ _) (glyphs _ _)
   underline_alike style cs Left = alike []
@@ -117,7 +117,7 @@ module _ (look : Look) (chars : Chars) where
 
   -- ---- rows
 
-  start_alike : character_count (start_text chars.snippet_start) ≡ character_count (start_text look.chars.snippet_start) → (place : Place)
+  start_alike : character_count (start_text chars.snippet_start) ≡ character_count (start_text look.chars.snippet_start) → (place : Locus)
       → AreAsLong (start_row chars look.padding place) (start_row look.chars look.padding place)
   unfolding start_row
   start_alike e place =

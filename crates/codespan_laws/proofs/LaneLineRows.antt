@@ -7,7 +7,7 @@ use Rattle.codespan_base.specs.declared.term.config.Layout.{Layout}
 use Rattle.codespan_base.specs.declared.term.config.Layout.TheVariants.{Classic, Unbroken}
 use Rattle.codespan_base.specs.declared.diagnostic.LabelStyle.{LabelStyle}
 use Rattle.codespan_base.specs.Streams.{Stream}
-use Rattle.codespan_base.specs.Labels.{Labelled, LaneMark, Part, Top, Left, Bottom}
+use Rattle.codespan_base.specs.Labels.{Labelled, LaneMark, MultiLabel, Top, Left, Bottom}
 use Rattle.codespan_picture.specs.declared.lanes.Shape.{Shape}
 use Rattle.codespan_picture.specs.declared.lanes.Shape.TheVariants.{Gap, Bar, TopCorner, BottomCorner}
 use Rattle.codespan_picture.specs.Lanes.{source_shape, below_shape, underline_shape, mark_in, is_unbroken, turns_early, shape_of}
@@ -53,7 +53,7 @@ each_after_source P line a b d e =
 
 -- ---- a line on which the label neither begins nor ends
 
-abbrev pub mark_with : ℕ → LabelStyle → Part → LaneMark
+abbrev pub mark_with : ℕ → LabelStyle → MultiLabel → LaneMark
 mark_with lane style part = record { lane = lane; style = style; part = part }
 
 pub no_mark : (layout : Layout) (lane : ℕ) (line : Line) → mark_in line.lanes.marks lane ≡ None → AllByRecursion (Shows layout lane Gap) (rows_of line)

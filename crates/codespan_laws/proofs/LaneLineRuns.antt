@@ -7,12 +7,12 @@ use Rattle.std.proofs.lemmas.List.Sums.{count_by-le-length}
 use Rattle.codespan_base.specs.declared.term.config.Config.{Config}
 use Rattle.codespan_base.specs.declared.term.config.Layout.{Layout}
 use Rattle.codespan_base.specs.FileModel.{FileModel, line_start, line_of, line_count}
-use Rattle.codespan_base.specs.Labels.{Labelled, is_single, first_line, last_line, part_on, mark_of, marks_on, multi_labels, LaneMark, Part, Top, Left, Bottom}
+use Rattle.codespan_base.specs.Labels.{Labelled, is_single, first_line, last_line, part_on, mark_of, marks_on, multi_labels, LaneMark, MultiLabel, Top, Left, Bottom}
 use Rattle.codespan_picture.specs.declared.lanes.Shape.TheVariants.{Gap, Bar}
 use Rattle.codespan_picture.specs.Lanes.{plain_shape, mark_in, shape_of}
 use Rattle.codespan_picture.specs.Lines.{is_shown, is_drawn, drawn_lines, is_broken}
 use Rattle.codespan_picture.specs.Rows.{Row, BreakRow, StartRow, EmptyRow, rows_of}
-use Rattle.codespan_picture.specs.Snippets.{LabelledFile, line_at, break_rows, rows_after, snippet, place_of, bare_lanes}
+use Rattle.codespan_picture.specs.Snippets.{LabelledFile, line_at, break_rows, rows_after, snippet, bare_lanes}
 use Rattle.codespan_laws.specs.LaneLaws.{HasLane, LanesAreLines, rows_with_lanes}
 use Rattle.codespan_laws.specs.Meanings.{StartsBeforeEnds}
 use Rattle.codespan_laws.proofs.BarLemmas.{marks_from, mark_in-from}
@@ -23,8 +23,8 @@ use Rattle.codespan_laws.proofs.SortedLists.{all-append, all-weaker}
 
 -- ---- the marks of a line in their order
 
-each_mark : (P : LaneMark → Type 0) (n : ℕ) (x : Labelled) (part : Option Part) (marks : List LaneMark)
-    → ((p : Part) → P (mark_with n x.style p)) → AllByRecursion P marks → AllByRecursion P (cons_option (mark_of n x part) marks)
+each_mark : (P : LaneMark → Type 0) (n : ℕ) (x : Labelled) (part : Option MultiLabel) (marks : List LaneMark)
+    → ((p : MultiLabel) → P (mark_with n x.style p)) → AllByRecursion P marks → AllByRecursion P (cons_option (mark_of n x part) marks)
 each_mark P n x None marks h a = a
 each_mark P n x (Some p) marks h a = (h p, a)
 
@@ -35,7 +35,7 @@ each_from f l n (x ∷ xs) =
     (all-weaker (λ (o : LaneMark). n + 1 ≤ o.lane) (λ (o : LaneMark). n ≤ o.lane) (λ o h. omega arith) (marks_from f l (n + 1) xs) (each_from f l (n + 1) xs))
 
 -- one mark more before the others
-split_later : (lane n : ℕ) (m : LaneMark) (x : Labelled) (part : Option Part) (marks : List LaneMark) → n < lane → Split lane m marks
+split_later : (lane n : ℕ) (m : LaneMark) (x : Labelled) (part : Option MultiLabel) (marks : List LaneMark) → n < lane → Split lane m marks
     → Split lane m (cons_option (mark_of n x part) marks)
 split_later lane n m x None marks h r = r
 split_later lane n m x (Some p) marks h r = record {
@@ -46,7 +46,7 @@ split_later lane n m x (Some p) marks h r = record {
   above = r.above;
 }
 
-split_from : (f : FileModel) (l lane n k : ℕ) (xs : List Labelled) (x : Labelled) (part : Part) → n + k ≡ lane → slice_get xs k ≡ Some x → part_on f l x ≡ Some part
+split_from : (f : FileModel) (l lane n k : ℕ) (xs : List Labelled) (x : Labelled) (part : MultiLabel) → n + k ≡ lane → slice_get xs k ≡ Some x → part_on f l x ≡ Some part
     → Split lane (mark_with lane x.style part) (marks_from f l n xs)
 split_from f l lane n k [] x part e h is = cc
 split_from f l lane n zero (y ∷ ys) x part e h is = record {
@@ -67,20 +67,20 @@ split_from f l lane n (suc k) (y ∷ ys) x part e h is =
 
 -- ---- what a label does on a line
 
-abbrev part_for : ℕ → ℕ → ℕ → Part → Part → Option Part
+abbrev part_for : ℕ → ℕ → ℕ → MultiLabel → MultiLabel → Option MultiLabel
 part_for a b l top bottom = if a == l then Some top else if b == l then Some bottom else if nat_lt a l && nat_lt l b then Some Left else None
 
-part_before : (a b l : ℕ) (top bottom : Part) → a < b → l < a → part_for a b l top bottom ≡ None
+part_before : (a b l : ℕ) (top bottom : MultiLabel) → a < b → l < a → part_for a b l top bottom ≡ None
 part_before a b l top bottom order low =
     let first : (a == l) ≡ false = grind (arith, nat_tests) in
     let last : (b == l) ≡ false = grind (arith, nat_tests) in
     let inside : nat_lt a l ≡ false = grind (arith, nat_tests) in
     simp (first, last, inside)
 
-part_top : (a b l : ℕ) (top bottom : Part) → a ≡ l → part_for a b l top bottom ≡ Some top
+part_top : (a b l : ℕ) (top bottom : MultiLabel) → a ≡ l → part_for a b l top bottom ≡ Some top
 part_top a b l top bottom same = let first : (a == l) ≡ true = grind (arith, nat_tests) in simp first
 
-part_left : (a b l : ℕ) (top bottom : Part) → a < l → l < b → part_for a b l top bottom ≡ Some Left
+part_left : (a b l : ℕ) (top bottom : MultiLabel) → a < l → l < b → part_for a b l top bottom ≡ Some Left
 part_left a b l top bottom low high =
     let first : (a == l) ≡ false = grind (arith, nat_tests) in
     let last : (b == l) ≡ false = grind (arith, nat_tests) in
@@ -88,13 +88,13 @@ part_left a b l top bottom low high =
     let below : nat_lt l b ≡ true = grind (arith, nat_tests) in
     simp (first, last, above, below)
 
-part_bottom : (a b l : ℕ) (top bottom : Part) → a < b → b ≡ l → part_for a b l top bottom ≡ Some bottom
+part_bottom : (a b l : ℕ) (top bottom : MultiLabel) → a < b → b ≡ l → part_for a b l top bottom ≡ Some bottom
 part_bottom a b l top bottom order same =
     let first : (a == l) ≡ false = grind (arith, nat_tests) in
     let last : (b == l) ≡ true = grind (arith, nat_tests) in
     simp (first, last)
 
-part_after : (a b l : ℕ) (top bottom : Part) → a < b → b < l → part_for a b l top bottom ≡ None
+part_after : (a b l : ℕ) (top bottom : MultiLabel) → a < b → b < l → part_for a b l top bottom ≡ None
 part_after a b l top bottom order high =
     let first : (a == l) ≡ false = grind (arith, nat_tests) in
     let last : (b == l) ≡ false = grind (arith, nat_tests) in
@@ -114,18 +114,18 @@ each_break P s (Some c) l h = by_test (is_broken c l)
 
 module _ (layout : Layout) (s : LabelledFile) (lane : ℕ) (x : Labelled) (has : HasLane s lane x)
     (several : first_line s.file x < last_line s.file x) (drawn : ℕ → Bool) where
-  abbrev top_of : ℕ → Part
+  abbrev top_of : ℕ → MultiLabel
   top_of l = Top (x.start - line_start s.file l)
 
-  abbrev bottom_of : ℕ → Part
+  abbrev bottom_of : ℕ → MultiLabel
   bottom_of l = Bottom (x.end - line_start s.file l) x.message
 
-  mark_at : (l : ℕ) (part : Option Part) → part_on s.file l x ≡ part → mark_in (marks_on s.file s.labels l) lane ≡ mark_of lane x part
+  mark_at : (l : ℕ) (part : Option MultiLabel) → part_on s.file l x ≡ part → mark_in (marks_on s.file s.labels l) lane ≡ mark_of lane x part
   mark_at l part is =
       ap (mark_in (marks_on s.file s.labels l)) (sym (zero-add lane))
       ∙ mark_in-from s.file l 0 lane (multi_labels s.file s.labels) ∙ rw (zero-add, has) (ap (mark_of lane x) is)
 
-  split_on : (l : ℕ) (part : Part) → part_on s.file l x ≡ Some part → Split lane (mark_with lane x.style part) (marks_on s.file s.labels l)
+  split_on : (l : ℕ) (part : MultiLabel) → part_on s.file l x ≡ Some part → Split lane (mark_with lane x.style part) (marks_on s.file s.labels l)
   split_on l part is = split_from s.file l lane 0 lane (multi_labels s.file s.labels) x part (zero-add lane) has is
 
   -- the label has no mark on the line
@@ -167,7 +167,7 @@ module _ (layout : Layout) (s : LabelledFile) (lane : ℕ) (x : Labelled) (has :
   gap_break : (was : Option ℕ) (l : ℕ) → first_line s.file x ≡ l → AllByRecursion (Shows layout lane Gap) (break_rows s was l)
   gap_break was l h = each_break (Shows layout lane Gap) s was l (ap (shape_of plain_shape) (mark_at l (Some (top_of l)) (top_at l h)))
 
-  bar_break : (was : Option ℕ) (l : ℕ) (part : Part) → plain_shape part ≡ Bar → part_on s.file l x ≡ Some part → AllByRecursion (Shows layout lane Bar) (break_rows s was l)
+  bar_break : (was : Option ℕ) (l : ℕ) (part : MultiLabel) → plain_shape part ≡ Bar → part_on s.file l x ≡ Some part → AllByRecursion (Shows layout lane Bar) (break_rows s was l)
   bar_break was l part bar is = each_break (Shows layout lane Bar) s was l (ap (shape_of plain_shape) (mark_at l (Some part) is) ∙ bar)
 
   abbrev lines_from : ℕ → ℕ → List ℕ
@@ -268,15 +268,15 @@ shown_is_drawn : (b d : Bool) → b ≡ true → (b || d) ≡ true
 shown_is_drawn b d h = simp h
 
 pub lanes_are_lines : (config : Config) (layout : Layout) (s : LabelledFile) → StartsBeforeEnds s.labels → LanesAreLines config layout s
-lanes_are_lines config layout s ordered = λ is_followed lane x has.
+lanes_are_lines config layout s ordered = λ locus is_followed lane x has.
     let several = has_lane-ordered s lane x ordered has in
     let inside = (kept (λ x. not (is_single s.file x)) s.labels lane x has).0 in
     let some : 0 < line_count s.file = some_line s.file.starts x.start x.end several in
     let low = line_of-below s.file.starts x.start some in
     let high = line_of-below s.file.starts x.end some in
-    one_line layout s (rows_with_lanes config s is_followed) lane x
-    (whole_before layout lane (line_at s (first_line s.file x)) (snippet config s) (end_rows is_followed)
-    (whole_later layout lane (line_at s (first_line s.file x)) (StartRow (place_of s) ∷ EmptyRow (bare_lanes s) ∷ []) (rows_after s None (drawn_lines config s.file s.labels))
+    one_line layout s (rows_with_lanes config locus s is_followed) lane x
+    (whole_before layout lane (line_at s (first_line s.file x)) (snippet config locus s) (end_rows is_followed)
+    (whole_later layout lane (line_at s (first_line s.file x)) (StartRow locus ∷ EmptyRow (bare_lanes s) ∷ []) (rows_after s None (drawn_lines config s.file s.labels))
     (refl, (refl, tt))
     (whole_from layout s lane x has several (is_drawn config s.file s.labels) None 0 (line_count s.file) (omega arith) (omega arith)
     (drawn (first_line s.file x) (shown-by config s x (first_line s.file x) inside low (shows-first config (first_line s.file x) (last_line s.file x))))

@@ -4,7 +4,7 @@ use Rattle.codespan_base.specs.declared.diagnostic.Severity.{Severity}
 use Rattle.codespan_base.specs.declared.diagnostic.LabelStyle.{LabelStyle}
 use Rattle.codespan_base.specs.declared.term.config.chars.Chars.{Chars}
 use Rattle.codespan_base.specs.declared.diagnostic.LabelStyle.TheVariants.{Primary}
-use Rattle.codespan_base.specs.Labels.{LaneMark, Part}
+use Rattle.codespan_base.specs.Labels.{LaneMark, MultiLabel}
 use Rattle.std.specs.List.{range_with_len}
 use Rattle.codespan_base.specs.Streams.{Stream, StyleMark, LabelMark, Reset, one_mark, glyph, repeated, row_length}
 use Rattle.codespan_picture.specs.declared.lanes.Shape.{Shape}
@@ -46,7 +46,7 @@ row_length-lane_cells severity chars crossing style Bar = filled_and_own severit
 row_length-lane_cells severity chars crossing style TopCorner = filled_and_own severity chars crossing style chars.multi_top_left
 row_length-lane_cells severity chars crossing style BottomCorner = filled_and_own severity chars crossing style chars.multi_bottom_left
 
-pub row_length-lane_of : (look : Look) (crossing : Option LaneMark) (shape : Part → Shape) (mark : Option LaneMark)
+pub row_length-lane_of : (look : Look) (crossing : Option LaneMark) (shape : MultiLabel → Shape) (mark : Option LaneMark)
     → row_length (lane_of look crossing shape mark) ≡ 2
 unfolding lane_of
 row_length-lane_of look crossing shape None = row_length-lane_cells look.severity look.chars crossing Primary Gap
@@ -58,7 +58,7 @@ twice f two a (suc n) =
     row_length-append (f a) (flat_map f (range_with_len (a + 1) n)) ∙ omega (arith, two a, twice f two (a + 1) n)
 
 -- the lanes of any row
-pub row_length-lanes_in : (look : Look) (crossing : ℕ → Option LaneMark) (shape : ℕ → Part → Shape) (lanes : Lanes)
+pub row_length-lanes_in : (look : Look) (crossing : ℕ → Option LaneMark) (shape : ℕ → MultiLabel → Shape) (lanes : Lanes)
     → row_length (lanes_in look crossing shape lanes) ≡ 2 * lanes.count
 row_length-lanes_in look crossing shape lanes =
     twice (λ lane. lane_of look (crossing lane) (shape lane) (mark_in lanes.marks lane))

@@ -2,7 +2,7 @@
 use Rattle.std.proofs.Common.{◌≡◌, ℕ, [], ◌++◌, flat_map, Option, None, refl, sym, ap, subst, ◌∙◌, append-nil, append_assoc}
 use Rattle.std.proofs.lemmas.Option.{none-some, same_Some}
 use Rattle.std.specs.List.{range_with_len}
-use Rattle.codespan_base.specs.Labels.{Labelled, LaneMark, Part}
+use Rattle.codespan_base.specs.Labels.{Labelled, LaneMark, MultiLabel}
 use Rattle.codespan_base.specs.Streams.{Stream, LabelMark, Reset, one_mark, space}
 use Rattle.codespan_picture.specs.declared.lanes.Shape.{Shape}
 use Rattle.codespan_picture.specs.Lanes.{Underline, row_shape, row_crossing, source_shape, plain_shape, below_shape, mark_in, shape_of, style_of_mark, lane_cells}
@@ -14,7 +14,7 @@ use Rattle.codespan_laws.specs.LaneLaws.{lanes_shown, before_lanes, ShowsLanes, 
 -- ---- lanes
 
 -- the two characters of each lane, from left to right, from the marks in them
-lanes_are : (look : Look) (crossing : ℕ → Option LaneMark) (shape : ℕ → Part → Shape) (lanes : Lanes)
+lanes_are : (look : Look) (crossing : ℕ → Option LaneMark) (shape : ℕ → MultiLabel → Shape) (lanes : Lanes)
     → lanes_in look crossing shape lanes
     ≡ flat_map (λ lane. lane_cells look.severity look.chars (crossing lane) (style_of_mark (mark_in lanes.marks lane)) (shape_of (shape lane) (mark_in lanes.marks lane)))
     (range_with_len 0 lanes.count)

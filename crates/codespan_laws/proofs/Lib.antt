@@ -20,7 +20,8 @@ pub mod RefillRows
 pub mod ResetLemmas
 pub mod RowBoundLemmas
 pub mod RowTexts
-pub mod PlacedPictures
+pub mod Loci
+pub mod StatedNames
 pub mod PictureTexts
 pub mod SlotLemmas
 pub mod SlotSums

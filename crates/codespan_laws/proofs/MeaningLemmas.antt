@@ -1,9 +1,9 @@
--- A rich picture means its labels: the laws of its parts, together.
-use Rattle.std.proofs.Common.{◌<◌, Bool}
+-- A rich output means its labels: the laws of its parts, together.
+use Rattle.std.proofs.Common.{◌<◌}
 use Rattle.std.specs.Cmp.{IsEquivalence}
 use Rattle.codespan_base.specs.declared.term.config.Config.{Config}
 use Rattle.codespan_base.specs.declared.diagnostic.Diagnostic.{Diagnostic}
-use Rattle.codespan_base.specs.FileModel.{FileModel, line_count}
+use Rattle.codespan_base.specs.FileModel.{FileDatabase, line_count}
 use Rattle.codespan_picture.specs.Rows.{Look}
 use Rattle.codespan_picture.specs.Snippets.{LabelledFile, line_at}
 use Rattle.codespan_picture.specs.RowStreams.{caret_row}
@@ -39,13 +39,13 @@ snippet_means_labels view look s = record {
   lanes = λ ordered. runs.lanes_are_lines view look.layout s ordered;
 }
 
--- the picture means the labels of the diagnostic
-pub picture_means_labels : {Id : Type 0} (renderer view : Config) (same : Id → Id → Bool) (file : Id → FileModel) (d : Diagnostic Id)
-    → IsEquivalence same → ((id : Id) → 0 < line_count (file id)) → MeansLabels renderer view same file d
-picture_means_labels renderer view same file d equal some_line = record {
+-- the output means the labels of the diagnostic
+pub output_means_labels : {Id : Type 0} (renderer view : Config) (files : FileDatabase Id) (d : Diagnostic Id)
+    → IsEquivalence files.same → ((id : Id) → 0 < line_count (files.file id)) → MeansLabels renderer view files d
+output_means_labels renderer view files d equal some_line = record {
   each_file = λ s inside. snippet_means_labels view _ s;
   carets = carets_are_cells;
   lanes = lanes_are_shown;
-  messages = messages.messages_stand_once renderer view same file d equal some_line;
-  room = padding.padding_has_room view (files_of same file d);
+  messages = messages.messages_stand_once renderer view files d equal some_line;
+  room = padding.padding_has_room view (files_of files d);
 }

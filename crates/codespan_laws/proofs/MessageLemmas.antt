@@ -1,11 +1,11 @@
 -- Each label with a message trails or hangs, and none does both.
-use Rattle.std.proofs.Common.{◌≡◌, ℕ, ◌+◌, Bool, true, false, cond, List, [], ◌∷◌, ◌++◌, filter, sum_by, Option, Some, None, if◌then◌else◌, refl, ap, arith}
+use Rattle.std.proofs.Common.{◌≡◌, ℕ, ◌+◌, Bool, true, false, cond, List, [], ◌∷◌, ◌++◌, filter, sum_by, Option, Some, None, if◌then◌else◌, refl, ap, ap₂, ◌∙◌, arith}
 use Rattle.std.proofs.lemmas.List.Sums.{sum_by-cons, sum_by-append}
 use Rattle.codespan_base.specs.Labels.{Labelled, has_message}
 use Rattle.codespan_picture.specs.Carets.{greatest_end}
 use Rattle.codespan_laws.specs.MessageLaws.{weight_of}
-use Rattle.codespan_picture.specs.Rows.{Around, others, does_trail, rightmost, trailing_of, hanging_of, trailing, hanging}
-use Rattle.codespan_picture.proofs.Rightmost.{around_is, some_rightmost}
+use Rattle.codespan_picture.specs.Rows.{trailing, hanging}
+use Rattle.codespan_picture.proofs.Rightmost.{Around, others, around_trails, around_rightmost, trailing_of, hanging_of, around_is, some_rightmost, trailing_is, hanging_is}
 
 -- ---- sums over labels
 
@@ -22,7 +22,9 @@ module _ (weight : Labelled → ℕ) (only_messages : (x : Labelled) → has_mes
   -- what each label weighs by its message, trailing and hanging labels weigh together
   pub trailing_and_hanging : (labels : List Labelled) → weight_of weight (trailing labels) + sum_by weight (hanging labels) ≡ sum_by weight labels
   trailing_and_hanging [] = refl
-  trailing_and_hanging (x ∷ xs) = by_rightmost (rightmost (x ∷ xs)) refl
+  trailing_and_hanging (x ∷ xs) =
+      ap₂ (λ t h. weight_of weight t + sum_by weight h) (trailing_is (x ∷ xs)) (hanging_is (x ∷ xs))
+      ∙ by_rightmost (around_rightmost (x ∷ xs)) refl
     where
       by_test : (a : Around) → a.before ++ (a.here ∷ a.after) ≡ x ∷ xs → (b : Bool)
           → weight_of weight (if b then Some a.here else None) + sum_by weight (filter has_message (if b then others a else x ∷ xs)) ≡ sum_by weight (x ∷ xs)
@@ -38,7 +40,7 @@ module _ (weight : Labelled → ℕ) (only_messages : (x : Labelled) → has_mes
           )
       by_test a whole false = omega (arith, sum_of-filter (x ∷ xs))
 
-      by_rightmost : (r : Option Around) → rightmost (x ∷ xs) ≡ r
+      by_rightmost : (r : Option Around) → around_rightmost (x ∷ xs) ≡ r
           → weight_of weight (trailing_of r) + sum_by weight (hanging_of (x ∷ xs) r) ≡ sum_by weight (x ∷ xs)
       by_rightmost None none = absurd (some_rightmost x xs none)
-      by_rightmost (Some a) is = by_test a (around_is (greatest_end (x ∷ xs)) (x ∷ xs) a is) (does_trail a)
+      by_rightmost (Some a) is = by_test a (around_is (greatest_end (x ∷ xs)) (x ∷ xs) a is) (around_trails a)

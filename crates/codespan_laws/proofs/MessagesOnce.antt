@@ -1,26 +1,31 @@
 -- Each label's message stands in one slot, and the slots filled give the picture.
-use Rattle.std.proofs.Common.{◌≡◌, ℕ, zero, suc, ◌+◌, ◌<◌, ◌≤◌, Bool, true, false, not, cond, ◌==◌, List, [], ◌∷◌, map, filter, Option, Some, None, option_map, slice_get, if◌then◌else◌, refl, sym, ap, ap₂, ◌∙◌, append-nil, arith}
+use Rattle.std.proofs.Common.{◌≡◌, ℕ, zero, suc, ◌+◌, ◌<◌, ◌≤◌, Bool, true, false, not, cond, ◌==◌, List, [], ◌∷◌, length, map, filter, Option, Some, None, option_map, slice_get, if◌then◌else◌, refl, sym, ap, ap₂, ◌∙◌, append-nil, arith}
 use Rattle.std.specs.Prelude.{sum_by, string_bytes}
 use Rattle.std.proofs.lemmas.Bool.Decides.{nat_tests}
 use Rattle.std.proofs.lemmas.Option.{slice_get-map}
-use Rattle.std.proofs.lemmas.List.Sums.{sum_by-cons, sum_by-append, sum_by-le-sum_by}
+use Rattle.std.proofs.lemmas.List.Sums.{sum_by-cons, sum_by-le-sum_by}
 use Rattle.codespan_base.specs.declared.term.config.Config.{Config}
 use Rattle.codespan_base.specs.declared.diagnostic.Diagnostic.{Diagnostic}
 use Rattle.codespan_base.specs.declared.diagnostic.Label.{Label}
 use Rattle.codespan_base.specs.declared.diagnostic.Severity.{Severity}
-use Rattle.codespan_base.specs.FileModel.{FileModel}
+use Rattle.codespan_base.specs.FileModel.{FileDatabase, FileModel, line_count}
+use Rattle.codespan_base.specs.declared.term.config.DisplayStyle.TheVariants.{Rich}
+use Rattle.std.specs.Cmp.{IsEquivalence}
+use Rattle.std.specs.List.{AllZip}
+use Rattle.std.proofs.lemmas.List.{length-map}
 use Rattle.codespan_base.specs.Streams.{Stream, Byte, Slot, bytes, text_of, filled}
 use Rattle.codespan_base.specs.Labels.{Labelled, has_message, is_blank, last_line, first_seen}
 use Rattle.codespan_picture.specs.Lines.{drawn_lines}
-use Rattle.codespan_picture.specs.Rows.{Heading, Look, StartRow, EmptyRow}
+use Rattle.codespan_picture.specs.Rows.{Heading, Locus, Look}
 use Rattle.codespan_picture.specs.RowStreams.{stream_of_rows}
-use Rattle.codespan_picture.specs.Snippets.{LabelledFile, InFile, labelled_file, labelled_files, bare_lanes, place_of, rows_after, snippet, rich_rows}
-use Rattle.codespan_picture.specs.Picture.{look_of, rich_stream, label_of, labels_of, heading_of, notes_of}
+use Rattle.codespan_picture.specs.Snippets.{LabelledFile, InFile, file_ids, labelled_file, labelled_files, rich_rows}
+use Rattle.codespan_picture.specs.Picture.{AreLoci, IsLocus, heading_of, label_of, labels_of, look_of, notes_of, rendered, snippet_start}
 use Rattle.codespan_picture.specs.Padding.{padding_of}
-use Rattle.codespan_laws.specs.MessageLaws.{slotted, all_slotted, message_of, message_text, slotted_picture, MessagesStandOnceWhereLawful}
+use Rattle.codespan_laws.specs.MessageLaws.{slotted, all_slotted, message_of, message_text, slotted_output, MessagesStandOnce}
+use Rattle.codespan_laws.proofs.Loci.{zip_length}
 use Rattle.codespan_laws.proofs.Texts.{text_of-bytes}
-use Rattle.codespan_laws.proofs.SlotLemmas.{slots, row_slots, slots-rows}
-use Rattle.codespan_laws.proofs.SlotSums.{sum-zero, sum-map, sum-filter, lines_sum, rich_sum, label_slots, on_line, slotted_slots, slotted_from, slotted_sum, one_here, each_once}
+use Rattle.codespan_laws.proofs.SlotLemmas.{slots, slots-rows}
+use Rattle.codespan_laws.proofs.SlotSums.{sum-zero, sum-map, sum-filter, file_slots, lines_sum, rich_sum, label_slots, on_line, slotted_slots, slotted_from, slotted_sum, one_here, each_once}
 use Rattle.codespan_laws.proofs.RefillRows.{fill, fill-is, fill_same, keeps, fill-rows}
 use Rattle.codespan_laws.proofs.RefillPicture.{re_file, re_in, rich-re, padding-re, files-re}
 
@@ -30,14 +35,11 @@ at_most : (b : Bool) (n : ℕ) → cond b n 0 ≤ n
 at_most true n = omega arith
 at_most false n = omega arith
 
-snippet_zero : (k : ℕ) (config : Config) (s : LabelledFile) → sum_by (label_slots k) s.labels ≡ 0 → sum_by (row_slots k) (snippet config s) ≡ 0
+snippet_zero : (k : ℕ) (config : Config) (s : LabelledFile) → sum_by (label_slots k) s.labels ≡ 0 → file_slots k config s ≡ 0
 snippet_zero k config s none =
     let ls = drawn_lines config s.file s.labels in
     omega (
       arith,
-      sum_by-append (row_slots k) (StartRow (place_of s) ∷ EmptyRow (bare_lanes s) ∷ []) (rows_after s None ls),
-      sum_by-cons (row_slots k) (StartRow (place_of s)) (EmptyRow (bare_lanes s) ∷ []),
-      sum_by-cons (row_slots k) (EmptyRow (bare_lanes s)) [],
       lines_sum k s None ls,
       sum-zero (λ l. sum_by (on_line k s.file l) s.labels)
           (λ l. omega (arith, none, sum_by-le-sum_by (on_line k s.file l) (label_slots k) s.labels (λ x. at_most (last_line s.file x == l) (label_slots k x)))) ls,
@@ -45,11 +47,11 @@ snippet_zero k config s none =
 
 files_zero : {Id : Type 0} (k : ℕ) (config : Config) (same : Id → Id → Bool) (file : Id → FileModel) (xs : List (InFile Id))
     → sum_by (λ (x : InFile Id). label_slots k x.label) xs ≡ 0
-    → sum_by (λ s. sum_by (row_slots k) (snippet config s)) (labelled_files same file xs) ≡ 0
+    → sum_by (file_slots k config) (labelled_files same file xs) ≡ 0
 files_zero {Id = Id} k config same file xs none =
     let ids = first_seen same (map (λ (x : InFile Id). x.id) xs) in
-    sum-map (λ s. sum_by (row_slots k) (snippet config s)) (labelled_file same file xs) ids
-    ∙ sum-zero (λ id. sum_by (row_slots k) (snippet config (labelled_file same file xs id))) (λ id. snippet_zero k config (labelled_file same file xs id) (one id)) ids
+    sum-map (file_slots k config) (labelled_file same file xs) ids
+    ∙ sum-zero (λ id. file_slots k config (labelled_file same file xs id)) (λ id. snippet_zero k config (labelled_file same file xs id) (one id)) ids
   where
     one : (id : Id) → sum_by (label_slots k) (labelled_file same file xs id).labels ≡ 0
     one id =
@@ -135,16 +137,31 @@ refilled {Id = Id} φ k n (x ∷ xs) h =
     ap₂ {C = List (InFile Id)} (λ (s : Stream) ys. record { id = x.id; label = record x.label { message = s } } ∷ ys) (h 0 n x (omega arith) refl)
     (refilled φ k (n + 1) xs (λ j i y e at. h (suc j) i y (omega arith) at))
 
-filled_picture : {Id : Type 0} (renderer view : Config) (same : Id → Id → Bool) (file : Id → FileModel) (severity : Severity) (heading : Heading) (notes : List (List ℕ)) (xs : List (InFile Id))
-    → IsPlain xs
-    → fill (message_text xs) (rich_stream renderer view severity heading (labelled_files same file (all_slotted xs)) notes)
-    ≡ rich_stream renderer view severity heading (labelled_files same file xs) notes
-filled_picture {Id = Id} renderer view same file severity heading notes xs plain =
-    fill_same (message_text xs) (full_text xs) (rich_stream renderer view severity heading ss notes) (λ k some. by_text k (message_text xs k) refl some)
-    ∙ fill-rows (full_text xs) (full xs) look (rich_rows view heading ss notes)
-    ∙ ap (stream_of_rows look) (rich-re φ kept view heading ss notes)
-    ∙ ap (λ n. stream_of_rows (look_of renderer severity n) (rich_rows view heading (map (re_file φ) ss) notes)) (sym (padding-re φ kept view ss))
-    ∙ ap (λ ts. rich_stream renderer view severity heading ts notes) (sym (files-re φ kept same file (all_slotted xs)) ∙ ap (labelled_files same file) whole)
+-- the labels' files are as many whatever the messages
+ids_kept : {Id : Type 0} (k n : ℕ) (xs : List (InFile Id)) → map (λ (x : InFile Id). x.id) (slotted_from k n xs) ≡ map (λ (x : InFile Id). x.id) xs
+ids_kept k n [] = refl
+ids_kept k n (x ∷ xs) = ap (λ ids. x.id ∷ ids) (ids_kept k (n + 1) xs)
+
+-- a locus for each file is one for each file with slots
+as_many : {Id : Type 0} (same : Id → Id → Bool) (file : Id → FileModel) (xs : List (InFile Id)) (loci : List Locus)
+    → AllZip IsLocus (map snippet_start (labelled_files same file xs)) loci → length loci ≡ length (labelled_files same file (all_slotted xs))
+as_many {Id} same file xs loci are =
+    sym (zip_length IsLocus (map snippet_start (labelled_files same file xs)) loci are)
+    ∙ length-map (labelled_files same file xs) snippet_start
+    ∙ length-map (file_ids same xs) (labelled_file same file xs)
+    ∙ ap (λ ids. length (first_seen same ids)) (sym (ids_kept 0 0 xs))
+    ∙ sym (length-map (file_ids same (all_slotted xs)) (labelled_file same file (all_slotted xs)))
+
+filled_output : {Id : Type 0} (renderer view : Config) (same : Id → Id → Bool) (file : Id → FileModel) (severity : Severity) (heading : Heading) (loci : List Locus) (notes : List (List ℕ)) (xs : List (InFile Id))
+    → length loci ≡ length (labelled_files same file (all_slotted xs)) → IsPlain xs
+    → fill (message_text xs) (rendered Rich renderer view severity heading loci (labelled_files same file (all_slotted xs)) notes)
+    ≡ rendered Rich renderer view severity heading loci (labelled_files same file xs) notes
+filled_output {Id = Id} renderer view same file severity heading loci notes xs many plain =
+    fill_same (message_text xs) (full_text xs) (rendered Rich renderer view severity heading loci ss notes) (λ k some. by_text k (message_text xs k) refl some)
+    ∙ fill-rows (full_text xs) (full xs) look (rich_rows view heading loci ss notes)
+    ∙ ap (stream_of_rows look) (rich-re φ kept view heading loci ss notes)
+    ∙ ap (λ n. stream_of_rows (look_of renderer severity n) (rich_rows view heading loci (map (re_file φ) ss) notes)) (sym (padding-re φ kept view ss))
+    ∙ ap (λ ts. rendered Rich renderer view severity heading loci ts notes) (sym (files-re φ kept same file (all_slotted xs)) ∙ ap (labelled_files same file) whole)
   where
     ss : List LabelledFile
     ss = labelled_files same file (all_slotted xs)
@@ -167,20 +184,23 @@ filled_picture {Id = Id} renderer view same file severity heading notes xs plain
         zero_plus : (j : ℕ) → 0 + j ≡ j
         zero_plus j = omega arith
 
-    by_text : (k : ℕ) (t : List ℕ) → message_text xs k ≡ t → 0 < slots k (rich_stream renderer view severity heading ss notes) → message_text xs k ≡ full_text xs k
+    by_text : (k : ℕ) (t : List ℕ) → message_text xs k ≡ t → 0 < slots k (rendered Rich renderer view severity heading loci ss notes) → message_text xs k ≡ full_text xs k
     by_text k [] e some =
         absurd (omega (
           arith,
           some,
-          slots-rows k look (rich_rows view heading ss notes),
-          rich_sum k view heading ss notes,
+          slots-rows k look (rich_rows view heading loci ss notes),
+          rich_sum k view heading loci ss notes many,
           files_zero k view same file (all_slotted xs) (unnamed xs plain k e),
         ))
     by_text k (b ∷ bs) e some = e ∙ ap nonempty (sym e)
 
-pub messages_stand_once : {Id : Type 0} (renderer view : Config) (same : Id → Id → Bool) (file : Id → FileModel) (d : Diagnostic Id) → MessagesStandOnceWhereLawful renderer view same file d
-messages_stand_once {Id = Id} renderer view same file d equal some_line = record {
-  once = each_once (look_of renderer d.severity (padding_of view (labelled_files same file (all_slotted (labels_of d))))) view same file (heading_of d) (notes_of d) (labels_of d) equal some_line;
-  whole = fill-is (message_text (labels_of d)) (slotted_picture renderer view same file d)
-      ∙ filled_picture renderer view same file d.severity (heading_of d) (notes_of d) (labels_of d) (plain d);
-}
+pub messages_stand_once : {Id : Type 0} (renderer view : Config) (files : FileDatabase Id) (d : Diagnostic Id) → IsEquivalence files.same → ((id : Id) → 0 < line_count (files.file id))
+    → (loci : List Locus) → AreLoci files d Rich loci → MessagesStandOnce renderer view files d loci
+messages_stand_once {Id = Id} renderer view files d equal some_line loci are =
+    let many = as_many files.same files.file (labels_of d) loci are in
+    record {
+      once = each_once (look_of renderer d.severity (padding_of view (labelled_files files.same files.file (all_slotted (labels_of d))))) view files.same files.file (heading_of d) (notes_of d) (labels_of d) loci many equal some_line;
+      whole = fill-is (message_text (labels_of d)) (slotted_output renderer view files d loci)
+          ∙ filled_output renderer view files.same files.file d.severity (heading_of d) loci (notes_of d) (labels_of d) many (plain d);
+    }

@@ -6,6 +6,7 @@ use Rattle.std.specs.Cmp.Lexicographic.{pointwise}
 use Rattle.std.specs.List.{range_with_len, enumerate_from, filter_map}
 use Rattle.codespan_base.specs.declared.diagnostic.Severity.{Severity}
 use Rattle.codespan_base.specs.declared.term.config.Config.{Config}
+use Rattle.codespan_base.specs.declared.term.config.DisplayStyle.TheVariants.{Rich}
 use Rattle.codespan_base.specs.declared.term.config.Layout.{Layout}
 use Rattle.codespan_base.specs.declared.term.config.Layout.TheVariants.{Classic, Unbroken}
 use Rattle.codespan_base.specs.FileModel.{FileModel, line_count, line_text}
@@ -15,10 +16,10 @@ use Rattle.codespan_laws.specs.LineLaws.{shown_lines}
 use Rattle.codespan_picture.specs.Lines.{shows, is_shown, drawn_lines}
 use Rattle.codespan_laws.specs.OrderLaws.{OrderIsFree}
 use Rattle.codespan_picture.specs.Padding.{spans, spanned_lines, numbered_lines, digits_of}
-use Rattle.codespan_picture.specs.Picture.{look_of, rich_stream}
+use Rattle.codespan_picture.specs.Picture.{look_of, rendered, snippet_start}
 use Rattle.codespan_picture.specs.RowStreams.{stream_of_rows}
-use Rattle.codespan_picture.specs.Rows.{Place, Heading, Lanes, Line, HeaderRow, StartRow, EmptyRow, BlankRow}
-use Rattle.codespan_picture.specs.Snippets.{LabelledFile, InFile, labelled_file, bare_lanes, line_at, rows_after, drawing, place_of, snippet, has_any, is_followed, row_after, snippets, note_rows}
+use Rattle.codespan_picture.specs.Rows.{Locus, Heading, Lanes, Line, HeaderRow, StartRow, EmptyRow, BlankRow}
+use Rattle.codespan_picture.specs.Snippets.{LabelledFile, InFile, labelled_file, bare_lanes, line_at, rows_after, drawing, labelled_files, snippet, has_any, is_followed, row_after, snippets, note_rows}
 use Rattle.codespan_laws.proofs.FillLemmas.{drawing_of_shown}
 use Rattle.codespan_laws.proofs.OrderMembers.{AreAlike, SameTests, same-tests, locus-same, singles-same}
 
@@ -26,7 +27,7 @@ use Rattle.codespan_laws.proofs.OrderMembers.{AreAlike, SameTests, same-tests, l
 
 -- what two files with labels give to a picture is the same
 record GiveTheSame (view : Config) (s t : LabelledFile) : Type 0 where
-  rows : snippet view s ≡ snippet view t
+  rows : (locus : Locus) → snippet view locus s ≡ snippet view locus t
   bare : bare_lanes s ≡ bare_lanes t
   digits : digits_of s (numbered_lines view s) ≡ digits_of t (numbered_lines view t)
 
@@ -64,17 +65,17 @@ module _ (f : FileModel) (xs ys : List Labelled) (alike : AreAlike f xs ys) wher
   drawn-same view =
       ap (λ (shown : ℕ → Bool). filter (λ l. shown l || (nat_lt 0 l && shown (l - 1) && shown (l + 1))) (range_with_len 0 (line_count f))) (fun_ext (shown-same view))
 
-  place-same : place_of s ≡ place_of t
-  place-same = ap {B = Place} (λ n. record (place_of s) { location = f.location n }) (locus-same xs ys tests)
+  start-same : snippet_start s ≡ snippet_start t
+  start-same = ap {B = FileModel × ℕ} (λ n. (f, n)) (locus-same xs ys tests)
 
   -- the rows are the drawing of the shown lines
   after-same : (view : Config) → rows_after s None (drawn_lines view f xs) ≡ rows_after t None (drawn_lines view f ys)
   after-same view =
       drawing_of_shown view s ∙ ap₂ (λ line ls. drawing line None ls) (fun_ext line-same) (shown_lines-same view) ∙ sym (drawing_of_shown view t)
 
-  snippet-same : (view : Config) → snippet view s ≡ snippet view t
-  snippet-same view =
-      ap₂ (λ a b. a ++ b) (ap₂ (λ place lanes. StartRow place ∷ EmptyRow lanes ∷ []) place-same bare-same) (after-same view)
+  snippet-same : (view : Config) (locus : Locus) → snippet view locus s ≡ snippet view locus t
+  snippet-same view locus =
+      ap₂ (λ a b. a ++ b) (ap (λ lanes. StartRow locus ∷ EmptyRow lanes ∷ []) bare-same) (after-same view)
 
   spanned-same : spanned_lines s ≡ spanned_lines t
   spanned-same = ap (λ (spanned : ℕ → Bool). filter spanned (range_with_len 0 (line_count f))) (fun_ext (λ (l : ℕ). tests (λ x. spans f x l)))
@@ -93,21 +94,22 @@ module _ (f : FileModel) (xs ys : List Labelled) (alike : AreAlike f xs ys) wher
 
 module _ {Id : Type 0} (view : Config) (g h : Id → LabelledFile) (gives : (id : Id) → GiveTheSame view (g id) (h id)) where
   -- a snippet and the row after it
-  followed-same : (followed : Bool) (id : Id) → snippet view (g id) ++ row_after followed (g id) ≡ snippet view (h id) ++ row_after followed (h id)
-  followed-same true id = ap₂ (λ rows lanes. rows ++ (EmptyRow lanes ∷ [])) (gives id).rows (gives id).bare
-  followed-same false id = ap (λ rows. rows ++ []) (gives id).rows
+  followed-same : (followed : Bool) (p : Locus) (id : Id) → snippet view p (g id) ++ row_after followed (g id) ≡ snippet view p (h id) ++ row_after followed (h id)
+  followed-same true p id = ap₂ (λ rows lanes. rows ++ (EmptyRow lanes ∷ [])) ((gives id).rows p) (gives id).bare
+  followed-same false p id = ap (λ rows. rows ++ []) ((gives id).rows p)
 
   is_followed-same : (b : Bool) (ids : List Id) → is_followed b (map g ids) ≡ is_followed b (map h ids)
   is_followed-same b [] = refl
   is_followed-same b (i ∷ ids) = refl
 
-  snippets-same : (notes : List (List ℕ)) (ids : List Id) → snippets view notes (map g ids) ≡ snippets view notes (map h ids)
-  snippets-same notes [] = refl
-  snippets-same notes (i ∷ ids) =
+  snippets-same : (has_notes : Bool) (ps : List Locus) (ids : List Id) → snippets view has_notes ps (map g ids) ≡ snippets view has_notes ps (map h ids)
+  snippets-same has_notes [] ids = refl
+  snippets-same has_notes (p ∷ ps) [] = refl
+  snippets-same has_notes (p ∷ ps) (i ∷ ids) =
       ap₂ (λ a b. a ++ b)
-      (followed-same (is_followed (has_any notes) (map g ids)) i
-      ∙ ap (λ b. snippet view (h i) ++ row_after b (h i)) (is_followed-same (has_any notes) ids))
-      (snippets-same notes ids)
+      (followed-same (is_followed has_notes (map g ids)) p i
+      ∙ ap (λ b. snippet view p (h i) ++ row_after b (h i)) (is_followed-same has_notes ids))
+      (snippets-same has_notes ps ids)
 
   digits-same : (ids : List Id)
       → flat_map (λ (s : LabelledFile). digits_of s (numbered_lines view s)) (map g ids)
@@ -115,11 +117,11 @@ module _ {Id : Type 0} (view : Config) (g h : Id → LabelledFile) (gives : (id 
   digits-same [] = refl
   digits-same (i ∷ ids) = ap₂ (λ a b. a ++ b) (gives i).digits (digits-same ids)
 
-  rich-same : (renderer : Config) (severity : Severity) (heading : Heading) (notes : List (List ℕ)) (ids : List Id)
-      → rich_stream renderer view severity heading (map g ids) notes ≡ rich_stream renderer view severity heading (map h ids) notes
-  rich-same renderer severity heading notes ids =
+  rich-same : (renderer : Config) (severity : Severity) (heading : Heading) (ps : List Locus) (notes : List (List ℕ)) (ids : List Id)
+      → rendered Rich renderer view severity heading ps (map g ids) notes ≡ rendered Rich renderer view severity heading ps (map h ids) notes
+  rich-same renderer severity heading ps notes ids =
       ap₂ (λ padding rows. stream_of_rows (look_of renderer severity padding) ((HeaderRow None heading ∷ rows) ++ note_rows notes ++ (BlankRow ∷ [])))
-      (ap (fold max 0) (digits-same ids)) (snippets-same notes ids)
+      (ap (fold max 0) (digits-same ids)) (snippets-same (has_any notes) ps ids)
 
 -- ---- equal ids
 
@@ -139,12 +141,28 @@ module _ {Id : Type 0} (same : Id → Id → Bool) (file : Id → FileModel) (o 
   files-alike (i ∷ is) (j ∷ js) h =
       ap₂ (λ s ss. s ∷ ss) (file-alike i j (first_so (same i j) (pointwise same is js) h)) (files-alike is js (second_so (same i j) (pointwise same is js) h))
 
--- a reordering that keeps these orders changes nothing in a rich picture, where equal ids have one file
+-- a reordering that keeps these orders changes nothing in a rich output, where equal ids have one file
 pub order_is_free : {Id : Type 0} (same : Id → Id → Bool) (file : Id → FileModel) → OrderIsFree same file
-order_is_free {Id} same file xs ys renderer view severity heading notes o one_file orders =
-    rich-same view (labelled_file same file xs) (labelled_file same file ys) gives renderer severity heading notes (first_seen same (map (λ (x : InFile Id). x.id) xs))
-    ∙ ap (λ ss. rich_stream renderer view severity heading ss notes) (files-alike same file o one_file ys _ _ orders.files)
+order_is_free {Id} same file xs ys o one_file orders = record {
+  same_starts = starts-same ids ∙ ap (map snippet_start) others;
+  same_stream = λ renderer view severity heading loci notes.
+      rich-same view (labelled_file same file xs) (labelled_file same file ys) (gives view) renderer severity heading loci notes ids
+      ∙ ap (λ ss. rendered Rich renderer view severity heading loci ss notes) others;
+}
   where
-    gives : (id : Id) → GiveTheSame view (labelled_file same file xs id) (labelled_file same file ys id)
-    gives id = gives-same (file id) (labelled_file same file xs id).labels (labelled_file same file ys id).labels
-        (record { several_lines = orders.several_lines id; one_line = orders.one_line id }) view
+    ids : List Id
+    ids = first_seen same (map (λ (x : InFile Id). x.id) xs)
+
+    others : map (labelled_file same file ys) ids ≡ labelled_files same file ys
+    others = files-alike same file o one_file ys _ _ orders.files
+
+    alike : (id : Id) → AreAlike (file id) (labelled_file same file xs id).labels (labelled_file same file ys id).labels
+    alike id = record { several_lines = orders.several_lines id; one_line = orders.one_line id }
+
+    gives : (view : Config) (id : Id) → GiveTheSame view (labelled_file same file xs id) (labelled_file same file ys id)
+    gives view id = gives-same (file id) (labelled_file same file xs id).labels (labelled_file same file ys id).labels (alike id) view
+
+    starts-same : (ids : List Id) → map snippet_start (map (labelled_file same file xs) ids) ≡ map snippet_start (map (labelled_file same file ys) ids)
+    starts-same [] = refl
+    starts-same (i ∷ ids) =
+        ap₂ (λ a b. a ∷ b) (start-same (file i) (labelled_file same file xs i).labels (labelled_file same file ys i).labels (alike i)) (starts-same ids)

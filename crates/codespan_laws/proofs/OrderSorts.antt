@@ -1,10 +1,16 @@
 -- The order of a line's labels: the labels of each range keep their order, and nothing else of the order given counts.
-use Rattle.std.proofs.Common.{◌≡◌, ℕ, Bool, true, false, ◌==◌, ◌&&◌, cond, List, [], ◌∷◌, filter, ⊎_elim, refl, sym, ap, ◌∙◌, arith}
+use mathlib.Core.Path.{fun_ext}
+use Rattle.std.proofs.Common.{◌≡◌, ℕ, Bool, true, false, ◌==◌, ◌&&◌, cond, List, [], ◌∷◌, filter, ⊎_elim, refl, sym, ap, subst, ◌∙◌, arith}
 use Rattle.std.proofs.lemmas.Bool.{both_ways, cases_Bool, cond_both, eq-eqb, false_from_ne_true}
 use Rattle.std.proofs.lemmas.Bool.Decides.{nat_tests}
+use Rattle.std.proofs.lemmas.List.Sorted.{IsPermutation-refl, IsPermutation-trans, IsPermutation-insert, IsPermutation-cons}
+use Rattle.std.specs.Cmp.{IsStrictWeakOrder}
 use Rattle.std.specs.List.{AllByRecursion}
+use Rattle.std.specs.List.Sorted.{IsPermutation, IsStableBy, ties}
+use Rattle.codespan_base.specs.declared.diagnostic.LabelStyle.TheVariants.{Primary}
 use Rattle.codespan_base.specs.Labels.{Labelled, stands_before, put_in, sorted}
-use Rattle.codespan_laws.proofs.SortedLists.{Rises, all-weaker, filter-nothing}
+use Rattle.codespan_laws.specs.SortLaws.{SortsLabels}
+use Rattle.codespan_laws.proofs.SortedLists.{Rises, all-weaker, filter-nothing, rises-from_sorted, sorted_from_rises}
 
 -- ---- the order
 
@@ -140,3 +146,57 @@ ascending-same (x ∷ xs) (y ∷ ys) a b same =
 pub sorted-same : (xs ys : List Labelled) → SameRanges xs ys → sorted xs ≡ sorted ys
 sorted-same xs ys same = ascending-same (sorted xs) (sorted ys) (sorted-ascends xs) (sorted-ascends ys)
     (λ start end. sorted-keeps start end xs ∙ same start end ∙ sym (sorted-keeps start end ys))
+
+-- ---- the one list of labels in order
+
+-- it is an order
+before_order : IsStrictWeakOrder stands_before
+before_order = record { one_way = before_one_way; chain = before_chain }
+
+-- the label that is put in and the others
+put_in-permutation : (x : Labelled) (ys : List Labelled) → IsPermutation (x ∷ ys) (put_in x ys)
+put_in-permutation x [] = IsPermutation-refl (x ∷ [])
+put_in-permutation x (y ∷ ys) =
+    cond_both (stands_before y x) (y ∷ put_in x ys) (x ∷ y ∷ ys) (IsPermutation (x ∷ y ∷ ys))
+    (λ _. IsPermutation-trans (x ∷ y ∷ ys) (y ∷ x ∷ ys) (y ∷ put_in x ys)
+    (IsPermutation-insert (y ∷ ys) 1 x)
+    (IsPermutation-cons y (x ∷ ys) (put_in x ys) (put_in-permutation x ys)))
+    (λ _. IsPermutation-refl (x ∷ y ∷ ys))
+
+-- sorted labels are the labels
+sorted-permutation : (xs : List Labelled) → IsPermutation xs (sorted xs)
+sorted-permutation [] = IsPermutation-refl []
+sorted-permutation (x ∷ xs) =
+    IsPermutation-trans (x ∷ xs) (x ∷ sorted xs) (sorted (x ∷ xs))
+    (IsPermutation-cons x xs (sorted xs) (sorted-permutation xs))
+    (put_in-permutation x (sorted xs))
+
+-- neither of two labels stands before the other where they have one range
+tie-range : (x y : Labelled) → ties stands_before x y ≡ has_range x.start x.end y
+tie-range x y = grind (arith, nat_tests)
+
+-- those that tie with a label are those of its range
+ties-range : (x : Labelled) → ties stands_before x ≡ has_range x.start x.end
+ties-range x = fun_ext (tie-range x)
+
+-- a label of this range
+abbrev of_range : ℕ → ℕ → Labelled
+of_range start end = record { style = Primary; start = start; end = end; message = [] }
+
+-- a list that keeps the order of those that tie keeps that of each range
+stable-ranges : (xs ys : List Labelled) → IsStableBy stands_before xs ys → SameRanges ys xs
+stable-ranges xs ys stable start end = subst (λ p. filter p ys ≡ filter p xs) (ties-range (of_range start end)) (stable (of_range start end))
+
+-- sorted labels are in order, and no other list is
+pub sorts_labels : (xs : List Labelled) → SortsLabels xs
+sorts_labels xs = record {
+  is = record {
+    in_order = sorted_from_rises stands_before (sorted xs) (sorted-ascends xs);
+    permutation = sorted-permutation xs;
+    stable = λ x. subst (λ p. filter p (sorted xs) ≡ filter p xs) (sym (ties-range x)) (sorted-keeps x.start x.end xs);
+  };
+  only = λ ys sort. ascending-same ys (sorted xs)
+      (rises-from_sorted stands_before before_order ys sort.in_order)
+      (sorted-ascends xs)
+      (λ start end. stable-ranges xs ys sort.stable start end ∙ sym (sorted-keeps start end xs));
+}

@@ -2,7 +2,7 @@
 use Rattle.std.proofs.Common.{◌≡◌, ℕ, zero, suc, ◌+◌, ◌-◌, ◌<◌, ◌≤◌, Bool, true, false, not, ◌&&◌, ◌==◌, cond, List, [], ◌∷◌, ◌++◌, length, take, drop, get_or, map, filter, reverse, Option, Some, None, encode_utf8_all, refl, sym, ap, ◌∙◌, subst, arith, append_assoc, append-nil, ⊎_elim}
 use Rattle.std.specs.Prelude.{if◌then◌else◌, IfSome, String, nat_lt, string_bytes}
 use Rattle.std.specs.Char.{encode_utf8}
-use Rattle.std.specs.List.{AllByRecursion, AllZip, cons_option, enumerate_from, filter_map, onto_first, slice_split, suffix_len}
+use Rattle.std.specs.List.{AllByRecursion, cons_option, enumerate_from, filter_map, onto_first, slice_split, suffix_len}
 use Rattle.std.specs.Option.{option_map}
 use Rattle.std.specs.Str.{IsUtf8, IsCharBoundary, all_scalars}
 use Rattle.std.specs.Str.Lines.{lines, lines_of_parts, strip_carriage_return}
@@ -18,21 +18,20 @@ use Rattle.codespan_base.specs.declared.diagnostic.Label.{Label}
 use Rattle.codespan_base.specs.declared.term.config.Config.{Config}
 use Rattle.codespan_base.specs.declared.term.config.DisplayStyle.{DisplayStyle}
 use Rattle.codespan_base.specs.declared.term.config.DisplayStyle.TheVariants.{Rich, Medium, Short}
-use Rattle.codespan_base.specs.FileModel.{FileModel, IsLawful, line_text}
+use Rattle.codespan_base.specs.FileModel.{FileDatabase, FileModel, IsLawful, line_text}
 use Rattle.codespan_base.specs.Labels.{Labelled, LaneMark, Top, Left, Bottom, drawn_label, first_line, has_message, is_single, mark_of, multi_labels, part_at, part_on, put_in, single_labels, sorted, stands_before}
 use Rattle.codespan_picture.specs.Cells.{drawn_text, is_line_end}
-use Rattle.codespan_picture.specs.Placed.{ArePlaces, IsPlaceOfFile, IsPlaceOfLabel, placed_header_rows, placed_headers, placed_picture, placed_rich_rows, placed_snippet, placed_snippets, stated_places}
 use Rattle.codespan_picture.specs.Lines.{drawn_lines, is_broken}
 use Rattle.codespan_picture.specs.Padding.{padding_of}
-use Rattle.codespan_picture.specs.Picture.{files_of, heading_of, label_of, labels_of, look_of, notes_of}
-use Rattle.codespan_picture.specs.Rows.{Around, Line, Place, Row, HeaderRow, EmptyRow, BreakRow, SourceRow, HangingRow, UnderlineRow, LaterNoteRow, BlankRow, caret_rows, does_trail, hanging, hanging_of, hanging_rows, has_underline, others, rightmost, rows_of, underline_rows}
+use Rattle.codespan_picture.specs.Picture.{NamesAreTexts, files_of, heading_of, label_of, labels_of, look_of, notes_of, output, starts, stated_loci}
+use Rattle.codespan_picture.specs.Rows.{Line, Locus, Row, HeaderRow, EmptyRow, BreakRow, SourceRow, HangingRow, UnderlineRow, LaterNoteRow, BlankRow, caret_rows, hanging, hanging_rows, has_underline, rows_of, underline_rows}
 use Rattle.codespan_picture.specs.Cells.{leading_whitespace}
 use Rattle.codespan_picture.specs.Carets.{greatest_end}
-use Rattle.codespan_picture.specs.Snippets.{InFile, LabelledFile, bare_lanes, break_rows, has_any, is_followed, labelled_file, line_at, note_rows, piece_rows, row_after, rows_after, snippet_at}
-use Rattle.codespan_laws.specs.TextLaws.{AreCharacters, IsText, PictureIsText}
+use Rattle.codespan_picture.specs.Snippets.{InFile, LabelledFile, bare_lanes, break_rows, has_any, header_rows, headers, is_followed, labelled_file, line_at, note_rows, piece_rows, rich_rows, row_after, rows_after, snippet, snippets}
+use Rattle.codespan_laws.specs.TextLaws.{AreCharacters, IsText, OutputIsText, PictureIsText}
 use Rattle.codespan_laws.proofs.LaneLineLemmas.{each_all, each_map}
-use Rattle.codespan_picture.proofs.Rightmost.{around_is}
-use Rattle.codespan_laws.proofs.PlacedPictures.{HasPlaces, are_stated, placed_of_stated}
+use Rattle.codespan_picture.proofs.Rightmost.{Around, others, around_trails, around_rightmost, hanging_of, around_is, hanging_is}
+use Rattle.codespan_laws.proofs.Loci.{each_start, stated_texts}
 use Rattle.codespan_laws.proofs.RowTexts.{IsTextLine, IsTextPart, IsTextRow, text-bytes, text-rows}
 use Rattle.codespan_laws.proofs.SortedLists.{all-append, all-filter, all-reverse}
 
@@ -217,16 +216,17 @@ module _ (f : FileModel) (labels : List Labelled) (say : AllByRecursion SaysText
 
 says-hanging : (labels : List Labelled) → AllByRecursion SaysText labels → AllByRecursion SaysText (hanging labels)
 says-hanging [] h = tt
-says-hanging (x ∷ xs) h = by (rightmost (x ∷ xs)) refl
+says-hanging (x ∷ xs) h =
+    subst (AllByRecursion SaysText) (sym (hanging_is (x ∷ xs))) (by (around_rightmost (x ∷ xs)) refl)
   where
     around : (before : List Labelled) (y : Labelled) (after : List Labelled) → AllByRecursion SaysText (before ++ (y ∷ after)) → AllByRecursion SaysText (before ++ after)
     around [] y after k = k.1
     around (z ∷ before) y after k = (k.0, around before y after k.1)
 
-    by : (r : Option Around) → rightmost (x ∷ xs) ≡ r → AllByRecursion SaysText (hanging_of (x ∷ xs) r)
+    by : (r : Option Around) → around_rightmost (x ∷ xs) ≡ r → AllByRecursion SaysText (hanging_of (x ∷ xs) r)
     by None is = tt
     by (Some a) is =
-        cond_both (does_trail a) (others a) (x ∷ xs) (λ ys. AllByRecursion SaysText (filter has_message ys))
+        cond_both (around_trails a) (others a) (x ∷ xs) (λ ys. AllByRecursion SaysText (filter has_message ys))
         (λ _. all-filter SaysText has_message (others a)
         (around a.before a.here a.after (subst (AllByRecursion SaysText) (sym (around_is (greatest_end (x ∷ xs)) (x ∷ xs) a is)) h)))
         (λ _. all-filter SaysText has_message (x ∷ xs) h)
@@ -273,29 +273,19 @@ module _ (s : LabelledFile) (ok : IsTextFile s) where
       (all-append IsTextRow (break_rows s was l) (rows_of (line_at s l)) (rows-break was l) (rows-line (line_at s l) (line-text l)))
       (rows-lines (Some l) ls)
 
-  rows-placed : (config : Config) (followed : Bool) (place : Place) → IsUtf8 place.name → AllByRecursion IsTextRow (placed_snippet config followed place s)
+  rows-placed : (config : Config) (followed : Bool) (place : Locus) → IsUtf8 place.name → AllByRecursion IsTextRow (snippet config place s ++ row_after followed s)
   rows-placed config followed place u =
-      all-append IsTextRow (snippet_at config place s) (row_after followed s)
+      all-append IsTextRow (snippet config place s) (row_after followed s)
       (u, (tt, rows-lines None (drawn_lines config s.file s.labels)))
       (cond_both followed (EmptyRow (bare_lanes s) ∷ []) [] (AllByRecursion IsTextRow) (λ _. (tt, tt)) (λ _. tt))
 
-rows-snippets : (config : Config) (has_notes : Bool) (places : List Place) (ss : List LabelledFile) → AllByRecursion (λ (p : Place). IsUtf8 p.name) places → AllByRecursion IsTextFile ss
-    → AllByRecursion IsTextRow (placed_snippets config has_notes places ss)
+rows-snippets : (config : Config) (has_notes : Bool) (places : List Locus) (ss : List LabelledFile) → NamesAreTexts places → AllByRecursion IsTextFile ss
+    → AllByRecursion IsTextRow (snippets config has_notes places ss)
 rows-snippets config has_notes [] ss named ok = tt
 rows-snippets config has_notes (p ∷ ps) [] named ok = tt
 rows-snippets config has_notes (p ∷ ps) (s ∷ ss) named ok =
-    all-append IsTextRow (placed_snippet config (is_followed has_notes ss) p s) (placed_snippets config has_notes ps ss)
+    all-append IsTextRow (snippet config p s ++ row_after (is_followed has_notes ss) s) (snippets config has_notes ps ss)
     (rows-placed s ok.0 config (is_followed has_notes ss) p named.0) (rows-snippets config has_notes ps ss named.1 ok.1)
-
--- ---- places
-
--- the names of places are texts
-texts_in : {X : Type 0} (R : X → Place → Type 0) → ((x : X) (p : Place) → R x p → IsUtf8 p.name) → (xs : List X) (places : List Place) → AllZip R xs places
-    → AllByRecursion (λ (p : Place). IsUtf8 p.name) places
-texts_in R text [] [] h = tt
-texts_in R text [] (p ∷ ps) h = absurd h
-texts_in R text (x ∷ xs) [] h = absurd h
-texts_in R text (x ∷ xs) (p ∷ ps) h = (text x p h.0, texts_in R text xs ps h.1)
 
 -- ---- a diagnostic
 
@@ -303,73 +293,69 @@ code-utf8 : {Z : Type 0} (code : Option (String Z)) → IfSome (option_map strin
 code-utf8 None = tt
 code-utf8 (Some s) = IsUtf8-string_bytes s
 
-module _ {Id : Type 0} (same : Id → Id → Bool) (file : Id → FileModel) (d : Diagnostic Id) (lawful : (id : Id) → IsLawful (file id)) where
+module _ {Id : Type 0} (files : FileDatabase Id) (d : Diagnostic Id) (lawful : (id : Id) → IsLawful (files.file id)) where
   says-given : (ls : List (Label Id)) → AllByRecursion (λ (x : InFile Id). SaysText x.label) (map label_of ls)
   says-given ls = each_map (λ (x : InFile Id). SaysText x.label) label_of ls
       (each_all (λ (x : Label Id). SaysText (label_of x).label) ls (λ x. text-bytes (string_bytes x.message) (IsUtf8-string_bytes x.message)))
 
-  text-file : (id : Id) → IsTextFile (labelled_file same file (labels_of d) id)
+  text-file : (id : Id) → IsTextFile (labelled_file files.same files.file (labels_of d) id)
   text-file id = record {
     lawful = lawful id;
-    labels = each_map SaysText (λ (x : InFile Id). x.label) (filter (λ (x : InFile Id). same id x.id) (labels_of d))
-        (all-filter (λ (x : InFile Id). SaysText x.label) (λ (x : InFile Id). same id x.id) (labels_of d) (says-given d.labels.items));
+    labels = each_map SaysText (λ (x : InFile Id). x.label) (filter (λ (x : InFile Id). files.same id x.id) (labels_of d))
+        (all-filter (λ (x : InFile Id). SaysText x.label) (λ (x : InFile Id). files.same id x.id) (labels_of d) (says-given d.labels.items));
   }
 
-  text-files : AllByRecursion IsTextFile (files_of same file d)
-  text-files = each_map IsTextFile (labelled_file same file (labels_of d)) _ (each_all (λ id. IsTextFile (labelled_file same file (labels_of d) id)) _ text-file)
+  text-files : AllByRecursion IsTextFile (files_of files d)
+  text-files = each_map IsTextFile (labelled_file files.same files.file (labels_of d)) _ (each_all (λ id. IsTextFile (labelled_file files.same files.file (labels_of d) id)) _ text-file)
 
   text-notes : AllByRecursion IsUtf8 (notes_of d)
   text-notes = each_map IsUtf8 string_bytes d.notes.items (each_all (λ n. IsUtf8 (string_bytes n)) d.notes.items (λ n. IsUtf8-string_bytes n))
 
   -- ---- whatever the names
 
-  rows-heading : (place : Option Place) → IfSome place (λ p. IsUtf8 p.name) → IsTextRow (HeaderRow place (heading_of d))
+  rows-heading : (place : Option Locus) → IfSome place (λ p. IsUtf8 p.name) → IsTextRow (HeaderRow place (heading_of d))
   rows-heading place named = (named, code-utf8 d.code, IsUtf8-string_bytes d.message)
 
-  rows-placed_rich : (view : Config) (places : List Place) → AllByRecursion (λ (p : Place). IsUtf8 p.name) places
-      → AllByRecursion IsTextRow (placed_rich_rows view (heading_of d) places (files_of same file d) (notes_of d))
-  rows-placed_rich view places named =
-      let first : List Row = HeaderRow None (heading_of d) ∷ placed_snippets view (has_any (notes_of d)) places (files_of same file d) in
+  rows-rich : (view : Config) (loci : List Locus) → NamesAreTexts loci
+      → AllByRecursion IsTextRow (rich_rows view (heading_of d) loci (files_of files d) (notes_of d))
+  rows-rich view loci named =
+      let first : List Row = HeaderRow None (heading_of d) ∷ snippets view (has_any (notes_of d)) loci (files_of files d) in
       all-append IsTextRow (first ++ note_rows (notes_of d)) (BlankRow ∷ [])
       (all-append IsTextRow first (note_rows (notes_of d))
-      (rows-heading None tt, rows-snippets view (has_any (notes_of d)) places (files_of same file d) named text-files)
+      (rows-heading None tt, rows-snippets view (has_any (notes_of d)) loci (files_of files d) named text-files)
       (rows-notes (notes_of d) text-notes))
       (tt, tt)
 
-  rows-placed_headers : (places : List Place) → AllByRecursion (λ (p : Place). IsUtf8 p.name) places → AllByRecursion IsTextRow (placed_headers (heading_of d) places)
-  rows-placed_headers [] named = tt
-  rows-placed_headers (p ∷ ps) named = (rows-heading (Some p) named.0, rows-placed_headers ps named.1)
+  rows-headers : (loci : List Locus) → NamesAreTexts loci → AllByRecursion IsTextRow (headers (heading_of d) loci)
+  rows-headers [] named = tt
+  rows-headers (p ∷ ps) named = (rows-heading (Some p) named.0, rows-headers ps named.1)
 
-  rows-placed_short : (places : List Place) → AllByRecursion (λ (p : Place). IsUtf8 p.name) places → AllByRecursion IsTextRow (placed_header_rows (heading_of d) places)
-  rows-placed_short [] named = (rows-heading None tt, tt)
-  rows-placed_short (p ∷ ps) named = rows-placed_headers (p ∷ ps) named
+  rows-header_rows : (loci : List Locus) → NamesAreTexts loci → AllByRecursion IsTextRow (header_rows (heading_of d) loci)
+  rows-header_rows [] named = (rows-heading None tt, tt)
+  rows-header_rows (p ∷ ps) named = rows-headers (p ∷ ps) named
 
-  names-are : (style : DisplayStyle) (places : List Place) → ArePlaces same file d style places → AllByRecursion (λ (p : Place). IsUtf8 p.name) places
-  names-are Rich places are = texts_in IsPlaceOfFile (λ s p h. h.is_text) (files_of same file d) places are
-  names-are Medium places are = texts_in (IsPlaceOfLabel file) (λ x p h. h.is_text) _ places are
-  names-are Short places are = texts_in (IsPlaceOfLabel file) (λ x p h. h.is_text) _ places are
+  -- the output with any loci is a text
+  pub text-output : (style : DisplayStyle) (renderer view : Config) → AreCharacters renderer.chars
+      → (loci : List Locus) → NamesAreTexts loci → IsText (output style renderer view files d loci)
+  text-output Rich renderer view ok loci named =
+      text-rows (look_of renderer d.severity (padding_of view (files_of files d))) ok
+      (rich_rows view (heading_of d) loci (files_of files d) (notes_of d))
+      (rows-rich view loci named)
+  text-output Medium renderer view ok loci named =
+      text-rows (look_of renderer d.severity 0) ok (header_rows (heading_of d) loci ++ note_rows (notes_of d))
+      (all-append IsTextRow (header_rows (heading_of d) loci) (note_rows (notes_of d))
+      (rows-header_rows loci named) (rows-notes (notes_of d) text-notes))
+  text-output Short renderer view ok loci named =
+      text-rows (look_of renderer d.severity 0) ok (header_rows (heading_of d) loci) (rows-header_rows loci named)
 
-module _ {Id : Type 0} {same : Id → Id → Bool} {file : Id → FileModel} {d : Diagnostic Id} {style : DisplayStyle} {places : List Place} where
-  -- whatever the names, the picture is a text
-  pub text-placed_picture : (renderer view : Config) → ((id : Id) → IsLawful (file id)) → AreCharacters renderer.chars → HasPlaces same file d style places
-      → IsText (placed_picture renderer view same file d style places)
-  text-placed_picture renderer view lawful ok placed = by style (names-are same file d lawful style places placed.are)
-    where
-      by : (style : DisplayStyle) → AllByRecursion (λ (p : Place). IsUtf8 p.name) places → IsText (placed_picture renderer view same file d style places)
-      by Rich named =
-          text-rows (look_of renderer d.severity (padding_of view (files_of same file d))) ok
-          (placed_rich_rows view (heading_of d) places (files_of same file d) (notes_of d))
-          (rows-placed_rich same file d lawful view places named)
-      by Medium named =
-          text-rows (look_of renderer d.severity 0) ok (placed_header_rows (heading_of d) places ++ note_rows (notes_of d))
-          (all-append IsTextRow (placed_header_rows (heading_of d) places) (note_rows (notes_of d))
-          (rows-placed_short same file d lawful places named) (rows-notes (notes_of d) (text-notes same file d lawful)))
-      by Short named =
-          text-rows (look_of renderer d.severity 0) ok (placed_header_rows (heading_of d) places) (rows-placed_short same file d lawful places named)
+module _ {Id : Type 0} (style : DisplayStyle) (renderer view : Config) (files : FileDatabase Id) (d : Diagnostic Id) where
+  pub output_is_text : OutputIsText style renderer view files d
+  output_is_text ok lawful loci named = text-output files d lawful style renderer view ok loci named
 
--- the picture is a text in each style
-pub picture_is_text : {Id : Type 0} (config : Config) (same : Id → Id → Bool) (file : Id → FileModel) (d : Diagnostic Id) → PictureIsText config same file d
-picture_is_text config same file d = λ ok lawful named.
-    let style = config.display_style in
-    let stated : HasPlaces same file d style (stated_places same file d style) = record { are = are_stated same file d named style } in
-    subst IsText (placed_of_stated same file d config config style) (text-placed_picture config config lawful ok stated)
+  -- and so is the picture
+  pub picture_is_text : PictureIsText style renderer view files d
+  picture_is_text ok lawful named =
+      text-output files d lawful style renderer view ok (stated_loci files d style)
+      (stated_texts (starts files.same files.file (labels_of d) style)
+      (each_start files.same files.file (labels_of d) (λ (f : FileModel). IfSome f.name IsUtf8)
+      (each_all (λ (x : InFile Id). IfSome (files.file x.id).name IsUtf8) (labels_of d) (λ x. named x.id)) style))

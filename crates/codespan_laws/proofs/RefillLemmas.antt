@@ -5,13 +5,14 @@ use Rattle.std.specs.List.{list_any, range_with_len}
 use Rattle.codespan_base.specs.declared.diagnostic.LabelStyle.{LabelStyle}
 use Rattle.codespan_base.specs.declared.diagnostic.LabelStyle.TheVariants.{Primary, Secondary}
 use Rattle.codespan_base.specs.Streams.{Stream}
-use Rattle.codespan_base.specs.Labels.{Labelled, has_message, is_blank, is_primary, is_primary_style, LaneMark, Part, Top, Left, Bottom}
+use Rattle.codespan_base.specs.Labels.{Labelled, has_message, is_blank, is_primary, is_primary_style, LaneMark, MultiLabel, Top, Left, Bottom}
 use Rattle.codespan_picture.specs.declared.cells.Cell.{Cell}
 use Rattle.codespan_picture.specs.Carets.{style_under, covers, greatest_end, do_overlap}
 use Rattle.codespan_picture.specs.declared.lanes.Shape.{Shape}
 use Rattle.codespan_picture.specs.declared.lanes.Shape.TheVariants.{Gap, Bar, TopCorner, BottomCorner}
 use Rattle.codespan_picture.specs.Lanes.{source_shape, plain_shape, below_shape, underline_shape, mark_in, corner_line, filling, lane_cells}
-use Rattle.codespan_picture.specs.Rows.{Look, Lanes, Line, Around, others, behind, last_with_end, does_trail, rightmost, trailing_of, hanging_of, trailing, hanging}
+use Rattle.codespan_picture.specs.Rows.{Look, Lanes, Line, trailing, hanging}
+use Rattle.codespan_picture.proofs.Rightmost.{Around, others, behind, around_with_end, around_trails, around_rightmost, trailing_of, hanging_of, trailing_is, hanging_is}
 use Rattle.codespan_picture.specs.RowParts.{styled, lane_of, lanes_in, source_lanes, plain_lanes, below_lanes, underline_lanes, line_cells, takes_in, source_style, source_glyph, coloured_text, caret_glyphs, carets, pointer_style, pointer_at, pointers, starts_in, greatest_start}
 
 -- ---- lists
@@ -48,7 +49,7 @@ map-append' f (x ∷ xs) ys = ap (λ zs. f x ∷ zs) (map-append' f xs ys)
 
 -- ---- other messages
 
-abbrev pub re_part : (Stream → Stream) → Part → Part
+abbrev pub re_part : (Stream → Stream) → MultiLabel → MultiLabel
 re_part φ (Top start) = Top start
 re_part φ Left = Left
 re_part φ (Bottom end message) = Bottom end (φ message)
@@ -77,12 +78,12 @@ module _ (φ : Stream → Stream) (keeps : (s : Stream) → is_blank (φ s) ≡ 
   greatest : (labels : List Labelled) → greatest_end (map (re φ) labels) ≡ greatest_end labels
   greatest labels = fold-map (λ m (x : Labelled). max m x.end) (re φ) 0 labels
 
-  around : (end : ℕ) (xs : List Labelled) → last_with_end end (map (re φ) xs) ≡ option_map (re_around φ) (last_with_end end xs)
+  around : (end : ℕ) (xs : List Labelled) → around_with_end end (map (re φ) xs) ≡ option_map (re_around φ) (around_with_end end xs)
   around end [] = refl
-  around end (x ∷ xs) = by_rest (last_with_end end xs) (x.end == end) (around end xs)
+  around end (x ∷ xs) = by_rest (around_with_end end xs) (x.end == end) (around end xs)
     where
-      by_rest : (rest : Option Around) (b : Bool) → last_with_end end (map (re φ) xs) ≡ option_map (re_around φ) rest
-          → behind (re φ x) (last_with_end end (map (re φ) xs)) (if b then Some (record { before = []; here = re φ x; after = map (re φ) xs }) else None)
+      by_rest : (rest : Option Around) (b : Bool) → around_with_end end (map (re φ) xs) ≡ option_map (re_around φ) rest
+          → behind (re φ x) (around_with_end end (map (re φ) xs)) (if b then Some (record { before = []; here = re φ x; after = map (re φ) xs }) else None)
           ≡ option_map (re_around φ) (behind x rest (if b then Some (record { before = []; here = x; after = xs }) else None))
       by_rest None true e = rw e refl
       by_rest None false e = rw e refl
@@ -91,21 +92,25 @@ module _ (φ : Stream → Stream) (keeps : (s : Stream) → is_blank (φ s) ≡ 
   others-re : (a : Around) → others (re_around φ a) ≡ map (re φ) (others a)
   others-re a = sym (map-append' (re φ) a.before a.after)
 
-  trails : (a : Around) → does_trail (re_around φ a) ≡ does_trail a
+  trails : (a : Around) → around_trails (re_around φ a) ≡ around_trails a
   trails a =
       ap₂ (λ b c. b && not c) (kept_message a.here)
       (ap (list_any (λ (x : Labelled). do_overlap a.here.start a.here.end x.start x.end)) (others-re a)
       ∙ any-map (λ (x : Labelled). do_overlap a.here.start a.here.end x.start x.end) (re φ) (others a))
 
-  rightmost-re : (labels : List Labelled) → rightmost (map (re φ) labels) ≡ option_map (re_around φ) (rightmost labels)
-  rightmost-re labels = ap (λ e. last_with_end e (map (re φ) labels)) (greatest labels) ∙ around (greatest_end labels) labels
+  rightmost-re : (labels : List Labelled) → around_rightmost (map (re φ) labels) ≡ option_map (re_around φ) (around_rightmost labels)
+  rightmost-re labels = ap (λ e. around_with_end e (map (re φ) labels)) (greatest labels) ∙ around (greatest_end labels) labels
 
   pub trailing-re : (labels : List Labelled) → trailing (map (re φ) labels) ≡ option_map (re φ) (trailing labels)
-  trailing-re labels = ap trailing_of (rightmost-re labels) ∙ by_around (rightmost labels)
+  trailing-re labels =
+      trailing_is (map (re φ) labels)
+      ∙ ap trailing_of (rightmost-re labels)
+      ∙ by_around (around_rightmost labels)
+      ∙ ap (option_map (re φ)) (sym (trailing_is labels))
     where
       by_around : (r : Option Around) → trailing_of (option_map (re_around φ) r) ≡ option_map (re φ) (trailing_of r)
       by_around None = refl
-      by_around (Some a) = ap (λ b. if b then Some (re φ a.here) else None) (trails a) ∙ by_test (does_trail a)
+      by_around (Some a) = ap (λ b. if b then Some (re φ a.here) else None) (trails a) ∙ by_test (around_trails a)
         where
           by_test : (b : Bool) → (if b then Some (re φ a.here) else None) ≡ option_map (re φ) (if b then Some a.here else None)
           by_test true = refl
@@ -115,12 +120,16 @@ module _ (φ : Stream → Stream) (keeps : (s : Stream) → is_blank (φ s) ≡ 
   with_message xs = filter-map has_message (re φ) xs ∙ ap (λ p. map (re φ) (filter p xs)) (fun_ext kept_message)
 
   pub hanging-re : (labels : List Labelled) → hanging (map (re φ) labels) ≡ map (re φ) (hanging labels)
-  hanging-re labels = ap (hanging_of (map (re φ) labels)) (rightmost-re labels) ∙ by_around (rightmost labels)
+  hanging-re labels =
+      hanging_is (map (re φ) labels)
+      ∙ ap (hanging_of (map (re φ) labels)) (rightmost-re labels)
+      ∙ by_around (around_rightmost labels)
+      ∙ ap (map (re φ)) (sym (hanging_is labels))
     where
       by_around : (r : Option Around) → hanging_of (map (re φ) labels) (option_map (re_around φ) r) ≡ map (re φ) (hanging_of labels r)
       by_around None = refl
       by_around (Some a) =
-          ap₂ (λ b xs. filter has_message (if b then xs else map (re φ) labels)) (trails a) (others-re a) ∙ by_test (does_trail a)
+          ap₂ (λ b xs. filter has_message (if b then xs else map (re φ) labels)) (trails a) (others-re a) ∙ by_test (around_trails a)
         where
           by_test : (b : Bool) → filter has_message (if b then map (re φ) (others a) else map (re φ) labels) ≡ map (re φ) (filter has_message (if b then others a else labels))
           by_test true = with_message (others a)
@@ -128,7 +137,7 @@ module _ (φ : Stream → Stream) (keeps : (s : Stream) → is_blank (φ s) ≡ 
 
   -- ---- lanes
 
-  corner : (chars : _) (part : Part) → corner_line chars (re_part φ part) ≡ corner_line chars part
+  corner : (chars : _) (part : MultiLabel) → corner_line chars (re_part φ part) ≡ corner_line chars part
   corner chars (Top start) = refl
   corner chars Left = refl
   corner chars (Bottom end message) = refl
@@ -146,15 +155,15 @@ module _ (φ : Stream → Stream) (keeps : (s : Stream) → is_blank (φ s) ≡ 
   cells-re severity chars m style TopCorner = simp (filling-re severity chars m 1)
   cells-re severity chars m style BottomCorner = simp (filling-re severity chars m 1)
 
-  lane-re : (look : Look) (c m : Option LaneMark) (shape : Part → Shape) → ((part : Part) → shape (re_part φ part) ≡ shape part)
+  lane-re : (look : Look) (c m : Option LaneMark) (shape : MultiLabel → Shape) → ((part : MultiLabel) → shape (re_part φ part) ≡ shape part)
       → lane_of look (option_map (re_mark φ) c) shape (option_map (re_mark φ) m) ≡ lane_of look c shape m
   unfolding lane_of
   lane-re look c None shape h = cells-re look.severity look.chars c Primary _
   lane-re look c (Some m) shape h = simp (h m.part) (cells-re look.severity look.chars c m.style (shape m.part))
 
-  lanes-re : (look : Look) (crossing crossing' : ℕ → Option LaneMark) (shape : ℕ → Part → Shape) (lanes : Lanes)
+  lanes-re : (look : Look) (crossing crossing' : ℕ → Option LaneMark) (shape : ℕ → MultiLabel → Shape) (lanes : Lanes)
       → ((lane : ℕ) → crossing' lane ≡ option_map (re_mark φ) (crossing lane))
-      → ((lane : ℕ) (part : Part) → shape lane (re_part φ part) ≡ shape lane part)
+      → ((lane : ℕ) (part : MultiLabel) → shape lane (re_part φ part) ≡ shape lane part)
       → lanes_in look crossing' shape (re_lanes φ lanes) ≡ lanes_in look crossing shape lanes
   lanes-re look crossing crossing' shape lanes h same =
       ap (λ f. flat_map f (range_with_len 0 lanes.count)) (fun_ext each)
@@ -164,22 +173,22 @@ module _ (φ : Stream → Stream) (keeps : (s : Stream) → is_blank (φ s) ≡ 
           ap₂ (λ c m. lane_of look c (shape lane) m) (h lane) (find-map (λ (m : LaneMark). m.lane == lane) (re_mark φ) lanes.marks)
           ∙ lane-re look (crossing lane) (mark_in lanes.marks lane) (shape lane) (same lane)
 
-  source_shape-re : (leading : ℕ) (part : Part) → source_shape leading (re_part φ part) ≡ source_shape leading part
+  source_shape-re : (leading : ℕ) (part : MultiLabel) → source_shape leading (re_part φ part) ≡ source_shape leading part
   source_shape-re leading (Top start) = refl
   source_shape-re leading Left = refl
   source_shape-re leading (Bottom end message) = refl
 
-  plain_shape-re : (part : Part) → plain_shape (re_part φ part) ≡ plain_shape part
+  plain_shape-re : (part : MultiLabel) → plain_shape (re_part φ part) ≡ plain_shape part
   plain_shape-re (Top start) = refl
   plain_shape-re Left = refl
   plain_shape-re (Bottom end message) = refl
 
-  below_shape-re : (layout : _) (leading : ℕ) (part : Part) → below_shape layout leading (re_part φ part) ≡ below_shape layout leading part
+  below_shape-re : (layout : _) (leading : ℕ) (part : MultiLabel) → below_shape layout leading (re_part φ part) ≡ below_shape layout leading part
   below_shape-re layout leading (Top start) = refl
   below_shape-re layout leading Left = refl
   below_shape-re layout leading (Bottom end message) = refl
 
-  underline_shape-re : (layout : _) (leading turning lane : ℕ) (part : Part)
+  underline_shape-re : (layout : _) (leading turning lane : ℕ) (part : MultiLabel)
       → underline_shape layout leading turning lane (re_part φ part) ≡ underline_shape layout leading turning lane part
   underline_shape-re layout leading turning lane (Top start) = refl
   underline_shape-re layout leading turning lane Left = refl
@@ -210,7 +219,7 @@ module _ (φ : Stream → Stream) (keeps : (s : Stream) → is_blank (φ s) ≡ 
 
   -- ---- text, carets and pointers
 
-  takes_in-re : (c : Cell) (part : Part) → takes_in c (re_part φ part) ≡ takes_in c part
+  takes_in-re : (c : Cell) (part : MultiLabel) → takes_in c (re_part φ part) ≡ takes_in c part
   takes_in-re c (Top start) = refl
   takes_in-re c Left = refl
   takes_in-re c (Bottom end message) = refl

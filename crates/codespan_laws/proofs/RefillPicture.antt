@@ -9,11 +9,11 @@ use Rattle.codespan_base.specs.declared.term.config.Layout.{Layout}
 use Rattle.codespan_base.specs.declared.term.config.Layout.TheVariants.{Classic, Unbroken}
 use Rattle.codespan_base.specs.FileModel.{FileModel, line_count, line_start}
 use Rattle.codespan_base.specs.Streams.{Stream}
-use Rattle.codespan_base.specs.Labels.{Labelled, is_blank, is_primary, LaneMark, Part, Top, Left, Bottom, first_line, last_line, is_single, drawn_label, first_seen, multi_labels, stands_before, put_in, sorted, single_labels, part_on, mark_of, marks_on}
+use Rattle.codespan_base.specs.Labels.{Labelled, is_blank, LaneMark, MultiLabel, Top, Left, Bottom, first_line, last_line, is_single, drawn_label, first_seen, multi_labels, stands_before, put_in, sorted, single_labels, part_on, mark_of, marks_on}
 use Rattle.codespan_picture.specs.Cells.{leading_whitespace}
 use Rattle.codespan_picture.specs.Lines.{shows, is_shown, drawn_lines, is_broken}
-use Rattle.codespan_picture.specs.Rows.{Place, Heading, Lanes, Line, HeaderRow, StartRow, EmptyRow, BreakRow, SourceRow, PointerRow, HangingRow, UnderlineRow, FirstNoteRow, LaterNoteRow, BlankRow, hanging, has_underline, caret_rows, hanging_rows, underline_rows, rows_of}
-use Rattle.codespan_picture.specs.Snippets.{LabelledFile, InFile, labelled_file, labelled_files, lane_count, bare_lanes, line_at, break_rows, rows_after, least, if_any, locus_start, place_of, snippet, has_any, is_followed, row_after, snippets, piece_rows, note_rows, rich_rows}
+use Rattle.codespan_picture.specs.Rows.{Locus, Heading, Lanes, Line, HeaderRow, StartRow, EmptyRow, BreakRow, SourceRow, PointerRow, HangingRow, UnderlineRow, FirstNoteRow, LaterNoteRow, BlankRow, hanging, has_underline, caret_rows, hanging_rows, underline_rows, rows_of}
+use Rattle.codespan_picture.specs.Snippets.{LabelledFile, InFile, labelled_file, labelled_files, lane_count, bare_lanes, line_at, break_rows, rows_after, snippet, has_any, is_followed, row_after, snippets, piece_rows, note_rows, rich_rows}
 use Rattle.codespan_picture.specs.Padding.{spans, spanned_lines, numbered_lines, digits_of, padding_of}
 use Rattle.codespan_laws.proofs.RefillLemmas.{any-map, filter-map, map-append', re, re_part, re_mark, re_lanes, re_line, hanging-re}
 use Rattle.codespan_laws.proofs.RefillRows.{re_row}
@@ -61,7 +61,7 @@ module _ (φ : Stream → Stream) (keeps : (s : Stream) → is_blank (φ s) ≡ 
       ∙ sym (map-map (HangingRow (re_line φ line)) (re φ) (reverse (x ∷ xs)))
       ∙ ap (map (HangingRow (re_line φ line))) (sym (reverse-map (re φ) (x ∷ xs))))
 
-  has-underline : (leading : ℕ) (part : Part) → has_underline leading (re_part φ part) ≡ has_underline leading part
+  has-underline : (leading : ℕ) (part : MultiLabel) → has_underline leading (re_part φ part) ≡ has_underline leading part
   has-underline leading (Top start) = refl
   has-underline leading Left = refl
   has-underline leading (Bottom end message) = refl
@@ -120,7 +120,7 @@ module _ (φ : Stream → Stream) (keeps : (s : Stream) → is_blank (φ s) ≡ 
       by_tests false false true = refl
       by_tests false false false = refl
 
-  cons-mark : (n : ℕ) (x : Labelled) (part : Option Part) (ms : List LaneMark)
+  cons-mark : (n : ℕ) (x : Labelled) (part : Option MultiLabel) (ms : List LaneMark)
       → cons_option (mark_of n (re φ x) (option_map (re_part φ) part)) (map (re_mark φ) ms) ≡ map (re_mark φ) (cons_option (mark_of n x part) ms)
   cons-mark n x None ms = refl
   cons-mark n x (Some part) ms = refl
@@ -171,19 +171,6 @@ module _ (φ : Stream → Stream) (keeps : (s : Stream) → is_blank (φ s) ≡ 
       ∙ ap₂ (λ a b. a ++ b) (break-re s was l) (line-rows (line_at s l) ∙ ap rows_of (line-re s l)))
       (after-re s (Some l) ls)
 
-  if-any-re : (xs ys : List Labelled) → if_any (map (re φ) xs) (map (re φ) ys) ≡ map (re φ) (if_any xs ys)
-  if-any-re [] ys = refl
-  if-any-re (x ∷ xs) ys = refl
-
-  locus-re : (xs : List Labelled) → locus_start (map (re φ) xs) ≡ locus_start xs
-  locus-re xs =
-      ap (λ ys. least (map (λ (x : Labelled). x.start) (if_any ys (map (re φ) xs)))) (filter-map is_primary (re φ) xs)
-      ∙ ap (λ ys. least (map (λ (x : Labelled). x.start) ys)) (if-any-re (filter is_primary xs) xs)
-      ∙ ap least (map-map (λ (x : Labelled). x.start) (re φ) (if_any (filter is_primary xs) xs))
-
-  place-re : (s : LabelledFile) → place_of (re_file φ s) ≡ place_of s
-  place-re s = ap {B = Place} (λ n. record (place_of s) { location = s.file.location n }) (locus-re s.labels)
-
   shown-re : (config : Config) (f : FileModel) (xs : List Labelled) (l : ℕ) → is_shown config f (map (re φ) xs) l ≡ is_shown config f xs l
   shown-re config f xs l = ap (λ b. nat_lt l (line_count f) && b) (any-map (λ x. shows config (first_line f x) (last_line f x) l) (re φ) xs)
 
@@ -191,11 +178,11 @@ module _ (φ : Stream → Stream) (keeps : (s : Stream) → is_blank (φ s) ≡ 
   drawn-re config f xs =
       ap (λ (shown : ℕ → Bool). filter (λ l. shown l || (nat_lt 0 l && shown (l - 1) && shown (l + 1))) (range_with_len 0 (line_count f))) (fun_ext (shown-re config f xs))
 
-  snippet-re : (config : Config) (s : LabelledFile) → map (re_row φ) (snippet config s) ≡ snippet config (re_file φ s)
-  snippet-re config s =
-      map-append' (re_row φ) (StartRow (place_of s) ∷ EmptyRow (bare_lanes s) ∷ []) (rows_after s None (drawn_lines config s.file s.labels))
+  snippet-re : (config : Config) (locus : Locus) (s : LabelledFile) → map (re_row φ) (snippet config locus s) ≡ snippet config locus (re_file φ s)
+  snippet-re config locus s =
+      map-append' (re_row φ) (StartRow locus ∷ EmptyRow (bare_lanes s) ∷ []) (rows_after s None (drawn_lines config s.file s.labels))
       ∙ ap₂ (λ a b. a ++ b)
-      (ap₂ (λ p lanes. StartRow p ∷ EmptyRow lanes ∷ []) (sym (place-re s)) (bare-re s))
+      (ap (λ lanes. StartRow locus ∷ EmptyRow lanes ∷ []) (bare-re s))
       (after-re s None (drawn_lines config s.file s.labels) ∙ ap (rows_after (re_file φ s) None) (sym (drawn-re config s.file s.labels)))
 
   row_after-re : (followed : Bool) (s : LabelledFile) → map (re_row φ) (row_after followed s) ≡ row_after followed (re_file φ s)
@@ -203,24 +190,26 @@ module _ (φ : Stream → Stream) (keeps : (s : Stream) → is_blank (φ s) ≡ 
   row_after-re false s = refl
 
   -- a snippet and the row after it
-  followed-re : (config : Config) (followed : Bool) (s : LabelledFile)
-      → map (re_row φ) (snippet config s ++ row_after followed s) ≡ snippet config (re_file φ s) ++ row_after followed (re_file φ s)
-  followed-re config followed s =
-      map-append' (re_row φ) (snippet config s) (row_after followed s) ∙ ap₂ (λ a b. a ++ b) (snippet-re config s) (row_after-re followed s)
+  followed-re : (config : Config) (followed : Bool) (locus : Locus) (s : LabelledFile)
+      → map (re_row φ) (snippet config locus s ++ row_after followed s) ≡ snippet config locus (re_file φ s) ++ row_after followed (re_file φ s)
+  followed-re config followed locus s =
+      map-append' (re_row φ) (snippet config locus s) (row_after followed s) ∙ ap₂ (λ a b. a ++ b) (snippet-re config locus s) (row_after-re followed s)
 
   is_followed-re : (b : Bool) (ss : List LabelledFile) → is_followed b (map (re_file φ) ss) ≡ is_followed b ss
   is_followed-re b [] = refl
   is_followed-re b (s ∷ ss) = refl
 
-  snippets-re : (config : Config) (notes : List (List ℕ)) (ss : List LabelledFile) → map (re_row φ) (snippets config notes ss) ≡ snippets config notes (map (re_file φ) ss)
-  snippets-re config notes [] = refl
-  snippets-re config notes (s ∷ ss) =
-      let followed = is_followed (has_any notes) ss in
-      map-append' (re_row φ) (snippet config s ++ row_after followed s) (snippets config notes ss)
+  snippets-re : (config : Config) (has_notes : Bool) (ps : List Locus) (ss : List LabelledFile)
+      → map (re_row φ) (snippets config has_notes ps ss) ≡ snippets config has_notes ps (map (re_file φ) ss)
+  snippets-re config has_notes [] ss = refl
+  snippets-re config has_notes (p ∷ ps) [] = refl
+  snippets-re config has_notes (p ∷ ps) (s ∷ ss) =
+      let followed = is_followed has_notes ss in
+      map-append' (re_row φ) (snippet config p s ++ row_after followed s) (snippets config has_notes ps ss)
       ∙ ap₂ (λ a b. a ++ b)
-      (followed-re config followed s
-      ∙ ap (λ b. snippet config (re_file φ s) ++ row_after b (re_file φ s)) (sym (is_followed-re (has_any notes) ss)))
-      (snippets-re config notes ss)
+      (followed-re config followed p s
+      ∙ ap (λ b. snippet config p (re_file φ s) ++ row_after b (re_file φ s)) (sym (is_followed-re has_notes ss)))
+      (snippets-re config has_notes ps ss)
 
   piece-re : (ps : List (List ℕ)) → map (re_row φ) (piece_rows ps) ≡ piece_rows ps
   piece-re [] = refl
@@ -231,13 +220,14 @@ module _ (φ : Stream → Stream) (keeps : (s : Stream) → is_blank (φ s) ≡ 
   notes-re (note ∷ notes) =
       map-append' (re_row φ) (piece_rows (lines note)) (note_rows notes) ∙ ap₂ (λ a b. a ++ b) (piece-re (lines note)) (notes-re notes)
 
-  pub rich-re : (config : Config) (heading : Heading) (ss : List LabelledFile) (notes : List (List ℕ))
-      → map (re_row φ) (rich_rows config heading ss notes) ≡ rich_rows config heading (map (re_file φ) ss) notes
-  rich-re config heading ss notes =
-      map-append' (re_row φ) ((HeaderRow None heading ∷ snippets config notes ss) ++ note_rows notes) (BlankRow ∷ [])
+  pub rich-re : (config : Config) (heading : Heading) (ps : List Locus) (ss : List LabelledFile) (notes : List (List ℕ))
+      → map (re_row φ) (rich_rows config heading ps ss notes) ≡ rich_rows config heading ps (map (re_file φ) ss) notes
+  rich-re config heading ps ss notes =
+      let inner = snippets config (has_any notes) ps ss in
+      map-append' (re_row φ) ((HeaderRow None heading ∷ inner) ++ note_rows notes) (BlankRow ∷ [])
       ∙ ap (λ rows. rows ++ (BlankRow ∷ []))
-      (map-append' (re_row φ) (HeaderRow None heading ∷ snippets config notes ss) (note_rows notes)
-      ∙ ap₂ (λ a b. (HeaderRow None heading ∷ a) ++ b) (snippets-re config notes ss) (notes-re notes))
+      (map-append' (re_row φ) (HeaderRow None heading ∷ inner) (note_rows notes)
+      ∙ ap₂ (λ a b. (HeaderRow None heading ∷ a) ++ b) (snippets-re config (has_any notes) ps ss) (notes-re notes))
 
   -- ---- the padding
 

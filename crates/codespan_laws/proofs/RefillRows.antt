@@ -6,7 +6,7 @@ use Rattle.codespan_base.specs.declared.diagnostic.Severity.{Severity}
 use Rattle.codespan_base.specs.declared.diagnostic.LabelStyle.{LabelStyle}
 use Rattle.codespan_base.specs.declared.term.config.chars.Chars.{Chars}
 use Rattle.codespan_base.specs.Streams.{Stream, Item, Byte, Mark, Slot, LabelMark, Reset, one_mark, space, glyph, repeated, newline, filled}
-use Rattle.codespan_base.specs.Labels.{Labelled, is_blank, Part, Top, Left, Bottom}
+use Rattle.codespan_base.specs.Labels.{Labelled, is_blank, MultiLabel, Top, Left, Bottom}
 use Rattle.codespan_picture.specs.declared.cells.Cell.{Cell}
 use Rattle.codespan_picture.specs.Cells.{width_of}
 use Rattle.codespan_picture.specs.Rows.{Look, Line, Row, HeaderRow, StartRow, EmptyRow, BreakRow, SourceRow, CaretRow, PointerRow, HangingRow, UnderlineRow, FirstNoteRow, LaterNoteRow, BlankRow, trailing}
@@ -124,7 +124,7 @@ module _ (m : ℕ → List ℕ) (full : (k : ℕ) → is_blank (map Byte (m k)) 
   underline-message-re [] = refl
   underline-message-re (p ∷ s) = join space (p ∷ s) one-space refl ∙ sym (some_message (fill m (p ∷ s)) (keeps (p ∷ s)))
 
-  underline-re : (chars : Chars) (style : LabelStyle) (cs : List Cell) (part : Part) → fill m (underline chars style cs part) ≡ underline chars style cs (re_part (fill m) part)
+  underline-re : (chars : Chars) (style : LabelStyle) (cs : List Cell) (part : MultiLabel) → fill m (underline chars style cs part) ≡ underline chars style cs (re_part (fill m) part)
   unfolding underline
   underline-re chars style cs (Top start) =
       join _ _ (quiet (repeated (width_of (filter (λ (c : Cell). nat_le c.place start) cs)) chars.multi_top) (λ k. slot.slots-repeated k _ _) refl) (quiet (glyph _) (λ k. slot.slots-bytes k _) refl)

@@ -6,14 +6,14 @@ use Rattle.codespan_base.specs.declared.diagnostic.Severity.{Severity}
 use Rattle.codespan_base.specs.declared.diagnostic.LabelStyle.{LabelStyle}
 use Rattle.codespan_base.specs.declared.diagnostic.LabelStyle.TheVariants.{Primary, Secondary}
 use Rattle.codespan_base.specs.declared.term.config.chars.Chars.{Chars}
-use Rattle.codespan_base.specs.Labels.{Labelled, LaneMark, Part}
+use Rattle.codespan_base.specs.Labels.{Labelled, LaneMark, MultiLabel}
 use Rattle.codespan_base.specs.Streams.{Stream, StyleMark, Byte, Mark, Slot, Reset, LabelMark, bytes, one_mark, blanks, repeated, glyph, space}
 use Rattle.codespan_picture.specs.declared.cells.Cell.{Cell}
 use Rattle.codespan_picture.specs.Carets.{style_under, greatest_end}
 use Rattle.codespan_picture.specs.declared.lanes.Shape.{Shape}
 use Rattle.codespan_picture.specs.declared.lanes.Shape.TheVariants.{Gap, Bar, TopCorner, BottomCorner}
 use Rattle.codespan_picture.specs.Lanes.{filling, label_glyph, lane_cells, mark_in}
-use Rattle.codespan_picture.specs.Rows.{Place, Look, Lanes, Line, Row, HeaderRow, StartRow, EmptyRow, BreakRow, SourceRow, CaretRow, PointerRow, HangingRow, UnderlineRow, FirstNoteRow, LaterNoteRow, BlankRow, hanging}
+use Rattle.codespan_picture.specs.Rows.{Locus, Look, Lanes, Line, Row, HeaderRow, StartRow, EmptyRow, BreakRow, SourceRow, CaretRow, PointerRow, HangingRow, UnderlineRow, FirstNoteRow, LaterNoteRow, BlankRow, hanging}
 use Rattle.codespan_picture.specs.RowParts.{change, styled, lane_of, lanes_in, source_lanes, plain_lanes, below_lanes, source_glyph, source_style, coloured_text, caret_glyphs, carets, trailing_message, label_message, blanks_up_to, pointer_at, pointer_style, pointers, starts_in, greatest_start, gutter, numbered_gutter, border, break_border, locus, line_cells}
 use Rattle.codespan_picture.specs.RowStreams.{stream_of, header_row, start_row, empty_row, break_row, source_row, opening, caret_row, pointer_row, hanging_row, underline_row, first_note_row, later_note_row}
 use Rattle.codespan_laws.specs.RowLaws.{is_reset, ends_reset, RowsEndReset}
@@ -76,7 +76,7 @@ closes-lane_cells severity chars crossing style Bar = closes-append _ _ (closes-
 closes-lane_cells severity chars crossing style TopCorner = closes-append _ _ (closes-filling severity chars crossing 1) (closes-label_glyph severity style chars.multi_top_left)
 closes-lane_cells severity chars crossing style BottomCorner = closes-append _ _ (closes-filling severity chars crossing 1) (closes-label_glyph severity style chars.multi_bottom_left)
 
-closes-lane_of : (look : Look) (crossing : Option LaneMark) (shape : Part → Shape) (mark : Option LaneMark) → Closes (lane_of look crossing shape mark)
+closes-lane_of : (look : Look) (crossing : Option LaneMark) (shape : MultiLabel → Shape) (mark : Option LaneMark) → Closes (lane_of look crossing shape mark)
 unfolding lane_of
 closes-lane_of look crossing shape None = closes-lane_cells look.severity look.chars crossing Primary Gap
 closes-lane_of look crossing shape (Some m) = closes-lane_cells look.severity look.chars crossing m.style (shape m.part)
@@ -86,7 +86,7 @@ pub closes-flat_map : {X : Type 0} (f : X → Stream) → ((x : X) → Closes (f
 closes-flat_map f each [] = record { closed = refl }
 closes-flat_map f each (x ∷ xs) = closes-append (f x) (flat_map f xs) (each x) (closes-flat_map f each xs)
 
-pub closes-lanes_in : (look : Look) (crossing : ℕ → Option LaneMark) (shape : ℕ → Part → Shape) (lanes : Lanes) → Closes (lanes_in look crossing shape lanes)
+pub closes-lanes_in : (look : Look) (crossing : ℕ → Option LaneMark) (shape : ℕ → MultiLabel → Shape) (lanes : Lanes) → Closes (lanes_in look crossing shape lanes)
 closes-lanes_in look crossing shape lanes =
     closes-flat_map (λ lane. lane_of look (crossing lane) (shape lane) (mark_in lanes.marks lane))
     (λ lane. closes-lane_of look (crossing lane) (shape lane) (mark_in lanes.marks lane)) (range_with_len 0 lanes.count)
@@ -197,7 +197,7 @@ closes-break_border : (chars : Chars) → Closes (break_border chars)
 unfolding break_border
 closes-break_border chars = closes-reset _
 
-closes-locus : (p : Place) → Closes (locus p)
+closes-locus : (p : Locus) → Closes (locus p)
 unfolding locus
 closes-locus p =
     closes-append _ _ (closes-append _ _ (closes-append _ _ (closes-append _ _ (closes-bytes _) (closes-bytes _)) (closes-bytes _)) (closes-bytes _)) (closes-bytes _)

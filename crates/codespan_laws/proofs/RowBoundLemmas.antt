@@ -216,7 +216,7 @@ count-rows_after s was (l ∷ ls) =
     )
 
 pub source_rows_few : (config : Config) (s : LabelledFile) → SourceRowsAreFew config s
-source_rows_few config s =
+source_rows_few config s = λ locus.
     omega (
       arith,
       count-rows_after s None (drawn_lines config s.file s.labels),

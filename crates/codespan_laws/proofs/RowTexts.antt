@@ -17,7 +17,7 @@ use Rattle.codespan_base.specs.declared.diagnostic.Severity.{Severity}
 use Rattle.codespan_base.specs.declared.diagnostic.Severity.TheVariants.{Bug, Error, Warning, Note, Help}
 use Rattle.codespan_base.specs.declared.term.config.chars.Chars.{Chars}
 use Rattle.codespan_base.specs.Characters.{start_text}
-use Rattle.codespan_base.specs.Labels.{Labelled, LaneMark, Part, Top, Left, Bottom}
+use Rattle.codespan_base.specs.Labels.{Labelled, LaneMark, MultiLabel, Top, Left, Bottom}
 use Rattle.codespan_base.specs.Streams.{Stream, StyleMark, Header, HeaderMessage, NoteBullet, SourceBorder, LabelMark, Reset, one_mark, glyph, bytes, blanks, space, repeated, newline, text_of}
 use Rattle.codespan_picture.specs.declared.cells.Cell.{Cell}
 use Rattle.codespan_picture.specs.declared.lanes.Shape.{Shape}
@@ -25,13 +25,13 @@ use Rattle.codespan_picture.specs.declared.lanes.Shape.TheVariants.{Gap, Bar, To
 use Rattle.codespan_picture.specs.Carets.{caret_for, greatest_end, style_under}
 use Rattle.codespan_picture.specs.Cells.{cells, cells_then, width_of}
 use Rattle.codespan_picture.specs.Lanes.{LaneRow, Source, Plain, Below, Underline, corner_line, filling, label_glyph, lane_cells, mark_in, row_crossing, row_shape, shape_of, style_of_mark}
-use Rattle.codespan_picture.specs.Rows.{Place, Look, Lanes, Line, Row, HeaderRow, StartRow, EmptyRow, BreakRow, SourceRow, CaretRow, PointerRow, HangingRow, UnderlineRow, FirstNoteRow, LaterNoteRow, BlankRow, hanging, trailing, Around, rightmost, trailing_of, does_trail}
+use Rattle.codespan_picture.specs.Rows.{Locus, Look, Lanes, Line, Row, HeaderRow, StartRow, EmptyRow, BreakRow, SourceRow, CaretRow, PointerRow, HangingRow, UnderlineRow, FirstNoteRow, LaterNoteRow, BlankRow, hanging, trailing}
 use Rattle.codespan_picture.specs.Widths.{width_at}
 use Rattle.codespan_picture.specs.RowParts.{severity_name, locus, gutter, numbered_gutter, border, break_border, change, styled, label_message, lane_of, row_lanes, source_lanes, plain_lanes, below_lanes, underline_lanes, leading_of, line_cells, line_cells_to_end, source_style, source_glyph, coloured_text, caret_glyphs, carets, trailing_message, starts_in, greatest_start, blanks_up_to, pointer_style, pointer_at, pointers, cells_before, cells_up_to, start_caret, end_caret, underline_message, underline}
 use Rattle.codespan_picture.specs.RowStreams.{bracketed, leading_locus, header_row, start_row, empty_row, break_row, source_row, opening, caret_row, pointer_row, hanging_row, underline_row, first_note_row, later_note_row, stream_of, stream_of_rows}
 use Rattle.codespan_laws.specs.TextLaws.{IsText, AreCharacters}
 use Rattle.codespan_laws.proofs.LaneLineLemmas.{each_all}
-use Rattle.codespan_picture.proofs.Rightmost.{around_is}
+use Rattle.codespan_picture.proofs.Rightmost.{Around, around_trails, around_rightmost, trailing_of, around_is, trailing_is}
 use Rattle.codespan_laws.proofs.SortedLists.{all-weaker}
 use Rattle.codespan_laws.proofs.Texts.{text_of-append, text_of-bytes, text_of-one_mark}
 
@@ -146,7 +146,7 @@ text-severity Warning = text-ascii (codes "warning") refl
 text-severity Note = text-ascii (codes "note") refl
 text-severity Help = text-ascii (codes "help") refl
 
-text-locus : (p : Place) → IsUtf8 p.name → IsText (locus p)
+text-locus : (p : Locus) → IsUtf8 p.name → IsText (locus p)
 unfolding locus
 text-locus p u = search pieces
 
@@ -196,7 +196,7 @@ unfolding label_glyph
 text-label_glyph severity style c s = search (pieces, s)
 
 module _ (chars : Chars) (ok : AreCharacters chars) where
-  scalar-corner_line : (part : Part) → IsScalar (corner_line chars part)
+  scalar-corner_line : (part : MultiLabel) → IsScalar (corner_line chars part)
   scalar-corner_line (Top start) = ok.multi_top
   scalar-corner_line Left = ok.multi_bottom
   scalar-corner_line (Bottom end message) = ok.multi_bottom
@@ -257,7 +257,7 @@ text-source_glyph c s = by (c.code == 9)
 -- ---- what a row is of
 
 -- what a mark says
-abbrev pub IsTextPart : Part → Type 0
+abbrev pub IsTextPart : MultiLabel → Type 0
 IsTextPart (Bottom end message) = IsText message
 IsTextPart _ = Unit {0}
 
@@ -281,7 +281,7 @@ IsTextRow _ = Unit {0}
 
 -- ---- rows
 
-text-leading_locus : (place : Option Place) → IfSome place (λ p. IsUtf8 p.name) → IsText (leading_locus place)
+text-leading_locus : (place : Option Locus) → IfSome place (λ p. IsUtf8 p.name) → IsText (leading_locus place)
 unfolding leading_locus
 text-leading_locus None h = text-none
 text-leading_locus (Some p) h = text-both (locus p) (bytes (codes ": ")) (text-locus p h) text-colon_space
@@ -296,7 +296,8 @@ text-bracketed (Some (c ∷ cs)) h = text-both (bytes (codes "[") ++ bytes (c �
 text-trailing : (severity : Severity) (labels : List Labelled) → AllByRecursion (λ (x : Labelled). IsText x.message) labels → IsText (trailing_message severity (trailing labels))
 unfolding trailing_message
 text-trailing severity [] h = text-none
-text-trailing severity (x ∷ xs) h = by (rightmost (x ∷ xs)) refl
+text-trailing severity (x ∷ xs) h =
+    subst (λ t. IsText (trailing_message severity t)) (sym (trailing_is (x ∷ xs))) (by (around_rightmost (x ∷ xs)) refl)
   where
     shown : (y : Labelled) → IsText y.message → IsText (trailing_message severity (Some y))
     shown y t = text-both space (label_message severity y.style y.message) text-space (text-label_message severity y.style y.message t)
@@ -310,12 +311,12 @@ text-trailing severity (x ∷ xs) h = by (rightmost (x ∷ xs)) refl
     tested a t true = shown a.here t
     tested a t false = text-none
 
-    by : (r : Option Around) → rightmost (x ∷ xs) ≡ r → IsText (trailing_message severity (trailing_of r))
+    by : (r : Option Around) → around_rightmost (x ∷ xs) ≡ r → IsText (trailing_message severity (trailing_of r))
     by None is = text-none
-    by (Some a) is = tested a (here a (around_is (greatest_end (x ∷ xs)) (x ∷ xs) a is)) (does_trail a)
+    by (Some a) is = tested a (here a (around_is (greatest_end (x ∷ xs)) (x ∷ xs) a is)) (around_trails a)
 
 module _ (look : Look) (ok : AreCharacters look.chars) where
-  text-lane_of : (crossing : Option LaneMark) (shape : Part → Shape) (mark : Option LaneMark) → IsText (lane_of look crossing shape mark)
+  text-lane_of : (crossing : Option LaneMark) (shape : MultiLabel → Shape) (mark : Option LaneMark) → IsText (lane_of look crossing shape mark)
   unfolding lane_of
   text-lane_of crossing shape mark = text-lane_cells look.chars ok look.severity crossing (style_of_mark mark) (shape_of shape mark)
 
@@ -387,7 +388,7 @@ module _ (look : Look) (ok : AreCharacters look.chars) where
   text-underline_message [] t = text-none
   text-underline_message (p ∷ ps) t = text-both space (p ∷ ps) text-space t
 
-  text-underline : (style : LabelStyle) (cs : List Cell) (part : Part) → IsTextPart part → IsText (underline look.chars style cs part)
+  text-underline : (style : LabelStyle) (cs : List Cell) (part : MultiLabel) → IsTextPart part → IsText (underline look.chars style cs part)
   unfolding underline
   text-underline style cs (Top start) t =
       followed (text-repeated (width_of (cells_up_to start cs)) look.chars.multi_top ok.multi_top) (text-glyph (start_caret look.chars style) (scalar-start_caret look.chars ok style))

@@ -8,13 +8,13 @@ use Rattle.codespan_base.specs.declared.diagnostic.LabelStyle.{LabelStyle}
 use Rattle.codespan_base.specs.declared.diagnostic.LabelStyle.TheVariants.{Primary, Secondary}
 use Rattle.codespan_base.specs.declared.term.config.chars.Chars.{Chars}
 use Rattle.codespan_base.specs.Streams.{Stream, StyleMark, Byte, one_mark, bytes, blanks, space, glyph, repeated, newline}
-use Rattle.codespan_base.specs.Labels.{Labelled, LaneMark, Part, Top, Left, Bottom}
+use Rattle.codespan_base.specs.Labels.{Labelled, LaneMark, MultiLabel, Top, Left, Bottom}
 use Rattle.codespan_picture.specs.declared.cells.Cell.{Cell}
 use Rattle.codespan_picture.specs.Carets.{style_under, greatest_end}
 use Rattle.codespan_picture.specs.declared.lanes.Shape.{Shape}
 use Rattle.codespan_picture.specs.declared.lanes.Shape.TheVariants.{Gap, Bar, TopCorner, BottomCorner}
 use Rattle.codespan_picture.specs.Lanes.{mark_in, label_glyph, filling, lane_cells}
-use Rattle.codespan_picture.specs.Rows.{Place, Look, Lanes, Line, Row, HeaderRow, StartRow, EmptyRow, BreakRow, SourceRow, CaretRow, PointerRow, HangingRow, UnderlineRow, FirstNoteRow, LaterNoteRow, BlankRow, trailing, hanging}
+use Rattle.codespan_picture.specs.Rows.{Locus, Look, Lanes, Line, Row, HeaderRow, StartRow, EmptyRow, BreakRow, SourceRow, CaretRow, PointerRow, HangingRow, UnderlineRow, FirstNoteRow, LaterNoteRow, BlankRow, trailing, hanging}
 use Rattle.codespan_picture.specs.RowParts.{locus, gutter, numbered_gutter, border, break_border, change, styled, label_message, lane_of, lanes_in, source_lanes, plain_lanes, below_lanes, underline_lanes, line_cells, source_style, source_glyph, coloured_text, caret_glyphs, carets, trailing_message, blanks_up_to, pointer_at, pointers, pointer_style, starts_in, greatest_start, underline_message, underline}
 use Rattle.codespan_picture.specs.RowStreams.{bracketed, leading_locus, header_row, start_row, empty_row, break_row, source_row, opening, caret_row, pointer_row, hanging_row, underline_row, first_note_row, later_note_row, stream_of, stream_of_rows}
 use Rattle.codespan_laws.specs.MessageLaws.{weight_of, is_slot, slot_count}
@@ -78,12 +78,12 @@ slots-lane_cells k severity chars m style Bar = simp (words, slots-filling, slot
 slots-lane_cells k severity chars m style TopCorner = simp (words, slots-filling, slots-label_glyph)
 slots-lane_cells k severity chars m style BottomCorner = simp (words, slots-filling, slots-label_glyph)
 
-pub slots-lane_of : (k : ℕ) (look : Look) (crossing : Option LaneMark) (shape : Part → Shape) (m : Option LaneMark) → slots k (lane_of look crossing shape m) ≡ 0
+pub slots-lane_of : (k : ℕ) (look : Look) (crossing : Option LaneMark) (shape : MultiLabel → Shape) (m : Option LaneMark) → slots k (lane_of look crossing shape m) ≡ 0
 unfolding lane_of
 slots-lane_of k look crossing shape None = slots-lane_cells k look.severity look.chars crossing Primary Gap
 slots-lane_of k look crossing shape (Some m) = slots-lane_cells k look.severity look.chars crossing m.style (shape m.part)
 
-pub slots-lanes_in : (k : ℕ) (look : Look) (crossing : ℕ → Option LaneMark) (shape : ℕ → Part → Shape) (lanes : Lanes) → slots k (lanes_in look crossing shape lanes) ≡ 0
+pub slots-lanes_in : (k : ℕ) (look : Look) (crossing : ℕ → Option LaneMark) (shape : ℕ → MultiLabel → Shape) (lanes : Lanes) → slots k (lanes_in look crossing shape lanes) ≡ 0
 slots-lanes_in k look crossing shape lanes =
     slots-flat_map k (λ lane. lane_of look (crossing lane) (shape lane) (mark_in lanes.marks lane)) (range_with_len 0 lanes.count)
     (λ lane. slots-lane_of k look (crossing lane) (shape lane) (mark_in lanes.marks lane))
@@ -104,7 +104,7 @@ pub slots-underline_lanes : (k : ℕ) (look : Look) (leading : ℕ) (m : LaneMar
 unfolding underline_lanes
 slots-underline_lanes k look leading m lanes = slots-lanes_in k look _ _ lanes
 
-pub slots-locus : (k : ℕ) (p : Place) → slots k (locus p) ≡ 0
+pub slots-locus : (k : ℕ) (p : Locus) → slots k (locus p) ≡ 0
 unfolding locus
 slots-locus k p = simp words
 
@@ -206,12 +206,12 @@ slots-underline_message k [] = refl
 slots-underline_message k (p ∷ ps) = omega (arith, slots-append k space (p ∷ ps), slots-bytes k (32 ∷ []))
 
 -- what a part weighs by its message
-abbrev pub part_slots : ℕ → Part → ℕ
+abbrev pub part_slots : ℕ → MultiLabel → ℕ
 part_slots k (Top start) = 0
 part_slots k Left = 0
 part_slots k (Bottom end message) = slots k message
 
-pub slots-underline : (k : ℕ) (chars : Chars) (style : LabelStyle) (cs : List Cell) (part : Part) → slots k (underline chars style cs part) ≡ part_slots k part
+pub slots-underline : (k : ℕ) (chars : Chars) (style : LabelStyle) (cs : List Cell) (part : MultiLabel) → slots k (underline chars style cs part) ≡ part_slots k part
 unfolding underline
 slots-underline k chars style cs (Top start) = simp words
 slots-underline k chars style cs Left = slots-nil k
@@ -223,7 +223,7 @@ slots-bracketed k None = slots-nil k
 slots-bracketed k (Some []) = slots-nil k
 slots-bracketed k (Some (c ∷ cs)) = simp words
 
-pub slots-leading_locus : (k : ℕ) (place : Option Place) → slots k (leading_locus place) ≡ 0
+pub slots-leading_locus : (k : ℕ) (place : Option Locus) → slots k (leading_locus place) ≡ 0
 unfolding leading_locus
 slots-leading_locus k None = slots-nil k
 slots-leading_locus k (Some p) = simp parts

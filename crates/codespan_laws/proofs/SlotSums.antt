@@ -1,5 +1,5 @@
 -- Each label's message stands in one slot.
-use Rattle.std.proofs.Common.{◌≡◌, ℕ, zero, suc, ◌+◌, ◌-◌, ◌<◌, ◌≤◌, Bool, true, false, not, cond, ◌&&◌, ◌||◌, ◌==◌, nat_lt, nat_le, List, [], ◌∷◌, ◌++◌, map, filter, filter_map, reverse, Option, Some, None, slice_get, if◌then◌else◌, refl, sym, ap, ◌∙◌, arith}
+use Rattle.std.proofs.Common.{◌≡◌, ℕ, zero, suc, ◌+◌, ◌-◌, ◌<◌, ◌≤◌, Bool, true, false, not, cond, ◌&&◌, ◌||◌, ◌==◌, nat_lt, nat_le, List, [], ◌∷◌, ◌++◌, map, filter, filter_map, reverse, Option, Some, None, slice_get, length, if◌then◌else◌, refl, sym, ap, ◌∙◌, arith}
 use Rattle.std.specs.Prelude.{sum_by, flat_map}
 use Rattle.std.specs.List.{list_any, range_with_len, enumerate_from, cons_option}
 use Rattle.std.specs.Str.Lines.{lines}
@@ -10,12 +10,12 @@ use Rattle.std.specs.Cmp.{IsEquivalence}
 use Rattle.codespan_base.specs.declared.term.config.Config.{Config}
 use Rattle.codespan_base.specs.FileModel.{FileModel, line_count, line_of, line_start}
 use Rattle.codespan_base.specs.Streams.{Stream, Slot}
-use Rattle.codespan_base.specs.Labels.{Labelled, has_message, is_blank, LaneMark, Part, Top, Left, Bottom, first_line, last_line, is_single, drawn_label, first_seen, multi_labels, stands_before, put_in, sorted, single_labels, part_on, mark_of}
+use Rattle.codespan_base.specs.Labels.{Labelled, has_message, is_blank, LaneMark, MultiLabel, Top, Left, Bottom, first_line, last_line, is_single, drawn_label, first_seen, multi_labels, stands_before, put_in, sorted, single_labels, part_on, mark_of}
 use Rattle.codespan_picture.specs.Cells.{leading_whitespace}
 use Rattle.codespan_picture.specs.Lines.{shows, is_drawn, drawn_lines, is_broken}
-use Rattle.codespan_picture.specs.Rows.{Heading, Look, Line, HeaderRow, StartRow, EmptyRow, BreakRow, SourceRow, CaretRow, PointerRow, HangingRow, UnderlineRow, FirstNoteRow, LaterNoteRow, BlankRow, trailing, hanging, has_underline, caret_rows, hanging_rows, underline_rows, rows_of}
+use Rattle.codespan_picture.specs.Rows.{Heading, Locus, Look, Line, HeaderRow, StartRow, EmptyRow, BreakRow, SourceRow, CaretRow, PointerRow, HangingRow, UnderlineRow, FirstNoteRow, LaterNoteRow, BlankRow, trailing, hanging, has_underline, caret_rows, hanging_rows, underline_rows, rows_of}
 use Rattle.codespan_picture.specs.RowStreams.{stream_of_rows}
-use Rattle.codespan_picture.specs.Snippets.{LabelledFile, InFile, labelled_file, labelled_files, bare_lanes, line_at, break_rows, rows_after, place_of, snippet, has_any, is_followed, row_after, snippets, piece_rows, note_rows, rich_rows}
+use Rattle.codespan_picture.specs.Snippets.{LabelledFile, InFile, labelled_file, labelled_files, bare_lanes, line_at, break_rows, rows_after, snippet, has_any, is_followed, row_after, snippets, piece_rows, note_rows, rich_rows}
 use Rattle.codespan_laws.specs.MessageLaws.{weight_of, slot_count, slotted, all_slotted}
 use Rattle.codespan_laws.proofs.MessageLemmas.{trailing_and_hanging}
 use Rattle.codespan_laws.proofs.SlotLemmas.{slots, slots-is, slots-nil, part_slots, row_slots, slots-rows}
@@ -106,7 +106,7 @@ hanging_sum k line (x ∷ xs) =
       sum-reverse (label_slots k) (x ∷ xs),
     )
 
-no_underline : (k : ℕ) (leading : ℕ) (part : Part) → has_underline leading part ≡ false → part_slots k part ≡ 0
+no_underline : (k : ℕ) (leading : ℕ) (part : MultiLabel) → has_underline leading part ≡ false → part_slots k part ≡ 0
 no_underline k leading (Top start) h = refl
 no_underline k leading Left h = refl
 no_underline k leading (Bottom end message) h = cc
@@ -153,11 +153,11 @@ single_sum k f xs l =
     ∙ sum-map (label_slots k) (drawn_label f) (filter (is_here f l) xs)
     ∙ sum-filter (label_slots k) (is_here f l) xs
 
-abbrev pub some_part_slots : ℕ → Option Part → ℕ
+abbrev pub some_part_slots : ℕ → Option MultiLabel → ℕ
 some_part_slots k None = 0
 some_part_slots k (Some part) = part_slots k part
 
-cons_mark : (k n : ℕ) (x : Labelled) (part : Option Part) (ms : List LaneMark)
+cons_mark : (k n : ℕ) (x : Labelled) (part : Option MultiLabel) (ms : List LaneMark)
     → sum_by (mark_slots k) (cons_option (mark_of n x part) ms) ≡ some_part_slots k part + sum_by (mark_slots k) ms
 cons_mark k n x None ms = omega arith
 cons_mark k n x (Some part) ms = sum_by-cons (mark_slots k) (record { lane = n; style = x.style; part = part }) ms
@@ -301,14 +301,25 @@ shown_drawn : (config : Config) (f : FileModel) (labels : List Labelled) (l : �
     → list_any (λ x. shows config (first_line f x) (last_line f x) l) labels ≡ true → is_drawn config f labels l ≡ true
 shown_drawn config f labels l low any = let inside : nat_lt l (line_count f) ≡ true = grind (arith, nat_tests) in simp (inside, any)
 
-snippet_sum : (k : ℕ) (config : Config) (s : LabelledFile) → 0 < line_count s.file → sum_by (row_slots k) (snippet config s) ≡ sum_by (label_slots k) s.labels
+-- the slots of the rows of a file's lines
+abbrev pub file_slots : ℕ → Config → LabelledFile → ℕ
+file_slots k config s = sum_by (row_slots k) (rows_after s None (drawn_lines config s.file s.labels))
+
+-- are those of its snippet, whatever the locus
+start_sum : (k : ℕ) (config : Config) (locus : Locus) (s : LabelledFile) → sum_by (row_slots k) (snippet config locus s) ≡ file_slots k config s
+start_sum k config locus s =
+    omega (
+      arith,
+      sum_by-append (row_slots k) (StartRow locus ∷ EmptyRow (bare_lanes s) ∷ []) (rows_after s None (drawn_lines config s.file s.labels)),
+      sum_by-cons (row_slots k) (StartRow locus) (EmptyRow (bare_lanes s) ∷ []),
+      sum_by-cons (row_slots k) (EmptyRow (bare_lanes s)) [],
+    )
+
+snippet_sum : (k : ℕ) (config : Config) (s : LabelledFile) → 0 < line_count s.file → file_slots k config s ≡ sum_by (label_slots k) s.labels
 snippet_sum k config s some =
     let ls = drawn_lines config s.file s.labels in
     omega (
       arith,
-      sum_by-append (row_slots k) (StartRow (place_of s) ∷ EmptyRow (bare_lanes s) ∷ []) (rows_after s None ls),
-      sum_by-cons (row_slots k) (StartRow (place_of s)) (EmptyRow (bare_lanes s) ∷ []),
-      sum_by-cons (row_slots k) (EmptyRow (bare_lanes s)) [],
       lines_sum k s None ls,
       sum-swap (λ l x. on_line k s.file l x) ls s.labels,
       all_drawn k config s.file some (is_drawn config s.file s.labels) s.labels (shown_drawn config s.file s.labels),
@@ -320,18 +331,21 @@ after_sum k false s = refl
 
 -- ---- the rows of all files
 
-snippets_sum : (k : ℕ) (config : Config) (notes : List (List ℕ)) (ss : List LabelledFile)
-    → sum_by (row_slots k) (snippets config notes ss) ≡ sum_by (λ s. sum_by (row_slots k) (snippet config s)) ss
-snippets_sum k config notes [] = refl
-snippets_sum k config notes (s ∷ ss) =
-    let followed = is_followed (has_any notes) ss in
+snippets_sum : (k : ℕ) (config : Config) (has_notes : Bool) (ps : List Locus) (ss : List LabelledFile) → length ps ≡ length ss
+    → sum_by (row_slots k) (snippets config has_notes ps ss) ≡ sum_by (file_slots k config) ss
+snippets_sum k config has_notes [] [] h = refl
+snippets_sum k config has_notes [] (s ∷ ss) h = absurd (omega (arith, h))
+snippets_sum k config has_notes (p ∷ ps) [] h = absurd (omega (arith, h))
+snippets_sum k config has_notes (p ∷ ps) (s ∷ ss) h =
+    let followed = is_followed has_notes ss in
     omega (
       arith,
-      sum_by-append (row_slots k) (snippet config s ++ row_after followed s) (snippets config notes ss),
-      sum_by-append (row_slots k) (snippet config s) (row_after followed s),
+      sum_by-append (row_slots k) (snippet config p s ++ row_after followed s) (snippets config has_notes ps ss),
+      sum_by-append (row_slots k) (snippet config p s) (row_after followed s),
+      start_sum k config p s,
       after_sum k followed s,
-      snippets_sum k config notes ss,
-      sum_by-cons (λ s. sum_by (row_slots k) (snippet config s)) s ss,
+      snippets_sum k config has_notes ps ss (omega (arith, h)),
+      sum_by-cons (file_slots k config) s ss,
     )
 
 piece_sum : (k : ℕ) (ps : List (List ℕ)) → sum_by (row_slots k) (piece_rows ps) ≡ 0
@@ -339,16 +353,17 @@ piece_sum k [] = refl
 piece_sum k (p ∷ ps) =
     omega (arith, sum_by-cons (row_slots k) (FirstNoteRow p) (map LaterNoteRow ps), sum-map (row_slots k) LaterNoteRow ps, sum-zero {X = List ℕ} (λ _. 0) (λ _. refl) ps)
 
-pub rich_sum : (k : ℕ) (config : Config) (heading : Heading) (ss : List LabelledFile) (notes : List (List ℕ))
-    → sum_by (row_slots k) (rich_rows config heading ss notes) ≡ sum_by (λ s. sum_by (row_slots k) (snippet config s)) ss
-rich_sum k config heading ss notes =
+pub rich_sum : (k : ℕ) (config : Config) (heading : Heading) (ps : List Locus) (ss : List LabelledFile) (notes : List (List ℕ)) → length ps ≡ length ss
+    → sum_by (row_slots k) (rich_rows config heading ps ss notes) ≡ sum_by (file_slots k config) ss
+rich_sum k config heading ps ss notes h =
+    let inner = snippets config (has_any notes) ps ss in
     omega (
       arith,
-      sum_by-append (row_slots k) ((HeaderRow None heading ∷ snippets config notes ss) ++ note_rows notes) (BlankRow ∷ []),
-      sum_by-append (row_slots k) (HeaderRow None heading ∷ snippets config notes ss) (note_rows notes),
-      sum_by-cons (row_slots k) (HeaderRow None heading) (snippets config notes ss),
+      sum_by-append (row_slots k) ((HeaderRow None heading ∷ inner) ++ note_rows notes) (BlankRow ∷ []),
+      sum_by-append (row_slots k) (HeaderRow None heading ∷ inner) (note_rows notes),
+      sum_by-cons (row_slots k) (HeaderRow None heading) inner,
       sum_by-cons (row_slots k) BlankRow [],
-      snippets_sum k config notes ss,
+      snippets_sum k config (has_any notes) ps ss h,
       sum-flat_map_zero (row_slots k) (λ note. piece_rows (lines note)) (λ note. piece_sum k (lines note)) notes,
     )
 
@@ -414,11 +429,11 @@ module _ {Id : Type 0} (same : Id → Id → Bool) (law : IsEquivalence same) wh
       )
 
   files_sum : (k : ℕ) (config : Config) (file : Id → FileModel) → ((id : Id) → 0 < line_count (file id)) → (xs : List (InFile Id))
-      → sum_by (λ s. sum_by (row_slots k) (snippet config s)) (labelled_files same file xs) ≡ sum_by (λ (x : InFile Id). label_slots k x.label) xs
+      → sum_by (file_slots k config) (labelled_files same file xs) ≡ sum_by (λ (x : InFile Id). label_slots k x.label) xs
   files_sum k config file some xs =
       let ids = first_seen same (map (λ (x : InFile Id). x.id) xs) in
-      sum-map (λ s. sum_by (row_slots k) (snippet config s)) (labelled_file same file xs) ids
-      ∙ sum-ext (λ id. sum_by (row_slots k) (snippet config (labelled_file same file xs id)))
+      sum-map (file_slots k config) (labelled_file same file xs) ids
+      ∙ sum-ext (λ id. file_slots k config (labelled_file same file xs id))
       (λ id. sum_by (λ (x : InFile Id). cond (same id x.id) (label_slots k x.label) 0) xs)
       (λ id. snippet_sum k config (labelled_file same file xs id) (some id)
       ∙ sum-map (label_slots k) (λ (x : InFile Id). x.label) (filter (λ (x : InFile Id). same id x.id) xs)
@@ -487,13 +502,14 @@ module _ {Id : Type 0} (k : ℕ) where
         sum_by-cons (λ (y : InFile Id). label_slots k y.label) (slotted n y) (slotted_from (n + 1) ys),
       )
 
-pub each_once : {Id : Type 0} (look : Look) (config : Config) (same : Id → Id → Bool) (file : Id → FileModel) (heading : Heading) (notes : List (List ℕ)) (xs : List (InFile Id))
+pub each_once : {Id : Type 0} (look : Look) (config : Config) (same : Id → Id → Bool) (file : Id → FileModel) (heading : Heading) (notes : List (List ℕ)) (xs : List (InFile Id)) (ps : List Locus)
+    → length ps ≡ length (labelled_files same file (all_slotted xs))
     → IsEquivalence same → ((id : Id) → 0 < line_count (file id)) → (k : ℕ) (x : InFile Id) → slice_get xs k ≡ Some x
-    → slot_count k (stream_of_rows look (rich_rows config heading (labelled_files same file (all_slotted xs)) notes)) ≡ (if has_message x.label then 1 else 0)
-each_once look config same file heading notes xs law some k x at =
+    → slot_count k (stream_of_rows look (rich_rows config heading ps (labelled_files same file (all_slotted xs)) notes)) ≡ (if has_message x.label then 1 else 0)
+each_once look config same file heading notes xs ps as_many law some k x at =
     let ss = labelled_files same file (all_slotted xs) in
-    slots-is k (stream_of_rows look (rich_rows config heading ss notes))
-    ∙ slots-rows k look (rich_rows config heading ss notes)
-    ∙ rich_sum k config heading ss notes
+    slots-is k (stream_of_rows look (rich_rows config heading ps ss notes))
+    ∙ slots-rows k look (rich_rows config heading ps ss notes)
+    ∙ rich_sum k config heading ps ss notes as_many
     ∙ files_sum same law k config file some (all_slotted xs)
     ∙ one_here k 0 k xs x (omega arith) at

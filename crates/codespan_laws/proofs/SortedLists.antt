@@ -118,6 +118,14 @@ rises-from_pairs lt (x ∷ xs) h = (
 pub rises-from_sorted : {X : Type 0} (lt : X → X → Bool) → IsStrictWeakOrder lt → (xs : List X) → IsSortedBy lt xs → Rises lt xs
 rises-from_sorted lt o xs h = rises-from_pairs lt xs (λ i j d l w. sorted_far lt o xs h i j d (omega arith) w)
 
+-- a list that rises is sorted
+pub sorted_from_rises : {X : Type 0} (lt : X → X → Bool) (xs : List X) → Rises lt xs → IsSortedBy lt xs
+sorted_from_rises lt [] h k d z w = absurd (omega arith)
+sorted_from_rises lt (x ∷ []) h k d z w = absurd (omega arith)
+sorted_from_rises lt (x ∷ y ∷ ys) h zero d z w = h.0.0
+sorted_from_rises lt (x ∷ y ∷ ys) h (suc k) d z w =
+    let e : suc k + 1 ≡ suc (k + 1) = omega arith in rw e (sorted_from_rises lt (y ∷ ys) h.1 k d (omega arith) (omega arith))
+
 -- what a filter keeps rises too
 pub rises-filter : {X : Type 0} (lt : X → X → Bool) (p : X → Bool) (xs : List X) → Rises lt xs → Rises lt (filter p xs)
 rises-filter lt p [] h = tt

@@ -13,13 +13,16 @@ pub record SentByte : Type 0 where
 abbrev pub sent_bytes : Spelling → Stream → List SentByte
 sent_bytes spelling [] = []
 sent_bytes spelling (Byte b ∷ s) = record { is_text = true; byte = b } ∷ sent_bytes spelling s
-sent_bytes spelling (Mark m ∷ s) = map (λ b. record { is_text = false; byte = b }) (spelling m) ++ sent_bytes spelling s
+sent_bytes spelling (Mark m ∷ s) =
+    map (λ b. record { is_text = false; byte = b }) (spelling m) ++ sent_bytes spelling s
 sent_bytes spelling (Slot k ∷ s) = sent_bytes spelling s
 
 -- however marks are spelled, the bytes without those of the marks are the plain text
 pub record ColoursChangeNoText (spelling : Spelling) (s : Stream) : Type 0 where
   pub all : map (λ (x : SentByte). x.byte) (sent_bytes spelling s) ≡ spelled spelling s
-  pub text : map (λ (x : SentByte). x.byte) (filter (λ (x : SentByte). x.is_text) (sent_bytes spelling s)) ≡ text_of s
+  pub text : map (λ (x : SentByte). x.byte)
+      (filter (λ (x : SentByte). x.is_text) (sent_bytes spelling s))
+      ≡ text_of s
 
 -- in any styles a writer of no colours is sent the plain text
 abbrev pub NoColourIsPlain : Styles → Stream → Type 0

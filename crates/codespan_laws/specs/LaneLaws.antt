@@ -1,4 +1,5 @@
--- The laws of lanes: what a lane shows in each row says where its label goes, and is what the row's stream has there.
+-- The laws of lanes: what a lane shows in each row says where its label goes, and is what the row's
+-- stream has there.
 use Rattle.std.specs.Prelude.{◌≡◌, ℕ, ◌<◌, ◌≤◌, ◌⊎◌, ◌↔◌, Bool, false, List, [], ◌++◌, length, slice_get, flat_map, Option, Some, None}
 use Rattle.std.specs.List.{range_with_len}
 use Rattle.std.specs.Option.{option_map, option_map_or}
@@ -10,7 +11,7 @@ use Rattle.codespan_base.specs.Streams.{Stream}
 use Rattle.codespan_picture.specs.declared.lanes.Shape.{Shape}
 use Rattle.codespan_picture.specs.declared.lanes.Shape.TheVariants.{Gap, Bar, TopCorner, BottomCorner}
 use Rattle.codespan_picture.specs.Lanes.{LaneRow, Source, Plain, Below, Underline, row_shape, row_crossing, mark_in, shape_of, style_of_mark, is_unbroken, lane_cells}
-use Rattle.codespan_picture.specs.Rows.{Look, Lanes, Line, Row, EmptyRow, BreakRow, SourceRow, CaretRow, PointerRow, HangingRow, UnderlineRow}
+use Rattle.codespan_picture.specs.Rows.{Locus, Look, Lanes, Line, Row, EmptyRow, BreakRow, SourceRow, CaretRow, PointerRow, HangingRow, UnderlineRow}
 use Rattle.codespan_picture.specs.RowParts.{gutter, numbered_gutter, border, break_border, leading_of}
 use Rattle.codespan_picture.specs.RowStreams.{stream_of}
 use Rattle.codespan_picture.specs.Snippets.{LabelledFile, line_at, row_after, snippet}
@@ -74,55 +75,65 @@ BarsAreLabels layout s = (l lane : ℕ) (x : Labelled) → HasLane s lane x
 abbrev pub shape_at : Layout → List Row → ℕ → ℕ → Option Shape
 shape_at layout rows k lane = option_map (λ row. shape_in layout row lane) (slice_get rows k)
 
--- below a top corner in a source row the other rows of its line may leave the lane out, but not in the unbroken layout
-pub record MayLeaveOut (layout : Layout) (s : LabelledFile) (rows : List Row) (lane : ℕ) (x : Labelled) (top k : ℕ) : Type 0 where
+-- below a top corner in a source row the other rows of its line may leave the lane out, but not in
+-- the unbroken layout
+pub record MayLeaveOut (layout : Layout) (s : LabelledFile) (rows : List Row) (lane : ℕ)
+    (x : Labelled) (top k : ℕ) : Type 0 where
   pub is_classic : is_unbroken layout ≡ false
   pub turns_early : slice_get rows top ≡ Some (SourceRow (line_at s (first_line s.file x)))
   pub is_gap : shape_at layout rows k lane ≡ Some Gap
-  pub is_below : (row : Row) → slice_get rows k ≡ Some row → line_below row ≡ Some (line_at s (first_line s.file x))
+  pub is_below : (row : Row) → slice_get rows k ≡ Some row
+      → line_below row ≡ Some (line_at s (first_line s.file x))
 
 -- a lane turns in one row, runs down, and turns back in one later row
-pub record IsOneLine (layout : Layout) (s : LabelledFile) (rows : List Row) (lane : ℕ) (x : Labelled) : Type 0 where
+pub record IsOneLine (layout : Layout) (s : LabelledFile) (rows : List Row) (lane : ℕ)
+    (x : Labelled) : Type 0 where
   pub top : ℕ
   pub bottom : ℕ
   pub in_order : top < bottom
   pub turns : shape_at layout rows top lane ≡ Some TopCorner
   pub turns_back : shape_at layout rows bottom lane ≡ Some BottomCorner
-  pub between : (k : ℕ) → top < k → k < bottom → (shape_at layout rows k lane ≡ Some Bar) ⊎ MayLeaveOut layout s rows lane x top k
+  pub between : (k : ℕ) → top < k → k < bottom
+      → (shape_at layout rows k lane ≡ Some Bar) ⊎ MayLeaveOut layout s rows lane x top k
   pub before : (k : ℕ) → k < top → shape_at layout rows k lane ≡ Some Gap
   pub after : (k : ℕ) → bottom < k → k < length rows → shape_at layout rows k lane ≡ Some Gap
 
 -- the rows of a file's snippet, and the empty row after it, if it has one
-abbrev pub rows_with_lanes : Config → LabelledFile → Bool → List Row
-rows_with_lanes config s is_followed = snippet config s ++ row_after is_followed s
+abbrev pub rows_with_lanes : Config → Locus → LabelledFile → Bool → List Row
+rows_with_lanes config locus s is_followed = snippet config locus s ++ row_after is_followed s
 
--- each lane of a file is one line
+-- each lane of a file is one line, whatever the locus
 abbrev pub LanesAreLines : Config → Layout → LabelledFile → Type 0
-LanesAreLines config layout s = (is_followed : Bool) (lane : ℕ) (x : Labelled) → HasLane s lane x
-    → IsOneLine layout s (rows_with_lanes config s is_followed) lane x
+LanesAreLines config layout s =
+    (locus : Locus) (is_followed : Bool) (lane : ℕ) (x : Labelled) → HasLane s lane x
+    → IsOneLine layout s (rows_with_lanes config locus s is_followed) lane x
 
 -- ---- what each lane shows is what the stream of its row has there
 
 -- the two characters of what a row shows in a lane
 abbrev pub lane_shown : Look → Row → Lanes → ℕ → Stream
 lane_shown look row lanes lane =
-    lane_cells look.severity look.chars (row_crossing (kind_of row) lane) (style_of_mark (mark_in lanes.marks lane)) (shape_in look.layout row lane)
+    lane_cells look.severity look.chars (row_crossing (kind_of row) lane)
+    (style_of_mark (mark_in lanes.marks lane)) (shape_in look.layout row lane)
 
 -- those of each lane, from left to right
 abbrev pub lanes_shown : Look → Row → Lanes → Stream
 lanes_shown look row lanes = flat_map (lane_shown look row lanes) (range_with_len 0 lanes.count)
 
--- what stands left of the lanes: in a source row the line's number, else blanks, and the bar left of the source
+-- what stands left of the lanes: in a source row the line's number, else blanks, and the bar left
+-- of the source
 abbrev pub before_lanes : Look → Row → Stream
 before_lanes look (SourceRow line) = numbered_gutter look.padding line.number ++ border look.chars
 before_lanes look (BreakRow lanes) = gutter look.padding ++ break_border look.chars
 before_lanes look _ = gutter look.padding ++ border look.chars
 
--- after the bar left of the source the stream of a row has what the row shows in each of these lanes
+-- after the bar left of the source the stream of a row has what the row shows in each of these
+-- lanes
 pub record ShowsLanes (look : Look) (row : Row) (lanes : Lanes) : Type 0 where
   pub after : Stream
   pub is : stream_of look row ≡ before_lanes look row ++ lanes_shown look row lanes ++ after
 
 -- the stream of each row that has lanes has in them what the row shows there
 abbrev pub LanesAreShown : Look → Type 0
-LanesAreShown look = (row : Row) (lanes : Lanes) → lanes_of_row row ≡ Some lanes → ShowsLanes look row lanes
+LanesAreShown look = (row : Row) (lanes : Lanes)
+    → lanes_of_row row ≡ Some lanes → ShowsLanes look row lanes

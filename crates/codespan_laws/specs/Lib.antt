@@ -22,7 +22,6 @@ pub use Rattle.codespan_picture.specs.Lines
 pub use Rattle.codespan_picture.specs.Snippets
 pub use Rattle.codespan_picture.specs.Padding
 pub use Rattle.codespan_picture.specs.Picture
-pub use Rattle.codespan_picture.specs.Placed
 pub use Rattle.codespan_picture.specs.Lookups
 pub use Rattle.codespan_picture.specs.Given
 -- what a picture means
@@ -34,5 +33,7 @@ pub mod MessageLaws
 pub mod OrderLaws
 pub mod PaddingLaws
 pub mod RowLaws
+pub mod SortLaws
 pub mod TextLaws
+pub mod StatedNames
 pub mod Meanings

@@ -7,18 +7,20 @@ use Rattle.codespan_base.specs.FileModel.{line_count}
 use Rattle.codespan_base.specs.Labels.{Labelled}
 use Rattle.codespan_picture.specs.declared.lanes.Shape.TheVariants.{Bar}
 use Rattle.codespan_picture.specs.Lines.{drawn_lines, is_broken, is_shown}
-use Rattle.codespan_picture.specs.Rows.{Lanes, Row, BreakRow, SourceRow}
+use Rattle.codespan_picture.specs.Rows.{Lanes, Locus, Row, BreakRow, SourceRow}
 use Rattle.codespan_picture.specs.Snippets.{LabelledFile, rows_after, drawing, line_at, snippet}
 use Rattle.codespan_laws.specs.LaneLaws.{shape_in, HasLane, IsCovered}
 
 -- the shown lines of a file, all of which it has
 abbrev pub shown_lines : Config → LabelledFile → List ℕ
-shown_lines config s = filter (is_shown config s.file s.labels) (range_with_len 0 (line_count s.file))
+shown_lines config s =
+    filter (is_shown config s.file s.labels) (range_with_len 0 (line_count s.file))
 
 -- drawn lines with their breaks are the drawing of the shown lines
 abbrev pub DrawingOfShown : Config → LabelledFile → Type 0
 DrawingOfShown config s =
-    rows_after s None (drawn_lines config s.file s.labels) ≡ drawing (line_at s) None (shown_lines config s)
+    rows_after s None (drawn_lines config s.file s.labels)
+    ≡ drawing (line_at s) None (shown_lines config s)
 
 -- ---- breaks
 
@@ -26,7 +28,8 @@ DrawingOfShown config s =
 abbrev pub broken_before : List ℕ → List ℕ
 broken_before [] = []
 broken_before (c ∷ []) = []
-broken_before (c ∷ d ∷ more) = if is_broken c d then d ∷ broken_before (d ∷ more) else broken_before (d ∷ more)
+broken_before (c ∷ d ∷ more) =
+    if is_broken c d then d ∷ broken_before (d ∷ more) else broken_before (d ∷ more)
 
 -- the lanes of a break row
 abbrev pub broken_line : Row → Option Lanes
@@ -35,15 +38,18 @@ broken_line _ = None
 
 -- break rows stand exactly where shown lines are three or more apart
 abbrev pub BreaksAreGaps : Config → LabelledFile → Type 0
-BreaksAreGaps config s =
-    filter_map broken_line (snippet config s) ≡ map (λ l. (line_at s l).lanes) (broken_before (shown_lines config s))
+BreaksAreGaps config s = (locus : Locus)
+    → filter_map broken_line (snippet config locus s)
+    ≡ map (λ l. (line_at s l).lanes) (broken_before (shown_lines config s))
 
 -- the bars of a break row are those of the labels that cover every line that is left out
 abbrev pub BreaksAreCovered : Config → Layout → LabelledFile → Type 0
 BreaksAreCovered config layout s = (c d lane : ℕ) (x : Labelled)
     → IsTrue (is_shown config s.file s.labels c) → IsTrue (is_shown config s.file s.labels d)
-    → c + 3 ≤ d → ((l : ℕ) → c < l → l < d → is_shown config s.file s.labels l ≡ false) → HasLane s lane x
-    → (shape_in layout (BreakRow (line_at s d).lanes) lane ≡ Bar) ↔ ((l : ℕ) → c < l → l < d → IsCovered s.file x l)
+    → c + 3 ≤ d → ((l : ℕ) → c < l → l < d → is_shown config s.file s.labels l ≡ false)
+    → HasLane s lane x
+    → (shape_in layout (BreakRow (line_at s d).lanes) lane ≡ Bar)
+    ↔ ((l : ℕ) → c < l → l < d → IsCovered s.file x l)
 
 -- ---- how many rows there are
 
@@ -54,8 +60,11 @@ is_source_row _ = false
 
 -- the lines that one label shows are so many at most
 abbrev pub reach : Config → ℕ
-reach config = 2 + config.before_label_lines + config.after_label_lines + config.start_context_lines + config.end_context_lines
+reach config =
+    2 + config.before_label_lines + config.after_label_lines + config.start_context_lines
+    + config.end_context_lines
 
 -- the source rows of a file number at most twice what its labels show
 abbrev pub SourceRowsAreFew : Config → LabelledFile → Type 0
-SourceRowsAreFew config s = count_by is_source_row (snippet config s) ≤ 2 * sum_by (λ _. reach config) s.labels
+SourceRowsAreFew config s = (locus : Locus)
+    → count_by is_source_row (snippet config locus s) ≤ 2 * sum_by (λ _. reach config) s.labels

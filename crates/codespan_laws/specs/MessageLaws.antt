@@ -1,19 +1,21 @@
--- The law of messages: each stands in exactly one place of a rich picture.
-use Rattle.std.specs.Prelude.{◌≡◌, ℕ, ◌+◌, ◌<◌, Bool, false, ◌==◌, List, ◌∷◌, map, sum_by, count_by, slice_get, Option, Some, None, if◌then◌else◌, []}
+-- The law of messages: each stands exactly once in a rich output.
+use Rattle.std.specs.Prelude.{◌≡◌, ℕ, ◌+◌, Bool, false, ◌==◌, List, ◌∷◌, map, sum_by, count_by, slice_get, Option, Some, None, if◌then◌else◌, []}
 use Rattle.std.specs.List.{enumerate_from}
-use Rattle.std.specs.Cmp.{IsEquivalence}
 use Rattle.codespan_base.specs.declared.term.config.Config.{Config}
 use Rattle.codespan_base.specs.declared.diagnostic.Diagnostic.{Diagnostic}
-use Rattle.codespan_base.specs.FileModel.{FileModel, line_count}
+use Rattle.codespan_base.specs.declared.term.config.DisplayStyle.TheVariants.{Rich}
+use Rattle.codespan_base.specs.FileModel.{FileDatabase}
 use Rattle.codespan_base.specs.Labels.{Labelled, has_message, is_blank}
 use Rattle.codespan_base.specs.Streams.{Stream, Item, Slot, text_of, filled}
-use Rattle.codespan_picture.specs.Rows.{trailing, hanging}
+use Rattle.codespan_picture.specs.Rows.{Locus, trailing, hanging}
 use Rattle.codespan_picture.specs.Snippets.{InFile, labelled_files}
-use Rattle.codespan_picture.specs.Picture.{rich_stream, labels_of, heading_of, notes_of, files_of}
+use Rattle.codespan_picture.specs.Picture.{heading_of, labels_of, notes_of, output, rendered}
 
 -- a label with a slot in place of its message
 abbrev pub slotted : {Id : Type 0} → ℕ → InFile Id → InFile Id
-slotted k x = record x { label = record x.label { message = if is_blank x.label.message then [] else Slot k ∷ [] } }
+slotted k x = record x {
+  label = record x.label { message = if is_blank x.label.message then [] else Slot k ∷ [] };
+}
 
 -- the labels with slots in place of their messages
 abbrev pub all_slotted : {Id : Type 0} → List (InFile Id) → List (InFile Id)
@@ -37,22 +39,21 @@ message_of (Some x) = text_of x.label.message
 abbrev pub message_text : {Id : Type 0} → List (InFile Id) → ℕ → List ℕ
 message_text xs k = message_of (slice_get xs k)
 
--- the rich picture with slots in place of the messages
-abbrev pub slotted_picture : {Id : Type 0} → Config → Config → (Id → Id → Bool) → (Id → FileModel) → Diagnostic Id → Stream
-slotted_picture renderer view same file d =
-    rich_stream renderer view d.severity (heading_of d) (labelled_files same file (all_slotted (labels_of d))) (notes_of d)
+-- the rich output with slots in place of the messages
+abbrev pub slotted_output : {Id : Type 0}
+    → Config → Config → FileDatabase Id → Diagnostic Id → List Locus → Stream
+slotted_output renderer view files d loci =
+    rendered Rich renderer view d.severity (heading_of d) loci
+    (labelled_files files.same files.file (all_slotted (labels_of d))) (notes_of d)
 
--- in rich style each message stands in exactly one slot, and the slots filled give the picture
-pub record MessagesStandOnce {Id : Type 0} (renderer view : Config) (same : Id → Id → Bool) (file : Id → FileModel) (d : Diagnostic Id) : Type 0 where
+-- each message stands in exactly one slot of the rich output, and the slots filled give the output
+pub record MessagesStandOnce {Id : Type 0} (renderer view : Config) (files : FileDatabase Id)
+    (d : Diagnostic Id) (loci : List Locus) : Type 0 where
   pub once : (k : ℕ) (x : InFile Id) → slice_get (labels_of d) k ≡ Some x
-      → slot_count k (slotted_picture renderer view same file d) ≡ (if has_message x.label then 1 else 0)
-  pub whole : filled (message_text (labels_of d)) (slotted_picture renderer view same file d)
-      ≡ rich_stream renderer view d.severity (heading_of d) (files_of same file d) (notes_of d)
-
--- the law holds where ids are equal as `Eq` says, and each file has a line
-abbrev pub MessagesStandOnceWhereLawful : {Id : Type 0} → Config → Config → (Id → Id → Bool) → (Id → FileModel) → Diagnostic Id → Type 0
-MessagesStandOnceWhereLawful {Id} renderer view same file d =
-    IsEquivalence same → ((id : Id) → 0 < line_count (file id)) → MessagesStandOnce renderer view same file d
+      → slot_count k (slotted_output renderer view files d loci)
+      ≡ (if has_message x.label then 1 else 0)
+  pub whole : filled (message_text (labels_of d)) (slotted_output renderer view files d loci)
+      ≡ output Rich renderer view files d loci
 
 -- ---- on one line
 
@@ -61,7 +62,9 @@ abbrev pub weight_of : (Labelled → ℕ) → Option Labelled → ℕ
 weight_of weight None = 0
 weight_of weight (Some x) = weight x
 
--- the trailing label and the hanging ones weigh what all labels weigh, if those without a message weigh nothing
+-- the trailing label and the hanging ones weigh what all labels weigh, if those without a message
+-- weigh nothing
 abbrev pub EachTrailsOrHangs : Type 0
-EachTrailsOrHangs = (weight : Labelled → ℕ) (labels : List Labelled) → ((x : Labelled) → has_message x ≡ false → weight x ≡ 0)
+EachTrailsOrHangs = (weight : Labelled → ℕ) (labels : List Labelled)
+    → ((x : Labelled) → has_message x ≡ false → weight x ≡ 0)
     → weight_of weight (trailing labels) + sum_by weight (hanging labels) ≡ sum_by weight labels

@@ -1,37 +1,55 @@
--- The law of the order of labels: which orders a rich picture shows.
+-- The law of the order of labels: which orders a rich output shows.
 use Rattle.std.specs.Prelude.{◌≡◌, ℕ, Bool, true, not, ◌&&◌, ◌==◌, List, filter}
 use Rattle.std.specs.Cmp.{IsEquivalence}
 use Rattle.std.specs.Cmp.Lexicographic.{pointwise}
 use Rattle.codespan_base.specs.declared.term.config.Config.{Config}
+use Rattle.codespan_base.specs.declared.term.config.DisplayStyle.TheVariants.{Rich}
 use Rattle.codespan_base.specs.FileModel.{FileModel}
 use Rattle.codespan_base.specs.Labels.{Labelled, is_single, first_line, drawn_label}
-use Rattle.codespan_picture.specs.Rows.{Heading}
+use Rattle.codespan_picture.specs.Rows.{Heading, Locus}
 use Rattle.codespan_base.specs.declared.diagnostic.Severity.{Severity}
 use Rattle.codespan_picture.specs.Snippets.{InFile, file_ids, labelled_file, labelled_files}
-use Rattle.codespan_picture.specs.Picture.{rich_stream}
+use Rattle.codespan_picture.specs.Picture.{rendered, starts}
 
 -- the label has this drawn range
 abbrev pub is_drawn_at : FileModel → ℕ → ℕ → Labelled → Bool
-is_drawn_at f start end x = let drawn = drawn_label f x in (drawn.start == start) && (drawn.end == end)
+is_drawn_at f start end x =
+    let drawn = drawn_label f x in (drawn.start == start) && (drawn.end == end)
 
 -- the labels of a file that end on another line, in the order given
-abbrev pub several_lines_of : {Id : Type 0} → (Id → Id → Bool) → (Id → FileModel) → List (InFile Id) → Id → List Labelled
-several_lines_of same file xs id = filter (λ x. not (is_single (file id) x)) (labelled_file same file xs id).labels
+abbrev pub several_lines_of : {Id : Type 0}
+    → (Id → Id → Bool) → (Id → FileModel) → List (InFile Id) → Id → List Labelled
+several_lines_of same file xs id =
+    filter (λ x. not (is_single (file id) x)) (labelled_file same file xs id).labels
 
 -- the labels of one line that have this drawn range, in the order given
-abbrev pub one_range_of : {Id : Type 0} → (Id → Id → Bool) → (Id → FileModel) → List (InFile Id) → Id → ℕ → ℕ → ℕ → List Labelled
+abbrev pub one_range_of : {Id : Type 0}
+    → (Id → Id → Bool) → (Id → FileModel) → List (InFile Id) → Id → ℕ → ℕ → ℕ → List Labelled
 one_range_of same file xs id l start end =
-    filter (λ x. is_single (file id) x && (first_line (file id) x == l) && is_drawn_at (file id) start end x) (labelled_file same file xs id).labels
+    filter (λ x. is_single (file id) x && (first_line (file id) x == l)
+    && is_drawn_at (file id) start end x) (labelled_file same file xs id).labels
 
--- the orders that a rich picture shows; the ids of the files need only be equal, one by one
-pub record SameOrders {Id : Type 0} (same : Id → Id → Bool) (file : Id → FileModel) (xs ys : List (InFile Id)) : Type 0 where
+-- the orders that a rich output shows; the ids of the files need only be equal, one by one
+pub record SameOrders {Id : Type 0} (same : Id → Id → Bool) (file : Id → FileModel)
+    (xs ys : List (InFile Id)) : Type 0 where
   pub files : pointwise same (file_ids same xs) (file_ids same ys) ≡ true
-  pub several_lines : (id : Id) → several_lines_of same file xs id ≡ several_lines_of same file ys id
-  pub one_line : (id : Id) (l start end : ℕ) → one_range_of same file xs id l start end ≡ one_range_of same file ys id l start end
+  pub several_lines : (id : Id)
+      → several_lines_of same file xs id ≡ several_lines_of same file ys id
+  pub one_line : (id : Id) (l start end : ℕ)
+      → one_range_of same file xs id l start end ≡ one_range_of same file ys id l start end
 
--- where ids are equal as `Eq` says, and equal ids have one file, a reordering that keeps these orders changes nothing in a rich picture
+-- the loci of one order are those of the other, and with any loci both render the same
+pub record RenderTheSame {Id : Type 0} (same : Id → Id → Bool) (file : Id → FileModel)
+    (xs ys : List (InFile Id)) : Type 0 where
+  pub same_starts : starts same file xs Rich ≡ starts same file ys Rich
+  pub same_stream : (renderer view : Config) (severity : Severity) (heading : Heading)
+      (loci : List Locus) (notes : List (List ℕ))
+      → rendered Rich renderer view severity heading loci (labelled_files same file xs) notes
+      ≡ rendered Rich renderer view severity heading loci (labelled_files same file ys) notes
+
+-- where ids are equal as `Eq` says, and equal ids have one file, a reordering that keeps these
+-- orders changes nothing in a rich output
 abbrev pub OrderIsFree : {Id : Type 0} → (Id → Id → Bool) → (Id → FileModel) → Type 0
-OrderIsFree {Id} same file = (xs ys : List (InFile Id)) (renderer view : Config) (severity : Severity) (heading : Heading) (notes : List (List ℕ))
-    → IsEquivalence same → ((i j : Id) → same i j ≡ true → file i ≡ file j) → SameOrders same file xs ys
-    → rich_stream renderer view severity heading (labelled_files same file xs) notes
-    ≡ rich_stream renderer view severity heading (labelled_files same file ys) notes
+OrderIsFree {Id} same file = (xs ys : List (InFile Id))
+    → IsEquivalence same → ((i j : Id) → same i j ≡ true → file i ≡ file j)
+    → SameOrders same file xs ys → RenderTheSame same file xs ys

@@ -13,11 +13,14 @@ NumbersAscend f = (i : ℕ) → i + 1 < line_count f → f.number i ≤ f.number
 
 -- every drawn line's number fits the padding
 abbrev pub NumbersFit : Config → List LabelledFile → Type 0
-NumbersFit config ss = (s : LabelledFile) (l : ℕ) → Contains ss s → Contains (drawn_lines config s.file s.labels) l
+NumbersFit config ss = (s : LabelledFile) (l : ℕ)
+    → Contains ss s → Contains (drawn_lines config s.file s.labels) l
     → digit_count (s.file.number l) ≤ padding_of config ss
 
--- they fit in the unbroken layout, and in the classic one where the configuration shows no lines after labels and the numbers never fall
+-- they fit in the unbroken layout, and in the classic one where the configuration shows no lines
+-- after labels and the numbers never fall
 abbrev pub PaddingHasRoom : Config → List LabelledFile → Type 0
 PaddingHasRoom config ss =
-    (is_unbroken config.layout ≡ false → (config.after_label_lines ≡ 0) × ((s : LabelledFile) → Contains ss s → NumbersAscend s.file))
+    (is_unbroken config.layout ≡ false → (config.after_label_lines ≡ 0)
+    × ((s : LabelledFile) → Contains ss s → NumbersAscend s.file))
     → NumbersFit config ss

@@ -6,10 +6,12 @@ use Rattle.codespan_base.specs.Characters.{start_text}
 use Rattle.codespan_picture.specs.Rows.{Look, Row}
 use Rattle.codespan_picture.specs.RowStreams.{stream_of}
 
--- other characters, with a text before the locus of as many characters, change no row's number of characters
+-- other characters, with a text before the locus of as many characters, change no row's number of
+-- characters
 abbrev pub CharactersAreFree : Type 0
 CharactersAreFree = (look : Look) (chars : Chars) (row : Row)
-    → character_count (start_text chars.snippet_start) ≡ character_count (start_text look.chars.snippet_start)
+    → character_count (start_text chars.snippet_start)
+    ≡ character_count (start_text look.chars.snippet_start)
     → row_length (stream_of (record look { chars = chars }) row) ≡ row_length (stream_of look row)
 
 -- the mark is a reset
@@ -17,7 +19,8 @@ abbrev pub is_reset : StyleMark → Bool
 is_reset Reset = true
 is_reset _ = false
 
--- the last mark of a stream, if it has one, is a reset; `closed` is what is told of one that has none
+-- the last mark of a stream, if it has one, is a reset; `closed` is what is told of one that has
+-- none
 abbrev pub ends_reset : Bool → Stream → Bool
 ends_reset closed [] = closed
 ends_reset closed (Mark m ∷ s) = ends_reset (is_reset m) s

@@ -1,14 +1,16 @@
--- The law of texts: what a picture writes is UTF-8.
-use Rattle.std.specs.Prelude.{Bool, IfSome}
+-- The law of texts: an output is UTF-8, style marks aside.
+use Rattle.std.specs.Prelude.{List, IfSome}
 use Rattle.std.specs.Char.{IsScalar}
 use Rattle.std.specs.Str.{IsUtf8}
 use Rattle.codespan_base.specs.declared.diagnostic.Diagnostic.{Diagnostic}
 use Rattle.codespan_base.specs.declared.term.config.Config.{Config}
+use Rattle.codespan_base.specs.declared.term.config.DisplayStyle.{DisplayStyle}
 use Rattle.codespan_base.specs.declared.term.config.chars.Chars.{Chars}
 use Rattle.codespan_base.specs.Characters.{start_text}
-use Rattle.codespan_base.specs.FileModel.{FileModel, IsLawful}
+use Rattle.codespan_base.specs.FileModel.{FileDatabase, IsLawful}
 use Rattle.codespan_base.specs.Streams.{Stream, text_of}
-use Rattle.codespan_picture.specs.Picture.{picture}
+use Rattle.codespan_picture.specs.Picture.{NamesAreTexts, output, picture}
+use Rattle.codespan_picture.specs.Rows.{Locus}
 
 -- what the stream writes is UTF-8, marks aside
 pub record IsText (s : Stream) : Type 0 where
@@ -33,7 +35,16 @@ pub record AreCharacters (chars : Chars) : Type 0 where
   pub multi_left : IsScalar chars.multi_left
   pub pointer_left : IsScalar chars.pointer_left
 
--- the picture is a text where its characters are characters, its files are lawful, and what their names state is UTF-8
-abbrev pub PictureIsText : {Id : Type 0} → Config → (Id → Id → Bool) → (Id → FileModel) → Diagnostic Id → Type 0
-PictureIsText {Id} config same file d =
-    AreCharacters config.chars → ((id : Id) → IsLawful (file id)) → ((id : Id) → IfSome (file id).name IsUtf8) → IsText (picture config same file d)
+module _ {Id : Type 0} (style : DisplayStyle) (renderer view : Config)
+    (files : FileDatabase Id) (d : Diagnostic Id) where
+  -- the output with any loci is a text where its characters are characters, its files are lawful,
+  -- and the names of the loci are texts
+  abbrev pub OutputIsText : Type 0
+  OutputIsText = AreCharacters renderer.chars → ((id : Id) → IsLawful (files.file id))
+      → (loci : List Locus) → NamesAreTexts loci → IsText (output style renderer view files d loci)
+
+  -- so the picture is one where what the names of the files state is UTF-8
+  abbrev pub PictureIsText : Type 0
+  PictureIsText = AreCharacters renderer.chars → ((id : Id) → IsLawful (files.file id))
+      → ((id : Id) → IfSome (files.file id).name IsUtf8)
+      → IsText (picture style renderer view files d)

@@ -1,20 +1,19 @@
 -- Configurations that look alike draw alike.
-use Rattle.std.proofs.Common.{◌≡◌, ℕ, Bool, List, [], ◌∷◌, ◌++◌, refl, ap, ◌∙◌}
+use Rattle.std.proofs.Common.{◌≡◌, ℕ, List, [], ◌∷◌, ◌++◌, refl, ap, ◌∙◌}
 use Rattle.codespan_base.specs.declared.term.config.Config.{Config}
 use Rattle.codespan_base.specs.declared.term.config.chars.SnippetStart.{SnippetStart}
 use Rattle.codespan_base.specs.declared.diagnostic.Severity.{Severity}
 use Rattle.codespan_base.specs.Characters.{start_text}
 use Rattle.codespan_base.specs.declared.term.config.DisplayStyle.{DisplayStyle}
 use Rattle.codespan_base.specs.declared.term.config.DisplayStyle.TheVariants.{Rich, Medium, Short}
-use Rattle.codespan_base.specs.FileModel.{FileModel}
 use Rattle.codespan_base.specs.Lookalikes.{IsConfig}
 use Rattle.codespan_base.specs.Streams.{bytes, one_mark, Reset, SourceBorder, space}
-use Rattle.codespan_picture.specs.Rows.{Heading, Look, Row, HeaderRow, StartRow, EmptyRow, BreakRow, SourceRow, CaretRow, PointerRow, HangingRow, UnderlineRow, FirstNoteRow, LaterNoteRow, BlankRow}
+use Rattle.codespan_picture.specs.Rows.{Heading, Locus, Look, Row, HeaderRow, StartRow, EmptyRow, BreakRow, SourceRow, CaretRow, PointerRow, HangingRow, UnderlineRow, FirstNoteRow, LaterNoteRow, BlankRow}
 use Rattle.codespan_picture.specs.RowParts.{gutter, locus}
 use Rattle.codespan_picture.specs.RowStreams.{stream_of, stream_of_rows, row_words}
 use Rattle.codespan_picture.specs.Padding.{padding_of}
-use Rattle.codespan_picture.specs.Picture.{look_of, rich_picture, styled_picture}
-use Rattle.codespan_picture.specs.Snippets.{InFile, LabelledFile, labelled_files, medium_rows, rich_rows, short_rows}
+use Rattle.codespan_picture.specs.Picture.{look_of, rendered}
+use Rattle.codespan_picture.specs.Snippets.{LabelledFile, header_rows, note_rows, rich_rows}
 
 -- the configuration with this text before a place
 abbrev with_start : Config → SnippetStart → Config
@@ -51,26 +50,18 @@ module _ (config : Config) (severity : Severity) (padding : ℕ) (start other : 
   rows_alike [] = refl
   rows_alike (row ∷ rows) = cc (row_alike row, rows_alike rows)
 
--- rows without room for line numbers are the same
-header_rows_alike : (table config : Config) → IsConfig table config → (severity : Severity) (rows : List Row)
-    → stream_of_rows (look_of config severity 0) rows ≡ stream_of_rows (look_of table severity 0) rows
-header_rows_alike table config alike severity rows =
-    ap (λ c. stream_of_rows (look_of c severity 0) rows) (is_with_start table config alike)
-    ∙ rows_alike table severity 0 config.chars.snippet_start table.chars.snippet_start alike.chars.start rows
+-- what is rendered is the same, in each style
+module _ (table config : Config) (alike : IsConfig table config) (severity : Severity) (heading : Heading) (loci : List Locus) (ss : List LabelledFile) (notes : List (List ℕ)) where
+  -- rows with so much room for line numbers are the same
+  all_alike : (padding : ℕ) (rows : List Row) → stream_of_rows (look_of config severity padding) rows ≡ stream_of_rows (look_of table severity padding) rows
+  all_alike padding rows =
+      ap (λ c. stream_of_rows (look_of c severity padding) rows) (is_with_start table config alike)
+      ∙ rows_alike table severity padding config.chars.snippet_start table.chars.snippet_start alike.chars.start rows
 
--- the rich pictures are the same
-pub pictures_alike : (table config : Config) → IsConfig table config
-    → (severity : Severity) (heading : Heading) (ss : List LabelledFile) (notes : List (List ℕ))
-    → rich_picture config severity heading ss notes ≡ rich_picture table severity heading ss notes
-pictures_alike table config alike severity heading ss notes =
-    ap (λ c. rich_picture c severity heading ss notes) (is_with_start table config alike)
-    ∙ rows_alike table severity (padding_of table ss) config.chars.snippet_start table.chars.snippet_start alike.chars.start
-    (rich_rows table heading ss notes)
-
--- and so are those in every style
-pub styled_alike : {Id : Type 0} (table config : Config) → IsConfig table config
-    → (style : DisplayStyle) (same : Id → Id → Bool) (file : Id → FileModel) (severity : Severity) (heading : Heading) (xs : List (InFile Id)) (notes : List (List ℕ))
-    → styled_picture style config same file severity heading xs notes ≡ styled_picture style table same file severity heading xs notes
-styled_alike table config alike Rich same file severity heading xs notes = pictures_alike table config alike severity heading (labelled_files same file xs) notes
-styled_alike table config alike Medium same file severity heading xs notes = header_rows_alike table config alike severity (medium_rows file heading xs notes)
-styled_alike table config alike Short same file severity heading xs notes = header_rows_alike table config alike severity (short_rows file heading xs)
+  pub rendered_alike : (style : DisplayStyle) → rendered style config config severity heading loci ss notes ≡ rendered style table table severity heading loci ss notes
+  rendered_alike Rich =
+      ap (λ c. rendered Rich c c severity heading loci ss notes) (is_with_start table config alike)
+      ∙ rows_alike table severity (padding_of table ss) config.chars.snippet_start table.chars.snippet_start alike.chars.start
+      (rich_rows table heading loci ss notes)
+  rendered_alike Medium = all_alike 0 (header_rows heading loci ++ note_rows notes)
+  rendered_alike Short = all_alike 0 (header_rows heading loci)

@@ -1,5 +1,5 @@
 -- Where labels that hang start: they are labels of the line.
-use Rattle.std.proofs.Common.{◌≡◌, ℕ, ◌≤◌, max, Bool, true, false, ◌||◌, cond, List, [], ◌∷◌, ◌++◌, filter, fold, Option, Some, None, refl, sym, subst, ◌∙◌, arith, ⊎_elim}
+use Rattle.std.proofs.Common.{◌≡◌, ℕ, ◌≤◌, max, Bool, true, false, ◌||◌, cond, List, [], ◌∷◌, ◌++◌, filter, fold, Option, Some, None, refl, sym, ap, subst, ◌∙◌, arith, ⊎_elim}
 use Rattle.std.specs.Prelude.{if◌then◌else◌}
 use Rattle.std.specs.List.{list_any}
 use Rattle.std.proofs.lemmas.Bool.{or_cases, or_left, or_right}
@@ -8,9 +8,9 @@ use Rattle.std.proofs.lemmas.List.Folds.{list_any-append}
 use Rattle.codespan_base.specs.Labels.{Labelled, has_message}
 use Rattle.codespan_picture.specs.declared.cells.Cell.{Cell}
 use Rattle.codespan_picture.specs.Carets.{greatest_end}
-use Rattle.codespan_picture.specs.Rows.{Around, others, does_trail, rightmost, hanging_of, hanging}
+use Rattle.codespan_picture.specs.Rows.{hanging}
 use Rattle.codespan_picture.specs.RowParts.{starts_in}
-use Rattle.codespan_picture.proofs.Rightmost.{around_is}
+use Rattle.codespan_picture.proofs.Rightmost.{Around, others, around_rightmost, around_trails, hanging_of, around_is, hanging_is}
 
 -- what passes among the labels that a filter keeps passes among all
 pub any-filter : (p q : Labelled → Bool) (xs : List Labelled) → list_any p (filter q xs) ≡ true → list_any p xs ≡ true
@@ -31,16 +31,17 @@ any-others p a h =
     (or_cases (list_any p a.before) (list_any p a.after) (sym (list_any-append p a.before a.after) ∙ h))
 
 pub any-hanging : (p : Labelled → Bool) (labels : List Labelled) → list_any p (hanging labels) ≡ true → list_any p labels ≡ true
-any-hanging p labels h = by_rightmost (rightmost labels) refl h
+any-hanging p labels h =
+    by_rightmost (around_rightmost labels) refl (ap (list_any p) (sym (hanging_is labels)) ∙ h)
   where
     by_trail : (a : Around) → a.before ++ (a.here ∷ a.after) ≡ labels → (b : Bool)
         → list_any p (filter has_message (if b then others a else labels)) ≡ true → list_any p labels ≡ true
     by_trail a whole true h = subst (λ xs. list_any p xs ≡ true) whole (any-others p a (any-filter p has_message (others a) h))
     by_trail a whole false h = any-filter p has_message labels h
 
-    by_rightmost : (r : Option Around) → rightmost labels ≡ r → list_any p (hanging_of labels r) ≡ true → list_any p labels ≡ true
+    by_rightmost : (r : Option Around) → around_rightmost labels ≡ r → list_any p (hanging_of labels r) ≡ true → list_any p labels ≡ true
     by_rightmost None is h = cc
-    by_rightmost (Some a) is h = by_trail a (around_is (greatest_end labels) labels a is) (does_trail a) h
+    by_rightmost (Some a) is h = by_trail a (around_is (greatest_end labels) labels a is) (around_trails a) h
 
 pub fold_start-le : (m : ℕ) (xs : List Labelled) → m ≤ fold (λ n (x : Labelled). max n x.start) m xs
 fold_start-le m [] = omega arith

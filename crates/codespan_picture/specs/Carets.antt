@@ -59,4 +59,5 @@ caret_width labels cs = width_of (filter (λ (c : Cell). nat_lt c.place (greates
 
 -- the caret cells of a line
 abbrev pub caret_cells : Chars → List Labelled → List Cell → List ℕ
-caret_cells chars labels cs = map (λ k. caret_for chars (style_at labels cs k)) (range_with_len 0 (caret_width labels cs))
+caret_cells chars labels cs =
+    map (λ k. caret_for chars (style_at labels cs k)) (range_with_len 0 (caret_width labels cs))

@@ -14,11 +14,18 @@ is_line_end b = (b == 10) || (b == 13) || (b == 0)
 abbrev pub drawn_text : List ℕ → List ℕ
 drawn_text text = take (length text - suffix_len is_line_end text) text
 
--- the cells of these characters from a place and a column on, and then those that `after` gives where they end
+-- the cells of these characters from a place and a column on, and then those that `after` gives
+-- where they end
 abbrev pub cells_then : (ℕ → ℕ → List Cell) → ℕ → ℕ → ℕ → List ℕ → List Cell
 cells_then after tab place column [] = after place column
 cells_then after tab place column (c ∷ cs) =
-    record { code = c; place = place; bytes = len_utf8 c; column = column; width = width_at tab column c }
+    record {
+      code = c;
+      place = place;
+      bytes = len_utf8 c;
+      column = column;
+      width = width_at tab column c;
+    }
     ∷ cells_then after tab (place + len_utf8 c) (column + width_at tab column c) cs
 
 -- the characters of a line with their cells
@@ -27,7 +34,8 @@ cells tab line = cells_then (λ _ _. []) tab 0 0 (chars line)
 
 -- the place after the last character counts as one more, of one byte and one cell
 abbrev pub placeholder : ℕ → ℕ → List Cell
-placeholder place column = record { code = 32; place = place; bytes = 1; column = column; width = 1 } ∷ []
+placeholder place column =
+    record { code = 32; place = place; bytes = 1; column = column; width = 1 } ∷ []
 
 -- the same, and the placeholder after the last one
 abbrev pub cells_to_end : ℕ → List ℕ → List Cell

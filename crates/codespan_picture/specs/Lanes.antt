@@ -9,19 +9,19 @@ use Rattle.codespan_base.specs.declared.term.config.Layout.TheVariants.{Classic,
 use Rattle.codespan_base.specs.Streams.{Stream, LabelMark, Reset, one_mark, glyph, blanks, repeated}
 use Rattle.codespan_picture.specs.declared.lanes.Shape.{Shape}
 use Rattle.codespan_picture.specs.declared.lanes.Shape.TheVariants.{Gap, Bar, TopCorner, BottomCorner}
-use Rattle.codespan_base.specs.Labels.{LaneMark, Part, Top, Left, Bottom}
+use Rattle.codespan_base.specs.Labels.{LaneMark, MultiLabel, Top, Left, Bottom}
 
 -- the lane begins, on a line whose text begins with so many bytes of white space, in the source row
 abbrev pub turns_early : ℕ → ℕ → Bool
 turns_early leading start = nat_le start leading
 
 -- what a mark shows in the source row
-abbrev pub source_shape : ℕ → Part → Shape
+abbrev pub source_shape : ℕ → MultiLabel → Shape
 source_shape leading (Top start) = if turns_early leading start then TopCorner else Gap
 source_shape leading _ = Bar
 
 -- what it shows in an empty row, and in a break row, which has the marks of the line after it
-abbrev pub plain_shape : Part → Shape
+abbrev pub plain_shape : MultiLabel → Shape
 plain_shape (Top start) = Gap
 plain_shape _ = Bar
 
@@ -31,12 +31,13 @@ is_unbroken Classic = false
 is_unbroken Unbroken = true
 
 -- what it shows in the caret, pointer and hanging rows
-abbrev pub below_shape : Layout → ℕ → Part → Shape
-below_shape layout leading (Top start) = if is_unbroken layout && turns_early leading start then Bar else Gap
+abbrev pub below_shape : Layout → ℕ → MultiLabel → Shape
+below_shape layout leading (Top start) =
+    if is_unbroken layout && turns_early leading start then Bar else Gap
 below_shape layout leading _ = Bar
 
 -- what it shows in the underline row of the lane `turning`
-abbrev pub underline_shape : Layout → ℕ → ℕ → ℕ → Part → Shape
+abbrev pub underline_shape : Layout → ℕ → ℕ → ℕ → MultiLabel → Shape
 underline_shape layout leading turning lane (Top start) =
     if is_unbroken layout && turns_early leading start then Bar
     else if lane == turning then TopCorner else if nat_lt lane turning then Bar else Gap
@@ -44,7 +45,8 @@ underline_shape layout leading turning lane Left = Bar
 underline_shape layout leading turning lane (Bottom end message) =
     if lane == turning then BottomCorner else if nat_lt lane turning then Gap else Bar
 
--- a kind of row, as far as its lanes go: a source row; an empty or a break row; a caret, pointer or hanging row; the underline row of a mark
+-- a kind of row, as far as its lanes go: a source row; an empty or a break row; a caret, pointer or
+-- hanging row; the underline row of a mark
 pub data LaneRow : Type 0 where
   Source : LaneRow
   Plain : LaneRow
@@ -52,7 +54,7 @@ pub data LaneRow : Type 0 where
   Underline : LaneMark → LaneRow
 
 -- the table of lanes: what a mark shows in a kind of row
-abbrev pub row_shape : Layout → ℕ → LaneRow → ℕ → Part → Shape
+abbrev pub row_shape : Layout → ℕ → LaneRow → ℕ → MultiLabel → Shape
 row_shape layout leading Source lane = source_shape leading
 row_shape layout leading Plain lane = plain_shape
 row_shape layout leading Below lane = below_shape layout leading
@@ -70,7 +72,7 @@ abbrev pub mark_in : List LaneMark → ℕ → Option LaneMark
 mark_in marks lane = find (λ (m : LaneMark). m.lane == lane) marks
 
 -- what a row shows in a lane, from the mark in it
-abbrev pub shape_of : (Part → Shape) → Option LaneMark → Shape
+abbrev pub shape_of : (MultiLabel → Shape) → Option LaneMark → Shape
 shape_of shape None = Gap
 shape_of shape (Some m) = shape m.part
 
@@ -82,12 +84,13 @@ style_of_mark (Some m) = m.style
 -- the lanes ascend strictly from `least` on and stay below their number
 abbrev pub ascend_from : ℕ → ℕ → List LaneMark → Bool
 ascend_from count least [] = true
-ascend_from count least (m ∷ ms) = nat_le least m.lane && nat_lt m.lane count && ascend_from count (m.lane + 1) ms
+ascend_from count least (m ∷ ms) =
+    nat_le least m.lane && nat_lt m.lane count && ascend_from count (m.lane + 1) ms
 
 -- ---- their characters
 
 -- the line that runs right from a corner
-abbrev pub corner_line : Chars → Part → ℕ
+abbrev pub corner_line : Chars → MultiLabel → ℕ
 corner_line chars (Top start) = chars.multi_top
 corner_line chars _ = chars.multi_bottom
 
@@ -101,7 +104,8 @@ filling severity chars None n = blanks n
 filling severity chars (Some m) n =
     one_mark (LabelMark severity m.style) ++ repeated n (corner_line chars m.part) ++ one_mark Reset
 
--- the two characters of a lane; `crossing` is the mark, in its own underline row, whose corner stands left of the lane
+-- the two characters of a lane; `crossing` is the mark, in its own underline row, whose corner
+-- stands left of the lane
 unfoldable pub lane_cells : Severity → Chars → Option LaneMark → LabelStyle → Shape → Stream
 lane_cells severity chars crossing style Gap = filling severity chars crossing 2
 lane_cells severity chars crossing style Bar =

@@ -24,7 +24,6 @@ pub mod Lines
 pub mod Snippets
 pub mod Padding
 pub mod Picture
-pub mod Placed
 pub mod Lookups
 -- labels, marks and places as calls are given them
 pub mod Given

@@ -23,9 +23,12 @@ spans f x l = spans_line (first_line f x) (last_line f x) l
 
 -- the lines of the labels
 abbrev pub spanned_lines : LabelledFile → List ℕ
-spanned_lines s = filter (λ l. list_any (λ x. spans s.file x l) s.labels) (range_with_len 0 (line_count s.file))
+spanned_lines s =
+    filter (λ l. list_any (λ x. spans s.file x l) s.labels)
+    (range_with_len 0 (line_count s.file))
 
--- the lines whose numbers the padding has room for: those of the labels, or, in the unbroken layout, those that are drawn
+-- the lines whose numbers the padding has room for: those of the labels, or, in the unbroken
+-- layout, those that are drawn
 abbrev pub numbered_lines : Config → LabelledFile → List ℕ
 numbered_lines config s = by_layout config.layout
   where
@@ -39,4 +42,5 @@ digits_of s ls = map (λ l. digit_count (s.file.number l)) ls
 
 -- the greatest digit count among them, 0 where there is none
 abbrev pub padding_of : Config → List LabelledFile → ℕ
-padding_of config ss = fold max 0 (flat_map (λ (s : LabelledFile). digits_of s (numbered_lines config s)) ss)
+padding_of config ss =
+    fold max 0 (flat_map (λ (s : LabelledFile). digits_of s (numbered_lines config s)) ss)

@@ -1,45 +1,33 @@
--- The picture of a diagnostic, in each style.
-use Rattle.std.specs.Prelude.{ℕ, Bool, List, map, string_bytes}
-use Rattle.codespan_base.specs.declared.term.config.Config.{Config}
-use Rattle.codespan_base.specs.FileModel.{FileModel}
-use Rattle.codespan_base.specs.declared.diagnostic.Severity.{Severity}
-use Rattle.codespan_base.specs.Streams.{Stream, bytes}
-use Rattle.codespan_picture.specs.Rows.{Heading, Look}
-use Rattle.codespan_picture.specs.RowStreams.{stream_of_rows}
+-- The output of a diagnostic, in each style, by the loci in it.
+use Rattle.std.specs.Prelude.{◌≡◌, ℕ, Bool, List, ◌++◌, map, string_bytes, IfSome}
+use Rattle.std.specs.List.{AllByRecursion, AllZip}
 use Rattle.std.specs.Option.{option_map}
+use Rattle.std.specs.Str.{IsUtf8}
+use Rattle.codespan_base.specs.declared.term.config.Config.{Config}
 use Rattle.codespan_base.specs.declared.term.config.DisplayStyle.{DisplayStyle}
 use Rattle.codespan_base.specs.declared.term.config.DisplayStyle.TheVariants.{Rich, Medium, Short}
 use Rattle.codespan_base.specs.declared.diagnostic.Diagnostic.{Diagnostic}
 use Rattle.codespan_base.specs.declared.diagnostic.Label.{Label}
-use Rattle.codespan_picture.specs.Snippets.{InFile, LabelledFile, labelled_files, short_rows, medium_rows, rich_rows}
+use Rattle.codespan_base.specs.declared.diagnostic.Severity.{Severity}
+use Rattle.codespan_base.specs.FileModel.{FileDatabase, FileModel, name_text}
+use Rattle.codespan_base.specs.Streams.{Stream, bytes}
 use Rattle.codespan_picture.specs.Padding.{padding_of}
+use Rattle.codespan_picture.specs.Rows.{Heading, Locus, Look}
+use Rattle.codespan_picture.specs.RowStreams.{stream_of_rows}
+use Rattle.codespan_picture.specs.Snippets.{InFile, LabelledFile, header_rows, headers, labelled_files, locus_start, note_rows, primary_of, rich_rows}
 
--- what the rows of a picture share
-abbrev pub look_of : Config → Severity → ℕ → Look
-look_of config severity padding = record {
-  chars = config.chars;
-  tab_width = config.tab_width;
-  layout = config.layout;
-  severity = severity;
-  padding = padding;
-}
+-- ---- a diagnostic, as its output reads it
 
--- the stream of a rich picture: the view's config chooses lines and padding, the renderer's characters, tabs and lanes
-abbrev pub rich_stream : Config → Config → Severity → Heading → List LabelledFile → List (List ℕ) → Stream
-rich_stream renderer view severity heading ss notes =
-    stream_of_rows (look_of renderer severity (padding_of view ss)) (rich_rows view heading ss notes)
-
--- a rich picture, by one config
-abbrev pub rich_picture : Config → Severity → Heading → List LabelledFile → List (List ℕ) → Stream
-rich_picture config severity heading ss notes = rich_stream config config severity heading ss notes
-
--- ---- a diagnostic, as its picture reads it
-
--- a label, as a picture reads it
+-- a label
 abbrev pub label_of : {Id : Type 0} → Label Id → InFile Id
 label_of x = record {
   id = x.file_id;
-  label = record { style = x.style; start = x.range.start; end = x.range.end; message = bytes (string_bytes x.message) };
+  label = record {
+    style = x.style;
+    start = x.range.start;
+    end = x.range.end;
+    message = bytes (string_bytes x.message);
+  };
 }
 
 -- the labels in the order given
@@ -47,8 +35,8 @@ abbrev pub labels_of : {Id : Type 0} → Diagnostic Id → List (InFile Id)
 labels_of d = map label_of d.labels.items
 
 -- its files with their labels
-abbrev pub files_of : {Id : Type 0} → (Id → Id → Bool) → (Id → FileModel) → Diagnostic Id → List LabelledFile
-files_of same file d = labelled_files same file (labels_of d)
+abbrev pub files_of : {Id : Type 0} → FileDatabase Id → Diagnostic Id → List LabelledFile
+files_of files d = labelled_files files.same files.file (labels_of d)
 
 -- its code and message
 abbrev pub heading_of : {Id : Type 0} → Diagnostic Id → Heading
@@ -58,23 +46,83 @@ heading_of d = record { code = option_map string_bytes d.code; message = string_
 abbrev pub notes_of : {Id : Type 0} → Diagnostic Id → List (List ℕ)
 notes_of d = map string_bytes d.notes.items
 
--- ---- the picture
+-- ---- loci
 
--- the picture in one of the styles, of a severity, a code and message, labels, and notes: a view's config chooses lines and padding, the renderer's
--- characters, tabs and lanes
-abbrev pub viewed_picture : {Id : Type 0} → DisplayStyle → Config → Config → (Id → Id → Bool) → (Id → FileModel) → Severity → Heading → List (InFile Id) → List (List ℕ) → Stream
-viewed_picture Rich renderer view same file severity heading xs notes = rich_stream renderer view severity heading (labelled_files same file xs) notes
-viewed_picture Medium renderer view same file severity heading xs notes = stream_of_rows (look_of renderer severity 0) (medium_rows file heading xs notes)
-viewed_picture Short renderer view same file severity heading xs notes = stream_of_rows (look_of renderer severity 0) (short_rows file heading xs)
+-- the locus of a byte of a file: its location, and a name, which is the one that the file states,
+-- if it states one
+pub record IsLocus (at : FileModel × ℕ) (locus : Locus) : Type 0 where
+  pub location : locus.location ≡ at.0.location at.1
+  pub name : IfSome at.0.name (λ name. locus.name ≡ name)
 
--- by one config
-abbrev pub styled_picture : {Id : Type 0} → DisplayStyle → Config → (Id → Id → Bool) → (Id → FileModel) → Severity → Heading → List (InFile Id) → List (List ℕ) → Stream
-styled_picture style config same file severity heading xs notes = viewed_picture style config config same file severity heading xs notes
+-- the one with the name that the file states, and with an empty name where it states none
+abbrev pub stated_locus : FileModel × ℕ → Locus
+stated_locus at = record { name = name_text at.0; location = at.0.location at.1 }
 
--- the picture of a diagnostic in one of the styles
-abbrev pub picture_in : {Id : Type 0} → DisplayStyle → Config → (Id → Id → Bool) → (Id → FileModel) → Diagnostic Id → Stream
-picture_in style config same file d = styled_picture style config same file d.severity (heading_of d) (labels_of d) (notes_of d)
+-- where a file's snippet starts
+abbrev pub snippet_start : LabelledFile → FileModel × ℕ
+snippet_start s = (s.file, locus_start s.labels)
 
--- the picture in its config's style
-abbrev pub picture : {Id : Type 0} → Config → (Id → Id → Bool) → (Id → FileModel) → Diagnostic Id → Stream
-picture config same file d = picture_in config.display_style config same file d
+-- where a label starts
+abbrev pub label_start : {Id : Type 0} → (Id → FileModel) → InFile Id → FileModel × ℕ
+label_start file x = (file x.id, x.label.start)
+
+module _ {Id : Type 0} (same : Id → Id → Bool) (file : Id → FileModel) (xs : List (InFile Id)) where
+  -- what has a locus: in rich style each file's snippet, in medium and short style each primary
+  -- label
+  abbrev pub starts : DisplayStyle → List (FileModel × ℕ)
+  starts Rich = map snippet_start (labelled_files same file xs)
+  starts Medium = map (label_start file) (primary_of xs)
+  starts Short = map (label_start file) (primary_of xs)
+
+-- the names of these loci are texts
+abbrev pub NamesAreTexts : List Locus → Type 0
+NamesAreTexts loci = AllByRecursion (λ (locus : Locus). IsUtf8 locus.name) loci
+
+module _ {Id : Type 0} (files : FileDatabase Id) (d : Diagnostic Id) (style : DisplayStyle) where
+  -- these are the loci of an output
+  abbrev pub AreLoci : List Locus → Type 0
+  AreLoci loci = AllZip IsLocus (starts files.same files.file (labels_of d) style) loci
+
+  -- those with the names that the files state
+  abbrev pub stated_loci : List Locus
+  stated_loci = map stated_locus (starts files.same files.file (labels_of d) style)
+
+-- ---- the output
+
+-- what the rows of an output share
+abbrev pub look_of : Config → Severity → ℕ → Look
+look_of config severity padding = record {
+  chars = config.chars;
+  tab_width = config.tab_width;
+  layout = config.layout;
+  severity = severity;
+  padding = padding;
+}
+
+-- what is rendered with these loci: the view's configuration chooses lines and padding, the
+-- renderer's the characters, the tab width and the layout
+abbrev pub rendered : DisplayStyle → Config → Config → Severity → Heading
+    → List Locus → List LabelledFile → List (List ℕ) → Stream
+rendered Rich renderer view severity heading loci ss notes =
+    stream_of_rows (look_of renderer severity (padding_of view ss))
+    (rich_rows view heading loci ss notes)
+rendered Medium renderer view severity heading loci ss notes =
+    stream_of_rows (look_of renderer severity 0) (header_rows heading loci ++ note_rows notes)
+rendered Short renderer view severity heading loci ss notes =
+    stream_of_rows (look_of renderer severity 0) (header_rows heading loci)
+
+module _ {Id : Type 0} (style : DisplayStyle) (renderer view : Config)
+    (files : FileDatabase Id) (d : Diagnostic Id) where
+  -- the output of a diagnostic with these loci
+  abbrev pub output : List Locus → Stream
+  output loci =
+      rendered style renderer view d.severity (heading_of d) loci (files_of files d) (notes_of d)
+
+  -- its picture: the output with the names that the files state
+  abbrev pub picture : Stream
+  picture = output (stated_loci files d style)
+
+-- headers with these loci alone
+abbrev pub headers_at : {Id : Type 0} → Config → Diagnostic Id → List Locus → Stream
+headers_at renderer d loci =
+    stream_of_rows (look_of renderer d.severity 0) (headers (heading_of d) loci)

@@ -1,4 +1,5 @@
--- The parts of rows as streams. Each word is shut: a chain of calls matches its parts from left to right.
+-- The parts of rows as streams. Each word is shut: a chain of calls matches its parts from left to
+-- right.
 use Rattle.std.specs.Prelude.{ℕ, ◌+◌, ◌-◌, Bool, true, ◌||◌, ◌&&◌, ◌==◌, nat_lt, nat_le, max, List, [], ◌∷◌, ◌++◌, filter, length, fold, flat_map, Option, Some, None, if◌then◌else◌, codes, decimal}
 use Rattle.std.specs.List.{list_any, range_with_len}
 use Rattle.codespan_base.specs.declared.diagnostic.Severity.{Severity}
@@ -7,13 +8,13 @@ use Rattle.codespan_base.specs.declared.diagnostic.LabelStyle.{LabelStyle}
 use Rattle.codespan_base.specs.declared.diagnostic.LabelStyle.TheVariants.{Primary, Secondary}
 use Rattle.codespan_base.specs.declared.term.config.chars.Chars.{Chars}
 use Rattle.codespan_base.specs.Streams.{Stream, LineNumber, SourceBorder, LabelMark, Reset, one_mark, glyph, bytes, blanks, space, repeated}
-use Rattle.codespan_base.specs.Labels.{Labelled, is_primary, is_primary_style, LaneMark, Part, Top, Left, Bottom}
+use Rattle.codespan_base.specs.Labels.{Labelled, is_primary, is_primary_style, LaneMark, MultiLabel, Top, Left, Bottom}
 use Rattle.codespan_picture.specs.declared.cells.Cell.{Cell}
 use Rattle.codespan_picture.specs.Cells.{cells, cells_to_end, width_of, leading_whitespace}
 use Rattle.codespan_picture.specs.Carets.{covers, style_under, caret_for, greatest_end}
 use Rattle.codespan_picture.specs.declared.lanes.Shape.{Shape}
 use Rattle.codespan_picture.specs.Lanes.{LaneRow, Source, Plain, Below, Underline, row_shape, row_crossing, mark_in, shape_of, style_of_mark, lane_cells, label_glyph}
-use Rattle.codespan_picture.specs.Rows.{Place, Look, Lanes, Line, hanging}
+use Rattle.codespan_picture.specs.Rows.{Locus, Look, Lanes, Line, hanging}
 
 -- ---- parts of rows
 
@@ -26,7 +27,7 @@ severity_name Note = codes "note"
 severity_name Help = codes "help"
 
 -- name, line and column
-unfoldable pub locus : Place → Stream
+unfoldable pub locus : Locus → Stream
 locus p =
     bytes p.name ++ bytes (codes ":") ++ bytes (decimal p.location.line_number) ++ bytes (codes ":")
     ++ bytes (decimal p.location.column_number)
@@ -38,7 +39,8 @@ gutter padding = blanks (padding + 1)
 -- a number, right in its places
 unfoldable pub numbered_gutter : ℕ → ℕ → Stream
 numbered_gutter padding n =
-    one_mark LineNumber ++ blanks (padding - length (decimal n)) ++ bytes (decimal n) ++ one_mark Reset ++ space
+    one_mark LineNumber ++ blanks (padding - length (decimal n)) ++ bytes (decimal n)
+    ++ one_mark Reset ++ space
 
 -- the bar left of the source
 unfoldable pub border : Chars → Stream
@@ -58,29 +60,34 @@ change severity (Some Secondary) (Some Secondary) = []
 change severity (Some _) (Some style) = one_mark (LabelMark severity style)
 
 -- each character as it is shown, in its style; `was` is the style before them
-abbrev pub styled : Severity → (Cell → Option LabelStyle) → (Cell → Stream) → Option LabelStyle → List Cell → Stream
+abbrev pub styled : Severity
+    → (Cell → Option LabelStyle) → (Cell → Stream) → Option LabelStyle → List Cell → Stream
 styled severity style shown was [] = change severity was None
 styled severity style shown was (c ∷ cs) =
     change severity was (style c) ++ shown c ++ styled severity style shown (style c) cs
 
 -- a label's message in its style
 unfoldable pub label_message : Severity → LabelStyle → Stream → Stream
-label_message severity style message = one_mark (LabelMark severity style) ++ message ++ one_mark Reset
+label_message severity style message =
+    one_mark (LabelMark severity style) ++ message ++ one_mark Reset
 
 -- ---- the lanes of a row
 
 -- one lane, from the mark in it
-unfoldable pub lane_of : Look → Option LaneMark → (Part → Shape) → Option LaneMark → Stream
-lane_of look crossing shape mark = lane_cells look.severity look.chars crossing (style_of_mark mark) (shape_of shape mark)
+unfoldable pub lane_of : Look → Option LaneMark → (MultiLabel → Shape) → Option LaneMark → Stream
+lane_of look crossing shape mark =
+    lane_cells look.severity look.chars crossing (style_of_mark mark) (shape_of shape mark)
 
 -- the lanes from left to right
-abbrev pub lanes_in : Look → (ℕ → Option LaneMark) → (ℕ → Part → Shape) → Lanes → Stream
+abbrev pub lanes_in : Look → (ℕ → Option LaneMark) → (ℕ → MultiLabel → Shape) → Lanes → Stream
 lanes_in look crossing shape lanes =
-    flat_map (λ lane. lane_of look (crossing lane) (shape lane) (mark_in lanes.marks lane)) (range_with_len 0 lanes.count)
+    flat_map (λ lane. lane_of look (crossing lane) (shape lane) (mark_in lanes.marks lane))
+    (range_with_len 0 lanes.count)
 
 -- the lanes of a kind of row
 abbrev pub row_lanes : Look → ℕ → LaneRow → Lanes → Stream
-row_lanes look leading row lanes = lanes_in look (row_crossing row) (row_shape look.layout leading row) lanes
+row_lanes look leading row lanes =
+    lanes_in look (row_crossing row) (row_shape look.layout leading row) lanes
 
 -- the lanes of a source row
 unfoldable pub source_lanes : Look → ℕ → Lanes → Stream
@@ -113,7 +120,7 @@ abbrev pub leading_of : Line → ℕ
 leading_of line = leading_whitespace line.text
 
 -- a multi-line label takes in the character on this line
-abbrev pub takes_in : Cell → Part → Bool
+abbrev pub takes_in : Cell → MultiLabel → Bool
 takes_in c (Top start) = nat_le start c.place
 takes_in c Left = true
 takes_in c (Bottom end message) = nat_le (c.place + c.bytes) end
@@ -131,7 +138,8 @@ source_glyph c = if c.code == 9 then blanks c.width else glyph c.code
 
 -- the text of a source row
 unfoldable pub coloured_text : Look → Line → Stream
-coloured_text look line = styled look.severity (source_style line) source_glyph None (line_cells look line)
+coloured_text look line =
+    styled look.severity (source_style line) source_glyph None (line_cells look line)
 
 -- one character's carets, or its blanks up to the greatest end
 unfoldable pub caret_glyphs : Chars → ℕ → Option LabelStyle → Cell → Stream
@@ -141,7 +149,8 @@ caret_glyphs chars end (Some style) c = repeated c.width (caret_for chars (Some 
 -- the carets under these characters
 unfoldable pub carets : Look → List Labelled → List Cell → Stream
 carets look labels cs =
-    styled look.severity (style_under labels) (λ c. caret_glyphs look.chars (greatest_end labels) (style_under labels c) c) None cs
+    styled look.severity (style_under labels)
+    (λ c. caret_glyphs look.chars (greatest_end labels) (style_under labels c) c) None cs
 
 -- after the carets one blank and the trailing message, if there is one
 unfoldable pub trailing_message : Severity → Option Labelled → Stream
@@ -164,13 +173,15 @@ blanks_up_to place c n = if nat_le c.place place then blanks n else []
 
 -- of the labels that start in a character a primary one goes first
 abbrev pub pointer_style : List Labelled → Cell → LabelStyle
-pointer_style labels c = if list_any (λ x. is_primary x && starts_in c x) labels then Primary else Secondary
+pointer_style labels c =
+    if list_any (λ x. is_primary x && starts_in c x) labels then Primary else Secondary
 
 -- one character's pointer or blanks
 unfoldable pub pointer_at : Look → List Labelled → List Labelled → Cell → Stream
 pointer_at look labels hanging c =
     if list_any (starts_in c) hanging then
-    label_glyph look.severity (pointer_style hanging c) look.chars.pointer_left ++ blanks_up_to (greatest_start labels) c (c.width - 1)
+    label_glyph look.severity (pointer_style hanging c) look.chars.pointer_left
+    ++ blanks_up_to (greatest_start labels) c (c.width - 1)
     else blanks_up_to (greatest_start labels) c c.width
 
 -- the pointers of these characters
@@ -202,10 +213,12 @@ unfoldable pub underline_message : Stream → Stream
 underline_message [] = []
 underline_message (p ∷ ps) = space ++ (p ∷ ps)
 
--- the line runs from the corner to the last character that begins at or before the start, or before the end
-unfoldable pub underline : Chars → LabelStyle → List Cell → Part → Stream
+-- the line runs from the corner to the last character that begins at or before the start, or before
+-- the end
+unfoldable pub underline : Chars → LabelStyle → List Cell → MultiLabel → Stream
 underline chars style cs (Top start) =
     repeated (width_of (cells_up_to start cs)) chars.multi_top ++ glyph (start_caret chars style)
 underline chars style cs Left = []
 underline chars style cs (Bottom end message) =
-    repeated (width_of (cells_before end cs)) chars.multi_bottom ++ glyph (end_caret chars style) ++ underline_message message
+    repeated (width_of (cells_before end cs)) chars.multi_bottom ++ glyph (end_caret chars style)
+    ++ underline_message message

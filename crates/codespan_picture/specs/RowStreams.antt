@@ -1,4 +1,5 @@
--- The stream of each row, and of many. Each word is shut: a chain of calls matches its parts from left to right.
+-- The stream of each row, and of many. Each word is shut: a chain of calls matches its parts from
+-- left to right.
 use Rattle.std.specs.Prelude.{ℕ, List, [], ◌∷◌, ◌++◌, flat_map, Option, Some, None, codes}
 use Rattle.codespan_base.specs.declared.diagnostic.Severity.{Severity}
 use Rattle.codespan_base.specs.declared.term.config.chars.Chars.{Chars}
@@ -6,7 +7,7 @@ use Rattle.codespan_base.specs.Streams.{Stream, Header, HeaderMessage, NoteBulle
 use Rattle.codespan_base.specs.Labels.{Labelled, LaneMark}
 use Rattle.codespan_base.specs.Characters.{start_text}
 use Rattle.codespan_picture.specs.Lanes.{label_glyph, filling, lane_cells}
-use Rattle.codespan_picture.specs.Rows.{Place, Heading, Look, Lanes, Line, Row, HeaderRow, StartRow, EmptyRow, BreakRow, SourceRow, CaretRow, PointerRow, HangingRow, UnderlineRow, FirstNoteRow, LaterNoteRow, BlankRow, trailing}
+use Rattle.codespan_picture.specs.Rows.{Locus, Heading, Look, Lanes, Line, Row, HeaderRow, StartRow, EmptyRow, BreakRow, SourceRow, CaretRow, PointerRow, HangingRow, UnderlineRow, FirstNoteRow, LaterNoteRow, BlankRow, trailing}
 use Rattle.codespan_picture.specs.RowParts.{severity_name, locus, gutter, numbered_gutter, border, break_border, change, label_message, lane_of, source_lanes, plain_lanes, below_lanes, underline_lanes, leading_of, line_cells, line_cells_to_end, source_glyph, coloured_text, caret_glyphs, carets, trailing_message, blanks_up_to, pointer_at, pointers, cells_before, underline_message, underline}
 
 -- ---- rows, before their newlines
@@ -18,20 +19,22 @@ bracketed (Some []) = []
 bracketed (Some (c ∷ cs)) = bytes (codes "[") ++ bytes (c ∷ cs) ++ bytes (codes "]")
 
 -- the locus before a header, where there is one
-unfoldable pub leading_locus : Option Place → Stream
+unfoldable pub leading_locus : Option Locus → Stream
 leading_locus None = []
 leading_locus (Some p) = locus p ++ bytes (codes ": ")
 
 -- the header: where it is, how bad it is, and what it says
-unfoldable pub header_row : Severity → Option Place → Heading → Stream
+unfoldable pub header_row : Severity → Option Locus → Heading → Stream
 header_row severity place heading =
-    leading_locus place ++ one_mark (Header severity) ++ bytes (severity_name severity) ++ bracketed heading.code
+    leading_locus place ++ one_mark (Header severity) ++ bytes (severity_name severity)
+    ++ bracketed heading.code
     ++ one_mark HeaderMessage ++ bytes (codes ": ") ++ bytes heading.message ++ one_mark Reset
 
 -- the start of a file's snippet
-unfoldable pub start_row : Chars → ℕ → Place → Stream
+unfoldable pub start_row : Chars → ℕ → Locus → Stream
 start_row chars padding place =
-    gutter padding ++ one_mark SourceBorder ++ bytes (start_text chars.snippet_start) ++ one_mark Reset ++ space ++ locus place
+    gutter padding ++ one_mark SourceBorder ++ bytes (start_text chars.snippet_start)
+    ++ one_mark Reset ++ space ++ locus place
 
 -- an empty row of a snippet
 unfoldable pub empty_row : Look → Lanes → Stream
@@ -44,17 +47,21 @@ break_row look lanes = gutter look.padding ++ break_border look.chars ++ plain_l
 -- a line of the source
 unfoldable pub source_row : Look → Line → Stream
 source_row look line =
-    numbered_gutter look.padding line.number ++ border look.chars ++ source_lanes look (leading_of line) line.lanes ++ space
+    numbered_gutter look.padding line.number ++ border look.chars
+    ++ source_lanes look (leading_of line) line.lanes ++ space
     ++ coloured_text look line
 
 -- the beginning of each row under a line
 unfoldable pub opening : Look → Line → Stream
-opening look line = gutter look.padding ++ border look.chars ++ below_lanes look (leading_of line) line.lanes ++ space
+opening look line =
+    gutter look.padding ++ border look.chars ++ below_lanes look (leading_of line) line.lanes
+    ++ space
 
 -- the carets under a line
 unfoldable pub caret_row : Look → Line → Stream
 caret_row look line =
-    opening look line ++ carets look line.labels (line_cells_to_end look line) ++ trailing_message look.severity (trailing line.labels)
+    opening look line ++ carets look line.labels (line_cells_to_end look line)
+    ++ trailing_message look.severity (trailing line.labels)
 
 -- the pointers under them
 unfoldable pub pointer_row : Look → Line → Stream
@@ -70,12 +77,14 @@ hanging_row look line x =
 unfoldable pub underline_row : Look → Line → LaneMark → Stream
 underline_row look line m =
     gutter look.padding ++ border look.chars ++ underline_lanes look (leading_of line) m line.lanes
-    ++ one_mark (LabelMark look.severity m.style) ++ underline look.chars m.style (line_cells look line) m.part ++ one_mark Reset
+    ++ one_mark (LabelMark look.severity m.style)
+    ++ underline look.chars m.style (line_cells look line) m.part ++ one_mark Reset
 
 -- the first row of a note
 unfoldable pub first_note_row : Chars → ℕ → List ℕ → Stream
 first_note_row chars padding piece =
-    gutter padding ++ one_mark NoteBullet ++ glyph chars.note_bullet ++ one_mark Reset ++ space ++ bytes piece
+    gutter padding ++ one_mark NoteBullet ++ glyph chars.note_bullet ++ one_mark Reset ++ space
+    ++ bytes piece
 
 -- a later row of a note
 unfoldable pub later_note_row : ℕ → List ℕ → Stream
@@ -88,7 +97,8 @@ later_notes padding pieces = flat_map (λ piece. later_note_row padding piece ++
 -- the rows of a note of these pieces
 abbrev pub note_stream : Chars → ℕ → List (List ℕ) → Stream
 note_stream chars padding [] = []
-note_stream chars padding (p ∷ ps) = first_note_row chars padding p ++ newline ++ later_notes padding ps
+note_stream chars padding (p ∷ ps) =
+    first_note_row chars padding p ++ newline ++ later_notes padding ps
 
 -- the stream of a row
 abbrev pub stream_of : Look → Row → Stream
@@ -111,5 +121,10 @@ stream_of_rows look rows = flat_map (λ row. stream_of look row ++ newline) rows
 
 -- opens all words of rows at once, as `unfolding row_words`
 unfoldable pub row_words : Unit {0}
-unfolding bytes one_mark blanks repeated label_glyph filling lane_cells locus gutter numbered_gutter border break_border change label_message lane_of source_lanes plain_lanes below_lanes underline_lanes source_glyph coloured_text caret_glyphs carets trailing_message blanks_up_to pointer_at pointers underline_message underline bracketed leading_locus header_row start_row empty_row break_row source_row opening caret_row pointer_row hanging_row underline_row first_note_row later_note_row
+unfolding bytes one_mark blanks repeated label_glyph filling lane_cells locus gutter
+    numbered_gutter border break_border change label_message lane_of source_lanes plain_lanes
+    below_lanes underline_lanes source_glyph coloured_text caret_glyphs carets trailing_message
+    blanks_up_to pointer_at pointers underline_message underline bracketed leading_locus
+    header_row start_row empty_row break_row source_row opening caret_row pointer_row
+    hanging_row underline_row first_note_row later_note_row
 row_words = tt

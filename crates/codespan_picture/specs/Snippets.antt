@@ -1,12 +1,12 @@
--- The rows of a picture: of each line, of each file, and of all.
+-- The rows of an output: of each line, of each file, and of all, with the loci in them.
 use Rattle.std.specs.Prelude.{ℕ, ◌+◌, Bool, true, false, ◌==◌, min, List, [], ◌∷◌, ◌++◌, map, filter, fold, flat_map, Option, Some, None, if◌then◌else◌, length}
 use Rattle.std.specs.Str.Lines.{lines}
 use Rattle.codespan_base.specs.declared.term.config.Config.{Config}
-use Rattle.codespan_base.specs.FileModel.{FileModel, line_text, name_text}
+use Rattle.codespan_base.specs.FileModel.{FileModel, line_text}
 use Rattle.codespan_base.specs.Labels.{Labelled, is_primary, first_seen, multi_labels, single_labels, marks_on}
 use Rattle.codespan_picture.specs.Cells.{drawn_text}
 use Rattle.codespan_picture.specs.Lines.{drawn_lines, is_broken}
-use Rattle.codespan_picture.specs.Rows.{Place, Heading, Lanes, Line, Row, HeaderRow, StartRow, EmptyRow, BreakRow, FirstNoteRow, LaterNoteRow, BlankRow, rows_of}
+use Rattle.codespan_picture.specs.Rows.{Locus, Heading, Lanes, Line, Row, HeaderRow, StartRow, EmptyRow, BreakRow, FirstNoteRow, LaterNoteRow, BlankRow, rows_of}
 
 -- a file with its labels, in the order given
 pub record LabelledFile : Type 0 where
@@ -19,7 +19,8 @@ pub record InFile (Id : Type 0) : Type 0 where
   pub label : Labelled
 
 -- the labels of one file
-abbrev pub labelled_file : {Id : Type 0} → (Id → Id → Bool) → (Id → FileModel) → List (InFile Id) → Id → LabelledFile
+abbrev pub labelled_file : {Id : Type 0}
+    → (Id → Id → Bool) → (Id → FileModel) → List (InFile Id) → Id → LabelledFile
 labelled_file {Id} same file labels id = record {
   file = file id;
   labels = map (λ (x : InFile Id). x.label) (filter (λ (x : InFile Id). same id x.id) labels);
@@ -30,7 +31,8 @@ abbrev pub file_ids : {Id : Type 0} → (Id → Id → Bool) → List (InFile Id
 file_ids {Id} same labels = first_seen same (map (λ (x : InFile Id). x.id) labels)
 
 -- the files in that order
-abbrev pub labelled_files : {Id : Type 0} → (Id → Id → Bool) → (Id → FileModel) → List (InFile Id) → List LabelledFile
+abbrev pub labelled_files : {Id : Type 0}
+    → (Id → Id → Bool) → (Id → FileModel) → List (InFile Id) → List LabelledFile
 labelled_files same file labels = map (labelled_file same file labels) (file_ids same labels)
 
 -- ---- the rows of one file
@@ -64,11 +66,13 @@ rows_after s was (l ∷ ls) = break_rows s was l ++ rows_of (line_at s l) ++ row
 
 -- ---- the same, from the shown lines alone
 
--- between two shown lines that follow each other stands nothing, the one line between them, or a break
+-- between two shown lines that follow each other stands nothing, the one line between them, or a
+-- break
 abbrev pub between : (ℕ → Line) → Option ℕ → ℕ → List Row
 between line None d = []
 between line (Some c) d =
-    if d == c + 2 then rows_of (line (c + 1)) else if is_broken c d then BreakRow (line d).lanes ∷ [] else []
+    if d == c + 2 then rows_of (line (c + 1))
+    else if is_broken c d then BreakRow (line d).lanes ∷ [] else []
 
 -- the drawing of an ascending list of lines
 abbrev pub drawing : (ℕ → Line) → Option ℕ → List ℕ → List Row
@@ -89,20 +93,14 @@ if_any (x ∷ xs) others = x ∷ xs
 
 -- the least start of a primary label, or of any label where none is primary
 abbrev pub locus_start : List Labelled → ℕ
-locus_start labels = least (map (λ (x : Labelled). x.start) (if_any (filter is_primary labels) labels))
+locus_start labels =
+    least (map (λ (x : Labelled). x.start) (if_any (filter is_primary labels) labels))
 
--- where a file's snippet starts
-abbrev pub place_of : LabelledFile → Place
-place_of s = record { name = name_text s.file; location = s.file.location (locus_start s.labels) }
-
--- the rows of a file's snippet that starts with this place
-abbrev pub snippet_at : Config → Place → LabelledFile → List Row
-snippet_at config place s =
-    (StartRow place ∷ EmptyRow (bare_lanes s) ∷ []) ++ rows_after s None (drawn_lines config s.file s.labels)
-
--- the rows of a file's snippet
-abbrev pub snippet : Config → LabelledFile → List Row
-snippet config s = snippet_at config (place_of s) s
+-- the rows of a file's snippet, which starts with this locus
+abbrev pub snippet : Config → Locus → LabelledFile → List Row
+snippet config locus s =
+    (StartRow locus ∷ EmptyRow (bare_lanes s) ∷ [])
+    ++ rows_after s None (drawn_lines config s.file s.labels)
 
 -- the row after a file's snippet, where something follows
 abbrev pub row_after : Bool → LabelledFile → List Row
@@ -120,10 +118,13 @@ abbrev pub is_followed : {A : Type 0} → Bool → List A → Bool
 is_followed has_notes [] = has_notes
 is_followed has_notes (s ∷ ss) = true
 
--- an empty row stands after each file, but after the last only where notes follow
-abbrev pub snippets : Config → List (List ℕ) → List LabelledFile → List Row
-snippets config notes [] = []
-snippets config notes (s ∷ ss) = snippet config s ++ row_after (is_followed (has_any notes) ss) s ++ snippets config notes ss
+-- the snippets of files with these loci; an empty row stands after each, but after the last only
+-- where notes follow
+abbrev pub snippets : Config → Bool → List Locus → List LabelledFile → List Row
+snippets config has_notes [] ss = []
+snippets config has_notes (p ∷ ps) [] = []
+snippets config has_notes (p ∷ ps) (s ∷ ss) =
+    snippet config p s ++ row_after (is_followed has_notes ss) s ++ snippets config has_notes ps ss
 
 -- the rows of a note's pieces
 abbrev pub piece_rows : List (List ℕ) → List Row
@@ -134,10 +135,11 @@ piece_rows (p ∷ ps) = FirstNoteRow p ∷ map LaterNoteRow ps
 abbrev pub note_rows : List (List ℕ) → List Row
 note_rows notes = flat_map (λ note. piece_rows (lines note)) notes
 
--- the rows of a rich picture
-abbrev pub rich_rows : Config → Heading → List LabelledFile → List (List ℕ) → List Row
-rich_rows config heading ss notes =
-    (HeaderRow None heading ∷ snippets config notes ss) ++ note_rows notes ++ (BlankRow ∷ [])
+-- the rows of rich style, where the files' snippets have these loci
+abbrev pub rich_rows : Config → Heading → List Locus → List LabelledFile → List (List ℕ) → List Row
+rich_rows config heading loci ss notes =
+    (HeaderRow None heading ∷ snippets config (has_any notes) loci ss)
+    ++ note_rows notes ++ (BlankRow ∷ [])
 
 -- ---- short and medium style
 
@@ -145,20 +147,11 @@ rich_rows config heading ss notes =
 abbrev pub primary_of : {Id : Type 0} → List (InFile Id) → List (InFile Id)
 primary_of {Id} xs = filter (λ (x : InFile Id). is_primary x.label) xs
 
--- a header with the place of a label's start
-abbrev pub header_at : {Id : Type 0} → (Id → FileModel) → Heading → InFile Id → Row
-header_at file heading x =
-    HeaderRow (Some (record { name = name_text (file x.id); location = (file x.id).location x.label.start })) heading
+-- headers with these loci
+abbrev pub headers : Heading → List Locus → List Row
+headers heading loci = map (λ (locus : Locus). HeaderRow (Some locus) heading) loci
 
--- a header for each of these labels, or one where there is none
-abbrev pub header_rows_of : {Id : Type 0} → (Id → FileModel) → Heading → List (InFile Id) → List Row
-header_rows_of file heading [] = HeaderRow None heading ∷ []
-header_rows_of file heading (x ∷ xs) = map (header_at file heading) (x ∷ xs)
-
--- a header for each primary label
-abbrev pub short_rows : {Id : Type 0} → (Id → FileModel) → Heading → List (InFile Id) → List Row
-short_rows file heading labels = header_rows_of file heading (primary_of labels)
-
--- a header for each primary label, and then the notes
-abbrev pub medium_rows : {Id : Type 0} → (Id → FileModel) → Heading → List (InFile Id) → List (List ℕ) → List Row
-medium_rows file heading labels notes = short_rows file heading labels ++ note_rows notes
+-- a header with each of these loci, or one without a locus where there is none
+abbrev pub header_rows : Heading → List Locus → List Row
+header_rows heading [] = HeaderRow None heading ∷ []
+header_rows heading (p ∷ ps) = headers heading (p ∷ ps)

@@ -4,8 +4,9 @@ use codespan_base::diagnostic::LabelStyle;
 use codespan_base::files::Location;
 use std::ops::Range;
 
-/// Where a snippet is: the name of its file, and a location there. In a picture it is that of the least byte at which a primary
-/// label of the file starts, or any label of it where none is primary.
+/// Where a snippet is: the name of its file, and a location there. In a picture it is that of the
+/// least byte at which a primary label of the file starts, or any label of it where none is
+/// primary.
 #[derive(Debug, Drop)]
 pub struct Locus {
     /// The name of the file, as users see it.

@@ -1,5 +1,5 @@
 -- The carets under a line, run by run.
-use Rattle.std.proofs.Common.{◌≡◌, ℕ, ◌+◌, ◌≤◌, Bool, true, false, List, [], ◌∷◌, ◌++◌, Option, None, Some, refl, sym, ap, ◌∙◌, append_assoc, append-nil, add-zero, arith, le-ltb}
+use Rattle.std.proofs.Common.{◌≡◌, ℕ, ◌+◌, ◌<◌, ◌≤◌, Bool, true, false, List, [], ◌∷◌, ◌++◌, Option, None, Some, refl, sym, ap, ◌∙◌, append_assoc, append-nil, add-zero, arith, le-ltb, lt-ltb}
 use Rattle.std.specs.Prelude.{nat_lt, if◌then◌else◌}
 use Rattle.codespan_base.specs.declared.diagnostic.Severity.{Severity}
 use Rattle.codespan_base.specs.declared.diagnostic.LabelStyle.{LabelStyle}
@@ -13,7 +13,7 @@ use Rattle.codespan_picture.specs.RowParts.{change, styled, caret_glyphs, carets
 use Rattle.codespan_renderer.specs.Inner.Runs.{caret_run}
 use Rattle.codespan_picture.proofs.CaretEnds.{style_under-below}
 use Rattle.codespan_renderer.proofs.RowWords.{blanks-add, repeated-add, change-same, regroup}
-use Rattle.codespan_renderer.proofs.Sweeping.{Follow}
+use Rattle.codespan_renderer.specs.Inner.CursorStates.{Follow}
 
 -- the carets of the cells that are left
 abbrev glyphs_left : Look → List Labelled → Option LabelStyle → List Cell → Stream
@@ -133,3 +133,8 @@ pub carets-past : (look : Look) (labels : List Labelled) (was : Option LabelStyl
     → caret_run look.chars was run ++ change look.severity was None ≡ carets_left look labels was run left
 carets-past look labels was run place left follow past =
     ap (λ (l : Stream). caret_run look.chars was run ++ l) (sym (glyphs_left-past look labels was place left follow past))
+
+-- a cell before that has all its cells counted
+pub counts-all : (style : Option LabelStyle) (end : ℕ) (c : Cell) → c.place < end → c.width ≡ caret_count end style c
+counts-all None end c h = let low : nat_lt c.place end ≡ true = lt-ltb c.place end h in rw low refl
+counts-all (Some style) end c h = refl

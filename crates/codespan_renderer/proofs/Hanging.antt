@@ -1,8 +1,9 @@
 -- Which message trails, which hang, and the pointers from which they hang.
-use Rattle.std.proofs.Common.{◌≡◌, ℕ, zero, suc, ◌+◌, ◌-◌, ◌<◌, ◌≤◌, Bool, true, false, cond, ◌==◌, ◌&&◌, ◌||◌, nat_lt, nat_le, List, [], ◌∷◌, ◌++◌, length, get_or, take, drop, map, filter, fold, reverse, Option, Some, None, refl, sym, ap, ◌∙◌, arith, drop-cons, add-one, append_assoc, append-nil, ◌⊎◌, ⊎_elim}
+use Rattle.std.proofs.Common.{◌≡◌, ℕ, zero, suc, ◌+◌, ◌-◌, ◌<◌, ◌≤◌, Bool, true, false, cond, ◌==◌, ◌&&◌, ◌||◌, nat_lt, nat_le, List, [], ◌∷◌, ◌++◌, length, get_or, take, drop, map, filter, fold, reverse, Option, Some, None, refl, sym, ap, subst, ◌∙◌, arith, drop-cons, length-drop, add-one, append_assoc, append-nil, ◌⊎◌, ⊎_elim}
+use Rattle.std.proofs.Math.Seq.{take-length}
 use Rattle.std.specs.Prelude.{not, if◌then◌else◌}
-use Rattle.std.specs.List.{list_any, push}
-use Rattle.std.specs.Option.{option_map_or}
+use Rattle.std.specs.List.{list_any, push, enumerate_from, last_or, remove, take-map, drop-map}
+use Rattle.std.specs.Option.{option_map, option_map_or}
 use Rattle.std.proofs.lemmas.Bool.{eq-eqb, ne_eqb, le-leb, lt-leb, lt-ltb}
 use Rattle.std.proofs.lemmas.Option.{slice_get-get_or}
 use Rattle.std.proofs.lemmas.List.{map-append, reverse-append}
@@ -16,14 +17,13 @@ use Rattle.codespan_base.specs.Labels.{Labelled, has_message, is_blank, is_prima
 use Rattle.codespan_base.specs.Streams.{Stream, bytes, blanks, newline}
 use Rattle.codespan_picture.specs.declared.cells.Cell.{Cell}
 use Rattle.codespan_picture.specs.Carets.{greatest_end}
-use Rattle.codespan_picture.specs.Given.{GivenLabel, labelled, all_labelled}
+use Rattle.codespan_picture.specs.Given.{GivenLabel, single_label_view, single_label_views}
 use Rattle.codespan_picture.specs.Lanes.{label_glyph}
-use Rattle.codespan_picture.specs.Rows.{Look, Line, Around, HangingRow, last_with_end, is_overlapped, does_trail, rightmost, hanging, hanging_rows}
+use Rattle.codespan_picture.specs.Rows.{Look, Line, HangingRow, last_with_end, is_overlapped, does_trail, rightmost, trailing_entry, trailing, hanging, hanging_rows}
 use Rattle.codespan_picture.specs.RowParts.{starts_in, pointer_style, greatest_start, blanks_up_to, pointer_at, pointers, cells_before}
 use Rattle.codespan_picture.specs.RowStreams.{pointer_row, hanging_row, stream_of, stream_of_rows}
-use Rattle.codespan_renderer.specs.Inner.Runs.{better, best_from, pointer_found, around_given, AreHanging, hanging_stream}
+use Rattle.codespan_renderer.specs.Inner.Runs.{better, best_from, pointer_found, entry_given, AreHanging, hanging_stream}
 use Rattle.codespan_renderer.proofs.Best.{best-cons, best-primary}
-use Rattle.codespan_picture.proofs.Rightmost.{some_rightmost}
 use Rattle.codespan_renderer.proofs.RowWords.{blanks-add}
 
 -- a text is empty as a stream where it is empty
@@ -34,43 +34,163 @@ blank_is (b ∷ bs) = sym (ne_eqb (length (b ∷ bs)) 0 (λ e. omega arith))
 
 -- one of the labels from here on has a message where this one or a later one has
 pub any_from : (xs : List GivenLabel) (i : ℕ) (d : GivenLabel) (empty : Bool) → i < length xs → empty ≡ (length (get_or xs i d).2.now == 0)
-    → list_any has_message (all_labelled (drop i xs)) ≡ (not empty || list_any has_message (all_labelled (drop (i + 1) xs)))
+    → list_any has_message (single_label_views (drop i xs)) ≡ (not empty || list_any has_message (single_label_views (drop (i + 1) xs)))
 any_from xs i d empty h e = rw (drop-cons xs i d h, e, blank_is, add-one) refl
 
 -- ---- the label whose message trails
 
--- the label at this place is the last one with the end
-pub last_here : (end : ℕ) (xs : List GivenLabel) (k later : ℕ) (d : GivenLabel) → k < length xs → later ≡ k + 1 → (get_or xs k d).1.end ≡ end
-    → last_with_end end (all_labelled (drop later xs)) ≡ None → last_with_end end (all_labelled xs) ≡ around_given xs (Some k)
-last_here end [] k later d h s e n = absurd (omega arith)
-last_here end (x ∷ xs) k zero d h s e n = absurd (omega arith)
-last_here end (x ∷ xs) zero (suc later) d h s e n =
-    let none : later ≡ 0 = omega arith in
-    let rest : last_with_end end (all_labelled xs) ≡ None = rw none at n in
-    rw (rest, eq-eqb x.1.end end e) refl
-last_here end (x ∷ xs) (suc k) (suc later) d h s e n =
-    let more = last_here end xs k later d (omega arith) (omega arith) e n in
-    let here = slice_get-get_or xs k d (omega arith) in
-    rw (more, here) (simp add-one)
+-- none of the labels ends there
+abbrev pub NoneEnds : ℕ → List GivenLabel → Type 0
+NoneEnds end xs = list_any (λ (x : Labelled). x.end == end) (single_label_views xs) ≡ false
 
--- what is tested of the label at a place
+-- where none ends there, none is the last one
+last_none : (end : ℕ) (xs : List GivenLabel) (n : ℕ) (o : Option (ℕ × Labelled)) → NoneEnds end xs
+    → last_or o (filter (λ (e : ℕ × Labelled). e.1.end == end) (enumerate_from n (single_label_views xs))) ≡ o
+last_none end [] n o none = refl
+last_none end (x ∷ xs) n o none = by_test (last_none end xs (n + 1) o) (x.1.end == end) refl none
+  where
+    later : List (ℕ × Labelled)
+    later = filter (λ (e : ℕ × Labelled). e.1.end == end) (enumerate_from (n + 1) (single_label_views xs))
+
+    by_test : (NoneEnds end xs → last_or o later ≡ o) → (b : Bool) → (x.1.end == end) ≡ b
+        → (b || list_any (λ (y : Labelled). y.end == end) (single_label_views xs)) ≡ false
+        → last_or o (cond b ((n, single_label_view x) ∷ later) later) ≡ o
+    by_test again true is k = cc
+    by_test again false is k = again k
+
+-- none of the labels ends there, and none is the last one
+pub none_ends : (end : ℕ) (xs : List GivenLabel) (from : ℕ) → from ≡ 0 → NoneEnds end (drop from xs) → last_with_end end (single_label_views xs) ≡ None
+none_ends end xs from first none = last_none end xs 0 None (subst (λ n. NoneEnds end (drop n xs)) first none)
+
+-- the label at this index is the last one with the end, counted from `n`
+last_at : (end : ℕ) (xs : List GivenLabel) (k n : ℕ) (o : Option (ℕ × Labelled)) (d : GivenLabel) → k < length xs
+    → (get_or xs k d).1.end ≡ end → NoneEnds end (drop (suc k) xs)
+    → last_or o (filter (λ (e : ℕ × Labelled). e.1.end == end) (enumerate_from n (single_label_views xs)))
+    ≡ Some (n + k, single_label_view (get_or xs k d))
+last_at end [] k n o d h e none = absurd (omega arith)
+last_at end (x ∷ xs) zero n o d h e none =
+    let s : n ≡ n + 0 = omega arith in
+    rw (eq-eqb x.1.end end e)
+    (last_none end xs (n + 1) (Some (n, single_label_view x)) none ∙ ap (λ j. Some (j, single_label_view x)) s)
+last_at end (x ∷ xs) (suc k) n o d h e none =
+    by_test (λ p. last_at end xs k (n + 1) p d (omega arith) e none ∙ ap (λ j. Some (j, single_label_view (get_or xs k d))) s) (x.1.end == end)
+  where
+    later : List (ℕ × Labelled)
+    later = filter (λ (e : ℕ × Labelled). e.1.end == end) (enumerate_from (n + 1) (single_label_views xs))
+
+    s : n + 1 + k ≡ n + suc k
+    s = omega arith
+
+    by_test : ((p : Option (ℕ × Labelled)) → last_or p later ≡ Some (n + suc k, single_label_view (get_or xs k d)))
+        → (b : Bool) → last_or o (cond b ((n, single_label_view x) ∷ later) later)
+        ≡ Some (n + suc k, single_label_view (get_or xs k d))
+    by_test again true = again (Some (n, single_label_view x))
+    by_test again false = again o
+
+-- an entry of the list
+entry_is : (xs : List GivenLabel) (k : ℕ) (d : GivenLabel) → k < length xs
+    → entry_given xs (Some k) ≡ Some (k, single_label_view (get_or xs k d))
+entry_is xs k d h = ap (option_map (λ x. (k, single_label_view x))) (slice_get-get_or xs k d h)
+
+-- the label at this index is the last one with the end
+pub last_here : (end : ℕ) (xs : List GivenLabel) (k later : ℕ) (d : GivenLabel) → k < length xs → later ≡ k + 1
+    → (get_or xs k d).1.end ≡ end → NoneEnds end (drop later xs)
+    → last_with_end end (single_label_views xs) ≡ entry_given xs (Some k)
+last_here end xs k later d h s e none =
+    let next : later ≡ suc k = omega (arith, s) in
+    let all : 0 + k ≡ k = omega arith in
+    last_at end xs k 0 None d h e (subst (λ n. NoneEnds end (drop n xs)) next none)
+    ∙ ap (λ j. Some (j, single_label_view (get_or xs k d))) all
+    ∙ sym (entry_is xs k d h)
+
+-- the list without the label at an index
+without_at : (xs : List GivenLabel) (k : ℕ)
+    → remove (single_label_views xs) k ≡ single_label_views (take k xs) ++ single_label_views (drop (k + 1) xs)
+without_at xs k =
+    ap (λ ys. ys ++ drop (suc k) (single_label_views xs)) (take-map single_label_view k xs)
+    ∙ ap (λ ys. single_label_views (take k xs) ++ ys) (drop-map single_label_view (suc k) xs)
+    ∙ ap (λ n. single_label_views (take k xs) ++ single_label_views (drop n xs)) (sym (add-one k))
+
+-- what is tested of the label at an index
 pub trails_at : (xs : List GivenLabel) (k : ℕ) (d : GivenLabel) (empty : Bool) → k < length xs → empty ≡ (length (get_or xs k d).2.now == 0)
-    → option_map_or does_trail (around_given xs (Some k)) false
-    ≡ (not empty && not (is_overlapped (labelled (get_or xs k d)) (all_labelled (take k xs)) || is_overlapped (labelled (get_or xs k d)) (all_labelled (drop (k + 1) xs))))
-trails_at xs k d empty h e = rw (slice_get-get_or xs k d h, e, blank_is, list_any-append) refl
+    → option_map_or (does_trail (single_label_views xs)) (entry_given xs (Some k)) false
+    ≡ (not empty && not (is_overlapped (single_label_view (get_or xs k d)) (single_label_views (take k xs)) || is_overlapped (single_label_view (get_or xs k d)) (single_label_views (drop (k + 1) xs))))
+trails_at xs k d empty h e = rw (entry_is xs k d h, without_at xs k, e, blank_is, list_any-append) refl
+
+-- ---- where one trails
+
+-- the rightmost label trails
+trails_by : (xs : List Labelled) (e : ℕ × Labelled) → rightmost xs ≡ Some e → does_trail xs e ≡ true → trailing_entry xs ≡ Some e
+trails_by xs e is h = rw (is, h) refl
+
+-- the label at an index trails
+entry_trails : (xs : List GivenLabel) (k end : ℕ) (d : GivenLabel) → k < length xs → end ≡ greatest_end (single_label_views xs)
+    → last_with_end end (single_label_views xs) ≡ entry_given xs (Some k)
+    → option_map_or (does_trail (single_label_views xs)) (entry_given xs (Some k)) false ≡ true
+    → trailing_entry (single_label_views xs) ≡ Some (k, single_label_view (get_or xs k d))
+entry_trails xs k end d h greatest last holds =
+    let here = entry_is xs k d h in
+    trails_by (single_label_views xs) (k, single_label_view (get_or xs k d))
+    (ap (λ e. last_with_end e (single_label_views xs)) (sym greatest) ∙ last ∙ here)
+    (ap (λ (o : Option (ℕ × Labelled)). option_map_or (does_trail (single_label_views xs)) o false) (sym here) ∙ holds)
+
+-- its message trails
+pub trailing_here : (xs : List GivenLabel) (k end : ℕ) (d : GivenLabel) → k < length xs → end ≡ greatest_end (single_label_views xs)
+    → last_with_end end (single_label_views xs) ≡ entry_given xs (Some k)
+    → option_map_or (does_trail (single_label_views xs)) (entry_given xs (Some k)) false ≡ true
+    → Some (single_label_view (get_or xs k d)) ≡ trailing (single_label_views xs)
+trailing_here xs k end d h greatest last holds =
+    ap (option_map (λ (e : ℕ × Labelled). e.1)) (sym (entry_trails xs k end d h greatest last holds))
+
+-- all that stands from an index on
+all_after : (n : ℕ) (xs : List GivenLabel) → take (length xs - n) (drop n xs) ≡ drop n xs
+all_after n xs = ap (λ k. take k (drop n xs)) (sym (length-drop n xs)) ∙ take-length (drop n xs)
+
+-- all labels around it may hang
+hanging_at : (xs : List GivenLabel) (k end : ℕ) (d : GivenLabel) → k < length xs → end ≡ greatest_end (single_label_views xs)
+    → last_with_end end (single_label_views xs) ≡ entry_given xs (Some k)
+    → option_map_or (does_trail (single_label_views xs)) (entry_given xs (Some k)) false ≡ true
+    → AreHanging xs (take k xs) (take (length xs - (k + 1)) (drop (k + 1) xs))
+hanging_at xs k end d h greatest last holds = subst (AreHanging xs (take k xs)) (sym (all_after (k + 1) xs)) (record {
+  are = ap (filter has_message) (map-append single_label_view (take k xs) (drop (k + 1) xs) ∙ sym (without_at xs k))
+      ∙ ap (λ (o : Option (ℕ × Labelled)). filter has_message (option_map_or (λ e. remove (single_label_views xs) e.0) o (single_label_views xs)))
+      (sym (entry_trails xs k end d h greatest last holds));
+})
+
+pub hanging_here : (xs : List GivenLabel) (k end : ℕ) → k < length xs → end ≡ greatest_end (single_label_views xs)
+    → last_with_end end (single_label_views xs) ≡ entry_given xs (Some k)
+    → option_map_or (does_trail (single_label_views xs)) (entry_given xs (Some k)) false ≡ true
+    → AreHanging xs (take k xs) (take (length xs - (k + 1)) (drop (k + 1) xs))
+hanging_here [] k end h greatest last holds = absurd (omega arith)
+hanging_here (x ∷ xs) k end h greatest last holds = hanging_at (x ∷ xs) k end x h greatest last holds
 
 -- ---- where none trails
 
--- all labels may hang where the rightmost one does not trail
-none_by : (xs : List GivenLabel) (a : Option Around) → rightmost (all_labelled xs) ≡ a → option_map_or does_trail a false ≡ false → AreHanging xs xs []
-none_by [] None is h = record { are = refl }
-none_by (x ∷ xs) None is h = absurd (some_rightmost (labelled x) (all_labelled xs) is)
-none_by xs (Some a) is h = record { are = rw (append-nil, is, h) refl }
+-- no label trails where the rightmost one does not
+none_by : (xs : List Labelled) (o : Option (ℕ × Labelled)) → rightmost xs ≡ o → option_map_or (does_trail xs) o false ≡ false
+    → trailing_entry xs ≡ None
+none_by xs None is h = rw is refl
+none_by xs (Some e) is h = rw (is, h) refl
+
+-- no message trails
+no_entry : (xs : List GivenLabel) (r : Option ℕ) (end : ℕ) → end ≡ greatest_end (single_label_views xs)
+    → last_with_end end (single_label_views xs) ≡ entry_given xs r
+    → option_map_or (does_trail (single_label_views xs)) (entry_given xs r) false ≡ false → trailing_entry (single_label_views xs) ≡ None
+no_entry xs r end greatest last h =
+    none_by (single_label_views xs) (entry_given xs r) (ap (λ e. last_with_end e (single_label_views xs)) (sym greatest) ∙ last) h
+
+pub nothing_trails : (xs : List GivenLabel) (r : Option ℕ) (end : ℕ) → end ≡ greatest_end (single_label_views xs)
+    → last_with_end end (single_label_views xs) ≡ entry_given xs r
+    → option_map_or (does_trail (single_label_views xs)) (entry_given xs r) false ≡ false → None ≡ trailing (single_label_views xs)
+nothing_trails xs r end greatest last h =
+    ap (option_map (λ (e : ℕ × Labelled). e.1)) (sym (no_entry xs r end greatest last h))
 
 -- no message trails, and all labels may hang
-pub none_trails : (xs : List GivenLabel) (r : Option ℕ) (end : ℕ) → end ≡ greatest_end (all_labelled xs) → last_with_end end (all_labelled xs) ≡ around_given xs r
-    → option_map_or does_trail (around_given xs r) false ≡ false → AreHanging xs xs []
-none_trails xs r end greatest last h = none_by xs (around_given xs r) (ap (λ e. last_with_end e (all_labelled xs)) (sym greatest) ∙ last) h
+pub none_trails : (xs : List GivenLabel) (r : Option ℕ) (end : ℕ) → end ≡ greatest_end (single_label_views xs)
+    → last_with_end end (single_label_views xs) ≡ entry_given xs r
+    → option_map_or (does_trail (single_label_views xs)) (entry_given xs r) false ≡ false → AreHanging xs xs []
+none_trails xs r end greatest last h =
+    let none = no_entry xs r end greatest last h in record { are = rw (append-nil, none) refl }
 
 -- ---- the style of a pointer
 
@@ -108,30 +228,30 @@ best_is c (x ∷ xs) = best-cons (starts_in c) None x xs ∙ by_style (best_is c
 
 -- the labels that hang are those with a message of the one list and then of the other
 hanging_parts : (labels before after : List GivenLabel) → AreHanging labels before after
-    → filter has_message (all_labelled before) ++ filter has_message (all_labelled after) ≡ hanging (all_labelled labels)
+    → filter has_message (single_label_views before) ++ filter has_message (single_label_views after) ≡ hanging (single_label_views labels)
 hanging_parts labels before after h =
-    sym (filter-append has_message (all_labelled before) (all_labelled after)) ∙ ap (filter has_message) (sym (map-append labelled before after)) ∙ h.are
+    sym (filter-append has_message (single_label_views before) (single_label_views after)) ∙ ap (filter has_message) (sym (map-append single_label_view before after)) ∙ h.are
 
 -- the labels of the one list and then of the other give the style of a pointer
 pub pointer_is : (labels before after : List GivenLabel) (c : Cell) → AreHanging labels before after
-    → best_from (starts_in c) (best_from (starts_in c) None (filter has_message (all_labelled before))) (filter has_message (all_labelled after))
-    ≡ pointer_found (hanging (all_labelled labels)) c
+    → best_from (starts_in c) (best_from (starts_in c) None (filter has_message (single_label_views before))) (filter has_message (single_label_views after))
+    ≡ pointer_found (hanging (single_label_views labels)) c
 pointer_is labels before after c h =
-    sym (best_append (starts_in c) None (filter has_message (all_labelled before)) (filter has_message (all_labelled after)))
+    sym (best_append (starts_in c) None (filter has_message (single_label_views before)) (filter has_message (single_label_views after)))
     ∙ ap (best_from (starts_in c) None) (hanging_parts labels before after h)
-    ∙ best_is c (hanging (all_labelled labels))
+    ∙ best_is c (hanging (single_label_views labels))
 
 -- a step over the label at a place
 pub best_step : (c : Cell) (found best : Option LabelStyle) (xs : List GivenLabel) (i : ℕ) (d : GivenLabel) (empty : Bool) → i < length xs
     → empty ≡ (length (get_or xs i d).2.now == 0)
-    → best ≡ (if not empty then (if starts_in c (labelled (get_or xs i d)) then better found (get_or xs i d).0 else found) else found)
-    → best_from (starts_in c) best (filter has_message (all_labelled (drop (i + 1) xs))) ≡ best_from (starts_in c) found (filter has_message (all_labelled (drop i xs)))
+    → best ≡ (if not empty then (if starts_in c (single_label_view (get_or xs i d)) then better found (get_or xs i d).0 else found) else found)
+    → best_from (starts_in c) best (filter has_message (single_label_views (drop (i + 1) xs))) ≡ best_from (starts_in c) found (filter has_message (single_label_views (drop i xs)))
 best_step c found best xs i d empty h is e = rw (drop-cons xs i d h, add-one, e, blank_is, ← is) (by_message (get_or xs i d) (not empty))
   where
     by_message : (x : GivenLabel) (b : Bool)
-        → best_from (starts_in c) (if b then (if starts_in c (labelled x) then better found x.0 else found) else found) (filter has_message (all_labelled (drop (suc i) xs)))
-        ≡ best_from (starts_in c) found (cond b (labelled x ∷ filter has_message (all_labelled (drop (suc i) xs))) (filter has_message (all_labelled (drop (suc i) xs))))
-    by_message x true = sym (best-cons (starts_in c) found (labelled x) (filter has_message (all_labelled (drop (suc i) xs))))
+        → best_from (starts_in c) (if b then (if starts_in c (single_label_view x) then better found x.0 else found) else found) (filter has_message (single_label_views (drop (suc i) xs)))
+        ≡ best_from (starts_in c) found (cond b (single_label_view x ∷ filter has_message (single_label_views (drop (suc i) xs))) (filter has_message (single_label_views (drop (suc i) xs))))
+    by_message x true = sym (best-cons (starts_in c) found (single_label_view x) (filter has_message (single_label_views (drop (suc i) xs))))
     by_message x false = refl
 
 -- ---- the pointers of a line
@@ -220,57 +340,57 @@ hanging_push look line xs x = rw (reverse-append xs (x ∷ [])) refl
 
 -- the labels with a message, of these and one more
 messages_push : (xs : List GivenLabel) (x : GivenLabel) (b : Bool) → not (length x.2.now == 0) ≡ b
-    → filter has_message (all_labelled (push xs x)) ≡ filter has_message (all_labelled xs) ++ cond b (labelled x ∷ []) []
-messages_push xs x b h = rw (map-append labelled xs (x ∷ []), filter-append, blank_is, h) refl
+    → filter has_message (single_label_views (push xs x)) ≡ filter has_message (single_label_views xs) ++ cond b (single_label_view x ∷ []) []
+messages_push xs x b h = rw (map-append single_label_view xs (x ∷ []), filter-append, blank_is, h) refl
 
 -- the last of the labels that are left has a message
 pub hanging_first : (look : Look) (line : Line) (left rest : List GivenLabel) (x : GivenLabel) (empty : Bool) → left ≡ push rest x
     → empty ≡ (length x.2.now == 0) → empty ≡ false
-    → hanging_stream look line (filter has_message (all_labelled left))
-    ≡ (hanging_row look line (labelled x) ++ newline) ++ hanging_stream look line (filter has_message (all_labelled rest))
+    → hanging_stream look line (filter has_message (single_label_views left))
+    ≡ (hanging_row look line (single_label_view x) ++ newline) ++ hanging_stream look line (filter has_message (single_label_views rest))
 hanging_first look line left rest x empty step is some =
-    rw (step, messages_push rest x true (ap not (sym is ∙ some))) (hanging_push look line (filter has_message (all_labelled rest)) (labelled x))
+    rw (step, messages_push rest x true (ap not (sym is ∙ some))) (hanging_push look line (filter has_message (single_label_views rest)) (single_label_view x))
 
 -- it has none
 pub hanging_skip : (look : Look) (line : Line) (left rest : List GivenLabel) (x : GivenLabel) (empty : Bool) → left ≡ push rest x
     → empty ≡ (length x.2.now == 0) → empty ≡ true
-    → hanging_stream look line (filter has_message (all_labelled left)) ≡ hanging_stream look line (filter has_message (all_labelled rest))
+    → hanging_stream look line (filter has_message (single_label_views left)) ≡ hanging_stream look line (filter has_message (single_label_views rest))
 hanging_skip look line left rest x empty step is none = rw (step, messages_push rest x false (ap not (sym is ∙ none)), append-nil) refl
 
 -- none is left
-pub hanging_end : (look : Look) (line : Line) (left : List GivenLabel) → length left ≡ 0 → hanging_stream look line (filter has_message (all_labelled left)) ≡ []
+pub hanging_end : (look : Look) (line : Line) (left : List GivenLabel) → length left ≡ 0 → hanging_stream look line (filter has_message (single_label_views left)) ≡ []
 hanging_end look line [] h = refl
 hanging_end look line (x ∷ xs) h = absurd (omega arith)
 
 -- no label of these has a message
-no_message : (xs : List GivenLabel) → list_any has_message (all_labelled xs) ≡ false → filter has_message (all_labelled xs) ≡ []
+no_message : (xs : List GivenLabel) → list_any has_message (single_label_views xs) ≡ false → filter has_message (single_label_views xs) ≡ []
 no_message [] h = refl
-no_message (x ∷ xs) h = by_message (no_message xs) (has_message (labelled x)) h
+no_message (x ∷ xs) h = by_message (no_message xs) (has_message (single_label_view x)) h
   where
-    by_message : (list_any has_message (all_labelled xs) ≡ false → filter has_message (all_labelled xs) ≡ []) → (b : Bool)
-        → (b || list_any has_message (all_labelled xs)) ≡ false → cond b (labelled x ∷ filter has_message (all_labelled xs)) (filter has_message (all_labelled xs)) ≡ []
+    by_message : (list_any has_message (single_label_views xs) ≡ false → filter has_message (single_label_views xs) ≡ []) → (b : Bool)
+        → (b || list_any has_message (single_label_views xs)) ≡ false → cond b (single_label_view x ∷ filter has_message (single_label_views xs)) (filter has_message (single_label_views xs)) ≡ []
     by_message again true h = cc
     by_message again false h = again h
 
 -- some label of these has a message
-some_message : (xs : List GivenLabel) → list_any has_message (all_labelled xs) ≡ true → filter has_message (all_labelled xs) ≡ [] → ⊥
+some_message : (xs : List GivenLabel) → list_any has_message (single_label_views xs) ≡ true → filter has_message (single_label_views xs) ≡ [] → ⊥
 some_message [] h none = cc
-some_message (x ∷ xs) h none = by_message (some_message xs) (has_message (labelled x)) h none
+some_message (x ∷ xs) h none = by_message (some_message xs) (has_message (single_label_view x)) h none
   where
-    by_message : (list_any has_message (all_labelled xs) ≡ true → filter has_message (all_labelled xs) ≡ [] → ⊥) → (b : Bool)
-        → (b || list_any has_message (all_labelled xs)) ≡ true → cond b (labelled x ∷ filter has_message (all_labelled xs)) (filter has_message (all_labelled xs)) ≡ [] → ⊥
+    by_message : (list_any has_message (single_label_views xs) ≡ true → filter has_message (single_label_views xs) ≡ [] → ⊥) → (b : Bool)
+        → (b || list_any has_message (single_label_views xs)) ≡ true → cond b (single_label_view x ∷ filter has_message (single_label_views xs)) (filter has_message (single_label_views xs)) ≡ [] → ⊥
     by_message again true h none = cc
     by_message again false h none = again h none
 
 -- no label hangs
 pub none_hangs : (labels before after : List GivenLabel) → AreHanging labels before after
-    → list_any has_message (all_labelled before) ≡ false → list_any has_message (all_labelled after) ≡ false → hanging (all_labelled labels) ≡ []
+    → list_any has_message (single_label_views before) ≡ false → list_any has_message (single_label_views after) ≡ false → hanging (single_label_views labels) ≡ []
 none_hangs labels before after h early late = rw (← hanging_parts labels before after h, no_message before early, no_message after late) refl
 
 -- so nothing is drawn of any
 pub nothing_hangs : (look : Look) (line : Line) (labels before after : List GivenLabel) → AreHanging labels before after
-    → list_any has_message (all_labelled before) ≡ false → list_any has_message (all_labelled after) ≡ false
-    → stream_of_rows look (hanging_rows line (hanging (all_labelled labels))) ≡ []
+    → list_any has_message (single_label_views before) ≡ false → list_any has_message (single_label_views after) ≡ false
+    → stream_of_rows look (hanging_rows line (hanging (single_label_views labels))) ≡ []
 nothing_hangs look line labels before after h early late = rw (none_hangs labels before after h early late) refl
 
 -- the pointers, and the messages that hang, the last one first
@@ -293,13 +413,13 @@ none-right (x ∷ xs) ys e = cc
 
 -- labels hang
 pub all_hanging : (look : Look) (line : Line) (labels before after : List GivenLabel) → AreHanging labels before after
-    → (list_any has_message (all_labelled before) ≡ true) ⊎ (list_any has_message (all_labelled after) ≡ true)
-    → stream_of_rows look (hanging_rows line (hanging (all_labelled labels)))
-    ≡ pointer_row look line ++ newline ++ hanging_stream look line (filter has_message (all_labelled after))
-    ++ hanging_stream look line (filter has_message (all_labelled before))
+    → (list_any has_message (single_label_views before) ≡ true) ⊎ (list_any has_message (single_label_views after) ≡ true)
+    → stream_of_rows look (hanging_rows line (hanging (single_label_views labels)))
+    ≡ pointer_row look line ++ newline ++ hanging_stream look line (filter has_message (single_label_views after))
+    ++ hanging_stream look line (filter has_message (single_label_views before))
 all_hanging look line labels before after h some =
-    let early = filter has_message (all_labelled before) in
-    let late = filter has_message (all_labelled after) in
+    let early = filter has_message (single_label_views before) in
+    let late = filter has_message (single_label_views after) in
     ap (λ (xs : List Labelled). stream_of_rows look (hanging_rows line xs)) (sym (hanging_parts labels before after h))
     ∙ rows_are look line (early ++ late) (λ none. ⊎_elim (λ b. some_message before b (none-left early late none)) (λ a. some_message after a (none-right early late none)) some)
     ∙ ap (λ (s : Stream). (pointer_row look line ++ newline) ++ s) (hanging_append look line early late)

@@ -9,8 +9,8 @@ use Rattle.std.proofs.lemmas.Grind.{common_steps}
 use Rattle.std.proofs.lemmas.List.{append_assoc}
 use Rattle.codespan_base.specs.Streams.{Stream, blanks, bytes}
 use Rattle.codespan_renderer.specs.declared.term.renderer.lanes.LaneRow.{LaneRow as GivenRow}
-use Rattle.codespan_picture.specs.Given.{GivenMark, mark_of_given, lanes_of, lanes_in_order}
-use Rattle.codespan_renderer.specs.Inner.GivenLine.{given_lane, given_lanes, row_of_given}
+use Rattle.codespan_picture.specs.Given.{GivenMark, mark_view, lanes_of, lanes_in_order}
+use Rattle.codespan_renderer.specs.Inner.GivenLine.{given_lane, given_lanes, lane_row_view}
 use Rattle.codespan_renderer.specs.Inner.MarksLeft.{mark_here, marks_after}
 use Rattle.codespan_picture.specs.Lanes.{ascend_from, filling, lane_cells, mark_in, row_shape, row_crossing}
 use Rattle.codespan_picture.specs.Rows.{Look, Lanes}
@@ -52,15 +52,15 @@ and_right false b h = absurd (false≢true h)
 -- the first of marks in order
 record IsFirst (count from : ℕ) (m : GivenMark) (ms : List GivenMark) : Type 0 where
   above : from ≤ m.0
-  after : IsTrue (ascend_from count (m.0 + 1) (map mark_of_given ms))
+  after : IsTrue (ascend_from count (m.0 + 1) (map mark_view ms))
 
-first : (count from : ℕ) (m : GivenMark) (ms : List GivenMark) → IsTrue (ascend_from count from (map mark_of_given (m ∷ ms))) → IsFirst count from m ms
+first : (count from : ℕ) (m : GivenMark) (ms : List GivenMark) → IsTrue (ascend_from count from (map mark_view (m ∷ ms))) → IsFirst count from m ms
 first count from m ms h =
-    let both : (leb from m.0 && ltb m.0 count) ≡ true = and_left (leb from m.0 && ltb m.0 count) (ascend_from count (m.0 + 1) (map mark_of_given ms)) h in
+    let both : (leb from m.0 && ltb m.0 count) ≡ true = and_left (leb from m.0 && ltb m.0 count) (ascend_from count (m.0 + 1) (map mark_view ms)) h in
     let a : leb from m.0 ≡ true = and_left (leb from m.0) (ltb m.0 count) both in
-    record { above = grind (arith, nat_tests); after = and_right (leb from m.0 && ltb m.0 count) (ascend_from count (m.0 + 1) (map mark_of_given ms)) h }
+    record { above = grind (arith, nat_tests); after = and_right (leb from m.0 && ltb m.0 count) (ascend_from count (m.0 + 1) (map mark_view ms)) h }
 
-none_below : (count from : ℕ) (ms : List GivenMark) (lane : ℕ) → IsTrue (ascend_from count from (map mark_of_given ms)) → lane < from → mark_in (map mark_of_given ms) lane ≡ None
+none_below : (count from : ℕ) (ms : List GivenMark) (lane : ℕ) → IsTrue (ascend_from count from (map mark_view ms)) → lane < from → mark_in (map mark_view ms) lane ≡ None
 none_below count from [] lane h k = refl
 none_below count from (m ∷ ms) lane h k =
     let f : IsFirst count from m ms = first count from m ms h in
@@ -68,32 +68,32 @@ none_below count from (m ∷ ms) lane h k =
     rw e (none_below count (m.0 + 1) ms lane f.after (omega (arith, f.above)))
 
 -- at the lane the walk finds the mark that the lane bears
-here-cons : (count lane : ℕ) (m : GivenMark) (ms : List GivenMark) (b : Bool) → eqb m.0 lane ≡ b → IsTrue (ascend_from count lane (map mark_of_given (m ∷ ms)))
-    → mark_in (map mark_of_given (m ∷ ms)) lane ≡ option_map mark_of_given (mark_here (m ∷ ms) lane)
+here-cons : (count lane : ℕ) (m : GivenMark) (ms : List GivenMark) (b : Bool) → eqb m.0 lane ≡ b → IsTrue (ascend_from count lane (map mark_view (m ∷ ms)))
+    → mark_in (map mark_view (m ∷ ms)) lane ≡ option_map mark_view (mark_here (m ∷ ms) lane)
 here-cons count lane m ms true e h = rw e refl
 here-cons count lane m ms false e h =
     let f : IsFirst count lane m ms = first count lane m ms h in
     rw e (none_below count (m.0 + 1) ms lane f.after (omega (arith, f.above)))
 
-here : (count lane : ℕ) (marks : List GivenMark) → IsTrue (ascend_from count lane (map mark_of_given marks)) → mark_in (map mark_of_given marks) lane ≡ option_map mark_of_given (mark_here marks lane)
+here : (count lane : ℕ) (marks : List GivenMark) → IsTrue (ascend_from count lane (map mark_view marks)) → mark_in (map mark_view marks) lane ≡ option_map mark_view (mark_here marks lane)
 here count lane [] h = refl
 here count lane (m ∷ ms) h = here-cons count lane m ms _ refl h
 
 -- what it leaves agrees with the marks further on
 left-cons : (count lane : ℕ) (m : GivenMark) (ms : List GivenMark) (k : ℕ) (b : Bool) → eqb m.0 lane ≡ b → lane < k
-    → mark_in (map mark_of_given (m ∷ ms)) k ≡ mark_in (map mark_of_given (marks_after (m ∷ ms) lane)) k
+    → mark_in (map mark_view (m ∷ ms)) k ≡ mark_in (map mark_view (marks_after (m ∷ ms) lane)) k
 left-cons count lane m ms k true e h =
     let same : m.0 ≡ lane = eqb-true m.0 lane e in
     let other : eqb m.0 k ≡ false = ne_eqb m.0 k (λ x. omega (arith, x, same)) in
     rw (e, other) refl
 left-cons count lane m ms k false e h = rw e refl
 
-left : (count lane : ℕ) (marks : List GivenMark) (k : ℕ) → lane < k → mark_in (map mark_of_given marks) k ≡ mark_in (map mark_of_given (marks_after marks lane)) k
+left : (count lane : ℕ) (marks : List GivenMark) (k : ℕ) → lane < k → mark_in (map mark_view marks) k ≡ mark_in (map mark_view (marks_after marks lane)) k
 left count lane [] k h = refl
 left count lane (m ∷ ms) k h = left-cons count lane m ms k _ refl h
 
 -- and is in order
-order-cons : (count lane : ℕ) (m : GivenMark) (ms : List GivenMark) (b : Bool) → eqb m.0 lane ≡ b → IsTrue (ascend_from count lane (map mark_of_given (m ∷ ms))) → IsTrue (ascend_from count (lane + 1) (map mark_of_given (marks_after (m ∷ ms) lane)))
+order-cons : (count lane : ℕ) (m : GivenMark) (ms : List GivenMark) (b : Bool) → eqb m.0 lane ≡ b → IsTrue (ascend_from count lane (map mark_view (m ∷ ms))) → IsTrue (ascend_from count (lane + 1) (map mark_view (marks_after (m ∷ ms) lane)))
 order-cons count lane m ms true e h =
     let f : IsFirst count lane m ms = first count lane m ms h in
     rw (e, sym (eqb-true m.0 lane e)) f.after
@@ -101,10 +101,10 @@ order-cons count lane m ms false e h =
     let f : IsFirst count lane m ms = first count lane m ms h in
     let more : lane + 1 ≤ m.0 = grind (arith, nat_tests, e, f.above) in
     let low : leb (lane + 1) m.0 ≡ true = le-leb (lane + 1) m.0 more in
-    let high : ltb m.0 count ≡ true = and_right (leb lane m.0) (ltb m.0 count) (and_left (leb lane m.0 && ltb m.0 count) (ascend_from count (m.0 + 1) (map mark_of_given ms)) h) in
+    let high : ltb m.0 count ≡ true = and_right (leb lane m.0) (ltb m.0 count) (and_left (leb lane m.0 && ltb m.0 count) (ascend_from count (m.0 + 1) (map mark_view ms)) h) in
     rw (e, low, high) f.after
 
-order : (count lane : ℕ) (marks : List GivenMark) → IsTrue (ascend_from count lane (map mark_of_given marks)) → IsTrue (ascend_from count (lane + 1) (map mark_of_given (marks_after marks lane)))
+order : (count lane : ℕ) (marks : List GivenMark) → IsTrue (ascend_from count lane (map mark_view marks)) → IsTrue (ascend_from count (lane + 1) (map mark_view (marks_after marks lane)))
 order count lane [] h = refl
 order count lane (m ∷ ms) h = order-cons count lane m ms _ refl h
 
@@ -123,7 +123,7 @@ pub walk-end : (look : Look) (leading : ℕ) (row : GivenRow) (i n : ℕ) (marks
 walk-end look leading row i n marks h = let e : n - i ≡ 0 = omega arith in rw e refl
 
 -- a lane without a mark, and without a line through it, is blank
-blank-lane : (look : Look) (leading : ℕ) (row : GivenRow) (lane : ℕ) → row_crossing (row_of_given row) lane ≡ None → given_lane look leading row lane None ≡ blanks 2
+blank-lane : (look : Look) (leading : ℕ) (row : GivenRow) (lane : ℕ) → row_crossing (lane_row_view row) lane ≡ None → given_lane look leading row lane None ≡ blanks 2
 unfolding given_lane lane_of lane_cells filling
 blank-lane look leading row lane clear = rw clear refl
 
@@ -143,7 +143,7 @@ none-first s = refl
 
 -- the walk goes past blank lanes
 pub walk-past : (look : Look) (leading : ℕ) (row : GivenRow) (marks : List GivenMark) (n lane rest : ℕ)
-    → ((k : ℕ) → lane ≤ k → k < lane + n → row_crossing (row_of_given row) k ≡ None) → ((k : ℕ) → lane ≤ k → k < lane + n → mark_here marks k ≡ None)
+    → ((k : ℕ) → lane ≤ k → k < lane + n → row_crossing (lane_row_view row) k ≡ None) → ((k : ℕ) → lane ≤ k → k < lane + n → mark_here marks k ≡ None)
     → walk look leading row lane (n + rest) marks ≡ blanks (n + n) ++ walk look leading row (lane + n) rest marks
 walk-past look leading row marks zero lane rest clear bare =
     let a : 0 + rest ≡ rest = omega arith in
@@ -163,7 +163,7 @@ walk-past look leading row marks (suc n) lane rest clear bare =
 
 -- the blank lanes up to that of the next mark are sent at once
 pub walk-blank : (look : Look) (leading : ℕ) (row : GivenRow) (marks : List GivenMark) (count lane until blank : ℕ) → lane < count → until ≤ count → lane + blank ≤ max lane until
-    → ((k : ℕ) → lane ≤ k → k < lane + blank → row_crossing (row_of_given row) k ≡ None) → ((k : ℕ) → k < until → mark_here marks k ≡ None)
+    → ((k : ℕ) → lane ≤ k → k < lane + blank → row_crossing (lane_row_view row) k ≡ None) → ((k : ℕ) → k < until → mark_here marks k ≡ None)
     → walk look leading row lane (count - lane) marks ≡ blanks (blank + blank) ++ walk look leading row (lane + blank) (count - (lane + blank)) marks
 walk-blank look leading row marks count lane until blank inside high within clear bare =
     let e : count - lane ≡ blank + (count - (lane + blank)) = omega arith in
@@ -171,14 +171,14 @@ walk-blank look leading row marks count lane until blank inside high within clea
     ∙ walk-past look leading row marks blank lane (count - (lane + blank)) clear (λ k low below. bare k (omega arith))
 
 walk_is : (look : Look) (leading : ℕ) (row : GivenRow) (count : ℕ) (whole : Lanes) (lane n : ℕ) (marks : List GivenMark)
-    → ((k : ℕ) → lane ≤ k → mark_in whole.marks k ≡ mark_in (map mark_of_given marks) k) → IsTrue (ascend_from count lane (map mark_of_given marks))
+    → ((k : ℕ) → lane ≤ k → mark_in whole.marks k ≡ mark_in (map mark_view marks) k) → IsTrue (ascend_from count lane (map mark_view marks))
     → walk look leading row lane n marks
-    ≡ flat_map (λ k. lane_of look (row_crossing (row_of_given row) k) (row_shape look.layout leading (row_of_given row) k) (mark_in whole.marks k)) (range_with_len lane n)
+    ≡ flat_map (λ k. lane_of look (row_crossing (lane_row_view row) k) (row_shape look.layout leading (lane_row_view row) k) (mark_in whole.marks k)) (range_with_len lane n)
 unfolding given_lane
 walk_is look leading row count whole lane zero marks a h = refl
 walk_is look leading row count whole lane (suc n) marks a h =
-    let e : option_map mark_of_given (mark_here marks lane) ≡ mark_in whole.marks lane = sym (a lane (omega arith) ∙ here count lane marks h) in
-    rw e (ap (λ (l : Stream). lane_of look (row_crossing (row_of_given row) lane) (row_shape look.layout leading (row_of_given row) lane) (mark_in whole.marks lane) ++ l)
+    let e : option_map mark_view (mark_here marks lane) ≡ mark_in whole.marks lane = sym (a lane (omega arith) ∙ here count lane marks h) in
+    rw e (ap (λ (l : Stream). lane_of look (row_crossing (lane_row_view row) lane) (row_shape look.layout leading (lane_row_view row) lane) (mark_in whole.marks lane) ++ l)
     (walk_is look leading row count whole (lane + 1) n (marks_after marks lane) (λ k b. a k (omega (arith, b)) ∙ left count lane marks k (omega (arith, b))) (order count lane marks h)))
 
 -- over all lanes it is the lanes of the row

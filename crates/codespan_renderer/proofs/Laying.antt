@@ -7,7 +7,7 @@ use lib.Utf8.{encodes}
 use Rattle.codespan_picture.specs.declared.cells.Cell.{Cell}
 use Rattle.codespan_picture.specs.Widths.{width_at}
 use Rattle.codespan_picture.specs.Cells.{cells_then, cells, placeholder, cells_to_end}
-use Rattle.codespan_renderer.proofs.Sweeping.{Follow}
+use Rattle.codespan_renderer.specs.Inner.CursorStates.{Follow}
 
 -- a cell stands at this place and column, and ends at `top` at the most
 pub record IsLaid (top place column : ℕ) (x : Cell) : Type 0 where

@@ -8,10 +8,8 @@ pub mod Hanging
 pub mod Laying
 pub mod TextRuns
 pub mod PlainText
-pub mod SweptText
 pub mod Underlines
 pub mod Sweeping
-pub mod SweptCarets
 pub mod StartsMet
 pub mod SpacedPointers
 pub mod PointerWalks

@@ -6,7 +6,7 @@ use Rattle.std.proofs.lemmas.Bool.Decides.{nat_tests}
 use Rattle.std.proofs.lemmas.List.{map-append, take-append-drop}
 use Rattle.std.proofs.lemmas.List.Sums.{fold-append}
 use Rattle.codespan_base.specs.Labels.{Labelled}
-use Rattle.codespan_picture.specs.Given.{GivenLabel, labelled, all_labelled}
+use Rattle.codespan_picture.specs.Given.{GivenLabel, single_label_view, single_label_views}
 use Rattle.codespan_picture.specs.RowParts.{greatest_start}
 use Rattle.codespan_picture.proofs.HangingStarts.{fold_start-le}
 use Rattle.codespan_renderer.specs.Inner.Runs.{ArePieces}
@@ -33,20 +33,20 @@ back-ordered low (x ∷ xs) ys h =
     let far : low ≤ x.start = (let test = parts.0 in grind (arith, nat_tests)) in
     starts-lower ys low x.start far (back-ordered x.start xs ys parts.1)
 
-whole : (xs ys labels : List GivenLabel) → xs ++ ys ≡ labels → all_labelled xs ++ all_labelled ys ≡ all_labelled labels
-whole xs ys labels e = sym (map-append labelled xs ys) ∙ ap all_labelled e
+whole : (xs ys labels : List GivenLabel) → xs ++ ys ≡ labels → single_label_views xs ++ single_label_views ys ≡ single_label_views labels
+whole xs ys labels e = sym (map-append single_label_view xs ys) ∙ ap single_label_views e
 
 -- the labels before the trailing one keep the order
-pub before-ordered : (labels before after : List GivenLabel) → ArePieces labels before after → starts_in_order (all_labelled labels) ≡ true
-    → starts_in_order (all_labelled before) ≡ true
+pub before-ordered : (labels before after : List GivenLabel) → ArePieces labels before after → starts_in_order (single_label_views labels) ≡ true
+    → starts_in_order (single_label_views before) ≡ true
 before-ordered labels before after p h =
-    front-ordered 0 (all_labelled before) (all_labelled p.rest) (ap starts_in_order (whole before p.rest labels p.begins) ∙ h)
+    front-ordered 0 (single_label_views before) (single_label_views p.rest) (ap starts_in_order (whole before p.rest labels p.begins) ∙ h)
 
 -- so do those after it
-pub after-ordered : (labels before after : List GivenLabel) → ArePieces labels before after → starts_in_order (all_labelled labels) ≡ true
-    → starts_in_order (all_labelled after) ≡ true
+pub after-ordered : (labels before after : List GivenLabel) → ArePieces labels before after → starts_in_order (single_label_views labels) ≡ true
+    → starts_in_order (single_label_views after) ≡ true
 after-ordered labels before after p h =
-    back-ordered 0 (all_labelled p.skipped) (all_labelled after) (ap starts_in_order (whole p.skipped after labels p.ends) ∙ h)
+    back-ordered 0 (single_label_views p.skipped) (single_label_views after) (ap starts_in_order (whole p.skipped after labels p.ends) ∙ h)
 
 -- ---- their greatest starts
 
@@ -61,13 +61,13 @@ back-near : (xs ys : List Labelled) → greatest_start ys ≤ greatest_start (xs
 back-near xs ys = let more = grows 0 (greatest_start xs) ys (omega arith) in omega (arith, fold-append (λ k (x : Labelled). max k x.start) 0 xs ys)
 
 -- no label before the trailing one starts past all
-pub before-near : (labels before after : List GivenLabel) → ArePieces labels before after → greatest_start (all_labelled before) ≤ greatest_start (all_labelled labels)
+pub before-near : (labels before after : List GivenLabel) → ArePieces labels before after → greatest_start (single_label_views before) ≤ greatest_start (single_label_views labels)
 before-near labels before after p =
     let e = ap greatest_start (whole before p.rest labels p.begins) in
-    omega (arith, e, front-near (all_labelled before) (all_labelled p.rest))
+    omega (arith, e, front-near (single_label_views before) (single_label_views p.rest))
 
 -- nor does one after it
-pub after-near : (labels before after : List GivenLabel) → ArePieces labels before after → greatest_start (all_labelled after) ≤ greatest_start (all_labelled labels)
+pub after-near : (labels before after : List GivenLabel) → ArePieces labels before after → greatest_start (single_label_views after) ≤ greatest_start (single_label_views labels)
 after-near labels before after p =
     let e = ap greatest_start (whole p.skipped after labels p.ends) in
-    omega (arith, e, back-near (all_labelled p.skipped) (all_labelled after))
+    omega (arith, e, back-near (single_label_views p.skipped) (single_label_views after))

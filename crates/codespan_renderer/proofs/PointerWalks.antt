@@ -5,7 +5,7 @@ use Rattle.codespan_base.specs.Labels.{Labelled, has_message}
 use Rattle.codespan_picture.specs.declared.cells.Cell.{Cell}
 use Rattle.codespan_renderer.specs.declared.term.renderer.by_cells.sweep.Starts.{Starts}
 use Rattle.codespan_renderer.specs.declared.term.renderer.by_cells.pointers.Pointer.{Pointer}
-use Rattle.codespan_picture.specs.Given.{GivenLabel, all_labelled}
+use Rattle.codespan_picture.specs.Given.{GivenLabel, single_label_views}
 use Rattle.codespan_renderer.specs.Inner.PointerLists.{pointer_under, pointers_in, HasPassed}
 use Rattle.codespan_picture.specs.Rows.{hanging}
 use Rattle.codespan_picture.specs.RowParts.{greatest_start, starts_in}
@@ -65,9 +65,9 @@ passing-more before after s t u v c left w early late same same2 = record {
 
 -- the style that the two walks find
 pub found-style : (labels before after bs ds : List GivenLabel) (cs : List Cell) (i : ℕ) (d : Cell) (first second : Option LabelStyle) → AreHanging labels before after → bs ≡ before → ds ≡ after
-    → first ≡ best_from (starts_in (get_or cs i d)) None (filter has_message (all_labelled bs))
-    → second ≡ best_from (starts_in (get_or cs i d)) first (filter has_message (all_labelled ds))
-    → second ≡ pointer_found (hanging (all_labelled labels)) (get_or cs i d)
+    → first ≡ best_from (starts_in (get_or cs i d)) None (filter has_message (single_label_views bs))
+    → second ≡ best_from (starts_in (get_or cs i d)) first (filter has_message (single_label_views ds))
+    → second ≡ pointer_found (hanging (single_label_views labels)) (get_or cs i d)
 found-style labels before after bs ds cs i d first second h e f p q = rw (q, p, e, f) (pointer_is labels before after (get_or cs i d) h)
 
 -- no pointer stands where no label hangs
@@ -122,8 +122,8 @@ pointers-past labels place column (c ∷ cs) spread past =
 
 -- the cell at a place of the list begins past the starts, and so do all that follow
 pub pointers-past-at : (labels before after : List GivenLabel) (s t : Starts) (last : ℕ) (cs : List Cell) (i : ℕ) (d : Cell) → i < length cs
-    → IsPassing before after s t (drop i cs) → last < (get_or cs i d).place → last ≡ greatest_start (all_labelled labels)
-    → pointers_in (hanging (all_labelled labels)) (drop i cs) ≡ []
+    → IsPassing before after s t (drop i cs) → last < (get_or cs i d).place → last ≡ greatest_start (single_label_views labels)
+    → pointers_in (hanging (single_label_views labels)) (drop i cs) ≡ []
 pointers-past-at labels before after s t last cs i d h w past e =
     let spread : AreSpread w.place w.column (get_or cs i d ∷ drop (i + 1) cs) = rw (cells-step cs i d h) at w.spread in
-    pointers-past (all_labelled labels) w.place w.column (drop i cs) w.spread (omega (arith, e, past, spread.0))
+    pointers-past (single_label_views labels) w.place w.column (drop i cs) w.spread (omega (arith, e, past, spread.0))

@@ -10,7 +10,7 @@ use Rattle.codespan_base.proofs.Sends.{bytes-append}
 use Rattle.std.proofs.lemmas.Grind.{flat_map-append}
 use Rattle.codespan_base.proofs.Repeats.{repeat-add}
 use Rattle.codespan_renderer.specs.declared.term.renderer.lanes.LaneRow.TheVariants.{Source, Plain, Below}
-use Rattle.codespan_picture.specs.Given.{GivenLabel, all_labelled}
+use Rattle.codespan_picture.specs.Given.{GivenLabel, single_label_views}
 use Rattle.codespan_renderer.specs.Inner.GivenLine.{given_lanes}
 use Rattle.codespan_picture.specs.Rows.{Look, Lanes, Line, Row, SourceRow, caret_rows, hanging, hanging_rows, underline_rows, rows_of}
 use Rattle.codespan_picture.specs.RowStreams.{bracketed, caret_row, source_row, stream_of, stream_of_rows}
@@ -105,12 +105,12 @@ line_rows look line =
     (flat_map-append (row_and_end look) (SourceRow line ∷ caret_rows line line.labels) (hanging_rows line (hanging line.labels)))
 
 -- the carets of a line that has none
-pub caret_rows_none : (look : Look) (line : Line) (labels : List GivenLabel) → length labels ≤ 0 → stream_of_rows look (caret_rows line (all_labelled labels)) ≡ []
+pub caret_rows_none : (look : Look) (line : Line) (labels : List GivenLabel) → length labels ≤ 0 → stream_of_rows look (caret_rows line (single_label_views labels)) ≡ []
 caret_rows_none look line [] h = refl
 caret_rows_none look line (x ∷ xs) h = absurd (omega arith)
 
 -- the carets of a line that has labels
-pub caret_rows_some : (look : Look) (line : Line) (labels : List GivenLabel) → 1 ≤ length labels → stream_of_rows look (caret_rows line (all_labelled labels)) ≡ caret_row look line ++ newline
+pub caret_rows_some : (look : Look) (line : Line) (labels : List GivenLabel) → 1 ≤ length labels → stream_of_rows look (caret_rows line (single_label_views labels)) ≡ caret_row look line ++ newline
 caret_rows_some look line [] h = absurd (omega arith)
 caret_rows_some look line (x ∷ xs) h = append-nil (caret_row look line ++ newline)
 

@@ -17,7 +17,7 @@ use Rattle.std.specs.Prelude.{if◌then◌else◌}
 use Rattle.std.specs.List.{list_any, push}
 use Rattle.std.proofs.lemmas.List.{map-append}
 use Rattle.std.proofs.lemmas.List.Sums.{fold-append}
-use Rattle.codespan_picture.specs.Given.{GivenLabel, labelled, all_labelled}
+use Rattle.codespan_picture.specs.Given.{GivenLabel, single_label_view, single_label_views}
 use Rattle.codespan_renderer.proofs.Hanging.{blanks_none, blanks_owed, blanks_past, pointer_none, pointer_some}
 use Rattle.codespan_picture.proofs.HangingStarts.{any-below, any-hanging, starts_in-low}
 use Rattle.codespan_picture.proofs.Spread.{AreSpread, none-before}
@@ -210,11 +210,11 @@ spaced-near look labels cs ps before edge laid near found wide =
 -- the last of the labels that are left starts no later than the greatest start, nor do the others
 pub record IsNear (rest : List GivenLabel) (x : GivenLabel) (reach : ℕ) : Type 0 where
   pub here : x.1.start ≤ reach
-  pub others : greatest_start (all_labelled rest) ≤ reach
+  pub others : greatest_start (single_label_views rest) ≤ reach
 
-pub near-last : (left rest : List GivenLabel) (x : GivenLabel) (reach : ℕ) → left ≡ push rest x → greatest_start (all_labelled left) ≤ reach → IsNear rest x reach
+pub near-last : (left rest : List GivenLabel) (x : GivenLabel) (reach : ℕ) → left ≡ push rest x → greatest_start (single_label_views left) ≤ reach → IsNear rest x reach
 near-last left rest x reach step near =
-    let parts : greatest_start (all_labelled left) ≡ max (greatest_start (all_labelled rest)) x.1.start =
-    ap (λ xs. greatest_start (all_labelled xs)) step ∙ ap greatest_start (map-append labelled rest (x ∷ []))
-    ∙ fold-append (λ m (y : Labelled). max m y.start) 0 (all_labelled rest) (labelled x ∷ []) in
+    let parts : greatest_start (single_label_views left) ≡ max (greatest_start (single_label_views rest)) x.1.start =
+    ap (λ xs. greatest_start (single_label_views xs)) step ∙ ap greatest_start (map-append single_label_view rest (x ∷ []))
+    ∙ fold-append (λ m (y : Labelled). max m y.start) 0 (single_label_views rest) (single_label_view x ∷ []) in
     record { here = omega arith; others = omega arith }

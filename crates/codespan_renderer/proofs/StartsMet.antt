@@ -6,7 +6,7 @@ use Rattle.std.proofs.lemmas.Bool.Decides.{nat_tests}
 use Rattle.codespan_base.specs.declared.diagnostic.LabelStyle.{LabelStyle}
 use Rattle.codespan_base.specs.Labels.{Labelled, has_message}
 use Rattle.codespan_picture.specs.declared.cells.Cell.{Cell}
-use Rattle.codespan_picture.specs.Given.{GivenLabel, labelled, all_labelled}
+use Rattle.codespan_picture.specs.Given.{GivenLabel, single_label_view, single_label_views}
 use Rattle.codespan_picture.specs.RowParts.{starts_in}
 use Rattle.codespan_renderer.specs.Inner.Runs.{better, best_from}
 use Rattle.codespan_renderer.specs.Inner.Sweeps.{starts_from}
@@ -17,9 +17,9 @@ use Rattle.codespan_renderer.proofs.Hanging.{best_step}
 pub start-here : (c : Cell) (found best : Option LabelStyle) (ys xs : List GivenLabel) (i : ℕ) (d : GivenLabel) (empty : Bool) → ys ≡ xs → i < length xs
     → empty ≡ (length (get_or xs i d).2.now == 0) → c.place ≤ (get_or xs i d).1.start → (get_or xs i d).1.start < c.place + c.bytes
     → best ≡ (if not empty then better found (get_or xs i d).0 else found)
-    → best_from (starts_in c) best (filter has_message (all_labelled (drop (i + 1) ys))) ≡ best_from (starts_in c) found (filter has_message (all_labelled (drop i ys)))
+    → best_from (starts_in c) best (filter has_message (single_label_views (drop (i + 1) ys))) ≡ best_from (starts_in c) found (filter has_message (single_label_views (drop i ys)))
 start-here c found best ys xs i d empty same h is low high e =
-    let inside : starts_in c (labelled (get_or xs i d)) ≡ true = grind (arith, nat_tests) in
+    let inside : starts_in c (single_label_view (get_or xs i d)) ≡ true = grind (arith, nat_tests) in
     rw same (best_step c found best xs i d empty h is (rw inside e))
 
 same-found : (b : Bool) (found : Option LabelStyle) → found ≡ (if b then found else found)
@@ -29,9 +29,9 @@ same-found false found = refl
 -- a label that starts before the character
 pub start-before : (c : Cell) (found : Option LabelStyle) (ys xs : List GivenLabel) (i : ℕ) (d : GivenLabel) (place : ℕ) → ys ≡ xs → i < length xs
     → (get_or xs i d).1.start < place → place ≤ c.place
-    → best_from (starts_in c) found (filter has_message (all_labelled (drop i ys))) ≡ best_from (starts_in c) found (filter has_message (all_labelled (drop (i + 1) ys)))
+    → best_from (starts_in c) found (filter has_message (single_label_views (drop i ys))) ≡ best_from (starts_in c) found (filter has_message (single_label_views (drop (i + 1) ys)))
 start-before c found ys xs i d place same h low past =
-    let outside : starts_in c (labelled (get_or xs i d)) ≡ false = grind (arith, nat_tests) in
+    let outside : starts_in c (single_label_view (get_or xs i d)) ≡ false = grind (arith, nat_tests) in
     let empty = length (get_or xs i d).2.now == 0 in
     rw same (sym (best_step c found found xs i d empty h refl (rw outside (same-found (not empty) found))))
 
@@ -50,6 +50,6 @@ none-start c found place (x ∷ xs) ordered past =
     by_message rest outside false = rest
 
 -- a label that begins by a place
-pub begun-start : (xs : List GivenLabel) (i : ℕ) (d : GivenLabel) (place : ℕ) → nat_lt (labelled (get_or xs i d)).start place ≡ true
+pub begun-start : (xs : List GivenLabel) (i : ℕ) (d : GivenLabel) (place : ℕ) → nat_lt (single_label_view (get_or xs i d)).start place ≡ true
     → (get_or xs i d).1.start < place
 begun-start xs i d place h = grind (arith, nat_tests)

@@ -1,9 +1,10 @@
 -- A walk over the characters of a line that meets its labels as they begin.
+use Rattle.std.proofs.Props.{props}
+use Rattle.std.proofs.Math.Logic.{∥∥₁_elim}
 use Rattle.std.proofs.Common.{◌≡◌, ℕ, ◌+◌, ◌<◌, ◌≤◌, max, Bool, true, false, ◌&&◌, ◌||◌, nat_lt, nat_le, List, [], ◌∷◌, length, drop, get_or, drop-cons, add-one, refl, sym, ap, ◌∙◌, arith}
 use Rattle.std.specs.Prelude.{if◌then◌else◌}
 use Rattle.std.proofs.lemmas.Bool.{and_parts}
 use Rattle.std.proofs.lemmas.Bool.Decides.{nat_tests}
-use Rattle.std.proofs.lemmas.Grind.{common_steps}
 use Rattle.codespan_base.specs.Labels.{Labelled}
 use Rattle.codespan_picture.specs.declared.cells.Cell.{Cell}
 use Rattle.std.specs.Char.{len_utf8}
@@ -13,7 +14,8 @@ use Rattle.codespan_renderer.specs.declared.term.renderer.by_cells.sweep.Sweep.{
 use Rattle.codespan_picture.specs.Widths.{width_at}
 use Rattle.codespan_picture.specs.Cells.{cells_then, placeholder, cells, cells_to_end}
 use Rattle.codespan_picture.specs.Carets.{covers}
-use Rattle.codespan_picture.specs.Given.{GivenLabel, labelled, all_labelled}
+use Rattle.codespan_picture.specs.Given.{GivenLabel, single_label_view, single_label_views}
+use Rattle.codespan_renderer.specs.Inner.CursorStates.{Follow, IsBefore, HasReturned}
 use Rattle.codespan_renderer.specs.Inner.Sweeps.{starts_from, is_covered, end_with, IsReached, HasMet}
 
 -- a label that begins before the character's end has a byte of it where it has one at all and ends past the character's place
@@ -74,7 +76,7 @@ reached-here passes labels left place end c ends some ordered r =
 
 -- a label of a list, and those after it in the same list
 pub labels-step : (ys xs : List GivenLabel) (i : ℕ) (d : GivenLabel) → ys ≡ xs → i < length xs
-    → all_labelled (drop i ys) ≡ labelled (get_or xs i d) ∷ all_labelled (drop (i + 1) ys)
+    → single_label_views (drop i ys) ≡ single_label_view (get_or xs i d) ∷ single_label_views (drop (i + 1) ys)
 labels-step ys xs i d same h = rw (same, drop-cons xs i d h, add-one) refl
 
 -- they start from an earlier place on
@@ -93,35 +95,30 @@ starts-next low left rest x step ordered =
     starts-lower rest low x.start far parts.1
 
 -- the first one of those that are left begins no earlier than they do
-pub starts-first : (low : ℕ) (ys xs : List GivenLabel) (i : ℕ) (d : GivenLabel) → ys ≡ xs → i < length xs → starts_from low (all_labelled (drop i ys)) ≡ true
+pub starts-first : (low : ℕ) (ys xs : List GivenLabel) (i : ℕ) (d : GivenLabel) → ys ≡ xs → i < length xs → starts_from low (single_label_views (drop i ys)) ≡ true
     → low ≤ (get_or xs i d).1.start
 starts-first low ys xs i d same h ordered =
-    let x = labelled (get_or xs i d) in
-    let parts = and_parts (nat_le low x.start) (starts_from x.start (all_labelled (drop (i + 1) ys))) (rw (labels-step ys xs i d same h) at ordered) in
+    let x = single_label_view (get_or xs i d) in
+    let parts = and_parts (nat_le low x.start) (starts_from x.start (single_label_views (drop (i + 1) ys))) (rw (labels-step ys xs i d same h) at ordered) in
     let test = parts.0 in grind (arith, nat_tests)
 
 -- those after one that has begun by a place
 pub starts-rest : (low : ℕ) (ys xs : List GivenLabel) (i : ℕ) (d : GivenLabel) (place : ℕ) → ys ≡ xs → i < length xs → (get_or xs i d).1.start < place
-    → starts_from low (all_labelled (drop i ys)) ≡ true → starts_from low (all_labelled (drop (i + 1) ys)) ≡ true
+    → starts_from low (single_label_views (drop i ys)) ≡ true → starts_from low (single_label_views (drop (i + 1) ys)) ≡ true
 starts-rest low ys xs i d place same h begun ordered =
-    starts-next low (all_labelled (drop i ys)) (all_labelled (drop (i + 1) ys)) (labelled (get_or xs i d)) (labels-step ys xs i d same h) ordered
+    starts-next low (single_label_views (drop i ys)) (single_label_views (drop (i + 1) ys)) (single_label_view (get_or xs i d)) (labels-step ys xs i d same h) ordered
 
 -- where it does not begin before a place, all begin there or later
 pub starts-past : (low : ℕ) (ys xs : List GivenLabel) (i place : ℕ) (d : GivenLabel) → ys ≡ xs → i < length xs
-    → nat_lt (labelled (get_or xs i d)).start place ≡ false → starts_from low (all_labelled (drop i ys)) ≡ true → starts_from place (all_labelled (drop i ys)) ≡ true
+    → nat_lt (single_label_view (get_or xs i d)).start place ≡ false → starts_from low (single_label_views (drop i ys)) ≡ true → starts_from place (single_label_views (drop i ys)) ≡ true
 starts-past low ys xs i place d same h late ordered =
     let step = labels-step ys xs i d same h in
-    let x = labelled (get_or xs i d) in
-    let parts = and_parts (nat_le low x.start) (starts_from x.start (all_labelled (drop (i + 1) ys))) (rw step at ordered) in
+    let x = single_label_view (get_or xs i d) in
+    let parts = and_parts (nat_le low x.start) (starts_from x.start (single_label_views (drop (i + 1) ys))) (rw step at ordered) in
     let here : nat_le place x.start ≡ true = grind (arith, nat_tests) in
     rw (step, here, parts.1) refl
 
--- ---- a walk over cells
-
--- cells of one byte at least, one after another from a place on
-abbrev pub Follow : ℕ → List Cell → Type 0
-Follow place [] = Unit {0}
-Follow place (c ∷ cs) = (c.place ≡ place) × (1 ≤ c.bytes) × Follow (place + c.bytes) cs
+-- ---- characters one after another
 
 -- the characters of a line, and what comes after the last one
 follow-then : (after : ℕ → ℕ → List Cell) (tab place column : ℕ) (codes : List ℕ) → ((p q : ℕ) → Follow p (after p q))
@@ -136,44 +133,45 @@ follow-to_end tab text = follow-then placeholder tab 0 0 (chars text) (λ p q. (
 pub follow-cells : (tab : ℕ) (text : List ℕ) → Follow 0 (cells tab text)
 follow-cells tab text = follow-then (λ _ _. []) tab 0 0 (chars text) (λ p q. tt)
 
--- a walk has these cells still before it, and has met the labels that begin before the first of them
-pub record IsWalk (labels : List GivenLabel) (s : Sweep) (left : List Cell) : Type 0 where
-  pub place : ℕ
-  pub met : HasMet place s
-  pub same : s.labels.now ≡ labels
-  pub follow : Follow place left
-
--- the next cell
-pub record IsTurn (labels : List GivenLabel) (s : Sweep) (c : Cell) (after : List Cell) : Type 0 where
-  pub some : 1 ≤ c.bytes
-  pub met : HasMet c.place s
-  pub same : s.labels.now ≡ labels
-  pub follow : Follow (c.place + c.bytes) after
-
-pub walk-turn : (labels : List GivenLabel) (s : Sweep) (left after : List Cell) (c : Cell) → left ≡ c ∷ after → IsWalk labels s left → IsTurn labels s c after
-walk-turn labels s left after c step w =
-    let follow : Follow w.place (c ∷ after) = rw step at w.follow in
-    let here = follow.0 in
-    record { some = follow.1; met = rw here w.met; same = w.same; follow = rw here follow.2 }
-
 -- one of the cells that are left
 pub cells-step : (cs : List Cell) (i : ℕ) (d : Cell) → i < length cs → drop i cs ≡ get_or cs i d ∷ drop (i + 1) cs
 cells-step cs i d h = rw (drop-cons cs i d h, add-one) refl
 
--- all are left at the walk's start
-pub walk-start : (labels : List GivenLabel) (s : Sweep) (cs : List Cell) → HasMet 0 s → s.labels.now ≡ labels → Follow 0 cs → IsWalk labels s cs
-walk-start labels s cs met same follow = record { place = 0; met = met; same = same; follow = follow }
+-- ---- a cursor over them
 
--- the walk has met the labels that begin before the cell's end
-pub walk-more : (labels : List GivenLabel) (s t : Sweep) (c : Cell) (after : List Cell) → IsTurn labels s c after → HasMet (c.place + c.bytes) t → t.labels.now ≡ s.labels.now
-    → IsWalk labels t after
-walk-more labels s t c after turn met same = record { place = c.place + c.bytes; met = met; same = same ∙ turn.same; follow = turn.follow }
+met-prop : (place : ℕ) (s : Sweep) → IsProp (HasMet place s)
+met-prop place s = Prim.hlevel props
 
--- none is left
-pub cells-none : (cs : List Cell) (i : ℕ) → length cs ≤ i → drop i cs ≡ []
-cells-none cs i h = grind (arith, common_steps)
+-- at the line's start
+pub cursor-start : (s : Sweep) (cs : List Cell) → HasMet 0 s → Follow 0 cs → ∥ IsBefore s cs ∥₁
+cursor-start s cs met follow = ∣ record { place = 0; met = met; follow = follow } ∣₁
 
--- the next cell, at its place in the list
-pub turn-at : (labels : List GivenLabel) (s : Sweep) (cs : List Cell) (i : ℕ) (d : Cell) → i < length cs → IsWalk labels s (drop i cs)
-    → IsTurn labels s (get_or cs i d) (drop (i + 1) cs)
-turn-at labels s cs i d h w = walk-turn labels s (drop i cs) (drop (i + 1) cs) (get_or cs i d) (cells-step cs i d h) w
+met-later : (s : Sweep) (p q : ℕ) → p ≤ q → HasMet p s → HasMet q s
+met-later s p q h m = record {
+  primary = record { is = λ c low some. m.primary.is c (omega arith) some };
+  any = record { is = λ c low some. m.any.is c (omega arith) some };
+  ordered = m.ordered;
+}
+
+module _ (s : Sweep) (left rest : List Cell) (c : Cell) (step : left ≡ c ∷ rest) where
+  here : (w : IsBefore s left) → Follow w.place (c ∷ rest)
+  here w = rw step at w.follow
+
+  -- it returns the next character
+  pub cursor-returns : ∥ IsBefore s left ∥₁ → ∥ HasReturned c s rest ∥₁
+  cursor-returns kept = ∥∥₁_elim kept (Prim.hlevel props) (λ w. ∣ record { some = (here w).1; met = rw (here w).0 w.met; follow = rw (here w).0 (here w).2 } ∣₁)
+
+-- and goes on after it, whether or not it was asked
+pub cursor-goes_on : (s : Sweep) (rest : List Cell) (c : Cell) → ∥ HasReturned c s rest ∥₁ → ∥ IsBefore s rest ∥₁
+cursor-goes_on s rest c kept =
+    ∥∥₁_elim kept (Prim.hlevel props) (λ g. ∣ record { place = c.place + c.bytes; met = met-later s c.place (c.place + c.bytes) (omega arith) g.met; follow = g.follow } ∣₁)
+
+pub cursor-asked : (s t : Sweep) (rest : List Cell) (c : Cell) → ∥ HasReturned c s rest ∥₁ → HasMet (c.place + c.bytes) t → ∥ IsBefore t rest ∥₁
+cursor-asked s t rest c kept met = ∥∥₁_elim kept (Prim.hlevel props) (λ g. ∣ record { place = c.place + c.bytes; met = met; follow = g.follow } ∣₁)
+
+-- the labels that it has met, and the character that it has returned
+pub returned-met : (s : Sweep) (rest : List Cell) (c : Cell) → ∥ HasReturned c s rest ∥₁ → HasMet c.place s
+returned-met s rest c kept = ∥∥₁_elim kept (met-prop c.place s) (λ g. g.met)
+
+pub returned-some : (s : Sweep) (rest : List Cell) (c : Cell) → ∥ HasReturned c s rest ∥₁ → 1 ≤ c.bytes
+returned-some s rest c kept = ∥∥₁_elim kept (Prim.hlevel props) (λ g. g.some)

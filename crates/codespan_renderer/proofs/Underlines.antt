@@ -9,16 +9,16 @@ use Rattle.std.proofs.lemmas.Bool.{le-leb, lt-leb, le-ltb}
 use Rattle.std.proofs.lemmas.Bool.Decides.{nat_tests}
 use Rattle.std.proofs.lemmas.Iterator.{YieldsList}
 use Rattle.std.proofs.lemmas.List.Sums.{sum_by-cons}
-use Rattle.codespan_base.specs.Labels.{LaneMark, Part, Top, Left, Bottom}
+use Rattle.codespan_base.specs.Labels.{LaneMark, MultiLabel, Top, Left, Bottom}
 use Rattle.codespan_base.specs.declared.term.config.chars.Chars.{Chars}
 use Rattle.codespan_base.specs.Streams.{Stream, bytes, newline, space}
 use Rattle.codespan_base.specs.WriterLaw.{Sink}
 use Rattle.codespan_base.proofs.Loops.{StillToCome}
 use Rattle.codespan_picture.specs.declared.cells.Cell.{Cell}
-use Rattle.codespan_picture.specs.declared.given.MultiLabel.{MultiLabel}
+use Rattle.codespan_picture.specs.declared.given.MultiLabel as rust_multi_label
 use Rattle.codespan_renderer.specs.declared.term.renderer.lanes.LaneRow.TheVariants.{Underline}
 use Rattle.codespan_picture.specs.Cells.{width_of, leading_whitespace}
-use Rattle.codespan_picture.specs.Given.{GivenMark, mark_of_given, part_of}
+use Rattle.codespan_picture.specs.Given.{GivenMark, mark_view, multi_label_view}
 use Rattle.codespan_renderer.specs.Inner.GivenLine.{given_lanes}
 use Rattle.codespan_picture.specs.Rows.{Look, Lanes, Line, UnderlineRow, has_underline}
 use Rattle.codespan_picture.specs.RowParts.{underline, underline_lanes, underline_message, cells_before, cells_up_to}
@@ -28,8 +28,8 @@ use Rattle.codespan_picture.specs.RowStreams.{underline_row, stream_of_rows, lat
 -- ---- the lanes of an underline row
 
 -- the lanes of the row of a mark are those of that kind of row
-pub underline_lanes_are : (look : Look) (leading : ℕ) (lane : ℕ) (style : LabelStyle) (part : MultiLabel) (lanes : Lanes)
-    → given_lanes look leading (Underline lane style part) lanes ≡ underline_lanes look leading (mark_of_given (lane, style, part)) lanes
+pub underline_lanes_are : (look : Look) (leading : ℕ) (lane : ℕ) (style : LabelStyle) (part : rust_multi_label.MultiLabel) (lanes : Lanes)
+    → given_lanes look leading (Underline lane style part) lanes ≡ underline_lanes look leading (mark_view (lane, style, part)) lanes
 unfolding given_lanes underline_lanes
 underline_lanes_are look leading lane style part lanes = refl
 
@@ -52,7 +52,7 @@ pub ruleset underline_messages = (underline_message-none, underline_message-some
 -- ---- the line of an underline
 
 -- an underline is that of the width of its line
-pub underline-runs : (chars : Chars) (style : LabelStyle) (width : ℕ) (cs : List Cell) (part : Part) → width ≡ run_width cs part
+pub underline-runs : (chars : Chars) (style : LabelStyle) (width : ℕ) (cs : List Cell) (part : MultiLabel) → width ≡ run_width cs part
     → underline chars style cs part ≡ run_underline chars style width part
 unfolding underline run_underline
 underline-runs chars style width cs (Top start) e = rw e refl
@@ -96,22 +96,22 @@ pub ruleset widths_before = (width-before-first, width-before-next)
 
 -- the rows of the marks that are left
 abbrev pub underlines_of : Look → Line → List GivenMark → Stream
-underlines_of look line marks = stream_of_rows look (map (UnderlineRow line) (filter (λ (m : LaneMark). has_underline (leading_whitespace line.text) m.part) (map mark_of_given marks)))
+underlines_of look line marks = stream_of_rows look (map (UnderlineRow line) (filter (λ (m : LaneMark). has_underline (leading_whitespace line.text) m.part) (map mark_view marks)))
 
 -- the mark at a place has a row
 pub underlines-in : (look : Look) (line : Line) (leading : ℕ) (marks : List GivenMark) (i : ℕ) (d : GivenMark) → i < length marks
-    → leading ≡ leading_whitespace line.text → has_underline leading (part_of (get_or marks i d).2) ≡ true
-    → underlines_of look line (drop i marks) ≡ underline_row look line (mark_of_given (get_or marks i d)) ++ newline ++ underlines_of look line (drop (i + 1) marks)
+    → leading ≡ leading_whitespace line.text → has_underline leading (multi_label_view (get_or marks i d).2) ≡ true
+    → underlines_of look line (drop i marks) ≡ underline_row look line (mark_view (get_or marks i d)) ++ newline ++ underlines_of look line (drop (i + 1) marks)
 underlines-in look line leading marks i d h e t =
-    let k : has_underline (leading_whitespace line.text) (part_of (get_or marks i d).2) ≡ true = rw e at t in
+    let k : has_underline (leading_whitespace line.text) (multi_label_view (get_or marks i d).2) ≡ true = rw e at t in
     rw (drop-cons marks i d h, k, add-one) refl
 
 -- it has none
 pub underlines-out : (look : Look) (line : Line) (leading : ℕ) (marks : List GivenMark) (i : ℕ) (d : GivenMark) → i < length marks
-    → leading ≡ leading_whitespace line.text → has_underline leading (part_of (get_or marks i d).2) ≡ false
+    → leading ≡ leading_whitespace line.text → has_underline leading (multi_label_view (get_or marks i d).2) ≡ false
     → underlines_of look line (drop i marks) ≡ underlines_of look line (drop (i + 1) marks)
 underlines-out look line leading marks i d h e t =
-    let k : has_underline (leading_whitespace line.text) (part_of (get_or marks i d).2) ≡ false = rw e at t in
+    let k : has_underline (leading_whitespace line.text) (multi_label_view (get_or marks i d).2) ≡ false = rw e at t in
     rw (drop-cons marks i d h, k, add-one) refl
 
 -- ---- the rows of a note

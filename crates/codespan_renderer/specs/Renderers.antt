@@ -1,23 +1,36 @@
--- A renderer, as its contracts see it: a writer behind a reference, and a configuration.
-use Rattle.std.specs.Prelude.{◌≡◌, ◌∷◌}
-use Rattle.std.specs.Borrow.{GName}
+-- A renderer, as its contracts see it: a writer behind a reference, and a configuration; and what
+-- its calls render.
+use Rattle.std.specs.Prelude.{◌≡◌, ℕ, List, ◌∷◌, ◌++◌, Option, Result, IfErr}
+use Rattle.std.specs.Option.{option_map}
+use Rattle.std.specs.Borrow.{Bor, GName}
+use Rattle.std.specs.Str.Lines.{lines}
+use Rattle.codespan_base.specs.declared.diagnostic.Severity.{Severity}
+use Rattle.codespan_base.specs.declared.files.Error.{Error}
 use Rattle.codespan_base.specs.declared.term.config.Config.{Config}
-use Rattle.codespan_base.specs.WriterLaw.{Sink}
+use Rattle.codespan_base.specs.Errors.{IsIo}
+use Rattle.codespan_base.specs.Streams.{Stream, newline}
+use Rattle.codespan_base.specs.WriterLaw.{Sends, Sink}
+use Rattle.codespan_picture.specs.declared.given.Locus as rust_locus
+use Rattle.codespan_picture.specs.Cells.{drawn_text}
+use Rattle.codespan_picture.specs.Given.{GivenLabel, GivenMark, lanes_of, locus_view, single_label_views, text_now}
+use Rattle.codespan_picture.specs.Picture.{look_of}
+use Rattle.codespan_picture.specs.Rows.{Line, rows_of}
+use Rattle.codespan_picture.specs.RowStreams.{break_row, empty_row, header_row, note_stream, start_row, stream_of_rows}
 use Rattle.codespan_renderer.specs.declared.term.renderer.Renderer.{Renderer}
 
--- the writer that it draws to
+-- the writer that it renders to
 abbrev pub writer_of : {W : Type 0} → Renderer W → W
 writer_of r = r.writer.now
 
--- the reference that it draws through
+-- the reference that it renders through
 abbrev pub reference_of : {W : Type 0} → Renderer W → GName
 reference_of r = r.writer.ghost_name
 
--- the configuration that it draws by
+-- the configuration that it renders by
 abbrev pub config_of : {W : Type 0} → Renderer W → Config
 config_of r = r.config.now
 
--- it draws through the same reference by the same configuration
+-- it renders through the same reference by the same configuration
 pub record SameRenderer {W : Type 0} (old new : Renderer W) : Type 0 where
   pub reference : reference_of new ≡ reference_of old
   pub config : config_of new ≡ config_of old
@@ -29,3 +42,52 @@ sink_behind name s = record s { frame = record s.frame { through = name ∷ s.fr
 -- the law sees a renderer as its writer, behind its reference
 abbrev pub renderer_sink : {W : Type 0} → (W → Sink) → Renderer W → Sink
 renderer_sink sink r = sink_behind (reference_of r) (sink (writer_of r))
+
+-- a call renders a stream: the writer receives the stream, or a prefix of it where the call fails;
+-- the call fails with `Io` alone; the renderer keeps its writer and its configuration
+pub record Renders {W : Type 0} (sink : W → Sink) (items : Stream)
+    (old : Renderer W) (result : Result (Unit {0}) Error) (new : Renderer W) : Type 0 where
+  pub same : SameRenderer old new
+  pub sends : Sends (sink (writer_of old)) items result (sink (writer_of new))
+  pub io : IfErr result IsIo
+
+-- ---- what each call renders
+
+-- the header of a diagnostic
+abbrev pub rendered_header : Option (Bor rust_locus.Locus) → Severity → Option (Bor (List ℕ))
+    → List ℕ → Stream
+rendered_header locus severity code message =
+    header_row severity (option_map (λ (at : Bor rust_locus.Locus). locus_view at.now) locus)
+    (record { code = option_map text_now code; message = message }) ++ newline
+
+-- the start of a file's snippet
+abbrev pub rendered_start : Config → ℕ → rust_locus.Locus → Stream
+rendered_start config padding locus = start_row config.chars padding (locus_view locus) ++ newline
+
+-- a line of the source, with the labels inside it and what labels over several lines do on it
+abbrev pub source_line : ℕ → List ℕ → List GivenLabel → ℕ → List GivenMark → Line
+source_line number source labels lane_count marks = record {
+  number = number;
+  text = drawn_text source;
+  labels = single_label_views labels;
+  lanes = lanes_of lane_count marks;
+}
+
+-- all rows of a line of the source
+abbrev pub rendered_source : Config → Severity → ℕ → Line → Stream
+rendered_source config severity padding line =
+    stream_of_rows (look_of config severity padding) (rows_of line)
+
+-- a row of a snippet without text
+abbrev pub rendered_empty : Config → Severity → ℕ → ℕ → List GivenMark → Stream
+rendered_empty config severity padding lane_count marks =
+    empty_row (look_of config severity padding) (lanes_of lane_count marks) ++ newline
+
+-- the row of a break
+abbrev pub rendered_break : Config → Severity → ℕ → ℕ → List GivenMark → Stream
+rendered_break config severity padding lane_count marks =
+    break_row (look_of config severity padding) (lanes_of lane_count marks) ++ newline
+
+-- the rows of a note
+abbrev pub rendered_note : Config → ℕ → List ℕ → Stream
+rendered_note config padding message = note_stream config.chars padding (lines message)

@@ -6,7 +6,7 @@ use Rattle.std.proofs.lemmas.List.{append-nil}
 use Rattle.std.proofs.lemmas.List.Elements.{filter_map-append, filter_agree, recursion_from_All, All-from_recursion}
 use Rattle.std.proofs.lemmas.List.Sorted.{All-permutation, list_any-IsPermutation}
 use Rattle.codespan_base.specs.declared.term.config.Config.{Config}
-use Rattle.codespan_base.specs.FileModel.{FileModel, line_count}
+use Rattle.codespan_base.specs.FileModel.{FileDatabase, FileModel, line_count}
 use Rattle.codespan_base.specs.Labels.{Labelled, is_single, first_line, drawn_label, single_labels, sorted}
 use Rattle.codespan_reporting.specs.declared.term.views.gather.Gathered.{Gathered}
 use Rattle.codespan_reporting.specs.Inner.Entries.{Entry, Says, Shown, Single, kind_of, is_below, tells_shown, is_on_line, is_of_file}
@@ -19,7 +19,6 @@ use Rattle.codespan_picture.specs.Lookups.{filled_lines}
 use Rattle.codespan_reporting.specs.Inner.PlacedLabels.{IsIdAt, all_entries}
 use Rattle.codespan_picture.specs.Snippets.{InFile, LabelledFile, labelled_file, line_at, drawing, rows_after, has_any, file_ids}
 use Rattle.codespan_reporting.specs.Inner.Steps.{without_shown, steps_of, single_of, singles_in, line_of_group, rows_of_steps, fills_of, does_step_fit}
-use Rattle.codespan_reporting.specs.Inner.Tables.{FileTable}
 use Rattle.codespan_reporting.proofs.EntryGroups.{IsRising, steps_after, steps-by_line, all-on_line}
 use Rattle.codespan_reporting.proofs.EntryLines as entry_lines
 use Rattle.codespan_reporting.proofs.EntryLines.{HasPlace, says_range, is_of_range}
@@ -108,7 +107,7 @@ lines-rise f (x ∷ xs) h a = (
 
 -- ---- the entries of a file
 
-module _ {Id : Type 0} {table : FileTable Id} (lawful : AreFiles table)
+module _ {Id : Type 0} {table : FileDatabase Id} (lawful : AreFiles table)
     {config : Config} {xs : List (InFile Id)} {gathered : Gathered Id} (told : IsGathered table config xs gathered)
     (f : ℕ) (id : Id) (at : IsIdAt (file_ids table.same xs) f id) where
   -- which ids name one file, and the file that an id names

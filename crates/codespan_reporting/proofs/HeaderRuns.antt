@@ -1,10 +1,9 @@
 -- Headers of labels, one after another.
-use Rattle.std.proofs.Common.{◌≡◌, ◌≢◌, ℕ, ◌+◌, ◌<◌, Bool, true, false, cond, ◌&&◌, ◌||◌, List, [], ◌∷◌, ◌++◌, length, map, filter, flat_map, take, drop, Option, None, Some, Result, Ok, Err, ⊎_elim, inl, inr, refl, sym, subst, ap, ap₂, ◌∙◌, append_assoc, append-nil, arith}
-use Rattle.std.specs.Prelude.{Contains, IsSome, IfErr, is_none, take_while}
+use Rattle.std.proofs.Common.{◌≡◌, ◌≢◌, ℕ, ◌+◌, ◌<◌, Bool, true, false, cond, ◌||◌, List, [], ◌∷◌, ◌++◌, length, map, filter, flat_map, take, drop, Option, None, Some, Result, Ok, Err, ⊎_elim, inl, inr, refl, sym, subst, ap, ap₂, ◌∙◌, append_assoc, append-nil, arith}
+use Rattle.std.specs.Prelude.{Contains, IfErr}
 use Rattle.std.specs.List.{AllZip}
 use Rattle.std.proofs.lemmas.Grind.{flat_map-append}
 use Rattle.std.proofs.lemmas.List.{map-append, map_more, length-append, take-append-drop}
-use Rattle.std.proofs.lemmas.List.Sums.{take_while-cons}
 use Rattle.std.proofs.lemmas.List.Elements.{Contains-append_left, Contains-append_right, Contains-append_cases, filter-append}
 use Rattle.codespan_base.specs.declared.diagnostic.Diagnostic.{Diagnostic}
 use Rattle.codespan_base.specs.declared.diagnostic.Label.{Label}
@@ -13,21 +12,22 @@ use Rattle.codespan_base.specs.declared.files.Error.TheVariants.{FormatError, Ou
 use Rattle.codespan_base.specs.declared.term.config.Config.{Config}
 use Rattle.codespan_base.specs.declared.term.config.DisplayStyle.TheVariants.{Short, Medium}
 use Rattle.codespan_base.specs.Errors.{IsIo}
-use Rattle.codespan_base.specs.FileModel.{FileModel, Lookup, or_refusal}
-use Rattle.codespan_base.specs.FileModel.Lookup.{Name, LocationAt}
+use Rattle.codespan_base.specs.FileModel.{FileDatabase, FileModel, Lookup}
 use Rattle.codespan_base.specs.Labels.{is_primary}
 use Rattle.codespan_base.specs.Streams.{Stream, newline}
 use Rattle.codespan_base.specs.WriterLaw.{Sink, sent, is_told, Began, Sends, refusing}
 use Rattle.codespan_base.proofs.Sends.{is_told-sent, sent-append, sent-nil, Began-first, Began-last}
 use Rattle.codespan_picture.specs.Lookups.{Refusals, first_refusal, header_asked}
-use Rattle.codespan_picture.specs.Picture.{heading_of, label_of, labels_of, look_of, notes_of}
-use Rattle.codespan_picture.specs.Placed.{IsPlaceOfLabel, place_of_label, placed_header_rows, placed_headers}
-use Rattle.codespan_picture.specs.Rows.{HeaderRow, Heading, Look, Place, Row}
+use Rattle.codespan_picture.specs.Picture.{AreLoci, IsLocus, heading_of, label_of, label_start, labels_of, look_of, notes_of, stated_locus}
+use Rattle.codespan_reporting.specs.Inner.TextLoci.{IsLocusOfLabel}
+use Rattle.codespan_picture.specs.Rows.{HeaderRow, Heading, Look, Locus, Row}
 use Rattle.codespan_picture.specs.RowStreams.{header_row, stream_of, stream_of_rows}
-use Rattle.codespan_picture.specs.Snippets.{InFile, has_any, header_at, header_rows_of, note_rows, primary_of, short_rows}
-use Rattle.codespan_reporting.specs.Headline.{DrawsShort, NamesAreStated}
+use Rattle.codespan_picture.specs.Snippets.{InFile, has_any, header_rows, headers, note_rows, primary_of}
+use Rattle.codespan_reporting.specs.Output.{IsAnswered, WritesStyled}
+use Rattle.codespan_reporting.proofs.OutputLoci.{label_loci, label_texts}
+use Rattle.std.proofs.Math.Seq.{take-append_seam}
 use Rattle.codespan_reporting.specs.Inner.Headers.{HeaderRefused, HeadersCame, HeadersEnded, HeaderStopped}
-use Rattle.codespan_laws.proofs.PlacedPictures.{each_of, headers-are, place_is, places_of_labels, zip_append}
+use Rattle.codespan_laws.proofs.Loci.{locus_there, zip_append, zip_each, zip_length, zip_map, zip_weaker}
 use Rattle.codespan_reporting.proofs.LabelPlaces.{StandsAt}
 use Rattle.codespan_reporting.proofs.Drawing.{Began-none}
 use Rattle.codespan_reporting.proofs.Refusals.{all_answered, first_refusal-none, first_refusal-some}
@@ -84,122 +84,56 @@ primary_cut {Id} items i =
     ∙ ap primary_of (map-append label_of (take i items) (drop i items))
     ∙ filter-append (λ (x : InFile Id). is_primary x.label) (map label_of (take i items)) (map label_of (drop i items))
 
--- ---- one label's lookups
-
--- whether both lookups for a header are answered
-abbrev is_answered : {Id : Type 0} → Refusals Id → InFile Id → Bool
-is_answered refusal x = is_none (refusal x.id Name) && is_none (refusal x.id (LocationAt x.label.start))
-
--- where the two refuse nothing, each is answered
-both_answered : (o p : Option Error) → or_refusal o (or_refusal p None) ≡ None → (is_none o && is_none p) ≡ true
-both_answered None None h = refl
-both_answered None (Some e) h = cc
-both_answered (Some e) p h = cc
-
--- where one of the two refuses, not both are answered
-one_refused : (o p : Option Error) (e : Error) → or_refusal o (or_refusal p None) ≡ Some e → (is_none o && is_none p) ≡ false
-one_refused None None e h = cc
-one_refused None (Some x) e h = refl
-one_refused (Some x) p e h = refl
-
--- where the two refuse nothing, neither does
-none_first : (o p : Option Error) → or_refusal o p ≡ None → (o ≡ None) × (p ≡ None)
-none_first None p h = (refl, h)
-none_first (Some x) p h = cc
-
--- lookups of which the first ones are answered as all are
-none_of_first : {Id : Type 0} (refusal : Refusals Id) (ls ms : List (Id × Lookup)) → first_refusal refusal (ls ++ ms) ≡ None
-    → (first_refusal refusal ls ≡ None) × (first_refusal refusal ms ≡ None)
-none_of_first refusal [] ms h = (refl, h)
-none_of_first refusal (l ∷ ls) ms h =
-    let parts = none_first (refusal l.0 l.1) (first_refusal refusal (ls ++ ms)) h in
-    let later = none_of_first refusal ls ms parts.1 in
-    (ap (λ (o : Option Error). or_refusal o (first_refusal refusal ls)) parts.0 ∙ later.0, later.1)
-
 -- no places of no labels
-no_places : {X : Type 0} (R : X → Place → Type 0) (xs : List X) (ps : List Place) → xs ≡ [] → AllZip R xs ps → ps ≡ []
+no_places : {X : Type 0} (R : X → Locus → Type 0) (xs : List X) (ps : List Locus) → xs ≡ [] → AllZip R xs ps → ps ≡ []
 no_places R [] [] is h = refl
 no_places R [] (p ∷ ps) is h = absurd h
 no_places R (x ∷ xs) ps is h = cc
 
 -- where there is a label there is a place, and a header for each
-placed_some : {X : Type 0} (R : X → Place → Type 0) (heading : Heading) (xs : List X) (ps : List Place) → has_any xs ≡ true → AllZip R xs ps
-    → placed_header_rows heading ps ≡ placed_headers heading ps
+placed_some : {X : Type 0} (R : X → Locus → Type 0) (heading : Heading) (xs : List X) (ps : List Locus) → has_any xs ≡ true → AllZip R xs ps
+    → header_rows heading ps ≡ headers heading ps
 placed_some R heading [] ps some h = cc
 placed_some R heading (x ∷ xs) [] some h = absurd h
 placed_some R heading (x ∷ xs) (p ∷ ps) some h = refl
 
--- labels whose lookups are answered, and then one whose are not
-run_before : {Id : Type 0} (refusal : Refusals Id) (before : List (InFile Id)) (here : InFile Id) (after : List (InFile Id)) → first_refusal refusal (flat_map header_asked before) ≡ None
-    → is_answered refusal here ≡ false → take_while (is_answered refusal) (before ++ here ∷ after) ≡ before
-run_before refusal [] here after answered refused =
-    take_while-cons (is_answered refusal) here after ∙ ap (λ (b : Bool). cond b (here ∷ take_while (is_answered refusal) after) []) refused
-run_before {Id} refusal (x ∷ xs) here after answered refused =
-    let parts = none_of_first refusal (header_asked x) (flat_map header_asked xs) answered in
-    let passes : is_answered refusal x ≡ true = both_answered _ _ parts.0 in
-    take_while-cons (is_answered refusal) x (xs ++ here ∷ after)
-    ∙ ap (λ (b : Bool). cond b (x ∷ take_while (is_answered refusal) (xs ++ here ∷ after)) []) passes
-    ∙ ap (λ (l : List (InFile Id)). x ∷ l) (run_before refusal xs here after parts.1 refused)
-
 -- ---- the streams
+
+-- the locus of a label with the name that its file states
+abbrev stated_of : {Id : Type 0} → (Id → FileModel) → InFile Id → Locus
+stated_of file x = stated_locus (label_start file x)
 
 -- the labels that have headers
 abbrev causes : {Id : Type 0} → Diagnostic Id → List (InFile Id)
 causes d = primary_of (labels_of d)
 
--- the names of these labels' files are stated
-abbrev AreNamed : {Id : Type 0} → (Id → FileModel) → List (InFile Id) → Type 0
-AreNamed {Id} file xs = (x : InFile Id) → Contains xs x → IsSome (file x.id).name
-
--- they are of files that state their names
-named_causes : {Id : Type 0} (file : Id → FileModel) (d : Diagnostic Id) → NamesAreStated file d → AreNamed file (causes d)
-named_causes file d named x m = named x (unfiltered (λ (y : InFile _). is_primary y.label) x (labels_of d) m)
-
-module _ {Id : Type 0} (config : Config) (file : Id → FileModel) (d : Diagnostic Id) where
+module _ {Id : Type 0} (config : Config) (d : Diagnostic Id) where
   -- what all rows share
   abbrev look : Look
   look = look_of config d.severity 0
 
-  -- the headers of labels
-  abbrev headed : List (InFile Id) → Stream
-  headed xs = stream_of_rows look (map (header_at file (heading_of d)) xs)
-
-  -- those of some labels, and then of others
-  headed-append : (xs ys : List (InFile Id)) → headed (xs ++ ys) ≡ headed xs ++ headed ys
-  headed-append xs ys =
-      ap (stream_of_rows look) (map-append (header_at file (heading_of d)) xs ys)
-      ∙ flat_map-append (λ (row : Row). stream_of look row ++ newline) (map (header_at file (heading_of d)) xs) (map (header_at file (heading_of d)) ys)
-
   -- headers with places
-  abbrev placed : List Place → Stream
-  placed ps = stream_of_rows look (placed_headers (heading_of d) ps)
+  abbrev placed : List Locus → Stream
+  placed ps = stream_of_rows look (headers (heading_of d) ps)
 
   -- those of some places, and then of others
-  placed-append : (ps qs : List Place) → placed (ps ++ qs) ≡ placed ps ++ placed qs
+  placed-append : (ps qs : List Locus) → placed (ps ++ qs) ≡ placed ps ++ placed qs
   placed-append ps qs =
-      ap (stream_of_rows look) (map-append (λ (p : Place). HeaderRow (Some p) (heading_of d)) ps qs)
-      ∙ flat_map-append (λ (row : Row). stream_of look row ++ newline) (placed_headers (heading_of d) ps) (placed_headers (heading_of d) qs)
+      ap (stream_of_rows look) (map-append (λ (p : Locus). HeaderRow (Some p) (heading_of d)) ps qs)
+      ∙ flat_map-append (λ (row : Row). stream_of look row ++ newline) (headers (heading_of d) ps) (headers (heading_of d) qs)
 
   -- the header at a place
-  abbrev header : Option Place → Stream
+  abbrev header : Option Locus → Stream
   header place = header_row d.severity place (heading_of d) ++ newline
 
-  -- the row of a label whose place this is
-  row_is : (x : InFile Id) (place : Place) → place ≡ place_of_label file x → header (Some place) ≡ headed (x ∷ [])
-  row_is x place is = ap (λ (p : Place). header (Some p)) is ∙ sym (append-nil _)
+  -- a short output with these loci
+  abbrev short : List Locus → Stream
+  short ps = stream_of_rows look (header_rows (heading_of d) ps)
 
-  -- a short picture
-  abbrev short : Stream
-  short = stream_of_rows look (short_rows file (heading_of d) (labels_of d))
-
-  -- where there is a primary label, its rows are the picture's
-  located : (xs : List (InFile Id)) → has_any xs ≡ true → stream_of_rows look (header_rows_of file (heading_of d) xs) ≡ headed xs
-  located [] h = cc
-  located (x ∷ xs) h = refl
-
-  -- where there is none, it is one header without a place
-  bare_rows : causes d ≡ [] → short ≡ header None
-  bare_rows none = ap (λ (xs : List (InFile Id)). stream_of_rows look (header_rows_of file (heading_of d) xs)) none ∙ append-nil _
+  -- where there is one, it has a header for each
+  short-some : (ps : List Locus) (p : Locus) (qs : List Locus) → short (ps ++ p ∷ qs) ≡ placed (ps ++ p ∷ qs)
+  short-some [] p qs = refl
+  short-some (q ∷ ps) p qs = refl
 
   -- the notes after it
   abbrev noted : Stream
@@ -209,10 +143,6 @@ module _ {Id : Type 0} (config : Config) (file : Id → FileModel) (d : Diagnost
   noted-after : (rows : List Row) → stream_of_rows look (rows ++ note_rows (notes_of d)) ≡ stream_of_rows look rows ++ noted
   noted-after rows = flat_map-append (λ (row : Row). stream_of look row ++ newline) rows (note_rows (notes_of d))
 
-  -- the rows of medium style are those of short style and the notes
-  medium-is : stream_of_rows look (short_rows file (heading_of d) (labels_of d) ++ note_rows (notes_of d)) ≡ short ++ noted
-  medium-is = noted-after (short_rows file (heading_of d) (labels_of d))
-
 -- ---- one run of headers after another
 
 module _ {Id : Type 0} {config : Config} {file : Id → FileModel} {refusal : Refusals Id} {d : Diagnostic Id} where
@@ -220,26 +150,18 @@ module _ {Id : Type 0} {config : Config} {file : Id → FileModel} {refusal : Re
   pub none_yet : {s t : Sink} → t ≡ s → HeadersCame config file refusal d s [] t
   none_yet {s} same = record { frame = ap (λ (x : Sink). x.frame) same; places = []; are = tt; came = λ told. same ∙ sym (sent-nil s); answered = refl }
 
-  -- headers that came are those of labels whose files state their names
-  named_came : {s t : Sink} {xs : List (InFile Id)} → HeadersCame config file refusal d s xs t → AreNamed file xs → is_told s ≡ true → t ≡ sent s (headed config file d xs)
-  named_came {s} {xs = xs} came named told =
-      came.came told
-      ∙ ap (λ (ps : List Place). sent s (placed config file d ps))
-      (places_of_labels file xs came.places came.are (each_of (λ (x : InFile Id). IsSome (file x.id).name) xs named))
-      ∙ ap (λ (rows : List Row). sent s (stream_of_rows (look config file d) rows)) (headers-are file (heading_of d) xs)
-
   -- headers came, and then those of other labels
   came_more : {s t u : Sink} {xs ys : List (InFile Id)} → HeadersCame config file refusal d s xs t → HeadersCame config file refusal d t ys u → HeadersCame config file refusal d s (xs ++ ys) u
   came_more {s} {xs = xs} {ys = ys} first second = record {
     frame = second.frame ∙ first.frame;
     places = first.places ++ second.places;
-    are = zip_append (IsPlaceOfLabel file) xs ys first.places second.places first.are second.are;
+    are = zip_append (IsLocusOfLabel file) xs ys first.places second.places first.are second.are;
     came = λ told.
         let before = first.came told in
-        second.came (ap is_told before ∙ is_told-sent s (placed config file d first.places) ∙ told)
-        ∙ ap (λ (x : Sink). sent x (placed config file d second.places)) before
-        ∙ sym (sent-append s (placed config file d first.places) (placed config file d second.places))
-        ∙ ap (sent s) (sym (placed-append config file d first.places second.places));
+        second.came (ap is_told before ∙ is_told-sent s (placed config d first.places) ∙ told)
+        ∙ ap (λ (x : Sink). sent x (placed config d second.places)) before
+        ∙ sym (sent-append s (placed config d first.places) (placed config d second.places))
+        ∙ ap (sent s) (sym (placed-append config d first.places second.places));
     answered = ap (first_refusal refusal) (flat_map-append header_asked xs ys)
         ∙ first_refusal-none refusal (flat_map header_asked xs) (flat_map header_asked ys) first.answered
         ∙ second.answered;
@@ -307,9 +229,9 @@ module _ {Id : Type 0} {config : Config} {file : Id → FileModel} {refusal : Re
     ended = inr (record { same = refl; told = told });
   })
 
-  module _ (place : Place) {s t : Sink} (primary : is_primary x.label ≡ true) (there : IsPlaceOfLabel file x place) where
+  module _ (place : Locus) {s t : Sink} (primary : is_primary x.label ≡ true) (there : IsLocusOfLabel file x place) where
     -- the writer refused within it
-    pub stopped_one : {e : Error} → IsIo e → Sends s (header config file d (Some place)) (Err e) t → HeadersEnded config file refusal d s (primary_of (x ∷ [])) e t
+    pub stopped_one : {e : Error} → IsIo e → Sends s (header config d (Some place)) (Err e) t → HeadersEnded config file refusal d s (primary_of (x ∷ [])) e t
     stopped_one io sends = rw primary (record {
       before = [];
       here = x;
@@ -320,12 +242,14 @@ module _ {Id : Type 0} {config : Config} {file : Id → FileModel} {refusal : Re
       ended = inl (record {
         io = io;
         frame = sends.0;
-        begun = λ some told. subst (λ (l : Stream). Began s l t) (row_is config file d x place (place_is (file x.id) x.label.start place there some)) (sends.1 told);
+        place = place;
+        at = there;
+        begun = λ told. subst (λ (l : Stream). Began s l t) (sym (append-nil _)) (sends.1 told);
       });
     })
 
     -- it came
-    pub came_one : first_refusal refusal (header_asked x) ≡ None → Sends {E = Error} s (header config file d (Some place)) (Ok tt) t
+    pub came_one : first_refusal refusal (header_asked x) ≡ None → Sends {E = Error} s (header config d (Some place)) (Ok tt) t
         → HeadersCame config file refusal d s (primary_of (x ∷ [])) t × (true ≡ has_any (primary_of (x ∷ [])))
     came_one answered sends = rw primary (
       record {
@@ -341,7 +265,7 @@ module _ {Id : Type 0} {config : Config} {file : Id → FileModel} {refusal : Re
 -- ---- all of them
 
 -- the drawing ended at one of the labels
-module _ {Id : Type 0} {config : Config} {file : Id → FileModel} {refusal : Refusals Id} {d : Diagnostic Id} {old new : Sink} {e : Error} (w : HeadersEnded config file refusal d old (causes d) e new) where
+module _ {Id : Type 0} {config : Config} (files : FileDatabase Id) {d : Diagnostic Id} {old new : Sink} {e : Error} (w : HeadersEnded config files.file files.refusal d old (causes d) e new) where
   -- the lookups of the headers
   abbrev asked : List (Id × Lookup)
   asked = flat_map header_asked (causes d)
@@ -350,73 +274,84 @@ module _ {Id : Type 0} {config : Config} {file : Id → FileModel} {refusal : Re
   asked-split : asked ≡ flat_map header_asked w.before ++ (header_asked w.here ++ flat_map header_asked w.after)
   asked-split = ap (flat_map header_asked) (sym w.whole) ∙ flat_map-append header_asked w.before (w.here ∷ w.after)
 
-  -- the headers of the labels before it
-  abbrev first : Stream
-  first = headed config file d w.before
+  -- the loci of those before it, its own, and those of labels that are not asked
+  abbrev others : List Locus
+  others = map (stated_of files.file) w.after
 
-  -- its header, and those of the others
-  abbrev rest : Stream
-  rest = headed config file d (w.here ∷ []) ++ headed config file d w.after
+  abbrev loci_with : Locus → List Locus
+  loci_with here = w.came.places ++ here ∷ others
 
-  -- these are the picture
-  split : short config file d ≡ first ++ rest
-  split =
-      located config file d (causes d) (sym (ap has_any w.whole) ∙ any_there w.before w.here w.after)
-      ∙ ap (headed config file d) (sym w.whole)
-      ∙ headed-append config file d w.before (w.here ∷ w.after)
-      ∙ ap (λ (s : Stream). first ++ s) (headed-append config file d (w.here ∷ []) w.after)
+  -- they are loci
+  abbrev IsLocusOf : InFile Id → Locus → Type 0
+  IsLocusOf x p = IsLocus (label_start files.file x) p
 
-  -- where all names are stated, so are those of these labels
-  named_parts : NamesAreStated file d → AreNamed file w.before × IsSome (file w.here.id).name
-  named_parts named =
-      let all : AreNamed file (w.before ++ w.here ∷ w.after) = subst (AreNamed file) (sym w.whole) (named_causes file d named) in (
-        λ x m. all x (Contains-append_left w.before (w.here ∷ w.after) x m),
-        all w.here (Contains-append_right w.before (w.here ∷ w.after) w.here (0, omega arith, refl)),
-      )
+  loci_with-are : (here : Locus) → IsLocusOf w.here here → AreLoci files d Short (loci_with here)
+  loci_with-are here is =
+      subst (λ (xs : List (InFile Id)). AllZip IsLocus (map (label_start files.file) xs) (loci_with here)) w.whole
+      (zip_map IsLocus (label_start files.file) (w.before ++ w.here ∷ w.after) (loci_with here)
+      (zip_append IsLocusOf w.before (w.here ∷ w.after) w.came.places (here ∷ others)
+      (zip_weaker (IsLocusOfLabel files.file) IsLocusOf (λ x p h. h.is_locus) w.before w.came.places w.came.are)
+      (is, zip_each IsLocusOf (stated_of files.file) (λ x. locus_there (label_start files.file x)) w.after)))
 
   -- the headers of the labels before it came
-  came_before : NamesAreStated file d → is_told old ≡ true → w.mid ≡ sent old first
-  came_before named told = named_came w.came (named_parts named).0 told
+  abbrev first : Stream
+  first = placed config d w.came.places
 
-  -- a beginning of the rest is one of the picture, after what came
-  begun_whole : w.mid ≡ sent old first → Began w.mid rest new → Began old (short config file d) new
-  begun_whole is begun = subst (λ (s : Stream). Began old s new) (sym split) (Began-last old first rest new (subst (λ (x : Sink). Began x rest new) is begun))
+  -- a beginning of the rest is one of the output, after what came
+  begun_whole : (here : Locus) → is_told old ≡ true → (is_told w.mid ≡ true → Began w.mid (placed config d (here ∷ others)) new) → Began old (short config d (loci_with here)) new
+  begun_whole here told begun =
+      let is = w.came.came told in
+      let rest = placed config d (here ∷ others) in
+      subst (λ (s : Stream). Began old s new) (sym (short-some config d w.came.places here others ∙ placed-append config d w.came.places (here ∷ others)))
+      (Began-last old first rest new (subst (λ (x : Sink). Began x rest new) is (begun (ap is_told is ∙ is_told-sent old first ∙ told))))
 
   -- the call ends so
-  abbrev EndsShort : (Id → Id → Bool) → Type 0
-  EndsShort same = DrawsShort config same file refusal d Short old (Err e) new
+  abbrev EndsShort : Type 0
+  EndsShort = WritesStyled Short config config files d old (Err e) new
 
   -- the writer refused within a header
-  stopped_there : {same : Id → Id → Bool} → HeaderStopped config file refusal d w.mid w.here e new → EndsShort same
+  stopped_there : HeaderStopped config files.file files.refusal d w.mid w.here e new → EndsShort
   stopped_there stop = record {
-    drawn = record {
-      frame = inl (stop.io, stop.frame ∙ ap refusing w.came.frame);
-      stream = λ named told.
-          let is = came_before named told in
-          let there : is_told w.mid ≡ true = ap is_told is ∙ is_told-sent old first ∙ told in
-          begun_whole is (Began-first w.mid (headed config file d (w.here ∷ [])) new (headed config file d w.after) (stop.begun (named_parts named).1 there));
-      answered = tt;
-      by_names = λ told. tt;
-    };
-    headers = λ named told of. absurd (of.no_writer stop.io (stop.frame ∙ ap refusing w.came.frame));
+    loci = loci_with stop.place;
+    are = loci_with-are stop.place stop.at.is_locus;
+    gains = λ told. begun_whole stop.place told (λ there.
+        subst (λ (s : Stream). Began w.mid s new) (sym (placed-append config d (stop.place ∷ []) others))
+        (Began-first w.mid (placed config d (stop.place ∷ [])) new (placed config d others) (stop.begun there)));
+    ends = record { cause = inl (stop.io, stop.frame ∙ ap refusing w.came.frame); early = λ rich. cc };
   }
 
   -- a lookup for a header refused, or memory, or a Display
-  refused_there : {same : Id → Id → Bool} → HeaderRefused config file refusal d w.mid w.here e new → EndsShort same
-  refused_there stop = record {
-    drawn = record {
-      frame = inr (ap (λ (x : Sink). x.frame) stop.same ∙ w.came.frame, (some, told_all));
-      stream = λ named told. begun_whole (came_before named told) (Began-none w.mid rest new stop.same);
-      answered = tt;
-      by_names = λ told. tt;
-    };
-    headers = λ named told of.
-        let here_refused : is_answered refusal w.here ≡ false = one_refused _ _ e (stop.told of.no_memory of.no_display) in
-        let run : take_while (is_answered refusal) (causes d) ≡ w.before =
-        ap (take_while (is_answered refusal)) (sym w.whole) ∙ run_before refusal w.before w.here w.after w.came.answered here_refused in
-        stop.same ∙ came_before named told ∙ ap (λ (xs : List (InFile Id)). sent old (headed config file d xs)) (sym run);
-  }
+  refused_there : HeaderRefused config files.file files.refusal d w.mid w.here e new → EndsShort
+  refused_there stop =
+      let here = stated_of files.file w.here in
+      record {
+        loci = loci_with here;
+        are = loci_with-are here (locus_there (label_start files.file w.here));
+        gains = λ told. begun_whole here told (λ there. Began-none w.mid (placed config d (here ∷ others)) new stop.same);
+        ends = record {
+          cause = inr (
+            ap (λ (x : Sink). x.frame) stop.same ∙ w.came.frame,
+            (some, told_all),
+            record {
+              before = w.before;
+              here = w.here;
+              after = w.after;
+              whole = w.whole;
+              answered = all_answered files.refusal (flat_map header_asked w.before) w.came.answered;
+              refused = (omega arith, stop.told);
+              wrote = λ told. stop.same ∙ w.came.came told ∙ ap (λ (ps : List Locus). sent old (placed config d ps)) (sym (taken here));
+            },
+          );
+          early = λ rich. cc;
+        };
+      }
     where
+      -- the first of them are those of the labels before it
+      taken : (here : Locus) → take (length w.before) (loci_with here) ≡ w.came.places
+      taken here =
+          ap (λ n. take n (loci_with here)) (zip_length (IsLocusOfLabel files.file) w.before w.came.places w.came.are)
+          ∙ take-append_seam w.came.places (here ∷ others)
+
       some : 0 < length asked
       some = omega (
         arith,
@@ -425,144 +360,117 @@ module _ {Id : Type 0} {config : Config} {file : Id → FileModel} {refusal : Re
         length-append (header_asked w.here) (flat_map header_asked w.after),
       )
 
-      told_all : e ≢ OutOfMemory → e ≢ FormatError → first_refusal refusal asked ≡ Some e
+      told_all : e ≢ OutOfMemory → e ≢ FormatError → first_refusal files.refusal asked ≡ Some e
       told_all p q =
-          ap (first_refusal refusal) asked-split
-          ∙ first_refusal-none refusal (flat_map header_asked w.before) (header_asked w.here ++ flat_map header_asked w.after) w.came.answered
-          ∙ first_refusal-some refusal (header_asked w.here) (flat_map header_asked w.after) e (stop.told p q)
+          ap (first_refusal files.refusal) asked-split
+          ∙ first_refusal-none files.refusal (flat_map header_asked w.before) (header_asked w.here ++ flat_map header_asked w.after) w.came.answered
+          ∙ first_refusal-some files.refusal (header_asked w.here) (flat_map header_asked w.after) e (stop.told p q)
 
   -- either way
-  pub headers_ended : {same : Id → Id → Bool} → EndsShort same
-  headers_ended {same} =
-      ⊎_elim (λ (stop : HeaderStopped config file refusal d w.mid w.here e new). stopped_there {same = same} stop)
-      (λ (stop : HeaderRefused config file refusal d w.mid w.here e new). refused_there {same = same} stop)
+  pub headers_ended : EndsShort
+  headers_ended =
+      ⊎_elim (λ (stop : HeaderStopped config files.file files.refusal d w.mid w.here e new). stopped_there stop)
+      (λ (stop : HeaderRefused config files.file files.refusal d w.mid w.here e new). refused_there stop)
       w.ended
 
 -- the headers of all of them came
-module _ {Id : Type 0} {config : Config} {file : Id → FileModel} {refusal : Refusals Id} {d : Diagnostic Id} {old mid : Sink} (came : HeadersCame config file refusal d old (causes d) mid) where
-  -- the call draws so
-  abbrev DrawsSo : (Id → Id → Bool) → Result (Unit {0}) Error → Sink → Type 0
-  DrawsSo same r new = DrawsShort config same file refusal d Short old r new
+module _ {Id : Type 0} {config : Config} (files : FileDatabase Id) {d : Diagnostic Id} {old mid : Sink} (came : HeadersCame config files.file files.refusal d old (causes d) mid) where
+  -- all were answered
+  whole_answered : IsAnswered config files d Short came.places
+  whole_answered = record {
+    answered = all_answered files.refusal (flat_map header_asked (causes d)) came.answered;
+    texts = label_texts files d came.places came.are;
+  }
 
   -- there are some
-  pub headers_came : {same : Id → Id → Bool} → has_any (causes d) ≡ true → DrawsSo same (Ok tt) mid
+  pub headers_came : has_any (causes d) ≡ true → WritesStyled Short config config files d old (Ok tt) mid
   headers_came some = record {
-    drawn = record {
-      frame = came.frame;
-      stream = λ named told. named_came came (named_causes file d named) told ∙ ap (sent old) (sym (located config file d (causes d) some));
-      answered = all_answered refusal (flat_map header_asked (causes d)) came.answered;
-      by_names = λ told. record {
-        places = came.places;
-        are = came.are;
-        holds = came.came told
-            ∙ ap (λ (rows : List Row). sent old (stream_of_rows (look config file d) rows)) (sym (placed_some (IsPlaceOfLabel file) (heading_of d) (causes d) came.places some came.are));
-      };
-    };
-    headers = λ named told. tt;
+    loci = came.places;
+    are = label_loci files d came.places came.are;
+    gains = λ told. came.came told
+        ∙ ap (λ (rows : List Row). sent old (stream_of_rows (look config d) rows)) (sym (placed_some (IsLocusOfLabel files.file) (heading_of d) (causes d) came.places some came.are));
+    ends = (came.frame, whole_answered);
   }
 
   -- there are none, so nothing came
+  nowhere : has_any (causes d) ≡ false → came.places ≡ []
+  nowhere none = no_places (IsLocusOfLabel files.file) (causes d) came.places (none_there (causes d) none) came.are
+
   none_came : has_any (causes d) ≡ false → is_told old ≡ true → mid ≡ old
-  none_came none told =
-      let nowhere : came.places ≡ [] = no_places (IsPlaceOfLabel file) (causes d) came.places (none_there (causes d) none) came.are in
-      came.came told ∙ ap (λ (ps : List Place). sent old (placed config file d ps)) nowhere ∙ sent-nil old
+  none_came none told = came.came told ∙ ap (λ (ps : List Locus). sent old (placed config d ps)) (nowhere none) ∙ sent-nil old
+
+  -- the output is one header
+  bare : has_any (causes d) ≡ false → short config d came.places ≡ header config d None
+  bare none = ap (short config d) (nowhere none) ∙ append-nil _
 
   -- then a header without a place was sent
-  pub bare_header : {same : Id → Id → Bool} {new : Sink} (r : Result (Unit {0}) Error) → has_any (causes d) ≡ false → Sends mid (header config file d None) r new → IfErr r IsIo
-      → DrawsSo same r new
-  bare_header {new = new} (Ok x) none sends io = record {
-    drawn = record {
-      frame = sends.0 ∙ came.frame;
-      stream = λ named told. came_bare told ∙ ap (sent old) (sym (bare_rows config file d (none_there (causes d) none)));
-      answered = all_answered refusal (flat_map header_asked (causes d)) came.answered;
-      by_names = λ told. record {
-        places = [];
-        are = subst (λ (xs : List (InFile Id)). AllZip (IsPlaceOfLabel file) xs []) (sym (none_there (causes d) none)) tt;
-        holds = came_bare told ∙ ap (sent old) (sym (append-nil _));
-      };
-    };
-    headers = λ named told. tt;
+  pub bare_header : {new : Sink} (r : Result (Unit {0}) Error) → has_any (causes d) ≡ false → Sends mid (header config d None) r new → IfErr r IsIo
+      → WritesStyled Short config config files d old r new
+  bare_header {new} (Ok x) none sends io = record {
+    loci = came.places;
+    are = label_loci files d came.places came.are;
+    gains = λ told.
+        let is = none_came none told in
+        sends.1 (ap is_told is ∙ told) ∙ ap (λ (y : Sink). sent y (header config d None)) is ∙ ap (sent old) (sym (bare none));
+    ends = (sends.0 ∙ came.frame, whole_answered);
   }
-    where
-      came_bare : is_told old ≡ true → new ≡ sent old (header config file d None)
-      came_bare told =
-          let is = none_came none told in
-          sends.1 (ap is_told is ∙ told) ∙ ap (λ (y : Sink). sent y (header config file d None)) is
-  bare_header {new = new} (Err e) none sends io = record {
-    drawn = record {
-      frame = inl (io, sends.0 ∙ ap refusing came.frame);
-      stream = λ named told.
-          let is = none_came none told in
-          subst (λ (s : Stream). Began old s new) (sym (bare_rows config file d (none_there (causes d) none)))
-          (subst (λ (x : Sink). Began x (header config file d None) new) is (sends.1 (ap is_told is ∙ told)));
-      answered = tt;
-      by_names = λ told. tt;
-    };
-    headers = λ named told of. absurd (of.no_writer io (sends.0 ∙ ap refusing came.frame));
+  bare_header {new} (Err e) none sends io = record {
+    loci = came.places;
+    are = label_loci files d came.places came.are;
+    gains = λ told.
+        let is = none_came none told in
+        subst (λ (s : Stream). Began old s new) (sym (bare none))
+        (subst (λ (x : Sink). Began x (header config d None) new) is (sends.1 (ap is_told is ∙ told)));
+    ends = record { cause = inl (io, sends.0 ∙ ap refusing came.frame); early = λ rich. cc };
   }
 
 -- ---- the notes after them
 
 -- the headers were cut short
-pub medium_ended : {Id : Type 0} {config : Config} {same : Id → Id → Bool} {file : Id → FileModel} {refusal : Refusals Id} {d : Diagnostic Id} {old new : Sink} {e : Error}
-    → DrawsShort config same file refusal d Short old (Err e) new → DrawsShort config same file refusal d Medium old (Err e) new
-medium_ended {config = config} {file = file} {d = d} {old = old} {new = new} drawn = record {
-  drawn = record {
-    frame = drawn.drawn.frame;
-    stream = λ named told. subst (λ (s : Stream). Began old s new) (sym (medium-is config file d)) (Began-first old (short config file d) new (noted config file d) (drawn.drawn.stream named told));
-    answered = tt;
-    by_names = λ told. tt;
-  };
-  headers = drawn.headers;
+pub medium_ended : {Id : Type 0} {config : Config} {files : FileDatabase Id} {d : Diagnostic Id} {old new : Sink} {e : Error}
+    → WritesStyled Short config config files d old (Err e) new → WritesStyled Medium config config files d old (Err e) new
+medium_ended {config = config} {d = d} {old = old} {new = new} drawn = record {
+  loci = drawn.loci;
+  are = drawn.are;
+  gains = λ told.
+      subst (λ (s : Stream). Began old s new) (sym (noted-after config d (header_rows (heading_of d) drawn.loci)))
+      (Began-first old (short config d drawn.loci) new (noted config d) (drawn.gains told));
+  ends = record { cause = drawn.ends.cause; early = λ rich. cc };
 }
 
 -- the headers came
-module _ {Id : Type 0} {config : Config} {same : Id → Id → Bool} {file : Id → FileModel} {refusal : Refusals Id} {d : Diagnostic Id} {old mid : Sink}
-    (drawn : DrawsShort config same file refusal d Short old (Ok tt) mid) where
+module _ {Id : Type 0} {config : Config} {files : FileDatabase Id} {d : Diagnostic Id} {old mid : Sink} (drawn : WritesStyled Short config config files d old (Ok tt) mid) where
   -- the notes
   abbrev notes : Stream
-  notes = noted config file d
+  notes = noted config d
 
-  -- the call draws in medium style
-  abbrev DrawsMedium : Result (Unit {0}) Error → Sink → Type 0
-  DrawsMedium r new = DrawsShort config same file refusal d Medium old r new
-
-  -- the writer has a stream, and then is sent the notes
-  notes_came : (before : Stream) {new : Sink} → Sends {E = Error} mid notes (Ok tt) new → mid ≡ sent old before → is_told old ≡ true → new ≡ sent old (before ++ notes)
-  notes_came before sends is told =
-      sends.1 (ap is_told is ∙ is_told-sent old before ∙ told) ∙ ap (λ (y : Sink). sent y notes) is ∙ sym (sent-append old before notes)
+  -- the headers
+  abbrev before : Stream
+  before = short config d drawn.loci
 
   -- the notes were sent after them, by an equal configuration
-  pub medium_sent : {now : Config} {new : Sink} (r : Result (Unit {0}) Error) → now ≡ config → Sends mid (noted now file d) r new → IfErr r IsIo → DrawsMedium r new
-  medium_sent {now} {new} r alike sends io = by r (sends_at (λ (k : Config). noted k file d) alike mid new r sends) io
+  pub medium_sent : {now : Config} {new : Sink} (r : Result (Unit {0}) Error) → now ≡ config → Sends mid (noted now d) r new → IfErr r IsIo
+      → WritesStyled Medium config config files d old r new
+  medium_sent {now} {new} r alike sends io = by r (sends_at (λ (k : Config). noted k d) alike mid new r sends) io
     where
-      by : (r : Result (Unit {0}) Error) → Sends mid notes r new → IfErr r IsIo → DrawsMedium r new
+      rows : stream_of_rows (look config d) (header_rows (heading_of d) drawn.loci ++ note_rows (notes_of d)) ≡ before ++ notes
+      rows = noted-after config d (header_rows (heading_of d) drawn.loci)
+
+      by : (r : Result (Unit {0}) Error) → Sends mid notes r new → IfErr r IsIo → WritesStyled Medium config config files d old r new
       by (Ok x) sends io = record {
-        drawn = record {
-          frame = sends.0 ∙ drawn.drawn.frame;
-          stream = λ named told. notes_came (short config file d) sends (drawn.drawn.stream named told) told ∙ ap (sent old) (sym (medium-is config file d));
-          answered = drawn.drawn.answered;
-          by_names = λ told.
-              let by_names = drawn.drawn.by_names told in
-              let rows = placed_header_rows (heading_of d) by_names.places in
-              record {
-                places = by_names.places;
-                are = by_names.are;
-                holds = notes_came (stream_of_rows (look config file d) rows) sends by_names.holds told ∙ ap (sent old) (sym (noted-after config file d rows));
-              };
-        };
-        headers = λ named told. tt;
+        loci = drawn.loci;
+        are = drawn.are;
+        gains = λ told.
+            let is = drawn.gains told in
+            sends.1 (ap is_told is ∙ is_told-sent old before ∙ told) ∙ ap (λ (y : Sink). sent y notes) is ∙ sym (sent-append old before notes) ∙ ap (sent old) (sym rows);
+        ends = (sends.0 ∙ drawn.ends.0, record { answered = drawn.ends.1.answered; texts = drawn.ends.1.texts });
       }
       by (Err e) sends io = record {
-        drawn = record {
-          frame = inl (io, sends.0 ∙ ap refusing drawn.drawn.frame);
-          stream = λ named told.
-              let is = drawn.drawn.stream named told in
-              subst (λ (s : Stream). Began old s new) (sym (medium-is config file d))
-              (Began-last old (short config file d) notes new
-              (subst (λ (y : Sink). Began y notes new) is (sends.1 (ap is_told is ∙ is_told-sent old (short config file d) ∙ told))));
-          answered = tt;
-          by_names = λ told. tt;
-        };
-        headers = λ named told of. absurd (of.no_writer io (sends.0 ∙ ap refusing drawn.drawn.frame));
+        loci = drawn.loci;
+        are = drawn.are;
+        gains = λ told.
+            let is = drawn.gains told in
+            subst (λ (s : Stream). Began old s new) (sym rows)
+            (Began-last old before notes new (subst (λ (y : Sink). Began y notes new) is (sends.1 (ap is_told is ∙ is_told-sent old before ∙ told))));
+        ends = record { cause = inl (io, sends.0 ∙ ap refusing drawn.ends.0); early = λ rich. cc };
       }

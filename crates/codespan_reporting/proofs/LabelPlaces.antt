@@ -7,7 +7,7 @@ use Rattle.std.proofs.lemmas.Bool.{cases_Bool}
 use Rattle.std.proofs.lemmas.List.{append-nil, append_assoc, get_or-map, map-append, map-set, take_more}
 use Rattle.std.proofs.lemmas.List.Elements.{filter-append}
 use Rattle.codespan_base.specs.declared.term.config.Config.{Config}
-use Rattle.codespan_base.specs.FileModel.{FileModel, IsLawful, line_count}
+use Rattle.codespan_base.specs.FileModel.{FileDatabase, FileModel, IsLawful, line_count}
 use Rattle.codespan_base.specs.Labels.{Labelled, first_line, is_single, last_line, multi_labels}
 use Rattle.codespan_reporting.specs.declared.term.views.label_lines.LabelLines.{LabelLines}
 use Rattle.codespan_reporting.specs.Inner.Entries.{Entry, entries_of}
@@ -16,7 +16,6 @@ use Rattle.codespan_reporting.specs.Inner.Lanes.{Lane, file_lanes, lane_of, lane
 use Rattle.codespan_reporting.specs.Inner.PlacedLabels.{file_place, place_after, entries_after}
 use Rattle.codespan_picture.specs.Lookups.{Refusals}
 use Rattle.codespan_picture.specs.Snippets.{InFile}
-use Rattle.codespan_reporting.specs.Inner.Tables.{FileTable, table_by}
 use Rattle.codespan_laws.proofs.SortedLists.{filter-nothing}
 use Rattle.codespan_reporting.proofs.FileOrder.{has}
 use Rattle.codespan_reporting.proofs.FilePlaces.{Differ, place-here, place-later}
@@ -44,19 +43,19 @@ map-changed h d step {xs} {place} {x} at new is =
     map-set h xs place new ∙ ap (set (map h xs) place) (is ∙ ap step (ap h at.is ∙ sym (get_or-map h xs place x d at.inside)))
 
 -- the table is lawful: sameness of ids is an equivalence, the same ids name one file, and each file has a line
-pub record AreFiles {Id : Type 0} (table : FileTable Id) : Type 0 where
+pub record AreFiles {Id : Type 0} (table : FileDatabase Id) : Type 0 where
   pub equivalence : IsEquivalence table.same
   pub one_file : (i j : Id) → table.same i j ≡ true → table.file i ≡ table.file j
   pub some_line : (i : Id) → 0 < line_count (table.file i)
 
--- a type of lawful tables has such files
-pub are-files : {F Id : Type 0} {same : Id → Id → Bool} {file : F → Id → FileModel} {refusal : F → Refusals Id} → IsEquivalence same
-    → ((files : F) (i j : Id) → same i j ≡ true → (file files i ≡ file files j) × (refusal files i ≡ refusal files j))
-    → ((files : F) (id : Id) → IsLawful (file files id)) → (files : F) → AreFiles (table_by same file refusal files)
-are-files equivalence same_file lawful files = record {
-  equivalence = equivalence;
-  one_file = λ i j alike. (same_file files i j alike).0;
-  some_line = λ id. (lawful files id).some_line;
+-- a lawful database, whose equality of ids is this one, has such files
+pub are-files : {Id : Type 0} {table : FileDatabase Id} {same : Id → Id → Bool} → table.same ≡ same → IsEquivalence same
+    → ((i j : Id) → table.same i j ≡ true → (table.file i ≡ table.file j) × (table.refusal i ≡ table.refusal j))
+    → ((id : Id) → IsLawful (table.file id)) → AreFiles table
+are-files is equivalence same_file lawful = record {
+  equivalence = subst IsEquivalence (sym is) equivalence;
+  one_file = λ i j alike. (same_file i j alike).0;
+  some_line = λ id. (lawful id).some_line;
 }
 
 -- where what is kept for each id changes, it is this for those that are the same as one, and stays for the others
@@ -116,7 +115,7 @@ module _ {Id : Type 0} {same : Id → Id → Bool} (o : IsEquivalence same) wher
         (cases_Bool (same j i))
 
 -- equal ids have the same lanes
-pub lanes_in-alike : {Id : Type 0} {table : FileTable Id} (lawful : AreFiles table) (before : List (InFile Id)) (i j : Id) → table.same i j ≡ true
+pub lanes_in-alike : {Id : Type 0} {table : FileDatabase Id} (lawful : AreFiles table) (before : List (InFile Id)) (i j : Id) → table.same i j ≡ true
     → lanes_in table.same table.file before i ≡ lanes_in table.same table.file before j
 lanes_in-alike {Id} lawful before i j t = λ k. file_lanes (record {
   file = lawful.one_file i j t k;

@@ -9,7 +9,7 @@ use Rattle.std.proofs.lemmas.List.{append-nil, length-map, length-take-le, map-a
 use Rattle.codespan_base.specs.declared.term.config.Config.{Config}
 use Rattle.codespan_base.specs.declared.diagnostic.Label.{Label}
 use Rattle.codespan_base.specs.declared.files.Error.{Error}
-use Rattle.codespan_base.specs.FileModel.{FileModel}
+use Rattle.codespan_base.specs.FileModel.{FileDatabase, FileModel}
 use Rattle.codespan_reporting.specs.declared.term.views.entry.Entry.{Entry as GivenEntry}
 use Rattle.codespan_reporting.specs.declared.term.views.file_order.LabelledFile.{LabelledFile as GivenFile}
 use Rattle.codespan_reporting.specs.declared.term.views.gather.FoundLines.{FoundLines}
@@ -21,7 +21,6 @@ use Rattle.codespan_reporting.specs.Inner.GivenEntries.{Adds, AddsOf, IsLineOf, 
 use Rattle.codespan_reporting.specs.Inner.LabelledFiles.{IsTold, all_lanes_given, ids_given, lanes_told, start_told, starts_given, with_file}
 use Rattle.codespan_reporting.specs.Inner.Lanes.{Lane, lanes_in}
 use Rattle.codespan_reporting.specs.Inner.Loci.{file_start, no_start}
-use Rattle.codespan_reporting.specs.Inner.Tables.{FileTable}
 use Rattle.codespan_picture.specs.Lookups.{asked_of, first_refusal, label_asked, label_lookups, of_label}
 use Rattle.codespan_picture.specs.Picture.{label_of}
 use Rattle.codespan_reporting.specs.Inner.PlacedLabels.{IsIdAt, entries_after, file_place, place_after}
@@ -40,7 +39,7 @@ use Rattle.codespan_reporting.proofs.LabelTurns.{before, before-more, file-insid
 use Rattle.codespan_reporting.proofs.Refusals.{first_refusal-none, first_refusal-some}
 
 -- these labels are done with: each file has what they tell, what they say is there, the lines that they span have room, and no lookup was refused
-pub record AreGathered {Id : Type 0} (table : FileTable Id) (config : Config) (ids : List Id) (done : List (InFile Id)) (files : List (GivenFile Id)) (found : FoundLines Id) : Type 0 where
+pub record AreGathered {Id : Type 0} (table : FileDatabase Id) (config : Config) (ids : List Id) (done : List (InFile Id)) (files : List (GivenFile Id)) (found : FoundLines Id) : Type 0 where
   pub ids_are : ids_given files ≡ ids
   pub starts_are : starts_given files ≡ map (file_start table.same done) ids
   pub lanes_are : all_lanes_given files ≡ map (lanes_in table.same table.file done) ids
@@ -49,7 +48,7 @@ pub record AreGathered {Id : Type 0} (table : FileTable Id) (config : Config) (i
   pub answered : labels_refusal config table done ≡ None
 
 -- what a label says was added, the lines that it spans have room, and no lookup of it was refused
-pub record IsGatheredLabel {Id : Type 0} (table : FileTable Id) (config : Config) (at : LabelPlace) (label : Label Id) (found more : FoundLines Id) : Type 0 where
+pub record IsGatheredLabel {Id : Type 0} (table : FileDatabase Id) (config : Config) (at : LabelPlace) (label : Label Id) (found more : FoundLines Id) : Type 0 where
   pub added : FindsLines (asked_label table config at label) found more
   pub counted : MakesRoom (asked_label table config at label) found more
   pub answered : label_refusal (asked_label table config at label) ≡ None
@@ -66,7 +65,7 @@ pub record IsPlacedFile {Id : Type 0} (same : Id → Id → Bool) (id : Id) (fil
   pub starts : starts_given now ≡ with_file same (ids_given files) id (starts_given files) no_start
   pub lanes : all_lanes_given now ≡ with_file same (ids_given files) id (all_lanes_given files) []
 
-module _ {Id : Type 0} {table : FileTable Id} (lawful : AreFiles table) {labels : List (Label Id)} {place : ℕ} {label : Label Id} (turn : StandsAt labels place label) where
+module _ {Id : Type 0} {table : FileDatabase Id} (lawful : AreFiles table) {labels : List (Label Id)} {place : ℕ} {label : Label Id} (turn : StandsAt labels place label) where
   -- which ids name one file, and the file that an id names
   abbrev same : Id → Id → Bool
   same = table.same
@@ -229,7 +228,7 @@ module _ {Id : Type 0} {table : FileTable Id} (lawful : AreFiles table) {labels 
         ∙ ap (first_refusal table.refusal) (append-nil (label_asked config file table.refusal (label_of label))) ∙ some)
 
 -- all labels are done with after the last one
-pub gathered-all : {Id : Type 0} {table : FileTable Id} {config : Config} {files : List (GivenFile Id)} {found : FoundLines Id} (labels : List (Label Id)) (place : ℕ)
+pub gathered-all : {Id : Type 0} {table : FileDatabase Id} {config : Config} {files : List (GivenFile Id)} {found : FoundLines Id} (labels : List (Label Id)) (place : ℕ)
     → length labels ≤ place → AreGathered table config (file_ids table.same (before labels place)) (before labels place) files found
     → AreGathered table config (file_ids table.same (map label_of labels)) (map label_of labels) files found
 gathered-all {Id} {table} {config} {files} {found} labels place past g =

@@ -4,8 +4,8 @@ use Rattle.std.specs.List.{enumerate_from, filter_map, cons_option}
 use Rattle.std.proofs.lemmas.Bool.Decides.{nat_tests}
 use Rattle.std.proofs.lemmas.List.{length-map}
 use Rattle.codespan_base.specs.FileModel.{FileModel, line_start}
-use Rattle.codespan_base.specs.Labels.{Labelled, LaneMark, Part, mark_of, marks_on, multi_labels, part_at, part_on}
-use Rattle.codespan_picture.specs.Given.{GivenMark, mark_of_given, lanes_in_order}
+use Rattle.codespan_base.specs.Labels.{Labelled, LaneMark, MultiLabel, mark_of, marks_on, multi_labels, part_at, part_on}
+use Rattle.codespan_picture.specs.Given.{GivenMark, mark_view, lanes_in_order}
 use Rattle.codespan_picture.specs.Lanes.{ascend_from}
 use Rattle.codespan_picture.specs.Snippets.{LabelledFile, lane_count}
 use Rattle.codespan_reporting.specs.declared.term.views.lanes.Lane.{Lane as GivenLane}
@@ -34,7 +34,7 @@ ascend-from : (l start count n least : ℕ) (ys : List Lane) → least ≤ n →
 ascend-from l start count n least [] low total = refl
 ascend-from l start count n least (y ∷ ys) low total = by_part (part_at y.first y.last l start y.label) (λ k h. ascend-from l start count (n + 1) k ys h (omega arith))
   where
-    by_part : (o : Option Part) → ((k : ℕ) → k ≤ n + 1 → ascend_from count k (filter_map (mark_on l start) (enumerate_from (n + 1) ys)) ≡ true)
+    by_part : (o : Option MultiLabel) → ((k : ℕ) → k ≤ n + 1 → ascend_from count k (filter_map (mark_on l start) (enumerate_from (n + 1) ys)) ≡ true)
         → ascend_from count least (cons_option (mark_of n y.label o) (filter_map (mark_on l start) (enumerate_from (n + 1) ys))) ≡ true
     by_part None rest = rest least (omega arith)
     by_part (Some part) rest =
@@ -43,7 +43,7 @@ ascend-from l start count n least (y ∷ ys) low total = by_part (part_at y.firs
         rw (a, b) (rest (n + 1) (omega arith))
 
 -- a renderer may be given the marks of lanes
-pub lanes_fit : (lanes : List GivenLane) (l start : ℕ) (ms : List GivenMark) → map mark_of_given ms ≡ lane_marks (lanes_given lanes) l start → lanes_in_order (length lanes) ms ≡ true
+pub lanes_fit : (lanes : List GivenLane) (l start : ℕ) (ms : List GivenMark) → map mark_view ms ≡ lane_marks (lanes_given lanes) l start → lanes_in_order (length lanes) ms ≡ true
 lanes_fit lanes l start ms same =
     let n : length (lanes_given lanes) ≡ length lanes = length-map lanes lane_given in
     ap (ascend_from (length lanes) 0) same ∙ ascend-from l start (length lanes) 0 0 (lanes_given lanes) (omega arith) (omega (arith, n))

@@ -1,5 +1,6 @@
 pub mod Chains
 pub mod Refusals
+pub mod OutputLoci
 pub mod Drawing
 pub mod Emitting
 pub mod EntryGroups

@@ -10,10 +10,10 @@ use Rattle.std.proofs.lemmas.Str.{IsUtf8-string_bytes}
 use Rattle.codespan_base.specs.declared.diagnostic.Label.{Label}
 use Rattle.codespan_base.specs.FileModel.{FileModel}
 use Rattle.codespan_base.specs.Labels.{Labelled, is_primary}
-use Rattle.codespan_picture.specs.declared.given.Locus.{Locus}
-use Rattle.codespan_picture.specs.Given.{place_of_given}
+use Rattle.codespan_picture.specs.declared.given.Locus as rust_locus
+use Rattle.codespan_picture.specs.Given.{locus_view}
 use Rattle.codespan_picture.specs.Picture.{label_of}
-use Rattle.codespan_picture.specs.Placed.{IsPlaceIn}
+use Rattle.codespan_reporting.specs.Inner.TextLoci.{IsTextLocus}
 use Rattle.codespan_picture.specs.Snippets.{InFile, file_ids, if_any, labelled_file, least, locus_start}
 use Rattle.codespan_reporting.specs.declared.term.views.loci.FileStart.{FileStart}
 use Rattle.codespan_reporting.specs.Inner.LabelledFiles.{start_told}
@@ -192,6 +192,6 @@ module _ {Id : Type 0} {labels : List (Label Id)} {place : ℕ} {label : Label I
 -- ---- the places of files
 
 -- a locus of a file's name and of a byte's location is the place of that byte
-pub located_place : (f : FileModel) (byte : ℕ) (locus : Locus) → IfSome f.name (λ bytes. string_bytes locus.name ≡ bytes) → locus.location ≡ f.location byte
-    → IsPlaceIn f byte (place_of_given locus)
-located_place f byte locus text at = record { location = at; is_text = IsUtf8-string_bytes locus.name; is_stated = text }
+pub located_place : (f : FileModel) (byte : ℕ) (locus : rust_locus.Locus) → IfSome f.name (λ bytes. string_bytes locus.name ≡ bytes) → locus.location ≡ f.location byte
+    → IsTextLocus (f, byte) (locus_view locus)
+located_place f byte locus text at = record { is_locus = record { location = at; name = text }; is_text = IsUtf8-string_bytes locus.name }

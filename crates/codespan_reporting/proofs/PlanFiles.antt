@@ -8,13 +8,13 @@ use Rattle.std.proofs.lemmas.List.Folds.{flat_map-map}
 use Rattle.codespan_base.specs.declared.term.config.Config.{Config}
 use Rattle.codespan_base.specs.declared.term.config.Layout.{Layout}
 use Rattle.codespan_base.specs.declared.term.config.Layout.TheVariants.{Classic, Unbroken}
-use Rattle.codespan_base.specs.FileModel.{FileModel, Lookup}
+use Rattle.codespan_base.specs.FileModel.{FileDatabase, FileModel, Lookup}
 use Rattle.codespan_base.specs.FileModel.Lookup.{LocationAt, Name}
-use Rattle.codespan_picture.specs.Given.{place_of_given}
+use Rattle.codespan_picture.specs.Given.{locus_view}
 use Rattle.codespan_picture.specs.Lines.{drawn_lines}
 use Rattle.codespan_picture.specs.Lookups.{asked_of, filled_lines, first_refusal, locus_lookups, numbers_for_padding, of_filled}
 use Rattle.codespan_picture.specs.Padding.{digit_count, digits_of, numbered_lines, padding_of}
-use Rattle.codespan_picture.specs.Placed.{IsPlaceIn}
+use Rattle.codespan_reporting.specs.Inner.TextLoci.{IsTextLocus}
 use Rattle.codespan_picture.specs.Snippets.{InFile, LabelledFile, labelled_file, labelled_files, locus_start, rows_after, file_ids}
 use Rattle.codespan_reporting.specs.declared.term.views.gather.Gathered.{Gathered}
 use Rattle.codespan_reporting.specs.declared.term.views.file_order.LabelledFile.{LabelledFile as GivenFile}
@@ -33,7 +33,6 @@ use Rattle.codespan_reporting.specs.Inner.PlacedLabels.{IsIdAt}
 use Rattle.codespan_reporting.specs.Inner.Plans.{ArePlans, ArePlansOf, IsPlan, number_lookups, plans_refusal, step_digits, steps_at}
 use Rattle.codespan_reporting.specs.Inner.StepDrawing.{DoFit}
 use Rattle.codespan_reporting.specs.Inner.Steps.{Step, fill_of, fills_of, rows_of_steps}
-use Rattle.codespan_reporting.specs.Inner.Tables.{FileTable}
 use Rattle.codespan_reporting.proofs.PlansFound.{by_place-same}
 use Rattle.codespan_reporting.proofs.SpannedRoom.{spanned-room}
 use Rattle.codespan_reporting.proofs.EntryPicture.{snippet-fills, snippet-fits, snippet-lines, snippet-rows}
@@ -97,7 +96,7 @@ record DrawSnippet (config : Config) (s : LabelledFile) (steps : List Step) : Ty
 numbered : (config : Config) → config.layout ≡ Unbroken → (s : LabelledFile) → numbered_lines config s ≡ drawn_lines config s.file s.labels
 numbered config unbroken s = ap (λ v. numbered_lines (record config { layout = v }) s) unbroken
 
-module _ {Id : Type 0} {table : FileTable Id} (lawful : AreFiles table) {config : Config} {xs : List (InFile Id)} {gathered : Gathered Id} (all : IsGathered table config xs gathered) where
+module _ {Id : Type 0} {table : FileDatabase Id} (lawful : AreFiles table) {config : Config} {xs : List (InFile Id)} {gathered : Gathered Id} (all : IsGathered table config xs gathered) where
   -- which ids name one file, and the file that an id names
   abbrev same : Id → Id → Bool
   same = table.same
@@ -155,7 +154,7 @@ module _ {Id : Type 0} {table : FileTable Id} (lawful : AreFiles table) {config 
     file-plan : IsSheetFile config (labelled f.id) plan own
     file-plan = record {
       lanes_are = ap (λ (g : GivenFile Id). lanes_given g.lanes.items) is.file_is ∙ told.lanes_are;
-      place = subst (λ n. IsPlaceIn (file f.id) n (place_of_given plan.locus)) (file_start-is told) is.place;
+      place = subst (λ n. IsTextLocus (file f.id, n) (locus_view plan.locus)) (file_start-is told) is.place;
       count_is = is.count_is;
       each = steps_of-file config.layout (file f.id) own is.each;
       fits = subst DoFit (sym is.are) (snippet k f.id at).fits;
@@ -244,7 +243,7 @@ module _ {Id : Type 0} {table : FileTable Id} (lawful : AreFiles table) {config 
 
 -- ---- what was gathered, with its plans
 
-module _ {Id : Type 0} {table : FileTable Id} (lawful : AreFiles table) {config : Config} {xs : List (InFile Id)} {gathered : Gathered Id} (all : IsGathered table config xs gathered) where
+module _ {Id : Type 0} {table : FileDatabase Id} (lawful : AreFiles table) {config : Config} {xs : List (InFile Id)} {gathered : Gathered Id} (all : IsGathered table config xs gathered) where
   -- plans are refused with what the sheet is refused with
   pub refusal-is : plans_refusal config.layout table.refusal gathered ≡ sheet_refusal config table xs
   refusal-is = λ i. first_refusal table.refusal (numbers-are lawful all i ++ places-are lawful all i)

@@ -11,7 +11,7 @@ use Rattle.codespan_base.specs.declared.diagnostic.Label.{Label}
 use Rattle.codespan_base.specs.declared.files.Error.{Error}
 use Rattle.codespan_base.specs.declared.files.Error.TheVariants.{FormatError, OutOfMemory}
 use Rattle.codespan_base.specs.Errors.{IsIo}
-use Rattle.codespan_base.specs.FileModel.{FileModel}
+use Rattle.codespan_base.specs.FileModel.{FileDatabase, FileModel}
 use Rattle.codespan_base.specs.Streams.{Stream, newline}
 use Rattle.codespan_base.specs.WriterLaw.{Sink, Sends, Began, is_told, sent}
 use Rattle.codespan_base.proofs.Sends.{Began-first, Began-last, sent-nil}
@@ -21,18 +21,18 @@ use Rattle.codespan_reporting.specs.declared.term.views.steps.Step.{Step as Give
 use Rattle.codespan_reporting.specs.Inner.AskedLabels.{labels_refusal}
 use Rattle.codespan_reporting.specs.Inner.Asking.{Came, Stopped, EndedAsking, SendsAsking}
 use Rattle.codespan_reporting.specs.Inner.GivenSheets.{AreSheetFiles, IsPrepared, ids_of, places_of, sheet_refusal}
-use Rattle.codespan_reporting.specs.Inner.Tables.{FileTable}
-use Rattle.codespan_reporting.specs.Headline.{DrawsRich, ForSomeNames, NamesAreStated, drawn_picture}
+use Rattle.codespan_reporting.specs.Output.{WritesStyled}
 use Rattle.codespan_picture.specs.Lookups.{Refusals, early_lookups, first_refusal, late_lookups}
 use Rattle.codespan_picture.specs.Picture.{heading_of, label_of, labels_of, look_of, notes_of}
 use Rattle.codespan_picture.specs.Padding.{padding_of}
-use Rattle.codespan_picture.specs.Placed.{IsPlaceOfFile, placed_snippets}
+use Rattle.codespan_picture.specs.Snippets.{snippets}
+use Rattle.codespan_reporting.specs.Inner.TextLoci.{IsLocusOfFile}
 use Rattle.codespan_picture.specs.Rows.{BlankRow, HeaderRow, Row}
 use Rattle.codespan_picture.specs.RowStreams.{header_row, stream_of, stream_of_rows}
 use Rattle.codespan_picture.specs.Snippets.{InFile, has_any, labelled_file, labelled_files, note_rows}
 use Rattle.codespan_base.proofs.Chains.{came-then, stopped-before, stopped-then, told-after}
 use Rattle.codespan_reporting.proofs.Chains.{Began-as}
-use Rattle.codespan_reporting.proofs.Drawing.{after_header, before_header, early_refusal, finished, late_refusal, named-is, refused_by_writer, refused_early, refused_late}
+use Rattle.codespan_reporting.proofs.Drawing.{after_header, before_header, early_refusal, finished, late_refusal, ByPlaces, refused_by_writer, refused_early, refused_late}
 use Rattle.codespan_reporting.proofs.NoteRows.{whole_of_notes}
 use Rattle.codespan_reporting.proofs.SheetPrepared.{labels-answered, labels-refused}
 
@@ -58,27 +58,27 @@ module _ {Id : Type 0} (view : Config) (same : Id → Id → Bool) (file : Id �
       from (x ∷ xs) none = omega arith
 
 -- without labels the picture is its header and its notes
-pub bare-whole : {Id : Type 0} {renderer view : Config} {same : Id → Id → Bool} {file : Id → FileModel} {refusal : Refusals Id} {d : Diagnostic Id} {old new : Sink} (r : Result (Unit {0}) Error)
+pub bare-whole : {Id : Type 0} {renderer view : Config} {files : FileDatabase Id} {d : Diagnostic Id} {old new : Sink} (r : Result (Unit {0}) Error)
     → length d.labels.items ≡ 0
     → Sends old (header_row d.severity None (heading_of d) ++ newline ++ whole_of_notes (look_of renderer d.severity 0) (notes_of d)) r new → IfErr r IsIo
-    → DrawsRich renderer view same file refusal d old r new
-bare-whole {renderer = renderer} {view = view} {same = same} {file = file} {refusal = refusal} {d = d} {old = old} r no_labels sends io =
+    → WritesStyled Rich renderer view files d old r new
+bare-whole {renderer = renderer} {view = view} {files = files} {d = d} {old = old} r no_labels sends io =
     let none : labels_of d ≡ [] = ap (map label_of) (nil_from_length d.labels.items no_labels) in
     finished [] (header_row d.severity None (heading_of d) ++ newline ++ whole_of_notes (look_of renderer d.severity 0) (notes_of d)) r
-    (ap (λ (xs : List (InFile _)). first_refusal refusal (early_lookups view same file refusal xs)) none)
-    (ap (λ (xs : List (InFile _)). first_refusal refusal (late_lookups view same file refusal xs)) none, (refl, λ told. sym (sent-nil old)))
+    (ap (λ (xs : List (InFile _)). first_refusal files.refusal (early_lookups view files.same files.file files.refusal xs)) none)
+    (ap (λ (xs : List (InFile _)). first_refusal files.refusal (late_lookups view files.same files.file files.refusal xs)) none, (refl, λ told. sym (sent-nil old)))
     sends io
     (record {
       places = [];
-      are = subst (λ (xs : List (InFile _)). AllZip IsPlaceOfFile (labelled_files same file xs) []) (sym none) tt;
-      holds = ap (λ (xs : List (InFile _)). stream_of_rows (look_of renderer d.severity (padding_of view (labelled_files same file xs)))
+      are = subst (λ (xs : List (InFile _)). AllZip IsLocusOfFile (labelled_files files.same files.file xs) []) (sym none) tt;
+      holds = ap (λ (xs : List (InFile _)). stream_of_rows (look_of renderer d.severity (padding_of view (labelled_files files.same files.file xs)))
           (HeaderRow None (heading_of d) ∷ (note_rows (notes_of d) ++ (BlankRow ∷ [])))) none;
     })
 
 -- ---- before the header
 
 -- where the labels' lookups are answered, those of the sheet tell what those before the header are refused with
-early-is_sheet : {Id : Type 0} (view : Config) (table : FileTable Id) {given gathered items : List (Label Id)} → given ≡ items → gathered ≡ given
+early-is_sheet : {Id : Type 0} (view : Config) (table : FileDatabase Id) {given gathered items : List (Label Id)} → given ≡ items → gathered ≡ given
     → labels_refusal view table (map label_of given) ≡ None
     → first_refusal table.refusal (early_lookups view table.same table.file table.refusal (map label_of items)) ≡ sheet_refusal view table (map label_of gathered)
 early-is_sheet view table {given} given_are gathered_are answered =
@@ -87,20 +87,20 @@ early-is_sheet view table {given} given_are gathered_are answered =
     ∙ ap (λ ls. sheet_refusal view table (map label_of ls)) (sym gathered_are)
 
 -- a sheet that is prepared of the labels that were gathered is that of the diagnostic's
-pub prepared-of_all : {Id : Type 0} {view : Config} {table : FileTable Id} {given gathered items : List (Label Id)} {sheet : Sheet Id} → given ≡ items → gathered ≡ given
+pub prepared-of_all : {Id : Type 0} {view : Config} {table : FileDatabase Id} {given gathered items : List (Label Id)} {sheet : Sheet Id} → given ≡ items → gathered ≡ given
     → IsPrepared table view (map label_of gathered) sheet → IsPrepared table view (map label_of items) sheet
 prepared-of_all {view = view} {table = table} {sheet = sheet} given_are gathered_are prepared =
     subst (λ ls. IsPrepared table view (map label_of ls) sheet) (gathered_are ∙ given_are) prepared
 
 -- a view is ready to draw: its sheet is prepared, and the lookups before the header are answered
-pub record IsReady {Id : Type 0} (view : Config) (table : FileTable Id) (d : Diagnostic Id) (sheet : Sheet Id) : Type 0 where
+pub record IsReady {Id : Type 0} (view : Config) (table : FileDatabase Id) (d : Diagnostic Id) (sheet : Sheet Id) : Type 0 where
   pub prepared : IsPrepared table view (labels_of d) sheet
   pub early : early_refusal view table.same table.file table.refusal d ≡ None
 
-module _ {Id : Type 0} {view : Config} {table : FileTable Id} {d : Diagnostic Id} {given : List (Label Id)} (given_are : given ≡ d.labels.items) where
+module _ {Id : Type 0} {view : Config} {table : FileDatabase Id} {d : Diagnostic Id} {given : List (Label Id)} (given_are : given ≡ d.labels.items) where
   -- a label's lookup refused
   pub stopped-gathering : {renderer : Config} {s : Sink} {e : Error} → 0 < length d.labels.items
-      → (e ≢ OutOfMemory → labels_refusal view table (map label_of given) ≡ Some e) → DrawsRich renderer view table.same table.file table.refusal d s (Err e) s
+      → (e ≢ OutOfMemory → labels_refusal view table (map label_of given) ≡ Some e) → WritesStyled Rich renderer view table d s (Err e) s
   stopped-gathering {e = e} some told =
       refused_early refl (some_early view table.same table.file table.refusal d some)
       (λ memory display. ap (λ ls. first_refusal table.refusal (early_lookups view table.same table.file table.refusal (map label_of ls))) (sym given_are)
@@ -109,7 +109,7 @@ module _ {Id : Type 0} {view : Config} {table : FileTable Id} {d : Diagnostic Id
   module _ {gathered : List (Label Id)} (gathered_are : gathered ≡ given) (answered : labels_refusal view table (map label_of given) ≡ None) where
     -- a lookup of the sheet refused
     pub stopped-preparing : {renderer : Config} {s : Sink} {e : Error} → 0 < length d.labels.items
-        → (e ≢ OutOfMemory → e ≢ FormatError → sheet_refusal view table (map label_of gathered) ≡ Some e) → DrawsRich renderer view table.same table.file table.refusal d s (Err e) s
+        → (e ≢ OutOfMemory → e ≢ FormatError → sheet_refusal view table (map label_of gathered) ≡ Some e) → WritesStyled Rich renderer view table d s (Err e) s
     stopped-preparing some told =
         refused_early refl (some_early view table.same table.file table.refusal d some)
         (λ memory display. early-is_sheet view table given_are gathered_are answered ∙ told memory display)
@@ -124,14 +124,14 @@ module _ {Id : Type 0} {view : Config} {table : FileTable Id} {d : Diagnostic Id
 
 -- ---- from the header on
 
-module _ {Id : Type 0} {view : Config} {table : FileTable Id} {d : Diagnostic Id} {sheet : Sheet Id} (ready : IsReady view table d sheet) where
+module _ {Id : Type 0} {view : Config} {table : FileDatabase Id} {d : Diagnostic Id} {sheet : Sheet Id} (ready : IsReady view table d sheet) where
   -- the header, with the end of its row
   abbrev header : Stream
   header = header_row d.severity None (heading_of d) ++ newline
 
   -- the snippets, as a configuration draws them
   abbrev middle : Config → Stream
-  middle k = stream_of_rows (look_of k d.severity sheet.padding) (placed_snippets view (has_any (notes_of d)) (places_of sheet.files.items) (labelled_files table.same table.file (labels_of d)))
+  middle k = stream_of_rows (look_of k d.severity sheet.padding) (snippets view (has_any (notes_of d)) (places_of sheet.files.items) (labelled_files table.same table.file (labels_of d)))
 
   -- the notes and the empty line
   abbrev end : Config → Stream
@@ -146,19 +146,19 @@ module _ {Id : Type 0} {view : Config} {table : FileTable Id} {d : Diagnostic Id
   DrawsMiddle k old r new = SendsAsking (late_refusal view table.same table.file table.refusal d) old (middle k) r new
 
   -- where the snippets start are places of the files
-  places-are : AllZip IsPlaceOfFile (labelled_files table.same table.file (labels_of d)) (places_of sheet.files.items)
+  places-are : AllZip IsLocusOfFile (labelled_files table.same table.file (labels_of d)) (places_of sheet.files.items)
   places-are =
-      subst (λ (ids : List Id). AllZip IsPlaceOfFile (map (labelled_file table.same table.file (labels_of d)) ids) (places_of sheet.files.items)) ready.prepared.ids_are (from sheet.files.items sheet.steps.items ready.prepared.files_are)
+      subst (λ (ids : List Id). AllZip IsLocusOfFile (map (labelled_file table.same table.file (labels_of d)) ids) (places_of sheet.files.items)) ready.prepared.ids_are (from sheet.files.items sheet.steps.items ready.prepared.files_are)
     where
       from : (fs : List (SheetFile Id)) (steps : List (GivenStep Id)) → AreSheetFiles table view (labels_of d) fs steps
-          → AllZip IsPlaceOfFile (map (labelled_file table.same table.file (labels_of d)) (ids_of fs)) (places_of fs)
+          → AllZip IsLocusOfFile (map (labelled_file table.same table.file (labels_of d)) (ids_of fs)) (places_of fs)
       from [] steps are = tt
       from (f ∷ fs) steps are = (are.0.place, from fs (drop f.step_count steps) are.1)
 
   -- the picture with these places is all of these
-  placed-is : (renderer : Config) → ForSomeNames renderer view table.same table.file table.refusal d Rich (λ s. s ≡ whole renderer)
+  placed-is : (renderer : Config) → ByPlaces renderer view table d (λ s. s ≡ whole renderer)
   placed-is renderer =
-      let rows = placed_snippets view (has_any (notes_of d)) (places_of sheet.files.items) (labelled_files table.same table.file (labels_of d)) in
+      let rows = snippets view (has_any (notes_of d)) (places_of sheet.files.items) (labelled_files table.same table.file (labels_of d)) in
       let look = look_of renderer d.severity sheet.padding in
       let ended : Row → Stream = λ row. stream_of look row ++ newline in
       record {
@@ -169,21 +169,20 @@ module _ {Id : Type 0} {view : Config} {table : FileTable Id} {d : Diagnostic Id
             ∙ flat_map-append ended (HeaderRow None (heading_of d) ∷ rows) (note_rows (notes_of d) ++ (BlankRow ∷ []));
       }
 
-  -- a beginning of that is one of the picture, where the names are stated
-  begun-as : (renderer : Config) {old new : Sink} → (is_told old ≡ true → Began old (whole renderer) new) → NamesAreStated table.file d → is_told old ≡ true
-      → Began old (drawn_picture renderer view table.same table.file table.refusal d Rich) new
-  begun-as renderer {old} {new} begun named told =
+  -- a beginning of that is one of the output
+  begun-as : (renderer : Config) {old new : Sink} → (is_told old ≡ true → Began old (whole renderer) new) → ByPlaces renderer view table d (λ s. is_told old ≡ true → Began old s new)
+  begun-as renderer {old} {new} begun =
       let names = placed-is renderer in
-      Began-as old new (whole renderer) _ (sym (named-is names named) ∙ names.holds) (begun told)
+      record { places = names.places; are = names.are; holds = λ told. Began-as old new (whole renderer) _ names.holds (begun told) }
 
   module _ {renderer : Config} where
     -- the header was cut short
-    pub stopped-in_header : {old new : Sink} {e : Error} → Sends old header (Err e) new → IsIo e → DrawsRich renderer view table.same table.file table.refusal d old (Err e) new
+    pub stopped-in_header : {old new : Sink} {e : Error} → Sends old header (Err e) new → IsIo e → WritesStyled Rich renderer view table d old (Err e) new
     stopped-in_header sends io = refused_by_writer ready.early sends.0 io (begun-as renderer (stopped-before (end renderer) (stopped-before (middle renderer) sends)).1)
 
     -- the snippets were cut short, drawn by an equal configuration
     pub stopped-in_snippets : {now : Config} {old mid new : Sink} {e : Error} → 0 < length d.labels.items → Came old header mid → now ≡ renderer
-        → DrawsMiddle now mid (Err e) new → DrawsRich renderer view table.same table.file table.refusal d old (Err e) new
+        → DrawsMiddle now mid (Err e) new → WritesStyled Rich renderer view table d old (Err e) new
     stopped-in_snippets {now} {old} {mid} {new} {e} some came alike part =
         ⊎_elim
         (λ (w : IsIo e × Stopped mid (middle renderer) new). let stopped = stopped-before (end renderer) (stopped-then header came w.1) in refused_by_writer ready.early stopped.0 w.0 (begun-as renderer stopped.1))
@@ -200,7 +199,7 @@ module _ {Id : Type 0} {view : Config} {table : FileTable Id} {d : Diagnostic Id
     -- header and snippets came, and then the notes were sent
     pub drawn-whole : {second third : Config} {old mid last new : Sink} (r : Result (Unit {0}) Error) → Came old header mid
         → second ≡ renderer → DrawsMiddle second mid (Ok tt) last
-        → third ≡ renderer → Sends last (end third) r new → IfErr r IsIo → DrawsRich renderer view table.same table.file table.refusal d old r new
+        → third ≡ renderer → Sends last (end third) r new → IfErr r IsIo → WritesStyled Rich renderer view table d old r new
     drawn-whole {old = old} {mid = mid} {last = last} {new = new} r came alike part alike_end sends io =
         let drawn = subst (λ (k : Config). DrawsMiddle k mid (Ok tt) last) alike part in
         finished (header ++ middle renderer) (end renderer) r ready.early (drawn.0, came-then old header (middle renderer) came drawn.1)

@@ -7,24 +7,23 @@ use Rattle.std.proofs.lemmas.Grind.{common_steps}
 use Rattle.std.proofs.lemmas.List.{append-nil, append_assoc, drop-drop, get_or-map, length-drop, length-map, length-take}
 use Rattle.codespan_base.specs.declared.term.config.Config.{Config}
 use Rattle.codespan_base.specs.declared.files.Error.{Error}
-use Rattle.codespan_base.specs.FileModel.{Lookup, or_refusal}
+use Rattle.codespan_base.specs.FileModel.{FileDatabase, Lookup, or_refusal}
 use Rattle.codespan_base.specs.Streams.{Stream}
 use Rattle.codespan_base.specs.WriterLaw.{Sends, Sink}
 use Rattle.codespan_base.specs.Errors.{IsIo}
 use Rattle.codespan_reporting.specs.Inner.Asking.{Came, SendsAsking}
-use Rattle.codespan_picture.specs.Placed.{placed_snippet, placed_snippets}
+use Rattle.codespan_picture.specs.Snippets.{row_after, snippet, snippets}
 use Rattle.codespan_picture.specs.Lookups.{asked_of, first_refusal, late_lookups, snippet_lookups}
 use Rattle.codespan_picture.specs.Picture.{labels_of, look_of, notes_of}
-use Rattle.codespan_picture.specs.Rows.{EmptyRow, Look, Place, Row, StartRow}
+use Rattle.codespan_picture.specs.Rows.{EmptyRow, Look, Locus, Row, StartRow}
 use Rattle.codespan_picture.specs.RowStreams.{stream_of_rows}
 use Rattle.codespan_picture.specs.Snippets.{InFile, LabelledFile, bare_lanes, has_any, is_followed, labelled_file, labelled_files, lane_count}
 use Rattle.codespan_base.specs.FileModel.Lookup.{Source}
-use Rattle.codespan_picture.specs.Given.{place_of_given}
+use Rattle.codespan_picture.specs.Given.{locus_view}
 use Rattle.codespan_reporting.specs.Inner.GivenSheets.{AreSheetFiles, IsPrepared, IsSheetFile, ids_of, places_of}
 use Rattle.codespan_reporting.specs.Inner.GivenSnippets.{end_rows, lookups_with, rows_in}
 use Rattle.codespan_reporting.specs.Inner.GivenSteps.{step_of}
 use Rattle.codespan_reporting.specs.Inner.Lanes.{lane_given}
-use Rattle.codespan_reporting.specs.Inner.Tables.{FileTable}
 use Rattle.codespan_reporting.specs.Inner.Steps.{rows_of_steps}
 use Rattle.codespan_reporting.specs.Views.{diagnostic_of, view_config_of}
 use Rattle.codespan_reporting.specs.declared.term.views.rich.RichDiagnostic.{RichDiagnostic}
@@ -84,12 +83,12 @@ module _ {Id : Type 0} {files : List (SheetFile Id)} {k : ℕ} {f : SheetFile Id
   id-at = ap (λ (g : SheetFile Id). g.file.now.id) at.is ∙ sym (get_or-map (λ (g : SheetFile Id). g.file.now.id) files k f f.file.now.id at.inside)
 
   place-inside : k < length (places_of files)
-  place-inside = omega (arith, at.inside, length-map files (λ (g : SheetFile Id). place_of_given g.locus))
+  place-inside = omega (arith, at.inside, length-map files (λ (g : SheetFile Id). locus_view g.locus))
 
-  place-at : place_of_given f.locus ≡ get_or (places_of files) k (place_of_given f.locus)
-  place-at = ap (λ (g : SheetFile Id). place_of_given g.locus) at.is ∙ sym (get_or-map (λ (g : SheetFile Id). place_of_given g.locus) files k f (place_of_given f.locus) at.inside)
+  place-at : locus_view f.locus ≡ get_or (places_of files) k (locus_view f.locus)
+  place-at = ap (λ (g : SheetFile Id). locus_view g.locus) at.is ∙ sym (get_or-map (λ (g : SheetFile Id). locus_view g.locus) files k f (locus_view f.locus) at.inside)
 
-module _ {Id : Type 0} (table : FileTable Id) (config : Config) (xs : List (InFile Id)) where
+module _ {Id : Type 0} (table : FileDatabase Id) (config : Config) (xs : List (InFile Id)) where
   -- the file is that of its labels, with the steps that it counts in front, and the rest is of the files after it
   abbrev pub IsFirstFile : List (SheetFile Id) → SheetFile Id → List (GivenStep Id) → Type 0
   IsFirstFile later f steps =
@@ -100,7 +99,7 @@ module _ {Id : Type 0} (table : FileTable Id) (config : Config) (xs : List (InFi
     pub inside : start ≤ length steps
     pub are : AreSheetFiles table config xs (drop k files) (drop start steps)
 
-module _ {Id : Type 0} {table : FileTable Id} {config : Config} {xs : List (InFile Id)} {files : List (SheetFile Id)} {k : ℕ} {f : SheetFile Id} {steps : List (GivenStep Id)} {start : ℕ}
+module _ {Id : Type 0} {table : FileDatabase Id} {config : Config} {xs : List (InFile Id)} {files : List (SheetFile Id)} {k : ℕ} {f : SheetFile Id} {steps : List (GivenStep Id)} {start : ℕ}
     (at : StandsAt files k f) (from : AreFilesFrom table config xs files k steps start) where
   -- from the file at a place on they are that file, and those after it
   files-at : IsFirstFile table config xs (drop (k + 1) files) f (drop start steps)
@@ -132,15 +131,15 @@ module _ {Id : Type 0} {config : Config} {own : LabelledFile} {f : SheetFile Id}
   lanes-count = sym (length-map f.file.now.lanes.items lane_given) ∙ ap length is.lanes_are ∙ file_lanes-count own
 
   -- its rows
-  rows-are : (followed : Bool) → rows_in f own.file steps ++ end_rows f followed ≡ placed_snippet config followed (place_of_given f.locus) own
+  rows-are : (followed : Bool) → rows_in f own.file steps ++ end_rows f followed ≡ snippet config (locus_view f.locus) own ++ row_after followed own
   rows-are followed =
-      (λ i. (StartRow (place_of_given f.locus) ∷ EmptyRow (record { count = lanes-count i; marks = [] }) ∷ []) ++ rows_of_steps own.file (is.lanes_are i) (map step_of steps)
+      (λ i. (StartRow (locus_view f.locus) ∷ EmptyRow (record { count = lanes-count i; marks = [] }) ∷ []) ++ rows_of_steps own.file (is.lanes_are i) (map step_of steps)
       ++ (if followed then EmptyRow (record { count = lanes-count i; marks = [] }) ∷ [] else []))
-      ∙ ap (λ (r : List Row). (StartRow (place_of_given f.locus) ∷ EmptyRow (bare_lanes own) ∷ []) ++ r ++ (if followed then EmptyRow (bare_lanes own) ∷ [] else [])) is.rows
+      ∙ ap (λ (r : List Row). (StartRow (locus_view f.locus) ∷ EmptyRow (bare_lanes own) ∷ []) ++ r ++ (if followed then EmptyRow (bare_lanes own) ∷ [] else [])) is.rows
 
 -- ---- the files from a place on
 
-module _ {Id : Type 0} (table : FileTable Id) (view : RichDiagnostic Id) where
+module _ {Id : Type 0} (table : FileDatabase Id) (view : RichDiagnostic Id) where
   -- a file with its labels
   abbrev pub labelled : Id → LabelledFile
   labelled = labelled_file table.same table.file (labels_of (diagnostic_of view))
@@ -152,7 +151,7 @@ module _ {Id : Type 0} (table : FileTable Id) (view : RichDiagnostic Id) where
   module _ (sheet : Sheet Id) where
     -- the rows of the files from a place on
     abbrev pub rows_left : ℕ → List Row
-    rows_left k = placed_snippets (view_config_of view) (has_any (notes_of (diagnostic_of view))) (drop k (places_of sheet.files.items)) (map labelled (drop k (ids_of sheet.files.items)))
+    rows_left k = snippets (view_config_of view) (has_any (notes_of (diagnostic_of view))) (drop k (places_of sheet.files.items)) (map labelled (drop k (ids_of sheet.files.items)))
 
     -- their lookups
     abbrev pub asked_left : ℕ → List (Id × Lookup)
@@ -168,11 +167,11 @@ module _ {Id : Type 0} (table : FileTable Id) (view : RichDiagnostic Id) where
       pub asked_whole : asked ++ asked_left k ≡ asked_left 0
 
 -- no file is drawn
-pub left-start : {Id : Type 0} {table : FileTable Id} {view : RichDiagnostic Id} {renderer : Config} {sheet : Sheet Id} {s : Sink}
+pub left-start : {Id : Type 0} {table : FileDatabase Id} {view : RichDiagnostic Id} {renderer : Config} {sheet : Sheet Id} {s : Sink}
     → SnippetsLeft table view sheet renderer 0 s s
 left-start = record { rows = []; drawn = asking_nothing; rows_whole = refl; asked = []; answered = refl; asked_whole = refl }
 
-module _ {Id : Type 0} {table : FileTable Id} {view : RichDiagnostic Id} {renderer : Config} {sheet : Sheet Id} {k : ℕ} {old mid : Sink}
+module _ {Id : Type 0} {table : FileDatabase Id} {view : RichDiagnostic Id} {renderer : Config} {sheet : Sheet Id} {k : ℕ} {old mid : Sink}
     (prepared : IsPrepared table (view_config_of view) (labels_of (diagnostic_of view)) sheet) (left : SnippetsLeft table view sheet renderer k old mid) where
   -- what all rows share, as a configuration draws them
   abbrev look_by : Config → Look
@@ -190,12 +189,12 @@ module _ {Id : Type 0} {table : FileTable Id} {view : RichDiagnostic Id} {render
   abbrev ids : List Id
   ids = ids_of sheet.files.items
 
-  abbrev places : List Place
+  abbrev places : List Locus
   places = places_of sheet.files.items
 
   -- the rows of these files, whose snippets start at these places
-  abbrev drawn_at : List Place → List Id → List Row
-  drawn_at ps js = placed_snippets (view_config_of view) has_notes ps (map (labelled table view) js)
+  abbrev drawn_at : List Locus → List Id → List Row
+  drawn_at ps js = snippets (view_config_of view) has_notes ps (map (labelled table view) js)
 
   -- the rows of the files from a place on, and their lookups
   abbrev rest : ℕ → List Row
@@ -206,7 +205,7 @@ module _ {Id : Type 0} {table : FileTable Id} {view : RichDiagnostic Id} {render
 
   -- the rows of all files
   abbrev all_rows : List Row
-  all_rows = placed_snippets (view_config_of view) has_notes places (labelled_files table.same table.file (labels_of (diagnostic_of view)))
+  all_rows = snippets (view_config_of view) has_notes places (labelled_files table.same table.file (labels_of (diagnostic_of view)))
 
   -- what all their lookups are refused with
   abbrev all_refusal : Option Error
@@ -230,7 +229,7 @@ module _ {Id : Type 0} {table : FileTable Id} {view : RichDiagnostic Id} {render
       ∙ left.rows_whole ∙ rows-all))
       left.drawn.draws
     where
-      no-rows : (ps : List Place) → drawn_at ps [] ≡ []
+      no-rows : (ps : List Locus) → drawn_at ps [] ≡ []
       no-rows [] = refl
       no-rows (p ∷ ps) = refl
 
@@ -242,7 +241,7 @@ module _ {Id : Type 0} {table : FileTable Id} {view : RichDiagnostic Id} {render
 
     -- the rows of the file at the place
     abbrev rows_here : List Row
-    rows_here = placed_snippet (view_config_of view) (is_followed has_notes (drop (k + 1) ids)) (place_of_given f.locus) own
+    rows_here = snippet (view_config_of view) (locus_view f.locus) own ++ row_after (is_followed has_notes (drop (k + 1) ids)) own
 
     -- its lookups
     abbrev asked_here : List (Id × Lookup)
@@ -250,9 +249,9 @@ module _ {Id : Type 0} {table : FileTable Id} {view : RichDiagnostic Id} {render
 
     -- these rows come first among those that are left
     rows-next : rest k ≡ rows_here ++ rest (k + 1)
-    rows-next = ap (λ (ps : List Place). drawn_at ps (drop k ids)) (drop-one places k (place_of_given f.locus) (place-inside at) (place-at at))
-        ∙ ap (drawn_at (place_of_given f.locus ∷ drop (k + 1) places)) (drop-one ids k f.file.now.id (id-inside at) (id-at at))
-        ∙ ap (λ (b : Bool). placed_snippet (view_config_of view) b (place_of_given f.locus) own ++ rest (k + 1)) (followed-mapped (drop (k + 1) ids))
+    rows-next = ap (λ (ps : List Locus). drawn_at ps (drop k ids)) (drop-one places k (locus_view f.locus) (place-inside at) (place-at at))
+        ∙ ap (drawn_at (locus_view f.locus ∷ drop (k + 1) places)) (drop-one ids k f.file.now.id (id-inside at) (id-at at))
+        ∙ ap (λ (b : Bool). (snippet (view_config_of view) (locus_view f.locus) own ++ row_after b own) ++ rest (k + 1)) (followed-mapped (drop (k + 1) ids))
       where
         followed-mapped : (js : List Id) → is_followed has_notes (map (labelled table view) js) ≡ is_followed has_notes js
         followed-mapped [] = refl
@@ -291,7 +290,7 @@ module _ {Id : Type 0} {table : FileTable Id} {view : RichDiagnostic Id} {render
         asking_as (or_refusal-none steps_refusal ∙ ap (λ (ls : List Lookup). first_refusal table.refusal (asked_of f.file.now.id (Source ∷ ls))) is.asked)
         (sym (rows-two look (rows_in f (table.file f.file.now.id) steps) (end_rows f follows))
         ∙ ap (stream_of_rows look) (rows-are is follows)
-        ∙ ap (λ (b : Bool). stream_of_rows look (placed_snippet (view_config_of view) b (place_of_given f.locus) own)) followed)
+        ∙ ap (λ (b : Bool). stream_of_rows look (snippet (view_config_of view) (locus_view f.locus) own ++ row_after b own)) followed)
         both
 
     -- the file is drawn

@@ -3,7 +3,7 @@ use Rattle.std.proofs.Common.{◌≡◌, List, map, Option, Some, None, Vec, Glo
 use Rattle.std.specs.List.Sorted.{IsPermutation, IsSortedBy}
 use Rattle.codespan_base.specs.declared.files.Error.{Error}
 use Rattle.codespan_base.specs.declared.term.config.Config.{Config}
-use Rattle.codespan_base.specs.FileModel.{Lookup, or_refusal}
+use Rattle.codespan_base.specs.FileModel.{FileDatabase, Lookup, or_refusal}
 use Rattle.codespan_picture.specs.Lookups.{early_lookups, first_refusal, label_lookups}
 use Rattle.codespan_picture.specs.Snippets.{InFile}
 use Rattle.codespan_reporting.specs.declared.term.views.entry.Entry.{Entry as GivenEntry}
@@ -14,13 +14,12 @@ use Rattle.codespan_reporting.specs.Inner.GivenEntries.{IsOfFiles, entry_of}
 use Rattle.codespan_reporting.specs.Inner.GivenSheets.{IsGathered, IsGatheredInTurn, sheet_lookups, sheet_numbers, sheet_places, sheet_refusal}
 use Rattle.codespan_reporting.specs.Inner.LabelledFiles.{ids_given}
 use Rattle.codespan_reporting.specs.Inner.PlacedLabels.{all_entries}
-use Rattle.codespan_reporting.specs.Inner.Tables.{FileTable}
 use Rattle.codespan_reporting.proofs.Askings.{first_refusal-append}
 use Rattle.codespan_reporting.proofs.Gathering.{gathered-each, gathered-says}
 use Rattle.codespan_reporting.proofs.FileParts.{gathered-sorted}
 
 -- what was gathered, put in order
-pub gathered-in_order : {Id : Type 0} {table : FileTable Id} {config : Config} {xs : List (InFile Id)} {was : Gathered Id} (entries : Vec (GivenEntry Id) Global) → IsGatheredInTurn table config xs was
+pub gathered-in_order : {Id : Type 0} {table : FileDatabase Id} {config : Config} {xs : List (InFile Id)} {was : Gathered Id} (entries : Vec (GivenEntry Id) Global) → IsGatheredInTurn table config xs was
     → IsPermutation was.entries.items entries.items → IsSortedBy is_below (map entry_of entries.items) → IsGathered table config xs (record was { entries = entries })
 gathered-in_order {Id} {table} {config} {xs} {was} entries g perm up =
     let of_files = IsOfFiles table.file (ids_given was.files.items) in
@@ -32,7 +31,7 @@ gathered-in_order {Id} {table} {config} {xs} {was} entries g perm up =
       lines = gathered-each of_files was.entries.items entries.items say g.adds perm;
     }
 
-module _ {Id : Type 0} (table : FileTable Id) (config : Config) (xs : List (InFile Id)) where
+module _ {Id : Type 0} (table : FileDatabase Id) (config : Config) (xs : List (InFile Id)) where
   -- what these lookups are refused with
   abbrev refused : List (Id × Lookup) → Option Error
   refused = first_refusal table.refusal

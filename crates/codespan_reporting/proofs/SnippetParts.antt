@@ -4,7 +4,7 @@ use Rattle.std.proofs.lemmas.Grind.{flat_map-append}
 use Rattle.codespan_base.specs.declared.files.Error.{Error}
 use Rattle.codespan_base.specs.declared.term.config.Config.{Config}
 use Rattle.codespan_base.specs.Errors.{IsIo}
-use Rattle.codespan_base.specs.FileModel.{or_refusal}
+use Rattle.codespan_base.specs.FileModel.{FileDatabase, or_refusal}
 use Rattle.codespan_base.specs.FileModel.Lookup.{Source}
 use Rattle.codespan_base.specs.Streams.{Stream, newline}
 use Rattle.codespan_base.specs.WriterLaw.{Sink, Sends}
@@ -17,7 +17,6 @@ use Rattle.codespan_reporting.specs.Inner.GivenSnippets.{start_rows}
 use Rattle.codespan_reporting.specs.Inner.GivenSteps.{asked_by_all, step_of}
 use Rattle.codespan_reporting.specs.Inner.Lanes.{lanes_given}
 use Rattle.codespan_reporting.specs.Inner.Steps.{rows_of_steps}
-use Rattle.codespan_reporting.specs.Inner.Tables.{FileTable}
 use Rattle.codespan_picture.specs.Lookups.{asked_of, first_refusal}
 use Rattle.codespan_picture.specs.Picture.{look_of}
 use Rattle.codespan_picture.specs.Rows.{Look, Row}
@@ -40,12 +39,12 @@ sends_after s t u a b (Err e) came sends = stopped-then a came sends
 
 -- ---- the snippet of a file
 
-module _ {F Id : Type 0} (table : F → FileTable Id) (page : Page F) (snippet : SheetFile Id) (own : List (Step Id)) (config : Config) where
+module _ {F Id : Type 0} (table : F → FileDatabase Id) (page : Page F) (snippet : SheetFile Id) (own : List (Step Id)) (config : Config) where
   -- the source of its file was asked for and is there, and so it is drawn
   pub record IsOpen : Type 0 where
     pub answered : (table page.files.now).refusal snippet.file.now.id Source ≡ None
 
-module _ {F Id : Type 0} {table : F → FileTable Id} {page : Page F} {snippet : SheetFile Id} {own : List (Step Id)} {config : Config}
+module _ {F Id : Type 0} {table : F → FileDatabase Id} {page : Page F} {snippet : SheetFile Id} {own : List (Step Id)} {config : Config}
     (opened : IsOpen table page snippet own config) where
   -- what rows share, as a configuration draws them
   abbrev look_by : Config → Look

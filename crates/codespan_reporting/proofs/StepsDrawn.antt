@@ -4,7 +4,7 @@ use Rattle.std.proofs.lemmas.List.{map-append, take-append-drop}
 use Rattle.std.proofs.lemmas.Grind.{flat_map-append}
 use Rattle.codespan_base.specs.declared.files.Error.{Error}
 use Rattle.codespan_base.specs.declared.term.config.Config.{Config}
-use Rattle.codespan_base.specs.FileModel.{FileModel, Lookup, or_refusal}
+use Rattle.codespan_base.specs.FileModel.{FileDatabase, FileModel, Lookup, or_refusal}
 use Rattle.codespan_base.specs.Streams.{Stream, newline}
 use Rattle.codespan_base.specs.WriterLaw.{Sink}
 use Rattle.codespan_picture.specs.Picture.{look_of}
@@ -17,11 +17,10 @@ use Rattle.codespan_reporting.specs.Inner.FileLookups.{refusal_in}
 use Rattle.codespan_reporting.specs.Inner.GivenSteps.{asked_by, asked_by_all, step_of}
 use Rattle.codespan_reporting.specs.Inner.Lanes.{lanes_given}
 use Rattle.codespan_reporting.specs.Inner.Steps.{Step, rows_of_step, rows_of_steps}
-use Rattle.codespan_reporting.specs.Inner.Tables.{FileTable}
 use Rattle.codespan_reporting.proofs.Askings.{IsAsking, asking_as, asking_cut, asking_nothing, asking_then, first_refusal-asked}
 use Rattle.codespan_reporting.proofs.LabelPlaces.{StandsAt, take-at}
 
-module _ {F Id Name Source : Type 0} (table : F → FileTable Id) (lines : FileLines F Id Name Source) (config : Config) where
+module _ {F Id Name Source : Type 0} (table : F → FileDatabase Id) (lines : FileLines F Id Name Source) (config : Config) where
   -- the file
   abbrev f : FileModel
   f = (table lines.page.now.files.now).file lines.id
@@ -62,7 +61,7 @@ module _ {F Id Name Source : Type 0} (table : F → FileTable Id) (lines : FileL
   asked-append xs ys =
       ap asked (flat_map-append asked_by xs ys) ∙ first_refusal-asked (table lines.page.now.files.now).refusal lines.id (asked_by_all xs) (asked_by_all ys)
 
-module _ {F Id Name Source : Type 0} {table : F → FileTable Id} {lines : FileLines F Id Name Source} {config : Config} where
+module _ {F Id Name Source : Type 0} {table : F → FileDatabase Id} {lines : FileLines F Id Name Source} {config : Config} where
   -- nothing is drawn
   pub drawn-nothing : {s : Sink} → DrawsAll table lines config [] s (Ok tt) s
   drawn-nothing = record { drawn = asking_nothing }

@@ -1,8 +1,8 @@
 -- Words that private calls and proofs use: a reader of the public contracts needs none of them.
 pub mod Headers
 pub mod Loci
+pub mod TextLoci
 pub mod Asking
-pub mod Tables
 pub mod FileLookups
 pub mod LabelLines
 pub mod LabelledFiles

@@ -22,7 +22,6 @@ pub use Rattle.codespan_picture.specs.Lines
 pub use Rattle.codespan_picture.specs.Snippets
 pub use Rattle.codespan_picture.specs.Padding
 pub use Rattle.codespan_picture.specs.Picture
-pub use Rattle.codespan_picture.specs.Placed
 pub use Rattle.codespan_picture.specs.Lookups
 pub use Rattle.codespan_picture.specs.Given
 -- what a picture means
@@ -34,12 +33,15 @@ pub use Rattle.codespan_laws.specs.MessageLaws
 pub use Rattle.codespan_laws.specs.OrderLaws
 pub use Rattle.codespan_laws.specs.PaddingLaws
 pub use Rattle.codespan_laws.specs.RowLaws
+pub use Rattle.codespan_laws.specs.SortLaws
 pub use Rattle.codespan_laws.specs.TextLaws
+pub use Rattle.codespan_laws.specs.StatedNames
 pub use Rattle.codespan_laws.specs.Meanings
 -- a renderer, as its contracts see it
 pub use Rattle.codespan_renderer.specs.Renderers
 -- the calls that draw a diagnostic
-pub mod Headline
+pub mod Failures
+pub mod Output
 pub mod Views
 -- words that private calls and proofs use
 pub mod Inner

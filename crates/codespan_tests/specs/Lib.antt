@@ -1,5 +1,3 @@
--- the writers of docs/WRITERS.md
-pub mod Tags
--- tables of files that are made for tests
+-- file databases that are made for tests
 mod Listings
 pub mod LongestFiles

@@ -44,7 +44,8 @@ longest_file name = record {
 -- the source refuses, and lines past all indices
 abbrev pub longest_refusal : Lookup → Option Error
 longest_refusal Source = Some FileMissing
-longest_refusal (LineRange i) = if nat_lt i (2 ^ 64) then None else Some (LineTooLarge i (2 ^ 64 - 1))
+longest_refusal (LineRange i) =
+    if nat_lt i (2 ^ 64) then None else Some (LineTooLarge i (2 ^ 64 - 1))
 longest_refusal _ = None
 
 greatest_is : greatest ≡ 2 ^ 64 - 1
@@ -58,7 +59,10 @@ text_len = length-replicate greatest 10
 -- it is one
 text_is : IsUtf8 longest_text
 unfolding longest_text
-text_is = IsUtf8-from_ascii (replicate greatest 10) (IsAscii-from_all (replicate greatest 10) (All-replicate (λ (b : ℕ). b < 128) greatest 10 (omega arith)))
+text_is =
+    IsUtf8-from_ascii (replicate greatest 10)
+    (IsAscii-from_all (replicate greatest 10)
+    (All-replicate (λ (b : ℕ). b < 128) greatest 10 (omega arith)))
 
 text_at : (i : ℕ) → i < greatest → get_or longest_text i 0 ≡ 10
 unfolding longest_text
@@ -73,15 +77,21 @@ starts_len = omega (arith, starts_are, greatest_is)
 
 pub start_at : (i : ℕ) → i < 2 ^ 64 → slice_index longest_starts i ≡ i
 unfolding longest_starts
-start_at i h = omega (arith, get_or-range_with_len 0 (greatest + 1) i 0 (omega (arith, h, greatest_is)))
+start_at i h =
+    omega (arith, get_or-range_with_len 0 (greatest + 1) i 0 (omega (arith, h, greatest_is)))
 
 -- each place in the text is a boundary
-cut_at : (i : ℕ) → i < length longest_starts → IsCharBoundary longest_text (slice_index longest_starts i)
+cut_at : (i : ℕ) → i < length longest_starts
+    → IsCharBoundary longest_text (slice_index longest_starts i)
 cut_at i h =
     let inside : i < 2 ^ 64 = omega (arith, h, starts_len) in
     rw (start_at i inside)
-    (⊎_elim (λ (k : i < greatest). IsCharBoundary-before_ascii longest_text i (omega (arith, k, text_len)) (omega (arith, text_at i k)))
-    (λ (k : greatest ≤ i). (omega (arith, inside, text_len, greatest_is), λ l. absurd (omega (arith, k, l, text_len))))
+    (⊎_elim (λ (k : i < greatest). IsCharBoundary-before_ascii longest_text i
+    (omega (arith, k, text_len)) (omega (arith, text_at i k)))
+    (λ (k : greatest ≤ i). (
+      omega (arith, inside, text_len, greatest_is),
+      λ l. absurd (omega (arith, k, l, text_len)),
+    ))
     (cases_lt i greatest))
 
 -- a byte's line has the byte's index
@@ -101,17 +111,26 @@ longest_lawful name = record {
   fits = omega (arith, text_len, greatest_is);
   some_line = omega (arith, starts_len);
   first = start_at 0 (omega arith);
-  ascending = λ i h. omega (arith, start_at i (omega (arith, h, starts_len)), start_at (i + 1) (omega (arith, h, starts_len)));
+  ascending = λ i h. omega (
+    arith,
+    start_at i (omega (arith, h, starts_len)),
+    start_at (i + 1) (omega (arith, h, starts_len)),
+  );
   starts_cut = cut_at;
   ends_cut = cut_at;
   ends_after = λ i h. omega arith;
-  ends_before = λ i h. omega (arith, start_at i (omega (arith, h, starts_len)), start_at (i + 1) (omega (arith, h, starts_len)));
+  ends_before = λ i h. omega (
+    arith,
+    start_at i (omega (arith, h, starts_len)),
+    start_at (i + 1) (omega (arith, h, starts_len)),
+  );
   one_end = refl;
   missing_name = λ e. absurd (cc);
   missing_text = λ e. absurd (cc);
 }
 
-pub longest_past_end : (name : List ℕ) (i : ℕ) → RefusesPastEnd (longest_file name) i (longest_refusal (LineRange i))
+pub longest_past_end : (name : List ℕ) (i : ℕ)
+    → RefusesPastEnd (longest_file name) i (longest_refusal (LineRange i))
 longest_past_end name i there = rw starts_len (past_end_is (2 ^ 64) i)
 
 pub ruleset longest_lines = (line_at, start_at, starts_len)

@@ -1,17 +1,8 @@
-//! Tests of the public calls, and the code of the documents: what no contract says.
+//! Tests of the calls that emit and of the views: what no contract says. And the quick start of
+//! `README.md`.
 #![tactic(auto)]
 
-#[cfg(test)]
-mod diagnostics;
-#[cfg(test)]
-mod files;
 #[cfg(test)]
 mod pictures;
 #[cfg(test)]
 mod quick_start;
-#[cfg(test)]
-mod rows;
-#[cfg(test)]
-mod stopping;
-#[cfg(test)]
-mod writers;

@@ -1,7 +1,8 @@
 //! Worked rows through the public calls.
 
 mod chosen_lines;
-pub mod drawing;
+mod drawing;
+mod flushing;
 mod label_orders;
 mod listing;
 mod longest_file;

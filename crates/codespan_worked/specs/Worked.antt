@@ -1,11 +1,14 @@
--- How worked pictures are written down: texts by their characters, pictures row by row.
+-- How worked outputs are written down: texts by their characters, outputs row by row.
 use Rattle.std.specs.Prelude.{ℕ, ◌+◌, ◌*◌, ◌/◌, ◌%◌, ◌==◌, if◌then◌else◌, List, [], ◌∷◌, ◌++◌, map, flat_map, codes, decimal, encode_utf8_all, slice_get, Option, Some, None}
 use Rattle.std.specs.List.{range_with_len}
 use Rattle.std.specs.Fmt.{digits}
 use Rattle.std.specs.Option.{option_map_or}
 use Rattle.unicode_width.proofs.Computing.{unicode_width}
 use Rattle.codespan_base.specs.declared.term.config.Config.{Config}
+use Rattle.codespan_base.specs.declared.term.config.DisplayStyle.{DisplayStyle}
+use Rattle.codespan_base.specs.declared.term.config.DisplayStyle.TheVariants.{Rich, Medium, Short}
 use Rattle.codespan_base.specs.declared.diagnostic.Severity.{Severity}
+use Rattle.codespan_base.specs.declared.diagnostic.Severity.TheVariants.{Error}
 use Rattle.codespan_base.specs.declared.diagnostic.LabelStyle.{LabelStyle}
 use Rattle.codespan_base.specs.declared.diagnostic.LabelStyle.TheVariants.{Primary, Secondary}
 use Rattle.codespan_base.specs.FileModel.{FileModel, line_of}
@@ -17,11 +20,11 @@ use Rattle.codespan_base.specs.Ansi.{ansi_style, ansi_reset, escape, ansi_bold, 
 use Rattle.codespan_picture.specs.declared.given.MultiLabel.TheVariants as given
 use Rattle.codespan_picture.specs.Given.{GivenMark}
 use Rattle.codespan_picture.specs.Rows.{Line}
-use Rattle.codespan_picture.specs.RowStreams.{row_words, stream_of_rows}
-use Rattle.codespan_picture.specs.Snippets.{InFile, labelled_files, short_rows, medium_rows}
-use Rattle.codespan_picture.specs.Picture.{rich_picture, look_of}
+use Rattle.codespan_picture.specs.RowStreams.{row_words}
+use Rattle.codespan_picture.specs.Snippets.{InFile, labelled_files}
+use Rattle.codespan_picture.specs.Picture.{rendered, starts, stated_locus}
 
--- opens all words of a picture, so that it computes
+-- opens all words of an output, so that it computes
 unfoldable pub worked_words : Unit {0}
 unfolding unicode_width digits line_of row_words escape ansi_reset ansi_bold ansi_color ansi_style
 worked_words = tt
@@ -32,16 +35,30 @@ text_file name text = simple_file (Some (encode_utf8_all name)) (encode_utf8_all
 
 -- a label of these bytes in the file of a number
 abbrev pub label : LabelStyle → ℕ → ℕ → ℕ → List ℕ → InFile ℕ
-label style id start end message =
-    record { id = id; label = record { style = style; start = start; end = end; message = bytes (encode_utf8_all message) } }
+label style id start end message = record {
+  id = id;
+  label = record {
+    style = style;
+    start = start;
+    end = end;
+    message = bytes (encode_utf8_all message);
+  };
+}
 
 -- a file of a name and a text, with set line numbers
 abbrev pub mapped_text : List ℕ → List ℕ → List (ℕ × ℕ) → FileModel
-mapped_text name text settings = mapped_file (Some (encode_utf8_all name)) (encode_utf8_all text) settings
+mapped_text name text settings =
+    mapped_file (Some (encode_utf8_all name)) (encode_utf8_all text) settings
 
 -- the file with lines that are numbered by their indices
 abbrev pub from_zero : FileModel → FileModel
-from_zero f = record f { number = λ i. i; location = λ byte. record { line_number = line_of f.starts byte; column_number = f.column (line_of f.starts byte) byte } }
+from_zero f = record f {
+  number = λ i. i;
+  location = λ byte. record {
+    line_number = line_of f.starts byte;
+    column_number = f.column (line_of f.starts byte) byte;
+  };
+}
 
 -- what a diagnostic says besides its labels
 pub record Said : Type 0 where
@@ -52,7 +69,12 @@ pub record Said : Type 0 where
 
 -- a message alone
 abbrev pub says : Severity → List ℕ → Said
-says severity message = record { severity = severity; code = None; message = encode_utf8_all message; notes = [] }
+says severity message = record {
+  severity = severity;
+  code = None;
+  message = encode_utf8_all message;
+  notes = [];
+}
 
 -- the same with a code
 abbrev pub with_code : List ℕ → Said → Said
@@ -66,27 +88,60 @@ with_note note said = record said { notes = encode_utf8_all note ∷ [] }
 abbrev pub numbered : List FileModel → ℕ → FileModel
 numbered files id = option_map_or (λ f. f) (slice_get files id) missing_file
 
--- the picture in rich style
+-- what is rendered in a style, with the names that the files state
+abbrev pub shown : DisplayStyle → Config → Said → List FileModel → List (InFile ℕ) → Stream
+shown style config said files labels =
+    rendered style config config said.severity
+    (record { code = said.code; message = said.message })
+    (map stated_locus (starts ◌==◌ (numbered files) labels style))
+    (labelled_files ◌==◌ (numbered files) labels) said.notes
+
+-- in rich style
 abbrev pub rich : Config → Said → List FileModel → List (InFile ℕ) → Stream
-rich config said files labels =
-    rich_picture config said.severity (record { code = said.code; message = said.message }) (labelled_files ◌==◌ (numbered files) labels) said.notes
+rich config said files labels = shown Rich config said files labels
 
--- the picture in medium style
+-- in medium style
 abbrev pub medium : Config → Said → List FileModel → List (InFile ℕ) → Stream
-medium config said files labels =
-    stream_of_rows (look_of config said.severity 0) (medium_rows (numbered files) (record { code = said.code; message = said.message }) labels said.notes)
+medium config said files labels = shown Medium config said files labels
 
--- the picture in short style
+-- in short style
 abbrev pub short : Config → Said → List FileModel → List (InFile ℕ) → Stream
-short config said files labels =
-    stream_of_rows (look_of config said.severity 0) (short_rows (numbered files) (record { code = said.code; message = said.message }) labels)
+short config said files labels = shown Short config said files labels
+
+-- ---- texts that stand in several of them
+
+-- an example of the crate: two files
+abbrev pub nat_files : List FileModel
+nat_files =
+    text_file (codes "Data/Nat.fun") (codes "module Data.Nat where\n\n"
+    ++ codes "data Nat : Type where\n    zero : Nat\n    succ : Nat → Nat\n\n"
+    ++ codes "{-# BUILTIN NATRAL Nat #-}\n\ninfixl 6 _+_ _-_\n\n_+_ : Nat → Nat → Nat\n")
+    ∷ text_file (codes "Test.fun") (codes "module Test where\n\n"
+    ++ codes "_ : Nat\n_ = 123 + \"hello\"\n")
+    ∷ []
+
+-- what is said of them
+abbrev pub nat_error : Said
+nat_error =
+    with_note (codes "expected type `Nat`\n   found type `String`\n")
+    (with_code (codes "E0001")
+    (says Error (codes "unexpected type in application of `_+_`")))
+
+-- a file whose lines are indented by tabs
+abbrev pub tabbed_file : FileModel
+tabbed_file = text_file (codes "tabbed") (codes "Entity:\n\tArmament:\n\t\tWeapon: DogJaw\n"
+    ++ codes "\t\tReloadingCondition:\tattack-cooldown\n\tFoo: Bar")
 
 -- ---- rows that are handed in
 
 -- a line with labels inside it alone
 abbrev pub line_of_labels : ℕ → List ℕ → List (InFile ℕ) → Line
-line_of_labels number text labels =
-    record { number = number; text = encode_utf8_all text; labels = map (λ (x : InFile ℕ). x.label) labels; lanes = record { count = 0; marks = [] } }
+line_of_labels number text labels = record {
+  number = number;
+  text = encode_utf8_all text;
+  labels = map (λ (x : InFile ℕ). x.label) labels;
+  lanes = record { count = 0; marks = [] };
+}
 
 -- a bar in each of these lanes
 abbrev pub bars_in : List ℕ → List GivenMark
@@ -102,7 +157,8 @@ many_lines = text_file (codes "f") (flat_map (λ _. codes "abcdefgh\n") (range_w
 abbrev pub one_of_many : ℕ → InFile ℕ
 one_of_many i =
     let start = 9 * (i % 50) + i / 50 in
-    label (if i % 2 == 0 then Primary else Secondary) 0 start (start + 2) (codes "m" ++ decimal i)
+    label (if i % 2 == 0 then Primary else Secondary) 0 start (start + 2)
+    (codes "m" ++ decimal i)
 
 -- two hundred of them
 abbrev pub many_labels : List (InFile ℕ)

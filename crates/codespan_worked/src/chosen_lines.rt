@@ -1,17 +1,21 @@
 //! Worked pictures of chosen lines, several files and notes.
 
-ghost use Rattle.std.specs.Prelude.{◌≡◌, [], ◌∷◌, codes};
+ghost use Rattle.std.specs.Prelude.{◌≡◌, ◌++◌, [], ◌∷◌, codes};
 ghost use Rattle.codespan_base.specs.Defaults.{default_config};
 ghost use Rattle.codespan_base.specs.Streams.{text_of};
 ghost use Rattle.codespan_base.specs.declared.diagnostic.Severity.TheVariants.{Error};
 ghost use Rattle.codespan_base.specs.declared.diagnostic.LabelStyle.TheVariants.{Primary, Secondary};
 ghost use Rattle.codespan_base.specs.declared.term.config.Layout.TheVariants.{Unbroken};
-ghost use Rattle.codespan_worked.specs.Worked.{text_file, label, says, with_code, with_note, rich, rows};
+ghost use Rattle.codespan_worked.specs.Worked.{text_file, label, says, with_code, with_note, rich, rows, nat_files, nat_error};
 
 /// Two lines of context before a label.
 fn surrounding_lines()
-    ensures { text_of (rich (record default_config { before_label_lines = 2; after_label_lines = 1 }) (says Error (codes "Syntax error"))
-        (text_file (codes "surroundingLines.fun") (codes "#[foo]\nfn main() {\n    println!(\n        \"{}\",\n        Foo\n    );\n}\n\nstruct Foo") ∷ [])
+    ensures { text_of
+        (rich (record default_config { before_label_lines = 2; after_label_lines = 1 })
+        (says Error (codes "Syntax error"))
+        (text_file (codes "surroundingLines.fun")
+        (codes "#[foo]\nfn main() {\n    println!(\n        \"{}\",\n"
+        ++ codes "        Foo\n    );\n}\n\nstruct Foo") ∷ [])
         (label Primary 0 79 79 (codes "Missing a semicolon") ∷ []))
         ≡ rows (codes "error: Syntax error"
         ∷ codes "  ┌─ surroundingLines.fun:9:11"
@@ -25,8 +29,8 @@ fn surrounding_lines()
 
 /// Files stand in the order of their first labels.
 fn two_files()
-    ensures { text_of (rich default_config (with_note (codes "expected type `Nat`\n   found type `String`\n") (with_code (codes "E0001") (says Error (codes "unexpected type in application of `_+_`"))))
-        (text_file (codes "Data/Nat.fun") (codes "module Data.Nat where\n\ndata Nat : Type where\n    zero : Nat\n    succ : Nat → Nat\n\n{-# BUILTIN NATRAL Nat #-}\n\ninfixl 6 _+_ _-_\n\n_+_ : Nat → Nat → Nat\n") ∷ text_file (codes "Test.fun") (codes "module Test where\n\n_ : Nat\n_ = 123 + \"hello\"\n") ∷ [])
+    ensures { text_of (rich default_config nat_error
+        nat_files
         (label Primary 1 37 44 (codes "expected `Nat`, found `String`")
         ∷ label Secondary 0 130 155 (codes "based on the definition of `_+_`") ∷ []))
         ≡ rows (codes "error[E0001]: unexpected type in application of `_+_`"
@@ -47,7 +51,8 @@ fn two_files()
 
 /// A note without labels.
 fn note_alone()
-    ensures { text_of (rich default_config (with_note (codes "a note") (says Error (codes "a message"))) [] [])
+    ensures { text_of (rich default_config
+        (with_note (codes "a note") (says Error (codes "a message"))) [] [])
         ≡ rows (codes "error: a message"
         ∷ codes " = a note"
         ∷ [] ∷ []) }
@@ -76,7 +81,8 @@ fn long_number_pushes_row()
 
 /// In the unbroken layout it has room.
 fn unbroken_padding()
-    ensures { text_of (rich (record default_config { after_label_lines = 1; layout = Unbroken }) (says Error [])
+    ensures { text_of (rich (record default_config { after_label_lines = 1; layout = Unbroken })
+        (says Error [])
         (text_file (codes "f") (codes "x\nx\nx\nx\nx\nx\nx\nx\nx\ny") ∷ [])
         (label Primary 0 16 17 [] ∷ []))
         ≡ rows (codes "error: "
@@ -111,7 +117,8 @@ fn fills_and_breaks()
 
 /// A note is cut at its newlines.
 fn note_pieces()
-    ensures { text_of (rich default_config (with_note (codes "a\r\n\nb\n") (says Error (codes "m"))) [] [])
+    ensures { text_of (rich default_config
+        (with_note (codes "a\r\n\nb\n") (says Error (codes "m"))) [] [])
         ≡ rows (codes "error: m"
         ∷ codes " = a"
         ∷ codes "   "
@@ -136,9 +143,11 @@ fn script_run()
 
 /// A script's fault: a word that is unknown.
 fn script_unknown_word()
-    ensures { text_of (rich default_config (with_code (codes "S1") (says Error (codes "unknown word")))
+    ensures { text_of (rich default_config
+        (with_code (codes "S1") (says Error (codes "unknown word")))
         (text_file (codes "script") (codes "message a\ncolour red\n---\n") ∷ [])
-        (label Primary 0 10 16 (codes "expected severity, code, message, primary, secondary or note") ∷ []))
+        (label Primary 0 10 16
+        (codes "expected severity, code, message, primary, secondary or note") ∷ []))
         ≡ rows (codes "error[S1]: unknown word"
         ∷ codes "  ┌─ script:2:1"
         ∷ codes "  │"
@@ -149,7 +158,8 @@ fn script_unknown_word()
 
 /// A script's fault: a word that comes again.
 fn script_repeated_word()
-    ensures { text_of (rich default_config (with_code (codes "S4") (says Error (codes "repeated word")))
+    ensures { text_of (rich default_config
+        (with_code (codes "S4") (says Error (codes "repeated word")))
         (text_file (codes "script") (codes "code A\ncode B\n---\n") ∷ [])
         (label Primary 0 7 11 (codes "given again")
         ∷ label Secondary 0 0 4 (codes "first given here") ∷ []))
@@ -165,7 +175,8 @@ fn script_repeated_word()
 
 /// A script's fault: no number.
 fn script_bad_number()
-    ensures { text_of (rich default_config (with_code (codes "S3") (says Error (codes "bad number")))
+    ensures { text_of (rich default_config
+        (with_code (codes "S3") (says Error (codes "bad number")))
         (text_file (codes "script") (codes "primary 0 x\n---\n") ∷ [])
         (label Primary 0 10 11 (codes "expected a decimal number") ∷ []))
         ≡ rows (codes "error[S3]: bad number"
@@ -178,7 +189,8 @@ fn script_bad_number()
 
 /// A script's fault: no end.
 fn script_bad_end()
-    ensures { text_of (rich default_config (with_code (codes "S5") (says Error (codes "missing end of script")))
+    ensures { text_of (rich default_config
+        (with_code (codes "S5") (says Error (codes "missing end of script")))
         (text_file (codes "script") [] ∷ [])
         (label Primary 0 0 0 (codes "expected ---") ∷ []))
         ≡ rows (codes "error[S5]: missing end of script"

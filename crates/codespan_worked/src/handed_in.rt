@@ -13,7 +13,8 @@ ghost use Rattle.codespan_worked.specs.Worked.{label, line_of_labels, bars_in, r
 
 /// A range whose start is after its end is drawn as it is handed in: it has no caret.
 fn reversed_handed_in()
-    ensures { text_of (stream_of_rows (look_of default_config Error 1) (rows_of (line_of_labels 1 (codes "abc") (label Secondary 0 2 1 (codes "r") ∷ []))))
+    ensures { text_of (stream_of_rows (look_of default_config Error 1)
+        (rows_of (line_of_labels 1 (codes "abc") (label Secondary 0 2 1 (codes "r") ∷ []))))
         ≡ rows (codes "1 │ abc"
         ∷ codes "  │   r"
         ∷ []) }

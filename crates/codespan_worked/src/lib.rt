@@ -1,4 +1,5 @@
-//! Worked pictures: each function does nothing, and its contract is one picture of the definitions, computed.
+//! Worked pictures: each function does nothing, and its contract is one picture of the definitions,
+//! computed.
 #![tactic(auto, unfolding(crate::specs::Worked::worked_words))]
 
 mod chosen_lines;

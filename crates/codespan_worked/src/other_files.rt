@@ -1,4 +1,5 @@
-//! Worked pictures over files whose lines have numbers of their own, and of many labels in several orders.
+//! Worked pictures over files whose lines have numbers of their own, and of many labels in several
+//! orders.
 
 ghost use Rattle.std.specs.Prelude.{◌≡◌, ◌∷◌, [], ◌++◌, codes, reverse};
 ghost use Rattle.codespan_base.specs.Defaults.{default_config};
@@ -44,10 +45,13 @@ fn missing_file_short()
         ≡ rows (codes "f:1:1: error: m" ∷ []) }
 {}
 
-/// Two hundred labels of fifty lines: neither the reverse order nor the odd ones first change the picture.
+/// Two hundred labels of fifty lines: neither the reverse order nor the odd ones first change the
+/// picture.
 fn label_orders()
-    ensures reversed { text_of (rich default_config (says Error []) (many_lines ∷ []) (reverse many_labels))
+    ensures reversed { text_of
+        (rich default_config (says Error []) (many_lines ∷ []) (reverse many_labels))
         ≡ text_of (rich default_config (says Error []) (many_lines ∷ []) many_labels) }
-    ensures odd_first { text_of (rich default_config (says Error []) (many_lines ∷ []) (odds ++ evens))
+    ensures odd_first { text_of
+        (rich default_config (says Error []) (many_lines ∷ []) (odds ++ evens))
         ≡ text_of (rich default_config (says Error []) (many_lines ∷ []) many_labels) }
 {}

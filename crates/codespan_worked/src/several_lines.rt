@@ -1,6 +1,6 @@
 //! Worked pictures of labels over several lines.
 
-ghost use Rattle.std.specs.Prelude.{◌≡◌, [], ◌∷◌, codes};
+ghost use Rattle.std.specs.Prelude.{◌≡◌, ◌++◌, [], ◌∷◌, codes};
 ghost use Rattle.codespan_base.specs.Defaults.{default_config};
 ghost use Rattle.codespan_base.specs.Characters.{box_drawing};
 ghost use Rattle.codespan_base.specs.Streams.{text_of};
@@ -25,8 +25,10 @@ fn from_line_start()
 
 /// Two lanes, with a break between chosen lines.
 fn empty_elseif()
-    ensures { text_of (rich (record default_config { start_context_lines = 2 }) (with_code (codes "empty_if") (says Error (codes "empty elseif block")))
-        (text_file (codes "empty_if_comments.lua") (codes "elseif 3 then\n\n\n\n\n\n\n\n\nelse") ∷ [])
+    ensures { text_of (rich (record default_config { start_context_lines = 2 })
+        (with_code (codes "empty_if") (says Error (codes "empty elseif block")))
+        (text_file (codes "empty_if_comments.lua")
+        (codes "elseif 3 then\n\n\n\n\n\n\n\n\nelse") ∷ [])
         (label Primary 0 0 23 []
         ∷ label Secondary 0 15 21 (codes "content should be in here") ∷ []))
         ≡ rows (codes "error[empty_if]: empty elseif block"
@@ -48,8 +50,12 @@ fn empty_elseif()
 
 /// A line is filled in between two shown ones.
 fn mismatched_types()
-    ensures { text_of (rich (record default_config { start_context_lines = 2 }) (with_note (codes "note:\texpected type `()`\n\tfound type `{integer}`") (with_code (codes "E0308") (says Error (codes "mismatched types"))))
-        (text_file (codes "src/lib.rs") (codes "fn main() {\n    1\n    + 1\n    + 1\n    + 1\n    + 1\n    +1\n    + 1\n    + 1\n    + 1\n}") ∷ [])
+    ensures { text_of (rich (record default_config { start_context_lines = 2 })
+        (with_note (codes "note:\texpected type `()`\n\tfound type `{integer}`")
+        (with_code (codes "E0308") (says Error (codes "mismatched types"))))
+        (text_file (codes "src/lib.rs")
+        (codes "fn main() {\n    1\n    + 1\n    + 1\n    + 1\n    + 1\n    +1\n"
+        ++ codes "    + 1\n    + 1\n    + 1\n}") ∷ [])
         (label Primary 0 17 80 (codes "expected (), found integer")
         ∷ label Secondary 0 55 55 (codes "missing whitespace") ∷ []))
         ≡ rows (codes "error[E0308]: mismatched types"
@@ -106,7 +112,14 @@ fn report_two_lines()
 
 /// The characters of a label's end are those of its end.
 fn other_bottom_characters()
-    ensures { text_of (rich (record default_config { chars = record box_drawing { multi_bottom = 0x3d; multi_primary_caret_end = 0x2a; multi_secondary_caret_end = 0x22 } }) (says Error [])
+    ensures { text_of (rich (record default_config {
+      chars = record box_drawing {
+        multi_bottom = 0x3d;
+        multi_primary_caret_end = 0x2a;
+        multi_secondary_caret_end = 0x22;
+      };
+    })
+        (says Error [])
         (text_file (codes "f") (codes "ab\ncd\nef") ∷ [])
         (label Secondary 0 1 4 (codes "q")
         ∷ label Primary 0 0 7 (codes "p") ∷ []))

@@ -1,12 +1,12 @@
 //! Worked pictures of labels inside one line.
 
-ghost use Rattle.std.specs.Prelude.{◌≡◌, [], ◌∷◌, codes};
+ghost use Rattle.std.specs.Prelude.{◌≡◌, ◌++◌, [], ◌∷◌, codes};
 ghost use Rattle.codespan_base.specs.Defaults.{default_config};
 ghost use Rattle.codespan_base.specs.Characters.{ascii};
 ghost use Rattle.codespan_base.specs.Streams.{text_of};
 ghost use Rattle.codespan_base.specs.declared.diagnostic.Severity.TheVariants.{Bug, Error, Note};
 ghost use Rattle.codespan_base.specs.declared.diagnostic.LabelStyle.TheVariants.{Primary, Secondary};
-ghost use Rattle.codespan_worked.specs.Worked.{text_file, label, says, with_code, rich, rows};
+ghost use Rattle.codespan_worked.specs.Worked.{text_file, label, says, with_code, rich, rows, tabbed_file};
 
 /// No label: the header and the closing line.
 fn bare_bug()
@@ -60,8 +60,12 @@ fn same_range()
 
 /// Three labels of one line: one trails, two hang.
 fn mutable_borrows()
-    ensures { text_of (rich default_config (with_code (codes "E0499") (says Error (codes "cannot borrow `v` as mutable more than once at a time")))
-        (text_file (codes "one_line.rs") (codes "fn main() {\n    let mut v = vec![Some(\"foo\"), Some(\"bar\")];\n    v.push(v.pop().unwrap());\n}\n") ∷ [])
+    ensures { text_of (rich default_config
+        (with_code (codes "E0499")
+        (says Error (codes "cannot borrow `v` as mutable more than once at a time")))
+        (text_file (codes "one_line.rs")
+        (codes "fn main() {\n    let mut v = vec![Some(\"foo\"), Some(\"bar\")];\n"
+        ++ codes "    v.push(v.pop().unwrap());\n}\n") ∷ [])
         (label Primary 0 71 72 (codes "second mutable borrow occurs here")
         ∷ label Secondary 0 64 65 (codes "first borrow later used by call")
         ∷ label Secondary 0 66 70 (codes "first mutable borrow occurs here") ∷ []))
@@ -151,7 +155,7 @@ fn past_the_end()
 /// Tabs reach the next stop, of four cells.
 fn tab_stops_4()
     ensures { text_of (rich default_config (says Error [])
-        (text_file (codes "tabbed") (codes "Entity:\n\tArmament:\n\t\tWeapon: DogJaw\n\t\tReloadingCondition:\tattack-cooldown\n\tFoo: Bar") ∷ [])
+        (tabbed_file ∷ [])
         (label Primary 0 58 73 (codes "the condition") ∷ []))
         ≡ rows (codes "error: "
         ∷ codes "  ┌─ tabbed:4:23"
@@ -164,7 +168,7 @@ fn tab_stops_4()
 /// The same, of three cells.
 fn tab_stops_3()
     ensures { text_of (rich (record default_config { tab_width = 3 }) (says Error [])
-        (text_file (codes "tabbed") (codes "Entity:\n\tArmament:\n\t\tWeapon: DogJaw\n\t\tReloadingCondition:\tattack-cooldown\n\tFoo: Bar") ∷ [])
+        (tabbed_file ∷ [])
         (label Primary 0 58 73 (codes "the condition") ∷ []))
         ≡ rows (codes "error: "
         ∷ codes "  ┌─ tabbed:4:23"
@@ -177,7 +181,7 @@ fn tab_stops_3()
 /// At width 0 a tab has no cell.
 fn tab_stops_0()
     ensures { text_of (rich (record default_config { tab_width = 0 }) (says Error [])
-        (text_file (codes "tabbed") (codes "Entity:\n\tArmament:\n\t\tWeapon: DogJaw\n\t\tReloadingCondition:\tattack-cooldown\n\tFoo: Bar") ∷ [])
+        (tabbed_file ∷ [])
         (label Primary 0 58 73 (codes "the condition") ∷ []))
         ≡ rows (codes "error: "
         ∷ codes "  ┌─ tabbed:4:23"

@@ -1,11 +1,11 @@
 //! Worked pictures in short and medium style, and in colours.
 
-ghost use Rattle.std.specs.Prelude.{◌≡◌, [], ◌∷◌, codes};
+ghost use Rattle.std.specs.Prelude.{◌≡◌, ◌++◌, [], ◌∷◌, codes};
 ghost use Rattle.codespan_base.specs.Defaults.{default_config};
 ghost use Rattle.codespan_base.specs.Streams.{text_of, spelled};
 ghost use Rattle.codespan_base.specs.declared.diagnostic.Severity.TheVariants.{Bug, Error};
 ghost use Rattle.codespan_base.specs.declared.diagnostic.LabelStyle.TheVariants.{Primary, Secondary};
-ghost use Rattle.codespan_worked.specs.Worked.{text_file, label, says, with_code, with_note, rich, medium, short, rows, ansi};
+ghost use Rattle.codespan_worked.specs.Worked.{text_file, label, says, with_code, with_note, rich, medium, short, rows, ansi, nat_files, nat_error};
 
 /// No label in short style: the header alone.
 fn bare_bug_short()
@@ -15,8 +15,8 @@ fn bare_bug_short()
 
 /// Medium style: a header with its place, and the notes.
 fn medium()
-    ensures { text_of (medium default_config (with_note (codes "expected type `Nat`\n   found type `String`\n") (with_code (codes "E0001") (says Error (codes "unexpected type in application of `_+_`"))))
-        (text_file (codes "Data/Nat.fun") (codes "module Data.Nat where\n\ndata Nat : Type where\n    zero : Nat\n    succ : Nat → Nat\n\n{-# BUILTIN NATRAL Nat #-}\n\ninfixl 6 _+_ _-_\n\n_+_ : Nat → Nat → Nat\n") ∷ text_file (codes "Test.fun") (codes "module Test where\n\n_ : Nat\n_ = 123 + \"hello\"\n") ∷ [])
+    ensures { text_of (medium default_config nat_error
+        nat_files
         (label Primary 1 37 44 (codes "expected `Nat`, found `String`")
         ∷ label Secondary 0 130 155 (codes "based on the definition of `_+_`") ∷ []))
         ≡ rows (codes "Test.fun:4:11: error[E0001]: unexpected type in application of `_+_`"
@@ -26,8 +26,8 @@ fn medium()
 
 /// Short style: a header with its place.
 fn short()
-    ensures { text_of (short default_config (with_note (codes "expected type `Nat`\n   found type `String`\n") (with_code (codes "E0001") (says Error (codes "unexpected type in application of `_+_`"))))
-        (text_file (codes "Data/Nat.fun") (codes "module Data.Nat where\n\ndata Nat : Type where\n    zero : Nat\n    succ : Nat → Nat\n\n{-# BUILTIN NATRAL Nat #-}\n\ninfixl 6 _+_ _-_\n\n_+_ : Nat → Nat → Nat\n") ∷ text_file (codes "Test.fun") (codes "module Test where\n\n_ : Nat\n_ = 123 + \"hello\"\n") ∷ [])
+    ensures { text_of (short default_config nat_error
+        nat_files
         (label Primary 1 37 44 (codes "expected `Nat`, found `String`")
         ∷ label Secondary 0 130 155 (codes "based on the definition of `_+_`") ∷ []))
         ≡ rows (codes "Test.fun:4:11: error[E0001]: unexpected type in application of `_+_`" ∷ []) }
@@ -35,7 +35,8 @@ fn short()
 
 /// An empty code is not written.
 fn short_without_code()
-    ensures { text_of (short default_config (with_code (codes "") (says Error (codes "where did my errorcode go?"))) [] [])
+    ensures { text_of (short default_config
+        (with_code (codes "") (says Error (codes "where did my errorcode go?"))) [] [])
         ≡ rows (codes "error: where did my errorcode go?" ∷ []) }
 {}
 
@@ -57,7 +58,8 @@ fn report_medium()
 
 /// A script's fault in short style.
 fn script_bad_end_short()
-    ensures { text_of (short default_config (with_code (codes "S5") (says Error (codes "missing end of script")))
+    ensures { text_of (short default_config
+        (with_code (codes "S5") (says Error (codes "missing end of script")))
         (text_file (codes "script") [] ∷ [])
         (label Primary 0 0 0 (codes "expected ---") ∷ []))
         ≡ rows (codes "script:1:1: error[S5]: missing end of script" ∷ []) }
@@ -77,7 +79,9 @@ fn coloured_label()
         ≡ rows (codes "\u{1b}[0m\u{1b}[1m\u{1b}[38;5;9merror\u{1b}[0m\u{1b}[1m: \u{1b}[0m"
         ∷ codes "  \u{1b}[0m\u{1b}[36m┌─\u{1b}[0m f:1:2"
         ∷ codes "  \u{1b}[0m\u{1b}[36m│\u{1b}[0m"
-        ∷ codes "\u{1b}[0m\u{1b}[36m1\u{1b}[0m \u{1b}[0m\u{1b}[36m│\u{1b}[0m a\u{1b}[0m\u{1b}[31mb\u{1b}[0mc"
-        ∷ codes "  \u{1b}[0m\u{1b}[36m│\u{1b}[0m  \u{1b}[0m\u{1b}[31m^\u{1b}[0m \u{1b}[0m\u{1b}[31mm\u{1b}[0m"
+        ∷ (codes "\u{1b}[0m\u{1b}[36m1\u{1b}[0m \u{1b}[0m\u{1b}[36m│\u{1b}[0m a"
+        ++ codes "\u{1b}[0m\u{1b}[31mb\u{1b}[0mc")
+        ∷ (codes "  \u{1b}[0m\u{1b}[36m│\u{1b}[0m  \u{1b}[0m\u{1b}[31m^\u{1b}[0m "
+        ++ codes "\u{1b}[0m\u{1b}[31mm\u{1b}[0m")
         ∷ [] ∷ []) }
 {}

@@ -1,6 +1,6 @@
 //! Pictures that tell wrong bodies apart, each named for the rule that it shows.
 
-ghost use Rattle.std.specs.Prelude.{◌≡◌, [], ◌∷◌, codes};
+ghost use Rattle.std.specs.Prelude.{◌≡◌, ◌++◌, [], ◌∷◌, codes};
 ghost use Rattle.codespan_base.specs.Defaults.{default_config};
 ghost use Rattle.codespan_base.specs.Characters.{box_drawing};
 ghost use Rattle.codespan_base.specs.Streams.{text_of, spelled};
@@ -51,7 +51,8 @@ fn padding_of_all_lines()
         ∷ [] ∷ []) }
 {}
 
-/// A label over several lines colours its last line up to its end, and no character that reaches past it.
+/// A label over several lines colours its last line up to its end, and no character that reaches
+/// past it.
 fn bottom_colours_to_its_end()
     ensures { spelled ansi (rich default_config (says Error [])
         (text_file (codes "f") (codes "\n𝔸") ∷ [])
@@ -59,9 +60,12 @@ fn bottom_colours_to_its_end()
         ≡ rows (codes "\u{1b}[0m\u{1b}[1m\u{1b}[38;5;9merror\u{1b}[0m\u{1b}[1m: \u{1b}[0m"
         ∷ codes "  \u{1b}[0m\u{1b}[36m┌─\u{1b}[0m f:1:1"
         ∷ codes "  \u{1b}[0m\u{1b}[36m│\u{1b}[0m  "
-        ∷ codes "\u{1b}[0m\u{1b}[36m1\u{1b}[0m \u{1b}[0m\u{1b}[36m│\u{1b}[0m \u{1b}[0m\u{1b}[31m╭\u{1b}[0m "
-        ∷ codes "\u{1b}[0m\u{1b}[36m2\u{1b}[0m \u{1b}[0m\u{1b}[36m│\u{1b}[0m \u{1b}[0m\u{1b}[31m│\u{1b}[0m 𝔸"
-        ∷ codes "  \u{1b}[0m\u{1b}[36m│\u{1b}[0m \u{1b}[0m\u{1b}[31m╰\u{1b}[0m\u{1b}[0m\u{1b}[31m─^\u{1b}[0m"
+        ∷ (codes "\u{1b}[0m\u{1b}[36m1\u{1b}[0m \u{1b}[0m\u{1b}[36m│\u{1b}[0m "
+        ++ codes "\u{1b}[0m\u{1b}[31m╭\u{1b}[0m ")
+        ∷ (codes "\u{1b}[0m\u{1b}[36m2\u{1b}[0m \u{1b}[0m\u{1b}[36m│\u{1b}[0m "
+        ++ codes "\u{1b}[0m\u{1b}[31m│\u{1b}[0m 𝔸")
+        ∷ (codes "  \u{1b}[0m\u{1b}[36m│\u{1b}[0m \u{1b}[0m\u{1b}[31m╰"
+        ++ codes "\u{1b}[0m\u{1b}[0m\u{1b}[31m─^\u{1b}[0m")
         ∷ [] ∷ []) }
 {}
 
@@ -73,9 +77,12 @@ fn top_colours_from_its_start()
         ≡ rows (codes "\u{1b}[0m\u{1b}[1m\u{1b}[38;5;9merror\u{1b}[0m\u{1b}[1m: \u{1b}[0m"
         ∷ codes "  \u{1b}[0m\u{1b}[36m┌─\u{1b}[0m f:1:1"
         ∷ codes "  \u{1b}[0m\u{1b}[36m│\u{1b}[0m  "
-        ∷ codes "\u{1b}[0m\u{1b}[36m1\u{1b}[0m \u{1b}[0m\u{1b}[36m│\u{1b}[0m \u{1b}[0m\u{1b}[31m╭\u{1b}[0m \u{1b}[0m\u{1b}[31ma\u{1b}[0m"
-        ∷ codes "\u{1b}[0m\u{1b}[36m2\u{1b}[0m \u{1b}[0m\u{1b}[36m│\u{1b}[0m \u{1b}[0m\u{1b}[31m│\u{1b}[0m "
-        ∷ codes "  \u{1b}[0m\u{1b}[36m│\u{1b}[0m \u{1b}[0m\u{1b}[31m╰\u{1b}[0m\u{1b}[0m\u{1b}[31m^\u{1b}[0m"
+        ∷ (codes "\u{1b}[0m\u{1b}[36m1\u{1b}[0m \u{1b}[0m\u{1b}[36m│\u{1b}[0m "
+        ++ codes "\u{1b}[0m\u{1b}[31m╭\u{1b}[0m \u{1b}[0m\u{1b}[31ma\u{1b}[0m")
+        ∷ (codes "\u{1b}[0m\u{1b}[36m2\u{1b}[0m \u{1b}[0m\u{1b}[36m│\u{1b}[0m "
+        ++ codes "\u{1b}[0m\u{1b}[31m│\u{1b}[0m ")
+        ∷ (codes "  \u{1b}[0m\u{1b}[36m│\u{1b}[0m \u{1b}[0m\u{1b}[31m╰"
+        ++ codes "\u{1b}[0m\u{1b}[0m\u{1b}[31m^\u{1b}[0m")
         ∷ [] ∷ []) }
 {}
 
@@ -87,9 +94,12 @@ fn secondary_colours_nothing()
         ≡ rows (codes "\u{1b}[0m\u{1b}[1m\u{1b}[38;5;9merror\u{1b}[0m\u{1b}[1m: \u{1b}[0m"
         ∷ codes "  \u{1b}[0m\u{1b}[36m┌─\u{1b}[0m f:1:1"
         ∷ codes "  \u{1b}[0m\u{1b}[36m│\u{1b}[0m  "
-        ∷ codes "\u{1b}[0m\u{1b}[36m1\u{1b}[0m \u{1b}[0m\u{1b}[36m│\u{1b}[0m \u{1b}[0m\u{1b}[36m╭\u{1b}[0m "
-        ∷ codes "\u{1b}[0m\u{1b}[36m2\u{1b}[0m \u{1b}[0m\u{1b}[36m│\u{1b}[0m \u{1b}[0m\u{1b}[36m│\u{1b}[0m a"
-        ∷ codes "  \u{1b}[0m\u{1b}[36m│\u{1b}[0m \u{1b}[0m\u{1b}[36m╰\u{1b}[0m\u{1b}[0m\u{1b}[36m─'\u{1b}[0m"
+        ∷ (codes "\u{1b}[0m\u{1b}[36m1\u{1b}[0m \u{1b}[0m\u{1b}[36m│\u{1b}[0m "
+        ++ codes "\u{1b}[0m\u{1b}[36m╭\u{1b}[0m ")
+        ∷ (codes "\u{1b}[0m\u{1b}[36m2\u{1b}[0m \u{1b}[0m\u{1b}[36m│\u{1b}[0m "
+        ++ codes "\u{1b}[0m\u{1b}[36m│\u{1b}[0m a")
+        ∷ (codes "  \u{1b}[0m\u{1b}[36m│\u{1b}[0m \u{1b}[0m\u{1b}[36m╰"
+        ++ codes "\u{1b}[0m\u{1b}[0m\u{1b}[36m─'\u{1b}[0m")
         ∷ [] ∷ []) }
 {}
 
@@ -102,10 +112,15 @@ fn underline_has_its_own_colour()
         ≡ rows (codes "\u{1b}[0m\u{1b}[1m\u{1b}[38;5;9merror\u{1b}[0m\u{1b}[1m: \u{1b}[0m"
         ∷ codes "  \u{1b}[0m\u{1b}[36m┌─\u{1b}[0m f:1:1"
         ∷ codes "  \u{1b}[0m\u{1b}[36m│\u{1b}[0m    "
-        ∷ codes "\u{1b}[0m\u{1b}[36m1\u{1b}[0m \u{1b}[0m\u{1b}[36m│\u{1b}[0m \u{1b}[0m\u{1b}[31m╭\u{1b}[0m \u{1b}[0m\u{1b}[36m╭\u{1b}[0m "
-        ∷ codes "\u{1b}[0m\u{1b}[36m2\u{1b}[0m \u{1b}[0m\u{1b}[36m│\u{1b}[0m \u{1b}[0m\u{1b}[31m│\u{1b}[0m \u{1b}[0m\u{1b}[36m│\u{1b}[0m "
-        ∷ codes "  \u{1b}[0m\u{1b}[36m│\u{1b}[0m \u{1b}[0m\u{1b}[31m╰\u{1b}[0m\u{1b}[0m\u{1b}[31m─\u{1b}[0m\u{1b}[0m\u{1b}[36m│\u{1b}[0m\u{1b}[0m\u{1b}[31m^\u{1b}[0m"
-        ∷ codes "  \u{1b}[0m\u{1b}[36m│\u{1b}[0m   \u{1b}[0m\u{1b}[36m╰\u{1b}[0m\u{1b}[0m\u{1b}[36m'\u{1b}[0m"
+        ∷ (codes "\u{1b}[0m\u{1b}[36m1\u{1b}[0m \u{1b}[0m\u{1b}[36m│\u{1b}[0m "
+        ++ codes "\u{1b}[0m\u{1b}[31m╭\u{1b}[0m \u{1b}[0m\u{1b}[36m╭\u{1b}[0m ")
+        ∷ (codes "\u{1b}[0m\u{1b}[36m2\u{1b}[0m \u{1b}[0m\u{1b}[36m│\u{1b}[0m "
+        ++ codes "\u{1b}[0m\u{1b}[31m│\u{1b}[0m \u{1b}[0m\u{1b}[36m│\u{1b}[0m ")
+        ∷ (codes "  \u{1b}[0m\u{1b}[36m│\u{1b}[0m \u{1b}[0m\u{1b}[31m╰"
+        ++ codes "\u{1b}[0m\u{1b}[0m\u{1b}[31m─\u{1b}[0m\u{1b}[0m\u{1b}[36m│"
+        ++ codes "\u{1b}[0m\u{1b}[0m\u{1b}[31m^\u{1b}[0m")
+        ∷ (codes "  \u{1b}[0m\u{1b}[36m│\u{1b}[0m   \u{1b}[0m\u{1b}[36m╰"
+        ++ codes "\u{1b}[0m\u{1b}[0m\u{1b}[36m'\u{1b}[0m")
         ∷ [] ∷ []) }
 {}
 
@@ -118,7 +133,8 @@ fn primary_pointer_first()
         ≡ rows (codes "\u{1b}[0m\u{1b}[1m\u{1b}[38;5;9merror\u{1b}[0m\u{1b}[1m: \u{1b}[0m"
         ∷ codes "  \u{1b}[0m\u{1b}[36m┌─\u{1b}[0m f:1:1"
         ∷ codes "  \u{1b}[0m\u{1b}[36m│\u{1b}[0m"
-        ∷ codes "\u{1b}[0m\u{1b}[36m1\u{1b}[0m \u{1b}[0m\u{1b}[36m│\u{1b}[0m \u{1b}[0m\u{1b}[31ma\u{1b}[0m"
+        ∷ (codes "\u{1b}[0m\u{1b}[36m1\u{1b}[0m \u{1b}[0m\u{1b}[36m│\u{1b}[0m "
+        ++ codes "\u{1b}[0m\u{1b}[31ma\u{1b}[0m")
         ∷ codes "  \u{1b}[0m\u{1b}[36m│\u{1b}[0m \u{1b}[0m\u{1b}[31m^\u{1b}[0m"
         ∷ codes "  \u{1b}[0m\u{1b}[36m│\u{1b}[0m \u{1b}[0m\u{1b}[31m│\u{1b}[0m"
         ∷ codes "  \u{1b}[0m\u{1b}[36m│\u{1b}[0m \u{1b}[0m\u{1b}[36mm\u{1b}[0m"
@@ -171,7 +187,8 @@ fn pointer_on_no_cell()
 
 /// A character of no width has no caret.
 fn no_caret_on_no_cell()
-    ensures { text_of (rich (record default_config { tab_width = 0; end_context_lines = 0 }) (says Error [])
+    ensures { text_of (rich (record default_config { tab_width = 0; end_context_lines = 0 })
+        (says Error [])
         (text_file (codes "f") (codes "\t") ∷ [])
         (label Primary 0 0 0 [] ∷ []))
         ≡ rows (codes "error: "
@@ -365,7 +382,9 @@ fn overlap_forbids_trailing()
 
 /// An underline from a bottom corner passes a bar with its own character.
 fn underline_characters_of_bottom()
-    ensures { text_of (rich (record default_config { chars = record box_drawing { multi_top = 0x25 } }) (says Error [])
+    ensures { text_of
+        (rich (record default_config { chars = record box_drawing { multi_top = 0x25 } })
+        (says Error [])
         (text_file (codes "f") (codes "\n") ∷ [])
         (label Primary 0 0 1 []
         ∷ label Secondary 0 0 1 [] ∷ []))
@@ -379,7 +398,8 @@ fn underline_characters_of_bottom()
         ∷ [] ∷ []) }
 {}
 
-/// The context lines of a label's start stand after its first line, those of its end before its last.
+/// The context lines of a label's start stand after its first line, those of its end before its
+/// last.
 fn context_of_start_and_end()
     ensures { text_of (rich (record default_config { end_context_lines = 0 }) (says Error [])
         (text_file (codes "f") (codes "\n\n\n\n\n\n") ∷ [])
@@ -399,7 +419,9 @@ fn context_of_start_and_end()
 
 /// A break has the lanes of the line after it.
 fn break_has_lanes_of_next_line()
-    ensures { text_of (rich (record default_config { start_context_lines = 0; end_context_lines = 0 }) (says Error [])
+    ensures { text_of
+        (rich (record default_config { start_context_lines = 0; end_context_lines = 0 })
+        (says Error [])
         (text_file (codes "f") (codes "\n\n\n") ∷ [])
         (label Secondary 0 0 3 [] ∷ []))
         ≡ rows (codes "error: "

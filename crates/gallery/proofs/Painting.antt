@@ -1,30 +1,34 @@
 -- What is painted is the stream of the picture.
 use Rattle.std.proofs.Common.{◌≡◌, ℕ, Bool, true, List, ◌++◌, IsSome, None, Some, Result, Ok, Err, OnOk, refl, sym, ◌∙◌, ap}
 use Rattle.std.specs.List.{slice_get}
+use Rattle.std.specs.Prelude.{Contains}
 use Rattle.std.specs.Option.{option_map_or}
 use Rattle.codespan_base.specs.declared.diagnostic.Diagnostic.{Diagnostic}
 use Rattle.codespan_base.specs.declared.files.Error.{Error}
 use Rattle.codespan_base.specs.declared.term.config.Config.{Config}
 use Rattle.codespan_base.specs.declared.term.config.DisplayStyle.{DisplayStyle}
 use Rattle.codespan_base.specs.declared.term.config.DisplayStyle.TheVariants.{Rich, Medium, Short}
-use Rattle.codespan_base.specs.FileModel.{FileModel}
+use Rattle.codespan_base.specs.FileModel.{FileDatabase, FileModel}
 use Rattle.codespan_base.specs.SimpleModel.{missing_file, simple_file, table_file}
 use Rattle.codespan_base.specs.Streams.{Spelling, Stream, spelled}
 use Rattle.codespan_base.specs.WriterLaw.{Sink, is_told, sent, tells, gained}
 use Rattle.codespan_base.specs.Writers.{fresh_sink}
 use Rattle.codespan_picture.specs.Lookups.{AllAnswered, Refusals, lookups_in}
-use Rattle.codespan_reporting.specs.Headline.{DrawsTo, NamesAreStated, drawn_picture}
+use Rattle.codespan_picture.specs.Picture.{labels_of, picture}
+use Rattle.codespan_picture.specs.Snippets.{InFile}
+use Rattle.codespan_reporting.specs.Output.{WritesStyled}
+use Rattle.codespan_laws.specs.StatedNames.{NamesAreStated}
+use Rattle.codespan_laws.proofs.StatedNames.{output_stated}
 use Rattle.gallery.specs.Pictures.{LentFile}
 
-module _ {Id : Type 0} (config : Config) (same : Id → Id → Bool) (file : Id → FileModel) (refusal : Refusals Id) (d : Diagnostic Id) where
-  -- a call that draws a style sends the stream of its picture, and no lookup was refused
-  pub drawn_stream : (style : DisplayStyle) (old new : Sink) (r : Result (Unit {0}) Error) → DrawsTo config same file refusal d style old r new
-      → NamesAreStated file d → is_told old ≡ true
-      → OnOk r (AllAnswered refusal (lookups_in style config same file refusal d) × (new ≡ sent old (drawn_picture config config same file refusal d style)))
-  drawn_stream Rich old new (Ok done) draws stated told = (draws.drawn.answered, draws.drawn.stream stated told)
-  drawn_stream Medium old new (Ok done) draws stated told = (draws.drawn.answered, draws.drawn.stream stated told)
-  drawn_stream Short old new (Ok done) draws stated told = (draws.drawn.answered, draws.drawn.stream stated told)
-  drawn_stream style old new (Err error) draws stated told = tt
+module _ {Id : Type 0} (config : Config) (files : FileDatabase Id) (d : Diagnostic Id) where
+  -- a call that draws sends the stream of the picture, and no lookup was refused
+  pub drawn_stream : (old new : Sink) (r : Result (Unit {0}) Error) → WritesStyled config.display_style config config files d old r new
+      → NamesAreStated files d → is_told old ≡ true
+      → OnOk r (AllAnswered files.refusal (lookups_in config.display_style config files.same files.file files.refusal d) × (new ≡ sent old (picture config.display_style config config files d)))
+  drawn_stream old new (Ok done) drawn stated told =
+      (drawn.ends.1.answered, drawn.gains told ∙ ap (sent old) (output_stated files d stated config.display_style config config drawn.loci drawn.are))
+  drawn_stream old new (Err error) drawn stated told = tt
 
 -- a fresh writer that told some bytes tells after them the stream that was sent
 pub told_after : (spelling : Spelling) (old new : Sink) (stream : Stream) (first last : List ℕ) → old ≡ fresh_sink spelling (Some first) → new ≡ sent old stream → new.held ≡ Some last
@@ -41,7 +45,7 @@ unfolding is_told tells
 fresh_told spelling old first fresh = ap (λ (s : Sink). is_told s) fresh
 
 -- the names of the files of a table are stated
-pub stated_in_table : (files : List LentFile) (said : Diagnostic ℕ) → NamesAreStated (table_file (λ name. Some name.now) (λ source. source.now) files) said
+pub stated_in_table : (files : List LentFile) (said : Diagnostic ℕ) (x : InFile ℕ) → Contains (labels_of said) x → IsSome (table_file (λ name. Some name.now) (λ source. source.now) files x.id).name
 stated_in_table files said x contains = stated x.id
   where
     stated : (id : ℕ) → IsSome (table_file (λ name. Some name.now) (λ source. source.now) files id).name

@@ -33,7 +33,8 @@ pub record IsNew (name : List ℕ) (case : Case) : Type 0 where
   pub numbers : case.numbers.items ≡ []
   pub config : IsConfig default_config case.config
   pub colours : case.colours ≡ Plain
-  pub said : diagnostic_view case.said ≡ record { severity = severities.Error; code = None; message = []; labels = []; notes = [] }
+  pub said : diagnostic_view case.said
+      ≡ record { severity = severities.Error; code = None; message = []; labels = []; notes = [] }
 
 -- the text goes on with the source of the last file
 pub record GoesOn (text : List ℕ) (old new : List (List ℕ × List ℕ)) : Type 0 where
@@ -46,12 +47,22 @@ pub record GoesOn (text : List ℕ) (old new : List (List ℕ × List ℕ)) : Ty
 -- the new case is the old one, with what is said of it
 abbrev pub Takes : Statement → Case → Case → Type 0
 Takes (says.Table table) old new = new ≡ record old { table = table }
-Takes (says.File name) old new = (new ≡ record old { files = new.files }) × (map file_view new.files.items ≡ map file_view old.files.items ++ (string_bytes name, []) ∷ [])
-Takes (says.Source text) old new = (new ≡ record old { files = new.files }) × GoesOn (string_bytes text) (map file_view old.files.items) (map file_view new.files.items)
-Takes (says.Number line number) old new = (new ≡ record old { numbers = new.numbers }) × (new.numbers.items ≡ old.numbers.items ++ (line, number) ∷ [])
-Takes (says.Style style) old new = new ≡ record old { config = record old.config { display_style = style } }
-Takes (says.Layout layout) old new = new ≡ record old { config = record old.config { layout = layout } }
-Takes (says.Tab width) old new = new ≡ record old { config = record old.config { tab_width = width } }
+Takes (says.File name) old new =
+    (new ≡ record old { files = new.files })
+    × (map file_view new.files.items
+    ≡ map file_view old.files.items ++ (string_bytes name, []) ∷ [])
+Takes (says.Source text) old new =
+    (new ≡ record old { files = new.files })
+    × GoesOn (string_bytes text) (map file_view old.files.items) (map file_view new.files.items)
+Takes (says.Number line number) old new =
+    (new ≡ record old { numbers = new.numbers })
+    × (new.numbers.items ≡ old.numbers.items ++ (line, number) ∷ [])
+Takes (says.Style style) old new =
+    new ≡ record old { config = record old.config { display_style = style } }
+Takes (says.Layout layout) old new =
+    new ≡ record old { config = record old.config { layout = layout } }
+Takes (says.Tab width) old new =
+    new ≡ record old { config = record old.config { tab_width = width } }
 Takes (says.Context context) old new = new ≡ record old {
   config = record old.config {
     start_context_lines = context.start;
@@ -60,13 +71,21 @@ Takes (says.Context context) old new = new ≡ record old {
     after_label_lines = context.after;
   };
 }
-Takes (says.Characters set) old new = (new ≡ record old { config = record old.config { chars = new.config.chars } }) × IsChars (chars_of set) new.config.chars
+Takes (says.Characters set) old new =
+    (new ≡ record old { config = record old.config { chars = new.config.chars } })
+    × IsChars (chars_of set) new.config.chars
 Takes (says.Colours colours) old new = new ≡ record old { colours = colours }
-Takes (says.Severity severity) old new = new ≡ record old { said = record old.said { severity = severity } }
+Takes (says.Severity severity) old new =
+    new ≡ record old { said = record old.said { severity = severity } }
 Takes (says.Code code) old new = new ≡ record old { said = record old.said { code = Some code } }
-Takes (says.Message message) old new = new ≡ record old { said = record old.said { message = message } }
-Takes (says.Label label) old new = (new ≡ record old { said = record old.said { labels = new.said.labels } }) × (new.said.labels.items ≡ old.said.labels.items ++ label ∷ [])
-Takes (says.Note note) old new = (new ≡ record old { said = record old.said { notes = new.said.notes } }) × (new.said.notes.items ≡ old.said.notes.items ++ note ∷ [])
+Takes (says.Message message) old new =
+    new ≡ record old { said = record old.said { message = message } }
+Takes (says.Label label) old new =
+    (new ≡ record old { said = record old.said { labels = new.said.labels } })
+    × (new.said.labels.items ≡ old.said.labels.items ++ label ∷ [])
+Takes (says.Note note) old new =
+    (new ≡ record old { said = record old.said { notes = new.said.notes } })
+    × (new.said.notes.items ≡ old.said.notes.items ++ note ∷ [])
 
 -- the statement is a part of a source
 abbrev pub IsSource : Statement → Type 0
@@ -105,23 +124,33 @@ pub record TakesLine (line : List ℕ) (before after : List Case) : Type 0 where
 -- the cases after some lines, read one after another
 abbrev pub TakesLines : List (List ℕ) → List Case → List Case → Type 0
 TakesLines [] before after = after ≡ before
-TakesLines (line ∷ lines) before after = (between : List Case) × TakesLine line before between × TakesLines lines between after
+TakesLines (line ∷ lines) before after =
+    (between : List Case) × TakesLine line before between × TakesLines lines between after
 
--- why the last case does not take in what is said: there is none, it has no file for a part of a source, or memory was refused
+-- why the last case does not take in what is said: there is none, it has no file for a part of a
+-- source, or memory was refused
 abbrev pub LastRefuses : Statement → List Case → Mistake → Type 0
 LastRefuses statement before NoCase = before ≡ []
-LastRefuses statement before NoFile = IsSource statement × ((front : List Case) × (old : Case) × (before ≡ front ++ old ∷ []) × (old.files.items ≡ []))
+LastRefuses statement before NoFile = IsSource statement
+    × ((front : List Case) × (old : Case) × (before ≡ front ++ old ∷ []) × (old.files.items ≡ []))
 LastRefuses statement before OutOfMemory = Unit {0}
 LastRefuses statement before _ = ⊥
 
--- what is wrong with a line after these cases: memory was refused, or the line is wrong, or they can not take in what it says
+-- what is wrong with a line after these cases: memory was refused, or the line is wrong, or they
+-- can not take in what it says
 abbrev pub IsMistaken : List ℕ → List Case → Mistake → Type 0
 IsMistaken line before mistake =
-    (mistake ≡ OutOfMemory) ⊎ (IsWrongLine line mistake ⊎ ((statement : Statement) × LineSays line (Said statement) × LastRefuses statement before mistake))
+    (mistake ≡ OutOfMemory)
+    ⊎ (IsWrongLine line mistake
+    ⊎ ((statement : Statement) × LineSays line (Said statement)
+    × LastRefuses statement before mistake))
 
--- the fault tells the first line that has a mistake, by its number from 1, and the mistake; or that memory was refused
+-- the fault tells the first line that has a mistake, by its number from 1, and the mistake; or that
+-- memory was refused
 abbrev pub IsFirstMistake : List (List ℕ) → faults.Fault → Type 0
 IsFirstMistake lines (fault.Line number mistake) =
-    (k : ℕ) × (line : List ℕ) × (before : List Case) × (number ≡ k + 1) × (slice_get lines k ≡ Some line) × TakesLines (take k lines) [] before × IsMistaken line before mistake
+    (k : ℕ) × (line : List ℕ) × (before : List Case) × (number ≡ k + 1)
+    × (slice_get lines k ≡ Some line) × TakesLines (take k lines) [] before
+    × IsMistaken line before mistake
 IsFirstMistake lines fault.OutOfMemory = Unit {0}
 IsFirstMistake lines _ = ⊥

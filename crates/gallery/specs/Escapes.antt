@@ -4,7 +4,8 @@ use Rattle.std.specs.Char.{IsScalar}
 use Rattle.std.specs.Option.{option_map}
 use Rattle.std.specs.Str.Parse.{ParsesUnsigned}
 
--- the character of a letter: that of `n` is the newline, and those of `r`, `t`, `0` and the backslash are the carriage return, the tab, the
+-- the character of a letter: that of `n` is the newline, and those of `r`, `t`, `0` and the
+-- backslash are the carriage return, the tab, the
 -- character of the number 0 and the backslash
 abbrev pub letter_said : ℕ → Option ℕ
 letter_said letter =
@@ -27,16 +28,21 @@ IsNumbered digits c = ParsesUnsigned {E = Unit {0}} 32 16 digits (Ok c) × IsSca
 abbrev pub IsBraced : List ℕ → List ℕ → List ℕ → Type 0
 IsBraced text digits left = (text ≡ 123 ∷ digits ++ 125 ∷ left) × Lacks 125 digits
 
--- what is read of a text after `u`: the character that a number in braces has, and what is left; none where no such number stands there
+-- what is read of a text after `u`: the character that a number in braces has, and what is left;
+-- none where no such number stands there
 abbrev pub ReadsNumbered : List ℕ → Option (ℕ × List ℕ) → Type 0
-ReadsNumbered text (Some (c, left)) = (digits : List ℕ) × IsBraced text digits left × IsNumbered digits c
-ReadsNumbered text None = (digits left : List ℕ) (c : ℕ) → IsBraced text digits left → ¬ (IsNumbered digits c)
+ReadsNumbered text (Some (c, left)) =
+    (digits : List ℕ) × IsBraced text digits left × IsNumbered digits c
+ReadsNumbered text None =
+    (digits left : List ℕ) (c : ℕ) → IsBraced text digits left → ¬ (IsNumbered digits c)
 
--- what is read of a text after a backslash: a character, and what is left; none where no escape stands there
+-- what is read of a text after a backslash: a character, and what is left; none where no escape
+-- stands there
 abbrev pub ReadsEscape : List ℕ → Option (ℕ × List ℕ) → Type 0
 ReadsEscape [] read = read ≡ None
 ReadsEscape (letter ∷ left) read =
-    (letter ≡ 117 → ReadsNumbered left read) × (letter ≢ 117 → read ≡ option_map (λ c. (c, left)) (letter_said letter))
+    (letter ≡ 117 → ReadsNumbered left read)
+    × (letter ≢ 117 → read ≡ option_map (λ c. (c, left)) (letter_said letter))
 
 -- the text has no backslash
 abbrev pub IsPlain : List ℕ → Type 0
@@ -49,6 +55,8 @@ after_bytes front said = option_map (λ bytes. front ++ bytes) said
 -- what an escaped text says; none where a backslash begins no escape
 pub data Unescapes : List ℕ → Option (List ℕ) → Type 0 where
   whole : (text : List ℕ) → IsPlain text → Unescapes text (Some text)
-  broken : (plain escape : List ℕ) → IsPlain plain → ReadsEscape escape None → Unescapes (plain ++ 92 ∷ escape) None
-  escaped : (plain escape left : List ℕ) (c : ℕ) (said : Option (List ℕ)) → IsPlain plain → ReadsEscape escape (Some (c, left)) → Unescapes left said
+  broken : (plain escape : List ℕ) → IsPlain plain → ReadsEscape escape None
+      → Unescapes (plain ++ 92 ∷ escape) None
+  escaped : (plain escape left : List ℕ) (c : ℕ) (said : Option (List ℕ)) → IsPlain plain
+      → ReadsEscape escape (Some (c, left)) → Unescapes left said
       → Unescapes (plain ++ 92 ∷ escape) (after_bytes (plain ++ encode_utf8 c) said)

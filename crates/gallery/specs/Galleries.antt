@@ -12,7 +12,8 @@ use Rattle.gallery.specs.Svg.{IsSvg}
 abbrev pub title : List ℕ → List ℕ
 title name = codes "== " ++ name ++ 10 ∷ []
 
--- a byte of a picture as it is shown: the escape character, the character of the number 0, the carriage return and the tab by a backslash
+-- a byte of a picture as it is shown: the escape character, the character of the number 0, the
+-- carriage return and the tab by a backslash
 abbrev pub shown_byte : ℕ → List ℕ
 shown_byte b =
     if b == 27 then codes "\\e"
@@ -28,9 +29,11 @@ shown picture = flat_map shown_byte picture
 -- what is told of a refusal: nothing where there is none, else a line with the error's text
 abbrev pub TellsRefusal : Result (Unit {0}) Error → List ℕ → Type 0
 TellsRefusal (Ok done) told = told ≡ []
-TellsRefusal (Err error) told = IfSome (error_text error) (λ text. told ≡ codes "refused: " ++ text ++ 10 ∷ [])
+TellsRefusal (Err error) told =
+    IfSome (error_text error) (λ text. told ≡ codes "refused: " ++ text ++ 10 ∷ [])
 
--- what stands under a title: what was drawn, as it is shown, and after it, where it was refused, a line that tells so; in plain text what was
+-- what stands under a title: what was drawn, as it is shown, and after it, where it was refused, a
+-- line that tells so; in plain text what was
 -- drawn is the picture of the case, and as SVG the document that shows it
 pub record IsPictured (case : Case) (text : List ℕ) : Type 0 where
   pub drawn : Result (Unit {0}) Error
@@ -45,4 +48,5 @@ pub record IsPictured (case : Case) (text : List ℕ) : Type 0 where
 abbrev pub IsGallery : List Case → List ℕ → Type 0
 IsGallery [] text = text ≡ []
 IsGallery (case ∷ cases) text =
-    (pictured : List ℕ) × (left : List ℕ) × (text ≡ title case.name.now ++ pictured ++ left) × IsPictured case pictured × IsGallery cases left
+    (pictured : List ℕ) × (left : List ℕ) × (text ≡ title case.name.now ++ pictured ++ left)
+    × IsPictured case pictured × IsGallery cases left

@@ -36,10 +36,13 @@ is_newline glyph = glyph.character == 10
 abbrev pub start : Place
 start = record { row = 0; column = 0 }
 
--- the place after a glyph: the start of the next row after a newline, else as many cells on as it takes
+-- the place after a glyph: the start of the next row after a newline, else as many cells on as it
+-- takes
 abbrev pub after_glyph : Place → Glyph → Place
 after_glyph place glyph =
-    if is_newline glyph then record { row = place.row + 1; column = 0 } else record { row = place.row; column = place.column + cells_of glyph }
+    if is_newline glyph
+    then record { row = place.row + 1; column = 0 }
+    else record { row = place.row; column = place.column + cells_of glyph }
 
 -- the row where glyphs end, and the cells of the widest row, from a place on
 abbrev pub extent_from : Place → List Glyph → Place
@@ -56,7 +59,8 @@ is_narrow glyph = not (is_newline glyph) && nat_le (cells_of glyph) 1
 
 -- the glyph stands in one text with the one before it: both are narrow, in one ink
 abbrev pub joins : Glyph → Glyph → Bool
-joins before glyph = is_narrow before && is_narrow glyph && ink_number before.ink == ink_number glyph.ink
+joins before glyph =
+    is_narrow before && is_narrow glyph && ink_number before.ink == ink_number glyph.ink
 
 -- the glyph stands in one text with the one before it, if there is one
 abbrev pub follows : Option Glyph → Glyph → Bool
@@ -71,4 +75,5 @@ goes_on glyph (next ∷ glyphs) = joins glyph next
 -- the cells of the glyphs that follow this one in its text
 abbrev pub joined_cells : Glyph → List Glyph → ℕ
 joined_cells before [] = 0
-joined_cells before (glyph ∷ glyphs) = if joins before glyph then cells_of glyph + joined_cells glyph glyphs else 0
+joined_cells before (glyph ∷ glyphs) =
+    if joins before glyph then cells_of glyph + joined_cells glyph glyphs else 0

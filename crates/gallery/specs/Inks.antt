@@ -29,9 +29,11 @@ colour_number (Some colour) = color_number colour
 abbrev pub ink_number : Ink → ℕ
 ink_number ink = (if ink.bold then 272 else 256) + colour_number ink.colour
 
--- how marks of style are told: each by the ink of its default style, and the reset by that of plain text
+-- how marks of style are told: each by the ink of its default style, and the reset by that of plain
+-- text
 abbrev pub ink_spelling : Spelling
-ink_spelling = spelling_by default_styles (λ spec. ink_number (ink_of spec) ∷ []) (ink_number plain_ink ∷ [])
+ink_spelling =
+    spelling_by default_styles (λ spec. ink_number (ink_of spec) ∷ []) (ink_number plain_ink ∷ [])
 
 -- ---- runs
 

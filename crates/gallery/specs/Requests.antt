@@ -16,7 +16,8 @@ pub data Asked : Type 0 where
   All : Asked
   Svg : List ℕ → Asked
 
--- what arguments ask for: without any all pictures, and by `svg NAME` the document of that case; nothing by any others
+-- what arguments ask for: without any all pictures, and by `svg NAME` the document of that case;
+-- nothing by any others
 abbrev pub asked_of : List (List ℕ) → Option Asked
 asked_of [] = Some All
 asked_of (word ∷ []) = None
@@ -26,7 +27,8 @@ asked_of (word ∷ name ∷ more ∷ rest) = None
 -- the first case of a name
 abbrev pub case_named : List ℕ → List Case → Option Case
 case_named name [] = None
-case_named name (case ∷ cases) = if bytes_eq case.name.now name then Some case else case_named name cases
+case_named name (case ∷ cases) =
+    if bytes_eq case.name.now name then Some case else case_named name cases
 
 -- the same of a request
 abbrev pub request_view : Request → Asked
@@ -40,20 +42,26 @@ AnswersOf (Svg name) cases bytes = IsSomeAnd (case_named name cases) (λ case. I
 
 -- the bytes are what is asked for of an input
 abbrev pub Answers : Asked → List ℕ → List ℕ → Type 0
-Answers asked input bytes = (cases : List Case) × TakesLines (lines input) [] cases × AnswersOf asked cases bytes
+Answers asked input bytes =
+    (cases : List Case) × TakesLines (lines input) [] cases × AnswersOf asked cases bytes
 
--- why what is asked for of cases is refused: no case has the name, the drawing refused, or memory was refused
+-- why what is asked for of cases is refused: no case has the name, the drawing refused, or memory
+-- was refused
 abbrev pub RefusesOf : Asked → List Case → Fault → Type 0
-RefusesOf asked cases (UnknownCase name) = (asked ≡ Svg (string_bytes name)) × (case_named (string_bytes name) cases ≡ None)
+RefusesOf asked cases (UnknownCase name) =
+    (asked ≡ Svg (string_bytes name)) × (case_named (string_bytes name) cases ≡ None)
 RefusesOf asked cases (Undrawn error) = Unit {0}
 RefusesOf asked cases OutOfMemory = Unit {0}
 RefusesOf asked cases _ = ⊥
 
--- what a fault tells of the input: its first mistake, or that no case has the name that is asked for
+-- what a fault tells of the input: its first mistake, or that no case has the name that is asked
+-- for
 abbrev pub FaultTells : Option Asked → Fault → List ℕ → Type 0
 FaultTells asked (Line number mistake) input = IsFirstMistake (lines input) (Line number mistake)
 FaultTells asked (UnknownCase name) input =
-    (asked ≡ Some (Svg (string_bytes name))) × ((cases : List Case) × TakesLines (lines input) [] cases × (case_named (string_bytes name) cases ≡ None))
+    (asked ≡ Some (Svg (string_bytes name)))
+    × ((cases : List Case) × TakesLines (lines input) [] cases
+    × (case_named (string_bytes name) cases ≡ None))
 FaultTells asked _ input = Unit {0}
 
 -- the status of an outcome

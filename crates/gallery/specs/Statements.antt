@@ -34,7 +34,8 @@ abbrev pub style_word : LabelStyle → Word
 style_word styles.Primary = Primary
 style_word styles.Secondary = Secondary
 
--- a rest gives the numbers of lines that are shown: after a first line, before a last one, before a label and after it
+-- a rest gives the numbers of lines that are shown: after a first line, before a last one, before a
+-- label and after it
 pub record IsContext (rest : List ℕ) (context : contexts.Context) : Type 0 where
   pub start : IsNumber (field_of rest) context.start
   pub end : IsNumber (field_of (past_blank rest)) context.end
@@ -53,14 +54,16 @@ abbrev pub Says : Option Word → List ℕ → Statement → Type 0
 Says word rest (says.Table table) = (word ≡ Some Table) × (table_named rest ≡ Some table)
 Says word rest (says.File name) = (word ≡ Some File) × Spells rest (string_bytes name)
 Says word rest (says.Source text) = (word ≡ Some Source) × Spells rest (string_bytes text)
-Says word rest (says.Number line number) = (word ≡ Some Number) × IsNumber (field_of rest) line × IsNumber (past_blank rest) number
+Says word rest (says.Number line number) =
+    (word ≡ Some Number) × IsNumber (field_of rest) line × IsNumber (past_blank rest) number
 Says word rest (says.Style style) = (word ≡ Some Style) × (style_named rest ≡ Some style)
 Says word rest (says.Layout layout) = (word ≡ Some Layout) × (layout_named rest ≡ Some layout)
 Says word rest (says.Tab width) = (word ≡ Some Tab) × IsNumber rest width
 Says word rest (says.Context context) = (word ≡ Some Context) × IsContext rest context
 Says word rest (says.Characters set) = (word ≡ Some Characters) × (characters_named rest ≡ Some set)
 Says word rest (says.Colours colours) = (word ≡ Some Colours) × (colours_named rest ≡ Some colours)
-Says word rest (says.Severity severity) = (word ≡ Some Severity) × (severity_named rest ≡ Some severity)
+Says word rest (says.Severity severity) =
+    (word ≡ Some Severity) × (severity_named rest ≡ Some severity)
 Says word rest (says.Code code) = (word ≡ Some Code) × Spells rest (string_bytes code)
 Says word rest (says.Message message) = (word ≡ Some Message) × Spells rest (string_bytes message)
 Says word rest (says.Label label) = (word ≡ Some (style_word label.style)) × IsLabel rest label
@@ -69,8 +72,10 @@ Says word rest (says.Note note) = (word ≡ Some Note) × Spells rest (string_by
 -- what a line says: nothing, that a case of a name begins, or more of the last case
 abbrev pub LineSays : List ℕ → Line → Type 0
 LineSays line Silent = is_silent line ≡ true
-LineSays line (Title name) = (is_silent line ≡ false) × (field_of line ≡ codes "case") × (name.now ≡ past_blank line)
-LineSays line (Said statement) = (is_silent line ≡ false) × Says (word_named (field_of line)) (past_blank line) statement
+LineSays line (Title name) =
+    (is_silent line ≡ false) × (field_of line ≡ codes "case") × (name.now ≡ past_blank line)
+LineSays line (Said statement) =
+    (is_silent line ≡ false) × Says (word_named (field_of line)) (past_blank line) statement
 
 -- ---- what is wrong with a line
 
@@ -86,7 +91,9 @@ IsUnnamed rest _ = ⊥
 
 -- one of the first three fields of the rest is no number
 abbrev pub LacksOfThree : List ℕ → Type 0
-LacksOfThree rest = IsNoNumber (field_of rest) ⊎ (IsNoNumber (field_of (past_blank rest)) ⊎ IsNoNumber (field_of (past_two rest)))
+LacksOfThree rest =
+    IsNoNumber (field_of rest)
+    ⊎ (IsNoNumber (field_of (past_blank rest)) ⊎ IsNoNumber (field_of (past_two rest)))
 
 -- the rest lacks a number that has to follow its word
 abbrev pub LacksNumber : List ℕ → Word → Type 0

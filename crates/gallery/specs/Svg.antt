@@ -4,10 +4,10 @@ use Rattle.codespan_base.specs.declared.term.config.color.Color.{Color}
 use Rattle.codespan_base.specs.declared.term.config.color.Color.TheVariants.{Black, Red, Green, Yellow, Blue, Magenta, Cyan, White}
 use Rattle.codespan_base.specs.declared.term.config.Config.{Config}
 use Rattle.codespan_base.specs.declared.diagnostic.Diagnostic.{Diagnostic}
-use Rattle.codespan_base.specs.FileModel.{FileModel}
 use Rattle.codespan_base.specs.Streams.{spelled}
-use Rattle.codespan_picture.specs.Lookups.{AllAnswered, Refusals, lookups_in}
+use Rattle.codespan_picture.specs.Lookups.{AllAnswered, lookups_in}
 use Rattle.codespan_picture.specs.Picture.{picture}
+use Rattle.codespan_base.specs.FileModel.{FileDatabase}
 use Rattle.gallery.specs.declared.case.Case.{Case}
 use Rattle.gallery.specs.declared.glyphs.Glyph.{Glyph}
 use Rattle.gallery.specs.declared.inks.Ink.{Ink}
@@ -23,7 +23,8 @@ use Rattle.gallery.specs.Pictures.{InTable}
 abbrev pub is_unheld : ℕ → Bool
 is_unheld c = nat_lt c 32 || (c == 65534) || (c == 65535)
 
--- a character as XML holds it: what begins a tag or an entity as an entity; the escape character, the character of the number 0, the carriage
+-- a character as XML holds it: what begins a tag or an entity as an entity; the escape character,
+-- the character of the number 0, the carriage
 -- return and the tab by a backslash; any other that can not be held as the replacement character
 abbrev pub xml_character : ℕ → List ℕ
 xml_character c =
@@ -68,10 +69,12 @@ left_of place = 12 + 9 * place.column
 abbrev pub above : Place → ℕ
 above place = 25 + 18 * place.row
 
--- the tag that begins a text of so many cells at a place: where it stands, how long it is, and its ink
+-- the tag that begins a text of so many cells at a place: where it stands, how long it is, and its
+-- ink
 abbrev pub text_tag : Place → ℕ → Ink → List ℕ
 text_tag place cells ink =
-    codes "<text x=\"" ++ decimal (left_of place) ++ codes "\" y=\"" ++ decimal (above place) ++ codes "\" textLength=\"" ++ decimal (9 * cells) ++ codes "\""
+    codes "<text x=\"" ++ decimal (left_of place) ++ codes "\" y=\"" ++ decimal (above place)
+    ++ codes "\" textLength=\"" ++ decimal (9 * cells) ++ codes "\""
     ++ colour_attribute ink.colour ++ weight_attribute ink.bold ++ codes ">"
 
 -- ---- texts
@@ -84,17 +87,21 @@ first_pen = record { place = start; before = None }
 abbrev pub next_pen : Pen → Glyph → Pen
 next_pen pen glyph = record { place = after_glyph pen.place glyph; before = Some glyph }
 
--- a glyph before others: a newline ends a row; any other stands in one text with those that it joins, between the tags of the text
+-- a glyph before others: a newline ends a row; any other stands in one text with those that it
+-- joins, between the tags of the text
 abbrev pub glyph_text : Pen → Glyph → List Glyph → List ℕ
 glyph_text pen glyph others =
     if is_newline glyph then codes "\n"
-    else (if follows pen.before glyph then [] else text_tag pen.place (cells_of glyph + joined_cells glyph others) glyph.ink)
+    else (if follows pen.before glyph
+    then []
+    else text_tag pen.place (cells_of glyph + joined_cells glyph others) glyph.ink)
     ++ xml_character glyph.character ++ (if goes_on glyph others then [] else codes "</text>")
 
 -- glyphs, one after another
 abbrev pub texts_from : Pen → List Glyph → List ℕ
 texts_from pen [] = []
-texts_from pen (glyph ∷ glyphs) = glyph_text pen glyph glyphs ++ texts_from (next_pen pen glyph) glyphs
+texts_from pen (glyph ∷ glyphs) =
+    glyph_text pen glyph glyphs ++ texts_from (next_pen pen glyph) glyphs
 
 -- ---- the document
 
@@ -108,8 +115,10 @@ height extent = 24 + 18 * extent.row
 -- its first tag begins with its size
 abbrev pub size_tag : Place → List ℕ
 size_tag extent =
-    codes "<svg xmlns=\"http://www.w3.org/2000/svg\" width=\"" ++ decimal (width extent) ++ codes "\" height=\"" ++ decimal (height extent)
-    ++ codes "\" viewBox=\"0 0 " ++ decimal (width extent) ++ codes " " ++ decimal (height extent) ++ codes "\""
+    codes "<svg xmlns=\"http://www.w3.org/2000/svg\" width=\"" ++ decimal (width extent)
+    ++ codes "\" height=\"" ++ decimal (height extent)
+    ++ codes "\" viewBox=\"0 0 " ++ decimal (width extent)
+    ++ codes " " ++ decimal (height extent) ++ codes "\""
 
 -- and ends with the font and the colour of plain text; the dark ground follows
 unfoldable pub ground : List ℕ
@@ -119,18 +128,25 @@ ground =
 
 -- the document that shows glyphs
 abbrev pub svg_document : List Glyph → List ℕ
-svg_document glyphs = size_tag (extent_from start glyphs) ++ ground ++ texts_from first_pen glyphs ++ codes "</svg>\n"
+svg_document glyphs =
+    size_tag (extent_from start glyphs) ++ ground ++ texts_from first_pen glyphs ++ codes "</svg>\n"
 
 -- ---- the document of a case
 
--- the runs are those of a picture: told, its stream begins in the ink of plain text; no lookup is refused
-pub record IsPaintedOver {Id : Type 0} (config : Config) (same : Id → Id → Bool) (file : Id → FileModel) (refusal : Refusals Id) (d : Diagnostic Id) (runs : List InkedText) : Type 0 where
-  pub answered : AllAnswered refusal (lookups_in config.display_style config same file refusal d)
-  pub is : all_told runs ≡ ink_number plain_ink ∷ spelled ink_spelling (picture config same file d)
+-- the runs are those of a picture: told, its stream begins in the ink of plain text; no lookup is
+-- refused
+pub record IsPaintedOver {Id : Type 0} (config : Config) (files : FileDatabase Id)
+    (d : Diagnostic Id) (runs : List InkedText) : Type 0 where
+  pub answered : AllAnswered files.refusal
+      (lookups_in config.display_style config files.same files.file files.refusal d)
+  pub is : all_told runs
+      ≡ ink_number plain_ink
+      ∷ spelled ink_spelling (picture config.display_style config config files d)
 
 -- the runs are those of the picture of a case
 abbrev pub IsPainted : Case → List InkedText → Type 0
-IsPainted case runs = InTable case.table case (λ Id same file refusal said. IsPaintedOver case.config same file refusal said runs)
+IsPainted case runs =
+    InTable case.table case (λ Id database said. IsPaintedOver case.config database said runs)
 
 -- the document shows the picture of a case: the characters of its runs of text, each in its ink
 pub record IsSvg (case : Case) (document : List ℕ) : Type 0 where

@@ -11,14 +11,18 @@ use Rattle.gallery.specs.Cases.{file_view}
 use Rattle.gallery.specs.Pictures.{alone, lent_view, with_numbers}
 
 -- the only file of a case has this name and this source, and this is what the case says by its id
-pub record StandsAlone (case : Case) (name source : List ℕ) (said : Diagnostic (Unit {0})) : Type 0 where
+pub record StandsAlone (case : Case) (name source : List ℕ)
+    (said : Diagnostic (Unit {0})) : Type 0 where
   pub only : map file_view case.files.items ≡ (name, source) ∷ []
   pub same : diagnostic_view said ≡ alone (diagnostic_view case.said)
 
 -- these are the files of a case, in the table that it asks for
 abbrev pub AreTables : Case → Tables → Type 0
-AreTables case (One file said) = (case.table ≡ tables.One) × StandsAlone case (name_of file).now (source_of file).now said
-AreTables case (Several files) = (case.table ≡ tables.Several) × (map lent_view (entries files) ≡ map file_view case.files.items)
+AreTables case (One file said) =
+    (case.table ≡ tables.One) × StandsAlone case (name_of file).now (source_of file).now said
+AreTables case (Several files) =
+    (case.table ≡ tables.Several) × (map lent_view (entries files) ≡ map file_view case.files.items)
 AreTables case (Mapped file said) =
-    (case.table ≡ tables.Mapped) × StandsAlone case (mapped_name_of file).now (mapped_source_of file).now said
+    (case.table ≡ tables.Mapped) × StandsAlone case (mapped_name_of file).now
+    (mapped_source_of file).now said
     × (settings_of file ≡ with_numbers [] case.numbers.items)

@@ -104,7 +104,8 @@ impl<'input> Case<'input> {
     /// Refuses with `NoFile` a part of a source where there is no file.
     pub fn take(&mut self, statement: Statement) -> Result<(), Mistake>
         ensures takes { OnOk result (Takes statement self.old self.new) }
-        ensures refused { IfErr result (λ mistake. (mistake ≡ OutOfMemory) ⊎ ((mistake ≡ NoFile) × IsSource statement × (self.old.files.items ≡ []))) }
+        ensures refused { IfErr result (λ mistake. (mistake ≡ OutOfMemory)
+            ⊎ ((mistake ≡ NoFile) × IsSource statement × (self.old.files.items ≡ []))) }
     {
         match statement {
             Statement::Table(table) => self.table = table,
@@ -129,7 +130,8 @@ impl<'input> Case<'input> {
     /// Adds a file with an empty source.
     fn add_file(&mut self, name: String) -> Result<(), Mistake>
         ensures others { self.new ≡ record self.old { files = self.new.files } }
-        ensures files { OnOk result (map file_view self.new.files.items ≡ map file_view self.old.files.items ++ (string_bytes name, []) ∷ []) }
+        ensures files { OnOk result (map file_view self.new.files.items
+            ≡ map file_view self.old.files.items ++ (string_bytes name, []) ∷ []) }
         ensures refused { IfErr result (λ mistake. mistake ≡ OutOfMemory) }
     {
         let source = String::new(*self.files.allocator());
@@ -140,8 +142,11 @@ impl<'input> Case<'input> {
     /// Adds a text to the source of the last file.
     fn add_source(&mut self, text: &str) -> Result<(), Mistake>
         ensures others { self.new ≡ record self.old { files = self.new.files } }
-        ensures files { OnOk result (GoesOn text.now (map file_view self.old.files.items) (map file_view self.new.files.items)) }
-        ensures refused { IfErr result (λ mistake. (mistake ≡ OutOfMemory) ⊎ ((mistake ≡ NoFile) × (self.old.files.items ≡ []))) }
+        ensures files { OnOk result
+            (GoesOn text.now (map file_view self.old.files.items)
+            (map file_view self.new.files.items)) }
+        ensures refused { IfErr result (λ mistake. (mistake ≡ OutOfMemory)
+            ⊎ ((mistake ≡ NoFile) × (self.old.files.items ≡ []))) }
     {
         let Some(file) = self.files.last_mut() else {
             return Err(Mistake::NoFile);

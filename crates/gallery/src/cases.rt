@@ -29,7 +29,8 @@ pub fn parse_cases(alloc: Global, input: &str) -> Result<Vec<Case<'_>>, Fault>
 
 /// The cases of lines.
 fn take_lines<'input>(alloc: Global, lines: &[&'input str]) -> Result<Vec<Case<'input>>, Fault>
-    ensures cases { IfOk result (λ cases. TakesLines (map (λ line. line.now) lines.now) [] cases.items) }
+    ensures cases { IfOk result (λ cases.
+        TakesLines (map (λ line. line.now) lines.now) [] cases.items) }
     ensures mistake { IfErr result (IsFirstMistake (map (λ line. line.now) lines.now)) }
 {
     let mut cases = Vec::new(alloc);

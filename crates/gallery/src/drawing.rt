@@ -2,7 +2,8 @@
 
 ghost use Rattle.std.specs.Prelude.{◌≡◌, IfOk, OnOk, map};
 ghost use Rattle.gallery.specs.declared.case.Colours.TheVariants.{Plain};
-ghost use Rattle.codespan_reporting.specs.Headline.{IsAppended, NamesAreStated};
+ghost use Rattle.codespan_reporting.specs.Output.{IsAppended};
+ghost use Rattle.codespan_laws.specs.StatedNames.{NamesAreStated};
 ghost use Rattle.gallery.specs.Inks.{run_view};
 ghost use Rattle.gallery.specs.Pictures.{AddsPicture};
 ghost use Rattle.gallery.specs.Svg.{IsPainted, IsPaintedOver};
@@ -19,7 +20,8 @@ use std::alloc::Global;
 ///
 /// Refuses with `FileMissing` besides where a table of one file has another number of files, or a label in another file.
 pub fn draw(alloc: Global, case: &Case<'_>, picture: &mut Vec<u8>) -> Result<(), Error>
-    ensures { case.now.colours ≡ Plain → OnOk result (AddsPicture case.now picture.old.items picture.new.items) }
+    ensures { case.now.colours ≡ Plain
+        → OnOk result (AddsPicture case.now picture.old.items picture.new.items) }
 {
     let tables = tables_of(alloc, case)?;
     match &tables {
@@ -37,7 +39,8 @@ fn draw_over<'files, F: Files<'files>>(
     picture: &mut Vec<u8>,
 ) -> Result<(), Error>
     ensures { case.now.colours ≡ Plain
-        → OnOk result (IsAppended case.now.config F.FileId.eq (F.file files.now) (F.refusal files.now) said.now picture.old.items picture.new.items) }
+        → OnOk result (IsAppended case.now.config (F.database files.now) said.now
+        picture.old.items picture.new.items) }
 {
     if case.colours == Colours::Plain {
         let text = emit_into_string(&case.config, files, said)?;
@@ -71,8 +74,9 @@ fn paint_over<'files, F: Files<'files>>(
     files: &'files F,
     said: &Diagnostic<F::FileId>,
 ) -> Result<Vec<Run>, Error>
-    ensures { NamesAreStated (F.file files.now) said.now
-        → IfOk result (λ runs. IsPaintedOver case.now.config F.FileId.eq (F.file files.now) (F.refusal files.now) said.now (map run_view runs.items)) }
+    ensures { NamesAreStated (F.database files.now) said.now
+        → IfOk result (λ runs. IsPaintedOver case.now.config (F.database files.now)
+        said.now (map run_view runs.items)) }
 {
     let styles = Styles::default();
     let mut writer = StylesWriter::new(Inks::new(alloc)?, &styles);

@@ -33,7 +33,8 @@ pub fn parse_number(text: &str) -> Result<usize, Mistake>
 pub fn cut_number(text: &str) -> Result<(usize, &str), Mistake>
     ensures number { IfOk result (λ read. IsNumber (field_of text.now) read.0) }
     ensures left { IfOk result (λ read. read.1.now ≡ past_blank text.now) }
-    ensures refused { IfErr result (λ mistake. (mistake ≡ BadNumber) × IsNoNumber (field_of text.now)) }
+    ensures refused { IfErr result (λ mistake. (mistake ≡ BadNumber)
+        × IsNoNumber (field_of text.now)) }
 {
     let (number, left) = cut(text);
     Ok((parse_number(number)?, left))

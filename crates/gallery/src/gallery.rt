@@ -36,7 +36,8 @@ fn add_title(gallery: &mut Vec<u8>, name: &str) -> Result<(), AllocError>
 
 /// Adds the picture of a case, and after it a line with the refusal, if it was refused.
 fn add_picture(alloc: Global, gallery: &mut Vec<u8>, case: &Case<'_>) -> Result<(), AllocError>
-    ensures { OnOk result ((pictured : List ℕ) × (gallery.new.items ≡ gallery.old.items ++ pictured) × IsPictured case.now pictured) }
+    ensures { OnOk result ((pictured : List ℕ) × (gallery.new.items ≡ gallery.old.items ++ pictured)
+        × IsPictured case.now pictured) }
 {
     let mut picture = Vec::new(alloc);
     let drawn = draw_as_asked(alloc, case, &mut picture);
@@ -48,8 +49,10 @@ fn add_picture(alloc: Global, gallery: &mut Vec<u8>, case: &Case<'_>) -> Result<
 ///
 /// Refuses as [`draw`] does.
 fn draw_as_asked(alloc: Global, case: &Case<'_>, picture: &mut Vec<u8>) -> Result<(), Error>
-    ensures plain { case.now.colours ≡ Plain → OnOk result (AddsPicture case.now picture.old.items picture.new.items) }
-    ensures document { case.now.colours ≡ Svg → OnOk result (AddsSvg case.now picture.old.items picture.new.items) }
+    ensures plain { case.now.colours ≡ Plain
+        → OnOk result (AddsPicture case.now picture.old.items picture.new.items) }
+    ensures document { case.now.colours ≡ Svg
+        → OnOk result (AddsSvg case.now picture.old.items picture.new.items) }
 {
     match case.colours {
         Colours::Plain | Colours::Ansi => draw(alloc, case, picture),
@@ -67,7 +70,8 @@ fn add_refusal(
     gallery: &mut Vec<u8>,
     drawn: Result<(), Error>,
 ) -> Result<(), AllocError>
-    ensures { OnOk result ((told : List ℕ) × (gallery.new.items ≡ gallery.old.items ++ told) × TellsRefusal drawn told) }
+    ensures { OnOk result ((told : List ℕ) × (gallery.new.items ≡ gallery.old.items ++ told)
+        × TellsRefusal drawn told) }
 {
     match drawn {
         Ok(()) => Ok(()),

@@ -79,7 +79,8 @@ impl Inks {
 
     /// Begins a run.
     fn begin(&mut self, ink: Ink) -> io::Result<()>
-        ensures { Paints (Some (told self.old)) (ink_number ink ∷ []) result (Some (told self.new)) }
+        ensures { Paints (Some (told self.old)) (ink_number ink ∷ []) result
+            (Some (told self.new)) }
     {
         let text = Vec::new(*self.runs.allocator());
         self.runs.push(Run { ink, text })?;

@@ -31,8 +31,10 @@ pub fn run<R: Read, W: Write, E: Write>(
     ensures unread { result ≡ 2 → input.new ≡ input.old }
     ensures unwritten { result ≡ 2 → output.new ≡ output.old }
     ensures silent { result ≡ 0 → faults.new ≡ faults.old }
-    ensures drawn { result ≡ 0 → IfSome (asked_of (map string_bytes args.now)) (λ asked. IfSome (R.remaining input.old) (λ text.
-        (answer : List ℕ) × Answers asked text answer × Appends (W.contents output.old) (W.contents output.new) answer)) }
+    ensures drawn { result ≡ 0 → IfSome (asked_of (map string_bytes args.now))
+        (λ asked. IfSome (R.remaining input.old) (λ text.
+        (answer : List ℕ) × Answers asked text answer
+        × Appends (W.contents output.old) (W.contents output.new) answer)) }
 {
     conclude(show(alloc, args, input, output), faults)
 }
@@ -61,12 +63,17 @@ fn show<R: Read, W: Write>(
     input: &mut R,
     output: &mut W,
 ) -> Result<(), Fault>
-    ensures usage { IsErrOf result Fault.WrongArguments ↔ (asked_of (map string_bytes args.now) ≡ None) }
+    ensures usage { IsErrOf result Fault.WrongArguments
+        ↔ (asked_of (map string_bytes args.now) ≡ None) }
     ensures unread { IsErrOf result Fault.WrongArguments → input.new ≡ input.old }
-    ensures drawn { OnOk result (IfSome (asked_of (map string_bytes args.now)) (λ asked. IfSome (R.remaining input.old) (λ text.
-        (answer : List ℕ) × Answers asked text answer × Appends (W.contents output.old) (W.contents output.new) answer))) }
-    ensures told { IfErr result (λ fault. IfSome (R.remaining input.old) (FaultTells (asked_of (map string_bytes args.now)) fault)) }
-    ensures kept { IfErr result (λ fault. fault ≢ Fault.CannotWriteOutput → output.new ≡ output.old) }
+    ensures drawn { OnOk result (IfSome (asked_of (map string_bytes args.now))
+        (λ asked. IfSome (R.remaining input.old) (λ text.
+        (answer : List ℕ) × Answers asked text answer
+        × Appends (W.contents output.old) (W.contents output.new) answer))) }
+    ensures told { IfErr result (λ fault.
+        IfSome (R.remaining input.old) (FaultTells (asked_of (map string_bytes args.now)) fault)) }
+    ensures kept { IfErr result (λ fault. fault ≢ Fault.CannotWriteOutput
+        → output.new ≡ output.old) }
 {
     let request = Request::from_arguments(args).ok_or(Fault::WrongArguments)?;
     let text = read_input(alloc, input)?;
@@ -77,7 +84,8 @@ fn show<R: Read, W: Write>(
 
 /// Draws what is asked for of cases.
 fn answer(alloc: Global, request: Request<'_>, cases: &[Case<'_>]) -> Result<Vec<u8>, Fault>
-    ensures answers { IfOk result (λ bytes. AnswersOf (request_view request.entry) cases.now bytes.items) }
+    ensures answers { IfOk result (λ bytes.
+        AnswersOf (request_view request.entry) cases.now bytes.items) }
     ensures refuses { IfErr result (RefusesOf (request_view request.entry) cases.now) }
 {
     match request {

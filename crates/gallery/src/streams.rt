@@ -10,8 +10,10 @@ use std::io::{Read, Write};
 
 /// The whole input, as a text.
 pub fn read_input<R: Read>(alloc: Global, input: &mut R) -> Result<String, Fault>
-    ensures text { IfOk result (λ text. IfSome (R.remaining input.old) (λ bytes. string_bytes text ≡ bytes)) }
-    ensures refused { IfErr result (λ fault. (fault ≡ Fault.CannotReadInput) ⊎ (fault ≡ Fault.NotUtf8)) }
+    ensures text { IfOk result (λ text.
+        IfSome (R.remaining input.old) (λ bytes. string_bytes text ≡ bytes)) }
+    ensures refused { IfErr result (λ fault. (fault ≡ Fault.CannotReadInput)
+        ⊎ (fault ≡ Fault.NotUtf8)) }
 {
     let mut bytes = Vec::new(alloc);
     if input.read_to_end(&mut bytes).is_err() {
@@ -25,7 +27,8 @@ pub fn read_input<R: Read>(alloc: Global, input: &mut R) -> Result<String, Fault
 
 /// Writes the bytes to the output and flushes it.
 pub fn write_bytes<W: Write>(output: &mut W, bytes: &[u8]) -> Result<(), Fault>
-    ensures written { OnOk result (Appends (W.contents output.old) (W.contents output.new) bytes.now) }
+    ensures written { OnOk result (Appends (W.contents output.old)
+        (W.contents output.new) bytes.now) }
     ensures refused { IfErr result (λ fault. fault ≡ Fault.CannotWriteOutput) }
 {
     match write_and_flush(output, bytes) {

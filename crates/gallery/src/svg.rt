@@ -57,7 +57,8 @@ fn document(alloc: Global, glyphs: &[Glyph]) -> Result<String, AllocError>
 fn add_size(alloc: Global, document: &mut String, extent: Place) -> Result<(), AllocError>
     requires row { extent.row ≤ 2 ^ 64 }
     requires column { extent.column ≤ 2 ^ 66 }
-    ensures { OnOk result (string_bytes document.new ≡ string_bytes document.old ++ size_tag extent) }
+    ensures { OnOk result (string_bytes document.new ≡ string_bytes document.old
+        ++ size_tag extent) }
 {
     let width = 2 * MARGIN + CELL * extent.column;
     let height = 2 * MARGIN + ROW * extent.row;
@@ -79,7 +80,8 @@ struct Pen {
 
 /// Adds glyphs as texts.
 fn add_texts(alloc: Global, document: &mut String, glyphs: &[Glyph]) -> Result<(), AllocError>
-    ensures { OnOk result (string_bytes document.new ≡ string_bytes document.old ++ texts_from first_pen glyphs.now) }
+    ensures { OnOk result (string_bytes document.new ≡ string_bytes document.old
+        ++ texts_from first_pen glyphs.now) }
 {
     let mut pen = Pen {
         place: Place::start(),
@@ -105,7 +107,8 @@ fn add_glyph(
 ) -> Result<(), AllocError>
     requires row { pen.place.row ≤ 2 ^ 64 }
     requires column { pen.place.column ≤ 2 ^ 66 }
-    ensures { OnOk result (string_bytes document.new ≡ string_bytes document.old ++ glyph_text pen glyph others.now) }
+    ensures { OnOk result (string_bytes document.new ≡ string_bytes document.old
+        ++ glyph_text pen glyph others.now) }
 {
     if glyph.ends_row() {
         document.push_str("\n")?;
@@ -133,7 +136,8 @@ fn add_tag(
     requires row { place.row ≤ 2 ^ 64 }
     requires column { place.column ≤ 2 ^ 66 }
     requires cells { cells ≤ 2 ^ 66 }
-    ensures { OnOk result (string_bytes document.new ≡ string_bytes document.old ++ text_tag place cells ink) }
+    ensures { OnOk result (string_bytes document.new ≡ string_bytes document.old
+        ++ text_tag place cells ink) }
 {
     let x = MARGIN + CELL * place.column;
     let y = BASE + ROW * place.row;
@@ -148,7 +152,8 @@ fn add_tag(
 
 /// Adds the attribute of a colour, if there is one.
 fn add_colour(document: &mut String, colour: Option<Color>) -> Result<(), AllocError>
-    ensures { OnOk result (string_bytes document.new ≡ string_bytes document.old ++ colour_attribute colour) }
+    ensures { OnOk result (string_bytes document.new ≡ string_bytes document.old
+        ++ colour_attribute colour) }
 {
     let Some(colour) = colour else {
         return Ok(());
@@ -161,7 +166,8 @@ fn add_colour(document: &mut String, colour: Option<Color>) -> Result<(), AllocE
 
 /// Adds the attribute of bold text, where it is bold.
 fn add_weight(document: &mut String, bold: bool) -> Result<(), AllocError>
-    ensures { OnOk result (string_bytes document.new ≡ string_bytes document.old ++ weight_attribute bold) }
+    ensures { OnOk result (string_bytes document.new ≡ string_bytes document.old
+        ++ weight_attribute bold) }
 {
     if bold {
         document.push_str(" font-weight=\"bold\"")?;
@@ -187,7 +193,8 @@ fn shade(colour: Color) -> &'static str
 
 /// Adds a character as XML holds it.
 fn add_character(document: &mut String, character: char) -> Result<(), AllocError>
-    ensures { OnOk result (string_bytes document.new ≡ string_bytes document.old ++ xml_character character) }
+    ensures { OnOk result (string_bytes document.new ≡ string_bytes document.old
+        ++ xml_character character) }
 {
     match character {
         '&' => document.push_str("&amp;"),

@@ -71,7 +71,8 @@ fn mapped_file<'case>(
     file: &'case File,
     numbers: &[(usize, usize)],
 ) -> Result<MappedFile<&'case str, &'case str>, Error>
-    ensures file { IfOk result (λ mapped. ((mapped_name_of mapped).now, (mapped_source_of mapped).now) ≡ file_view file.now) }
+    ensures file { IfOk result (λ mapped.
+        ((mapped_name_of mapped).now, (mapped_source_of mapped).now) ≡ file_view file.now) }
     ensures numbers { IfOk result (λ mapped. settings_of mapped ≡ with_numbers [] numbers.now) }
 {
     let mut mapped = MappedFile::new(alloc, file.name.as_str(), file.source.as_str())?;

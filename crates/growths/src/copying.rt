@@ -34,9 +34,11 @@ impl<'a, 'text: 'a> Files<'a> for Copying<'text> {
 
     type Source = &'text str;
 
-    ghost file = { λ s _. simple_file (Some (name_of s.file).now) (source_of s.file).now };
-
-    ghost refusal = { λ s _. simple_refusal (source_of s.file).now };
+    ghost database = { λ s. record {
+      same = ⟦<() as PartialEq>⟧.eq;
+      file = λ _. simple_file (Some (name_of s.file).now) (source_of s.file).now;
+      refusal = λ _. simple_refusal (source_of s.file).now;
+    } };
 
     fn name(&'a self, _id: ()) -> Result<&'text str, Error> {
         Ok(*self.file.name())
@@ -73,10 +75,15 @@ impl<'a, 'text: 'a> Files<'a> for Copying<'text> {
         self.file.line_range((), line_index)
     }
 
-    ghost lawful = { λ s _. simple_lawful (Some (name_of s.file).now) (source_of s.file).now (text_is_utf8 s.file) (text_fits s.file) };
+    ghost lawful = { λ s _.
+        simple_lawful (Some (name_of s.file).now) (source_of s.file).now
+        (text_is_utf8 s.file) (text_fits s.file) };
 
     // There is one id.
     ghost same_file = { λ s i j e. (refl, refl) };
 
-    ghost past_end = { λ s _ i. simple_past_end (Some (name_of s.file).now) (source_of s.file).now i };
+    ghost same_is = { λ s. refl };
+
+    ghost past_end = { λ s _ i.
+        simple_past_end (Some (name_of s.file).now) (source_of s.file).now i };
 }

@@ -149,7 +149,8 @@ fn draw_styled<'files, F: Files<'files>, W: WriteStyle>(
 
 /// A string is the picture, or was refused for want of memory.
 fn judge_string(answer: &Result<String, Error>, picture: &str) -> Outcome
-    ensures done { result ≡ Outcome.Done → IfOk answer.now (λ text. string_bytes text ≡ picture.now) }
+    ensures done { result ≡ Outcome.Done
+        → IfOk answer.now (λ text. string_bytes text ≡ picture.now) }
     ensures refused { result ≡ Outcome.Refused → IsErrOf answer.now Error.OutOfMemory }
 {
     match answer {
@@ -160,8 +161,10 @@ fn judge_string(answer: &Result<String, Error>, picture: &str) -> Outcome
 
 /// A string has gained the picture; or that was refused for want of memory, and the string is as it was.
 fn judge_appended(answer: &Result<(), Error>, string: &str, picture: &str) -> Outcome
-    ensures done { result ≡ Outcome.Done → (IsOk answer.now) × (string.now ≡ codes "kept" ++ picture.now) }
-    ensures refused { result ≡ Outcome.Refused → (IsErrOf answer.now Error.OutOfMemory) × (string.now ≡ codes "kept") }
+    ensures done { result ≡ Outcome.Done → (IsOk answer.now)
+        × (string.now ≡ codes "kept" ++ picture.now) }
+    ensures refused { result ≡ Outcome.Refused → (IsErrOf answer.now Error.OutOfMemory)
+        × (string.now ≡ codes "kept") }
 {
     match answer {
         Ok(()) => judge_made(string.strip_prefix(KEPT) == Some(picture)),
@@ -179,10 +182,14 @@ fn is_beginning(bytes: &[u8], text: &str) -> bool
 /// A vector holds the picture; or the call was refused, and it holds a beginning: with `Io` where a growth of the vector was refused, and
 /// else for want of memory.
 fn judge_held(answer: &Result<(), Error>, held: &Held, picture: &str) -> Outcome
-    ensures done { result ≡ Outcome.Done → (IsOk answer.now) × (held.now.has_refused ≡ false) × (held.now.bytes.items ≡ picture.now) }
-    ensures refused { result ≡ Outcome.Refused → held.now.has_refused ≡ false → IsErrOf answer.now Error.OutOfMemory }
-    ensures writer { result ≡ Outcome.Refused → held.now.has_refused ≡ true → IsErrAnd answer.now IsIo }
-    ensures beginning { result ≡ Outcome.Refused → (rest : List ℕ) × (picture.now ≡ held.now.bytes.items ++ rest) }
+    ensures done { result ≡ Outcome.Done → (IsOk answer.now) × (held.now.has_refused ≡ false)
+        × (held.now.bytes.items ≡ picture.now) }
+    ensures refused { result ≡ Outcome.Refused → held.now.has_refused ≡ false
+        → IsErrOf answer.now Error.OutOfMemory }
+    ensures writer { result ≡ Outcome.Refused → held.now.has_refused ≡ true
+        → IsErrAnd answer.now IsIo }
+    ensures beginning { result ≡ Outcome.Refused → (rest : List ℕ)
+        × (picture.now ≡ held.now.bytes.items ++ rest) }
 {
     let bytes = held.bytes.as_slice();
     let is_beginning = is_beginning(bytes, picture);

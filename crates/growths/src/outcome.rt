@@ -38,7 +38,8 @@ impl Outcome {
     /// The program's status.
     pub fn status(self) -> u8
         ensures most { result ≤ 2 }
-        ensures right { result ≡ 0 → (self ≡ Outcome.Unprepared) ⊎ (self ≡ Outcome.Done) ⊎ (self ≡ Outcome.Refused) }
+        ensures right { result ≡ 0 → (self ≡ Outcome.Unprepared) ⊎ (self ≡ Outcome.Done)
+            ⊎ (self ≡ Outcome.Refused) }
     {
         match self {
             Outcome::Unprepared | Outcome::Done | Outcome::Refused => 0,

@@ -7,16 +7,16 @@ use Rattle.codespan_base.specs.declared.term.config.Config.{Config}
 use Rattle.codespan_base.specs.declared.term.config.DisplayStyle.{DisplayStyle}
 use Rattle.codespan_base.specs.Defaults.{default_config}
 use Rattle.codespan_base.specs.Diagnostics.{diagnostic_view, label_view}
-use Rattle.codespan_base.specs.FileModel.{FileModel}
+use Rattle.codespan_base.specs.FileModel.{FileDatabase}
 use Rattle.codespan_base.specs.Lookalikes.{IsConfig}
-use Rattle.codespan_base.specs.SimpleModel.{simple_file}
 use Rattle.codespan_base.specs.Streams.{Stream, text_of}
-use Rattle.codespan_reporting.specs.Headline.{DrawsText, IsDrawn}
+use Rattle.codespan_reporting.specs.Output.{Emits, IsRendered}
+use Rattle.codespan_laws.proofs.StatedNames.{output_stated}
 use Rattle.codespan_reporting.specs.Lookups.{Refusals}
-use Rattle.codespan_reporting.specs.Picture.{heading_of, label_of, labels_of, notes_of, styled_picture}
-use Rattle.codespan_reporting.specs.Snippets.{InFile}
-use Rattle.codespan_picture.proofs.Alike.{styled_alike}
-use Rattle.report.specs.Drawings.{config_of, label_said, picture_text}
+use Rattle.codespan_reporting.specs.Picture.{heading_of, label_of, labels_of, notes_of, rendered, starts, stated_locus}
+use Rattle.codespan_reporting.specs.Snippets.{InFile, labelled_files}
+use Rattle.codespan_picture.proofs.Alike.{rendered_alike}
+use Rattle.report.specs.Drawings.{config_of, label_said, only_file, picture_text}
 
 -- the same configurations, in another style
 restyled : (table config : Config) (style : DisplayStyle) → IsConfig table config → IsConfig (record table { display_style = style }) (record config { display_style = style })
@@ -28,30 +28,32 @@ labels_alike [] = refl
 labels_alike (x ∷ xs) = ap (λ rest. label_of x ∷ rest) (labels_alike xs)
 
 module _ (style : DisplayStyle) (d : Diagnostic (Unit {0})) where
-  -- the file of a name and a source, whatever its id
-  abbrev file_at : List ℕ → List ℕ → Unit {0} → FileModel
-  file_at name source id = simple_file (Some name) source
+  -- a table of that file alone
+  abbrev table_at : List ℕ → List ℕ → Refusals (Unit {0}) → FileDatabase (Unit {0})
+  table_at name source refusal = record { same = λ i j. true; file = only_file name source; refusal = refusal }
 
   -- the picture of the diagnostic with these labels
   abbrev drawn_by : Config → List ℕ → List ℕ → List (InFile (Unit {0})) → Stream
-  drawn_by config name source xs = styled_picture style config (λ i j. true) (file_at name source) d.severity (heading_of d) xs (notes_of d)
+  drawn_by config name source xs =
+      rendered style config config d.severity (heading_of d) (map stated_locus (starts (λ i j. true) (only_file name source) xs style)) (labelled_files (λ i j. true) (only_file name source) xs) (notes_of d)
 
   -- a text that is drawn of the diagnostic over a name and a source, by a configuration that looks like the default one, is the picture's
   pub drawn_text : (name source : List ℕ) (config : Config) (refusal : Refusals (Unit {0})) (text : List ℕ)
-      → IsConfig default_config config → IsDrawn (record config { display_style = style }) (λ i j. true) (file_at name source) refusal d text
+      → IsConfig default_config config → IsRendered (record config { display_style = style }) (table_at name source refusal) d text
       → (named held : List ℕ) → name ≡ named → source ≡ held → text ≡ picture_text style named held (diagnostic_view d)
   unfolding picture_text
   drawn_text name source config refusal text alike drawn named held n s =
-      drawn.is (λ x has. refl)
-      ∙ ap text_of (styled_alike (config_of style) (record config { display_style = style }) (restyled default_config config style alike) style
-      (λ i j. true) (file_at name source) d.severity (heading_of d) (labels_of d) (notes_of d))
+      drawn.is
+      ∙ ap text_of (output_stated (table_at name source refusal) d (λ x has. refl) style (record config { display_style = style }) (record config { display_style = style }) drawn.loci drawn.are)
+      ∙ ap text_of (rendered_alike (config_of style) (record config { display_style = style }) (restyled default_config config style alike) d.severity (heading_of d)
+      (map stated_locus (starts (λ i j. true) (only_file name source) (labels_of d) style)) (labelled_files (λ i j. true) (only_file name source) (labels_of d)) (notes_of d) style)
       ∙ ap (λ m. text_of (drawn_by (config_of style) m source (labels_of d))) n
       ∙ ap (λ m. text_of (drawn_by (config_of style) named m (labels_of d))) s
       ∙ ap (λ xs. text_of (drawn_by (config_of style) named held xs)) (labels_alike d.labels.items)
 
   -- the same of what a call that answers a text did
   pub drawn_result : {T : Type 0} (text : T → List ℕ) (name source : List ℕ) (config : Config) (refusal : Refusals (Unit {0})) (r : Result T Error)
-      → IsConfig default_config config → DrawsText (record config { display_style = style }) (λ i j. true) (file_at name source) refusal d text r
+      → IsConfig default_config config → Emits (record config { display_style = style }) (table_at name source refusal) d text r
       → (named held : List ℕ) → name ≡ named → source ≡ held → IfOk r (λ t. text t ≡ picture_text style named held (diagnostic_view d))
   drawn_result text name source config refusal (Ok t) alike drawn named held n s = drawn_text name source config refusal (text t) alike drawn named held n s
   drawn_result text name source config refusal (Err e) alike drawn named held n s = tt

@@ -7,11 +7,12 @@ use Rattle.codespan_base.specs.declared.term.config.Config.{Config}
 use Rattle.codespan_base.specs.declared.term.config.DisplayStyle.{DisplayStyle}
 use Rattle.codespan_base.specs.Defaults.{default_config}
 use Rattle.codespan_base.specs.Diagnostics.{DiagnosticView, LabelView}
+use Rattle.codespan_base.specs.FileModel.{FileModel}
 use Rattle.codespan_base.specs.SimpleModel.{simple_file}
 use Rattle.codespan_base.specs.Streams.{bytes, text_of}
 use Rattle.codespan_reporting.specs.Rows.{Heading}
-use Rattle.codespan_reporting.specs.Picture.{styled_picture}
-use Rattle.codespan_reporting.specs.Snippets.{InFile}
+use Rattle.codespan_reporting.specs.Picture.{rendered, starts, stated_locus}
+use Rattle.codespan_reporting.specs.Snippets.{InFile, labelled_files}
 use Rattle.report.specs.declared.fault.Fault as faults
 use Rattle.report.specs.declared.fault.Fault.TheVariants as fault
 use Rattle.report.specs.declared.script.Fault.{Fault}
@@ -29,7 +30,15 @@ heading_said said = record { code = said.code; message = said.message }
 
 -- a label, as pictures see it
 abbrev pub label_said : LabelView (Unit {0}) → InFile (Unit {0})
-label_said label = record { id = label.file_id; label = record { style = label.style; start = label.range.start; end = label.range.end; message = bytes label.message } }
+label_said label = record {
+  id = label.file_id;
+  label = record {
+    style = label.style;
+    start = label.range.start;
+    end = label.range.end;
+    message = bytes label.message;
+  };
+}
 
 -- the labels in their order
 abbrev pub labels_said : DiagnosticView (Unit {0}) → List (InFile (Unit {0}))
@@ -39,10 +48,16 @@ labels_said said = map label_said said.labels
 abbrev pub config_of : DisplayStyle → Config
 config_of style = record default_config { display_style = style }
 
+-- the one file of a name and a source, whatever its id
+abbrev pub only_file : List ℕ → List ℕ → Unit {0} → FileModel
+only_file name source id = simple_file (Some name) source
+
 -- the text of the picture of what is said, in a style, over the file of a name and a source
 unfoldable pub picture_text : DisplayStyle → List ℕ → List ℕ → DiagnosticView (Unit {0}) → List ℕ
 picture_text style name source said =
-    text_of (styled_picture style (config_of style) (λ i j. true) (λ id. simple_file (Some name) source) said.severity (heading_said said) (labels_said said) said.notes)
+    text_of (rendered style (config_of style) (config_of style) said.severity (heading_said said)
+    (map stated_locus (starts (λ i j. true) (only_file name source) (labels_said said) style))
+    (labelled_files (λ i j. true) (only_file name source) (labels_said said)) said.notes)
 
 -- ---- what is said
 
@@ -52,7 +67,12 @@ said_of_request request = record {
   severity = severities.Error;
   code = None;
   message = request.message;
-  labels = record { style = Primary; file_id = tt; range = record { start = request.start; end = request.end }; message = request.message } ∷ [];
+  labels = record {
+    style = Primary;
+    file_id = tt;
+    range = record { start = request.start; end = request.end };
+    message = request.message;
+  } ∷ [];
   notes = [];
 }
 
@@ -83,7 +103,9 @@ fault_note MissingEnd = codes "expected ---"
 -- the label of the first place of a repeated word, if there is one
 abbrev pub first_place : Option (Range ℕ) → List (LabelView (Unit {0}))
 first_place None = []
-first_place (Some range) = record { style = Secondary; file_id = tt; range = range; message = codes "first given here" } ∷ []
+first_place (Some range) =
+    record { style = Secondary; file_id = tt; range = range; message = codes "first given here" }
+    ∷ []
 
 -- what a script's fault says: an error with its code, and a primary label at its place
 abbrev pub said_of_fault : Fault → DiagnosticView (Unit {0})
@@ -91,20 +113,30 @@ said_of_fault fault = record {
   severity = severities.Error;
   code = Some (fault_code fault.number);
   message = fault_message fault.number;
-  labels = record { style = Primary; file_id = tt; range = fault.range; message = fault_note fault.number } ∷ first_place fault.first;
+  labels = record {
+    style = Primary;
+    file_id = tt;
+    range = fault.range;
+    message = fault_note fault.number;
+  } ∷ first_place fault.first;
   notes = [];
 }
 
 -- ---- what a run draws
 
--- what is drawn of an input that was read as a script: its diagnostic over its source, or its fault over the whole input
-abbrev pub drawing_of_script : DisplayStyle → List ℕ → List ℕ → Result ScriptView Fault → Result (List ℕ) (List ℕ)
-drawing_of_script style name input (Ok script) = Ok (picture_text style name script.source script.said)
-drawing_of_script style name input (Err fault) = Err (picture_text style (codes "script") input (said_of_fault fault))
+-- what is drawn of an input that was read as a script: its diagnostic over its source, or its fault
+-- over the whole input
+abbrev pub drawing_of_script : DisplayStyle → List ℕ → List ℕ → Result ScriptView Fault
+    → Result (List ℕ) (List ℕ)
+drawing_of_script style name input (Ok script) =
+    Ok (picture_text style name script.source script.said)
+drawing_of_script style name input (Err fault) =
+    Err (picture_text style (codes "script") input (said_of_fault fault))
 
 -- what is drawn of an input: `Ok` a picture for the output, `Err` the picture of a script's fault
 abbrev pub drawing_of : AskedView → List ℕ → Result (List ℕ) (List ℕ)
-drawing_of (OneLabel request) input = Ok (picture_text request.style request.name input (said_of_request request))
+drawing_of (OneLabel request) input =
+    Ok (picture_text request.style request.name input (said_of_request request))
 drawing_of (OfScript style name) input = drawing_of_script style name input (read_script input)
 
 -- why nothing is drawn: a drawing was refused, or the script has the fault of this picture

@@ -10,7 +10,8 @@ use Rattle.report.specs.declared.fault.Fault.TheVariants.{WrongArguments, Cannot
 use Rattle.report.specs.Drawings.{drawing_of}
 use Rattle.report.specs.Requests.{AskedView}
 
--- the program's status: 0 where there is no fault, 2 for wrong arguments, 3 for a script's fault whose picture was told and 1 where it was not,
+-- the program's status: 0 where there is no fault, 2 for wrong arguments, 3 for a script's fault
+-- whose picture was told and 1 where it was not,
 -- and 1 for any other fault
 abbrev pub IsStatusOf : Result (Unit {0}) Fault → ℕ → Type 0
 IsStatusOf (Ok done) status = status ≡ 0
@@ -21,7 +22,8 @@ IsStatusOf (Err (Drawing error)) status = status ≡ 1
 IsStatusOf (Err (BadScript picture)) status = (status ≡ 3) ⊎ (status ≡ 1)
 IsStatusOf (Err CannotWriteOutput) status = status ≡ 1
 
--- the line of a fault, before its end; that of a drawing has the error's text, and that of a script its picture
+-- the line of a fault, before its end; that of a drawing has the error's text, and that of a script
+-- its picture
 abbrev pub fault_text : Fault → Option (List ℕ)
 fault_text WrongArguments = Some (codes "usage: report STYLE NAME START END MESSAGE")
 fault_text CannotReadInput = Some (codes "report: cannot read input")
@@ -37,7 +39,8 @@ FaultTells CannotReadInput asked input = Unit {0}
 FaultTells NotUtf8 asked input = ¬ (IsUtf8 input)
 FaultTells (Drawing error) asked input = Unit {0}
 FaultTells (BadScript picture) asked input = drawing_of asked input ≡ Err (string_bytes picture)
-FaultTells CannotWriteOutput asked input = IsUtf8 input × ((picture : List ℕ) × (drawing_of asked input ≡ Ok picture))
+FaultTells CannotWriteOutput asked input =
+    IsUtf8 input × ((picture : List ℕ) × (drawing_of asked input ≡ Ok picture))
 
 -- the fact holds of the picture, where the fault is that of a script
 abbrev pub IfBadScript : Fault → (String Global → Type 0) → Type 0

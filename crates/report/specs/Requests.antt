@@ -31,7 +31,8 @@ request_view request = record {
 unfoldable pub number_of : List ℕ → Option ℕ
 number_of [] = None
 number_of (d ∷ ds) =
-    if all_ascii_digits (d ∷ ds) && nat_lt (digits_value 10 (d ∷ ds)) (2 ^ 64) then Some (digits_value 10 (d ∷ ds)) else None
+    if all_ascii_digits (d ∷ ds) && nat_lt (digits_value 10 (d ∷ ds)) (2 ^ 64)
+    then Some (digits_value 10 (d ∷ ds)) else None
 
 -- the style that a word names
 unfoldable pub style_of : List ℕ → Option DisplayStyle
@@ -42,7 +43,8 @@ style_of word =
     else None
 
 -- the request of a name and a message, where the style is one and both ends are numbers
-abbrev pub with_parts : List ℕ → List ℕ → Option DisplayStyle → Option ℕ → Option ℕ → Option RequestView
+abbrev pub with_parts : List ℕ → List ℕ → Option DisplayStyle → Option ℕ → Option ℕ
+    → Option RequestView
 with_parts name message (Some style) (Some start) (Some end) =
     Some (record { style = style; name = name; start = start; end = end; message = message })
 with_parts name message (Some style) (Some start) None = None
@@ -51,10 +53,12 @@ with_parts name message None start end = None
 
 -- the request of the arguments: a style, a name, two numbers and a message
 unfoldable pub request_of : List (List ℕ) → Option RequestView
-request_of (style ∷ name ∷ start ∷ end ∷ message ∷ []) = with_parts name message (style_of style) (number_of start) (number_of end)
+request_of (style ∷ name ∷ start ∷ end ∷ message ∷ []) =
+    with_parts name message (style_of style) (number_of start) (number_of end)
 request_of _ = None
 
--- what a run is asked for: an error with one label over the input, or a script that the input begins with, in a style, over a file of a name
+-- what a run is asked for: an error with one label over the input, or a script that the input
+-- begins with, in a style, over a file of a name
 pub data AskedView : Type 0 where
   OneLabel : RequestView → AskedView
   OfScript : DisplayStyle → List ℕ → AskedView
@@ -69,6 +73,7 @@ unfoldable pub asked_of : List (List ℕ) → Option AskedView
 asked_of (style ∷ name ∷ []) = option_map (λ s. OfScript s name) (style_of style)
 asked_of words = option_map OneLabel (request_of words)
 
--- the fact holds of what the words ask for and of the bytes that the reader has, where both are known
+-- the fact holds of what the words ask for and of the bytes that the reader has, where both are
+-- known
 abbrev pub WhereKnown : List (List ℕ) → Option (List ℕ) → (AskedView → List ℕ → Type 0) → Type 0
 WhereKnown words bytes P = IfSome (asked_of words) (λ asked. IfSome bytes (P asked))

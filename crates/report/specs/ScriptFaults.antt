@@ -26,16 +26,26 @@ or_fault None other = other
 -- the first line that begins with the word
 abbrev pub given_line : List ℕ → List ScriptLine → Option ScriptLine
 given_line word [] = None
-given_line word (line ∷ lines) = if bytes_eq (word_of line) word then Some line else given_line word lines
+given_line word (line ∷ lines) =
+    if bytes_eq (word_of line) word then Some line else given_line word lines
 
 -- the word is that of an earlier line: the later word is at fault, and the first one is shown
 unfoldable pub repetition : List ScriptLine → ScriptLine → Option Fault
 repetition before line =
-    option_map (λ first. record { number = RepeatedWord; range = word_range line; first = Some (word_range first) }) (given_line (word_of line) before)
+    option_map
+    (λ first. record {
+      number = RepeatedWord;
+      range = word_range line;
+      first = Some (word_range first);
+    })
+    (given_line (word_of line) before)
 
 -- the rest of a severity line is the name of one
 unfoldable pub severity_fault : ScriptLine → Option Fault
-severity_fault line = if is_some (severity_named (rest_of line)) then None else Some (fault_at UnknownSeverity (range_at line (rest_of line) (rest_of line)))
+severity_fault line =
+    if is_some (severity_named (rest_of line))
+    then None
+    else Some (fault_at UnknownSeverity (range_at line (rest_of line) (rest_of line)))
 
 -- the first two fields of a label's rest are numbers
 unfoldable pub number_fault : ScriptLine → Option Fault
@@ -43,10 +53,13 @@ number_fault line =
     let rest = rest_of line in
     let after = past_blank rest in
     if is_some (number_of (field_of rest))
-    then (if is_some (number_of (field_of after)) then None else Some (fault_at BadNumber (range_at line after (field_of after))))
+    then (if is_some (number_of (field_of after))
+    then None
+    else Some (fault_at BadNumber (range_at line after (field_of after))))
     else Some (fault_at BadNumber (range_at line rest (field_of rest)))
 
--- the fault of a line by its word: the word itself, then its repetition, then the fields that it asks for
+-- the fault of a line by its word: the word itself, then its repetition, then the fields that it
+-- asks for
 abbrev pub word_fault : List ScriptLine → ScriptLine → Option Word → Option Fault
 word_fault before line None = Some (fault_at UnknownWord (word_range line))
 word_fault before line (Some Severity) = or_fault (repetition before line) (severity_fault line)
@@ -58,12 +71,14 @@ word_fault before line (Some Note) = None
 
 -- the first fault of a line, by the lines before it; a silent one has none
 abbrev pub line_fault : List ScriptLine → ScriptLine → Option Fault
-line_fault before line = if is_silent line then None else word_fault before line (word_named (word_of line))
+line_fault before line =
+    if is_silent line then None else word_fault before line (word_named (word_of line))
 
 -- the first fault of lines that stand after these
 abbrev pub fault_from : List ScriptLine → List ScriptLine → Option Fault
 fault_from before [] = None
-fault_from before (line ∷ lines) = or_fault (line_fault before line) (fault_from (before ++ line ∷ []) lines)
+fault_from before (line ∷ lines) =
+    or_fault (line_fault before line) (fault_from (before ++ line ∷ []) lines)
 
 -- the fault of a script without an end, at the input's end
 abbrev pub missing_end : List ℕ → Fault

@@ -1,4 +1,5 @@
--- What is read of a script that is written from its statements, and where the faults of an input lie.
+-- What is read of a script that is written from its statements, and where the faults of an input
+-- lie.
 use Rattle.std.specs.Prelude.{◌≡◌, ℕ, ◌≤◌, List, length, Ok, IfErr, IfSome}
 use Rattle.std.specs.Str.{IsCharBoundary, IsUtf8}
 use Rattle.std.specs.declared.ops.Range.{Range}
@@ -8,7 +9,10 @@ use Rattle.report.specs.Statements.{AreScript, Statement, said_by, written}
 
 -- a script that is written out from its statements is read as what they say
 abbrev pub ScriptReadsBack : List Statement → List ℕ → Type 0
-ScriptReadsBack statements source = AreScript statements → read_script (written statements source) ≡ Ok (record { said = said_by statements; source = source })
+ScriptReadsBack statements source =
+    AreScript statements
+    → read_script (written statements source)
+    ≡ Ok (record { said = said_by statements; source = source })
 
 -- the range does not end before it starts, and lies inside the input, between characters
 pub record LiesIn (input : List ℕ) (range : Range ℕ) : Type 0 where

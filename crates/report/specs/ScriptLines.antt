@@ -24,12 +24,15 @@ is_newline b = b == 10
 abbrev pub is_blank : ℕ → Bool
 is_blank b = b == 32
 
--- the lines of pieces that are cut at each newline, of which the first starts at this byte; a `\r` right before a newline is dropped
+-- the lines of pieces that are cut at each newline, of which the first starts at this byte; a `\r`
+-- right before a newline is dropped
 abbrev pub lines_from : ℕ → List (List ℕ) → List ScriptLine
 lines_from start [] = []
-lines_from start (piece ∷ []) = record { start = start; text = piece; next = start + length piece } ∷ []
+lines_from start (piece ∷ []) =
+    record { start = start; text = piece; next = start + length piece } ∷ []
 lines_from start (piece ∷ other ∷ more) =
-    record { start = start; text = strip_carriage_return piece; next = start + length piece + 1 } ∷ lines_from (start + length piece + 1) (other ∷ more)
+    record { start = start; text = strip_carriage_return piece; next = start + length piece + 1 }
+    ∷ lines_from (start + length piece + 1) (other ∷ more)
 
 -- the lines of an input
 unfoldable pub lines_of : List ℕ → List ScriptLine
@@ -47,7 +50,8 @@ body (line ∷ lines) = if is_end line then [] else line ∷ body lines
 -- the source: what follows the newline of the first end; none without an end
 abbrev pub source_of : List ℕ → List ScriptLine → Option (List ℕ)
 source_of input [] = None
-source_of input (line ∷ lines) = if is_end line then Some (drop line.next input) else source_of input lines
+source_of input (line ∷ lines) =
+    if is_end line then Some (drop line.next input) else source_of input lines
 
 -- the lines of the end that is left of an input of so many bytes, if one is left
 abbrev pub lines_left : ℕ → Option (List ℕ) → List ScriptLine
@@ -79,7 +83,8 @@ word_of line = field_of line.text
 abbrev pub rest_of : ScriptLine → List ℕ
 rest_of line = past_blank line.text
 
--- where in the input a field stands with which an end of the line begins; a field that is not there is empty, at the line's end
+-- where in the input a field stands with which an end of the line begins; a field that is not there
+-- is empty, at the line's end
 abbrev pub range_at : ScriptLine → List ℕ → List ℕ → Range ℕ
 range_at line from field = record {
   start = line.start + length line.text - length from;

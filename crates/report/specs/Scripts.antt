@@ -26,7 +26,8 @@ pub record ScriptView : Type 0 where
 
 -- a label by its style, its range and its message's bytes
 abbrev pub labelled_view : LabelStyle × Range ℕ × Bor (List ℕ) → LabelView (Unit {0})
-labelled_view label = record { style = label.0; file_id = tt; range = label.1; message = label.2.now }
+labelled_view label =
+    record { style = label.0; file_id = tt; range = label.1; message = label.2.now }
 
 -- a script by its fields, its texts as bytes
 abbrev pub script_view : Script → ScriptView
@@ -47,17 +48,27 @@ rest_given word lines = option_map rest_of (given_line word lines)
 
 -- the severity that is given, an error without one
 unfoldable pub severity_given : List ScriptLine → Severity
-severity_given lines = unwrap_or (option_and_then severity_named (rest_given (codes "severity") lines)) severities.Error
+severity_given lines =
+    unwrap_or (option_and_then severity_named (rest_given (codes "severity") lines))
+    severities.Error
 
 -- a label from the numbers of its start and its end
 abbrev pub with_ends : LabelStyle → List ℕ → Option ℕ → Option ℕ → Option (LabelView (Unit {0}))
-with_ends style message (Some start) (Some end) = Some (record { style = style; file_id = tt; range = record { start = start; end = end }; message = message })
+with_ends style message (Some start) (Some end) =
+    Some (record {
+      style = style;
+      file_id = tt;
+      range = record { start = start; end = end };
+      message = message;
+    })
 with_ends style message (Some start) None = None
 with_ends style message None end = None
 
 -- the label of a style that a rest states: its start, its end, and then its message
 abbrev pub labelled : LabelStyle → List ℕ → Option (LabelView (Unit {0}))
-labelled style rest = with_ends style (past_blank (past_blank rest)) (number_of (field_of rest)) (number_of (field_of (past_blank rest)))
+labelled style rest =
+    with_ends style (past_blank (past_blank rest)) (number_of (field_of rest))
+    (number_of (field_of (past_blank rest)))
 
 -- the label of a line with this word
 abbrev pub label_by_word : ScriptLine → Option Word → Option (LabelView (Unit {0}))
@@ -91,12 +102,17 @@ diagnostic_of lines = record {
   notes = notes_given lines;
 }
 
--- what is read of lines by their first fault and the source: the fault, else that the end is missing, else what they say
-abbrev pub read_lines : List ℕ → List ScriptLine → Option Fault → Option (List ℕ) → Result ScriptView Fault
+-- what is read of lines by their first fault and the source: the fault, else that the end is
+-- missing, else what they say
+abbrev pub read_lines : List ℕ → List ScriptLine → Option Fault → Option (List ℕ)
+    → Result ScriptView Fault
 read_lines input lines (Some fault) source = Err fault
 read_lines input lines None None = Err (missing_end input)
-read_lines input lines None (Some source) = Ok (record { said = diagnostic_of lines; source = source })
+read_lines input lines None (Some source) =
+    Ok (record { said = diagnostic_of lines; source = source })
 
 -- what an input says as a script, or its first fault
 unfoldable pub read_script : List ℕ → Result ScriptView Fault
-read_script input = read_lines input (body (lines_of input)) (fault_from [] (body (lines_of input))) (source_of input (lines_of input))
+read_script input =
+    read_lines input (body (lines_of input)) (fault_from [] (body (lines_of input)))
+    (source_of input (lines_of input))

@@ -1,4 +1,5 @@
--- Statements: what the lines of a script give, what they say together, and how a script is written from them.
+-- Statements: what the lines of a script give, what they say together, and how a script is written
+-- from them.
 use Rattle.std.specs.Prelude.{◌≢◌, ℕ, ◌-◌, ◌^◌, ◌<◌, ◌≤◌, List, [], ◌∷◌, ◌++◌, length, Option, Some, None, IfSome, codes, flat_map, slice_index, unwrap_or}
 use Rattle.std.specs.Fmt.{decimal}
 use Rattle.std.specs.List.{All, filter_map, slice_get}
@@ -9,7 +10,8 @@ use Rattle.codespan_base.specs.declared.diagnostic.LabelStyle.TheVariants.{Prima
 use Rattle.codespan_base.specs.declared.diagnostic.Severity.{Severity}
 use Rattle.codespan_base.specs.declared.diagnostic.Severity.TheVariants.{Bug, Error, Warning, Note, Help}
 
--- a statement: what one line of a script gives; a label's message may be left out, and a comment and an empty line give nothing
+-- a statement: what one line of a script gives; a label's message may be left out, and a comment
+-- and an empty line give nothing
 pub data Statement : Type 0 where
   SeverityLine : Severity → Statement
   CodeLine : List ℕ → Statement
@@ -29,7 +31,8 @@ abbrev pub IsStatable : Statement → Type 0
 IsStatable (SeverityLine severity) = Unit {0}
 IsStatable (CodeLine text) = IsLineEnd text
 IsStatable (MessageLine text) = IsLineEnd text
-IsStatable (LabelLine style range message) = (range.start < 2 ^ 64) × (range.end < 2 ^ 64) × IfSome message IsLineEnd
+IsStatable (LabelLine style range message) =
+    (range.start < 2 ^ 64) × (range.end < 2 ^ 64) × IfSome message IsLineEnd
 IsStatable (NoteLine text) = IsLineEnd text
 IsStatable (CommentLine text) = IsLineEnd text
 IsStatable EmptyLine = Unit {0}
@@ -53,7 +56,8 @@ message_stated _ = None
 
 -- the label that a statement gives
 abbrev pub label_stated : Statement → Option (LabelView (Unit {0}))
-label_stated (LabelLine style range message) = Some (record { style = style; file_id = tt; range = range; message = unwrap_or message [] })
+label_stated (LabelLine style range message) =
+    Some (record { style = style; file_id = tt; range = range; message = unwrap_or message [] })
 label_stated _ = None
 
 -- the note that a statement gives
@@ -65,7 +69,8 @@ note_stated _ = None
 abbrev pub one_stated : {T : Type 0} → (Statement → Option T) → List Statement → Option T
 one_stated stated statements = slice_get (filter_map stated statements) 0
 
--- what statements say: an error where they give no severity, an empty message where they give none, and the labels and notes in their order
+-- what statements say: an error where they give no severity, an empty message where they give none,
+-- and the labels and notes in their order
 abbrev pub said_by : List Statement → DiagnosticView (Unit {0})
 said_by statements = record {
   severity = unwrap_or (one_stated severity_stated statements) Error;
@@ -75,7 +80,8 @@ said_by statements = record {
   notes = filter_map note_stated statements;
 }
 
--- statements that make a script: lines can state them, and a severity, a code and a message are given at most once
+-- statements that make a script: lines can state them, and a severity, a code and a message are
+-- given at most once
 pub record AreScript (statements : List Statement) : Type 0 where
   pub statable : All IsStatable statements
   pub one_severity : length (filter_map severity_stated statements) ≤ 1
@@ -104,14 +110,16 @@ fields first second = first ++ 32 ∷ second
 -- where a label starts and ends, and then its message, if it has one
 abbrev pub label_fields : Range ℕ → Option (List ℕ) → List ℕ
 label_fields range None = fields (decimal range.start) (decimal range.end)
-label_fields range (Some message) = fields (decimal range.start) (fields (decimal range.end) message)
+label_fields range (Some message) =
+    fields (decimal range.start) (fields (decimal range.end) message)
 
 -- the line of a statement
 abbrev pub statement_line : Statement → List ℕ
 statement_line (SeverityLine severity) = fields (codes "severity") (severity_name severity)
 statement_line (CodeLine text) = fields (codes "code") text
 statement_line (MessageLine text) = fields (codes "message") text
-statement_line (LabelLine style range message) = fields (style_word style) (label_fields range message)
+statement_line (LabelLine style range message) =
+    fields (style_word style) (label_fields range message)
 statement_line (NoteLine text) = fields (codes "note") text
 statement_line (CommentLine text) = 35 ∷ text
 statement_line EmptyLine = []
@@ -122,4 +130,5 @@ ended line = line ++ 10 ∷ []
 
 -- a script and its source: the lines of the statements, the line `---`, and the source
 abbrev pub written : List Statement → List ℕ → List ℕ
-written statements source = flat_map (λ s. ended (statement_line s)) statements ++ (ended (codes "---") ++ source)
+written statements source =
+    flat_map (λ s. ended (statement_line s)) statements ++ (ended (codes "---") ++ source)

@@ -11,7 +11,8 @@ use std::rt::Env;
 
 /// The program's arguments, without its own name. Some that are not UTF-8 are wrong arguments.
 pub fn arguments<R: Env + AllocGlobal>(rt: &R) -> Result<Vec<String>, Fault>
-    ensures { IfErr result (λ fault. (fault ≡ Fault.WrongArguments) ⊎ (fault ≡ Fault.Drawing OutOfMemory)) }
+    ensures { IfErr result (λ fault. (fault ≡ Fault.WrongArguments)
+        ⊎ (fault ≡ Fault.Drawing OutOfMemory)) }
 {
     match env::args(rt) {
         Ok(all) => Ok(all.skip(1).collect(rt.alloc()).map_err(Error::from)?),

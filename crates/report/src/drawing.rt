@@ -19,7 +19,8 @@ use std::alloc::Global;
 ///
 /// Refuses with the picture of the first fault where a script is asked for and the input is none, and where a drawing was refused.
 pub fn draw(alloc: Global, asked: &Asked<'_>, input: &str) -> Result<String, Fault>
-    ensures text { IfOk result (λ text. drawing_of (asked_view asked.now) input.now ≡ Ok (string_bytes text)) }
+    ensures text { IfOk result (λ text. drawing_of (asked_view asked.now) input.now
+        ≡ Ok (string_bytes text)) }
     ensures refused { IfErr result (IsDrawRefusal (drawing_of (asked_view asked.now) input.now)) }
 {
     match asked {
@@ -30,8 +31,10 @@ pub fn draw(alloc: Global, asked: &Asked<'_>, input: &str) -> Result<String, Fau
 
 /// The picture of a request over the input.
 fn draw_request(alloc: Global, request: &Request<'_>, input: &str) -> Result<String, Fault>
-    ensures text { IfOk result (λ text. drawing_of (asked_view (Asked.OneLabel request.now)) input.now ≡ Ok (string_bytes text)) }
-    ensures refused { IfErr result (IsDrawRefusal (drawing_of (asked_view (Asked.OneLabel request.now)) input.now)) }
+    ensures text { IfOk result (λ text.
+        drawing_of (asked_view (Asked.OneLabel request.now)) input.now ≡ Ok (string_bytes text)) }
+    ensures refused { IfErr result (IsDrawRefusal
+        (drawing_of (asked_view (Asked.OneLabel request.now)) input.now)) }
 {
     let diagnostic = of_request(alloc, request)?;
     Ok(draw_over(alloc, request.style, request.name, input, &diagnostic)?)
@@ -39,8 +42,11 @@ fn draw_request(alloc: Global, request: &Request<'_>, input: &str) -> Result<Str
 
 /// The picture of what a script says over its source, or of its first fault over the whole input.
 fn draw_script(alloc: Global, style: DisplayStyle, name: &str, input: &str) -> Result<String, Fault>
-    ensures text { IfOk result (λ text. drawing_of_script style name.now input.now (read_script input.now) ≡ Ok (string_bytes text)) }
-    ensures refused { IfErr result (IsDrawRefusal (drawing_of_script style name.now input.now (read_script input.now))) }
+    ensures text { IfOk result (λ text.
+        drawing_of_script style name.now input.now (read_script input.now)
+        ≡ Ok (string_bytes text)) }
+    ensures refused { IfErr result (IsDrawRefusal
+        (drawing_of_script style name.now input.now (read_script input.now))) }
 {
     match parse_script(alloc, input) {
         Ok(script) => {
@@ -64,7 +70,8 @@ fn draw_over(
     source: &str,
     diagnostic: &Diagnostic<()>,
 ) -> Result<String, Error>
-    ensures { IfOk result (λ text. string_bytes text ≡ picture_text style name.now source.now (diagnostic_view diagnostic.now)) }
+    ensures { IfOk result (λ text. string_bytes text
+        ≡ picture_text style name.now source.now (diagnostic_view diagnostic.now)) }
 {
     let file = SimpleFile::new(alloc, name, source)?;
     let config = Config {

@@ -31,7 +31,8 @@ impl Fault {
 
     /// Writes the fault's line.
     pub fn write_line<W: Write>(&self, faults: &mut W) -> io::Result<()>
-        ensures { OnOk result (IfSome (with_newline (fault_text self.now)) (Appends (W.contents faults.old) (W.contents faults.new))) }
+        ensures { OnOk result (IfSome (with_newline (fault_text self.now))
+            (Appends (W.contents faults.old) (W.contents faults.new))) }
     {
         writeln!(faults, "{self}")
     }

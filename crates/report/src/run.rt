@@ -31,15 +31,21 @@ pub fn run<R: Read, W: Write, E: Write>(
     ensures unwritten { result ≡ 2 → output.new ≡ output.old }
     ensures silent { result ≡ 0 → faults.new ≡ faults.old }
     ensures read { result ≡ 0 → IsAtEnd (R.remaining input.new) }
-    ensures drawn { result ≡ 0 → WhereKnown (map string_bytes args.now) (R.remaining input.old) (λ asked source.
-        (picture : List ℕ) × (drawing_of asked source ≡ Ok picture) × Appends (W.contents output.old) (W.contents output.new) picture) }
-    ensures utf8 { result ≡ 0 → WhereKnown (map string_bytes args.now) (R.remaining input.old) (λ _ source. IsUtf8 source) }
+    ensures drawn { result ≡ 0 → WhereKnown (map string_bytes args.now) (R.remaining input.old)
+        (λ asked source.
+        (picture : List ℕ) × (drawing_of asked source ≡ Ok picture)
+        × Appends (W.contents output.old) (W.contents output.new) picture) }
+    ensures utf8 { result ≡ 0 → WhereKnown (map string_bytes args.now) (R.remaining input.old)
+        (λ _ source. IsUtf8 source) }
     ensures kept { WhereKnown (map string_bytes args.now) (R.remaining input.old) (λ _ source.
         ¬ (IsUtf8 source) → output.new ≡ output.old) }
-    ensures told { result ≡ 3 → WhereKnown (map string_bytes args.now) (R.remaining input.old) (λ asked source.
-        (picture : List ℕ) × (drawing_of asked source ≡ Err picture) × Appends (E.contents faults.old) (E.contents faults.new) picture) }
+    ensures told { result ≡ 3 → WhereKnown (map string_bytes args.now) (R.remaining input.old)
+        (λ asked source.
+        (picture : List ℕ) × (drawing_of asked source ≡ Err picture)
+        × Appends (E.contents faults.old) (E.contents faults.new) picture) }
     ensures faulty { WhereKnown (map string_bytes args.now) (R.remaining input.old) (λ asked source.
-        (picture : List ℕ) → drawing_of asked source ≡ Err picture → ((result ≡ 3) ⊎ (result ≡ 1)) × (output.new ≡ output.old)) }
+        (picture : List ℕ) → drawing_of asked source ≡ Err picture → ((result ≡ 3) ⊎ (result ≡ 1))
+        × (output.new ≡ output.old)) }
     ensures undrawn { result ≡ 3 → output.new ≡ output.old }
 {
     conclude(report(alloc, args, input, output), faults)
@@ -51,7 +57,10 @@ pub fn run<R: Read, W: Write, E: Write>(
 pub fn conclude<E: Write>(outcome: Result<(), Fault>, faults: &mut E) -> u8
     ensures status { IsStatusOf outcome result }
     ensures silent { OnOk outcome (faults.new ≡ faults.old) }
-    ensures told { result ≡ 3 → IfErr outcome (λ fault. IfBadScript fault (λ picture. Appends (E.contents faults.old) (E.contents faults.new) (string_bytes picture))) }
+    ensures told { result ≡ 3 → IfErr outcome
+        (λ fault. IfBadScript fault
+        (λ picture. Appends (E.contents faults.old) (E.contents faults.new)
+        (string_bytes picture))) }
 {
     match outcome {
         Ok(()) => 0,
@@ -76,14 +85,20 @@ fn report<R: Read, W: Write>(
     input: &mut R,
     output: &mut W,
 ) -> Result<(), Fault>
-    ensures usage { IsErrOf result Fault.WrongArguments ↔ (asked_of (map string_bytes args.now) ≡ None) }
+    ensures usage { IsErrOf result Fault.WrongArguments
+        ↔ (asked_of (map string_bytes args.now) ≡ None) }
     ensures unread { IsErrOf result Fault.WrongArguments → input.new ≡ input.old }
     ensures read { OnOk result (IsAtEnd (R.remaining input.new)) }
-    ensures drawn { OnOk result (WhereKnown (map string_bytes args.now) (R.remaining input.old) (λ asked source.
-        (picture : List ℕ) × (drawing_of asked source ≡ Ok picture) × Appends (W.contents output.old) (W.contents output.new) picture)) }
-    ensures utf8 { OnOk result (WhereKnown (map string_bytes args.now) (R.remaining input.old) (λ _ source. IsUtf8 source)) }
-    ensures told { IfErr result (λ fault. WhereKnown (map string_bytes args.now) (R.remaining input.old) (FaultTells fault)) }
-    ensures kept { IfErr result (λ fault. fault ≢ Fault.CannotWriteOutput → output.new ≡ output.old) }
+    ensures drawn { OnOk result (WhereKnown (map string_bytes args.now) (R.remaining input.old)
+        (λ asked source.
+        (picture : List ℕ) × (drawing_of asked source ≡ Ok picture)
+        × Appends (W.contents output.old) (W.contents output.new) picture)) }
+    ensures utf8 { OnOk result (WhereKnown (map string_bytes args.now) (R.remaining input.old)
+        (λ _ source. IsUtf8 source)) }
+    ensures told { IfErr result (λ fault.
+        WhereKnown (map string_bytes args.now) (R.remaining input.old) (FaultTells fault)) }
+    ensures kept { IfErr result (λ fault. fault ≢ Fault.CannotWriteOutput
+        → output.new ≡ output.old) }
 {
     let asked = Asked::from_arguments(args).ok_or(Fault::WrongArguments)?;
     let source = read_source(alloc, input)?;

@@ -59,7 +59,8 @@ fn labels(alloc: Global, given: &[Labelled<'_>]) -> Result<Vec<Label<()>>, Error
 
 /// The notes of a script.
 fn notes(alloc: Global, given: &[&str]) -> Result<Vec<String>, Error>
-    ensures { IfOk result (λ notes. map string_bytes notes.items ≡ map (λ note. note.now) given.now) }
+    ensures { IfOk result (λ notes. map string_bytes notes.items
+        ≡ map (λ note. note.now) given.now) }
 {
     let mut notes = Vec::new(alloc);
     for note in given {

@@ -134,7 +134,8 @@ impl From<AllocError> for ScriptError {
 ///
 /// Refuses with `OutOfMemory` where memory was refused.
 pub fn parse_script(alloc: Global, input: &str) -> Result<Script<'_>, ScriptError>
-    ensures { MatchResult result (λ script. read_script input.now ≡ Ok (script_view script)) (λ error. IsFaultOf (read_script input.now) error) }
+    ensures { MatchResult result (λ script. read_script input.now ≡ Ok (script_view script))
+        (λ error. IsFaultOf (read_script input.now) error) }
 {
     let (lines, source) = read_lines(alloc, input)?;
     if let Some(fault) = first_fault(lines.as_slice()) {

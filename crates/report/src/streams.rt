@@ -11,11 +11,14 @@ use std::io::{Read, Write};
 
 /// The whole input, as a text.
 pub fn read_source<R: Read>(alloc: Global, input: &mut R) -> Result<String, Fault>
-    ensures source { IfOk result (λ source. IfSome (R.remaining input.old) (λ bytes. string_bytes source ≡ bytes)) }
+    ensures source { IfOk result (λ source.
+        IfSome (R.remaining input.old) (λ bytes. string_bytes source ≡ bytes)) }
     ensures text { IfOk result (λ source. IsUtf8 (string_bytes source)) }
     ensures end { OnOk result (IsAtEnd (R.remaining input.new)) }
-    ensures odd { IsErrOf result Fault.NotUtf8 → IfSome (R.remaining input.old) (λ bytes. ¬ (IsUtf8 bytes)) }
-    ensures refused { IfErr result (λ fault. (fault ≡ Fault.CannotReadInput) ⊎ (fault ≡ Fault.NotUtf8)) }
+    ensures odd { IsErrOf result Fault.NotUtf8
+        → IfSome (R.remaining input.old) (λ bytes. ¬ (IsUtf8 bytes)) }
+    ensures refused { IfErr result (λ fault. (fault ≡ Fault.CannotReadInput)
+        ⊎ (fault ≡ Fault.NotUtf8)) }
 {
     let mut bytes = Vec::new(alloc);
     if input.read_to_end(&mut bytes).is_err() {
@@ -29,7 +32,8 @@ pub fn read_source<R: Read>(alloc: Global, input: &mut R) -> Result<String, Faul
 
 /// Writes the text to the output and flushes it.
 pub fn write_text<W: Write>(output: &mut W, text: &str) -> Result<(), Fault>
-    ensures written { OnOk result (Appends (W.contents output.old) (W.contents output.new) text.now) }
+    ensures written { OnOk result (Appends (W.contents output.old)
+        (W.contents output.new) text.now) }
     ensures refused { IfErr result (λ fault. fault ≡ Fault.CannotWriteOutput) }
 {
     match write_and_flush(output, text) {

@@ -6,37 +6,46 @@ ghost use Rattle.codespan_files.specs.FileModel.{Tells, column_of, location_of, 
 use crate::files::{Error, Files, Location};
 use std::convert::AsStr;
 
-/// The column number that most files have: [`column_index`] of the source, the line's range and the byte, plus 1.
+/// The column number that most files have: [`column_index`] of the source, the line's range and the
+/// byte, plus 1.
 ///
-/// Refuses as the table's `source` and then its `line_range` do.
+/// The database's own `column_number` can not call this, since that would go in a circle: there
+/// stands [`column_number_by_default!`](crate::column_number_by_default).
 ///
-/// The table's own `column_number` can not call this, since that would go in a circle: there stands
-/// [`column_number_by_default!`](crate::column_number_by_default).
+/// # Errors
+///
+/// The first error of the database's `source` and then its `line_range`.
 pub fn default_column_number<'a, F: Files<'a>>(
     files: &'a F,
     id: F::FileId,
     line_index: usize,
     byte_index: usize,
 ) -> Result<usize, Error>
-    ensures value { IfOk result (λ n. n ≡ column_of (F.file files.now id) line_index byte_index + 1) }
-    ensures refused { Tells (column_refusal (F.refusal files.now id) line_index) result }
+    ensures value { IfOk result (λ n.
+        n ≡ column_of ((F.database files.now).file id) line_index byte_index + 1) }
+    ensures refused { Tells (column_refusal ((F.database files.now).refusal id) line_index) result }
 {
     crate::column_number_by_default!(files, id, line_index, byte_index)
 }
 
-/// The location that most files have: the number of the byte's line, and the byte's column number there.
+/// The location that most files have: the number of the byte's line, and the byte's column number
+/// there.
 ///
-/// Refuses as the table's `line_index`, then its `line_number` and then its `column_number` do.
-///
-/// The table's own `location` can not call this, since that would go in a circle: there stands
+/// The database's own `location` can not call this, since that would go in a circle: there stands
 /// [`location_by_default!`](crate::location_by_default).
+///
+/// # Errors
+///
+/// The first error of the database's `line_index`, then its `line_number` and then its
+/// `column_number`.
 pub fn default_location<'a, F: Files<'a>>(
     files: &'a F,
     id: F::FileId,
     byte_index: usize,
 ) -> Result<Location, Error>
-    ensures value { IfOk result (λ p. p ≡ location_of (F.file files.now id) byte_index) }
-    ensures refused { Tells (location_refusal (F.file files.now id) (F.refusal files.now id) byte_index) result }
+    ensures value { IfOk result (λ p. p ≡ location_of ((F.database files.now).file id) byte_index) }
+    ensures refused { let database = F.database files.now in
+        Tells (location_refusal (database.file id) (database.refusal id) byte_index) result }
 {
     crate::location_by_default!(files, id, byte_index)
 }

@@ -48,7 +48,8 @@ impl<'chars> Config<'chars> {
     /// The same configuration. Refuses with `OutOfMemory` alone, and not where the text before a place is `Fixed`.
     pub fn clone(&self) -> Result<Config<'chars>, Error>
         ensures same { IfOk result (IsConfig self.now) }
-        ensures kind { IfOk result (λ c. is_fixed c.chars.snippet_start ≡ is_fixed self.now.chars.snippet_start) }
+        ensures kind { IfOk result (λ c.
+            is_fixed c.chars.snippet_start ≡ is_fixed self.now.chars.snippet_start) }
         ensures fixed { IsTrue (is_fixed self.now.chars.snippet_start) → result ≡ Ok self.now }
         ensures memory { OnErr result (IsErrOf result Error.OutOfMemory) }
     {

@@ -16,7 +16,8 @@ pub record Cuts (from : ℕ) (bs xs : List ℕ) : Type 0 where
   pub rising : (k : ℕ) → k + 1 < length xs → get_or xs k 0 < get_or xs (k + 1) 0
 
 -- a newline among the bytes after the first
-later_byte : (b : ℕ) (bs : List ℕ) (from x : ℕ) → from + 1 < x → get_or bs (x - (from + 1 + 1)) 0 ≡ 10 → get_or (b ∷ bs) (x - (from + 1)) 0 ≡ 10
+later_byte : (b : ℕ) (bs : List ℕ) (from x : ℕ) → from + 1 < x
+    → get_or bs (x - (from + 1 + 1)) 0 ≡ 10 → get_or (b ∷ bs) (x - (from + 1)) 0 ≡ 10
 later_byte b bs from x h e =
     let k : x - (from + 1) ≡ suc (x - (from + 1 + 1)) = omega arith in
     rw k e
@@ -31,31 +32,39 @@ cuts_no from b bs xs c = record {
 }
 
 -- with one start more, all are after `from`
-above_cons : (from b : ℕ) (bs xs : List ℕ) → Cuts (from + 1) bs xs → (k : ℕ) → k < length ((from + 1) ∷ xs) → from < get_or ((from + 1) ∷ xs) k 0
+above_cons : (from b : ℕ) (bs xs : List ℕ) → Cuts (from + 1) bs xs → (k : ℕ)
+    → k < length ((from + 1) ∷ xs) → from < get_or ((from + 1) ∷ xs) k 0
 above_cons from b bs xs c zero h = omega arith
 above_cons from b bs xs c (suc k) h = omega (arith, c.above k (omega arith))
 
 -- and none is past the end
-within_cons : (from b : ℕ) (bs xs : List ℕ) → Cuts (from + 1) bs xs → (k : ℕ) → k < length ((from + 1) ∷ xs) → get_or ((from + 1) ∷ xs) k 0 ≤ from + length (b ∷ bs)
+within_cons : (from b : ℕ) (bs xs : List ℕ) → Cuts (from + 1) bs xs → (k : ℕ)
+    → k < length ((from + 1) ∷ xs) → get_or ((from + 1) ∷ xs) k 0 ≤ from + length (b ∷ bs)
 within_cons from b bs xs c zero h = omega arith
 within_cons from b bs xs c (suc k) h = omega (arith, c.within k (omega arith))
 
 -- and each is after a newline
-newline_cons : (from : ℕ) (bs xs : List ℕ) → Cuts (from + 1) bs xs → (k : ℕ) → k < length ((from + 1) ∷ xs) → get_or (10 ∷ bs) (get_or ((from + 1) ∷ xs) k 0 - (from + 1)) 0 ≡ 10
+newline_cons : (from : ℕ) (bs xs : List ℕ) → Cuts (from + 1) bs xs → (k : ℕ)
+    → k < length ((from + 1) ∷ xs)
+    → get_or (10 ∷ bs) (get_or ((from + 1) ∷ xs) k 0 - (from + 1)) 0 ≡ 10
 newline_cons from bs xs c zero h =
     let z : (from + 1) - (from + 1) ≡ 0 = omega arith in
     rw z refl
-newline_cons from bs xs c (suc k) h = later_byte 10 bs from _ (c.above k (omega arith)) (c.newline k (omega arith))
+newline_cons from bs xs c (suc k) h =
+    later_byte 10 bs from _ (c.above k (omega arith)) (c.newline k (omega arith))
 
 -- and they rise
-rising_cons : (from : ℕ) (bs xs : List ℕ) → Cuts (from + 1) bs xs → (k : ℕ) → k + 1 < length ((from + 1) ∷ xs) → get_or ((from + 1) ∷ xs) k 0 < get_or ((from + 1) ∷ xs) (k + 1) 0
+rising_cons : (from : ℕ) (bs xs : List ℕ) → Cuts (from + 1) bs xs → (k : ℕ)
+    → k + 1 < length ((from + 1) ∷ xs)
+    → get_or ((from + 1) ∷ xs) k 0 < get_or ((from + 1) ∷ xs) (k + 1) 0
 rising_cons from bs xs c zero h = c.above 0 (omega arith)
 rising_cons from bs xs c (suc k) h =
     let e : suc k + 1 ≡ suc (k + 1) = omega arith in
     rw e (c.rising k (omega arith))
 
 -- a first byte that is a newline adds a start
-cuts_yes : (from b : ℕ) (bs xs : List ℕ) → b ≡ 10 → Cuts (from + 1) bs xs → Cuts from (b ∷ bs) ((from + 1) ∷ xs)
+cuts_yes : (from b : ℕ) (bs xs : List ℕ) → b ≡ 10 → Cuts (from + 1) bs xs
+    → Cuts from (b ∷ bs) ((from + 1) ∷ xs)
 cuts_yes from b bs xs e c = record {
   above = above_cons from b bs xs c;
   within = within_cons from b bs xs c;
@@ -64,25 +73,37 @@ cuts_yes from b bs xs e c = record {
 }
 
 -- either way
-cuts_by : (from b : ℕ) (bs xs : List ℕ) (v : Bool) → eqb b 10 ≡ v → Cuts (from + 1) bs xs → Cuts from (b ∷ bs) (if v then (from + 1) ∷ xs else xs)
+cuts_by : (from b : ℕ) (bs xs : List ℕ) (v : Bool) → eqb b 10 ≡ v → Cuts (from + 1) bs xs
+    → Cuts from (b ∷ bs) (if v then (from + 1) ∷ xs else xs)
 cuts_by from b bs xs true e c = cuts_yes from b bs xs (eqb-true b 10 e) c
 cuts_by from b bs xs false e c = cuts_no from b bs xs c
 
 -- the starts after newlines are so
 pub cuts : (from : ℕ) (bs : List ℕ) → Cuts from bs (starts_after from bs)
-cuts from [] = record { above = λ k h. absurd (omega arith); within = λ k h. absurd (omega arith); newline = λ k h. absurd (omega arith); rising = λ k h. absurd (omega arith) }
+cuts from [] = record {
+  above = λ k h. absurd (omega arith);
+  within = λ k h. absurd (omega arith);
+  newline = λ k h. absurd (omega arith);
+  rising = λ k h. absurd (omega arith);
+}
 cuts from (b ∷ bs) = cuts_by from b bs _ (eqb b 10) refl (cuts (from + 1) bs)
 
 -- the first i numbers are at most b, and those after them are above it
-pub count_split : (b : ℕ) (xs : List ℕ) (i : ℕ) → i ≤ length xs → ((k : ℕ) → k < i → get_or xs k 0 ≤ b) → ((k : ℕ) → i ≤ k → k < length xs → b < get_or xs k 0) → count_by (λ s. nat_le s b) xs ≡ i
+pub count_split : (b : ℕ) (xs : List ℕ) (i : ℕ) → i ≤ length xs
+    → ((k : ℕ) → k < i → get_or xs k 0 ≤ b) → ((k : ℕ) → i ≤ k → k < length xs → b < get_or xs k 0)
+    → count_by (λ s. nat_le s b) xs ≡ i
 count_split b [] i h low high = omega arith
 count_split b (x ∷ xs) zero h low high =
     let head : b < x = high 0 (omega arith) (omega arith) in
-    let rest : count_by (λ s. nat_le s b) xs ≡ 0 = count_split b xs zero (omega arith) (λ k p. absurd (omega arith)) (λ k p q. high (suc k) (omega arith) (omega arith)) in
+    let rest : count_by (λ s. nat_le s b) xs ≡ 0 =
+    count_split b xs zero (omega arith) (λ k p. absurd (omega arith))
+    (λ k p q. high (suc k) (omega arith) (omega arith)) in
     sum_by-cons (λ s. cond (nat_le s b) 1 0) x xs ∙ rw (lt-leb x b head) (omega (arith, rest))
 count_split b (x ∷ xs) (suc i) h low high =
     let head : x ≤ b = low 0 (omega arith) in
-    let rest : count_by (λ s. nat_le s b) xs ≡ i = count_split b xs i (omega arith) (λ k p. low (suc k) (omega arith)) (λ k p q. high (suc k) (omega arith) (omega arith)) in
+    let rest : count_by (λ s. nat_le s b) xs ≡ i =
+    count_split b xs i (omega arith) (λ k p. low (suc k) (omega arith))
+    (λ k p q. high (suc k) (omega arith) (omega arith)) in
     sum_by-cons (λ s. cond (nat_le s b) 1 0) x xs ∙ rw (le-leb x b head) (omega (arith, rest))
 
 -- two numbers that differ are not equal by the test
@@ -90,11 +111,13 @@ ne-eqb : (a b : ℕ) → a ≢ b → eqb a b ≡ false
 ne-eqb a b n = elim (eqb_tells a b) [ inl p ↦ absurd (n p.1) | inr p ↦ p.0 ]
 
 -- a step over one byte
-pub starts_after_newline : (bs : List ℕ) (i : ℕ) → i < length bs → get_or bs i 0 ≡ 10 → starts_after i (drop i bs) ≡ (i + 1) ∷ starts_after (i + 1) (drop (i + 1) bs)
+pub starts_after_newline : (bs : List ℕ) (i : ℕ) → i < length bs → get_or bs i 0 ≡ 10
+    → starts_after i (drop i bs) ≡ (i + 1) ∷ starts_after (i + 1) (drop (i + 1) bs)
 starts_after_newline bs i h e = rw (drop_more bs i 0 h) (rw (eq-eqb (get_or bs i 0) 10 e) refl)
 
 -- a step over any other byte
-pub starts_after_other : (bs : List ℕ) (i : ℕ) → i < length bs → get_or bs i 0 ≢ 10 → starts_after i (drop i bs) ≡ starts_after (i + 1) (drop (i + 1) bs)
+pub starts_after_other : (bs : List ℕ) (i : ℕ) → i < length bs → get_or bs i 0 ≢ 10
+    → starts_after i (drop i bs) ≡ starts_after (i + 1) (drop (i + 1) bs)
 starts_after_other bs i h n = rw (drop_more bs i 0 h) (rw (ne-eqb (get_or bs i 0) 10 n) refl)
 
 -- no byte is left
@@ -104,7 +127,8 @@ starts_after_end bs i h = rw (drop_all i bs h) refl
 pub ruleset starts_steps = (starts_after_newline, starts_after_other, starts_after_end)
 
 -- a byte's line is a line
-pub line_of_below : (starts : List ℕ) (byte : ℕ) → 0 < length starts → line_of starts byte < length starts
+pub line_of_below : (starts : List ℕ) (byte : ℕ) → 0 < length starts
+    → line_of starts byte < length starts
 unfolding line_of
 line_of_below starts byte h = omega (arith, count_by-le-length (λ s. nat_le s byte) starts)
 

@@ -33,17 +33,24 @@ missing_lawful = record {
   missing_text = λ _. refl;
 }
 
--- the files of a table are lawful, seen through a view of what it holds, and so is one that is not there
-pub table_lawful : {X Y : Type 0} (view : X → Y) (file : Y → FileModel) (xs : List X) (id : ℕ) → ((x : X) → IsLawful (file (view x))) → IsLawful (option_map_or file (slice_get (map view xs) id) missing_file)
+-- the files of a table are lawful, seen through a view of what it holds, and so is one that is
+-- not there
+pub table_lawful : {X Y : Type 0} (view : X → Y) (file : Y → FileModel) (xs : List X) (id : ℕ)
+    → ((x : X) → IsLawful (file (view x)))
+    → IsLawful (option_map_or file (slice_get (map view xs) id) missing_file)
 table_lawful view file [] id h = missing_lawful
 table_lawful view file (x ∷ xs) zero h = h x
 table_lawful view file (x ∷ xs) (suc id) h = table_lawful view file xs id h
 
 -- their refusals past the last line are as the law has them
-pub past_end_or : {X : Type 0} (file : X → FileModel) (refusal : X → Lookup → Option Error) (i : ℕ) (o : Option X) → ((x : X) → RefusesPastEnd (file x) i (refusal x (LineRange i))) → RefusesPastEnd (option_map_or file o missing_file) i (option_map_or (λ x. refusal x (LineRange i)) o (missing_refusal (LineRange i)))
+pub past_end_or : {X : Type 0} (file : X → FileModel) (refusal : X → Lookup → Option Error) (i : ℕ)
+    (o : Option X) → ((x : X) → RefusesPastEnd (file x) i (refusal x (LineRange i)))
+    → RefusesPastEnd (option_map_or file o missing_file) i
+    (option_map_or (λ x. refusal x (LineRange i)) o (missing_refusal (LineRange i)))
 past_end_or file refusal i None h = λ there. absurd (cc)
 past_end_or file refusal i (Some x) h = h x
 
 -- what two equal numbers have
-pub same_at : {A B : Type 0} (f : ℕ → A) (g : ℕ → B) (i j : ℕ) → eqb i j ≡ true → (f i ≡ f j) × (g i ≡ g j)
+pub same_at : {A B : Type 0} (f : ℕ → A) (g : ℕ → B) (i j : ℕ) → eqb i j ≡ true
+    → (f i ≡ f j) × (g i ≡ g j)
 same_at f g i j e = (ap f (eqb-true i j e), ap g (eqb-true i j e))

@@ -10,7 +10,8 @@ use crate::files::Error;
 pub(crate) fn clone_labels<FileId: Copy>(
     labels: &Vec<Label<FileId>>,
 ) -> Result<Vec<Label<FileId>>, Error>
-    ensures same { IfOk result (λ copies. map label_view copies.items ≡ map label_view labels.now.items) }
+    ensures same { IfOk result (λ copies.
+        map label_view copies.items ≡ map label_view labels.now.items) }
     ensures refused { OnErr result (IsErrOf result Error.OutOfMemory) }
 {
     let mut copies = Vec::new(*labels.allocator());
@@ -22,7 +23,8 @@ pub(crate) fn clone_labels<FileId: Copy>(
 
 /// The same notes in the same order. Refuses with `OutOfMemory`.
 pub(crate) fn clone_notes(notes: &Vec<String>) -> Result<Vec<String>, Error>
-    ensures same { IfOk result (λ copies. map string_bytes copies.items ≡ map string_bytes notes.now.items) }
+    ensures same { IfOk result (λ copies.
+        map string_bytes copies.items ≡ map string_bytes notes.now.items) }
     ensures refused { OnErr result (IsErrOf result Error.OutOfMemory) }
 {
     let mut copies = Vec::new(*notes.allocator());

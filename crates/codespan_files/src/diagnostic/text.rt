@@ -32,7 +32,8 @@ impl Write for GrowingText {
 /// The text that a value's `Display` states. Refuses with `OutOfMemory` where a growth was refused, and else with
 /// `FormatError` where the `Display` refused.
 pub fn display_text<D: Display + Drop>(alloc: Global, value: D) -> Result<String, Error>
-    ensures text { IfOk result (λ text. IfSome (D.output value) (λ bytes. string_bytes text ≡ bytes)) }
+    ensures text { IfOk result (λ text.
+        IfSome (D.output value) (λ bytes. string_bytes text ≡ bytes)) }
     ensures refused { IfErr result IsTextRefusal }
 {
     let mut growing = GrowingText {

@@ -50,7 +50,7 @@ impl<Name: Drop, Source: AsStr + Drop> MappedFile<Name, Source> {
 }
 
 impl<Name, Source: AsStr> MappedFile<Name, Source> {
-    ghost use Rattle.codespan_files.specs.FileTables.{mapped_name_of, mapped_source_of, settings_of};
+    ghost use Rattle.codespan_files.specs.FileTables.{mapped_name_of, mapped_source_of, mapped_text_of, settings_of};
     ghost use Rattle.codespan_files.specs.FileModel.{Tells};
     ghost use Rattle.codespan_files.specs.SimpleModel.{past_end};
     ghost use Rattle.codespan_files.specs.MappedModel.{setting, with_number};
@@ -63,9 +63,10 @@ impl<Name, Source: AsStr> MappedFile<Name, Source> {
     pub fn set_line(&mut self, line_index: usize, number: usize) -> Result<(), Error>
         ensures name { mapped_name_of self.new ≡ mapped_name_of self.old }
         ensures source { mapped_source_of self.new ≡ mapped_source_of self.old }
-        ensures ok { OnOk result (settings_of self.new ≡ with_number line_index number (settings_of self.old)) }
+        ensures ok { OnOk result
+            (settings_of self.new ≡ with_number line_index number (settings_of self.old)) }
         ensures err { OnErr result (settings_of self.new ≡ settings_of self.old) }
-        ensures refused { Tells (past_end (Source.text (mapped_source_of self.old)) line_index) result }
+        ensures refused { Tells (past_end (mapped_text_of self.old) line_index) result }
     {
         let lines = self.line_starts.len();
         if line_index >= lines {
@@ -110,11 +111,11 @@ impl<Name, Source: AsStr> MappedFile<Name, Source> {
 
 /// No call is refused for want of memory. A name is lent, since a copy of it need not print the same.
 impl<'a, Name: Display + 'a, Source: AsStr + 'a> Files<'a> for MappedFile<Name, Source> {
-    ghost use Rattle.codespan_files.specs.FileTables.{mapped_name_of, mapped_source_of, settings_of};
+    ghost use Rattle.codespan_files.specs.FileTables.{mapped_error_of, mapped_file_of, mapped_name_of, mapped_text_of, settings_of};
     ghost use Rattle.codespan_files.specs.SimpleModel.{past_end};
-    ghost use Rattle.codespan_files.specs.MappedModel.{mapped_file, mapped_refusal, mapped_column, mapped_location, number_from, number_refusal, setting};
+    ghost use Rattle.codespan_files.specs.MappedModel.{mapped_column, mapped_location, number_from, setting};
     ghost use Rattle.codespan_files.specs.FileModel.{IsLineRange, NeedsNoMemory, Tells, line_of};
-    ghost use Rattle.codespan_files.specs.FileModel.Lookup.{LocationAt};
+    ghost use Rattle.codespan_files.specs.FileModel.Lookup.{LineNumber, LocationAt};
     ghost use Rattle.codespan_files.specs.Lemmas.Mapped.{mapped_lawful, mapped_past_end};
     ghost use Rattle.std.proofs.lemmas.Str.{IsUtf8-had};
 
@@ -127,21 +128,29 @@ impl<'a, Name: Display + 'a, Source: AsStr + 'a> Files<'a> for MappedFile<Name, 
     /// The source's text, lent.
     type Source = &'a str;
 
-    ghost file = { λ s _. mapped_file (Name.output (mapped_name_of s)) (Source.text (mapped_source_of s)) (settings_of s) };
+    ghost database = { λ s. record {
+      same = ⟦<() as PartialEq>⟧.eq;
+      file = λ _. mapped_file_of Name.output s;
+      refusal = λ _. mapped_error_of s;
+    } };
 
-    ghost refusal = { λ s _. mapped_refusal (Source.text (mapped_source_of s)) (settings_of s) };
-
-    ghost lawful = { λ s _. mapped_lawful (Name.output s.name) (Source.text s.source) s.numbers.items (IsUtf8-had _ s.utf8) s.fits };
+    ghost lawful = { λ s _.
+        mapped_lawful (Name.output (mapped_name_of s)) (mapped_text_of s) (settings_of s)
+        (IsUtf8-had _ s.utf8) s.fits };
 
     ghost same_file = { λ s i j e. (refl, refl) };
 
-    ghost past_end = { λ s _ i. mapped_past_end (Name.output s.name) (Source.text s.source) s.numbers.items i };
+    ghost same_is = { λ s. refl };
+
+    ghost past_end = { λ s _ i.
+        mapped_past_end (Name.output (mapped_name_of s)) (mapped_text_of s) (settings_of s) i };
 
     /// The file's name, lent. Never refuses.
     fn name(&'a self, _id: ()) -> Result<&'a Name, Error>
         ensures succeeds { IsOk result }
         ensures lent { IfOk result (λ name. name.now ≡ mapped_name_of self.now) }
-        ensures value { IfOk result (λ name. Name.output name.now ≡ Name.output (mapped_name_of self.now)) }
+        ensures value { IfOk result (λ name.
+            Name.output name.now ≡ Name.output (mapped_name_of self.now)) }
         ensures refused { Tells None result }
     {
         Ok(&self.name)
@@ -150,7 +159,7 @@ impl<'a, Name: Display + 'a, Source: AsStr + 'a> Files<'a> for MappedFile<Name, 
     /// The source's text, lent. Never refuses.
     fn source(&'a self, _id: ()) -> Result<&'a str, Error>
         ensures succeeds { IsOk result }
-        ensures lent { IfOk result (λ text. text.now ≡ Source.text (mapped_source_of self.now)) }
+        ensures lent { IfOk result (λ text. text.now ≡ mapped_text_of self.now) }
         ensures refused { Tells None result }
     {
         Ok(self.source.as_str())
@@ -160,7 +169,7 @@ impl<'a, Name: Display + 'a, Source: AsStr + 'a> Files<'a> for MappedFile<Name, 
     fn line_index(&'a self, _id: (), byte_index: usize) -> Result<usize, Error>
         ensures succeeds { IsOk result }
         ensures value { IfOk result (λ line.
-            line ≡ line_of (line_starts_of (Source.text (mapped_source_of self.now))) byte_index) }
+            line ≡ line_of (line_starts_of (mapped_text_of self.now)) byte_index) }
         ensures refused { Tells None result }
     {
         match self.line_starts.binary_search(&byte_index) {
@@ -176,7 +185,7 @@ impl<'a, Name: Display + 'a, Source: AsStr + 'a> Files<'a> for MappedFile<Name, 
     fn line_number(&'a self, _id: (), line_index: usize) -> Result<usize, Error>
         ensures value { IfOk result (λ number.
             number ≡ number_from (setting (settings_of self.now) line_index) line_index) }
-        ensures refused { Tells (number_refusal (setting (settings_of self.now) line_index) line_index) result }
+        ensures refused { Tells (mapped_error_of self.now (LineNumber line_index)) result }
         ensures memory { NeedsNoMemory result }
     {
         match self.nearest(line_index) {
@@ -194,8 +203,8 @@ impl<'a, Name: Display + 'a, Source: AsStr + 'a> Files<'a> for MappedFile<Name, 
     /// The column number of the byte on the line, in characters. Refuses as `line_range` does.
     fn column_number(&'a self, id: (), line_index: usize, byte_index: usize) -> Result<usize, Error>
         ensures value { IfOk result (λ number.
-            number ≡ mapped_column (Source.text (mapped_source_of self.now)) line_index byte_index) }
-        ensures refused { Tells (past_end (Source.text (mapped_source_of self.now)) line_index) result }
+            number ≡ mapped_column (mapped_text_of self.now) line_index byte_index) }
+        ensures refused { Tells (past_end (mapped_text_of self.now) line_index) result }
         ensures memory { NeedsNoMemory result }
     {
         let range = self.line_range(id, line_index)?;
@@ -206,10 +215,8 @@ impl<'a, Name: Display + 'a, Source: AsStr + 'a> Files<'a> for MappedFile<Name, 
     #[tactic(auto, using(crate::specs::Lemmas::Lines::line_of_below))]
     fn location(&'a self, id: (), byte_index: usize) -> Result<Location, Error>
         ensures value { IfOk result (λ place.
-            place
-            ≡ mapped_location (Source.text (mapped_source_of self.now)) (settings_of self.now) byte_index) }
-        ensures refused { Tells (mapped_refusal (Source.text (mapped_source_of self.now)) (settings_of self.now) (LocationAt byte_index))
-            result }
+            place ≡ mapped_location (mapped_text_of self.now) (settings_of self.now) byte_index) }
+        ensures refused { Tells (mapped_error_of self.now (LocationAt byte_index)) result }
         ensures memory { NeedsNoMemory result }
     {
         let line_index = self.line_index(id, byte_index)?;
@@ -223,8 +230,8 @@ impl<'a, Name: Display + 'a, Source: AsStr + 'a> Files<'a> for MappedFile<Name, 
     /// where the file has no such line.
     #[tactic(auto, using(crate::specs::Lemmas::Mapped::mapped_range))]
     fn line_range(&'a self, _id: (), line_index: usize) -> Result<Range<usize>, Error>
-        ensures value { IfOk result (IsLineRange (mapped_file (Name.output (mapped_name_of self.now)) (Source.text (mapped_source_of self.now)) (settings_of self.now)) line_index) }
-        ensures refused { Tells (past_end (Source.text (mapped_source_of self.now)) line_index) result }
+        ensures value { IfOk result (IsLineRange (mapped_file_of Name.output self.now) line_index) }
+        ensures refused { Tells (past_end (mapped_text_of self.now) line_index) result }
         ensures memory { NeedsNoMemory result }
     {
         let count = self.line_starts.len();

@@ -62,8 +62,8 @@ impl<Name, Source: AsStr> SimpleFile<Name, Source> {
 
 /// No call is refused for want of memory. A name is lent, since a copy of it need not print the same.
 impl<'a, Name: Display + 'a, Source: AsStr + 'a> Files<'a> for SimpleFile<Name, Source> {
-    ghost use Rattle.codespan_files.specs.FileTables.{name_of, source_of};
-    ghost use Rattle.codespan_files.specs.SimpleModel.{simple_file, simple_refusal, simple_column, simple_location, past_end};
+    ghost use Rattle.codespan_files.specs.FileTables.{file_of, name_of, text_of};
+    ghost use Rattle.codespan_files.specs.SimpleModel.{simple_refusal, simple_column, simple_location, past_end};
     ghost use Rattle.codespan_files.specs.FileModel.{IsLineRange, NeedsNoMemory, Tells, line_of, line_number_refusal};
     ghost use Rattle.codespan_files.specs.Lemmas.Simple.{simple_lawful, simple_past_end, text_fits, text_is_utf8};
 
@@ -76,21 +76,27 @@ impl<'a, Name: Display + 'a, Source: AsStr + 'a> Files<'a> for SimpleFile<Name, 
     /// The source's text, lent.
     type Source = &'a str;
 
-    ghost file = { λ s _. simple_file (Name.output (name_of s)) (Source.text (source_of s)) };
+    ghost database = { λ s. record {
+      same = ⟦<() as PartialEq>⟧.eq;
+      file = λ _. file_of Name.output s;
+      refusal = λ _. simple_refusal (text_of s);
+    } };
 
-    ghost refusal = { λ s _. simple_refusal (Source.text (source_of s)) };
-
-    ghost lawful = { λ s _. simple_lawful (Name.output (name_of s)) (Source.text (source_of s)) (text_is_utf8 s) (text_fits s) };
+    ghost lawful = { λ s _.
+        simple_lawful (Name.output (name_of s)) (text_of s) (text_is_utf8 s) (text_fits s) };
 
     ghost same_file = { λ s i j e. (refl, refl) };
 
-    ghost past_end = { λ s _ i. simple_past_end (Name.output (name_of s)) (Source.text (source_of s)) i };
+    ghost same_is = { λ s. refl };
+
+    ghost past_end = { λ s _ i. simple_past_end (Name.output (name_of s)) (text_of s) i };
 
     /// The file's name, lent. Never refuses.
     fn name(&'a self, _id: ()) -> Result<&'a Name, Error>
         ensures succeeds { IsOk result }
         ensures lent { IfOk result (λ name. name.now ≡ name_of self.now) }
-        ensures value { IfOk result (λ name. Name.output name.now ≡ Name.output (name_of self.now)) }
+        ensures value { IfOk result (λ name.
+            Name.output name.now ≡ Name.output (name_of self.now)) }
         ensures refused { Tells None result }
     {
         Ok(&self.name)
@@ -99,7 +105,7 @@ impl<'a, Name: Display + 'a, Source: AsStr + 'a> Files<'a> for SimpleFile<Name, 
     /// The source's text, lent. Never refuses.
     fn source(&'a self, _id: ()) -> Result<&'a str, Error>
         ensures succeeds { IsOk result }
-        ensures lent { IfOk result (λ text. text.now ≡ Source.text (source_of self.now)) }
+        ensures lent { IfOk result (λ text. text.now ≡ text_of self.now) }
         ensures refused { Tells None result }
     {
         Ok(self.source.as_str())
@@ -109,7 +115,7 @@ impl<'a, Name: Display + 'a, Source: AsStr + 'a> Files<'a> for SimpleFile<Name, 
     fn line_index(&'a self, _id: (), byte_index: usize) -> Result<usize, Error>
         ensures succeeds { IsOk result }
         ensures value { IfOk result (λ line.
-            line ≡ line_of (line_starts_of (Source.text (source_of self.now))) byte_index) }
+            line ≡ line_of (line_starts_of (text_of self.now)) byte_index) }
         ensures refused { Tells None result }
     {
         match self.line_starts.binary_search(&byte_index) {
@@ -130,8 +136,8 @@ impl<'a, Name: Display + 'a, Source: AsStr + 'a> Files<'a> for SimpleFile<Name, 
     /// The column number of the byte on the line, in characters. Refuses as `line_range` does.
     fn column_number(&'a self, id: (), line_index: usize, byte_index: usize) -> Result<usize, Error>
         ensures value { IfOk result (λ number.
-            number ≡ simple_column (Source.text (source_of self.now)) line_index byte_index) }
-        ensures refused { Tells (past_end (Source.text (source_of self.now)) line_index) result }
+            number ≡ simple_column (text_of self.now) line_index byte_index) }
+        ensures refused { Tells (past_end (text_of self.now) line_index) result }
         ensures memory { NeedsNoMemory result }
     {
         let range = self.line_range(id, line_index)?;
@@ -142,7 +148,8 @@ impl<'a, Name: Display + 'a, Source: AsStr + 'a> Files<'a> for SimpleFile<Name, 
     #[tactic(auto, using(crate::specs::Lemmas::Lines::line_of_below))]
     fn location(&'a self, id: (), byte_index: usize) -> Result<Location, Error>
         ensures succeeds { IsOk result }
-        ensures value { IfOk result (λ place. place ≡ simple_location (Source.text (source_of self.now)) byte_index) }
+        ensures value { IfOk result (λ location.
+            location ≡ simple_location (text_of self.now) byte_index) }
         ensures refused { Tells None result }
     {
         let line_index = self.line_index(id, byte_index)?;
@@ -155,8 +162,8 @@ impl<'a, Name: Display + 'a, Source: AsStr + 'a> Files<'a> for SimpleFile<Name, 
     /// The bytes of the line, its newline too. Refuses with `LineTooLarge` of the index and the last line's index
     /// where the file has no such line.
     fn line_range(&'a self, _id: (), line_index: usize) -> Result<Range<usize>, Error>
-        ensures value { IfOk result (IsLineRange (simple_file (Name.output (name_of self.now)) (Source.text (source_of self.now))) line_index) }
-        ensures refused { Tells (past_end (Source.text (source_of self.now)) line_index) result }
+        ensures value { IfOk result (IsLineRange (file_of Name.output self.now) line_index) }
+        ensures refused { Tells (past_end (text_of self.now) line_index) result }
         ensures memory { NeedsNoMemory result }
     {
         let count = self.line_starts.len();

@@ -1,6 +1,6 @@
 //! A table of files, each a name and a source.
 
-ghost use Rattle.std.specs.Prelude.{◌≡◌, ◌+◌, ◌<◌, ◌++◌, ◌∷◌, ◌↔◌, [], IfOk, IfErr, IfSome, IsOk, OnOk, OnErr, IsErrOf, length, slice_get, Some, None};
+ghost use Rattle.std.specs.Prelude.{◌≡◌, ◌+◌, ◌<◌, ◌++◌, ◌∷◌, ◌↔◌, [], IfOk, IfErr, IfSome, IsOk, OnOk, OnErr, IsErrOf, length, refl, slice_get, Some, None};
 ghost use Rattle.codespan_files.specs.declared.files.error.Error.TheVariants.{OutOfMemory, FileMissing};
 
 use crate::files::{Error, Files, Location, SimpleFile, default_line_number};
@@ -51,7 +51,8 @@ impl<Name, Source: AsStr> SimpleFiles<Name, Source> {
         ensures there { IsOk result ↔ (id < length (entries self.now)) }
         ensures found { IfOk result (λ file.
             slice_get (entries self.now) id ≡ Some (name_of file.now, source_of file.now)) }
-        ensures missing { IfErr result (λ e. (slice_get (entries self.now) id ≡ None) × (e ≡ FileMissing)) }
+        ensures missing { IfErr result (λ e.
+            (slice_get (entries self.now) id ≡ None) × (e ≡ FileMissing)) }
     {
         match self.files.get(id) {
             Some(file) => Ok(file),
@@ -63,8 +64,8 @@ impl<Name, Source: AsStr> SimpleFiles<Name, Source> {
 /// No call is refused for want of memory. Every call but `line_number` refuses with `FileMissing` exactly where the id is not there;
 /// `line_number` does not ask for the file.
 impl<'a, Name: Display + 'a, Source: AsStr + 'a> Files<'a> for SimpleFiles<Name, Source> {
-    ghost use Rattle.codespan_files.specs.FileTables.{entries, name_of, source_of};
-    ghost use Rattle.codespan_files.specs.SimpleModel.{simple_refusal, table_file, table_refusal};
+    ghost use Rattle.codespan_files.specs.FileTables.{entries, error_in, file_in, name_of, source_of, text_of};
+    ghost use Rattle.codespan_files.specs.SimpleModel.{simple_refusal};
     ghost use Rattle.codespan_files.specs.FileModel.{IsLineRange, NeedsNoMemory, Tells, line_of, line_number_refusal};
     ghost use Rattle.codespan_files.specs.FileModel.Lookup.{Name as NameLookup, Source as SourceLookup, LineIndex, LineNumber, ColumnNumber, LocationAt, LineRange};
     ghost use Rattle.codespan_files.specs.Lemmas.Simple.{simple_lawful, simple_past_end, text_fits, text_is_utf8};
@@ -79,22 +80,31 @@ impl<'a, Name: Display + 'a, Source: AsStr + 'a> Files<'a> for SimpleFiles<Name,
     /// The source's text, lent.
     type Source = &'a str;
 
-    ghost file = { λ s id. table_file Name.output Source.text (entries s) id };
+    ghost database = { λ s. record {
+      same = ⟦<usize as PartialEq>⟧.eq;
+      file = file_in Name.output s;
+      refusal = error_in s;
+    } };
 
-    ghost refusal = { λ s id. table_refusal Source.text (entries s) id };
+    ghost lawful = { λ s id.
+        table_lawful (λ f. (name_of f, source_of f)) _ s.files.items id (λ f.
+        simple_lawful (Name.output (name_of f)) (text_of f) (text_is_utf8 f) (text_fits f)) };
 
-    ghost lawful = { λ s id. table_lawful (λ f. (name_of f, source_of f)) _ s.files.items id (λ f. simple_lawful (Name.output (name_of f)) (Source.text (source_of f)) (text_is_utf8 f) (text_fits f)) };
+    ghost same_file = { λ s i j e. same_at (file_in Name.output s) (error_in s) i j e };
 
-    ghost same_file = { λ s i j e. same_at (λ id. table_file Name.output Source.text (entries s) id) (λ id. table_refusal Source.text (entries s) id) i j e };
+    ghost same_is = { λ s. refl };
 
-    ghost past_end = { λ s id i. past_end_or _ (λ entry. simple_refusal (Source.text entry.1)) i (slice_get (entries s) id) (λ entry. simple_past_end (Name.output entry.0) (Source.text entry.1) i) };
+    ghost past_end = { λ s id i.
+        past_end_or _ (λ entry. simple_refusal (Source.text entry.1)) i (slice_get (entries s) id)
+        (λ entry. simple_past_end (Name.output entry.0) (Source.text entry.1) i) };
 
     /// The file's name, lent.
     fn name(&'a self, id: usize) -> Result<&'a Name, Error>
-        ensures lent { IfOk result (λ name. IfSome (slice_get (entries self.now) id) (λ entry. name.now ≡ entry.0)) }
+        ensures lent { IfOk result (λ name.
+            IfSome (slice_get (entries self.now) id) (λ entry. name.now ≡ entry.0)) }
         ensures value { IfOk result (λ name.
-            Name.output name.now ≡ (table_file Name.output Source.text (entries self.now) id).name) }
-        ensures refused { Tells (table_refusal Source.text (entries self.now) id NameLookup) result }
+            Name.output name.now ≡ (file_in Name.output self.now id).name) }
+        ensures refused { Tells (error_in self.now id NameLookup) result }
         ensures memory { NeedsNoMemory result }
     {
         Ok(self.get(id)?.name())
@@ -102,8 +112,8 @@ impl<'a, Name: Display + 'a, Source: AsStr + 'a> Files<'a> for SimpleFiles<Name,
 
     /// The source's text, lent.
     fn source(&'a self, id: usize) -> Result<&'a str, Error>
-        ensures value { IfOk result (λ text. text.now ≡ (table_file Name.output Source.text (entries self.now) id).text) }
-        ensures refused { Tells (table_refusal Source.text (entries self.now) id SourceLookup) result }
+        ensures value { IfOk result (λ text. text.now ≡ (file_in Name.output self.now id).text) }
+        ensures refused { Tells (error_in self.now id SourceLookup) result }
         ensures memory { NeedsNoMemory result }
     {
         Ok(self.get(id)?.source().as_str())
@@ -112,8 +122,8 @@ impl<'a, Name: Display + 'a, Source: AsStr + 'a> Files<'a> for SimpleFiles<Name,
     /// The index of the byte's line, by binary search; past the end that of the last line.
     fn line_index(&'a self, id: usize, byte_index: usize) -> Result<usize, Error>
         ensures value { IfOk result (λ line.
-            line ≡ line_of (table_file Name.output Source.text (entries self.now) id).starts byte_index) }
-        ensures refused { Tells (table_refusal Source.text (entries self.now) id (LineIndex byte_index)) result }
+            line ≡ line_of (file_in Name.output self.now id).starts byte_index) }
+        ensures refused { Tells (error_in self.now id (LineIndex byte_index)) result }
         ensures memory { NeedsNoMemory result }
     {
         self.get(id)?.line_index((), byte_index)
@@ -124,8 +134,8 @@ impl<'a, Name: Display + 'a, Source: AsStr + 'a> Files<'a> for SimpleFiles<Name,
         ensures number { IfOk result (λ number. number ≡ line_index + 1) }
         ensures default { Tells (line_number_refusal line_index) result }
         ensures value { IfOk result (λ number.
-            number ≡ (table_file Name.output Source.text (entries self.now) id).number line_index) }
-        ensures refused { Tells (table_refusal Source.text (entries self.now) id (LineNumber line_index)) result }
+            number ≡ (file_in Name.output self.now id).number line_index) }
+        ensures refused { Tells (error_in self.now id (LineNumber line_index)) result }
         ensures memory { NeedsNoMemory result }
     {
         default_line_number(line_index)
@@ -139,10 +149,8 @@ impl<'a, Name: Display + 'a, Source: AsStr + 'a> Files<'a> for SimpleFiles<Name,
         byte_index: usize,
     ) -> Result<usize, Error>
         ensures value { IfOk result (λ number.
-            number
-            ≡ (table_file Name.output Source.text (entries self.now) id).column line_index byte_index) }
-        ensures refused { Tells (table_refusal Source.text (entries self.now) id (ColumnNumber line_index byte_index))
-            result }
+            number ≡ (file_in Name.output self.now id).column line_index byte_index) }
+        ensures refused { Tells (error_in self.now id (ColumnNumber line_index byte_index)) result }
         ensures memory { NeedsNoMemory result }
     {
         self.get(id)?.column_number((), line_index, byte_index)
@@ -151,8 +159,8 @@ impl<'a, Name: Display + 'a, Source: AsStr + 'a> Files<'a> for SimpleFiles<Name,
     /// The number of the byte's line and the byte's column number there.
     fn location(&'a self, id: usize, byte_index: usize) -> Result<Location, Error>
         ensures value { IfOk result (λ place.
-            place ≡ (table_file Name.output Source.text (entries self.now) id).location byte_index) }
-        ensures refused { Tells (table_refusal Source.text (entries self.now) id (LocationAt byte_index)) result }
+            place ≡ (file_in Name.output self.now id).location byte_index) }
+        ensures refused { Tells (error_in self.now id (LocationAt byte_index)) result }
         ensures memory { NeedsNoMemory result }
     {
         self.get(id)?.location((), byte_index)
@@ -161,8 +169,8 @@ impl<'a, Name: Display + 'a, Source: AsStr + 'a> Files<'a> for SimpleFiles<Name,
     /// The bytes of the line, its newline too. Refuses with `LineTooLarge` of the index and the last line's index
     /// where the file has no such line.
     fn line_range(&'a self, id: usize, line_index: usize) -> Result<Range<usize>, Error>
-        ensures value { IfOk result (IsLineRange (table_file Name.output Source.text (entries self.now) id) line_index) }
-        ensures refused { Tells (table_refusal Source.text (entries self.now) id (LineRange line_index)) result }
+        ensures value { IfOk result (IsLineRange (file_in Name.output self.now id) line_index) }
+        ensures refused { Tells (error_in self.now id (LineRange line_index)) result }
         ensures memory { NeedsNoMemory result }
     {
         self.get(id)?.line_range((), line_index)

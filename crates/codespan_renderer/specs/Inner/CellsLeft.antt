@@ -13,4 +13,5 @@ after_last false = λ _ _. []
 
 -- the cells that are still to come
 abbrev pub cells_left : Cells → List Cell
-cells_left s = cells_then (after_last s.to_end) s.tab_width s.place s.column (chars (chars_rest s.chars))
+cells_left s =
+    cells_then (after_last s.to_end) s.tab_width s.place s.column (chars (chars_rest s.chars))

@@ -7,7 +7,8 @@ use Rattle.codespan_renderer.specs.declared.term.renderer.by_cells.line_cells.Li
 use Rattle.codespan_renderer.specs.Inner.PointerLists.{AreNarrow, pointers_in}
 
 -- they are those of the text, and of these labels
-pub record AreCellsOf (tab : ℕ) (text : List ℕ) (labels : List Labelled) (given : LineCells) : Type 0 where
+pub record AreCellsOf (tab : ℕ) (text : List ℕ) (labels : List Labelled)
+    (given : LineCells) : Type 0 where
   pub all : given.cells.items ≡ cells_to_end tab text
   pub narrow : AreNarrow given.cells.items
   pub found : given.pointers.items ≡ pointers_in (hanging labels) (cells tab text)

@@ -8,7 +8,7 @@ use Rattle.codespan_base.specs.Streams.{Stream, blanks}
 use Rattle.codespan_picture.specs.declared.cells.Cell.{Cell}
 use Rattle.codespan_renderer.specs.declared.term.renderer.by_cells.pointers.Pointer.{Pointer}
 use Rattle.codespan_renderer.specs.declared.term.renderer.by_cells.sweep.Starts.{Starts}
-use Rattle.codespan_picture.specs.Given.{all_labelled}
+use Rattle.codespan_picture.specs.Given.{single_label_views}
 use Rattle.codespan_picture.specs.Lanes.{label_glyph}
 use Rattle.codespan_picture.specs.Rows.{Look}
 use Rattle.codespan_picture.specs.RowParts.{starts_in}
@@ -17,11 +17,18 @@ use Rattle.codespan_renderer.specs.Inner.Sweeps.{starts_from}
 
 -- the columns after these cells can be counted
 abbrev pub AreNarrow : List Cell → Type 0
-AreNarrow cs = (k : ℕ) (d : Cell) → k < length cs → (slice_index_or cs k d).column + (slice_index_or cs k d).width < 2 ^ 128
+AreNarrow cs =
+    (k : ℕ) (d : Cell) → k < length cs
+    → (slice_index_or cs k d).column + (slice_index_or cs k d).width < 2 ^ 128
 
 -- the pointer under a character, of this style
 abbrev pub pointer_under : Cell → LabelStyle → Pointer
-pointer_under c style = record { place = c.place; column = c.column; after = c.column + min c.width 1; style = style }
+pointer_under c style = record {
+  place = c.place;
+  column = c.column;
+  after = c.column + min c.width 1;
+  style = style;
+}
 
 -- the pointers under characters, where labels hang from them
 abbrev pub pointers_in : List Labelled → List Cell → List Pointer
@@ -35,14 +42,16 @@ pointers_before place ps = filter (λ (p : Pointer). nat_lt p.place place) ps
 abbrev pub spaced : Look → ℕ → ℕ → List Pointer → Stream
 spaced look edge column [] = blanks (edge - column)
 spaced look edge column (p ∷ ps) =
-    blanks (p.column - column) ++ label_glyph look.severity p.style look.chars.pointer_left ++ spaced look edge p.after ps
+    blanks (p.column - column) ++ label_glyph look.severity p.style look.chars.pointer_left
+    ++ spaced look edge p.after ps
 
 -- the labels that a walk has not met
 abbrev pub starts_left : Starts → List Labelled
-starts_left s = all_labelled (drop s.next s.labels.now)
+starts_left s = single_label_views (drop s.next s.labels.now)
 
 -- a walk has met the labels that begin before this place: none of them starts in a later character
 pub record HasPassed (place : ℕ) (s : Starts) : Type 0 where
   pub is : (c : Cell) (found : Option LabelStyle) → place ≤ c.place
-      → best_from (starts_in c) found (filter has_message (all_labelled s.labels.now)) ≡ best_from (starts_in c) found (filter has_message (starts_left s))
+      → best_from (starts_in c) found (filter has_message (single_label_views s.labels.now))
+      ≡ best_from (starts_in c) found (filter has_message (starts_left s))
   pub ordered : starts_from place (starts_left s) ≡ true

@@ -18,4 +18,5 @@ is_marked m c = is_from m.from c.place || nat_le (c.place + c.bytes) m.to
 -- the marks take in the characters that the primary ones of these take in
 abbrev pub AreMarksOf : List LaneMark → PrimaryMarks → Type 0
 AreMarksOf marks given =
-    (c : Cell) → 1 ≤ c.bytes → is_marked given c ≡ list_any (λ (m : LaneMark). is_primary_style m.style && takes_in c m.part) marks
+    (c : Cell) → 1 ≤ c.bytes → is_marked given c
+    ≡ list_any (λ (m : LaneMark). is_primary_style m.style && takes_in c m.part) marks

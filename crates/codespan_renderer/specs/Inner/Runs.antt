@@ -1,5 +1,5 @@
 -- Words of the loops that send rows: runs of one character, and the best style found so far.
-use Rattle.std.specs.Prelude.{◌≡◌, ℕ, ◌+◌, Bool, List, ◌++◌, map, filter, fold, reverse, take, drop, slice_get, Option, Some, None, if◌then◌else◌}
+use Rattle.std.specs.Prelude.{◌≡◌, ℕ, Bool, List, ◌++◌, map, filter, fold, reverse, slice_get, Option, Some, None, if◌then◌else◌}
 use Rattle.std.specs.List.{list_any}
 use Rattle.std.specs.Option.{option_map}
 use Rattle.std.specs.Borrow.{Bor}
@@ -10,8 +10,8 @@ use Rattle.codespan_base.specs.Labels.{Labelled, has_message}
 use Rattle.codespan_base.specs.Streams.{Stream, blanks, repeated}
 use Rattle.codespan_picture.specs.declared.cells.Cell.{Cell}
 use Rattle.codespan_picture.specs.Carets.{caret_for}
-use Rattle.codespan_picture.specs.Given.{GivenLabel, labelled, all_labelled}
-use Rattle.codespan_picture.specs.Rows.{Look, Line, Around, HangingRow, hanging}
+use Rattle.codespan_picture.specs.Given.{GivenLabel, single_label_view, single_label_views}
+use Rattle.codespan_picture.specs.Rows.{Look, Line, HangingRow, hanging}
 use Rattle.codespan_picture.specs.RowParts.{starts_in, pointer_style}
 use Rattle.codespan_picture.specs.RowStreams.{stream_of_rows}
 
@@ -27,27 +27,30 @@ better _ style = Some style
 
 -- the best style among what was found and the labels that pass
 abbrev pub best_from : (Labelled → Bool) → Option LabelStyle → List Labelled → Option LabelStyle
-best_from passes found xs = fold (λ best (x : Labelled). better best x.style) found (filter passes xs)
+best_from passes found xs =
+    fold (λ best (x : Labelled). better best x.style) found (filter passes xs)
 
 -- the style of the pointer under a character, where a label hangs from it
 abbrev pub pointer_found : List Labelled → Cell → Option LabelStyle
-pointer_found hanging c = if list_any (starts_in c) hanging then Some (pointer_style hanging c) else None
+pointer_found hanging c =
+    if list_any (starts_in c) hanging then Some (pointer_style hanging c) else None
 
 -- a label that may be there
 abbrev pub given_label : Option (Bor GivenLabel) → Option Labelled
-given_label x = option_map (λ (l : Bor GivenLabel). labelled l.now) x
+given_label x = option_map (λ (l : Bor GivenLabel). single_label_view l.now) x
 
 -- ---- messages
 
--- the label at a place of the list, with those around it
-abbrev pub around_given : List GivenLabel → Option ℕ → Option Around
-around_given xs None = None
-around_given xs (Some place) =
-    option_map (λ x. record { before = all_labelled (take place xs); here = labelled x; after = all_labelled (drop (place + 1) xs) }) (slice_get xs place)
+-- the label at an index, with the index
+abbrev pub entry_given : List GivenLabel → Option ℕ → Option (ℕ × Labelled)
+entry_given xs None = None
+entry_given xs (Some k) = option_map (λ x. (k, single_label_view x)) (slice_get xs k)
 
 -- the labels that hang are those of the two lists that have a message
 pub record AreHanging (labels before after : List GivenLabel) : Type 0 where
-  pub are : filter has_message (all_labelled (before ++ after)) ≡ hanging (all_labelled labels)
+  pub are :
+      filter has_message (single_label_views (before ++ after))
+      ≡ hanging (single_label_views labels)
 
 -- the two lists are a beginning of the labels and an end of them
 pub record ArePieces (labels before after : List GivenLabel) : Type 0 where

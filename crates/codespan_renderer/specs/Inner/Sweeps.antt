@@ -5,7 +5,7 @@ use Rattle.codespan_base.specs.Labels.{Labelled, is_primary}
 use Rattle.codespan_picture.specs.declared.cells.Cell.{Cell}
 use Rattle.codespan_renderer.specs.declared.term.renderer.by_cells.sweep.Sweep.{Sweep}
 use Rattle.codespan_picture.specs.Carets.{covers}
-use Rattle.codespan_picture.specs.Given.{all_labelled}
+use Rattle.codespan_picture.specs.Given.{single_label_views}
 
 -- the labels start at this place or later, each no earlier than the one before it
 abbrev pub starts_from : ℕ → List Labelled → Bool
@@ -24,17 +24,20 @@ is_covered passes xs c = list_any (λ x. passes x && covers x c) xs
 abbrev pub end_with : Bool → ℕ → Labelled → ℕ
 end_with counts end x = if counts && nat_lt x.start x.end then max end x.end else end
 
--- of a character that ends at this place or later: one of the labels that pass has a byte of it where it begins before the end, or where
--- one of those that are left has
-pub record IsReached (passes : Labelled → Bool) (labels left : List Labelled) (place end : ℕ) : Type 0 where
-  pub is : (c : Cell) → place ≤ c.place + c.bytes → 1 ≤ c.bytes → is_covered passes labels c ≡ (nat_lt c.place end || is_covered passes left c)
+-- of a character that ends at this byte index or later: one of the labels that pass has a byte of
+-- it where it begins before the end, or where one of those that are left has
+pub record IsReached (passes : Labelled → Bool) (labels left : List Labelled)
+    (place end : ℕ) : Type 0 where
+  pub is : (c : Cell) → place ≤ c.place + c.bytes → 1 ≤ c.bytes
+      → is_covered passes labels c ≡ (nat_lt c.place end || is_covered passes left c)
 
 -- the labels that a walk has not met
 abbrev pub labels_left : Sweep → List Labelled
-labels_left s = all_labelled (drop s.next s.labels.now)
+labels_left s = single_label_views (drop s.next s.labels.now)
 
 -- a walk has met the labels that begin before this place
 pub record HasMet (place : ℕ) (s : Sweep) : Type 0 where
-  pub primary : IsReached is_primary (all_labelled s.labels.now) (labels_left s) place s.primary_end
-  pub any : IsReached (λ _. true) (all_labelled s.labels.now) (labels_left s) place s.end
+  pub primary :
+      IsReached is_primary (single_label_views s.labels.now) (labels_left s) place s.primary_end
+  pub any : IsReached (λ _. true) (single_label_views s.labels.now) (labels_left s) place s.end
   pub ordered : starts_in_order (labels_left s) ≡ true

@@ -2,20 +2,23 @@
 use Rattle.std.specs.Prelude.{ℕ, List, [], ◌++◌}
 use Rattle.codespan_base.specs.declared.diagnostic.LabelStyle.{LabelStyle}
 use Rattle.codespan_base.specs.declared.term.config.chars.Chars.{Chars}
-use Rattle.codespan_base.specs.Labels.{Part, Top, Left, Bottom}
+use Rattle.codespan_base.specs.Labels.{MultiLabel, Top, Left, Bottom}
 use Rattle.codespan_base.specs.Streams.{Stream, glyph, repeated}
 use Rattle.codespan_picture.specs.declared.cells.Cell.{Cell}
 use Rattle.codespan_picture.specs.Cells.{width_of}
 use Rattle.codespan_picture.specs.RowParts.{cells_before, cells_up_to, end_caret, start_caret, underline_message}
 
 -- how many cells the line of a mark runs over
-abbrev pub run_width : List Cell → Part → ℕ
+abbrev pub run_width : List Cell → MultiLabel → ℕ
 run_width cs (Top start) = width_of (cells_up_to start cs)
 run_width cs Left = 0
 run_width cs (Bottom end message) = width_of (cells_before end cs)
 
 -- the line over so many cells, the caret, and what the label says
-unfoldable pub run_underline : Chars → LabelStyle → ℕ → Part → Stream
-run_underline chars style width (Top start) = repeated width chars.multi_top ++ glyph (start_caret chars style)
+unfoldable pub run_underline : Chars → LabelStyle → ℕ → MultiLabel → Stream
+run_underline chars style width (Top start) =
+    repeated width chars.multi_top ++ glyph (start_caret chars style)
 run_underline chars style width Left = []
-run_underline chars style width (Bottom end message) = repeated width chars.multi_bottom ++ glyph (end_caret chars style) ++ underline_message message
+run_underline chars style width (Bottom end message) =
+    repeated width chars.multi_bottom ++ glyph (end_caret chars style)
+    ++ underline_message message

@@ -6,15 +6,18 @@ ghost use Rattle.codespan_picture.specs.Given.{lanes_in_order};
 pub mod by_cells;
 mod carets;
 mod cells;
+mod char_cursor;
 mod header;
 mod lanes;
 mod line;
+mod line_source;
 mod messages;
 mod notes;
 mod parts;
 mod pointers;
 mod primary_marks;
 mod runs;
+mod scanned_line;
 mod source;
 mod underlines;
 
@@ -27,6 +30,7 @@ use line::{Lanes, Line, Look, drawn_text, leading_whitespace};
 use notes::{send_break, send_empty, send_note};
 pub use parts::count_digits;
 use parts::send_newline;
+use scanned_line::ScannedLine;
 use source::send_line;
 use std::io;
 use std::io::Write;
@@ -59,19 +63,14 @@ pub struct Renderer<'writer, 'config, W> {
 }
 
 impl<'writer, 'config, W: WriteStyle> Renderer<'writer, 'config, W> {
-    ghost use Rattle.std.specs.Prelude.{◌≡◌, ◌++◌, IfErr, IsTrue};
-    ghost use Rattle.std.specs.Option.{option_map};
-    ghost use Rattle.std.specs.Str.Lines.{lines};
-    ghost use Rattle.codespan_base.specs.Errors.{IsIo};
+    ghost use Rattle.std.specs.Prelude.{◌≡◌, IsTrue};
     ghost use Rattle.codespan_base.specs.Streams.{newline};
-    ghost use Rattle.codespan_base.specs.WriterLaw.{Sends};
-    ghost use Rattle.codespan_picture.specs.Cells.{drawn_text};
-    ghost use Rattle.codespan_picture.specs.Given.{all_labelled, lanes_of, place_of_given, text_now};
-    ghost use Rattle.codespan_renderer.specs.Inner.GivenLine.{look_of_given};
+    ghost use Rattle.codespan_renderer.specs.Inner.GivenLine.{look_view};
     ghost use Rattle.codespan_picture.specs.Picture.{look_of};
-    ghost use Rattle.codespan_renderer.specs.Renderers.{writer_of, reference_of, config_of, SameRenderer};
-    ghost use Rattle.codespan_picture.specs.Rows.{rows_of};
-    ghost use Rattle.codespan_picture.specs.RowStreams.{header_row, start_row, empty_row, break_row, note_stream, stream_of_rows};
+    ghost use Rattle.codespan_renderer.specs.Renderers.{writer_of, reference_of, config_of, Renders};
+    ghost use Rattle.codespan_renderer.specs.Renderers.{rendered_header, rendered_start, rendered_empty};
+    ghost use Rattle.codespan_renderer.specs.Renderers.{rendered_break, rendered_note};
+    ghost use Rattle.codespan_renderer.specs.Renderers.{rendered_source, source_line};
 
     /// A renderer to the writer, by the configuration's characters, tab width and layout.
     pub fn new(
@@ -87,7 +86,7 @@ impl<'writer, 'config, W: WriteStyle> Renderer<'writer, 'config, W> {
 
     /// What all rows of one call share.
     fn look(&self, severity: Severity, padding: usize) -> Look<'config>
-        ensures { look_of_given result ≡ look_of (config_of self.now) severity padding }
+        ensures { look_view result ≡ look_of (config_of self.now) severity padding }
     {
         let config = self.config;
         Look {
@@ -111,9 +110,8 @@ impl<'writer, 'config, W: WriteStyle> Renderer<'writer, 'config, W> {
         code: Option<&str>,
         message: &str,
     ) -> Result<(), Error>
-        ensures same { SameRenderer self.old self.new }
-        ensures sends { Sends (W.sink (writer_of self.old)) (header_row severity (option_map (λ at. place_of_given at.now) locus.entry) (record { code = option_map text_now code.entry; message = message.now }) ++ newline) result (W.sink (writer_of self.new)) }
-        ensures io { IfErr result IsIo }
+        ensures { Renders W.sink (rendered_header locus.entry severity code.entry message.now)
+            self.old result self.new }
     {
         send_header(self.writer, locus, severity, code, message)?;
         Ok(())
@@ -121,9 +119,7 @@ impl<'writer, 'config, W: WriteStyle> Renderer<'writer, 'config, W> {
 
     /// An empty line.
     pub fn render_empty(&mut self) -> Result<(), Error>
-        ensures same { SameRenderer self.old self.new }
-        ensures sends { Sends (W.sink (writer_of self.old)) newline result (W.sink (writer_of self.new)) }
-        ensures io { IfErr result IsIo }
+        ensures { Renders W.sink newline self.old result self.new }
     {
         send_newline(self.writer)?;
         Ok(())
@@ -135,9 +131,8 @@ impl<'writer, 'config, W: WriteStyle> Renderer<'writer, 'config, W> {
     /// ┌─ test:2:9
     /// ```
     pub fn render_snippet_start(&mut self, outer_padding: usize, locus: &Locus) -> Result<(), Error>
-        ensures same { SameRenderer self.old self.new }
-        ensures sends { Sends (W.sink (writer_of self.old)) (start_row (config_of self.old).chars outer_padding (place_of_given locus.now) ++ newline) result (W.sink (writer_of self.new)) }
-        ensures io { IfErr result IsIo }
+        ensures { Renders W.sink (rendered_start (config_of self.old) outer_padding locus.now)
+            self.old result self.new }
     {
         let config = self.config;
         send_start(self.writer, &config.chars, outer_padding, locus)?;
@@ -168,9 +163,10 @@ impl<'writer, 'config, W: WriteStyle> Renderer<'writer, 'config, W> {
         multi_labels: &'row [(usize, LabelStyle, MultiLabel<'d>)],
     ) -> Result<(), Error>
         requires { IsTrue (lanes_in_order num_multi_labels multi_labels.now) }
-        ensures same { SameRenderer self.old self.new }
-        ensures sends { Sends (W.sink (writer_of self.old)) (stream_of_rows (look_of (config_of self.old) severity outer_padding) (rows_of (record { number = line_number; text = drawn_text source.now; labels = all_labelled single_labels.now; lanes = lanes_of num_multi_labels multi_labels.now }))) result (W.sink (writer_of self.new)) }
-        ensures io { IfErr result IsIo }
+        ensures { Renders W.sink (rendered_source (config_of self.old) severity outer_padding
+            (source_line line_number source.now single_labels.now num_multi_labels
+            multi_labels.now))
+            self.old result self.new }
     {
         let text = drawn_text(source);
         let line = Line {
@@ -184,7 +180,12 @@ impl<'writer, 'config, W: WriteStyle> Renderer<'writer, 'config, W> {
             },
         };
         let look = self.look(severity, outer_padding);
-        send_line(self.writer, look, line)?;
+        let scanned = ScannedLine {
+            tab_width: look.tab_width,
+            text,
+            labels: single_labels,
+        };
+        send_line(self.writer, look, line, &scanned)?;
         Ok(())
     }
 
@@ -201,9 +202,8 @@ impl<'writer, 'config, W: WriteStyle> Renderer<'writer, 'config, W> {
         multi_labels: &[(usize, LabelStyle, MultiLabel<'_>)],
     ) -> Result<(), Error>
         requires { IsTrue (lanes_in_order num_multi_labels multi_labels.now) }
-        ensures same { SameRenderer self.old self.new }
-        ensures sends { Sends (W.sink (writer_of self.old)) (empty_row (look_of (config_of self.old) severity outer_padding) (lanes_of num_multi_labels multi_labels.now) ++ newline) result (W.sink (writer_of self.new)) }
-        ensures io { IfErr result IsIo }
+        ensures { Renders W.sink (rendered_empty (config_of self.old) severity outer_padding
+            num_multi_labels multi_labels.now) self.old result self.new }
     {
         let look = self.look(severity, outer_padding);
         let lanes = Lanes {
@@ -227,9 +227,8 @@ impl<'writer, 'config, W: WriteStyle> Renderer<'writer, 'config, W> {
         multi_labels: &[(usize, LabelStyle, MultiLabel<'_>)],
     ) -> Result<(), Error>
         requires { IsTrue (lanes_in_order num_multi_labels multi_labels.now) }
-        ensures same { SameRenderer self.old self.new }
-        ensures sends { Sends (W.sink (writer_of self.old)) (break_row (look_of (config_of self.old) severity outer_padding) (lanes_of num_multi_labels multi_labels.now) ++ newline) result (W.sink (writer_of self.new)) }
-        ensures io { IfErr result IsIo }
+        ensures { Renders W.sink (rendered_break (config_of self.old) severity outer_padding
+            num_multi_labels multi_labels.now) self.old result self.new }
     {
         let look = self.look(severity, outer_padding);
         let lanes = Lanes {
@@ -247,9 +246,8 @@ impl<'writer, 'config, W: WriteStyle> Renderer<'writer, 'config, W> {
     ///      found type `String`
     /// ```
     pub fn render_snippet_note(&mut self, outer_padding: usize, message: &str) -> Result<(), Error>
-        ensures same { SameRenderer self.old self.new }
-        ensures sends { Sends (W.sink (writer_of self.old)) (note_stream (config_of self.old).chars outer_padding (lines message.now)) result (W.sink (writer_of self.new)) }
-        ensures io { IfErr result IsIo }
+        ensures { Renders W.sink (rendered_note (config_of self.old) outer_padding message.now)
+            self.old result self.new }
     {
         let config = self.config;
         send_note(self.writer, &config.chars, outer_padding, message)?;

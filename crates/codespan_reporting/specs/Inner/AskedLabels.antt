@@ -3,7 +3,7 @@ use Rattle.std.specs.Prelude.{◌≡◌, ℕ, ◌<◌, ◌≤◌, Bool, true, fa
 use Rattle.codespan_base.specs.declared.diagnostic.Label.{Label}
 use Rattle.codespan_base.specs.declared.files.Error.{Error}
 use Rattle.codespan_base.specs.declared.term.config.Config.{Config}
-use Rattle.codespan_base.specs.FileModel.{FileModel, line_count}
+use Rattle.codespan_base.specs.FileModel.{FileDatabase, FileModel, line_count}
 use Rattle.codespan_base.specs.FileModel.Lookup.{LineRange}
 use Rattle.codespan_base.specs.Labels.{Labelled}
 use Rattle.codespan_picture.specs.Lookups.{Refusals, asked_lines, ends_context, first_refusal, is_asked, label_lookups, line_refusal, of_label, of_line, probe}
@@ -18,13 +18,15 @@ use Rattle.codespan_reporting.specs.Inner.Entries.{Says, entries_of, line_entrie
 use Rattle.codespan_reporting.specs.Inner.FileLookups.{refusal_in}
 use Rattle.codespan_reporting.specs.Inner.GivenEntries.{AddsOf, entries_on, lookups_on, says_at}
 use Rattle.codespan_reporting.specs.Inner.SpannedDigits.{digits_on, label_digits}
-use Rattle.codespan_reporting.specs.Inner.Tables.{FileTable}
 
 -- what the lookups of these labels are refused with
-abbrev pub labels_refusal : {Id : Type 0} → Config → FileTable Id → List (InFile Id) → Option Error
-labels_refusal config table xs = first_refusal table.refusal (label_lookups config table.file table.refusal xs)
+abbrev pub labels_refusal : {Id : Type 0} → Config → FileDatabase Id → List (InFile Id)
+    → Option Error
+labels_refusal config table xs =
+    first_refusal table.refusal (label_lookups config table.file table.refusal xs)
 
--- a label in its file, with what the file refuses, the configuration that it is asked for by, and its place among the labels of the diagnostic
+-- a label in its file, with what the file refuses, the configuration that it is asked for by, and
+-- its place among the labels of the diagnostic
 pub record AskedLabel (Id : Type 0) : Type 0 where
   pub id : Id
   pub file : FileModel
@@ -34,7 +36,8 @@ pub record AskedLabel (Id : Type 0) : Type 0 where
   pub label : Labelled
 
 -- a label of a table's files that is asked for by a configuration
-abbrev pub asked_label : {Id : Type 0} → FileTable Id → Config → LabelPlace → Label Id → AskedLabel Id
+abbrev pub asked_label : {Id : Type 0} → FileDatabase Id → Config → LabelPlace → Label Id
+    → AskedLabel Id
 asked_label table config at label = record {
   id = label.file_id;
   file = table.file label.file_id;
@@ -45,7 +48,7 @@ asked_label table config at label = record {
 }
 
 -- the label of an asking
-abbrev pub asked_as : {F Id : Type 0} → (F → FileTable Id) → Asking F → Label Id → AskedLabel Id
+abbrev pub asked_as : {F Id : Type 0} → (F → FileDatabase Id) → Asking F → Label Id → AskedLabel Id
 asked_as table asking label = asked_label (table asking.files.now) asking.config.now asking.at label
 
 module _ {Id : Type 0} (x : AskedLabel Id) where
@@ -65,7 +68,8 @@ module _ {Id : Type 0} (x : AskedLabel Id) where
 
   -- what it says of a line was found, where it asks for the line
   abbrev pub FindsLine : FoundLines Id → FoundLines Id → ℕ → Type 0
-  FindsLine old new l = AddsOf x.file old.entries.items new.entries.items (entries_on x.config x.file x.label x.at l)
+  FindsLine old new l =
+      AddsOf x.file old.entries.items new.entries.items (entries_on x.config x.file x.label x.at l)
 
   -- the padding has grown as far as the number of a line needs, where it spans the line
   abbrev pub MakesRoomForLine : FoundLines Id → FoundLines Id → ℕ → Type 0
@@ -79,7 +83,8 @@ module _ {Id : Type 0} (x : AskedLabel Id) where
 
   -- what it says of lines was found
   abbrev pub FindsLines : FoundLines Id → FoundLines Id → Type 0
-  FindsLines old new = AddsOf x.file old.entries.items new.entries.items (entries_of x.config x.file x.at x.label)
+  FindsLines old new =
+      AddsOf x.file old.entries.items new.entries.items (entries_of x.config x.file x.at x.label)
 
   -- the padding has grown as far as the numbers of the lines that it spans need
   abbrev pub MakesRoom : FoundLines Id → FoundLines Id → Type 0
@@ -87,7 +92,10 @@ module _ {Id : Type 0} (x : AskedLabel Id) where
 
   -- what the lookups of the lines that it asks for are refused with
   abbrev pub lines_refusal : Option Error
-  lines_refusal = refusal_in x.refusal x.id (flat_map of_line (asked_lines x.config x.file x.label) ++ probe x.config x.file (x.refusal x.id) x.label)
+  lines_refusal =
+      refusal_in x.refusal x.id
+      (flat_map of_line (asked_lines x.config x.file x.label)
+      ++ probe x.config x.file (x.refusal x.id) x.label)
 
   -- what its lookups are refused with, those of the lines of its ends first
   abbrev pub label_refusal : Option Error
@@ -104,9 +112,10 @@ IfEnded r then = IfOk r (λ goes_on. goes_on ≡ false → then)
 -- what a label says of a line, by the lines of its ends
 abbrev pub says_by : {F Id : Type 0} → Asking F → Label Id → SourceLine → Option Says
 says_by asking label line =
-    says_at asking.config.now asking.at asking.lines.first asking.lines.last line.index line.start (label_of label).label
+    says_at asking.config.now asking.at asking.lines.first asking.lines.last line.index line.start
+    (label_of label).label
 
-module _ {F Id : Type 0} (table : F → FileTable Id) (asking : Asking F) where
+module _ {F Id : Type 0} (table : F → FileDatabase Id) (asking : Asking F) where
   -- the file ends before a line, and the line's range is refused as past the end
   abbrev pub EndsBefore : Id → ℕ → Type 0
   EndsBefore id l =
@@ -121,4 +130,5 @@ module _ {F Id : Type 0} (table : F → FileTable Id) (asking : Asking F) where
 
   -- the label asks for a line, which is refused with this error
   abbrev pub RefusesLine : Label Id → ℕ → Error → Type 0
-  RefusesLine label l e = AsksFor (asked_as table asking label) l × (refusal_at label.file_id l ≡ Some e)
+  RefusesLine label l e =
+      AsksFor (asked_as table asking label) l × (refusal_at label.file_id l ≡ Some e)

@@ -12,10 +12,12 @@ Came old items new = (new.frame ≡ old.frame) × (is_told old ≡ true → new 
 
 -- the writer refused, and a beginning of the stream came
 abbrev pub Stopped : Sink → Stream → Sink → Type 0
-Stopped old items new = (new.frame ≡ refusing old.frame) × (is_told old ≡ true → Began old items new)
+Stopped old items new =
+    (new.frame ≡ refusing old.frame) × (is_told old ≡ true → Began old items new)
 
 -- a lookup refused, or memory ran out, after a beginning of the stream
-pub record EndedAsking (refused : Option Error) (old : Sink) (items : Stream) (error : Error) (new : Sink) : Type 0 where
+pub record EndedAsking (refused : Option Error) (old : Sink) (items : Stream) (error : Error)
+    (new : Sink) : Type 0 where
   pub frame : new.frame ≡ old.frame
   pub begun : is_told old ≡ true → Began old items new
   pub told : error ≢ OutOfMemory → refused ≡ Some error

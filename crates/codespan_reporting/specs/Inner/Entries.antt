@@ -52,7 +52,9 @@ says_cmp x y =
 
 -- by file and line, and then by what is said
 abbrev pub entry_cmp : Entry → Entry → Ordering
-entry_cmp x y = ordering_then (nat_cmp x.file y.file) (ordering_then (nat_cmp x.line y.line) (says_cmp x.says y.says))
+entry_cmp x y =
+    ordering_then (nat_cmp x.file y.file)
+    (ordering_then (nat_cmp x.line y.line) (says_cmp x.says y.says))
 
 -- one entry stands before another
 abbrev pub is_below : Entry → Entry → Bool

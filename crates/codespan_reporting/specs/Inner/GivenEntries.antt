@@ -18,7 +18,8 @@ use Rattle.codespan_reporting.specs.Inner.PlacedLabels.{IsIdAt}
 -- what an entry says of a line that starts at this byte
 abbrev pub says_of : {Id : Type 0} → ℕ → GivenSays Id → Says
 says_of start given.Shown = Shown
-says_of start (given.Single place label) = Single place (from_line_start start (label_of label.now).label)
+says_of start (given.Single place label) =
+    Single place (from_line_start start (label_of label.now).label)
 
 -- an entry
 abbrev pub entry_of : {Id : Type 0} → GivenEntry Id → Entry
@@ -38,20 +39,23 @@ abbrev pub IsOfFiles : {Id : Type 0} → (Id → FileModel) → List Id → Give
 IsOfFiles {Id} file ids e = (id : Id) → IsIdAt ids e.file id → IsLineOf (file id) e.line
 
 -- entries were added that say this, and this holds of each
-pub record Adds {Id : Type 0} (P : GivenEntry Id → Type 0) (old new : List (GivenEntry Id)) (entries : List Entry) : Type 0 where
+pub record Adds {Id : Type 0} (P : GivenEntry Id → Type 0) (old new : List (GivenEntry Id))
+    (entries : List Entry) : Type 0 where
   pub more : List (GivenEntry Id)
   pub whole : new ≡ old ++ more
   pub say : map entry_of more ≡ entries
   pub each : AllByRecursion P more
 
 -- entries of lines of this file were added
-abbrev pub AddsOf : {Id : Type 0} → FileModel → List (GivenEntry Id) → List (GivenEntry Id) → List Entry → Type 0
+abbrev pub AddsOf : {Id : Type 0} → FileModel → List (GivenEntry Id) → List (GivenEntry Id)
+    → List Entry → Type 0
 AddsOf f old new entries = Adds (λ e. IsLineOf f e.line) old new entries
 
 -- what a label from line `s` to line `e` says of line `l`, which starts at this byte
 abbrev pub says_at : Config → LabelPlace → ℕ → ℕ → ℕ → ℕ → Labelled → Option Says
 says_at config at s e l start x =
-    if (s == e) && (s == l) then Some (Single at.place (from_line_start start x)) else if shows config s e l then Some Shown else None
+    if (s == e) && (s == l) then Some (Single at.place (from_line_start start x))
+    else if shows config s e l then Some Shown else None
 
 module _ (config : Config) (f : FileModel) (x : Labelled) where
   -- the lookups of a line, where the label asks for it

@@ -53,7 +53,8 @@ asked_by (given.Break next) = []
 abbrev pub asked_by_all : {Id : Type 0} → List (GivenStep Id) → List Lookup
 asked_by_all steps = flat_map asked_by steps
 
--- the step is one of the file: its line is, or the line after it, and a number that is known is the line's
+-- the step is one of the file: its line is, or the line after it, and a number that is known is the
+-- line's
 abbrev pub IsStepOf : {Id : Type 0} → FileModel → GivenStep Id → Type 0
 IsStepOf f (given.Shown line singles) = IsLineOf f line
 IsStepOf f (given.Filled index number) = IfSome number (λ known. known ≡ f.number index)
@@ -66,7 +67,8 @@ IsStepIn layout f (given.Filled index number) = number ≡ known_number layout (
 IsStepIn layout f (given.Break next) = IsLineOf f next
 
 -- steps of the file were added, which are these
-pub record AddsSteps {Id : Type 0} (layout : Layout) (f : FileModel) (old new : List (GivenStep Id)) (steps : List Step) : Type 0 where
+pub record AddsSteps {Id : Type 0} (layout : Layout) (f : FileModel) (old new : List (GivenStep Id))
+    (steps : List Step) : Type 0 where
   pub more : List (GivenStep Id)
   pub whole : new ≡ old ++ more
   pub are : map step_of more ≡ steps

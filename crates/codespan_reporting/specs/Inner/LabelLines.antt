@@ -20,9 +20,11 @@ line_of_end file label = last_line (file label.file_id) (label_of label).label
 
 -- what the lookups of these lines are refused with
 abbrev pub ends_refusal : {Id : Type 0} → Refusals Id → Label Id → Option Error
-ends_refusal refusal label = refusal_in refusal label.file_id (LineIndex label.range.start ∷ LineIndex label.range.end ∷ [])
+ends_refusal refusal label =
+    refusal_in refusal label.file_id (LineIndex label.range.start ∷ LineIndex label.range.end ∷ [])
 
 -- line `l` is between lines `s` and `e`, and near one of them
 abbrev pub is_near_end : Config → ℕ → ℕ → ℕ → Bool
 is_near_end config s e l =
-    nat_lt s l && nat_lt l e && (nat_le l (s + config.start_context_lines) || nat_le e (l + config.end_context_lines))
+    nat_lt s l && nat_lt l e
+    && (nat_le l (s + config.start_context_lines) || nat_le e (l + config.end_context_lines))

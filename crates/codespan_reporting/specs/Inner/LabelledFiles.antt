@@ -25,13 +25,15 @@ abbrev pub all_lanes_given : {Id : Type 0} → List (GivenFile Id) → List (Lis
 all_lanes_given {Id} files = map (λ (f : GivenFile Id). lanes_given f.lanes.items) files
 
 -- the file has what these labels tell of it
-pub record IsTold {Id : Type 0} (same : Id → Id → Bool) (file : Id → FileModel) (xs : List (InFile Id)) (f : GivenFile Id) : Type 0 where
+pub record IsTold {Id : Type 0} (same : Id → Id → Bool) (file : Id → FileModel)
+    (xs : List (InFile Id)) (f : GivenFile Id) : Type 0 where
   pub start_is : f.start ≡ file_start same xs f.id
   pub lanes_are : lanes_given f.lanes.items ≡ lanes_in same file xs f.id
 
 -- ---- one file more
 
--- what is known of the files of these ids, and of one of this id, which comes after them where it is none of them
+-- what is known of the files of these ids, and of one of this id, which comes after them where it
+-- is none of them
 abbrev pub with_file : {Id A : Type 0} → (Id → Id → Bool) → List Id → Id → List A → A → List A
 with_file same ids id known one = if list_any (λ j. same j id) ids then known else known ++ one ∷ []
 
@@ -39,11 +41,14 @@ with_file same ids id known one = if list_any (λ j. same j id) ids then known e
 
 -- the lane of a label that starts and ends on these lines, where it is over several
 abbrev pub lanes_by : LabelLines → Labelled → List Lane
-lanes_by lines x = if lines.first == lines.last then [] else record { first = lines.first; last = lines.last; label = x } ∷ []
+lanes_by lines x =
+    if lines.first == lines.last then []
+    else record { first = lines.first; last = lines.last; label = x } ∷ []
 
 -- where snippets start, with what a label of the file at this place tells
 abbrev pub start_told : List FileStart → ℕ → Labelled → List FileStart
-start_told starts place x = slice_set starts place (start_with (slice_index_or starts place no_start) x)
+start_told starts place x =
+    slice_set starts place (start_with (slice_index_or starts place no_start) x)
 
 -- the lanes of all files, with those of one more label of the file at this place
 abbrev pub lanes_told : List (List Lane) → ℕ → List Lane → List (List Lane)

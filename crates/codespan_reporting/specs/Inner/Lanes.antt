@@ -23,12 +23,14 @@ abbrev pub file_lanes : LabelledFile → List Lane
 file_lanes s = map (lane_of s.file) (multi_labels s.file s.labels)
 
 -- those of the file of an id
-abbrev pub lanes_in : {Id : Type 0} → (Id → Id → Bool) → (Id → FileModel) → List (InFile Id) → Id → List Lane
+abbrev pub lanes_in : {Id : Type 0} → (Id → Id → Bool) → (Id → FileModel) → List (InFile Id) → Id
+    → List Lane
 lanes_in same file xs id = file_lanes (labelled_file same file xs id)
 
 -- what a lane does on a line, which starts at this byte
 abbrev pub mark_on : ℕ → ℕ → ℕ × Lane → Option LaneMark
-mark_on l start lane = mark_of lane.0 lane.1.label (part_at lane.1.first lane.1.last l start lane.1.label)
+mark_on l start lane =
+    mark_of lane.0 lane.1.label (part_at lane.1.first lane.1.last l start lane.1.label)
 
 -- what all lanes do on it
 abbrev pub lane_marks : List Lane → ℕ → ℕ → List LaneMark
@@ -45,7 +47,12 @@ abbrev pub lane_given : GivenLane → Lane
 lane_given lane = record {
   first = lane.first;
   last = lane.last;
-  label = record { style = lane.style; start = lane.start; end = lane.end; message = bytes lane.message.now };
+  label = record {
+    style = lane.style;
+    start = lane.start;
+    end = lane.end;
+    message = bytes lane.message.now;
+  };
 }
 
 -- the lanes of a file

@@ -19,11 +19,15 @@ is_asked_label same id only_primary x = same id x.id && (not only_primary || is_
 
 -- the starts of the labels of a file, or of its primary ones alone
 abbrev pub label_starts : {Id : Type 0} → (Id → Id → Bool) → Id → Bool → List (InFile Id) → List ℕ
-label_starts {Id} same id only_primary xs = map (λ (x : InFile Id). x.label.start) (filter (is_asked_label same id only_primary) xs)
+label_starts {Id} same id only_primary xs =
+    map (λ (x : InFile Id). x.label.start) (filter (is_asked_label same id only_primary) xs)
 
 -- where the snippet of a file starts, as these labels tell
 abbrev pub file_start : {Id : Type 0} → (Id → Id → Bool) → List (InFile Id) → Id → FileStart
-file_start same xs id = record { primary = least_if_any (label_starts same id true xs); any = least_if_any (label_starts same id false xs) }
+file_start same xs id = record {
+  primary = least_if_any (label_starts same id true xs);
+  any = least_if_any (label_starts same id false xs);
+}
 
 -- the lesser of a number, and of one that may be there
 abbrev pub least_with : Option ℕ → ℕ → ℕ
@@ -36,7 +40,10 @@ no_start = record { primary = None; any = None }
 
 -- where it starts with one label more
 abbrev pub start_with : FileStart → Labelled → FileStart
-start_with s x = record { primary = if is_primary x then Some (least_with s.primary x.start) else s.primary; any = Some (least_with s.any x.start) }
+start_with s x = record {
+  primary = if is_primary x then Some (least_with s.primary x.start) else s.primary;
+  any = Some (least_with s.any x.start);
+}
 
 -- the byte: the least start of a primary label, or of any where none is primary
 abbrev pub start_byte : FileStart → ℕ

@@ -32,7 +32,8 @@ module _ {Id : Type 0} (same : Id → Id → Bool) where
     abbrev pub entries_after : Config → List Id → List (InFile Id) → List (InFile Id) → List Entry
     entries_after config ids before [] = []
     entries_after config ids before (x ∷ xs) =
-        entries_of config (file x.id) (place_after ids before x) x.label ++ entries_after config ids (before ++ x ∷ []) xs
+        entries_of config (file x.id) (place_after ids before x) x.label
+        ++ entries_after config ids (before ++ x ∷ []) xs
 
     -- what all labels of a diagnostic say
     abbrev pub all_entries : Config → List (InFile Id) → List Entry

@@ -17,10 +17,15 @@ module _ {W : Type 0} (sink : W → Sink) where
   SendsStream items old r new = Sends (sink (writer_of old)) items r (sink (writer_of new))
 
   -- the call draws these rows
-  abbrev pub DrawsRows : Severity → ℕ → List Row → Renderer W → Result (Unit {0}) Error → Renderer W → Type 0
-  DrawsRows severity padding rows old = SendsStream (stream_of_rows (look_of (config_of old) severity padding) rows) old
+  abbrev pub DrawsRows : Severity → ℕ → List Row → Renderer W → Result (Unit {0}) Error → Renderer W
+      → Type 0
+  DrawsRows severity padding rows old =
+      SendsStream (stream_of_rows (look_of (config_of old) severity padding) rows) old
 
-  -- the call draws these rows, and makes lookups on the way, the first refusal of which is `refused`
-  abbrev pub DrawsRowsAsking : Option Error → Severity → ℕ → List Row → Renderer W → Result (Unit {0}) Error → Renderer W → Type 0
+  -- the call draws these rows, and makes lookups on the way, the first refusal of which is
+  -- `refused`
+  abbrev pub DrawsRowsAsking : Option Error → Severity → ℕ → List Row → Renderer W
+      → Result (Unit {0}) Error → Renderer W → Type 0
   DrawsRowsAsking refused severity padding rows old r new =
-      SendsAsking refused (sink (writer_of old)) (stream_of_rows (look_of (config_of old) severity padding) rows) r (sink (writer_of new))
+      SendsAsking refused (sink (writer_of old))
+      (stream_of_rows (look_of (config_of old) severity padding) rows) r (sink (writer_of new))

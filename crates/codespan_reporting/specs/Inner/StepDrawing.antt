@@ -2,7 +2,7 @@
 use Rattle.std.specs.Prelude.{◌≡◌, true, List, map, Result}
 use Rattle.std.specs.List.{AllByRecursion}
 use Rattle.codespan_base.specs.declared.files.Error.{Error}
-use Rattle.codespan_base.specs.FileModel.{FileModel, Lookup}
+use Rattle.codespan_base.specs.FileModel.{FileDatabase, FileModel, Lookup}
 use Rattle.codespan_base.specs.WriterLaw.{Sink}
 use Rattle.codespan_picture.specs.Rows.{Row}
 use Rattle.codespan_renderer.specs.declared.term.renderer.Renderer.{Renderer}
@@ -13,28 +13,36 @@ use Rattle.codespan_reporting.specs.Inner.GivenSteps.{asked_by_all, step_of}
 use Rattle.codespan_reporting.specs.Inner.Lanes.{lanes_given}
 use Rattle.codespan_reporting.specs.Inner.Rendering.{DrawsRowsAsking}
 use Rattle.codespan_reporting.specs.Inner.Steps.{Step, does_step_fit, rows_of_step, rows_of_steps}
-use Rattle.codespan_reporting.specs.Inner.Tables.{FileTable}
 
 -- the labels of each step are in the order of their starts
 abbrev pub DoFit : List Step → Type 0
 DoFit steps = AllByRecursion (λ step. does_step_fit step ≡ true) steps
 
 -- the file whose lines are drawn
-abbrev pub drawn_file : {F Id Name Source : Type 0} → (F → Id → FileModel) → FileLines F Id Name Source → FileModel
+abbrev pub drawn_file : {F Id Name Source : Type 0} → (F → Id → FileModel)
+    → FileLines F Id Name Source → FileModel
 drawn_file file lines = file lines.page.now.files.now lines.id
 
-module _ {W F Id Name Source : Type 0} (sink : W → Sink) (table : F → FileTable Id) (lines : FileLines F Id Name Source) where
+module _ {W F Id Name Source : Type 0} (sink : W → Sink) (table : F → FileDatabase Id)
+    (lines : FileLines F Id Name Source) where
   -- the call draws rows of the file, and makes these lookups
-  abbrev pub DrawsFileRows : List Lookup → (FileModel → List Row) → Renderer W → Result (Unit {0}) Error → Renderer W → Type 0
+  abbrev pub DrawsFileRows : List Lookup → (FileModel → List Row) → Renderer W
+      → Result (Unit {0}) Error → Renderer W → Type 0
   DrawsFileRows lookups rows =
       let page = lines.page.now in
       let t = table page.files.now in
-      DrawsRowsAsking sink (refusal_in t.refusal lines.id lookups) page.severity page.padding (rows (t.file lines.id))
+      DrawsRowsAsking sink (refusal_in t.refusal lines.id lookups) page.severity page.padding
+      (rows (t.file lines.id))
 
   -- the call draws a step of the file, and makes these lookups
-  abbrev pub DrawsStep : List Lookup → Step → Renderer W → Result (Unit {0}) Error → Renderer W → Type 0
-  DrawsStep lookups step = DrawsFileRows lookups (λ f. rows_of_step f (lanes_given lines.lanes.now) step)
+  abbrev pub DrawsStep : List Lookup → Step → Renderer W → Result (Unit {0}) Error → Renderer W
+      → Type 0
+  DrawsStep lookups step =
+      DrawsFileRows lookups (λ f. rows_of_step f (lanes_given lines.lanes.now) step)
 
   -- the call draws these steps, one after another, and makes their lookups
-  abbrev pub DrawsSteps : List (GivenStep Id) → Renderer W → Result (Unit {0}) Error → Renderer W → Type 0
-  DrawsSteps steps = DrawsFileRows (asked_by_all steps) (λ f. rows_of_steps f (lanes_given lines.lanes.now) (map step_of steps))
+  abbrev pub DrawsSteps : List (GivenStep Id) → Renderer W → Result (Unit {0}) Error → Renderer W
+      → Type 0
+  DrawsSteps steps =
+      DrawsFileRows (asked_by_all steps)
+      (λ f. rows_of_steps f (lanes_given lines.lanes.now) (map step_of steps))

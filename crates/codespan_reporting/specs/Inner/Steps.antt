@@ -10,7 +10,8 @@ use Rattle.codespan_renderer.specs.Inner.Sweeps.{starts_in_order}
 use Rattle.codespan_reporting.specs.Inner.Entries.{Entry, Says, Shown, Single, tells_shown}
 use Rattle.codespan_reporting.specs.Inner.Lanes.{Lane, lanes_on}
 
--- a line is drawn with the labels inside it, a line between two shown ones is filled in, or lines are left out before a line
+-- a line is drawn with the labels inside it, a line between two shown ones is filled in, or lines
+-- are left out before a line
 pub data Step : Type 0 where
   Draw : (line : ℕ) (singles : List Entry) → Step
   Fill : (line : ℕ) → Step
@@ -46,7 +47,8 @@ gap_after (Some c) d = gap c d
 abbrev pub steps_to : Option ℕ → ℕ → List Entry → List Step
 steps_to was d singles = gap_after was d ++ Draw d singles ∷ []
 
--- the steps of these groups, each of which is of a shown line, where `was` is the last shown line before them
+-- the steps of these groups, each of which is of a shown line, where `was` is the last shown line
+-- before them
 abbrev pub walk : Option ℕ → List (List Entry) → List Step
 walk was [] = []
 walk was ([] ∷ gs) = walk was gs

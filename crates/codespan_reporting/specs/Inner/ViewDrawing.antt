@@ -4,30 +4,31 @@ use Rattle.codespan_base.specs.declared.diagnostic.Diagnostic.{Diagnostic}
 use Rattle.codespan_base.specs.declared.files.Error.{Error}
 use Rattle.codespan_base.specs.declared.term.config.Config.{Config}
 use Rattle.codespan_base.specs.declared.term.config.DisplayStyle.{DisplayStyle}
+use Rattle.codespan_base.specs.declared.term.config.DisplayStyle.TheVariants.{Rich}
 use Rattle.codespan_base.specs.Streams.{Stream, newline}
 use Rattle.codespan_base.specs.WriterLaw.{Sink}
 use Rattle.codespan_picture.specs.Lookups.{first_refusal, late_lookups}
 use Rattle.codespan_picture.specs.Picture.{heading_of, labels_of, look_of, notes_of}
-use Rattle.codespan_picture.specs.Placed.{placed_snippets}
-use Rattle.codespan_picture.specs.Rows.{BlankRow, Place, Row}
+use Rattle.codespan_picture.specs.Snippets.{snippets}
+use Rattle.codespan_picture.specs.Rows.{BlankRow, Locus, Row}
 use Rattle.codespan_picture.specs.RowStreams.{header_row, stream_of_rows}
 use Rattle.codespan_picture.specs.Snippets.{InFile, has_any, labelled_files, note_rows, primary_of}
 use Rattle.codespan_renderer.specs.declared.term.renderer.Renderer.{Renderer}
 use Rattle.codespan_renderer.specs.Renderers.{config_of, writer_of}
 use Rattle.codespan_reporting.specs.declared.term.views.rich.RichDiagnostic.{RichDiagnostic}
 use Rattle.codespan_reporting.specs.declared.term.views.sheet.Sheet.{Sheet}
-use Rattle.codespan_reporting.specs.Headline.{DrawsRich, DrawsShort}
+use Rattle.codespan_reporting.specs.Output.{WritesStyled}
 use Rattle.codespan_reporting.specs.Views.{diagnostic_of, view_config_of}
 use Rattle.codespan_reporting.specs.Inner.GivenSheets.{places_of}
 use Rattle.codespan_reporting.specs.Inner.Headers.{DrawsHeaders}
 use Rattle.codespan_reporting.specs.Inner.Rendering.{DrawsRowsAsking}
-use Rattle.codespan_reporting.specs.Inner.Tables.{FileTable}
+use Rattle.codespan_base.specs.FileModel.{FileDatabase}
 
 -- ---- parts
 
 module _ {Id : Type 0} (d : Diagnostic Id) where
   -- the header, after this place where one is given, with the end of its row
-  abbrev pub header_line : Option Place → Stream
+  abbrev pub header_line : Option Locus → Stream
   header_line place = header_row d.severity place (heading_of d) ++ newline
 
   -- the last rows of a rich picture: the notes, and an empty one
@@ -36,34 +37,46 @@ module _ {Id : Type 0} (d : Diagnostic Id) where
 
   -- a rich picture without labels
   abbrev pub bare_picture : Config → Stream
-  bare_picture config = header_row d.severity None (heading_of d) ++ newline ++ stream_of_rows (look_of config d.severity 0) closing_rows
+  bare_picture config =
+      header_row d.severity None (heading_of d) ++ newline
+      ++ stream_of_rows (look_of config d.severity 0) closing_rows
 
 -- ---- calls
 
-module _ {W Id : Type 0} (sink : W → Sink) (table : FileTable Id) where
-  -- the call draws the headers of those of these labels that are primary, and answers whether there is one
-  abbrev pub DrawsHeadersOf : Diagnostic Id → List (InFile Id) → Renderer W → Result Bool Error → Renderer W → Type 0
+module _ {W Id : Type 0} (sink : W → Sink) (table : FileDatabase Id) where
+  -- the call draws the headers of those of these labels that are primary, and answers whether there
+  -- is one
+  abbrev pub DrawsHeadersOf : Diagnostic Id → List (InFile Id) → Renderer W → Result Bool Error
+      → Renderer W → Type 0
   DrawsHeadersOf d xs old r new =
-      DrawsHeaders (config_of old) table.file table.refusal d (primary_of xs) (sink (writer_of old)) r (sink (writer_of new))
+      DrawsHeaders (config_of old) table.file table.refusal d (primary_of xs) (sink (writer_of old))
+      r (sink (writer_of new))
 
   -- the call draws a diagnostic in short or medium style
-  abbrev pub DrawsInStyle : DisplayStyle → Diagnostic Id → Renderer W → Result (Unit {0}) Error → Renderer W → Type 0
+  abbrev pub DrawsInStyle : DisplayStyle → Diagnostic Id → Renderer W → Result (Unit {0}) Error
+      → Renderer W → Type 0
   DrawsInStyle style d old r new =
-      DrawsShort (config_of old) table.same table.file table.refusal d style (sink (writer_of old)) r (sink (writer_of new))
+      WritesStyled style (config_of old) (config_of old) table d (sink (writer_of old)) r
+      (sink (writer_of new))
 
   module _ (view : RichDiagnostic Id) where
     -- the call draws the picture of a rich view
     abbrev pub DrawsView : Renderer W → Result (Unit {0}) Error → Renderer W → Type 0
     DrawsView old r new =
-        DrawsRich (config_of old) (view_config_of view) table.same table.file table.refusal (diagnostic_of view) (sink (writer_of old)) r (sink (writer_of new))
+        WritesStyled Rich (config_of old) (view_config_of view) table (diagnostic_of view)
+        (sink (writer_of old)) r (sink (writer_of new))
 
     -- what the lookups of its snippets are refused with, which come after its header
     abbrev pub snippets_refusal : Option Error
-    snippets_refusal = first_refusal table.refusal (late_lookups (view_config_of view) table.same table.file table.refusal (labels_of (diagnostic_of view)))
+    snippets_refusal =
+        first_refusal table.refusal
+        (late_lookups (view_config_of view) table.same table.file table.refusal
+        (labels_of (diagnostic_of view)))
 
     -- the call draws its snippets, which start where a sheet says, and makes their lookups
     abbrev pub DrawsSnippets : Sheet Id → Renderer W → Result (Unit {0}) Error → Renderer W → Type 0
     DrawsSnippets sheet =
         let d = diagnostic_of view in
         DrawsRowsAsking sink snippets_refusal d.severity sheet.padding
-        (placed_snippets (view_config_of view) (has_any (notes_of d)) (places_of sheet.files.items) (labelled_files table.same table.file (labels_of d)))
+        (snippets (view_config_of view) (has_any (notes_of d)) (places_of sheet.files.items)
+        (labelled_files table.same table.file (labels_of d)))

@@ -9,7 +9,8 @@ use Rattle.codespan_reporting.specs.Inner.FileLookups.{refusal_in}
 use Rattle.codespan_reporting.specs.Inner.GivenSteps.{AddsSteps, numbers_asked}
 use Rattle.codespan_reporting.specs.Inner.Steps.{Step}
 
-module _ {F Id Name Source : Type 0} (file : F → Id → FileModel) (walk : Walk F Id Name Source) where
+module _ {F Id Name Source : Type 0} (file : F → Id → FileModel)
+    (walk : Walk F Id Name Source) where
   -- the file of the lines
   abbrev pub walked_file : FileModel
   walked_file = file walk.files.now walk.id
@@ -19,5 +20,7 @@ module _ {F Id Name Source : Type 0} (file : F → Id → FileModel) (walk : Wal
   AddsWalked = AddsSteps walk.layout walked_file
 
 -- what the numbers of these lines are refused with, where they are known before the header
-abbrev pub numbers_refusal : {F Id Name Source : Type 0} → (F → Refusals Id) → Walk F Id Name Source → List ℕ → Option Error
-numbers_refusal refusal walk ls = refusal_in (refusal walk.files.now) walk.id (numbers_asked walk.layout ls)
+abbrev pub numbers_refusal : {F Id Name Source : Type 0} → (F → Refusals Id) → Walk F Id Name Source
+    → List ℕ → Option Error
+numbers_refusal refusal walk ls =
+    refusal_in (refusal walk.files.now) walk.id (numbers_asked walk.layout ls)

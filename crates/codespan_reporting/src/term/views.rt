@@ -18,7 +18,6 @@ mod short;
 mod snippets;
 mod sort;
 mod steps;
-mod table;
 
 pub use rich::RichDiagnostic;
 pub use short::ShortDiagnostic;

@@ -1,6 +1,7 @@
 //! Diagnostics over files, as tables give them, with their pictures.
 
 use crate::pictures::stopping::{Drawn, assert_stops};
+use codespan_base_tests::writers::sequences::without_sequences;
 use codespan_reporting::diagnostic::{Diagnostic, Label, LabelStyle, Severity};
 use codespan_reporting::files::{Error, Files, SimpleFiles};
 use codespan_reporting::term::{
@@ -127,20 +128,6 @@ fn assert_colours_change_no_text(
     emit_to_write_style(&mut coloured, &drawing.config, &files, diagnostic)?;
     assert_text(rt, without_sequences(alloc, bytes.as_slice())?, drawing);
     Ok(())
-}
-
-/// The bytes without the escape sequences among them, each of which ends with its first `m`.
-pub fn without_sequences(alloc: Global, coloured: &[u8]) -> Result<Vec<u8>, Error> {
-    let mut text = Vec::new(alloc);
-    let mut is_sequence = false;
-    for byte in coloured {
-        is_sequence = is_sequence || *byte == b'\x1b';
-        if !is_sequence {
-            text.push(*byte)?;
-        }
-        is_sequence = is_sequence && *byte != b'm';
-    }
-    Ok(text)
 }
 
 /// These bytes are the picture of the drawing.

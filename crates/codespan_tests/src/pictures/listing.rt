@@ -92,20 +92,27 @@ impl<'a, 'text: 'a> Files<'a> for Listing<'text> {
     type Source = &'text str;
 
     // The file of the text, with other numbers.
-    ghost file = { λ s _. let text = (source_of s.file).now in record (simple_file (Some (name_of s.file).now) text) {
-      number = λ i. i;
-      location = λ byte. let i = line_of (line_starts_of text) byte in record { line_number = i; column_number = simple_column text i byte };
+    ghost database = { λ s. record {
+      same = ⟦<() as PartialEq>⟧.eq;
+      file = λ _.
+          let text = (source_of s.file).now in
+          record (simple_file (Some (name_of s.file).now) text) {
+            number = λ i. i;
+            location = λ byte.
+                let i = line_of (line_starts_of text) byte in
+                record { line_number = i; column_number = simple_column text i byte };
+          };
+      refusal = λ _. elim [
+        | NameLookup ↦ refused_if s.refused.name 1 0
+        | SourceLookup ↦ refused_if s.refused.source 2 0
+        | LineIndex byte ↦ refused_if (is_from s.refused.line_index byte) 4 byte
+        | LineNumber i ↦ refused_if (is_at s.refused.line_number i) 5 i
+        | ColumnNumber i byte ↦ past_end (source_of s.file).now i
+        | LocationAt byte ↦ refused_if s.refused.location 3 byte
+        | LineRange i ↦ or_refusal (past_end (source_of s.file).now i)
+            (refused_if (is_at s.refused.line_range i) 6 i)
+      ];
     } };
-
-    ghost refusal = { λ s _. elim [
-      | NameLookup ↦ refused_if s.refused.name 1 0
-      | SourceLookup ↦ refused_if s.refused.source 2 0
-      | LineIndex byte ↦ refused_if (is_from s.refused.line_index byte) 4 byte
-      | LineNumber i ↦ refused_if (is_at s.refused.line_number i) 5 i
-      | ColumnNumber i byte ↦ past_end (source_of s.file).now i
-      | LocationAt byte ↦ refused_if s.refused.location 3 byte
-      | LineRange i ↦ or_refusal (past_end (source_of s.file).now i) (refused_if (is_at s.refused.line_range i) 6 i)
-    ] };
 
     fn name(&'a self, _id: ()) -> Result<&'text str, Error> {
         if self.refused.name {
@@ -166,13 +173,21 @@ impl<'a, 'text: 'a> Files<'a> for Listing<'text> {
     }
 
     // The lines are those of the file of a text, which is lawful; numbers are free.
-    ghost lawful = { λ s _. let text = (source_of s.file).now in let name = Some (name_of s.file).now in
-        renumbered_lawful (simple_file name text) _ _ _ (simple_lawful name text (text_is_utf8 s.file) (text_fits s.file)) };
+    ghost lawful = { λ s _.
+        let text = (source_of s.file).now in
+        let name = Some (name_of s.file).now in
+        renumbered_lawful (simple_file name text) _ _ _
+        (simple_lawful name text (text_is_utf8 s.file) (text_fits s.file)) };
 
     // There is one id.
     ghost same_file = { λ s i j e. (refl, refl) };
 
+    ghost same_is = { λ s. refl };
+
     // A line past the last is refused as there.
-    ghost past_end = { λ s _ i. let text = (source_of s.file).now in let name = Some (name_of s.file).now in
-        or_refusal-past_end (simple_file name text) i (past_end text i) _ (refused_if-other (is_at s.refused.line_range i) 6 i) (simple_past_end name text i) };
+    ghost past_end = { λ s _ i.
+        let text = (source_of s.file).now in
+        let name = Some (name_of s.file).now in
+        or_refusal-past_end (simple_file name text) i (past_end text i) _
+        (refused_if-other (is_at s.refused.line_range i) 6 i) (simple_past_end name text i) };
 }

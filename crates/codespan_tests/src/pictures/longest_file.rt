@@ -25,9 +25,11 @@ impl<'a, 'text: 'a> Files<'a> for LongestFile<'text> {
 
     type Source = &'text str;
 
-    ghost file = { λ s _. longest_file s.name.now };
-
-    ghost refusal = { λ s _. longest_refusal };
+    ghost database = { λ s. record {
+      same = ⟦<() as PartialEq>⟧.eq;
+      file = λ _. longest_file s.name.now;
+      refusal = λ _. longest_refusal;
+    } };
 
     fn name(&'a self, _id: ()) -> Result<&'text str, Error> {
         Ok(self.name)
@@ -70,6 +72,8 @@ impl<'a, 'text: 'a> Files<'a> for LongestFile<'text> {
     ghost lawful = { λ s _. longest_lawful s.name.now };
 
     ghost same_file = { λ s i j e. (refl, refl) };
+
+    ghost same_is = { λ s. refl };
 
     ghost past_end = { λ s _ i. longest_past_end s.name.now i };
 }

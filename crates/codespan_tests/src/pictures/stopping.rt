@@ -1,16 +1,17 @@
 //! Drawn rows into writers that take little at a time, or stop.
 
-use crate::stopping::{Stop, Stopping, is_refused};
-use crate::writers::example::TagWriter;
-use codespan_reporting::diagnostic::Diagnostic;
-use codespan_reporting::files::{Error, SimpleFiles};
+use codespan_base_tests::writers::example::TagWriter;
+use codespan_base_tests::writers::stopping::{Stop, Stopping, is_refused};
+use codespan_reporting::diagnostic::{Diagnostic, Label};
+use codespan_reporting::files::{Error, SimpleFile, SimpleFiles};
 use codespan_reporting::term::{
-    Ansi, Config, DisplayStyle, PlainWriter, Renderer, RichDiagnostic, ShortDiagnostic, Styles,
-    StylesWriter, WriteStyle, emit, emit_to_io_write, emit_to_write_style,
+    Ansi, Config, DisplayStyle, NoColor, PlainWriter, Renderer, RichDiagnostic, ShortDiagnostic,
+    Styles, StylesWriter, WriteStyle, emit, emit_to_io_write, emit_to_write_style,
 };
 use std::alloc::Global;
 use std::io::Write;
 use std::process::Abort;
+use std::test::Fail;
 
 /// What draws to a writer: the calls that emit, as plain text, escape sequences, and the tags of a writer of one's own; and a view alone, as
 /// escape sequences and as plain text.
@@ -120,5 +121,30 @@ pub fn assert_stops(
             }
         }
     }
+    Ok(())
+}
+
+/// A tab that is as wide as can be is drawn blank by blank until the writer refuses.
+#[test]
+fn endless_tab(rt: HostRuntime) -> Result<(), Fail> {
+    let alloc = rt.alloc();
+    let file = SimpleFile::new(alloc, "f", "\tx")?;
+    let label = Label::primary(alloc, (), 1..2).with_message("m")?;
+    let diagnostic = Diagnostic::error(alloc).with_label(label)?;
+    let config = Config {
+        tab_width: usize::MAX,
+        ..Config::default()
+    };
+    let mut inner = Stopping::new(alloc, 1, 40, Stop::Refuses);
+    let refused = emit_to_io_write(&mut inner, &config, &file, &diagnostic);
+    assert!(rt; matches!(refused, Err(Error::Io(_))));
+    let held = "error: \n  ┌─ f:1:2\n  │\n1 │      ";
+    assert_eq!(rt; inner.text.as_slice(), held.as_bytes());
+    let styles = Styles::default();
+    let mut inner = Stopping::new(alloc, 1, 40, Stop::Refuses);
+    let mut colourless = StylesWriter::new(NoColor::new(&mut inner), &styles);
+    let refused = emit_to_write_style(&mut colourless, &config, &file, &diagnostic);
+    assert!(rt; matches!(refused, Err(Error::Io(_))));
+    assert_eq!(rt; inner.text.as_slice(), held.as_bytes());
     Ok(())
 }

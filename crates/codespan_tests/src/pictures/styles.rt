@@ -1,8 +1,9 @@
 //! Short and medium style, and the calls that emit.
 
-use crate::pictures::drawing::{Drawing, assert_drawn, files_of, without_sequences};
+use crate::pictures::drawing::{Drawing, assert_drawn, files_of};
 use crate::pictures::other_files::type_error;
-use crate::writers::example::TagWriter;
+use codespan_base_tests::writers::example::TagWriter;
+use codespan_base_tests::writers::sequences::without_sequences;
 use codespan_reporting::diagnostic::{Diagnostic, Label, LabelStyle, Severity};
 use codespan_reporting::files::{Error, SimpleFiles};
 use codespan_reporting::term::{

@@ -49,7 +49,8 @@ impl<'input> Line<'input> {
 
     /// The range in the input of a field that begins the end `from` of the line.
     pub(super) fn range_at(&self, from: &str, field: &str) -> Range<usize>
-        requires { (length field.now ≤ length from.now) × (length from.now ≤ length self.now.text.now) }
+        requires { (length field.now ≤ length from.now)
+            × (length from.now ≤ length self.now.text.now) }
         ensures { result ≡ range_at (line_view self.now) from.now field.now }
     {
         let start = self.start + self.text.len() - from.len();

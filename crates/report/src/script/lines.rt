@@ -36,8 +36,10 @@ fn without_return(text: &str) -> &str
 /// The first line of what is left of an input of so many bytes, and what follows its newline, if there is one.
 fn first_line(size: usize, left: &str) -> (Line<'_>, Option<&str>)
     requires { length left.now ≤ size }
-    ensures line { lines_left size (Some left.now) ≡ line_view result.0 ∷ lines_left size (option_map (λ after. after.now) result.1) }
-    ensures after { IfSome result.1 (λ after. (result.0.next + length after.now ≡ size) × (length after.now < length left.now)
+    ensures line { lines_left size (Some left.now)
+        ≡ line_view result.0 ∷ lines_left size (option_map (λ after. after.now) result.1) }
+    ensures after { IfSome result.1 (λ after. (result.0.next + length after.now ≡ size)
+        × (length after.now < length left.now)
         × (after.now ≡ drop (length left.now - length after.now) left.now)) }
     ensures last { IfNone result.1 (result.0.next ≡ size) }
 {
@@ -68,7 +70,8 @@ pub(super) fn read_lines(
     input: &str,
 ) -> Result<(Vec<Line<'_>>, Option<&str>), AllocError>
     ensures body { IfOk result (λ read. map line_view read.0.items ≡ body (lines_of input.now)) }
-    ensures source { IfOk result (λ read. option_map (λ source. source.now) read.1 ≡ source_of input.now (lines_of input.now)) }
+    ensures source { IfOk result (λ read. option_map (λ source. source.now) read.1
+        ≡ source_of input.now (lines_of input.now)) }
 {
     let mut lines = Vec::new(alloc);
     let mut rest = Some(input);

@@ -71,7 +71,8 @@ pub(super) fn labels<'input>(
     alloc: Global,
     lines: &[Line<'input>],
 ) -> Result<Vec<Labelled<'input>>, AllocError>
-    ensures { IfOk result (λ labels. map labelled_view labels.items ≡ labels_given (map line_view lines.now)) }
+    ensures { IfOk result (λ labels. map labelled_view labels.items
+        ≡ labels_given (map line_view lines.now)) }
 {
     let mut labels = Vec::new(alloc);
     for line in lines {
@@ -87,7 +88,8 @@ pub(super) fn notes<'input>(
     alloc: Global,
     lines: &[Line<'input>],
 ) -> Result<Vec<&'input str>, AllocError>
-    ensures { IfOk result (λ notes. map (λ note. note.now) notes.items ≡ notes_given (map line_view lines.now)) }
+    ensures { IfOk result (λ notes. map (λ note. note.now) notes.items
+        ≡ notes_given (map line_view lines.now)) }
 {
     let mut notes = Vec::new(alloc);
     for line in lines {

@@ -86,7 +86,8 @@ fn send_bold<W: Write>(w: &mut W, bold: bool) -> io::Result<()>
 /// Sets a colour, where there is one. The plane is `3` for the text and `4` for what is behind it.
 #[tactic(auto, using(crate::proofs::Paints::paintings, crate::proofs::AnsiLemmas::sequences))]
 fn send_color<W: Write>(w: &mut W, plane: u8, intense: bool, color: Option<Color>) -> io::Result<()>
-    ensures { Paints (W.contents w.old) (ansi_color (plane ∷ []) intense color) result (W.contents w.new) }
+    ensures { Paints (W.contents w.old) (ansi_color (plane ∷ []) intense color)
+        result (W.contents w.new) }
 {
     let Some(color) = color else {
         return Ok(());

@@ -145,7 +145,8 @@ impl<'chars> Chars<'chars> {
     /// The same characters. Refuses with `OutOfMemory` alone, and not where the text before a place is `Fixed`.
     pub fn clone(&self) -> Result<Chars<'chars>, Error>
         ensures same { IfOk result (IsChars self.now) }
-        ensures kind { IfOk result (λ c. is_fixed c.snippet_start ≡ is_fixed self.now.snippet_start) }
+        ensures kind { IfOk result (λ c.
+            is_fixed c.snippet_start ≡ is_fixed self.now.snippet_start) }
         ensures fixed { IsTrue (is_fixed self.now.snippet_start) → result ≡ Ok self.now }
         ensures memory { OnErr result (IsErrOf result Error.OutOfMemory) }
     {

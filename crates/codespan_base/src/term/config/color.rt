@@ -79,7 +79,8 @@ pub trait WriteColor: Write {
 
     /// Sends the bytes of the style, or a beginning of them where it is refused.
     fn set_color(&mut self, spec: &ColorSpec) -> io::Result<()>
-        ensures { Paints (Self.contents self.old) (color_bytes spec.now) result (Self.contents self.new) };
+        ensures { Paints (Self.contents self.old) (color_bytes spec.now)
+            result (Self.contents self.new) };
 
     /// Sends the bytes of the reset, or a beginning of them where it is refused.
     fn reset(&mut self) -> io::Result<()>

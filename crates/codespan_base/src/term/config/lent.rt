@@ -24,7 +24,8 @@ impl<'writer, W: Write> LentWriter<'writer, W> {
     /// Plain text, written to `writer`. It has refused nothing yet.
     pub fn new(writer: &'writer mut W) -> LentWriter<'writer, W>
         ensures reference { lent_reference result ≡ writer.entry.ghost_name }
-        ensures begins { lent_sink W.contents result ≡ fresh_lent writer.entry.ghost_name (W.contents writer.old) }
+        ensures begins { lent_sink W.contents result
+            ≡ fresh_lent writer.entry.ghost_name (W.contents writer.old) }
     {
         LentWriter {
             writer,

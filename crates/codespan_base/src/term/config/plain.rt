@@ -109,8 +109,8 @@ impl<W: Write> WriteStyle for PlainWriter<W> {
     }
 
     fn set_label(&mut self, _severity: Severity, _label_style: LabelStyle) -> io::Result<()>
-        ensures sends { Sends (plain_sink W.contents self.old) (one_mark (LabelMark _severity _label_style))
-            result (plain_sink W.contents self.new) }
+        ensures sends { Sends (plain_sink W.contents self.old)
+            (one_mark (LabelMark _severity _label_style)) result (plain_sink W.contents self.new) }
         ensures silent { IsSilent self.old result self.new }
     {
         Ok(())

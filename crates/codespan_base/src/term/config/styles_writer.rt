@@ -46,8 +46,9 @@ impl<'a, W: WriteColor> StylesWriter<'a, W> {
     }
 
     fn set_color(&mut self, spec: &ColorSpec) -> io::Result<()>
-        ensures { Sends (styles_sink W.contents W.color_bytes W.reset_bytes self.old) (bytes (W.color_bytes spec.now))
-            result (styles_sink W.contents W.color_bytes W.reset_bytes self.new) }
+        ensures { Sends (styles_sink W.contents W.color_bytes W.reset_bytes self.old)
+            (bytes (W.color_bytes spec.now)) result
+            (styles_sink W.contents W.color_bytes W.reset_bytes self.new) }
     {
         match self.inner.set_color(spec) {
             Ok(()) => Ok(()),
@@ -59,8 +60,9 @@ impl<'a, W: WriteColor> StylesWriter<'a, W> {
     }
 
     fn reset_color(&mut self) -> io::Result<()>
-        ensures { Sends (styles_sink W.contents W.color_bytes W.reset_bytes self.old) (bytes W.reset_bytes)
-            result (styles_sink W.contents W.color_bytes W.reset_bytes self.new) }
+        ensures { Sends (styles_sink W.contents W.color_bytes W.reset_bytes self.old)
+            (bytes W.reset_bytes) result
+            (styles_sink W.contents W.color_bytes W.reset_bytes self.new) }
     {
         match self.inner.reset() {
             Ok(()) => Ok(()),

@@ -44,7 +44,8 @@ pub trait WriteStyle: Write {
 
     /// Before what belongs to a label.
     fn set_label(&mut self, severity: Severity, label_style: LabelStyle) -> io::Result<()>
-        ensures { Sends (sink self.old) (one_mark (LabelMark severity label_style)) result (sink self.new) };
+        ensures { Sends (sink self.old) (one_mark (LabelMark severity label_style))
+            result (sink self.new) };
 
     /// After the text of each mark: its style ends here.
     fn reset(&mut self) -> io::Result<()>

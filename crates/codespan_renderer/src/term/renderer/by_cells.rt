@@ -5,12 +5,9 @@
 //!
 //! [`Renderer::render_snippet_source`]: crate::term::renderer::Renderer::render_snippet_source
 
-mod carets;
+mod cached_line;
 mod line_cells;
 mod pointers;
-mod rows;
 mod sweep;
-mod text;
-mod underlines;
 
 pub use line_cells::LineCells;

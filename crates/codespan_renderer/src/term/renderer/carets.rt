@@ -5,17 +5,20 @@ ghost use Rattle.codespan_base.specs.Streams.{newline};
 ghost use Rattle.codespan_base.specs.WriterLaw.{Sends};
 ghost use Rattle.codespan_picture.specs.Carets.{covers, covers_part, style_under, greatest_end};
 ghost use Rattle.codespan_picture.specs.Cells.{cells_to_end};
-ghost use Rattle.codespan_picture.specs.Given.{labelled, all_labelled};
+ghost use Rattle.codespan_picture.specs.Given.{single_label_view, single_label_views};
 ghost use Rattle.codespan_renderer.specs.Inner.Runs.{better, caret_run, given_label};
-ghost use Rattle.codespan_renderer.specs.Inner.GivenLine.{look_of_given, line_of_given};
-ghost use Rattle.codespan_renderer.specs.Inner.GivenRows.{given_carets};
-ghost use Rattle.codespan_picture.specs.RowParts.{carets, change, label_message, trailing_message};
+ghost use Rattle.codespan_renderer.specs.Inner.GivenLine.{look_view, line_view};
+ghost use Rattle.codespan_renderer.specs.Inner.GivenRows.{given_carets, given_cells_to_end, given_label_message};
+ghost use Rattle.codespan_picture.specs.RowParts.{carets, change, trailing_message};
 ghost use Rattle.codespan_picture.specs.RowStreams.{caret_row};
 ghost use Rattle.codespan_picture.specs.Rows.{trailing};
+ghost use Rattle.codespan_renderer.specs.Inner.LineSources.{sourced_line};
 
 use crate::term::renderer::SingleLabel;
-use crate::term::renderer::cells::{Cell, Cells};
+use crate::term::renderer::cells::Cell;
+use crate::term::renderer::char_cursor::CharCursor;
 use crate::term::renderer::line::{Line, Look};
+use crate::term::renderer::line_source::LineSource;
 use crate::term::renderer::messages::Messages;
 use crate::term::renderer::parts::{send_change, send_newline, send_opening, send_space};
 use crate::term::renderer::runs::{send_blank_run, send_run};
@@ -26,14 +29,14 @@ use std::io;
 
 /// Whether the label has a byte from `start` to before `end`.
 pub fn covers_part(label: &SingleLabel<'_>, start: usize, end: usize) -> bool
-    ensures { result ≡ covers_part (labelled label.now) start end }
+    ensures { result ≡ covers_part (single_label_view label.now) start end }
 {
     label.1.start.max(start) < label.1.end.min(end)
 }
 
 /// The greatest end of the labels, 0 where there is none.
 pub fn greatest_end(labels: &[SingleLabel<'_>]) -> usize
-    ensures { result ≡ greatest_end (all_labelled labels.now) }
+    ensures { result ≡ greatest_end (single_label_views labels.now) }
 {
     let mut greatest = 0;
     for label in labels {
@@ -44,7 +47,7 @@ pub fn greatest_end(labels: &[SingleLabel<'_>]) -> usize
 
 /// Whether the label has a byte of the character.
 pub fn covers(label: &SingleLabel<'_>, cell: Cell) -> bool
-    ensures { result ≡ covers (labelled label.now) cell }
+    ensures { result ≡ covers (single_label_view label.now) cell }
 {
     let first = label.1.start.max(cell.place);
     first < label.1.end && first - cell.place < cell.bytes
@@ -61,8 +64,8 @@ pub fn better(found: Option<LabelStyle>, style: LabelStyle) -> Option<LabelStyle
 }
 
 /// The style of the labels over a character: a primary one goes first.
-fn style_under(labels: &[SingleLabel<'_>], cell: Cell) -> Option<LabelStyle>
-    ensures { result ≡ style_under (all_labelled labels.now) cell }
+pub fn style_under(labels: &[SingleLabel<'_>], cell: Cell) -> Option<LabelStyle>
+    ensures { result ≡ style_under (single_label_views labels.now) cell }
 {
     let mut found = None;
     for label in labels {
@@ -101,24 +104,35 @@ pub fn end_caret_run<W: WriteStyle>(
     count: u128,
     style: Option<LabelStyle>,
 ) -> io::Result<()>
-    ensures { Sends (W.sink w.old) (caret_run look.entry.chars.now was count ++ change look.entry.severity was style) result (W.sink w.new) }
+    ensures { Sends (W.sink w.old)
+        (caret_run look.entry.chars.now was count ++ change look.entry.severity was style)
+        result (W.sink w.new) }
 {
     send_caret_run(w, look.chars, was, count)?;
     send_change(w, look.severity, was, style)
 }
 
-/// The carets under the characters of a line, and under the place after the last one.
-fn send_carets<W: WriteStyle>(w: &mut W, look: Look<'_>, line: Line<'_, '_>) -> io::Result<()>
-    ensures { Sends (W.sink w.old) (given_carets look.entry line.entry.labels.now (cells_to_end look.entry.tab_width line.entry.text.now)) result (W.sink w.new) }
+/// The carets under the characters of a line, of which the last is the place after the others.
+fn send_carets<W: WriteStyle, C: CharCursor>(
+    w: &mut W,
+    look: Look<'_>,
+    line: Line<'_, '_>,
+    mut characters: C,
+) -> io::Result<()>
+    requires left { C.left characters ≡ cells_to_end look.tab_width line.text.now }
+    requires labels { C.labels characters ≡ line.labels.now }
+    ensures { Sends (W.sink w.old)
+        (given_carets look.entry line.entry.labels.now (given_cells_to_end look.entry line.entry))
+        result (W.sink w.new) }
 {
     let end = greatest_end(line.labels);
     let mut was = None;
     let mut run = 0u128;
-    for cell in Cells::to_end(line.text, look.tab_width) {
+    while let Some(cell) = characters.next_cell() {
         if cell.place >= end {
             break;
         }
-        let style = style_under(line.labels, cell);
+        let style = characters.style_under(cell);
         if style != was {
             end_caret_run(w, look, was, run, style)?;
             run = 0;
@@ -135,7 +149,8 @@ pub fn send_message<W: WriteStyle>(
     severity: Severity,
     label: &SingleLabel<'_>,
 ) -> io::Result<()>
-    ensures { Sends (W.sink w.old) (label_message severity (labelled label.now).style (labelled label.now).message) result (W.sink w.new) }
+    ensures { Sends (W.sink w.old) (given_label_message severity label.now)
+        result (W.sink w.new) }
 {
     w.set_label(severity, label.0)?;
     send(w, label.2.as_bytes())?;
@@ -150,7 +165,8 @@ pub fn send_trailing<W: WriteStyle>(
     severity: Severity,
     trailing: Option<&SingleLabel<'_>>,
 ) -> io::Result<()>
-    ensures { Sends (W.sink w.old) (trailing_message severity (given_label trailing.entry)) result (W.sink w.new) }
+    ensures { Sends (W.sink w.old) (trailing_message severity (given_label trailing.entry))
+        result (W.sink w.new) }
 {
     if let Some(label) = trailing {
         send_space(w)?;
@@ -160,17 +176,21 @@ pub fn send_trailing<W: WriteStyle>(
 }
 
 /// The carets under a line, and the message that trails them.
-pub fn send_caret_row<W: WriteStyle>(
+pub fn send_caret_row<W: WriteStyle, S: LineSource>(
     w: &mut W,
     look: Look<'_>,
     line: Line<'_, '_>,
+    source: &S,
     messages: Messages<'_, '_>,
 ) -> io::Result<()>
-    requires { given_label messages.trailing ≡ trailing (all_labelled line.labels.now) }
-    ensures { Sends (W.sink w.old) (caret_row (look_of_given look.entry) (line_of_given line.entry) ++ newline) result (W.sink w.new) }
+    requires of { S.of source.now ≡ sourced_line look line }
+    requires trailing { given_label messages.trailing
+        ≡ trailing (single_label_views line.labels.now) }
+    ensures { Sends (W.sink w.old)
+        (caret_row (look_view look.entry) (line_view line.entry) ++ newline) result (W.sink w.new) }
 {
     send_opening(w, look, line)?;
-    send_carets(w, look, line)?;
+    send_carets(w, look, line, source.characters_to_end())?;
     send_trailing(w, look.severity, messages.trailing)?;
     send_newline(w)
 }

@@ -5,10 +5,11 @@ ghost use Rattle.std.specs.Option.{option_map};
 ghost use Rattle.codespan_base.specs.Streams.{newline};
 ghost use Rattle.codespan_base.specs.WriterLaw.{Sends};
 ghost use Rattle.codespan_base.specs.Characters.{start_text};
-ghost use Rattle.codespan_picture.specs.Given.{place_of_given, text_now};
+ghost use Rattle.codespan_picture.specs.Given.{locus_view, text_now};
 ghost use Rattle.codespan_picture.specs.RowParts.{severity_name};
 ghost use Rattle.codespan_picture.specs.RowStreams.{bracketed, leading_locus, start_row};
-ghost use Rattle.codespan_renderer.specs.Inner.GivenRows.{given_header, given_heading};
+ghost use Rattle.codespan_renderer.specs.Inner.GivenRows.{given_heading};
+ghost use Rattle.codespan_renderer.specs.Renderers.{rendered_header};
 
 use crate::term::renderer::Locus;
 use crate::term::renderer::parts::{send_gutter, send_locus, send_newline, send_space};
@@ -33,7 +34,8 @@ fn severity_name(severity: Severity) -> &'static str
 /// The place before a header, where there is one.
 #[tactic(auto, using(codespan_base::proofs::Sends::sendings), unfolding(codespan_picture::specs::RowStreams::leading_locus))]
 fn send_leading_locus<W: WriteStyle>(w: &mut W, locus: Option<&Locus>) -> io::Result<()>
-    ensures { Sends (W.sink w.old) (leading_locus (option_map (λ at. place_of_given at.now) locus.entry)) result (W.sink w.new) }
+    ensures { Sends (W.sink w.old)
+        (leading_locus (option_map (λ at. locus_view at.now) locus.entry)) result (W.sink w.new) }
 {
     if let Some(locus) = locus {
         send_locus(w, locus)?;
@@ -45,7 +47,8 @@ fn send_leading_locus<W: WriteStyle>(w: &mut W, locus: Option<&Locus>) -> io::Re
 /// The code in brackets, where one is there and not empty.
 #[tactic(auto, using(codespan_base::proofs::Sends::sendings), unfolding(codespan_picture::specs::RowStreams::bracketed))]
 fn send_bracketed<W: WriteStyle>(w: &mut W, code: Option<&str>) -> io::Result<()>
-    ensures { Sends (W.sink w.old) (bracketed (option_map text_now code.entry)) result (W.sink w.new) }
+    ensures { Sends (W.sink w.old) (bracketed (option_map text_now code.entry))
+        result (W.sink w.new) }
 {
     match code {
         Some(code) if !code.is_empty() => {
@@ -65,7 +68,8 @@ fn send_heading<W: WriteStyle>(
     severity: Severity,
     code: Option<&str>,
 ) -> io::Result<()>
-    ensures { Sends (W.sink w.old) (given_heading locus.entry severity code.entry) result (W.sink w.new) }
+    ensures { Sends (W.sink w.old) (given_heading locus.entry severity code.entry)
+        result (W.sink w.new) }
 {
     send_leading_locus(w, locus)?;
     w.set_header(severity)?;
@@ -81,7 +85,8 @@ pub fn send_header<W: WriteStyle>(
     code: Option<&str>,
     message: &str,
 ) -> io::Result<()>
-    ensures { Sends (W.sink w.old) (given_header locus.entry severity code.entry message.now) result (W.sink w.new) }
+    ensures { Sends (W.sink w.old) (rendered_header locus.entry severity code.entry message.now)
+        result (W.sink w.new) }
 {
     send_heading(w, locus, severity, code)?;
     w.set_header_message()?;
@@ -108,7 +113,8 @@ pub fn send_start<W: WriteStyle>(
     padding: usize,
     locus: &Locus,
 ) -> io::Result<()>
-    ensures { Sends (W.sink w.old) (start_row chars.now padding (place_of_given locus.now) ++ newline) result (W.sink w.new) }
+    ensures { Sends (W.sink w.old) (start_row chars.now padding (locus_view locus.now) ++ newline)
+        result (W.sink w.new) }
 {
     send_gutter(w, padding)?;
     w.set_source_border()?;

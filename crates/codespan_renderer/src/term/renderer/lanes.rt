@@ -3,8 +3,8 @@
 ghost use Rattle.std.specs.Prelude.{◌≡◌, ◌+◌, ◌<◌, ◌≤◌, ◌&&◌, ℕ, None, drop, max};
 ghost use Rattle.std.specs.Option.{option_map};
 ghost use Rattle.codespan_base.specs.WriterLaw.{Sends};
-ghost use Rattle.codespan_picture.specs.Given.{mark_of_given, part_of};
-ghost use Rattle.codespan_renderer.specs.Inner.GivenLine.{look_of_given, lanes_of_given, row_of_given, given_lane, given_lanes};
+ghost use Rattle.codespan_picture.specs.Given.{mark_view, multi_label_view};
+ghost use Rattle.codespan_renderer.specs.Inner.GivenLine.{look_view, lanes_of_given, lane_row_view, given_lane, given_lanes};
 ghost use Rattle.codespan_renderer.specs.Inner.GivenRows.{given_filled};
 ghost use Rattle.codespan_renderer.specs.Inner.MarksLeft.{mark_here, marks_after};
 ghost use Rattle.codespan_picture.specs.Lanes.{filling, lane_cells, corner_line, is_unbroken, turns_early, row_crossing, row_shape, underline_shape};
@@ -39,7 +39,8 @@ fn shape_in(
     lane: usize,
     part: MultiLabel<'_>,
 ) -> Shape
-    ensures { result ≡ row_shape layout leading (row_of_given row.entry) lane (part_of part.entry) }
+    ensures { result
+        ≡ row_shape layout leading (lane_row_view row.entry) lane (multi_label_view part.entry) }
 {
     match (row, part) {
         (LaneRow::Source, MultiLabel::Top(start)) if start <= leading => Shape::TopCorner,
@@ -71,7 +72,7 @@ fn underline_shape(
     lane: usize,
     part: MultiLabel<'_>,
 ) -> Shape
-    ensures { result ≡ underline_shape layout leading turning lane (part_of part.entry) }
+    ensures { result ≡ underline_shape layout leading turning lane (multi_label_view part.entry) }
 {
     match part {
         MultiLabel::Top(start) if goes_on(layout, leading, start) => Shape::Bar,
@@ -87,7 +88,7 @@ fn underline_shape(
 
 /// The mark whose corner stands left of the lane in its own underline row.
 fn crossing<'d>(row: LaneRow<'d>, lane: usize) -> Option<(usize, LabelStyle, MultiLabel<'d>)>
-    ensures { option_map mark_of_given result ≡ row_crossing (row_of_given row.entry) lane }
+    ensures { option_map mark_view result ≡ row_crossing (lane_row_view row.entry) lane }
 {
     match row {
         LaneRow::Underline(turning, style, part) if turning < lane => Some((turning, style, part)),
@@ -97,7 +98,7 @@ fn crossing<'d>(row: LaneRow<'d>, lane: usize) -> Option<(usize, LabelStyle, Mul
 
 /// The character of the line that runs right from a corner.
 fn corner_line(chars: &Chars<'_>, part: MultiLabel<'_>) -> char
-    ensures { result ≡ corner_line chars.now (part_of part.entry) }
+    ensures { result ≡ corner_line chars.now (multi_label_view part.entry) }
 {
     match part {
         MultiLabel::Top(_) => chars.multi_top,
@@ -113,7 +114,9 @@ fn send_filling<W: WriteStyle>(
     crossing: Option<(usize, LabelStyle, MultiLabel<'_>)>,
     count: usize,
 ) -> io::Result<()>
-    ensures { Sends (W.sink w.old) (filling look.entry.severity look.entry.chars.now (option_map mark_of_given crossing.entry) count) result (W.sink w.new) }
+    ensures { Sends (W.sink w.old)
+        (filling look.entry.severity look.entry.chars.now (option_map mark_view crossing.entry)
+        count) result (W.sink w.new) }
 {
     match crossing {
         None => send_blanks(w, count),
@@ -134,7 +137,8 @@ fn send_filled<W: WriteStyle>(
     style: LabelStyle,
     own: char,
 ) -> io::Result<()>
-    ensures { Sends (W.sink w.old) (given_filled look.entry crossing.entry style own) result (W.sink w.new) }
+    ensures { Sends (W.sink w.old) (given_filled look.entry crossing.entry style own)
+        result (W.sink w.new) }
 {
     send_filling(w, look, crossing, 1)?;
     send_label_glyph(w, look.severity, style, own)
@@ -150,7 +154,9 @@ fn send_lane_cells<W: WriteStyle>(
     style: LabelStyle,
     shape: Shape,
 ) -> io::Result<()>
-    ensures { Sends (W.sink w.old) (lane_cells look.entry.severity look.entry.chars.now (option_map mark_of_given crossing.entry) style shape) result (W.sink w.new) }
+    ensures { Sends (W.sink w.old)
+        (lane_cells look.entry.severity look.entry.chars.now (option_map mark_view crossing.entry)
+        style shape) result (W.sink w.new) }
 {
     match shape {
         Shape::Gap => send_filling(w, look, crossing, 2),
@@ -170,7 +176,9 @@ fn send_lane<W: WriteStyle>(
     lane: usize,
     mark: Option<(usize, LabelStyle, MultiLabel<'_>)>,
 ) -> io::Result<()>
-    ensures { Sends (W.sink w.old) (given_lane (look_of_given look.entry) leading row.entry lane mark.entry) result (W.sink w.new) }
+    ensures { Sends (W.sink w.old)
+        (given_lane (look_view look.entry) leading row.entry lane mark.entry)
+        result (W.sink w.new) }
 {
     let crossing = crossing(row, lane);
     match mark {
@@ -203,7 +211,8 @@ fn take_mark<'d>(
 
 /// The lane of the next mark, or the number of lanes where no mark is left.
 fn next_lane(lanes: Lanes<'_, '_>, next: usize) -> usize
-    ensures bare { (lane : ℕ) → lane < result → mark_here (drop next lanes.entry.marks.now) lane ≡ None }
+    ensures bare { (lane : ℕ) → lane < result
+        → mark_here (drop next lanes.entry.marks.now) lane ≡ None }
     ensures within { result ≤ lanes.entry.count }
 {
     if next < lanes.marks.len() {
@@ -219,7 +228,8 @@ const AT_ONCE: usize = 32;
 /// How many lanes from one on, up to that of the next mark, are blank: no line runs through them from a corner. No more than are sent at
 /// once.
 fn blank_lanes(row: LaneRow<'_>, lane: usize, until: usize) -> usize
-    ensures bare { (other : ℕ) → lane ≤ other → other < lane + result → row_crossing (row_of_given row.entry) other ≡ None }
+    ensures bare { (other : ℕ) → lane ≤ other → other < lane + result
+        → row_crossing (lane_row_view row.entry) other ≡ None }
     ensures within { lane + result ≤ max lane until }
     ensures few { result ≤ AT_ONCE }
 {
@@ -239,7 +249,9 @@ pub fn send_lanes<W: WriteStyle>(
     row: LaneRow<'_>,
     lanes: Lanes<'_, '_>,
 ) -> io::Result<()>
-    ensures { Sends (W.sink w.old) (given_lanes (look_of_given look.entry) leading row.entry (lanes_of_given lanes.entry)) result (W.sink w.new) }
+    ensures { Sends (W.sink w.old)
+        (given_lanes (look_view look.entry) leading row.entry (lanes_of_given lanes.entry))
+        result (W.sink w.new) }
 {
     if lanes.count == 0 {
         Ok(())
@@ -256,7 +268,9 @@ fn send_each_lane<W: WriteStyle>(
     row: LaneRow<'_>,
     lanes: Lanes<'_, '_>,
 ) -> io::Result<()>
-    ensures { Sends (W.sink w.old) (given_lanes (look_of_given look.entry) leading row.entry (lanes_of_given lanes.entry)) result (W.sink w.new) }
+    ensures { Sends (W.sink w.old)
+        (given_lanes (look_view look.entry) leading row.entry (lanes_of_given lanes.entry))
+        result (W.sink w.new) }
 {
     let mut next = 0;
     let mut lane = 0;

@@ -2,8 +2,8 @@
 
 ghost use Rattle.std.specs.Prelude.{◌≡◌, ◌<◌, length, false, IfSome};
 ghost use Rattle.std.specs.Option.{option_map_or};
-ghost use Rattle.codespan_picture.specs.Given.{labelled, all_labelled};
-ghost use Rattle.codespan_renderer.specs.Inner.Runs.{given_label, around_given, AreHanging, ArePieces};
+ghost use Rattle.codespan_picture.specs.Given.{single_label_view, single_label_views};
+ghost use Rattle.codespan_renderer.specs.Inner.Runs.{given_label, entry_given, AreHanging, ArePieces};
 ghost use Rattle.codespan_picture.specs.Rows.{trailing, last_with_end, is_overlapped, does_trail};
 
 use crate::term::renderer::SingleLabel;
@@ -24,7 +24,7 @@ impl<'row, 'd> Messages<'row, 'd> {
     /// The last of the labels with the greatest end trails, where it has a message and overlaps no other; each other one that has
     /// a message hangs.
     pub fn of(labels: &'row [SingleLabel<'d>]) -> Messages<'row, 'd>
-        ensures trailing { given_label result.trailing ≡ trailing (all_labelled labels.now) }
+        ensures trailing { given_label result.trailing ≡ trailing (single_label_views labels.now) }
         ensures hanging { AreHanging labels.now result.before.now result.after.now }
         ensures pieces { ArePieces labels.now result.before.now result.after.now }
     {
@@ -45,7 +45,8 @@ impl<'row, 'd> Messages<'row, 'd> {
 
 /// The place of the last label that ends there.
 fn last_with_end(labels: &[SingleLabel<'_>], end: usize) -> Option<usize>
-    ensures value { last_with_end end (all_labelled labels.now) ≡ around_given labels.now result }
+    ensures value { last_with_end end (single_label_views labels.now)
+        ≡ entry_given labels.now result }
     ensures within { IfSome result (λ place. place < length labels.now) }
 {
     for place in (0..labels.len()).rev() {
@@ -59,7 +60,8 @@ fn last_with_end(labels: &[SingleLabel<'_>], end: usize) -> Option<usize>
 /// Whether the message of the label at this place trails: it has one, and overlaps no other label of the line.
 fn does_trail(labels: &[SingleLabel<'_>], place: usize) -> bool
     requires { place < length labels.now }
-    ensures { result ≡ option_map_or does_trail (around_given labels.now (Some place)) false }
+    ensures { result ≡ option_map_or (does_trail (single_label_views labels.now))
+        (entry_given labels.now (Some place)) false }
 {
     let label = &labels[place];
     !label.2.is_empty()
@@ -69,7 +71,7 @@ fn does_trail(labels: &[SingleLabel<'_>], place: usize) -> bool
 
 /// Whether one of the others overlaps the label.
 fn is_overlapped(label: &SingleLabel<'_>, others: &[SingleLabel<'_>]) -> bool
-    ensures { result ≡ is_overlapped (labelled label.now) (all_labelled others.now) }
+    ensures { result ≡ is_overlapped (single_label_view label.now) (single_label_views others.now) }
 {
     for other in others {
         if covers_part(label, other.1.start, other.1.end) {

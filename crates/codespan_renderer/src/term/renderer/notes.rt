@@ -4,7 +4,7 @@ ghost use Rattle.std.specs.Prelude.{◌++◌};
 ghost use Rattle.std.specs.Str.Lines.{lines};
 ghost use Rattle.codespan_base.specs.Streams.{newline};
 ghost use Rattle.codespan_base.specs.WriterLaw.{Sends};
-ghost use Rattle.codespan_renderer.specs.Inner.GivenLine.{look_of_given, lanes_of_given};
+ghost use Rattle.codespan_renderer.specs.Inner.GivenLine.{look_view, lanes_of_given};
 ghost use Rattle.codespan_picture.specs.RowStreams.{empty_row, break_row, first_note_row, later_note_row, note_stream};
 
 use crate::term::renderer::lanes::{LaneRow, send_lanes};
@@ -18,7 +18,9 @@ use std::io;
 
 /// A row of a snippet without text.
 pub fn send_empty<W: WriteStyle>(w: &mut W, look: Look<'_>, lanes: Lanes<'_, '_>) -> io::Result<()>
-    ensures { Sends (W.sink w.old) (empty_row (look_of_given look.entry) (lanes_of_given lanes.entry) ++ newline) result (W.sink w.new) }
+    ensures { Sends (W.sink w.old)
+        (empty_row (look_view look.entry) (lanes_of_given lanes.entry) ++ newline)
+        result (W.sink w.new) }
 {
     send_gutter(w, look.padding)?;
     send_border(w, look.chars)?;
@@ -28,7 +30,9 @@ pub fn send_empty<W: WriteStyle>(w: &mut W, look: Look<'_>, lanes: Lanes<'_, '_>
 
 /// The row of a break.
 pub fn send_break<W: WriteStyle>(w: &mut W, look: Look<'_>, lanes: Lanes<'_, '_>) -> io::Result<()>
-    ensures { Sends (W.sink w.old) (break_row (look_of_given look.entry) (lanes_of_given lanes.entry) ++ newline) result (W.sink w.new) }
+    ensures { Sends (W.sink w.old)
+        (break_row (look_view look.entry) (lanes_of_given lanes.entry) ++ newline)
+        result (W.sink w.new) }
 {
     send_gutter(w, look.padding)?;
     send_break_border(w, look.chars)?;
@@ -43,7 +47,8 @@ fn send_first_piece<W: WriteStyle>(
     padding: usize,
     piece: &str,
 ) -> io::Result<()>
-    ensures { Sends (W.sink w.old) (first_note_row chars.now padding piece.now ++ newline) result (W.sink w.new) }
+    ensures { Sends (W.sink w.old) (first_note_row chars.now padding piece.now ++ newline)
+        result (W.sink w.new) }
 {
     send_gutter(w, padding)?;
     w.set_note_bullet()?;
@@ -56,7 +61,8 @@ fn send_first_piece<W: WriteStyle>(
 
 /// A later row of a note.
 fn send_later_piece<W: WriteStyle>(w: &mut W, padding: usize, piece: &str) -> io::Result<()>
-    ensures { Sends (W.sink w.old) (later_note_row padding piece.now ++ newline) result (W.sink w.new) }
+    ensures { Sends (W.sink w.old) (later_note_row padding piece.now ++ newline)
+        result (W.sink w.new) }
 {
     send_gutter(w, padding)?;
     send_space(w)?;
@@ -72,7 +78,8 @@ pub fn send_note<W: WriteStyle>(
     padding: usize,
     message: &str,
 ) -> io::Result<()>
-    ensures { Sends (W.sink w.old) (note_stream chars.now padding (lines message.now)) result (W.sink w.new) }
+    ensures { Sends (W.sink w.old) (note_stream chars.now padding (lines message.now))
+        result (W.sink w.new) }
 {
     let mut pieces = message.lines();
     let Some(first) = pieces.next() else {

@@ -3,8 +3,8 @@
 ghost use Rattle.std.specs.Prelude.{◌≡◌, length, decimal};
 ghost use Rattle.codespan_base.specs.Streams.{space, newline};
 ghost use Rattle.codespan_base.specs.WriterLaw.{Sends};
-ghost use Rattle.codespan_picture.specs.Given.{place_of_given};
-ghost use Rattle.codespan_renderer.specs.Inner.GivenLine.{look_of_given, line_of_given};
+ghost use Rattle.codespan_picture.specs.Given.{locus_view};
+ghost use Rattle.codespan_renderer.specs.Inner.GivenLine.{look_view, line_view};
 ghost use Rattle.codespan_picture.specs.Lanes.{label_glyph};
 ghost use Rattle.codespan_picture.specs.RowParts.{gutter, numbered_gutter, border, break_border, locus, change};
 ghost use Rattle.codespan_picture.specs.RowStreams.{opening};
@@ -126,7 +126,7 @@ pub fn send_change<W: WriteStyle>(
 /// Where a snippet is: name, line number and column number.
 #[inline(always)]
 pub fn send_locus<W: WriteStyle>(w: &mut W, at: &Locus) -> io::Result<()>
-    ensures { Sends (W.sink w.old) (locus (place_of_given at.now)) result (W.sink w.new) }
+    ensures { Sends (W.sink w.old) (locus (locus_view at.now)) result (W.sink w.new) }
 {
     send(w, at.name.as_bytes())?;
     send(w, b":")?;
@@ -139,7 +139,8 @@ pub fn send_locus<W: WriteStyle>(w: &mut W, at: &Locus) -> io::Result<()>
 /// The beginning of each row under a line.
 #[inline(always)]
 pub fn send_opening<W: WriteStyle>(w: &mut W, look: Look<'_>, line: Line<'_, '_>) -> io::Result<()>
-    ensures { Sends (W.sink w.old) (opening (look_of_given look.entry) (line_of_given line.entry)) result (W.sink w.new) }
+    ensures { Sends (W.sink w.old) (opening (look_view look.entry) (line_view line.entry))
+        result (W.sink w.new) }
 {
     send_gutter(w, look.padding)?;
     send_border(w, look.chars)?;

@@ -1,24 +1,26 @@
 //! The pointers under the carets of a line, and the messages that hang from them.
 
-ghost use Rattle.std.specs.Prelude.{◌≡◌, ◌++◌, filter};
+ghost use Rattle.std.specs.Prelude.{◌≡◌, ◌≤◌, ◌++◌, filter};
 ghost use Rattle.std.specs.List.{list_any};
 ghost use Rattle.codespan_base.specs.Labels.{has_message};
 ghost use Rattle.codespan_base.specs.Streams.{newline, blanks};
 ghost use Rattle.codespan_base.specs.WriterLaw.{Sends};
 ghost use Rattle.codespan_picture.specs.Cells.{cells};
-ghost use Rattle.codespan_picture.specs.Given.{labelled, all_labelled};
-ghost use Rattle.codespan_renderer.specs.Inner.GivenLine.{look_of_given, line_of_given};
-ghost use Rattle.codespan_renderer.specs.Inner.GivenRows.{given_cells, given_hanging, given_hanging_rows, given_messages, given_pointers};
+ghost use Rattle.codespan_picture.specs.Given.{single_label_view, single_label_views};
+ghost use Rattle.codespan_renderer.specs.Inner.GivenLine.{look_view, line_view};
+ghost use Rattle.codespan_renderer.specs.Inner.GivenRows.{given_cells, given_hanging, given_hanging_rows, given_messages, given_pointers_before};
 ghost use Rattle.codespan_picture.specs.Lanes.{label_glyph};
 ghost use Rattle.codespan_picture.specs.Rows.{hanging};
 ghost use Rattle.codespan_picture.specs.RowParts.{cells_before, greatest_start, pointers, starts_in};
 ghost use Rattle.codespan_picture.specs.RowStreams.{pointer_row, hanging_row};
-ghost use Rattle.codespan_renderer.specs.Inner.Runs.{best_from, pointer_found, AreHanging};
+ghost use Rattle.codespan_renderer.specs.Inner.Runs.{best_from, pointer_found, AreHanging, ArePieces};
+ghost use Rattle.codespan_renderer.specs.Inner.LineSources.{sourced_line};
 
 use crate::term::renderer::SingleLabel;
 use crate::term::renderer::carets::{better, send_message};
 use crate::term::renderer::cells::{Cell, Cells};
 use crate::term::renderer::line::{Line, Look};
+use crate::term::renderer::line_source::LineSource;
 use crate::term::renderer::messages::Messages;
 use crate::term::renderer::parts::{send_label_glyph, send_newline, send_opening};
 use crate::term::renderer::runs::send_blank_run;
@@ -28,7 +30,7 @@ use std::io;
 
 /// The greatest start of the labels, 0 where there is none.
 pub fn greatest_start(labels: &[SingleLabel<'_>]) -> usize
-    ensures { result ≡ greatest_start (all_labelled labels.now) }
+    ensures { result ≡ greatest_start (single_label_views labels.now) }
 {
     let mut greatest = 0;
     for label in labels {
@@ -39,7 +41,7 @@ pub fn greatest_start(labels: &[SingleLabel<'_>]) -> usize
 
 /// Whether the label starts in the character.
 fn starts_in(cell: Cell, label: &SingleLabel<'_>) -> bool
-    ensures { result ≡ starts_in cell (labelled label.now) }
+    ensures { result ≡ starts_in cell (single_label_view label.now) }
 {
     match label.1.start.checked_sub(cell.place) {
         Some(inside) => inside < cell.bytes,
@@ -53,7 +55,8 @@ fn best_start(
     labels: &[SingleLabel<'_>],
     cell: Cell,
 ) -> Option<LabelStyle>
-    ensures { result ≡ best_from (starts_in cell) found (filter has_message (all_labelled labels.now)) }
+    ensures { result
+        ≡ best_from (starts_in cell) found (filter has_message (single_label_views labels.now)) }
 {
     let mut best = found;
     for label in labels {
@@ -71,7 +74,7 @@ fn pointer_in(
     cell: Cell,
 ) -> Option<LabelStyle>
     requires { AreHanging labels.now messages.before.now messages.after.now }
-    ensures { result ≡ pointer_found (hanging (all_labelled labels.now)) cell }
+    ensures { result ≡ pointer_found (hanging (single_label_views labels.now)) cell }
 {
     best_start(
         best_start(None, messages.before, cell),
@@ -88,14 +91,16 @@ pub fn send_pointer<W: WriteStyle>(
     blank: u128,
     style: LabelStyle,
 ) -> io::Result<()>
-    ensures { Sends (W.sink w.old) (blanks blank ++ label_glyph look.entry.severity style look.entry.chars.now.pointer_left) result (W.sink w.new) }
+    ensures { Sends (W.sink w.old)
+        (blanks blank ++ label_glyph look.entry.severity style look.entry.chars.now.pointer_left)
+        result (W.sink w.new) }
 {
     send_blank_run(w, blank)?;
     send_label_glyph(w, look.severity, style, look.chars.pointer_left)
 }
 
-/// The pointers of the characters of a line that begin before a place.
-fn send_pointers<W: WriteStyle>(
+/// The pointers of the characters of a line that begin before a place, by a walk that asks each label at each of them.
+pub fn send_scanned_pointers<W: WriteStyle>(
     w: &mut W,
     look: Look<'_>,
     line: Line<'_, '_>,
@@ -103,7 +108,8 @@ fn send_pointers<W: WriteStyle>(
     before: usize,
 ) -> io::Result<()>
     requires { AreHanging line.labels.now messages.before.now messages.after.now }
-    ensures { Sends (W.sink w.old) (given_pointers look.entry line.entry (cells_before before (given_cells look.entry line.entry))) result (W.sink w.new) }
+    ensures { Sends (W.sink w.old) (given_pointers_before look.entry line.entry before)
+        result (W.sink w.new) }
 {
     let reach = greatest_start(line.labels);
     let mut blank = 0u128;
@@ -125,75 +131,94 @@ fn send_pointers<W: WriteStyle>(
 }
 
 /// The pointers under a line.
-fn send_pointer_row<W: WriteStyle>(
+fn send_pointer_row<W: WriteStyle, S: LineSource>(
     w: &mut W,
     look: Look<'_>,
     line: Line<'_, '_>,
+    source: &S,
     messages: Messages<'_, '_>,
 ) -> io::Result<()>
-    requires { AreHanging line.labels.now messages.before.now messages.after.now }
-    ensures { Sends (W.sink w.old) (pointer_row (look_of_given look.entry) (line_of_given line.entry) ++ newline) result (W.sink w.new) }
+    requires of { S.of source.now ≡ sourced_line look line }
+    requires hanging { AreHanging line.labels.now messages.before.now messages.after.now }
+    ensures { Sends (W.sink w.old)
+        (pointer_row (look_view look.entry) (line_view line.entry) ++ newline)
+        result (W.sink w.new) }
 {
     send_opening(w, look, line)?;
-    send_pointers(w, look, line, messages, usize::MAX)?;
+    source.send_pointers(w, look, line, messages)?;
     send_newline(w)
 }
 
 /// A message under its pointer.
-fn send_hanging_row<W: WriteStyle>(
+fn send_hanging_row<W: WriteStyle, S: LineSource>(
     w: &mut W,
     look: Look<'_>,
     line: Line<'_, '_>,
+    source: &S,
     messages: Messages<'_, '_>,
     label: &SingleLabel<'_>,
 ) -> io::Result<()>
-    requires { AreHanging line.labels.now messages.before.now messages.after.now }
-    ensures { Sends (W.sink w.old) (hanging_row (look_of_given look.entry) (line_of_given line.entry) (labelled label.now) ++ newline) result (W.sink w.new) }
+    requires of { S.of source.now ≡ sourced_line look line }
+    requires hanging { AreHanging line.labels.now messages.before.now messages.after.now }
+    requires near { (single_label_view label.now).start
+        ≤ greatest_start (single_label_views line.labels.now) }
+    ensures { Sends (W.sink w.old)
+        (hanging_row (look_view look.entry) (line_view line.entry) (single_label_view label.now)
+        ++ newline) result (W.sink w.new) }
 {
     send_opening(w, look, line)?;
-    send_pointers(w, look, line, messages, label.1.start)?;
+    source.send_pointers_before(w, look, line, messages, label.1.start)?;
     send_message(w, look.severity, label)?;
     send_newline(w)
 }
 
 /// The rows of the messages that hang among these labels, the last one first.
-fn send_hanging_rows<W: WriteStyle>(
+fn send_hanging_rows<W: WriteStyle, S: LineSource>(
     w: &mut W,
     look: Look<'_>,
     line: Line<'_, '_>,
+    source: &S,
     messages: Messages<'_, '_>,
     labels: &[SingleLabel<'_>],
 ) -> io::Result<()>
-    requires { AreHanging line.labels.now messages.before.now messages.after.now }
-    ensures { Sends (W.sink w.old) (given_hanging look.entry line.entry labels.now) result (W.sink w.new) }
+    requires of { S.of source.now ≡ sourced_line look line }
+    requires hanging { AreHanging line.labels.now messages.before.now messages.after.now }
+    requires near { greatest_start (single_label_views labels.now)
+        ≤ greatest_start (single_label_views line.labels.now) }
+    ensures { Sends (W.sink w.old) (given_hanging look.entry line.entry labels.now)
+        result (W.sink w.new) }
 {
     for label in labels.iter().rev() {
         if label.2.is_empty() {
             continue;
         }
-        send_hanging_row(w, look, line, messages, label)?;
+        send_hanging_row(w, look, line, source, messages, label)?;
     }
     Ok(())
 }
 
 /// The pointers, and a row for each message that hangs.
-fn send_pointers_and_messages<W: WriteStyle>(
+fn send_pointers_and_messages<W: WriteStyle, S: LineSource>(
     w: &mut W,
     look: Look<'_>,
     line: Line<'_, '_>,
+    source: &S,
     messages: Messages<'_, '_>,
 ) -> io::Result<()>
-    requires { AreHanging line.labels.now messages.before.now messages.after.now }
-    ensures { Sends (W.sink w.old) (given_messages look.entry line.entry messages.entry) result (W.sink w.new) }
+    requires of { S.of source.now ≡ sourced_line look line }
+    requires hanging { AreHanging line.labels.now messages.before.now messages.after.now }
+    requires pieces { ArePieces line.labels.now messages.before.now messages.after.now }
+    ensures { Sends (W.sink w.old) (given_messages look.entry line.entry messages.entry)
+        result (W.sink w.new) }
 {
-    send_pointer_row(w, look, line, messages)?;
-    send_hanging_rows(w, look, line, messages, messages.after)?;
-    send_hanging_rows(w, look, line, messages, messages.before)
+    send_pointer_row(w, look, line, source, messages)?;
+    send_hanging_rows(w, look, line, source, messages, messages.after)?;
+    send_hanging_rows(w, look, line, source, messages, messages.before)
 }
 
 /// Whether one of the labels has a message.
 pub fn has_any_message(labels: &[SingleLabel<'_>]) -> bool
-    ensures { result ≡ list_any has_message (all_labelled labels.now) }
+    ensures { result ≡ list_any has_message (single_label_views labels.now) }
 {
     for label in labels {
         if !label.2.is_empty() {
@@ -204,17 +229,21 @@ pub fn has_any_message(labels: &[SingleLabel<'_>]) -> bool
 }
 
 /// The pointers, and a row for each message that hangs, where one does.
-pub fn send_all_hanging<W: WriteStyle>(
+pub fn send_all_hanging<W: WriteStyle, S: LineSource>(
     w: &mut W,
     look: Look<'_>,
     line: Line<'_, '_>,
+    source: &S,
     messages: Messages<'_, '_>,
 ) -> io::Result<()>
-    requires { AreHanging line.labels.now messages.before.now messages.after.now }
-    ensures { Sends (W.sink w.old) (given_hanging_rows look.entry line.entry) result (W.sink w.new) }
+    requires of { S.of source.now ≡ sourced_line look line }
+    requires hanging { AreHanging line.labels.now messages.before.now messages.after.now }
+    requires pieces { ArePieces line.labels.now messages.before.now messages.after.now }
+    ensures { Sends (W.sink w.old) (given_hanging_rows look.entry line.entry)
+        result (W.sink w.new) }
 {
     if !has_any_message(messages.before) && !has_any_message(messages.after) {
         return Ok(());
     }
-    send_pointers_and_messages(w, look, line, messages)
+    send_pointers_and_messages(w, look, line, source, messages)
 }

@@ -2,7 +2,7 @@
 
 ghost use Rattle.std.specs.Prelude.{◌≡◌, ◌||◌, ◌≤◌, ℕ, map, nat_le};
 ghost use Rattle.codespan_picture.specs.declared.cells.Cell as cell;
-ghost use Rattle.codespan_picture.specs.Given.{mark_of_given, part_of};
+ghost use Rattle.codespan_picture.specs.Given.{mark_view, multi_label_view};
 ghost use Rattle.codespan_picture.specs.RowParts.{takes_in};
 ghost use Rattle.codespan_renderer.specs.Inner.PrimaryMarks.{AreMarksOf, is_from, is_marked};
 
@@ -22,7 +22,7 @@ pub struct PrimaryMarks {
 impl PrimaryMarks {
     /// What these marks take in.
     pub fn of(marks: &[(usize, LabelStyle, MultiLabel<'_>)]) -> PrimaryMarks
-        ensures { AreMarksOf (map mark_of_given marks.now) result }
+        ensures { AreMarksOf (map mark_view marks.now) result }
     {
         let mut found = PrimaryMarks { from: None, to: 0 };
         for mark in marks {
@@ -35,7 +35,8 @@ impl PrimaryMarks {
 
     /// The same, and what one more mark takes in.
     fn with(self, part: MultiLabel<'_>) -> PrimaryMarks
-        ensures { (c : cell.Cell) → 1 ≤ c.bytes → is_marked result c ≡ (is_marked self c || takes_in c (part_of part.entry)) }
+        ensures { (c : cell.Cell) → 1 ≤ c.bytes → is_marked result c
+            ≡ (is_marked self c || takes_in c (multi_label_view part.entry)) }
     {
         match part {
             MultiLabel::Top(start) => PrimaryMarks {

@@ -1,24 +1,28 @@
 //! The row of a line's source, and all rows of a line.
 
-ghost use Rattle.std.specs.Prelude.{◌≡◌, ◌≤◌, ◌++◌, ◌&&◌, ◌==◌, map, true};
+ghost use Rattle.std.specs.Prelude.{◌≡◌, ◌≤◌, ◌++◌, ◌==◌, map, true};
 ghost use Rattle.std.specs.List.{list_any};
 ghost use Rattle.codespan_base.specs.Labels.{LaneMark, is_primary, is_primary_style};
 ghost use Rattle.codespan_base.specs.Streams.{blanks, bytes, newline};
 ghost use Rattle.codespan_base.specs.WriterLaw.{Sends};
-ghost use Rattle.codespan_picture.specs.Carets.{covers};
-ghost use Rattle.codespan_picture.specs.Given.{all_labelled, mark_of_given};
-ghost use Rattle.codespan_renderer.specs.Inner.GivenLine.{look_of_given, line_of_given};
+ghost use Rattle.codespan_picture.specs.Cells.{cells};
+ghost use Rattle.codespan_picture.specs.Given.{single_label_views, mark_view};
+ghost use Rattle.codespan_renderer.specs.Inner.GivenLine.{look_view, line_view};
 ghost use Rattle.codespan_renderer.specs.Inner.GivenRows.{given_caret_rows, given_source_lanes};
 ghost use Rattle.codespan_renderer.specs.Inner.PrimaryMarks.{AreMarksOf};
 ghost use Rattle.codespan_renderer.specs.Inner.Runs.{given_label};
+ghost use Rattle.codespan_renderer.specs.Inner.LineSources.{sourced_line};
+ghost use Rattle.codespan_renderer.specs.Inner.Sweeps.{is_covered};
 ghost use Rattle.codespan_picture.specs.Rows.{Look as LookWord, rows_of, trailing};
 ghost use Rattle.codespan_picture.specs.RowParts.{border, change, coloured_text, source_style};
 ghost use Rattle.codespan_picture.specs.RowStreams.{source_row, stream_of_rows};
 
 use crate::term::renderer::carets::{covers, send_caret_row};
-use crate::term::renderer::cells::{Cell, Cells};
+use crate::term::renderer::cells::Cell;
+use crate::term::renderer::char_cursor::CharCursor;
 use crate::term::renderer::lanes::{LaneRow, send_lanes};
 use crate::term::renderer::line::{Line, Look};
+use crate::term::renderer::line_source::LineSource;
 use crate::term::renderer::messages::Messages;
 use crate::term::renderer::parts::{
     send_border, send_change, send_newline, send_numbered_gutter, send_space,
@@ -33,8 +37,8 @@ use codespan_base::term::config::sending::{send, send_blanks};
 use std::io;
 
 /// Whether a primary label has a byte of the character.
-fn has_primary_label(labels: &[SingleLabel<'_>], cell: Cell) -> bool
-    ensures { result ≡ list_any (λ x. is_primary x && covers x cell) (all_labelled labels.now) }
+pub fn has_primary_label(labels: &[SingleLabel<'_>], cell: Cell) -> bool
+    ensures { result ≡ is_covered is_primary (single_label_views labels.now) cell }
 {
     for label in labels {
         if label.0 == LabelStyle::Primary && covers(label, cell) {
@@ -45,12 +49,21 @@ fn has_primary_label(labels: &[SingleLabel<'_>], cell: Cell) -> bool
 }
 
 /// The style of a character of the source: primary where a primary label takes it in, of those over several lines by these marks.
-fn text_style(line: Line<'_, '_>, marks: PrimaryMarks, cell: Cell) -> Option<LabelStyle>
+fn text_style<C: CharCursor>(
+    characters: &mut C,
+    marks: PrimaryMarks,
+    line: Line<'_, '_>,
+    cell: Cell,
+) -> Option<LabelStyle>
     requires some { 1 ≤ cell.bytes }
-    requires marks { AreMarksOf (map mark_of_given line.lanes.marks.now) marks }
-    ensures { result ≡ source_style (line_of_given line.entry) cell }
+    requires returned { C.has_returned cell characters.old }
+    requires labels { C.labels characters.old ≡ line.labels.now }
+    requires marks { AreMarksOf (map mark_view line.lanes.marks.now) marks }
+    ensures left { C.left characters.new ≡ C.left characters.old }
+    ensures labels { C.labels characters.new ≡ C.labels characters.old }
+    ensures style { result ≡ source_style (line_view line.entry) cell }
 {
-    if has_primary_label(line.labels, cell) || marks.take_in(cell) {
+    if characters.has_primary(cell) || marks.take_in(cell) {
         Some(LabelStyle::Primary)
     } else {
         None
@@ -59,7 +72,7 @@ fn text_style(line: Line<'_, '_>, marks: PrimaryMarks, cell: Cell) -> Option<Lab
 
 /// Whether one of these labels is primary.
 fn has_primary(labels: &[SingleLabel<'_>]) -> bool
-    ensures { result ≡ list_any is_primary (all_labelled labels.now) }
+    ensures { result ≡ list_any is_primary (single_label_views labels.now) }
 {
     for label in labels {
         if label.0 == LabelStyle::Primary {
@@ -71,7 +84,8 @@ fn has_primary(labels: &[SingleLabel<'_>]) -> bool
 
 /// Whether one of these marks is primary.
 fn has_primary_mark(marks: &[(usize, LabelStyle, MultiLabel<'_>)]) -> bool
-    ensures { result ≡ list_any (λ (m : LaneMark). is_primary_style m.style) (map mark_of_given marks.now) }
+    ensures { result
+        ≡ list_any (λ (m : LaneMark). is_primary_style m.style) (map mark_view marks.now) }
 {
     for mark in marks {
         if mark.1 == LabelStyle::Primary {
@@ -91,26 +105,31 @@ fn has_tab(text: &str) -> bool
 /// Whether the text of a line is seen to be drawn as it stands: it has no tab, and no label of the line is primary.
 #[inline(always)]
 pub fn is_plain(line: Line<'_, '_>) -> bool
-    ensures { result ≡ true → (look : LookWord) → coloured_text look (line_of_given line.entry) ≡ bytes line.entry.text.now }
+    ensures { result ≡ true → (look : LookWord)
+        → coloured_text look (line_view line.entry) ≡ bytes line.entry.text.now }
 {
     !has_primary(line.labels) && !has_primary_mark(line.lanes.marks) && !has_tab(line.text)
 }
 
-/// The text of a line with a tab as blanks, and with marks where its style changes.
-fn send_coloured_text<W: WriteStyle>(
+/// The text of a line, of which these are the characters, with a tab as blanks, and with marks where its style changes.
+fn send_coloured_text<W: WriteStyle, C: CharCursor>(
     w: &mut W,
     look: Look<'_>,
     line: Line<'_, '_>,
+    mut characters: C,
 ) -> io::Result<()>
-    ensures { Sends (W.sink w.old) (coloured_text (look_of_given look.entry) (line_of_given line.entry)) result (W.sink w.new) }
+    requires left { C.left characters ≡ cells look.tab_width line.text.now }
+    requires labels { C.labels characters ≡ line.labels.now }
+    ensures { Sends (W.sink w.old) (coloured_text (look_view look.entry) (line_view line.entry))
+        result (W.sink w.new) }
 {
     let text = line.text.as_bytes();
     let marks = PrimaryMarks::of(line.lanes.marks);
     let mut was = None;
     let mut start = 0;
     let mut end = 0;
-    for cell in Cells::new(line.text, look.tab_width) {
-        let style = text_style(line, marks, cell);
+    while let Some(cell) = characters.next_cell() {
+        let style = text_style(&mut characters, marks, line, cell);
         let next = end + cell.bytes;
         if cell.code == '\t' {
             send_tab(w, look, &text[start..end], was, style, cell.width)?;
@@ -127,13 +146,20 @@ fn send_coloured_text<W: WriteStyle>(
 }
 
 /// The text of a line: at once where it is plain.
-fn send_text<W: WriteStyle>(w: &mut W, look: Look<'_>, line: Line<'_, '_>) -> io::Result<()>
-    ensures { Sends (W.sink w.old) (coloured_text (look_of_given look.entry) (line_of_given line.entry)) result (W.sink w.new) }
+fn send_text<W: WriteStyle, S: LineSource>(
+    w: &mut W,
+    look: Look<'_>,
+    line: Line<'_, '_>,
+    source: &S,
+) -> io::Result<()>
+    requires of { S.of source.now ≡ sourced_line look line }
+    ensures { Sends (W.sink w.old) (coloured_text (look_view look.entry) (line_view line.entry))
+        result (W.sink w.new) }
 {
     if is_plain(line) {
         send(w, line.text.as_bytes())?;
     } else {
-        send_coloured_text(w, look, line)?;
+        send_coloured_text(w, look, line, source.characters())?;
     }
     Ok(())
 }
@@ -146,7 +172,8 @@ pub fn end_text_run<W: WriteStyle>(
     was: Option<LabelStyle>,
     style: Option<LabelStyle>,
 ) -> io::Result<()>
-    ensures { Sends (W.sink w.old) (bytes text.now ++ change look.entry.severity was style) result (W.sink w.new) }
+    ensures { Sends (W.sink w.old) (bytes text.now ++ change look.entry.severity was style)
+        result (W.sink w.new) }
 {
     send(w, text)?;
     send_change(w, look.severity, was, style)
@@ -161,7 +188,9 @@ pub fn send_tab<W: WriteStyle>(
     style: Option<LabelStyle>,
     width: usize,
 ) -> io::Result<()>
-    ensures { Sends (W.sink w.old) (bytes text.now ++ change look.entry.severity was style ++ blanks width) result (W.sink w.new) }
+    ensures { Sends (W.sink w.old)
+        (bytes text.now ++ change look.entry.severity was style ++ blanks width)
+        result (W.sink w.new) }
 {
     end_text_run(w, look, text, was, style)?;
     send_blanks(w, width)
@@ -174,7 +203,8 @@ pub fn send_source_lanes<W: WriteStyle>(
     look: Look<'_>,
     line: Line<'_, '_>,
 ) -> io::Result<()>
-    ensures { Sends (W.sink w.old) (given_source_lanes look.entry line.entry) result (W.sink w.new) }
+    ensures { Sends (W.sink w.old) (given_source_lanes look.entry line.entry)
+        result (W.sink w.new) }
 {
     send_numbered_gutter(w, look.padding, line.number)?;
     send_border(w, look.chars)?;
@@ -183,37 +213,56 @@ pub fn send_source_lanes<W: WriteStyle>(
 }
 
 /// A line of the source.
-fn send_source_row<W: WriteStyle>(w: &mut W, look: Look<'_>, line: Line<'_, '_>) -> io::Result<()>
-    ensures { Sends (W.sink w.old) (source_row (look_of_given look.entry) (line_of_given line.entry) ++ newline) result (W.sink w.new) }
+fn send_source_row<W: WriteStyle, S: LineSource>(
+    w: &mut W,
+    look: Look<'_>,
+    line: Line<'_, '_>,
+    source: &S,
+) -> io::Result<()>
+    requires of { S.of source.now ≡ sourced_line look line }
+    ensures { Sends (W.sink w.old)
+        (source_row (look_view look.entry) (line_view line.entry) ++ newline)
+        result (W.sink w.new) }
 {
     send_source_lanes(w, look, line)?;
-    send_text(w, look, line)?;
+    send_text(w, look, line, source)?;
     send_newline(w)
 }
 
 /// The carets under a line that has labels.
-fn send_caret_rows<W: WriteStyle>(
+fn send_caret_rows<W: WriteStyle, S: LineSource>(
     w: &mut W,
     look: Look<'_>,
     line: Line<'_, '_>,
+    source: &S,
     messages: Messages<'_, '_>,
 ) -> io::Result<()>
-    requires { given_label messages.trailing ≡ trailing (all_labelled line.labels.now) }
+    requires of { S.of source.now ≡ sourced_line look line }
+    requires trailing { given_label messages.trailing
+        ≡ trailing (single_label_views line.labels.now) }
     ensures { Sends (W.sink w.old) (given_caret_rows look.entry line.entry) result (W.sink w.new) }
 {
     if !line.labels.is_empty() {
-        send_caret_row(w, look, line, messages)?;
+        send_caret_row(w, look, line, source, messages)?;
     }
     Ok(())
 }
 
 /// All rows of a line: its source, its carets, what hangs from them, and its underlines.
-pub fn send_line<W: WriteStyle>(w: &mut W, look: Look<'_>, line: Line<'_, '_>) -> io::Result<()>
-    ensures { Sends (W.sink w.old) (stream_of_rows (look_of_given look.entry) (rows_of (line_of_given line.entry))) result (W.sink w.new) }
+pub fn send_line<W: WriteStyle, S: LineSource>(
+    w: &mut W,
+    look: Look<'_>,
+    line: Line<'_, '_>,
+    source: &S,
+) -> io::Result<()>
+    requires of { S.of source.now ≡ sourced_line look line }
+    ensures { Sends (W.sink w.old)
+        (stream_of_rows (look_view look.entry) (rows_of (line_view line.entry)))
+        result (W.sink w.new) }
 {
     let messages = Messages::of(line.labels);
-    send_source_row(w, look, line)?;
-    send_caret_rows(w, look, line, messages)?;
-    send_all_hanging(w, look, line, messages)?;
-    send_underlines(w, look, line)
+    send_source_row(w, look, line, source)?;
+    send_caret_rows(w, look, line, source, messages)?;
+    send_all_hanging(w, look, line, source, messages)?;
+    send_underlines(w, look, line, source)
 }

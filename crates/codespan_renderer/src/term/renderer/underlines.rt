@@ -4,10 +4,11 @@ ghost use Rattle.std.specs.Prelude.{◌≡◌, ◌++◌};
 ghost use Rattle.codespan_base.specs.Streams.{newline, bytes};
 ghost use Rattle.codespan_base.specs.WriterLaw.{Sends};
 ghost use Rattle.codespan_picture.specs.Cells.{cells, width_of};
-ghost use Rattle.codespan_picture.specs.Given.{mark_of_given, part_of};
-ghost use Rattle.codespan_renderer.specs.Inner.GivenLine.{look_of_given, line_of_given};
+ghost use Rattle.codespan_picture.specs.Given.{mark_view, multi_label_view};
+ghost use Rattle.codespan_renderer.specs.Inner.GivenLine.{look_view, line_view};
 ghost use Rattle.codespan_renderer.specs.Inner.GivenRows.{given_underline_lanes};
 ghost use Rattle.codespan_renderer.specs.Inner.Underlines.{run_underline, run_width};
+ghost use Rattle.codespan_renderer.specs.Inner.LineSources.{sourced_line, characters_of};
 ghost use Rattle.codespan_picture.specs.Rows.{has_underline, underline_rows};
 ghost use Rattle.codespan_picture.specs.RowParts.{underline_message, start_caret, end_caret, cells_before, cells_up_to};
 ghost use Rattle.codespan_picture.specs.RowStreams.{underline_row, stream_of_rows};
@@ -16,6 +17,7 @@ use crate::term::renderer::MultiLabel;
 use crate::term::renderer::cells::Cells;
 use crate::term::renderer::lanes::{LaneRow, send_lanes};
 use crate::term::renderer::line::{Line, Look};
+use crate::term::renderer::line_source::LineSource;
 use crate::term::renderer::parts::{send_border, send_gutter, send_newline, send_space};
 use crate::term::renderer::runs::send_run;
 use codespan_base::diagnostic::LabelStyle;
@@ -23,8 +25,8 @@ use codespan_base::term::config::sending::{send, send_char};
 use codespan_base::term::{Chars, WriteStyle};
 use std::io;
 
-/// How many cells the characters take that begin at a place or before it.
-fn width_up_to(text: &str, tab_width: usize, place: usize) -> u128
+/// How many cells the characters take that begin at a place or before it, by a walk over them.
+pub fn scanned_width_up_to(text: &str, tab_width: usize, place: usize) -> u128
     ensures { result ≡ width_of (cells_up_to place (cells tab_width text.now)) }
 {
     let mut width = 0u128;
@@ -34,17 +36,6 @@ fn width_up_to(text: &str, tab_width: usize, place: usize) -> u128
         }
     }
     width
-}
-
-/// How many cells the characters take that begin before a place.
-#[tactic(auto, using(crate::proofs::Underlines::widths_before))]
-fn width_before(text: &str, tab_width: usize, place: usize) -> u128
-    ensures { result ≡ width_of (cells_before place (cells tab_width text.now)) }
-{
-    match place.checked_sub(1) {
-        Some(last) => width_up_to(text, tab_width, last),
-        None => 0,
-    }
 }
 
 /// The caret under the start of a label.
@@ -80,13 +71,13 @@ fn send_underline_message<W: WriteStyle>(w: &mut W, message: &str) -> io::Result
 }
 
 /// How many cells the line of a mark runs over, from its corner to its caret.
-fn run_width(text: &str, tab_width: usize, part: MultiLabel<'_>) -> u128
-    ensures { result ≡ run_width (cells tab_width text.now) (part_of part.entry) }
+fn run_width<S: LineSource>(source: &S, part: MultiLabel<'_>) -> u128
+    ensures { result ≡ run_width (characters_of (S.of source.now)) (multi_label_view part.entry) }
 {
     match part {
-        MultiLabel::Top(start) => width_up_to(text, tab_width, start),
+        MultiLabel::Top(start) => source.width_up_to(start),
         MultiLabel::Left => 0,
-        MultiLabel::Bottom(end, _) => width_before(text, tab_width, end),
+        MultiLabel::Bottom(end, _) => source.width_before(end),
     }
 }
 
@@ -99,7 +90,8 @@ fn send_underline<W: WriteStyle>(
     part: MultiLabel<'_>,
     width: u128,
 ) -> io::Result<()>
-    ensures { Sends (W.sink w.old) (run_underline chars.now style width (part_of part.entry)) result (W.sink w.new) }
+    ensures { Sends (W.sink w.old)
+        (run_underline chars.now style width (multi_label_view part.entry)) result (W.sink w.new) }
 {
     match part {
         MultiLabel::Top(_) => {
@@ -122,7 +114,8 @@ fn send_underline_lanes<W: WriteStyle>(
     line: Line<'_, '_>,
     mark: (usize, LabelStyle, MultiLabel<'_>),
 ) -> io::Result<()>
-    ensures { Sends (W.sink w.old) (given_underline_lanes look.entry line.entry mark.entry) result (W.sink w.new) }
+    ensures { Sends (W.sink w.old) (given_underline_lanes look.entry line.entry mark.entry)
+        result (W.sink w.new) }
 {
     let (lane, style, part) = mark;
     send_gutter(w, look.padding)?;
@@ -137,15 +130,17 @@ fn send_underline_lanes<W: WriteStyle>(
 }
 
 /// The underline of a mark, whose line runs over so many cells.
-pub fn send_underline_row<W: WriteStyle>(
+fn send_underline_row<W: WriteStyle>(
     w: &mut W,
     look: Look<'_>,
     line: Line<'_, '_>,
     mark: (usize, LabelStyle, MultiLabel<'_>),
     width: u128,
 ) -> io::Result<()>
-    requires { width ≡ run_width (cells look.tab_width line.text.now) (part_of mark.2) }
-    ensures { Sends (W.sink w.old) (underline_row (look_of_given look.entry) (line_of_given line.entry) (mark_of_given mark.entry) ++ newline) result (W.sink w.new) }
+    requires { width ≡ run_width (cells look.tab_width line.text.now) (multi_label_view mark.2) }
+    ensures { Sends (W.sink w.old)
+        (underline_row (look_view look.entry) (line_view line.entry) (mark_view mark.entry)
+        ++ newline) result (W.sink w.new) }
 {
     let (_, style, part) = mark;
     send_underline_lanes(w, look, line, mark)?;
@@ -156,8 +151,8 @@ pub fn send_underline_row<W: WriteStyle>(
 }
 
 /// Whether a mark has an underline row: a top corner that the source row draws has none.
-pub fn has_underline(leading: usize, part: MultiLabel<'_>) -> bool
-    ensures { result ≡ has_underline leading (part_of part.entry) }
+fn has_underline(leading: usize, part: MultiLabel<'_>) -> bool
+    ensures { result ≡ has_underline leading (multi_label_view part.entry) }
 {
     match part {
         MultiLabel::Top(start) => start > leading,
@@ -167,16 +162,20 @@ pub fn has_underline(leading: usize, part: MultiLabel<'_>) -> bool
 }
 
 /// The underline rows of a line, in the order of the lanes.
-pub fn send_underlines<W: WriteStyle>(
+pub fn send_underlines<W: WriteStyle, S: LineSource>(
     w: &mut W,
     look: Look<'_>,
     line: Line<'_, '_>,
+    source: &S,
 ) -> io::Result<()>
-    ensures { Sends (W.sink w.old) (stream_of_rows (look_of_given look.entry) (underline_rows (line_of_given line.entry))) result (W.sink w.new) }
+    requires of { S.of source.now ≡ sourced_line look line }
+    ensures { Sends (W.sink w.old)
+        (stream_of_rows (look_view look.entry) (underline_rows (line_view line.entry)))
+        result (W.sink w.new) }
 {
     for mark in line.lanes.marks {
         if has_underline(line.leading, mark.2) {
-            let width = run_width(line.text, look.tab_width, mark.2);
+            let width = run_width(source, mark.2);
             send_underline_row(w, look, line, *mark, width)?;
         }
     }

@@ -30,8 +30,10 @@ impl<'d, FileId> LabelledFile<'d, FileId> {
     /// Adds what a label of the file tells, which starts and ends on these lines. Refuses with `OutOfMemory`.
     fn tell(&mut self, label: &'d Label<FileId>, lines: LabelLines) -> Result<(), Error>
         ensures id { OnOk result (self.new.id ≡ self.old.id) }
-        ensures start { OnOk result (self.new.start ≡ start_with self.old.start (label_of label.now).label) }
-        ensures lanes { OnOk result (lanes_given self.new.lanes.items ≡ lanes_given self.old.lanes.items ++ lanes_by lines (label_of label.now).label) }
+        ensures start { OnOk result (self.new.start
+            ≡ start_with self.old.start (label_of label.now).label) }
+        ensures lanes { OnOk result (lanes_given self.new.lanes.items
+            ≡ lanes_given self.old.lanes.items ++ lanes_by lines (label_of label.now).label) }
         ensures refused { OnErr result (IsErrOf result Error.OutOfMemory) }
     {
         self.start = self.start.with(label);
@@ -51,8 +53,11 @@ pub fn tell_file<'d, FileId>(
 ) -> Result<(), Error>
     requires place { place < length files.old.items }
     ensures ids { OnOk result (ids_given files.new.items ≡ ids_given files.old.items) }
-    ensures starts { OnOk result (starts_given files.new.items ≡ start_told (starts_given files.old.items) place (label_of label.now).label) }
-    ensures lanes { OnOk result (all_lanes_given files.new.items ≡ lanes_told (all_lanes_given files.old.items) place (lanes_by lines (label_of label.now).label)) }
+    ensures starts { OnOk result (starts_given files.new.items
+        ≡ start_told (starts_given files.old.items) place (label_of label.now).label) }
+    ensures lanes { OnOk result (all_lanes_given files.new.items
+        ≡ lanes_told (all_lanes_given files.old.items) place
+        (lanes_by lines (label_of label.now).label)) }
     ensures refused { OnErr result (IsErrOf result Error.OutOfMemory) }
 {
     files[place].tell(label, lines)?;
@@ -68,10 +73,15 @@ pub fn place_file<'d, FileId: Copy + Eq>(
     id: FileId,
 ) -> Result<usize, Error>
     requires { AreApart FileId.eq (ids_given files.old.items) }
-    ensures place { IfOk result (λ place. place ≡ file_place FileId.eq (ids_given files.new.items) id) }
-    ensures ids { OnOk result (ids_given files.new.items ≡ with_file FileId.eq (ids_given files.old.items) id (ids_given files.old.items) id) }
-    ensures starts { OnOk result (starts_given files.new.items ≡ with_file FileId.eq (ids_given files.old.items) id (starts_given files.old.items) no_start) }
-    ensures lanes { OnOk result (all_lanes_given files.new.items ≡ with_file FileId.eq (ids_given files.old.items) id (all_lanes_given files.old.items) []) }
+    ensures place { IfOk result (λ place. place
+        ≡ file_place FileId.eq (ids_given files.new.items) id) }
+    ensures ids { OnOk result (ids_given files.new.items
+        ≡ with_file FileId.eq (ids_given files.old.items) id (ids_given files.old.items) id) }
+    ensures starts { OnOk result (starts_given files.new.items
+        ≡ with_file FileId.eq (ids_given files.old.items) id (starts_given files.old.items)
+        no_start) }
+    ensures lanes { OnOk result (all_lanes_given files.new.items
+        ≡ with_file FileId.eq (ids_given files.old.items) id (all_lanes_given files.old.items) []) }
     ensures refused { OnErr result (IsErrOf result Error.OutOfMemory) }
 {
     let place = find_place(files, guess, id);
@@ -88,8 +98,10 @@ fn push_file<'d, FileId: Copy>(
     id: FileId,
 ) -> Result<(), Error>
     ensures ids { OnOk result (ids_given files.new.items ≡ ids_given files.old.items ++ id ∷ []) }
-    ensures starts { OnOk result (starts_given files.new.items ≡ starts_given files.old.items ++ no_start ∷ []) }
-    ensures lanes { OnOk result (all_lanes_given files.new.items ≡ all_lanes_given files.old.items ++ [] ∷ []) }
+    ensures starts { OnOk result (starts_given files.new.items ≡ starts_given files.old.items
+        ++ no_start ∷ []) }
+    ensures lanes { OnOk result (all_lanes_given files.new.items ≡ all_lanes_given files.old.items
+        ++ [] ∷ []) }
     ensures refused { OnErr result (IsErrOf result Error.OutOfMemory) }
 {
     files.push(LabelledFile {
@@ -144,7 +156,8 @@ fn last_place<FileId: Copy + Eq>(
     id: FileId,
 ) -> usize
     requires last { length files.now ≤ place + 1 }
-    requires none { AllByRecursion (λ other. FileId.eq other id ≡ false) (ids_given (take place files.now)) }
+    requires none { AllByRecursion (λ other. FileId.eq other id ≡ false)
+        (ids_given (take place files.now)) }
     ensures { result ≡ file_place FileId.eq (ids_given files.now) id }
 {
     let Some(file) = files.get(place) else {

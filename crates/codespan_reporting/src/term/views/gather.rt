@@ -15,7 +15,6 @@ use crate::term::views::entry::{Entry, Says, SourceLine};
 use crate::term::views::file_order::{LabelledFile, place_file, tell_file};
 use crate::term::views::label_lines::{LabelLines, label_lines};
 use crate::term::views::sort::sort;
-use crate::term::views::table::Table;
 use codespan_base::diagnostic::Label;
 use codespan_base::files::{Error, Files};
 use codespan_base::term::Config;
@@ -56,10 +55,13 @@ struct Asking<'a, 'c, 'files, F> {
 impl<'a, 'c, 'files, F: Files<'files>> Asking<'a, 'c, 'files, F> {
     /// A line that the label asks for. After the label's last line, `None` says that the file ends before it.
     fn find_line(&self, id: F::FileId, index: usize) -> Result<Option<SourceLine>, Error>
-        ensures found { IfOk result (λ found. IfSome found (λ line. IsLineAt (F.file self.now.files.now id) index line)) }
-        ensures answered { IfOk result (λ found. IfSome found (λ _. refusal_in (F.refusal self.now.files.now) id (of_line index) ≡ None)) }
-        ensures ended { IfOk result (λ found. found ≡ None → EndsBefore ⟦<F as Table<'files>>⟧.table self.now id index) }
-        ensures refused { Tells (refusal_at ⟦<F as Table<'files>>⟧.table self.now id index) result }
+        ensures found { IfOk result (λ found. IfSome found
+            (λ line. IsLineAt ((F.database self.now.files.now).file id) index line)) }
+        ensures answered { IfOk result (λ found. IfSome found
+            (λ _. refusal_in (F.database self.now.files.now).refusal id (of_line index) ≡ None)) }
+        ensures ended { IfOk result (λ found. found ≡ None
+            → EndsBefore F.database self.now id index) }
+        ensures refused { Tells (refusal_at F.database self.now id index) result }
     {
         let range = match self.files.line_range(id, index) {
             Ok(range) => range,
@@ -103,10 +105,13 @@ impl<'a, 'c, 'files, F: Files<'files>> Asking<'a, 'c, 'files, F> {
         line: SourceLine,
         entries: &mut Vec<Entry<'d, F::FileId>>,
     ) -> Result<(), Error>
-        requires first { line_of_start (F.file self.now.files.now) label.now ≡ self.now.lines.first }
-        requires last { line_of_end (F.file self.now.files.now) label.now ≡ self.now.lines.last }
-        requires line { IsLineOf (F.file self.now.files.now label.now.file_id) line }
-        ensures added { OnOk result (AddsLine (asked_as ⟦<F as Table<'files>>⟧.table self.now label.now) entries.old.items entries.new.items line.index) }
+        requires first { line_of_start (F.database self.now.files.now).file label.now
+            ≡ self.now.lines.first }
+        requires last { line_of_end (F.database self.now.files.now).file label.now
+            ≡ self.now.lines.last }
+        requires line { IsLineOf ((F.database self.now.files.now).file label.now.file_id) line }
+        ensures added { OnOk result (AddsLine (asked_as F.database self.now label.now)
+            entries.old.items entries.new.items line.index) }
         ensures refused { OnErr result (IsErrOf result Error.OutOfMemory) }
     {
         if let Some(says) = self.says_of_line(label, line) {
@@ -127,14 +132,21 @@ impl<'a, 'c, 'files, F: Files<'files>> Asking<'a, 'c, 'files, F> {
         index: usize,
         found: &mut FoundLines<'d, F::FileId>,
     ) -> Result<bool, Error>
-        requires first { line_of_start (F.file self.now.files.now) label.now ≡ self.now.lines.first }
-        requires last { line_of_end (F.file self.now.files.now) label.now ≡ self.now.lines.last }
-        ensures inside { IfOn result (HasAskedLine (asked_as ⟦<F as Table<'files>>⟧.table self.now label.now) index) }
-        ensures added { IfOn result (FindsLine (asked_as ⟦<F as Table<'files>>⟧.table self.now label.now) found.old found.new index) }
-        ensures padding { IfOn result (MakesRoomForLine (asked_as ⟦<F as Table<'files>>⟧.table self.now label.now) found.old found.new index) }
-        ensures answered { IfOn result (refusal_on (asked_as ⟦<F as Table<'files>>⟧.table self.now label.now) index ≡ None) }
-        ensures ended { IfEnded result ((found.new ≡ found.old) × EndsBefore ⟦<F as Table<'files>>⟧.table self.now label.now.file_id index) }
-        ensures refused { IfErr result (λ e. e ≢ Error.OutOfMemory → RefusesLine ⟦<F as Table<'files>>⟧.table self.now label.now index e) }
+        requires first { line_of_start (F.database self.now.files.now).file label.now
+            ≡ self.now.lines.first }
+        requires last { line_of_end (F.database self.now.files.now).file label.now
+            ≡ self.now.lines.last }
+        ensures inside { IfOn result (HasAskedLine (asked_as F.database self.now label.now) index) }
+        ensures added { IfOn result (FindsLine (asked_as F.database self.now label.now) found.old
+            found.new index) }
+        ensures padding { IfOn result (MakesRoomForLine (asked_as F.database self.now label.now)
+            found.old found.new index) }
+        ensures answered { IfOn result (refusal_on (asked_as F.database self.now label.now) index
+            ≡ None) }
+        ensures ended { IfEnded result ((found.new ≡ found.old)
+            × EndsBefore F.database self.now label.now.file_id index) }
+        ensures refused { IfErr result (λ e. e ≢ Error.OutOfMemory
+            → RefusesLine F.database self.now label.now index e) }
     {
         let is_spanned = self.lines.spans(index);
         if !is_spanned && !self.lines.is_around(self.config, index) {
@@ -156,11 +168,15 @@ impl<'a, 'c, 'files, F: Files<'files>> Asking<'a, 'c, 'files, F> {
         label: &'d Label<F::FileId>,
         found: &mut FoundLines<'d, F::FileId>,
     ) -> Result<(), Error>
-        requires first { line_of_start (F.file self.now.files.now) label.now ≡ self.now.lines.first }
-        requires last { line_of_end (F.file self.now.files.now) label.now ≡ self.now.lines.last }
-        ensures added { OnOk result (FindsLines (asked_as ⟦<F as Table<'files>>⟧.table self.now label.now) found.old found.new) }
-        ensures padding { OnOk result (MakesRoom (asked_as ⟦<F as Table<'files>>⟧.table self.now label.now) found.old found.new) }
-        ensures refused { Tells (lines_refusal (asked_as ⟦<F as Table<'files>>⟧.table self.now label.now)) result }
+        requires first { line_of_start (F.database self.now.files.now).file label.now
+            ≡ self.now.lines.first }
+        requires last { line_of_end (F.database self.now.files.now).file label.now
+            ≡ self.now.lines.last }
+        ensures added { OnOk result (FindsLines (asked_as F.database self.now label.now) found.old
+            found.new) }
+        ensures padding { OnOk result (MakesRoom (asked_as F.database self.now label.now) found.old
+            found.new) }
+        ensures refused { Tells (lines_refusal (asked_as F.database self.now label.now)) result }
     {
         let lines = self.lines;
         let first = lines.first.saturating_sub(self.config.before_label_lines);
@@ -182,11 +198,16 @@ fn gather_label<'files, 'd, F: Files<'files>>(
     label: &'d Label<F::FileId>,
     found: &mut FoundLines<'d, F::FileId>,
 ) -> Result<LabelLines, Error>
-    ensures first { IfOk result (λ lines. lines.first ≡ line_of_start (F.file files.now) label.now) }
-    ensures last { IfOk result (λ lines. lines.last ≡ line_of_end (F.file files.now) label.now) }
-    ensures added { OnOk result (FindsLines (asked_label (⟦<F as Table<'files>>⟧.table files.now) config.now at label.now) found.old found.new) }
-    ensures padding { OnOk result (MakesRoom (asked_label (⟦<F as Table<'files>>⟧.table files.now) config.now at label.now) found.old found.new) }
-    ensures refused { Tells (label_refusal (asked_label (⟦<F as Table<'files>>⟧.table files.now) config.now at label.now)) result }
+    ensures first { IfOk result (λ lines. lines.first
+        ≡ line_of_start (F.database files.now).file label.now) }
+    ensures last { IfOk result (λ lines. lines.last
+        ≡ line_of_end (F.database files.now).file label.now) }
+    ensures added { OnOk result (FindsLines
+        (asked_label (F.database files.now) config.now at label.now) found.old found.new) }
+    ensures padding { OnOk result (MakesRoom
+        (asked_label (F.database files.now) config.now at label.now) found.old found.new) }
+    ensures refused { Tells (label_refusal
+        (asked_label (F.database files.now) config.now at label.now)) result }
 {
     let lines = label_lines(files, label)?;
     let asking = Asking {
@@ -222,8 +243,10 @@ pub fn gather<'files, 'd, F: Files<'files>>(
     labels: &'d [Label<F::FileId>],
 ) -> Result<Gathered<'d, F::FileId>, Error>
     ensures labels { IfOk result (λ gathered. gathered.labels.now ≡ labels.now) }
-    ensures gathered { IfOk result (IsGathered (⟦<F as Table<'files>>⟧.table files.now) config.now (map label_of labels.now)) }
-    ensures refused { Tells (labels_refusal config.now (⟦<F as Table<'files>>⟧.table files.now) (map label_of labels.now)) result }
+    ensures gathered { IfOk result (IsGathered (F.database files.now) config.now
+        (map label_of labels.now)) }
+    ensures refused { Tells (labels_refusal config.now (F.database files.now)
+        (map label_of labels.now)) result }
 {
     let mut gathered = gather_in_turn(alloc, files, config, labels)?;
     sort(&mut gathered.entries);
@@ -238,8 +261,10 @@ fn gather_in_turn<'files, 'd, F: Files<'files>>(
     labels: &'d [Label<F::FileId>],
 ) -> Result<Gathered<'d, F::FileId>, Error>
     ensures labels { IfOk result (λ gathered. gathered.labels.now ≡ labels.now) }
-    ensures gathered { IfOk result (IsGatheredInTurn (⟦<F as Table<'files>>⟧.table files.now) config.now (map label_of labels.now)) }
-    ensures refused { Tells (labels_refusal config.now (⟦<F as Table<'files>>⟧.table files.now) (map label_of labels.now)) result }
+    ensures gathered { IfOk result (IsGatheredInTurn (F.database files.now) config.now
+        (map label_of labels.now)) }
+    ensures refused { Tells (labels_refusal config.now (F.database files.now)
+        (map label_of labels.now)) result }
 {
     let mut labelled = Vec::new(alloc);
     let mut found = FoundLines {

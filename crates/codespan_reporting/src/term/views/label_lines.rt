@@ -69,9 +69,11 @@ pub fn label_lines<'files, F: Files<'files>>(
     files: &'files F,
     label: &Label<F::FileId>,
 ) -> Result<LabelLines, Error>
-    ensures first { IfOk result (λ lines. lines.first ≡ line_of_start (F.file files.now) label.now) }
-    ensures last { IfOk result (λ lines. lines.last ≡ line_of_end (F.file files.now) label.now) }
-    ensures refused { Tells (ends_refusal (F.refusal files.now) label.now) result }
+    ensures first { IfOk result (λ lines. lines.first
+        ≡ line_of_start (F.database files.now).file label.now) }
+    ensures last { IfOk result (λ lines. lines.last
+        ≡ line_of_end (F.database files.now).file label.now) }
+    ensures refused { Tells (ends_refusal (F.database files.now).refusal label.now) result }
 {
     Ok(LabelLines {
         first: files.line_index(label.file_id, label.range.start)?,

@@ -3,7 +3,7 @@
 ghost use Rattle.std.specs.Prelude.{◌≡◌};
 ghost use Rattle.std.specs.Option.{option_map};
 ghost use Rattle.codespan_base.specs.Labels.{part_at};
-ghost use Rattle.codespan_picture.specs.Given.{part_of};
+ghost use Rattle.codespan_picture.specs.Given.{multi_label_view};
 ghost use Rattle.codespan_picture.specs.Picture.{label_of};
 ghost use Rattle.codespan_reporting.specs.Inner.Lanes.{lane_given};
 
@@ -32,7 +32,11 @@ pub struct Lane<'d> {
 impl<'d> Lane<'d> {
     /// The lane of a label that starts and ends on these lines.
     pub fn of<FileId>(label: &'d Label<FileId>, lines: LabelLines) -> Lane<'d>
-        ensures { lane_given result ≡ record { first = lines.first; last = lines.last; label = (label_of label.now).label } }
+        ensures { lane_given result ≡ record {
+          first = lines.first;
+          last = lines.last;
+          label = (label_of label.now).label;
+        } }
     {
         Lane {
             first: lines.first,
@@ -46,7 +50,9 @@ impl<'d> Lane<'d> {
 
     /// What the label does on a line, if it does anything there.
     pub fn mark(&self, line: SourceLine) -> Option<MultiLabel<'d>>
-        ensures { option_map part_of result ≡ part_at self.now.first self.now.last line.index line.start (lane_given self.now).label }
+        ensures { option_map multi_label_view result
+            ≡ part_at self.now.first self.now.last line.index line.start
+            (lane_given self.now).label }
     {
         if line.index == self.first {
             Some(MultiLabel::Top(self.start.saturating_sub(line.start)))

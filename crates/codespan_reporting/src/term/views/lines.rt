@@ -16,7 +16,6 @@ use crate::term::views::entry::{Entry, SourceLine};
 use crate::term::views::lanes::Lane;
 use crate::term::views::marks::{LineMarks, fill_multis};
 use crate::term::views::steps::Step;
-use crate::term::views::table::Table;
 use codespan_base::diagnostic::Severity;
 use codespan_base::files::{Error, Files};
 use codespan_base::term::WriteStyle;
@@ -56,11 +55,13 @@ impl<'page, 'd, 'files, F: Files<'files>> FileLines<'page, 'd, 'files, F> {
         marks: &mut LineMarks<'d>,
         steps: &[Step<'_, 'd, F::FileId>],
     ) -> Result<(), Error>
-        requires text { self.now.text.now ≡ (drawn_file F.file self.now).text }
-        requires steps { AllByRecursion (IsStepOf (drawn_file F.file self.now)) steps.now }
+        requires text { self.now.text.now ≡ (drawn_file (λ s. (F.database s).file) self.now).text }
+        requires steps { AllByRecursion (IsStepOf (drawn_file (λ s. (F.database s).file) self.now))
+            steps.now }
         requires fits { DoFit (map step_of steps.now) }
         ensures same { SameRenderer renderer.old renderer.new }
-        ensures draws { DrawsSteps W.sink ⟦<F as Table<'files>>⟧.table self.now steps.now renderer.old result renderer.new }
+        ensures draws { DrawsSteps W.sink F.database self.now steps.now renderer.old result
+            renderer.new }
     {
         for step in steps {
             self.draw_step(renderer, marks, step)?;
@@ -76,11 +77,12 @@ impl<'page, 'd, 'files, F: Files<'files>> FileLines<'page, 'd, 'files, F> {
         marks: &mut LineMarks<'d>,
         step: &Step<'_, 'd, F::FileId>,
     ) -> Result<(), Error>
-        requires text { self.now.text.now ≡ (drawn_file F.file self.now).text }
-        requires step { IsStepOf (drawn_file F.file self.now) step.now }
+        requires text { self.now.text.now ≡ (drawn_file (λ s. (F.database s).file) self.now).text }
+        requires step { IsStepOf (drawn_file (λ s. (F.database s).file) self.now) step.now }
         requires fits { IsTrue (does_step_fit (step_of step.now)) }
         ensures same { SameRenderer renderer.old renderer.new }
-        ensures draws { DrawsStep W.sink ⟦<F as Table<'files>>⟧.table self.now (asked_by step.now) (step_of step.now) renderer.old result renderer.new }
+        ensures draws { DrawsStep W.sink F.database self.now (asked_by step.now) (step_of step.now)
+            renderer.old result renderer.new }
     {
         match step {
             Step::Shown { line, singles } => self.draw_line(renderer, marks, *line, *singles)?,
@@ -96,9 +98,12 @@ impl<'page, 'd, 'files, F: Files<'files>> FileLines<'page, 'd, 'files, F> {
     /// A line between two that are shown. `number` is its number, where that is known. Refuses as the lookup of its range does, and then,
     /// where the number is not known, as that of its number.
     fn find_line(&self, index: usize, number: Option<usize>) -> Result<SourceLine, Error>
-        requires number { IfSome number (λ known. known ≡ (drawn_file F.file self.now).number index) }
-        ensures line { IfOk result (λ line. IsLineAt (drawn_file F.file self.now) index line) }
-        ensures refused { Tells (refusal_in (F.refusal self.now.page.now.files.now) self.now.id (asked_with number index)) result }
+        requires number { IfSome number (λ known. known
+            ≡ (drawn_file (λ s. (F.database s).file) self.now).number index) }
+        ensures line { IfOk result (λ line. IsLineAt
+            (drawn_file (λ s. (F.database s).file) self.now) index line) }
+        ensures refused { Tells (refusal_in (F.database self.now.page.now.files.now).refusal
+            self.now.id (asked_with number index)) result }
     {
         let range = self.page.files.line_range(self.id, index)?;
         let number = match number {
@@ -123,11 +128,12 @@ impl<'page, 'd, 'files, F: Files<'files>> FileLines<'page, 'd, 'files, F> {
         line: SourceLine,
         entries: &[Entry<'d, F::FileId>],
     ) -> Result<(), Error>
-        requires text { self.now.text.now ≡ (drawn_file F.file self.now).text }
-        requires line { IsLineOf (drawn_file F.file self.now) line }
+        requires text { self.now.text.now ≡ (drawn_file (λ s. (F.database s).file) self.now).text }
+        requires line { IsLineOf (drawn_file (λ s. (F.database s).file) self.now) line }
         requires fits { IsTrue (starts_in_order (singles_in (map entry_of entries.now))) }
         ensures same { SameRenderer renderer.old renderer.new }
-        ensures draws { DrawsStep W.sink ⟦<F as Table<'files>>⟧.table self.now [] (Draw line.index (map entry_of entries.now)) renderer.old result renderer.new }
+        ensures draws { DrawsStep W.sink F.database self.now []
+            (Draw line.index (map entry_of entries.now)) renderer.old result renderer.new }
     {
         marks.refill(self.lanes, line, entries)?;
         let source = &self.text[line.start..line.end];
@@ -168,9 +174,10 @@ impl<'page, 'd, 'files, F: Files<'files>> FileLines<'page, 'd, 'files, F> {
         marks: &mut LineMarks<'d>,
         next: SourceLine,
     ) -> Result<(), Error>
-        requires next { IsLineOf (drawn_file F.file self.now) next }
+        requires next { IsLineOf (drawn_file (λ s. (F.database s).file) self.now) next }
         ensures same { SameRenderer renderer.old renderer.new }
-        ensures draws { DrawsStep W.sink ⟦<F as Table<'files>>⟧.table self.now [] (Break next.index) renderer.old result renderer.new }
+        ensures draws { DrawsStep W.sink F.database self.now [] (Break next.index) renderer.old
+            result renderer.new }
     {
         fill_multis(&mut marks.multis, self.lanes, next)?;
         renderer.render_snippet_break(

@@ -3,10 +3,10 @@
 ghost use Rattle.std.specs.Prelude.{◌≡◌, ◌∷◌, [], IfOk};
 ghost use Rattle.codespan_base.specs.FileModel.Lookup.{Name as NameLookup, LocationAt};
 ghost use Rattle.codespan_base.specs.Labels.{is_primary};
-ghost use Rattle.codespan_picture.specs.Given.{place_of_given};
+ghost use Rattle.codespan_picture.specs.Given.{locus_view};
 ghost use Rattle.codespan_picture.specs.Lookups.{TellsNaming, asked_of, first_refusal};
 ghost use Rattle.codespan_picture.specs.Picture.{label_of};
-ghost use Rattle.codespan_picture.specs.Placed.{IsPlaceIn};
+ghost use Rattle.codespan_reporting.specs.Inner.TextLoci.{IsTextLocus};
 ghost use Rattle.codespan_reporting.specs.Inner.Loci.{least_with, no_start, start_byte, start_with};
 
 use crate::term::renderer::Locus;
@@ -90,8 +90,10 @@ pub fn locus_at<'files, F: Files<'files>>(
     id: F::FileId,
     byte_index: usize,
 ) -> Result<Locus, Error>
-    ensures locus { IfOk result (λ locus. IsPlaceIn (F.file files.now id) byte_index (place_of_given locus)) }
-    ensures refused { TellsNaming (first_refusal (F.refusal files.now) (asked_of id (NameLookup ∷ LocationAt byte_index ∷ []))) result }
+    ensures locus { IfOk result
+        (λ locus. IsTextLocus ((F.database files.now).file id, byte_index) (locus_view locus)) }
+    ensures refused { TellsNaming (first_refusal (F.database files.now).refusal
+        (asked_of id (NameLookup ∷ LocationAt byte_index ∷ []))) result }
 {
     let named = files.name(id)?;
     let name = display_text(alloc, named)?;

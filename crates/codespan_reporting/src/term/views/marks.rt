@@ -2,7 +2,7 @@
 
 ghost use Rattle.std.specs.Prelude.{◌≡◌, [], IfOk, OnErr, IsErrOf, map};
 ghost use Rattle.codespan_base.specs.Labels.{from_line_start};
-ghost use Rattle.codespan_picture.specs.Given.{all_labelled, labelled, mark_of_given};
+ghost use Rattle.codespan_picture.specs.Given.{single_label_views, single_label_view, mark_view};
 ghost use Rattle.codespan_picture.specs.Picture.{label_of};
 ghost use Rattle.codespan_reporting.specs.Inner.GivenEntries.{entry_of};
 ghost use Rattle.codespan_reporting.specs.Inner.Lanes.{lane_marks, lanes_given};
@@ -51,8 +51,10 @@ impl<'d> LineMarks<'d> {
         line: SourceLine,
         entries: &[Entry<'d, FileId>],
     ) -> Result<(), Error>
-        ensures singles { IfOk result (λ _. all_labelled self.new.singles.items ≡ singles_in (map entry_of entries.now)) }
-        ensures multis { IfOk result (λ _. map mark_of_given self.new.multis.items ≡ lane_marks (lanes_given lanes.now) line.index line.start) }
+        ensures singles { IfOk result (λ _. single_label_views self.new.singles.items
+            ≡ singles_in (map entry_of entries.now)) }
+        ensures multis { IfOk result (λ _. map mark_view self.new.multis.items
+            ≡ lane_marks (lanes_given lanes.now) line.index line.start) }
         ensures refused { OnErr result (IsErrOf result Error.OutOfMemory) }
     {
         fill_multis(&mut self.multis, lanes, line)?;
@@ -77,7 +79,8 @@ pub fn fill_multis<'d>(
     lanes: &[Lane<'d>],
     line: SourceLine,
 ) -> Result<(), Error>
-    ensures multis { IfOk result (λ _. map mark_of_given multis.new.items ≡ lane_marks (lanes_given lanes.now) line.index line.start) }
+    ensures multis { IfOk result (λ _. map mark_view multis.new.items
+        ≡ lane_marks (lanes_given lanes.now) line.index line.start) }
     ensures refused { OnErr result (IsErrOf result Error.OutOfMemory) }
 {
     multis.clear();
@@ -94,7 +97,8 @@ fn fill_singles<'d, FileId>(
     singles: &mut Vec<SingleLabel<'d>>,
     entries: &[Entry<'d, FileId>],
 ) -> Result<(), Error>
-    ensures singles { IfOk result (λ _. all_labelled singles.new.items ≡ singles_in (map entry_of entries.now)) }
+    ensures singles { IfOk result (λ _. single_label_views singles.new.items
+        ≡ singles_in (map entry_of entries.now)) }
     ensures refused { OnErr result (IsErrOf result Error.OutOfMemory) }
 {
     singles.clear();
@@ -111,7 +115,7 @@ fn fill_singles<'d, FileId>(
 
 /// A label inside a line that starts at this byte, as a renderer takes it.
 fn single_label<FileId>(label: &Label<FileId>, line_start: usize) -> SingleLabel<'_>
-    ensures { labelled result ≡ from_line_start line_start (label_of label.now).label }
+    ensures { single_label_view result ≡ from_line_start line_start (label_of label.now).label }
 {
     (
         label.style,

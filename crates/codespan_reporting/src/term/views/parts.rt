@@ -3,7 +3,7 @@
 ghost use Rattle.std.specs.Prelude.{IfErr};
 ghost use Rattle.std.specs.Option.{option_map};
 ghost use Rattle.codespan_base.specs.Errors.{IsIo};
-ghost use Rattle.codespan_picture.specs.Given.{place_of_given};
+ghost use Rattle.codespan_picture.specs.Given.{locus_view};
 ghost use Rattle.codespan_picture.specs.Picture.{notes_of};
 ghost use Rattle.codespan_picture.specs.Snippets.{note_rows};
 ghost use Rattle.codespan_renderer.specs.Renderers.{SameRenderer};
@@ -22,7 +22,9 @@ pub fn draw_header<FileId, W: WriteStyle>(
     locus: Option<&Locus>,
 ) -> Result<(), Error>
     ensures same { SameRenderer renderer.old renderer.new }
-    ensures sends { SendsStream W.sink (header_line diagnostic.now (option_map (λ at. place_of_given at.now) locus.entry)) renderer.old result renderer.new }
+    ensures sends { SendsStream W.sink
+        (header_line diagnostic.now (option_map (λ at. locus_view at.now) locus.entry)) renderer.old
+        result renderer.new }
     ensures io { IfErr result IsIo }
 {
     renderer.render_header(
@@ -41,7 +43,8 @@ pub fn draw_notes<FileId, W: WriteStyle>(
     padding: usize,
 ) -> Result<(), Error>
     ensures same { SameRenderer renderer.old renderer.new }
-    ensures sends { DrawsRows W.sink diagnostic.now.severity padding (note_rows (notes_of diagnostic.now)) renderer.old result renderer.new }
+    ensures sends { DrawsRows W.sink diagnostic.now.severity padding
+        (note_rows (notes_of diagnostic.now)) renderer.old result renderer.new }
     ensures io { IfErr result IsIo }
 {
     for note in &diagnostic.notes {

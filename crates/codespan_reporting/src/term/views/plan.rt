@@ -35,9 +35,12 @@ pub fn plan_files<'files, 'e, 'd, F: Files<'files>>(
 ) -> Result<Vec<SheetFile<'e, 'd, F::FileId>>, Error>
     requires empty { steps.now.items ≡ [] }
     requires sorted { IsSortedBy is_below (map entry_of gathered.now.entries.items) }
-    requires lines { AllByRecursion (IsOfFiles (F.file files.now) (ids_given gathered.now.files.items)) gathered.now.entries.items }
-    ensures plans { IfOk result (λ plans. ArePlansOf layout (F.file files.now) gathered.now plans.items steps.new.items) }
-    ensures refused { TellsNaming (plans_refusal layout (F.refusal files.now) gathered.now) result }
+    requires lines { AllByRecursion (IsOfFiles (F.database files.now).file
+        (ids_given gathered.now.files.items)) gathered.now.entries.items }
+    ensures plans { IfOk result (λ plans. ArePlansOf layout (F.database files.now).file gathered.now
+        plans.items steps.new.items) }
+    ensures refused { TellsNaming (plans_refusal layout (F.database files.now).refusal gathered.now)
+        result }
 {
     let mut plans = Vec::with_capacity(alloc, gathered.files.len())?;
     let mut placed = Ok(());

@@ -1,12 +1,13 @@
 //! Rich style: a diagnostic over the lines that its labels speak of.
 
 ghost use Rattle.std.specs.Prelude.{◌≡◌, ◌<◌, IfErr, length};
+ghost use Rattle.codespan_base.specs.declared.term.config.DisplayStyle.TheVariants.{Rich};
 ghost use Rattle.codespan_base.specs.Errors.{IsIo};
 ghost use Rattle.codespan_laws.specs.Meanings.{MeansLabels};
 ghost use Rattle.codespan_picture.specs.Picture.{labels_of, notes_of};
 ghost use Rattle.codespan_picture.specs.Snippets.{has_any};
 ghost use Rattle.codespan_renderer.specs.Renderers.{writer_of, config_of, SameRenderer};
-ghost use Rattle.codespan_reporting.specs.Headline.{DrawsRich};
+ghost use Rattle.codespan_reporting.specs.Output.{WritesStyled};
 ghost use Rattle.codespan_reporting.specs.Inner.GivenSheets.{IsPrepared};
 ghost use Rattle.codespan_reporting.specs.Inner.Rendering.{DrawsRows, SendsStream};
 ghost use Rattle.codespan_reporting.specs.Inner.ViewDrawing.{DrawsSnippets, DrawsView, bare_picture, closing_rows};
@@ -18,7 +19,6 @@ use crate::term::views::marks::LineMarks;
 use crate::term::views::parts::{draw_header, draw_notes};
 use crate::term::views::sheet::{Sheet, prepare};
 use crate::term::views::snippets::{draw_end, draw_snippet};
-use crate::term::views::table::Table;
 use codespan_base::diagnostic::Diagnostic;
 use codespan_base::files::{Error, Files};
 use codespan_base::term::{Config, WriteStyle};
@@ -45,16 +45,24 @@ impl<'diagnostic, 'config, FileId: Copy + Eq> RichDiagnostic<'diagnostic, 'confi
         RichDiagnostic { diagnostic, config }
     }
 
-    /// Draws the picture.
+    /// Writes the output.
     ///
-    /// The renderer's own configuration says which characters it draws with, how wide tabs are, and how lanes look.
+    /// The renderer's own configuration determines the characters, the width of tabs, and how lanes
+    /// look.
     ///
-    /// Refuses as the first lookup that refuses does, and with `Io` where the writer refuses; besides, where there is a lookup, with
-    /// `OutOfMemory`, which stands for a growth that was refused, and with `FormatError`, which stands for a file's name whose `Display`
-    /// refuses. The contract leaves open when these two come.
-    /// Nothing is written then, unless it was the writer or a growth that refused, or a lookup after the header: of a file's source, or
-    /// of the range or, in the classic layout, the number of a line between two shown ones. Without labels there is no lookup, and the one
-    /// refusal is `Io`.
+    /// # Errors
+    ///
+    /// - [`Error::Io`]: the writer fails, or a lookup fails with it.
+    /// - [`Error::OutOfMemory`]: an allocation fails, or a lookup fails with it. The contract leaves
+    ///   open when, but it is not returned without labels.
+    /// - [`Error::FormatError`]: the `Display` of a file's name fails, or a lookup fails with it. The
+    ///   contract leaves open when, but it is not returned without labels.
+    /// - Any other error: that of the first lookup that fails.
+    ///
+    /// A prefix of the output has then been written. Nothing has been written where a lookup before
+    /// the header fails, nor where the `Display` of a name fails. The lookups after the header are
+    /// those of a file's source, and of the range and, in the classic layout, the number of a line
+    /// between two shown ones. Without labels nothing is looked up.
     pub fn render<'files, F, W>(
         &self,
         files: &'files F,
@@ -65,8 +73,11 @@ impl<'diagnostic, 'config, FileId: Copy + Eq> RichDiagnostic<'diagnostic, 'confi
         W: WriteStyle,
         FileId: 'files,
         ensures same { SameRenderer renderer.old renderer.new }
-        ensures draws { DrawsRich (config_of renderer.old) (view_config_of self.now) FileId.eq (F.file files.now) (F.refusal files.now) (diagnostic_of self.now) (W.sink (writer_of renderer.old)) result (W.sink (writer_of renderer.new)) }
-        ensures meaning { MeansLabels (config_of renderer.old) (view_config_of self.now) FileId.eq (F.file files.now) (diagnostic_of self.now) }
+        ensures draws { WritesStyled Rich (config_of renderer.old) (view_config_of self.now)
+            (F.database files.now) (diagnostic_of self.now)
+            (W.sink (writer_of renderer.old)) result (W.sink (writer_of renderer.new)) }
+        ensures meaning { MeansLabels (config_of renderer.old) (view_config_of self.now)
+            (F.database files.now) (diagnostic_of self.now) }
     {
         if self.diagnostic.labels.is_empty() {
             draw_bare(self.diagnostic, renderer)?;
@@ -88,7 +99,8 @@ impl<'diagnostic, 'config, FileId: Copy + Eq> RichDiagnostic<'diagnostic, 'confi
         FileId: 'files,
         requires { 0 < length (diagnostic_of self.now).labels.items }
         ensures same { SameRenderer renderer.old renderer.new }
-        ensures draws { DrawsView W.sink (⟦<F as Table<'files>>⟧.table files.now) self.now renderer.old result renderer.new }
+        ensures draws { DrawsView W.sink (F.database files.now)
+            self.now renderer.old result renderer.new }
     {
         let diagnostic = self.diagnostic;
         let alloc = *diagnostic.labels.allocator();
@@ -111,9 +123,11 @@ impl<'diagnostic, 'config, FileId: Copy + Eq> RichDiagnostic<'diagnostic, 'confi
         F: Files<'files, FileId = FileId>,
         W: WriteStyle,
         FileId: 'files,
-        requires { IsPrepared (⟦<F as Table<'files>>⟧.table files.now) (view_config_of self.now) (labels_of (diagnostic_of self.now)) sheet.now }
+        requires { IsPrepared (F.database files.now)
+            (view_config_of self.now) (labels_of (diagnostic_of self.now)) sheet.now }
         ensures same { SameRenderer renderer.old renderer.new }
-        ensures draws { DrawsSnippets W.sink (⟦<F as Table<'files>>⟧.table files.now) self.now sheet.now renderer.old result renderer.new }
+        ensures draws { DrawsSnippets W.sink (F.database files.now)
+            self.now sheet.now renderer.old result renderer.new }
     {
         let diagnostic = self.diagnostic;
         let page = Page {
@@ -150,7 +164,8 @@ fn draw_closing<FileId, W: WriteStyle>(
     padding: usize,
 ) -> Result<(), Error>
     ensures same { SameRenderer renderer.old renderer.new }
-    ensures sends { DrawsRows W.sink diagnostic.now.severity padding (closing_rows diagnostic.now) renderer.old result renderer.new }
+    ensures sends { DrawsRows W.sink diagnostic.now.severity padding (closing_rows diagnostic.now)
+        renderer.old result renderer.new }
     ensures io { IfErr result IsIo }
 {
     draw_notes(diagnostic, renderer, padding)?;
@@ -164,7 +179,8 @@ fn draw_bare<FileId, W: WriteStyle>(
     renderer: &mut Renderer<'_, '_, W>,
 ) -> Result<(), Error>
     ensures same { SameRenderer renderer.old renderer.new }
-    ensures sends { SendsStream W.sink (bare_picture diagnostic.now (config_of renderer.old)) renderer.old result renderer.new }
+    ensures sends { SendsStream W.sink (bare_picture diagnostic.now (config_of renderer.old))
+        renderer.old result renderer.new }
     ensures io { IfErr result IsIo }
 {
     draw_header(diagnostic, renderer, None)?;

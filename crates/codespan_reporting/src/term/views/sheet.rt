@@ -11,7 +11,6 @@ use crate::term::views::gather::Gathered;
 use crate::term::views::padding::drawn_padding;
 use crate::term::views::plan::plan_files;
 use crate::term::views::steps::Step;
-use crate::term::views::table::Table;
 use codespan_base::files::{Error, Files};
 use codespan_base::term::{Config, Layout};
 use std::alloc::Global;
@@ -49,9 +48,12 @@ pub fn prepare<'files, 'e, 'd, F: Files<'files>>(
     config: &Config<'_>,
     gathered: &'e Gathered<'d, F::FileId>,
 ) -> Result<Sheet<'e, 'd, F::FileId>, Error>
-    requires { IsGathered (⟦<F as Table<'files>>⟧.table files.now) config.now (map label_of gathered.now.labels.now) gathered.now }
-    ensures prepared { IfOk result (IsPrepared (⟦<F as Table<'files>>⟧.table files.now) config.now (map label_of gathered.now.labels.now)) }
-    ensures refused { TellsNaming (sheet_refusal config.now (⟦<F as Table<'files>>⟧.table files.now) (map label_of gathered.now.labels.now)) result }
+    requires { IsGathered (F.database files.now) config.now (map label_of gathered.now.labels.now)
+        gathered.now }
+    ensures prepared { IfOk result (IsPrepared (F.database files.now) config.now
+        (map label_of gathered.now.labels.now)) }
+    ensures refused { TellsNaming (sheet_refusal config.now (F.database files.now)
+        (map label_of gathered.now.labels.now)) result }
 {
     let mut steps = Vec::with_capacity(alloc, gathered.entries.len())?;
     let files = plan_files(alloc, files, config.layout, gathered, &mut steps)?;

@@ -4,13 +4,12 @@ ghost use Rattle.std.specs.Prelude.{◌≡◌, ◌∷◌, []};
 ghost use Rattle.codespan_base.specs.declared.term.config.DisplayStyle.TheVariants.{Short, Medium};
 ghost use Rattle.codespan_picture.specs.Picture.{label_of, labels_of};
 ghost use Rattle.codespan_renderer.specs.Renderers.{writer_of, config_of, SameRenderer};
-ghost use Rattle.codespan_reporting.specs.Headline.{DrawsShort};
+ghost use Rattle.codespan_reporting.specs.Output.{WritesStyled};
 ghost use Rattle.codespan_reporting.specs.Inner.ViewDrawing.{DrawsHeadersOf, DrawsInStyle};
 
 use crate::term::renderer::Renderer;
 use crate::term::views::loci::{is_primary, locus_at};
 use crate::term::views::parts::{draw_header, draw_notes};
-use crate::term::views::table::Table;
 use codespan_base::diagnostic::{Diagnostic, Label};
 use codespan_base::files::{Error, Files};
 use codespan_base::term::WriteStyle;
@@ -40,15 +39,22 @@ impl<'diagnostic, FileId: Copy + Eq> ShortDiagnostic<'diagnostic, FileId> {
         }
     }
 
-    /// Draws the picture, by the renderer's configuration.
+    /// Writes the output, by the renderer's configuration.
     ///
-    /// For each primary label it asks for the name of its file and for the place of its start, and then draws the header. Files of
-    /// secondary labels are not asked.
+    /// For each primary label it looks up the name of its file and the location of its start, and
+    /// then writes the header. Nothing is looked up for secondary labels.
     ///
-    /// Refuses as the first lookup that refuses does, and with `Io` where the writer refuses; besides, where there is a lookup, with
-    /// `OutOfMemory`, which stands for a growth that was refused, and with `FormatError`, which stands for a file's name whose `Display`
-    /// refuses. The contract leaves open when these two come. Where a lookup refuses, the headers of the primary labels before it are
-    /// written. Without a primary label there is no lookup, and the one refusal is `Io`.
+    /// # Errors
+    ///
+    /// - [`Error::Io`]: the writer fails, or a lookup fails with it.
+    /// - [`Error::OutOfMemory`]: an allocation fails, or a lookup fails with it. The contract leaves
+    ///   open when, but it is not returned without primary labels.
+    /// - [`Error::FormatError`]: the `Display` of a file's name fails, or a lookup fails with it. The
+    ///   contract leaves open when, but it is not returned without primary labels.
+    /// - Any other error: that of the first lookup that fails.
+    ///
+    /// Unless the writer fails, exactly the headers of the primary labels before the one at which
+    /// the call fails have then been written. Where the writer fails, a prefix of the output has.
     pub fn render<'files, F, W>(
         &self,
         files: &'files F,
@@ -59,7 +65,10 @@ impl<'diagnostic, FileId: Copy + Eq> ShortDiagnostic<'diagnostic, FileId> {
         W: WriteStyle,
         FileId: 'files,
         ensures same { SameRenderer renderer.old renderer.new }
-        ensures draws { DrawsShort (config_of renderer.old) FileId.eq (F.file files.now) (F.refusal files.now) (short_diagnostic_of self.now) (short_style_of self.now) (W.sink (writer_of renderer.old)) result (W.sink (writer_of renderer.new)) }
+        ensures draws { let config = config_of renderer.old in
+            WritesStyled (short_style_of self.now) config config
+            (F.database files.now) (short_diagnostic_of self.now)
+            (W.sink (writer_of renderer.old)) result (W.sink (writer_of renderer.new)) }
     {
         if self.show_notes {
             draw_medium(files, self.diagnostic, renderer)
@@ -76,7 +85,8 @@ fn draw_medium<'files, F: Files<'files>, W: WriteStyle>(
     renderer: &mut Renderer<'_, '_, W>,
 ) -> Result<(), Error>
     ensures same { SameRenderer renderer.old renderer.new }
-    ensures draws { DrawsInStyle W.sink (⟦<F as Table<'files>>⟧.table files.now) Medium diagnostic.now renderer.old result renderer.new }
+    ensures draws { DrawsInStyle W.sink (F.database files.now)
+        Medium diagnostic.now renderer.old result renderer.new }
 {
     draw_headers(files, diagnostic, renderer)?;
     draw_notes(diagnostic, renderer, 0)
@@ -89,7 +99,8 @@ fn draw_headers<'files, F: Files<'files>, W: WriteStyle>(
     renderer: &mut Renderer<'_, '_, W>,
 ) -> Result<(), Error>
     ensures same { SameRenderer renderer.old renderer.new }
-    ensures draws { DrawsInStyle W.sink (⟦<F as Table<'files>>⟧.table files.now) Short diagnostic.now renderer.old result renderer.new }
+    ensures draws { DrawsInStyle W.sink (F.database files.now)
+        Short diagnostic.now renderer.old result renderer.new }
 {
     if draw_located(files, diagnostic, renderer)? {
         Ok(())
@@ -105,7 +116,8 @@ fn draw_located<'files, F: Files<'files>, W: WriteStyle>(
     renderer: &mut Renderer<'_, '_, W>,
 ) -> Result<bool, Error>
     ensures same { SameRenderer renderer.old renderer.new }
-    ensures draws { DrawsHeadersOf W.sink (⟦<F as Table<'files>>⟧.table files.now) diagnostic.now (labels_of diagnostic.now) renderer.old result renderer.new }
+    ensures draws { DrawsHeadersOf W.sink (F.database files.now)
+        diagnostic.now (labels_of diagnostic.now) renderer.old result renderer.new }
 {
     let mut is_located = false;
     for label in &diagnostic.labels {
@@ -122,7 +134,8 @@ fn draw_if_primary<'files, F: Files<'files>, W: WriteStyle>(
     label: &Label<F::FileId>,
 ) -> Result<bool, Error>
     ensures same { SameRenderer renderer.old renderer.new }
-    ensures draws { DrawsHeadersOf W.sink (⟦<F as Table<'files>>⟧.table files.now) diagnostic.now (label_of label.now ∷ []) renderer.old result renderer.new }
+    ensures draws { DrawsHeadersOf W.sink (F.database files.now)
+        diagnostic.now (label_of label.now ∷ []) renderer.old result renderer.new }
 {
     if !is_primary(label) {
         return Ok(false);

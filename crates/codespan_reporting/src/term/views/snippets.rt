@@ -14,7 +14,6 @@ use crate::term::views::lines::{FileLines, Page};
 use crate::term::views::marks::LineMarks;
 use crate::term::views::sheet::SheetFile;
 use crate::term::views::steps::Step;
-use crate::term::views::table::Table;
 use codespan_base::files::{Error, Files};
 use codespan_base::term::WriteStyle;
 use std::convert::AsStr;
@@ -27,7 +26,8 @@ fn draw_start<F, FileId, W: WriteStyle>(
     snippet: &SheetFile<'_, '_, FileId>,
 ) -> Result<(), Error>
     ensures same { SameRenderer renderer.old renderer.new }
-    ensures sends { DrawsRows W.sink page.now.severity page.now.padding (start_rows snippet.now) renderer.old result renderer.new }
+    ensures sends { DrawsRows W.sink page.now.severity page.now.padding (start_rows snippet.now)
+        renderer.old result renderer.new }
     ensures io { IfErr result IsIo }
 {
     renderer.render_snippet_start(page.padding, &snippet.locus)?;
@@ -46,10 +46,12 @@ pub fn draw_snippet<'files, 'd, F: Files<'files>, W: WriteStyle>(
     snippet: &SheetFile<'_, 'd, F::FileId>,
     steps: &[Step<'_, 'd, F::FileId>],
 ) -> Result<(), Error>
-    requires steps { AllByRecursion (IsStepOf (F.file page.now.files.now snippet.now.file.now.id)) steps.now }
+    requires steps { AllByRecursion (IsStepOf
+        ((F.database page.now.files.now).file snippet.now.file.now.id)) steps.now }
     requires fits { DoFit (map step_of steps.now) }
     ensures same { SameRenderer renderer.old renderer.new }
-    ensures draws { DrawsSnippet W.sink ⟦<F as Table<'files>>⟧.table page.now snippet.now steps.now renderer.old result renderer.new }
+    ensures draws { DrawsSnippet W.sink F.database page.now snippet.now steps.now renderer.old
+        result renderer.new }
 {
     let source = page.files.source(snippet.file.id)?;
     draw_start(page, renderer, snippet)?;
@@ -71,7 +73,8 @@ pub fn draw_end<F, FileId, W: WriteStyle>(
     is_followed: bool,
 ) -> Result<(), Error>
     ensures same { SameRenderer renderer.old renderer.new }
-    ensures sends { DrawsRows W.sink page.now.severity page.now.padding (end_rows snippet.now is_followed) renderer.old result renderer.new }
+    ensures sends { DrawsRows W.sink page.now.severity page.now.padding
+        (end_rows snippet.now is_followed) renderer.old result renderer.new }
     ensures io { IfErr result IsIo }
 {
     if is_followed {

@@ -79,8 +79,11 @@ impl<'files, F: Files<'files>> Walk<'files, F> {
     /// The number of a line that is filled in, where it has to be known before the header: in the unbroken layout. Refuses as its
     /// lookup does.
     fn known_number(&self, index: usize) -> Result<Option<usize>, Error>
-        ensures number { IfOk result (λ number. number ≡ known_number self.now.layout ((walked_file F.file self.now).number index)) }
-        ensures refused { Tells (numbers_refusal F.refusal self.now (index ∷ [])) result }
+        ensures number { IfOk result (λ number. number
+            ≡ known_number self.now.layout
+            ((walked_file (λ s. (F.database s).file) self.now).number index)) }
+        ensures refused { Tells (numbers_refusal (λ s. (F.database s).refusal) self.now
+            (index ∷ [])) result }
     {
         match self.layout {
             Layout::Classic => Ok(None),
@@ -96,9 +99,11 @@ impl<'files, F: Files<'files>> Walk<'files, F> {
         next: SourceLine,
         steps: &mut Vec<Step<'e, 'd, F::FileId>>,
     ) -> Result<(), Error>
-        requires next { IsLineOf (walked_file F.file self.now) next }
-        ensures added { OnOk result (AddsWalked F.file self.now steps.old.items steps.new.items (gap_steps gap next.index)) }
-        ensures refused { Tells (numbers_refusal F.refusal self.now (fills_of (gap_steps gap next.index))) result }
+        requires next { IsLineOf (walked_file (λ s. (F.database s).file) self.now) next }
+        ensures added { OnOk result (AddsWalked (λ s. (F.database s).file) self.now steps.old.items
+            steps.new.items (gap_steps gap next.index)) }
+        ensures refused { Tells (numbers_refusal (λ s. (F.database s).refusal) self.now
+            (fills_of (gap_steps gap next.index))) result }
     {
         match gap {
             Gap::Nothing => {}
@@ -120,9 +125,11 @@ impl<'files, F: Files<'files>> Walk<'files, F> {
         singles: &'e [Entry<'d, F::FileId>],
         steps: &mut Vec<Step<'e, 'd, F::FileId>>,
     ) -> Result<(), Error>
-        requires line { IsLineOf (walked_file F.file self.now) line }
-        ensures added { OnOk result (AddsWalked F.file self.now steps.old.items steps.new.items (steps_to last line.index (map entry_of singles.now))) }
-        ensures refused { Tells (numbers_refusal F.refusal self.now (fills_of (steps_to last line.index (map entry_of singles.now)))) result }
+        requires line { IsLineOf (walked_file (λ s. (F.database s).file) self.now) line }
+        ensures added { OnOk result (AddsWalked (λ s. (F.database s).file) self.now steps.old.items
+            steps.new.items (steps_to last line.index (map entry_of singles.now))) }
+        ensures refused { Tells (numbers_refusal (λ s. (F.database s).refusal) self.now
+            (fills_of (steps_to last line.index (map entry_of singles.now)))) result }
     {
         self.push_gap(gap_before(last, line.index), line, steps)?;
         steps.push(Step::Shown { line, singles })?;
@@ -136,9 +143,12 @@ impl<'files, F: Files<'files>> Walk<'files, F> {
         entries: &'e [Entry<'d, F::FileId>],
         steps: &mut Vec<Step<'e, 'd, F::FileId>>,
     ) -> Result<(), Error>
-        requires lines { All (λ e. IsLineOf (walked_file F.file self.now) e.line) entries.now }
-        ensures added { OnOk result (AddsWalked F.file self.now steps.old.items steps.new.items (steps_of (map entry_of entries.now))) }
-        ensures refused { Tells (numbers_refusal F.refusal self.now (fills_of (steps_of (map entry_of entries.now)))) result }
+        requires lines { All (λ e. IsLineOf (walked_file (λ s. (F.database s).file) self.now)
+            e.line) entries.now }
+        ensures added { OnOk result (AddsWalked (λ s. (F.database s).file) self.now steps.old.items
+            steps.new.items (steps_of (map entry_of entries.now))) }
+        ensures refused { Tells (numbers_refusal (λ s. (F.database s).refusal) self.now
+            (fills_of (steps_of (map entry_of entries.now)))) result }
     {
         let mut last = None;
         let mut at = 0;

@@ -1,5 +1,5 @@
 use Rattle.codespan_base.specs.FileTables.{name_of, source_of, mapped_name_of, mapped_source_of, settings_of}
-use Rattle.codespan_reporting.specs.Headline.{IsDrawn}
+use Rattle.codespan_reporting.specs.Output.{IsRendered}
 use Rattle.gallery.proofs.Alone.{done_follows, over_one, over_mapped}
 use Rattle.gallery.proofs.drawing.draw.Goals as goal
 
@@ -10,10 +10,10 @@ returns-in-One c = λ plain.
     let are = rw c.in-One.is at c.in_ok-tables.ensures in
     done_follows c.draw_over.result
     (λ added. (
-      added.text,
-      added.whole,
+      added.0,
+      added.1,
       over_one case (name_of files).now (source_of files).now c.in-One.said are.1
-          (λ Id same file refusal said. IsDrawn case.config same file refusal said added.text) are.0 added.drawn,
+          (λ Id database said. IsRendered case.config database said added.0) are.0 added.2,
     ))
     (c.draw_over.ensures plain)
 
@@ -24,9 +24,9 @@ returns c = λ plain.
     let are = rw c.in-Mapped.is at c.in_ok-tables.ensures in
     done_follows c.draw_over-in-Mapped.result
     (λ added. (
-      added.text,
-      added.whole,
+      added.0,
+      added.1,
       over_mapped case (mapped_name_of files).now (mapped_source_of files).now c.in-Mapped.said are.1
-          (λ Id same file refusal said. IsDrawn case.config same file refusal said added.text) are.0 (settings_of files) are.2 added.drawn,
+          (λ Id database said. IsRendered case.config database said added.0) are.0 (settings_of files) are.2 added.2,
     ))
     (c.draw_over-in-Mapped.ensures plain)

@@ -12,7 +12,7 @@ returns-in-One c =
     let files = c.in-One.files in
     let are = rw c.in-One.is at c.in_ok-tables.ensures in
     ok_follows c.paint_over.result
-    (λ runs. over_one case (name_of files).now (source_of files).now c.in-One.said are.1 (λ Id same file refusal said. IsPaintedOver case.config same file refusal said (map run_view runs.items)) are.0)
+    (λ runs. over_one case (name_of files).now (source_of files).now c.in-One.said are.1 (λ Id database said. IsPaintedOver case.config database said (map run_view runs.items)) are.0)
     (c.paint_over.ensures (λ x contains. refl))
 
 pub returns-in-Several : goal.returns-in-Several
@@ -21,7 +21,7 @@ returns-in-Several c =
     let files = c.in-Several.files in
     let are = rw c.in-Several.is at c.in_ok-tables.ensures in
     ok_follows c.paint_over-in-Several.result
-    (λ runs. over_several case (entries files) (λ Id same file refusal said. IsPaintedOver case.config same file refusal said (map run_view runs.items)) are.0 are.1)
+    (λ runs. over_several case (entries files) (λ Id database said. IsPaintedOver case.config database said (map run_view runs.items)) are.0 are.1)
     (c.paint_over-in-Several.ensures (stated_in_table (entries files) case.said))
 
 pub returns : goal.returns
@@ -31,5 +31,5 @@ returns c =
     let are = rw c.in-Mapped.is at c.in_ok-tables.ensures in
     ok_follows c.paint_over-in-Mapped.result
     (λ runs. over_mapped case (mapped_name_of files).now (mapped_source_of files).now c.in-Mapped.said are.1
-    (λ Id same file refusal said. IsPaintedOver case.config same file refusal said (map run_view runs.items)) are.0 (settings_of files) are.2)
+    (λ Id database said. IsPaintedOver case.config database said (map run_view runs.items)) are.0 (settings_of files) are.2)
     (c.paint_over-in-Mapped.ensures (λ x contains. refl))

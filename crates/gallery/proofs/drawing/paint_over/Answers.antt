@@ -14,10 +14,10 @@ inked styles = spelling_by styles (λ spec. ink_number (ink_of spec) ∷ []) (in
 pub returns : goal.returns
 returns g c = λ stated.
     let config = c.args.case.now.config in
-    let stream = picture config g.F.FileId.PartialEq.eq (g.F.Files.file c.args.files.now) c.args.said.now in
+    let stream = picture config.display_style config config (g.F.Files.database c.args.files.now) c.args.said.now in
     let begins = c.new-writer.ensures.begins in
     let told_first = fresh_told (inked c.default-styles.result) _ (told c.in_ok-new.field-0) begins in
-    let came = drawn_stream config _ _ _ _ config.display_style _ _ _ c.in_ok-emit_to_write_style.ensures.draws stated told_first in
+    let came = drawn_stream config _ _ _ _ _ c.in_ok-emit_to_write_style.ensures.draws stated told_first in
     record {
       answered = came.0;
       is = ap all_told c.into_runs.ensures ∙ ap told c.into_inner.ensures

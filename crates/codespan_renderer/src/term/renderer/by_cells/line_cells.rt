@@ -1,23 +1,19 @@
 //! The characters of a line and the pointers under them, in memory that serves many lines.
 
-ghost use Rattle.std.specs.Prelude.{◌≡◌, IfErr, IfOk, IsErrOf, IsTrue, OnErr};
-ghost use Rattle.codespan_base.specs.Errors.{IsIo};
-ghost use Rattle.codespan_base.specs.WriterLaw.{Sends};
+ghost use Rattle.std.specs.Prelude.{◌≡◌, IfOk, IsErrOf, IsTrue, OnErr};
 ghost use Rattle.codespan_picture.specs.Cells.{cells_to_end, drawn_text};
-ghost use Rattle.codespan_picture.specs.Given.{all_labelled, lanes_in_order, lanes_of};
-ghost use Rattle.codespan_picture.specs.Picture.{look_of};
-ghost use Rattle.codespan_picture.specs.Rows.{rows_of};
-ghost use Rattle.codespan_picture.specs.RowStreams.{stream_of_rows};
+ghost use Rattle.codespan_picture.specs.Given.{single_label_views, lanes_in_order};
 ghost use Rattle.codespan_renderer.specs.Inner.LineCells.{AreCellsOf};
 ghost use Rattle.codespan_renderer.specs.Inner.PointerLists.{AreNarrow};
 ghost use Rattle.codespan_renderer.specs.Inner.Sweeps.{starts_in_order};
-ghost use Rattle.codespan_renderer.specs.Renderers.{writer_of, config_of, SameRenderer};
+ghost use Rattle.codespan_renderer.specs.Renderers.{config_of, rendered_source, source_line, Renders};
 
+use crate::term::renderer::by_cells::cached_line::{CachedLine, without_end};
 use crate::term::renderer::by_cells::pointers::{Pointer, find_pointers};
-use crate::term::renderer::by_cells::rows::{send_line, without_end};
 use crate::term::renderer::cells::{Cell, Cells};
 use crate::term::renderer::line::{Lanes, Line, drawn_text, leading_whitespace};
 use crate::term::renderer::messages::Messages;
+use crate::term::renderer::source::send_line;
 use crate::term::renderer::{MultiLabel, Renderer, SingleLabel};
 use codespan_base::diagnostic::{LabelStyle, Severity};
 use codespan_base::files::Error;
@@ -53,8 +49,9 @@ impl LineCells {
         source: &str,
         labels: &[SingleLabel<'_>],
     ) -> Result<(), Error>
-        requires ordered { IsTrue (starts_in_order (all_labelled labels.now)) }
-        ensures taken { IfOk result (λ _. AreCellsOf (config_of renderer.now).tab_width (drawn_text source.now) (all_labelled labels.now) self.new) }
+        requires ordered { IsTrue (starts_in_order (single_label_views labels.now)) }
+        ensures taken { IfOk result (λ _. AreCellsOf (config_of renderer.now).tab_width
+            (drawn_text source.now) (single_label_views labels.now) self.new) }
         ensures refused { OnErr result (IsErrOf result Error.OutOfMemory) }
     {
         let tab_width = renderer.config.tab_width;
@@ -87,11 +84,13 @@ impl LineCells {
         multi_labels: &'row [(usize, LabelStyle, MultiLabel<'d>)],
     ) -> Result<(), Error>
         requires lanes { IsTrue (lanes_in_order num_multi_labels multi_labels.now) }
-        requires ordered { IsTrue (starts_in_order (all_labelled single_labels.now)) }
-        requires taken { AreCellsOf (config_of renderer.old).tab_width (drawn_text source.now) (all_labelled single_labels.now) self.now }
-        ensures same { SameRenderer renderer.old renderer.new }
-        ensures sends { Sends (W.sink (writer_of renderer.old)) (stream_of_rows (look_of (config_of renderer.old) severity outer_padding) (rows_of (record { number = line_number; text = drawn_text source.now; labels = all_labelled single_labels.now; lanes = lanes_of num_multi_labels multi_labels.now }))) result (W.sink (writer_of renderer.new)) }
-        ensures io { IfErr result IsIo }
+        requires ordered { IsTrue (starts_in_order (single_label_views single_labels.now)) }
+        requires taken { AreCellsOf (config_of renderer.old).tab_width (drawn_text source.now)
+            (single_label_views single_labels.now) self.now }
+        ensures { Renders W.sink (rendered_source (config_of renderer.old) severity outer_padding
+            (source_line line_number source.now single_labels.now num_multi_labels
+            multi_labels.now))
+            renderer.old result renderer.new }
     {
         let text = drawn_text(source);
         let line = Line {
@@ -105,13 +104,14 @@ impl LineCells {
             },
         };
         let look = renderer.look(severity, outer_padding);
-        send_line(
-            renderer.writer,
-            look,
-            line,
-            self.cells.as_slice(),
-            self.pointers.as_slice(),
-        )?;
+        let cached = CachedLine {
+            tab_width: look.tab_width,
+            text,
+            labels: single_labels,
+            all: self.cells.as_slice(),
+            pointers: self.pointers.as_slice(),
+        };
+        send_line(renderer.writer, look, line, &cached)?;
         Ok(())
     }
 }

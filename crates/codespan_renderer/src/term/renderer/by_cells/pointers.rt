@@ -4,8 +4,8 @@ ghost use Rattle.std.specs.Prelude.{◌≡◌, ◌+◌, ◌^◌, ◌++◌, ◌<�
 ghost use Rattle.codespan_base.specs.Streams.{newline};
 ghost use Rattle.codespan_base.specs.WriterLaw.{Sends};
 ghost use Rattle.codespan_picture.specs.Cells.{cells, width_of};
-ghost use Rattle.codespan_picture.specs.Given.{labelled, all_labelled};
-ghost use Rattle.codespan_renderer.specs.Inner.GivenLine.{look_of_given, line_of_given};
+ghost use Rattle.codespan_picture.specs.Given.{single_label_view, single_label_views};
+ghost use Rattle.codespan_renderer.specs.Inner.GivenLine.{look_view, line_view};
 ghost use Rattle.codespan_renderer.specs.Inner.GivenRows.{given_cells, given_hanging, given_hanging_rows, given_messages, given_pointers};
 ghost use Rattle.codespan_renderer.specs.Inner.PointerLists.{AreNarrow, pointer_under, pointers_in, pointers_before, spaced};
 ghost use Rattle.codespan_picture.specs.Rows.{hanging};
@@ -50,7 +50,9 @@ pub fn send_spaced<W: WriteStyle>(
     before: usize,
     edge: u128,
 ) -> io::Result<()>
-    ensures { Sends (W.sink w.old) (spaced (look_of_given look.entry) edge 0 (pointers_before before found.now)) result (W.sink w.new) }
+    ensures { Sends (W.sink w.old)
+        (spaced (look_view look.entry) edge 0 (pointers_before before found.now))
+        result (W.sink w.new) }
 {
     let mut column = 0u128;
     for pointer in found {
@@ -76,19 +78,6 @@ pub fn width_up_to(characters: &[Cell], text: &str, tab_width: usize, place: usi
     }
 }
 
-/// How many cells the characters take that begin before a place.
-#[tactic(auto, using(crate::proofs::Underlines::widths_before))]
-pub fn width_before(characters: &[Cell], text: &str, tab_width: usize, place: usize) -> u128
-    requires characters { characters.now ≡ cells tab_width text.now }
-    requires narrow { AreNarrow characters.now }
-    ensures { result ≡ width_of (cells_before place (cells tab_width text.now)) }
-{
-    match place.checked_sub(1) {
-        Some(last) => width_up_to(characters, text, tab_width, last),
-        None => 0,
-    }
-}
-
 /// Takes the pointers of the labels of a line that hang in place of those before. Where none hangs no character is looked at. Refuses with
 /// `OutOfMemory`.
 #[inline(always)]
@@ -101,11 +90,12 @@ pub fn find_pointers(
     characters: &[Cell],
 ) -> Result<(), Error>
     requires hanging { AreHanging labels.now messages.before.now messages.after.now }
-    requires before { IsTrue (starts_in_order (all_labelled messages.before.now)) }
-    requires after { IsTrue (starts_in_order (all_labelled messages.after.now)) }
+    requires before { IsTrue (starts_in_order (single_label_views messages.before.now)) }
+    requires after { IsTrue (starts_in_order (single_label_views messages.after.now)) }
     requires characters { characters.now ≡ cells tab_width text.now }
     requires narrow { AreNarrow characters.now }
-    ensures found { IfOk result (λ _. pointers.new.items ≡ pointers_in (hanging (all_labelled labels.now)) (cells tab_width text.now)) }
+    ensures found { IfOk result (λ _. pointers.new.items
+        ≡ pointers_in (hanging (single_label_views labels.now)) (cells tab_width text.now)) }
     ensures refused { OnErr result (IsErrOf result Error.OutOfMemory) }
 {
     pointers.clear();
@@ -125,152 +115,6 @@ pub fn find_pointers(
         }
     }
     Ok(())
-}
-
-/// The pointers under a line.
-pub fn send_pointer_row<W: WriteStyle>(
-    w: &mut W,
-    look: Look<'_>,
-    line: Line<'_, '_>,
-    characters: &[Cell],
-    found: &[Pointer],
-) -> io::Result<()>
-    requires characters { characters.now ≡ cells look.tab_width line.text.now }
-    requires narrow { AreNarrow characters.now }
-    requires found { found.now ≡ pointers_in (hanging (all_labelled line.labels.now)) (cells look.tab_width line.text.now) }
-    ensures { Sends (W.sink w.old) (pointer_row (look_of_given look.entry) (line_of_given line.entry) ++ newline) result (W.sink w.new) }
-{
-    send_opening(w, look, line)?;
-    send_all_pointers(w, look, line, characters, found)?;
-    send_newline(w)
-}
-
-/// All pointers of a line.
-fn send_all_pointers<W: WriteStyle>(
-    w: &mut W,
-    look: Look<'_>,
-    line: Line<'_, '_>,
-    characters: &[Cell],
-    found: &[Pointer],
-) -> io::Result<()>
-    requires characters { characters.now ≡ cells look.tab_width line.text.now }
-    requires narrow { AreNarrow characters.now }
-    requires found { found.now ≡ pointers_in (hanging (all_labelled line.labels.now)) (cells look.tab_width line.text.now) }
-    ensures { Sends (W.sink w.old) (given_pointers look.entry line.entry (given_cells look.entry line.entry)) result (W.sink w.new) }
-{
-    let edge = width_up_to(
-        characters,
-        line.text,
-        look.tab_width,
-        greatest_start(line.labels),
-    );
-    send_spaced(w, look, found, usize::MAX, edge)
-}
-
-/// The pointers of the characters of a line that begin before a place at which a label of it starts.
-fn send_pointers_before<W: WriteStyle>(
-    w: &mut W,
-    look: Look<'_>,
-    line: Line<'_, '_>,
-    characters: &[Cell],
-    found: &[Pointer],
-    before: usize,
-) -> io::Result<()>
-    requires characters { characters.now ≡ cells look.tab_width line.text.now }
-    requires narrow { AreNarrow characters.now }
-    requires found { found.now ≡ pointers_in (hanging (all_labelled line.labels.now)) (cells look.tab_width line.text.now) }
-    requires near { before ≤ greatest_start (all_labelled line.labels.now) }
-    ensures { Sends (W.sink w.old) (given_pointers look.entry line.entry (cells_before before (given_cells look.entry line.entry))) result (W.sink w.new) }
-{
-    let edge = width_before(characters, line.text, look.tab_width, before);
-    send_spaced(w, look, found, before, edge)
-}
-
-/// A message under its pointer.
-pub fn send_hanging_row<W: WriteStyle>(
-    w: &mut W,
-    look: Look<'_>,
-    line: Line<'_, '_>,
-    characters: &[Cell],
-    found: &[Pointer],
-    label: &SingleLabel<'_>,
-) -> io::Result<()>
-    requires characters { characters.now ≡ cells look.tab_width line.text.now }
-    requires narrow { AreNarrow characters.now }
-    requires found { found.now ≡ pointers_in (hanging (all_labelled line.labels.now)) (cells look.tab_width line.text.now) }
-    requires near { (labelled label.now).start ≤ greatest_start (all_labelled line.labels.now) }
-    ensures { Sends (W.sink w.old) (hanging_row (look_of_given look.entry) (line_of_given line.entry) (labelled label.now) ++ newline) result (W.sink w.new) }
-{
-    send_opening(w, look, line)?;
-    send_pointers_before(w, look, line, characters, found, label.1.start)?;
-    send_message(w, look.severity, label)?;
-    send_newline(w)
-}
-
-/// The rows of the messages that hang among these labels, the last one first.
-pub fn send_hanging_rows<W: WriteStyle>(
-    w: &mut W,
-    look: Look<'_>,
-    line: Line<'_, '_>,
-    characters: &[Cell],
-    found: &[Pointer],
-    labels: &[SingleLabel<'_>],
-) -> io::Result<()>
-    requires characters { characters.now ≡ cells look.tab_width line.text.now }
-    requires narrow { AreNarrow characters.now }
-    requires found { found.now ≡ pointers_in (hanging (all_labelled line.labels.now)) (cells look.tab_width line.text.now) }
-    requires near { greatest_start (all_labelled labels.now) ≤ greatest_start (all_labelled line.labels.now) }
-    ensures { Sends (W.sink w.old) (given_hanging look.entry line.entry labels.now) result (W.sink w.new) }
-{
-    for label in labels.iter().rev() {
-        if label.2.is_empty() {
-            continue;
-        }
-        send_hanging_row(w, look, line, characters, found, label)?;
-    }
-    Ok(())
-}
-
-/// The pointers, and a row for each message that hangs.
-fn send_pointers_and_messages<W: WriteStyle>(
-    w: &mut W,
-    look: Look<'_>,
-    line: Line<'_, '_>,
-    messages: Messages<'_, '_>,
-    characters: &[Cell],
-    found: &[Pointer],
-) -> io::Result<()>
-    requires pieces { ArePieces line.labels.now messages.before.now messages.after.now }
-    requires characters { characters.now ≡ cells look.tab_width line.text.now }
-    requires narrow { AreNarrow characters.now }
-    requires found { found.now ≡ pointers_in (hanging (all_labelled line.labels.now)) (cells look.tab_width line.text.now) }
-    ensures { Sends (W.sink w.old) (given_messages look.entry line.entry messages.entry) result (W.sink w.new) }
-{
-    send_pointer_row(w, look, line, characters, found)?;
-    send_hanging_rows(w, look, line, characters, found, messages.after)?;
-    send_hanging_rows(w, look, line, characters, found, messages.before)
-}
-
-/// The pointers, and a row for each message that hangs, where one does.
-pub fn send_all_hanging<W: WriteStyle>(
-    w: &mut W,
-    look: Look<'_>,
-    line: Line<'_, '_>,
-    messages: Messages<'_, '_>,
-    characters: &[Cell],
-    found: &[Pointer],
-) -> io::Result<()>
-    requires hanging { AreHanging line.labels.now messages.before.now messages.after.now }
-    requires pieces { ArePieces line.labels.now messages.before.now messages.after.now }
-    requires characters { characters.now ≡ cells look.tab_width line.text.now }
-    requires narrow { AreNarrow characters.now }
-    requires found { found.now ≡ pointers_in (hanging (all_labelled line.labels.now)) (cells look.tab_width line.text.now) }
-    ensures { Sends (W.sink w.old) (given_hanging_rows look.entry line.entry) result (W.sink w.new) }
-{
-    if !has_any_message(messages.before) && !has_any_message(messages.after) {
-        return Ok(());
-    }
-    send_pointers_and_messages(w, look, line, messages, characters, found)
 }
 
 /// The pointer under a character.

@@ -3,7 +3,7 @@
 ghost use Rattle.std.specs.Prelude.{◌≡◌, ◌+◌, ◌<◌, ◌≤◌, ◌&&◌, IsTrue, nat_lt, true, max, filter};
 ghost use Rattle.codespan_base.specs.Labels.{has_message, is_primary};
 ghost use Rattle.codespan_picture.specs.Carets.{style_under};
-ghost use Rattle.codespan_picture.specs.Given.{labelled, all_labelled};
+ghost use Rattle.codespan_picture.specs.Given.{single_label_view, single_label_views};
 ghost use Rattle.codespan_renderer.specs.Inner.PointerLists.{HasPassed};
 ghost use Rattle.codespan_picture.specs.RowParts.{starts_in};
 ghost use Rattle.codespan_renderer.specs.Inner.Runs.{best_from};
@@ -30,7 +30,7 @@ pub struct Sweep<'row, 'd> {
 impl<'row, 'd> Sweep<'row, 'd> {
     /// A walk that is at the line's start.
     pub fn new(labels: &'row [SingleLabel<'d>]) -> Sweep<'row, 'd>
-        requires { IsTrue (starts_in_order (all_labelled labels.now)) }
+        requires { IsTrue (starts_in_order (single_label_views labels.now)) }
         ensures met { HasMet 0 result }
         ensures labels { result.labels.now ≡ labels.now }
     {
@@ -48,8 +48,10 @@ impl<'row, 'd> Sweep<'row, 'd> {
         requires met { HasMet cell.place self.old }
         ensures met { HasMet (cell.place + cell.bytes) self.new }
         ensures labels { self.new.labels.now ≡ self.old.labels.now }
-        ensures primary { is_covered is_primary (all_labelled self.new.labels.now) cell ≡ nat_lt cell.place self.new.primary_end }
-        ensures any { is_covered (λ _. true) (all_labelled self.new.labels.now) cell ≡ nat_lt cell.place self.new.end }
+        ensures primary { is_covered is_primary (single_label_views self.new.labels.now) cell
+            ≡ nat_lt cell.place self.new.primary_end }
+        ensures any { is_covered (λ _. true) (single_label_views self.new.labels.now) cell
+            ≡ nat_lt cell.place self.new.end }
     {
         let labels = self.labels;
         while self.next < labels.len() && begins_by(&labels[self.next], cell) {
@@ -64,7 +66,7 @@ impl<'row, 'd> Sweep<'row, 'd> {
         requires met { HasMet cell.place self.old }
         ensures met { HasMet (cell.place + cell.bytes) self.new }
         ensures labels { self.new.labels.now ≡ self.old.labels.now }
-        ensures style { result ≡ style_under (all_labelled self.old.labels.now) cell }
+        ensures style { result ≡ style_under (single_label_views self.old.labels.now) cell }
     {
         self.meet(cell);
         if cell.place < self.primary_end {
@@ -82,7 +84,8 @@ impl<'row, 'd> Sweep<'row, 'd> {
         requires met { HasMet cell.place self.old }
         ensures met { HasMet (cell.place + cell.bytes) self.new }
         ensures labels { self.new.labels.now ≡ self.old.labels.now }
-        ensures primary { result ≡ is_covered is_primary (all_labelled self.old.labels.now) cell }
+        ensures primary { result
+            ≡ is_covered is_primary (single_label_views self.old.labels.now) cell }
     {
         self.meet(cell);
         cell.place < self.primary_end
@@ -90,8 +93,10 @@ impl<'row, 'd> Sweep<'row, 'd> {
 
     /// A label comes to those that have begun: one with no byte is over no character.
     fn admit(&mut self, label: &SingleLabel<'_>)
-        ensures primary { self.new.primary_end ≡ end_with (is_primary (labelled label.now)) self.old.primary_end (labelled label.now) }
-        ensures any { self.new.end ≡ end_with true self.old.end (labelled label.now) }
+        ensures primary { self.new.primary_end
+            ≡ end_with (is_primary (single_label_view label.now)) self.old.primary_end
+            (single_label_view label.now) }
+        ensures any { self.new.end ≡ end_with true self.old.end (single_label_view label.now) }
         ensures labels { self.new.labels.now ≡ self.old.labels.now }
         ensures next { self.new.next ≡ self.old.next }
     {
@@ -116,7 +121,7 @@ pub struct Starts<'row, 'd> {
 impl<'row, 'd> Starts<'row, 'd> {
     /// A walk that is at the line's start.
     pub fn new(labels: &'row [SingleLabel<'d>]) -> Starts<'row, 'd>
-        requires { IsTrue (starts_in_order (all_labelled labels.now)) }
+        requires { IsTrue (starts_in_order (single_label_views labels.now)) }
         ensures passed { HasPassed 0 result }
         ensures labels { result.labels.now ≡ labels.now }
     {
@@ -129,7 +134,8 @@ impl<'row, 'd> Starts<'row, 'd> {
         requires passed { HasPassed cell.place self.old }
         ensures passed { HasPassed (cell.place + cell.bytes) self.new }
         ensures labels { self.new.labels.now ≡ self.old.labels.now }
-        ensures best { result ≡ best_from (starts_in cell) found (filter has_message (all_labelled self.old.labels.now)) }
+        ensures best { result ≡ best_from (starts_in cell) found
+            (filter has_message (single_label_views self.old.labels.now)) }
     {
         let labels = self.labels;
         let mut best = found;
@@ -147,7 +153,7 @@ impl<'row, 'd> Starts<'row, 'd> {
 /// Whether the label begins before the character's end.
 fn begins_by(label: &SingleLabel<'_>, cell: Cell) -> bool
     requires { 1 ≤ cell.bytes }
-    ensures { result ≡ nat_lt (labelled label.now).start (cell.place + cell.bytes) }
+    ensures { result ≡ nat_lt (single_label_view label.now).start (cell.place + cell.bytes) }
 {
     label.1.start.saturating_sub(cell.place) < cell.bytes
 }

@@ -3,7 +3,7 @@ use Rattle.codespan_base.specs.FileModel.{IsLawful}
 use Rattle.codespan_base.specs.Streams.{no_marks}
 use Rattle.codespan_base.specs.WriterLaw.{Sink}
 use Rattle.codespan_base.specs.Writers.{fresh_sink}
-use Rattle.codespan_reporting.proofs.Emitting.{common, string_drawn, text_held, told_of_string}
+use Rattle.codespan_reporting.proofs.Emitting.{string_drawn, text_held, told_of_string}
 use Rattle.codespan_reporting.proofs.term.emitting.emit_into_string.Goals.{then-has_refused, else-has_refused}
 use Rattle.codespan_reporting.proofs.term.emitting.emit_into_string.Goals as goal
 
@@ -14,19 +14,19 @@ begins-empty begins empty = begins ∙ ap (λ ys. fresh_sink no_marks (Some ys))
 -- what was written is a text
 pub from_utf8_unchecked-requires : goal.from_utf8_unchecked-requires
 from_utf8_unchecked-requires g c =
-    let file = g.F.Files.file c.args.files.now in
+    let file = ((g.F.Files.database c.args.files.now).file) in
     let claim : g.claim c.lifetimes = search rules in
     let lawful : (id : g.row.F-FileId.Denot) → IsLawful (file id) = λ id. (g.met.F.Files c.lifetimes claim).lawful c.args.files.now id in
-    text_held (common c.args.config.now.display_style c.in-Ok.ensures.draws) (begins-empty c.new-plain.ensures.begins c.in_ok-bytes.ensures.items) (search rules) c.are_characters.ensures lawful
+    text_held c.in-Ok.ensures.draws (begins-empty c.new-plain.ensures.begins c.in_ok-bytes.ensures.items) (search rules) c.are_characters.ensures lawful
 
 pub returns-in-Ok : goal.returns-in-Ok
 returns-in-Ok g c =
-    string_drawn (common c.args.config.now.display_style c.in-Ok.ensures.draws) (begins-empty c.new-plain.ensures.begins c.in_ok-bytes.ensures.items) (search rules) c.in-Ok.ensures.meaning
+    string_drawn c.in-Ok.ensures.draws (begins-empty c.new-plain.ensures.begins c.in_ok-bytes.ensures.items) (search rules) c.in-Ok.ensures.meaning
 
 -- a growth was refused, or the writer has refused nothing
 pub returns-after-has_refused : goal.returns-after-has_refused
 returns-after-has_refused g c =
-    let drawn = common c.args.config.now.display_style c.in-Err.ensures.draws in
+    let drawn = c.in-Err.ensures.draws in
     elim c.if-has_refused.branch [
       | then-has_refused w ↦ rw w.result-is (inl refl)
       | else-has_refused w ↦ rw w.result-is (told_of_string drawn (sym c.has_refused.ensures ∙ w.if-has_refused.false))

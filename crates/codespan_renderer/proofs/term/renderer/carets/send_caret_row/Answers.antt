@@ -12,8 +12,8 @@ returns-in_err-send_carets g c = refused _ _ _ _ _ c.from_residual-in_err-send_c
 
 pub returns-in_err-send_trailing : goal.returns-in_err-send_trailing
 unfolding caret_row
-returns-in_err-send_trailing g c = refused _ _ _ _ _ c.from_residual-in_err-send_trailing.ensures.1 (stopped-before _ (stopped-then _ (came-then _ _ _ c.in_ok-send_opening.ensures c.in_ok-send_carets.ensures) (rw c.requires at c.in_err-send_trailing.ensures)))
+returns-in_err-send_trailing g c = refused _ _ _ _ _ c.from_residual-in_err-send_trailing.ensures.1 (stopped-before _ (stopped-then _ (came-then _ _ _ c.in_ok-send_opening.ensures c.in_ok-send_carets.ensures) (rw c.requires.trailing at c.in_err-send_trailing.ensures)))
 
 pub returns : goal.returns
 unfolding caret_row
-returns g c = sends-last _ _ _ _ _ (came-then _ _ _ (came-then _ _ _ c.in_ok-send_opening.ensures c.in_ok-send_carets.ensures) (rw c.requires at c.in_ok-send_trailing.ensures)) c.send_newline.ensures
+returns g c = sends-last _ _ _ _ _ (came-then _ _ _ (came-then _ _ _ c.in_ok-send_opening.ensures c.in_ok-send_carets.ensures) (rw c.requires.trailing at c.in_ok-send_trailing.ensures)) c.send_newline.ensures

@@ -1,10 +1,10 @@
 use Rattle.std.proofs.Common.{◌≡◌, fold, drop, max}
 use Rattle.codespan_base.specs.Labels.{Labelled}
-use Rattle.codespan_picture.specs.Given.{all_labelled}
+use Rattle.codespan_picture.specs.Given.{single_label_views}
 use Rattle.codespan_picture.specs.RowParts.{greatest_start}
 use Rattle.codespan_renderer.proofs.term.renderer.pointers.greatest_start.Given as goal
 
 -- the labels that are left raise it
 abbrev pub invariant-loop-label : goal.invariant-loop-label
 invariant-loop-label l =
-    fold (λ m (x : Labelled). max m x.start) l.greatest (all_labelled (drop l.label-index l.labels)) ≡ greatest_start (all_labelled l.labels)
+    fold (λ m (x : Labelled). max m x.start) l.greatest (single_label_views (drop l.label-index l.labels)) ≡ greatest_start (single_label_views l.labels)

@@ -1,9 +1,5 @@
-use Rattle.std.proofs.Common.{◌≡◌, ◌-◌, ◌^◌, arith}
 use Rattle.codespan_base.proofs.Chains.{came-then, stopped-then, stopped-before, refused, sends-last}
-use Rattle.codespan_picture.specs.Cells.{cells}
-use Rattle.codespan_picture.specs.RowParts.{cells_before}
 use Rattle.codespan_picture.specs.RowStreams.{pointer_row}
-use Rattle.codespan_renderer.proofs.RowWords.{all_before}
 use Rattle.codespan_renderer.proofs.term.renderer.pointers.send_pointer_row.Goals as goal
 
 pub returns-in_err-send_opening : goal.returns-in_err-send_opening
@@ -12,12 +8,8 @@ returns-in_err-send_opening g c = refused _ _ _ _ _ c.from_residual.ensures.1 (s
 
 pub returns-in_err-send_pointers : goal.returns-in_err-send_pointers
 unfolding pointer_row
-returns-in_err-send_pointers g c =
-    let all : cells_before (2 ^ 64 - 1) (cells c.args.look.tab_width c.args.line.text.now) ≡ cells c.args.look.tab_width c.args.line.text.now = grind (arith, all_before) in
-    refused _ _ _ _ _ c.from_residual-in_err-send_pointers.ensures.1 (stopped-before _ (stopped-then _ c.in_ok-send_opening.ensures (rw all at c.in_err-send_pointers.ensures)))
+returns-in_err-send_pointers g c = refused _ _ _ _ _ c.from_residual-in_err-send_pointers.ensures.1 (stopped-before _ (stopped-then _ c.in_ok-send_opening.ensures c.in_err-send_pointers.ensures))
 
 pub returns : goal.returns
 unfolding pointer_row
-returns g c =
-    let all : cells_before (2 ^ 64 - 1) (cells c.args.look.tab_width c.args.line.text.now) ≡ cells c.args.look.tab_width c.args.line.text.now = grind (arith, all_before) in
-    sends-last _ _ _ _ _ (came-then _ _ _ c.in_ok-send_opening.ensures (rw all at c.in_ok-send_pointers.ensures)) c.send_newline.ensures
+returns g c = sends-last _ _ _ _ _ (came-then _ _ _ c.in_ok-send_opening.ensures c.in_ok-send_pointers.ensures) c.send_newline.ensures

@@ -1,8 +1,15 @@
 use Rattle.codespan_base.proofs.Chains.{came-then, stopped-then, stopped-before, refused, sends-last}
+use Rattle.codespan_renderer.proofs.Pieces.{before-near, after-near}
 use Rattle.codespan_renderer.proofs.term.renderer.pointers.send_pointers_and_messages.Goals as goal
 
 pub returns-in_err-send_pointer_row : goal.returns-in_err-send_pointer_row
 returns-in_err-send_pointer_row g c = refused _ _ _ _ _ c.from_residual.ensures.1 (stopped-before _ (stopped-before _ c.in_err-send_pointer_row.ensures))
+
+pub send_hanging_rows-requires-clause-near : goal.send_hanging_rows-requires-clause-near
+send_hanging_rows-requires-clause-near g c = after-near _ _ _ c.requires.pieces
+
+pub send_hanging_rows-requires-2-clause-near : goal.send_hanging_rows-requires-2-clause-near
+send_hanging_rows-requires-2-clause-near g c = before-near _ _ _ c.requires.pieces
 
 pub returns-in_err-send_hanging_rows : goal.returns-in_err-send_hanging_rows
 returns-in_err-send_hanging_rows g c = refused _ _ _ _ _ c.from_residual-in_err-send_hanging_rows.ensures.1 (stopped-before _ (stopped-then _ c.in_ok-send_pointer_row.ensures c.in_err-send_hanging_rows.ensures))

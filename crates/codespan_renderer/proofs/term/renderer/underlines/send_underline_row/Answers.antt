@@ -1,7 +1,7 @@
 use Rattle.codespan_base.proofs.Chains.{came-then, stopped-then, stopped-before, refused, sends-last}
 use Rattle.codespan_picture.specs.RowStreams.{underline_row}
 use Rattle.codespan_picture.specs.Cells.{cells}
-use Rattle.codespan_picture.specs.Given.{part_of}
+use Rattle.codespan_picture.specs.Given.{multi_label_view}
 use Rattle.codespan_renderer.proofs.Underlines.{underline-runs}
 use Rattle.codespan_renderer.proofs.term.renderer.underlines.send_underline_row.Goals as goal
 
@@ -15,12 +15,12 @@ returns-in_err-set_label g c = refused _ _ _ _ _ c.from_residual-in_err-set_labe
 
 pub returns-in_err-send_underline : goal.returns-in_err-send_underline
 unfolding underline_row
-returns-in_err-send_underline g c = rw (underline-runs c.args.look.chars.now c.args.mark.1 c.args.width (cells c.args.look.tab_width c.args.line.text.now) (part_of c.args.mark.2) c.requires) (refused _ _ _ _ _ c.from_residual-in_err-send_underline.ensures.1 (stopped-before _ (stopped-before _ (stopped-then _ (came-then _ _ _ c.in_ok-send_underline_lanes.ensures c.in_ok-set_label.ensures) c.in_err-send_underline.ensures))))
+returns-in_err-send_underline g c = rw (underline-runs c.args.look.chars.now c.args.mark.1 c.args.width (cells c.args.look.tab_width c.args.line.text.now) (multi_label_view c.args.mark.2) c.requires) (refused _ _ _ _ _ c.from_residual-in_err-send_underline.ensures.1 (stopped-before _ (stopped-before _ (stopped-then _ (came-then _ _ _ c.in_ok-send_underline_lanes.ensures c.in_ok-set_label.ensures) c.in_err-send_underline.ensures))))
 
 pub returns-in_err-reset : goal.returns-in_err-reset
 unfolding underline_row
-returns-in_err-reset g c = rw (underline-runs c.args.look.chars.now c.args.mark.1 c.args.width (cells c.args.look.tab_width c.args.line.text.now) (part_of c.args.mark.2) c.requires) (refused _ _ _ _ _ c.from_residual-in_err-reset.ensures.1 (stopped-before _ (stopped-then _ (came-then _ _ _ (came-then _ _ _ c.in_ok-send_underline_lanes.ensures c.in_ok-set_label.ensures) c.in_ok-send_underline.ensures) c.in_err-reset.ensures)))
+returns-in_err-reset g c = rw (underline-runs c.args.look.chars.now c.args.mark.1 c.args.width (cells c.args.look.tab_width c.args.line.text.now) (multi_label_view c.args.mark.2) c.requires) (refused _ _ _ _ _ c.from_residual-in_err-reset.ensures.1 (stopped-before _ (stopped-then _ (came-then _ _ _ (came-then _ _ _ c.in_ok-send_underline_lanes.ensures c.in_ok-set_label.ensures) c.in_ok-send_underline.ensures) c.in_err-reset.ensures)))
 
 pub returns : goal.returns
 unfolding underline_row
-returns g c = rw (underline-runs c.args.look.chars.now c.args.mark.1 c.args.width (cells c.args.look.tab_width c.args.line.text.now) (part_of c.args.mark.2) c.requires) (sends-last _ _ _ _ _ (came-then _ _ _ (came-then _ _ _ (came-then _ _ _ c.in_ok-send_underline_lanes.ensures c.in_ok-set_label.ensures) c.in_ok-send_underline.ensures) c.in_ok-reset.ensures) c.send_newline.ensures)
+returns g c = rw (underline-runs c.args.look.chars.now c.args.mark.1 c.args.width (cells c.args.look.tab_width c.args.line.text.now) (multi_label_view c.args.mark.2) c.requires) (sends-last _ _ _ _ _ (came-then _ _ _ (came-then _ _ _ (came-then _ _ _ c.in_ok-send_underline_lanes.ensures c.in_ok-set_label.ensures) c.in_ok-send_underline.ensures) c.in_ok-reset.ensures) c.send_newline.ensures)

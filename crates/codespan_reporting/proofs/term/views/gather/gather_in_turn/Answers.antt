@@ -1,28 +1,37 @@
 use contract.Lifetimes.{Lfts}
-use Rattle.std.proofs.Common.{rules, ◌+◌, [], Err, map, sym, ap, ◌∙◌, subst}
+use Rattle.std.proofs.Common.{◌≡◌, rules, ◌+◌, [], Err, map, sym, ap, ◌∙◌, subst}
 use Rattle.std.proofs.lemmas.Result.{err_from_is_err_and}
 use Rattle.codespan_reporting.specs.Inner.GivenEntries.{Adds, IsOfFiles}
-use Rattle.codespan_reporting.specs.Inner.LabelledFiles.{all_lanes_given, lanes_told}
+use Rattle.codespan_reporting.specs.Inner.LabelledFiles.{all_lanes_given, ids_given, lanes_told}
 use Rattle.codespan_reporting.specs.Inner.Lanes.{lanes_in}
 use Rattle.codespan_reporting.specs.Inner.Loci.{file_start}
 use Rattle.codespan_picture.specs.Picture.{label_of}
 use Rattle.codespan_picture.specs.Snippets.{file_ids}
-use Rattle.codespan_reporting.specs.Inner.PlacedLabels.{AreApart, entries_after}
-use Rattle.codespan_reporting.specs.Inner.Tables.{table_by}
+use Rattle.codespan_reporting.specs.Inner.PlacedLabels.{AreApart, entries_after, file_place}
 use Rattle.codespan_reporting.proofs.FilePlaces.{first_seen-differ}
 use Rattle.codespan_reporting.proofs.LabelPlaces.{AreFiles, StandsAt, are-files, lanes_by-are}
 use Rattle.codespan_reporting.proofs.LabelTurns.{before}
-use Rattle.codespan_reporting.proofs.LabelsGathered.{AreGathered, each-told, file-placed, gathered-all, gathered-more, gathered-refused, place-inside}
+use Rattle.codespan_reporting.proofs.LabelsGathered.{AreGathered, IsPlacedFile, each-told, file-placed, gathered-all, gathered-more, gathered-refused, place-inside}
 use Rattle.codespan_reporting.proofs.term.views.gather.gather_in_turn.Given.{Over}
 use Rattle.codespan_reporting.proofs.term.views.gather.gather_in_turn.Goals.{After-index-labels-place, In_ok-file}
 use Rattle.codespan_reporting.proofs.term.views.gather.gather_in_turn.Goals as goal
 
 -- the files are lawful, and equal ids name one file
-are_files : (g : Over) (κs : Lfts 8) → g.claim κs → (files : g.row.F.Denot) → AreFiles (table_by g.F.FileId.PartialEq.eq g.F.Files.file g.F.Files.refusal files)
-are_files g κs claim = let laws = g.met.F.Files κs claim in are-files g.met.F.FileId.Eq.laws laws.same_file laws.lawful
+are_files : (g : Over) (κs : Lfts 8) → g.claim κs → (files : g.row.F.Denot) → AreFiles (g.F.Files.database files)
+are_files g κs claim files =
+    let laws = g.met.F.Files κs claim in
+    are-files (laws.same_is files) g.met.F.FileId.Eq.laws (laws.same_file files) (laws.lawful files)
+
+-- which ids are equal
+equal_ids : (g : Over) (κs : Lfts 8) → g.claim κs → (files : g.row.F.Denot) → (g.F.Files.database files).same ≡ g.F.FileId.PartialEq.eq
+equal_ids g κs claim files = (g.met.F.Files κs claim).same_is files
 
 pub place_file-requires : goal.place_file-requires
-place_file-requires g c = subst (AreApart g.F.FileId.PartialEq.eq) (sym c.loop-place.invariant.ids_are) (first_seen-differ g.F.FileId.PartialEq.eq g.met.F.FileId.Eq.laws _)
+place_file-requires g c =
+    let lawful = are_files g c.lifetimes (search rules) c.args.files.now in
+    subst (λ same. AreApart same (ids_given c.loop-place.labelled.items)) (equal_ids g c.lifetimes (search rules) c.args.files.now)
+    (subst (AreApart (g.F.Files.database c.args.files.now).same) (sym c.loop-place.invariant.ids_are)
+    (first_seen-differ (g.F.Files.database c.args.files.now).same lawful.equivalence _))
 
 -- it is the label's turn
 turn : (g : Over) (c : After-index-labels-place g) → StandsAt c.args.labels.now c.loop-place.place c.index-labels-place.result
@@ -30,14 +39,24 @@ turn g c = record { inside = c.loop-place-test.true; is = c.index-labels-place.i
 
 -- its file is there too
 placed : (g : Over) (c : In_ok-file g) → StandsAt c.args.labels.now c.loop-place.place c.index-labels-place.result
-    → let same = g.F.FileId.PartialEq.eq in
+    → let same = (g.F.Files.database c.args.files.now).same in
     let labels = c.args.labels.now in
     let place = c.loop-place.place in
-    AreGathered (table_by g.F.FileId.PartialEq.eq g.F.Files.file g.F.Files.refusal c.args.files.now) c.args.config.now (file_ids same (before labels (place + 1))) (before labels place) c.place_file.new.files.items c.loop-place.found
+    AreGathered (g.F.Files.database c.args.files.now) c.args.config.now (file_ids same (before labels (place + 1))) (before labels place) c.place_file.new.files.items c.loop-place.found
 placed g c at =
     let lawful = are_files g c.lifetimes (search rules) c.args.files.now in
     let now = c.in_ok-file.ensures in
-    file-placed lawful at c.loop-place.invariant (record { ids = now.ids; starts = now.starts; lanes = now.lanes })
+    file-placed lawful at c.loop-place.invariant
+    (subst (λ same. IsPlacedFile same c.index-labels-place.result.file_id c.loop-place.labelled.items c.place_file.new.files.items)
+    (sym (equal_ids g c.lifetimes (search rules) c.args.files.now)) (record { ids = now.ids; starts = now.starts; lanes = now.lanes }))
+
+-- and its place is the one that was found
+found_there : (g : Over) (c : In_ok-file g)
+    → c.in_ok-file.file ≡ file_place (g.F.Files.database c.args.files.now).same (ids_given c.place_file.new.files.items) c.index-labels-place.result.file_id
+found_there g c =
+    c.in_ok-file.ensures.place
+    ∙ ap (λ same. file_place same (ids_given c.place_file.new.files.items) c.index-labels-place.result.file_id)
+    (sym (equal_ids g c.lifetimes (search rules) c.args.files.now))
 
 pub returns-in_err-lines-clause-refused : goal.returns-in_err-lines-clause-refused
 returns-in_err-lines-clause-refused g c =
@@ -51,7 +70,7 @@ tell_file-requires g c =
     let lawful = are_files g c.lifetimes (search rules) c.args.files.now in
     let at = turn g (goal.at.tell_file-requires g c).After-index-labels-place in
     let there = placed g (goal.at.tell_file-requires g c).In_ok-file at in
-    record { place = place-inside lawful at there c.in_ok-file.ensures.place }
+    record { place = place-inside lawful at there (found_there g (goal.at.tell_file-requires g c).In_ok-file) }
 
 pub loop-place-preserved : goal.loop-place-preserved
 loop-place-preserved g c =
@@ -61,8 +80,8 @@ loop-place-preserved g c =
     let label = c.index-labels-place.result in
     let found = c.in_ok-lines.ensures in
     let told = c.in_ok-tell_file.ensures in
-    let own = lanes_by-are (g.F.Files.file c.args.files.now label.file_id) (label_of label).label c.in_ok-lines.lines found.first found.last in
-    gathered-more lawful at there c.in_ok-file.ensures.place (record { added = found.added; counted = found.padding; answered = found.refused }) (record {
+    let own = lanes_by-are (((g.F.Files.database c.args.files.now).file) label.file_id) (label_of label).label c.in_ok-lines.lines found.first found.last in
+    gathered-more lawful at there (found_there g (goal.at.loop-place-preserved g c).In_ok-file) (record { added = found.added; counted = found.padding; answered = found.refused }) (record {
       ids = told.ids;
       starts = told.starts;
       lanes = told.lanes ∙ ap (lanes_told (all_lanes_given c.place_file.new.files.items) c.in_ok-file.file) own;
@@ -70,8 +89,8 @@ loop-place-preserved g c =
 
 pub returns-clause-gathered : goal.returns-clause-gathered
 returns-clause-gathered g c =
-    let file = g.F.Files.file c.args.files.now in
-    let same = g.F.FileId.PartialEq.eq in
+    let file = ((g.F.Files.database c.args.files.now).file) in
+    let same = (g.F.Files.database c.args.files.now).same in
     let xs = map label_of c.args.labels.now in
     let done = gathered-all c.args.labels.now c.loop-place.place c.loop-place-test.false c.loop-place.invariant in
     record {

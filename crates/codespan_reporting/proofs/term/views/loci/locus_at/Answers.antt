@@ -11,10 +11,10 @@ use Rattle.codespan_reporting.proofs.term.views.loci.locus_at.Goals as goal
 
 -- the name is told, and the location tells the rest
 location-tells : (g : Over) (c : In_ok-named g) {o : Option Error}
-    → let refusal = g.F.Files.refusal c.args.files.now c.args.id in
+    → let refusal = ((g.F.Files.database c.args.files.now).refusal) c.args.id in
     refusal (LocationAt c.args.byte_index) ≡ o → or_refusal (refusal Name) (or_refusal (refusal (LocationAt c.args.byte_index)) None) ≡ or_refusal o None
 location-tells g c is =
-    let refusal = g.F.Files.refusal c.args.files.now c.args.id in
+    let refusal = ((g.F.Files.database c.args.files.now).refusal) c.args.id in
     ap (λ o. or_refusal o (or_refusal (refusal (LocationAt c.args.byte_index)) None)) c.in_ok-named.ensures.refused ∙ ap (λ o. or_refusal o None) is
 
 pub returns-in_err-location-clause-refused : goal.returns-in_err-location-clause-refused
@@ -24,7 +24,7 @@ returns-in_err-location-clause-refused g c =
 
 pub returns-clause-locus : goal.returns-clause-locus
 returns-clause-locus g c =
-    let file = g.F.Files.file c.args.files.now in
+    let file = ((g.F.Files.database c.args.files.now).file) in
     let text : IfSome (file c.args.id).name (λ bytes. string_bytes c.in_ok-name.name ≡ bytes) = rw (sym c.in_ok-named.ensures.value) c.in_ok-name.ensures.text in
     located_place (file c.args.id) c.args.byte_index (record { name = c.in_ok-name.name; location = c.in_ok-location.location }) text c.in_ok-location.ensures.value
 

@@ -15,7 +15,7 @@ loop-place-init g c = record {
   left = from_file-first (map entry_of c.args.gathered.now.entries.items);
   planned = record {
     plans =
-        subst (λ plans. ArePlans c.args.layout (g.F.Files.file c.args.files.now) (map entry_of c.args.gathered.now.entries.items) 0 [] plans c.args.steps.now.items)
+        subst (λ plans. ArePlans c.args.layout (((g.F.Files.database c.args.files.now).file)) (map entry_of c.args.gathered.now.entries.items) 0 [] plans c.args.steps.now.items)
         (sym c.in_ok-plans.ensures.items) c.requires.empty;
     answered = refl;
     kept = refl;
@@ -41,22 +41,22 @@ turn g c =
     }
 
 pub push_steps-requires : goal.push_steps-requires
-push_steps-requires g c κs = ((refl, tt), own_lines (turn g (goal.at.push_steps-requires g c).After-file_len-len) c.deref-in-loop-place.ensures.value (g.F.Files.file c.args.files.now) c.requires.lines)
+push_steps-requires g c κs = ((refl, tt), own_lines (turn g (goal.at.push_steps-requires g c).After-file_len-len) c.deref-in-loop-place.ensures.value (((g.F.Files.database c.args.files.now).file)) c.requires.lines)
 
 pub returns-in_err-push_steps-clause-refused : goal.returns-in_err-push_steps-clause-refused
 returns-in_err-push_steps-clause-refused g c =
     let at = turn g (goal.at.returns-in_err-push_steps-clause-refused g c).After-file_len-len in
-    let asked = own_asked at c.deref-in-loop-place.ensures.value c.args.layout (g.F.Files.refusal c.args.files.now) in
+    let asked = own_asked at c.deref-in-loop-place.ensures.value c.args.layout (((g.F.Files.database c.args.files.now).refusal)) in
     let p = err_from_is_err_and c.from_residual-in_err-push_steps.result c.from_residual-in_err-push_steps.ensures.1 in
     rw (p.1 ∙ ap Err p.2) (λ memory display. planned-refuses at.here c.loop-place.invariant.planned (sym asked ∙ c.in_err-push_steps.ensures.refused memory))
 
 pub loop-place-preserved : goal.loop-place-preserved
 loop-place-preserved g c =
-    let file = g.F.Files.file c.args.files.now in
+    let file = ((g.F.Files.database c.args.files.now).file) in
     let at = turn g (goal.at.loop-place-preserved g c).After-file_len-len in
     let before = c.loop-place.invariant.planned in
     let zs_are = c.deref-in-loop-place.ensures.value in
-    let numbers = sym (own_asked at zs_are c.args.layout (g.F.Files.refusal c.args.files.now)) ∙ c.in_ok-push_steps.ensures.refused in
+    let numbers = sym (own_asked at zs_are c.args.layout (((g.F.Files.database c.args.files.now).refusal))) ∙ c.in_ok-push_steps.ensures.refused in
     let added = c.in_ok-push_steps.ensures.added in
     record {
       inside = next_inside at;
@@ -77,7 +77,7 @@ loop-place-preserved g c =
     }
 
 -- after the last file what is kept tells what the lookups of all are refused with
-all-tell : (g : Over) (c : After-branch-placed g) → TellsNaming (plans_refusal c.args.layout (g.F.Files.refusal c.args.files.now) c.args.gathered.now) c.loop-place.placed
+all-tell : (g : Over) (c : After-branch-placed g) → TellsNaming (plans_refusal c.args.layout (((g.F.Files.database c.args.files.now).refusal)) c.args.gathered.now) c.loop-place.placed
 all-tell g c =
     plans-tell c.args.gathered.now.files.items c.loop-place.place
     (subst (λ fs. length fs ≤ c.loop-place.place) c.deref-file-items.ensures.value c.loop-place-test.false) c.loop-place.invariant.planned

@@ -6,7 +6,6 @@ use Rattle.codespan_picture.specs.Picture.{label_of}
 use Rattle.codespan_picture.specs.Padding.{padding_of}
 use Rattle.codespan_picture.specs.Snippets.{labelled_files}
 use Rattle.codespan_reporting.specs.Inner.Plans.{step_digits}
-use Rattle.codespan_reporting.specs.Inner.Tables.{table_by}
 use Rattle.codespan_reporting.proofs.LabelPlaces.{AreFiles, are-files}
 use Rattle.codespan_reporting.proofs.PlanFiles.{drawn-padding, refusal-is, sheet-prepared, spanned-padding}
 use Rattle.codespan_reporting.proofs.term.views.sheet.prepare.Given.{Over}
@@ -14,8 +13,10 @@ use Rattle.codespan_reporting.proofs.term.views.sheet.prepare.Goals.{in-Classic,
 use Rattle.codespan_reporting.proofs.term.views.sheet.prepare.Goals as goal
 
 -- the files are lawful, and equal ids name one file
-are_files : (g : Over) (κs : Lfts 9) → g.claim κs → (files : g.row.F.Denot) → AreFiles (table_by g.F.FileId.PartialEq.eq g.F.Files.file g.F.Files.refusal files)
-are_files g κs claim = let laws = g.met.F.Files κs claim in are-files g.met.F.FileId.Eq.laws laws.same_file laws.lawful
+are_files : (g : Over) (κs : Lfts 9) → g.claim κs → (files : g.row.F.Denot) → AreFiles (g.F.Files.database files)
+are_files g κs claim files =
+    let laws = g.met.F.Files κs claim in
+    are-files (laws.same_is files) g.met.F.FileId.Eq.laws (laws.same_file files) (laws.lawful files)
 
 pub plan_files-requires : goal.plan_files-requires
 plan_files-requires g c κs = ((refl, tt), (c.in_ok-steps.ensures.items, (c.requires.sorted, c.requires.lines)))
@@ -32,7 +33,7 @@ returns-clause-prepared g c =
     let plans = c.in_ok-files.files.items in
     let steps = c.plan_files.new.steps.items in
     let found = c.in_ok-files.ensures.plans in
-    let labelled = labelled_files g.F.FileId.PartialEq.eq (g.F.Files.file c.args.files.now) (map label_of c.args.gathered.now.labels.now) in
+    let labelled = labelled_files (g.F.Files.database c.args.files.now).same (((g.F.Files.database c.args.files.now).file)) (map label_of c.args.gathered.now.labels.now) in
     let room : c.match-config.padding ≡ padding_of c.args.config.now labelled = elim c.match-config.branch [
       | in-Classic w ↦ spanned-padding lawful c.requires plans steps found w.in-Classic.is w.padding-is
       | in-Unbroken w ↦ drawn-padding lawful c.requires plans steps found w.in-Unbroken.is (w.padding-is ∙ w.drawn_padding-padding.ensures ∙ ap (λ ss. fold max 0 (flat_map step_digits ss)) w.deref.ensures.value)

@@ -1,6 +1,6 @@
 use Rattle.std.proofs.Common.{Err, sym, ap, ◌∙◌}
 use Rattle.std.proofs.lemmas.Result.{err_from_is_err_and}
-use Rattle.codespan_picture.specs.Given.{place_of_given}
+use Rattle.codespan_picture.specs.Given.{locus_view}
 use Rattle.codespan_picture.specs.Picture.{label_of}
 use Rattle.codespan_reporting.proofs.HeaderRuns.{came_one, refused_one, secondary_one, stopped_one}
 use Rattle.codespan_reporting.proofs.term.views.short.draw_if_primary.Goals as goal
@@ -18,10 +18,10 @@ pub returns-in_err-draw_header-clause-draws : goal.returns-in_err-draw_header-cl
 returns-in_err-draw_header-clause-draws g c =
     let p = err_from_is_err_and c.from_residual-in_err-draw_header.result c.from_residual-in_err-draw_header.ensures.1 in
     rw (p.1 ∙ ap Err p.2)
-    (stopped_one (label_of c.args.label.now) (place_of_given c.in_ok-locus.locus) (sym c.is_primary.ensures ∙ c.if-not-is_primary.false) c.in_ok-locus.ensures.locus
+    (stopped_one (label_of c.args.label.now) (locus_view c.in_ok-locus.locus) (sym c.is_primary.ensures ∙ c.if-not-is_primary.false) c.in_ok-locus.ensures.locus
     c.in_err-draw_header.ensures.io c.in_err-draw_header.ensures.sends)
 
 pub returns-clause-draws : goal.returns-clause-draws
 returns-clause-draws g c =
-    came_one (label_of c.args.label.now) (place_of_given c.in_ok-locus.locus) (sym c.is_primary.ensures ∙ c.if-not-is_primary.false) c.in_ok-locus.ensures.locus
+    came_one (label_of c.args.label.now) (locus_view c.in_ok-locus.locus) (sym c.is_primary.ensures ∙ c.if-not-is_primary.false) c.in_ok-locus.ensures.locus
     c.in_ok-locus.ensures.refused c.in_ok-draw_header.ensures.sends

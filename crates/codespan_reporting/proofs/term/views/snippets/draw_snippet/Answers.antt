@@ -1,7 +1,6 @@
 use Rattle.std.proofs.Common.{rules, Ok, Err, refl, ap, ◌∙◌}
 use Rattle.std.proofs.lemmas.Result.{err_from_is_err_and}
 use Rattle.codespan_renderer.specs.Renderers.{config_of}
-use Rattle.codespan_reporting.specs.Inner.Tables.{table_by}
 use Rattle.codespan_reporting.proofs.Askings.{asking_refused_before}
 use Rattle.codespan_reporting.proofs.SnippetParts.{IsOpen, lines-drawn, snippet-at_start, snippet-drawn}
 use Rattle.codespan_reporting.proofs.term.views.snippets.draw_snippet.Given.{Over}
@@ -18,7 +17,7 @@ returns-in_err-source-clause-draws g c =
 
 -- the source of the file is there
 open_at : (g : Over) (c : In_ok-source g)
-    → IsOpen (table_by g.F.FileId.PartialEq.eq g.F.Files.file g.F.Files.refusal) c.args.page.now c.args.snippet.now c.args.steps.now (config_of c.args.renderer.now)
+    → IsOpen g.F.Files.database c.args.page.now c.args.snippet.now c.args.steps.now (config_of c.args.renderer.now)
 open_at g c = record { answered = c.in_ok-source.ensures.refused }
 
 pub returns-in_err-draw_start-clause-draws : goal.returns-in_err-draw_start-clause-draws

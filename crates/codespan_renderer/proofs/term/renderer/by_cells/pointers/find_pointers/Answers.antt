@@ -1,7 +1,7 @@
 use Rattle.std.proofs.Common.{◌<◌, ◌∙◌, ◌++◌, ap, append-nil, length, refl, sym}
 use Rattle.std.specs.Str.{chars}
 use Rattle.codespan_picture.specs.Cells.{cells}
-use Rattle.codespan_picture.specs.Given.{all_labelled}
+use Rattle.codespan_picture.specs.Given.{single_label_views}
 use Rattle.codespan_picture.proofs.Spread.{cells-spread}
 use Rattle.codespan_renderer.proofs.Hanging.{none_hangs}
 use Rattle.codespan_renderer.proofs.PointerWalks.{no-pointers, passing-start, passing-at, passing-more, found-style, found-some, found-none, pointers-past-at}
@@ -41,8 +41,8 @@ loop-cell-preserved c =
       walk = passing-more _ _ _ _ _ _ _ _ (passing-at _ _ _ _ c.args.characters.now c.loop-cell.cell-index _ within i.walk) early.passed late.passed early.labels late.labels;
       found = elim c.match-best_start.branch [
         | in-Some+in_ok-push w ↦ rw (w.pointers-is, w.in_ok-push.ensures.items, w.pointer_under.ensures)
-            (found-some (all_labelled c.args.labels.now) c.loop-cell.pointers.items c.args.characters.now c.loop-cell.cell-index _ _ within (sym style ∙ w.in-Some.is) ∙ i.found)
+            (found-some (single_label_views c.args.labels.now) c.loop-cell.pointers.items c.args.characters.now c.loop-cell.cell-index _ _ within (sym style ∙ w.in-Some.is) ∙ i.found)
         | in_default w ↦ rw w.pointers-is
-            (found-none (all_labelled c.args.labels.now) c.loop-cell.pointers.items c.args.characters.now c.loop-cell.cell-index _ within (sym style ∙ w.in_default.is) ∙ i.found)
+            (found-none (single_label_views c.args.labels.now) c.loop-cell.pointers.items c.args.characters.now c.loop-cell.cell-index _ within (sym style ∙ w.in_default.is) ∙ i.found)
       ];
     }

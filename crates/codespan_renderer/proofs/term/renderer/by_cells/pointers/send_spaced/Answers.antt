@@ -1,7 +1,7 @@
 use Rattle.std.proofs.Common.{arith, refl, ◌<◌, length}
 use Rattle.std.proofs.lemmas.Result.{err_from_is_err_and}
 use Rattle.codespan_base.proofs.Loops.{StillToCome-start, StillToCome-more, StillToCome-same, StillToCome-refused, StillToCome-last}
-use Rattle.codespan_renderer.specs.Inner.GivenLine.{look_of_given}
+use Rattle.codespan_renderer.specs.Inner.GivenLine.{look_view}
 use Rattle.codespan_renderer.proofs.SpacedPointers.{spaced-next, spaced-skip, spaced-end}
 use Rattle.codespan_renderer.proofs.term.renderer.by_cells.pointers.send_spaced.Goals.{then-pointer-before+in_ok-send_pointer, else-pointer-before}
 use Rattle.codespan_renderer.proofs.term.renderer.by_cells.pointers.send_spaced.Goals as goal
@@ -12,7 +12,7 @@ loop-pointer-init g c = StillToCome-start _ _ _ refl
 pub returns-in_err-send_pointer : goal.returns-in_err-send_pointer
 returns-in_err-send_pointer g c = let p = err_from_is_err_and c.from_residual.result c.from_residual.ensures.1 in
     rw p.1 (StillToCome-refused _ _ _ _ _ _ _ c.loop-pointer.invariant (rw c.saturating_sub-blank.ensures at c.in_err-send_pointer.ensures)
-    (spaced-next (look_of_given c.args.look) _ _ _ c.args.found.now c.loop-pointer.pointer-index _ (omega arith) c.if-pointer-before.true))
+    (spaced-next (look_view c.args.look) _ _ _ c.args.found.now c.loop-pointer.pointer-index _ (omega arith) c.if-pointer-before.true))
 
 pub loop-pointer-preserved : goal.loop-pointer-preserved
 loop-pointer-preserved g c =
@@ -20,13 +20,13 @@ loop-pointer-preserved g c =
     elim c.if-pointer-before.branch [
       | then-pointer-before+in_ok-send_pointer w ↦ rw (w.w-is, w.column-is)
           (StillToCome-more _ _ _ _ _ _ _ c.loop-pointer.invariant (rw w.saturating_sub-blank.ensures at w.in_ok-send_pointer.ensures)
-          (spaced-next (look_of_given c.args.look) _ _ _ c.args.found.now c.loop-pointer.pointer-index _ within w.if-pointer-before.true))
+          (spaced-next (look_view c.args.look) _ _ _ c.args.found.now c.loop-pointer.pointer-index _ within w.if-pointer-before.true))
       | else-pointer-before w ↦ rw (w.w-is, w.column-is)
           (StillToCome-same _ _ _ _ _
-          (spaced-skip (look_of_given c.args.look) _ _ _ c.args.found.now c.loop-pointer.pointer-index _ within w.if-pointer-before.false) c.loop-pointer.invariant)
+          (spaced-skip (look_view c.args.look) _ _ _ c.args.found.now c.loop-pointer.pointer-index _ within w.if-pointer-before.false) c.loop-pointer.invariant)
     ]
 
 pub returns : goal.returns
 returns g c =
-    let end = spaced-end (look_of_given c.args.look) c.args.edge c.loop-pointer.column c.args.before c.args.found.now c.loop-pointer.pointer-index (omega arith) in
+    let end = spaced-end (look_view c.args.look) c.args.edge c.loop-pointer.column c.args.before c.args.found.now c.loop-pointer.pointer-index (omega arith) in
     StillToCome-last _ _ _ _ _ _ c.loop-pointer.invariant (rw (end, ← c.saturating_sub.ensures) c.send_blank_run.ensures)

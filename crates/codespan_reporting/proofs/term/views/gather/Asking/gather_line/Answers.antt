@@ -8,7 +8,7 @@ use Rattle.codespan_reporting.proofs.term.views.gather.Asking.gather_line.Goals 
 
 pub returns-then-not-is_around-clause-added : goal.returns-then-not-is_around-clause-added
 returns-then-not-is_around-clause-added g c =
-    let f = g.F.Files.file c.args.self.now.files.now c.args.label.now.file_id in
+    let f = ((g.F.Files.database c.args.self.now.files.now).file) c.args.label.now.file_id in
     let x = (label_of c.args.label.now).label in
     let not_asked : is_asked c.args.self.now.config.now f x c.args.index ≡ false = search rules in
     λ _. Adds-as

@@ -6,7 +6,6 @@ use Rattle.codespan_base.specs.Lemmas.Lines.{line_of_below}
 use Rattle.codespan_reporting.specs.declared.term.views.gather.Asking.{Asking}
 use Rattle.codespan_reporting.specs.Inner.AskedLabels.{AskedLabel, asked_as}
 use Rattle.codespan_picture.specs.Lookups.{line_refusal}
-use Rattle.codespan_reporting.specs.Inner.Tables.{table_by}
 use Rattle.codespan_reporting.proofs.Contexts.{GathersLabel, GathersLines, HasEnds, gathered-start, gathered-context, gathered-reach, gathered-refused, gathered-step}
 use Rattle.codespan_reporting.proofs.term.views.gather.Asking.gather_lines.Given.{Over}
 use Rattle.codespan_reporting.proofs.term.views.gather.Asking.gather_lines.Goals.{Else-not-branch}
@@ -15,7 +14,7 @@ use Rattle.codespan_reporting.proofs.term.views.gather.Asking.gather_lines.Goals
 module _ (g : Over) where
   -- the label that is asked for
   abbrev asked : Asking g.row.F.Denot → Label g.row.F-FileId.Denot → AskedLabel g.row.F-FileId.Denot
-  asked = asked_as (table_by g.F.FileId.PartialEq.eq g.F.Files.file g.F.Files.refusal)
+  asked = asked_as g.F.Files.database
 
   -- its file has its first line and its last one
   has_ends : (κs : Lfts 10) → g.claim κs → (asking : Asking g.row.F.Denot) (label : Label g.row.F-FileId.Denot) → HasEnds (asked asking label)

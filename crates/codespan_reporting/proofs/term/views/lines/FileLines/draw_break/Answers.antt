@@ -1,6 +1,6 @@
 use Rattle.std.proofs.Common.{map, ap, ◌∙◌}
 use Rattle.std.proofs.lemmas.Result.{err_from_is_err_and}
-use Rattle.codespan_picture.specs.Given.{mark_of_given}
+use Rattle.codespan_picture.specs.Given.{mark_view}
 use Rattle.codespan_reporting.proofs.Askings.{asking_no_memory, out_of_memory}
 use Rattle.codespan_reporting.proofs.LaneMarks.{lanes_fit}
 use Rattle.codespan_reporting.proofs.term.views.lines.FileLines.draw_break.Goals as goal
@@ -11,4 +11,4 @@ returns-in_err-fill_multis-clause-draws g c =
     rw p.1 (asking_no_memory (out_of_memory p.2 c.in_err-fill_multis.ensures.refused))
 
 pub render_snippet_break-requires : goal.render_snippet_break-requires
-render_snippet_break-requires g c = lanes_fit c.args.self.now.lanes.now c.args.next.index c.args.next.start _ (ap (map mark_of_given) c.as_slice.ensures.value ∙ c.in_ok-fill_multis.ensures.multis)
+render_snippet_break-requires g c = lanes_fit c.args.self.now.lanes.now c.args.next.index c.args.next.start _ (ap (map mark_view) c.as_slice.ensures.value ∙ c.in_ok-fill_multis.ensures.multis)

@@ -24,7 +24,7 @@ pub draw_step-requires : goal.draw_step-requires
 draw_step-requires g c κs =
     let lines = c.args.self.now in
     let steps = c.args.steps.now in
-    let f = g.F.Files.file lines.page.now.files.now lines.id in
+    let f = ((g.F.Files.database lines.page.now.files.now).file) lines.id in
     let i = c.loop-step.step-index in (
       (refl, (refl, (refl, tt))),
       (

@@ -2,7 +2,6 @@ use Rattle.std.proofs.Common.{Err, map, refl, sym, subst, ap, ◌∙◌}
 use Rattle.std.proofs.lemmas.Result.{err_from_is_err_and}
 use Rattle.codespan_picture.specs.Picture.{label_of}
 use Rattle.codespan_reporting.specs.Inner.GivenSheets.{IsGathered}
-use Rattle.codespan_reporting.specs.Inner.Tables.{table_by}
 use Rattle.codespan_reporting.specs.Views.{view_config_of}
 use Rattle.codespan_reporting.proofs.RichParts.{drawn-whole, prepared-of_all, ready, stopped-gathering, stopped-in_header, stopped-in_snippets, stopped-preparing}
 use Rattle.codespan_reporting.proofs.term.views.rich.RichDiagnostic.draw_labels.Goals as goal
@@ -11,7 +10,7 @@ pub prepare-requires : goal.prepare-requires
 prepare-requires g c κs =
     let view = view_config_of c.args.self.now in (
       (refl, tt),
-      subst (λ ls. IsGathered (table_by g.FileId.PartialEq.eq g.F.Files.file g.F.Files.refusal c.args.files.now) view (map label_of ls) c.in_ok-gathered.gathered) (sym c.in_ok-gathered.ensures.labels) c.in_ok-gathered.ensures.gathered,
+      subst (λ ls. IsGathered (g.F.Files.database c.args.files.now) view (map label_of ls) c.in_ok-gathered.gathered) (sym c.in_ok-gathered.ensures.labels) c.in_ok-gathered.ensures.gathered,
     )
 
 pub draw_snippets-requires : goal.draw_snippets-requires

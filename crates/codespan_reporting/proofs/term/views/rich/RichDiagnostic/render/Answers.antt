@@ -1,11 +1,11 @@
-use Rattle.std.proofs.Common.{Bool, rules, Ok, Err, ap, ◌∙◌}
+use Rattle.std.proofs.Common.{◌≡◌, Bool, rules, Ok, Err, ap, subst, sym, ◌∙◌}
 use Rattle.std.specs.Cmp.{IsEquivalence}
 use Rattle.std.proofs.lemmas.Result.{err_from_is_err_and}
 use Rattle.codespan_base.specs.declared.diagnostic.Diagnostic.{Diagnostic}
 use Rattle.codespan_base.specs.declared.term.config.Config.{Config}
-use Rattle.codespan_base.specs.FileModel.{FileModel, IsLawful}
+use Rattle.codespan_base.specs.FileModel.{FileDatabase, IsLawful}
 use Rattle.codespan_laws.specs.Meanings.{MeansLabels}
-use Rattle.codespan_laws.proofs.MeaningLemmas.{picture_means_labels}
+use Rattle.codespan_laws.proofs.MeaningLemmas.{output_means_labels}
 use Rattle.codespan_reporting.proofs.RichParts.{bare-whole}
 use Rattle.codespan_reporting.proofs.term.views.rich.RichDiagnostic.render.Goals as goal
 
@@ -22,19 +22,23 @@ returns-in_err-draw_labels-clause-draws g c =
     let p = err_from_is_err_and c.from_residual-in_err-draw_labels.result c.from_residual-in_err-draw_labels.ensures.1 in
     rw (p.1 ∙ ap Err p.2) c.in_err-draw_labels.ensures.draws
 
+pub returns-in_ok-draw_labels-clause-draws : goal.returns-in_ok-draw_labels-clause-draws
+returns-in_ok-draw_labels-clause-draws g c =
+    c.in_ok-draw_labels.ensures.draws
+
 -- a picture means its labels, whether there are any or not
-means : {Id : Type 0} {renderer view : Config} {same : Id → Id → Bool} {file : Id → FileModel} {d : Diagnostic Id} → IsEquivalence same → ((id : Id) → IsLawful (file id))
-    → MeansLabels renderer view same file d
-means equal lawful = picture_means_labels _ _ _ _ _ equal (λ i. (lawful i).some_line)
+means : {Id : Type 0} {renderer view : Config} {files : FileDatabase Id} {equal : Id → Id → Bool} {d : Diagnostic Id} → files.same ≡ equal → IsEquivalence equal → ((id : Id) → IsLawful (files.file id))
+    → MeansLabels renderer view files d
+means is equal lawful = output_means_labels _ _ _ _ (subst IsEquivalence (sym is) equal) (λ i. (lawful i).some_line)
 
 pub returns-in_err-draw_bare-clause-meaning : goal.returns-in_err-draw_bare-clause-meaning
-returns-in_err-draw_bare-clause-meaning g c = means g.met.FileId.Eq.laws ((g.met.F.Files c.lifetimes (search rules)).lawful c.args.files.now)
+returns-in_err-draw_bare-clause-meaning g c = means ((g.met.F.Files c.lifetimes (search rules)).same_is c.args.files.now) g.met.FileId.Eq.laws ((g.met.F.Files c.lifetimes (search rules)).lawful c.args.files.now)
 
 pub returns-in_ok-draw_bare-clause-meaning : goal.returns-in_ok-draw_bare-clause-meaning
-returns-in_ok-draw_bare-clause-meaning g c = means g.met.FileId.Eq.laws ((g.met.F.Files c.lifetimes (search rules)).lawful c.args.files.now)
+returns-in_ok-draw_bare-clause-meaning g c = means ((g.met.F.Files c.lifetimes (search rules)).same_is c.args.files.now) g.met.FileId.Eq.laws ((g.met.F.Files c.lifetimes (search rules)).lawful c.args.files.now)
 
 pub returns-in_err-draw_labels-clause-meaning : goal.returns-in_err-draw_labels-clause-meaning
-returns-in_err-draw_labels-clause-meaning g c = means g.met.FileId.Eq.laws ((g.met.F.Files c.lifetimes (search rules)).lawful c.args.files.now)
+returns-in_err-draw_labels-clause-meaning g c = means ((g.met.F.Files c.lifetimes (search rules)).same_is c.args.files.now) g.met.FileId.Eq.laws ((g.met.F.Files c.lifetimes (search rules)).lawful c.args.files.now)
 
 pub returns-in_ok-draw_labels-clause-meaning : goal.returns-in_ok-draw_labels-clause-meaning
-returns-in_ok-draw_labels-clause-meaning g c = means g.met.FileId.Eq.laws ((g.met.F.Files c.lifetimes (search rules)).lawful c.args.files.now)
+returns-in_ok-draw_labels-clause-meaning g c = means ((g.met.F.Files c.lifetimes (search rules)).same_is c.args.files.now) g.met.FileId.Eq.laws ((g.met.F.Files c.lifetimes (search rules)).lawful c.args.files.now)

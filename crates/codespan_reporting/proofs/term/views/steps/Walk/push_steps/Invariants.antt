@@ -9,7 +9,7 @@ use Rattle.codespan_reporting.proofs.term.views.steps.Walk.push_steps.Given as g
 abbrev pub invariant-loop-at : goal.invariant-loop-at
 invariant-loop-at g l = record {
   within : l.at ≤ length l.entries;
-  left : StepsLeft (g.F.Files.refusal l.self.files.now) l.self.id l.self.layout (g.F.Files.file l.self.files.now l.self.id) (steps_of (map entry_of l.entries)) (steps_left l.entries l.at l.last) l.fn.steps.items l.steps.items;
+  left : StepsLeft (((g.F.Files.database l.self.files.now).refusal)) l.self.id l.self.layout (((g.F.Files.database l.self.files.now).file) l.self.id) (steps_of (map entry_of l.entries)) (steps_left l.entries l.at l.last) l.fn.steps.items l.steps.items;
 }
 
 abbrev pub decreases-loop-at : goal.decreases-loop-at

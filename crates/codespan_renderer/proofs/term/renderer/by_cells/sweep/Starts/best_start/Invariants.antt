@@ -2,7 +2,7 @@ use Rattle.std.proofs.Common.{◌≡◌, ◌+◌, ◌-◌, ◌≤◌, length, tr
 use Rattle.codespan_base.specs.declared.diagnostic.LabelStyle.{LabelStyle}
 use Rattle.codespan_base.specs.Labels.{has_message}
 use Rattle.codespan_picture.specs.declared.cells.Cell.{Cell}
-use Rattle.codespan_picture.specs.Given.{all_labelled}
+use Rattle.codespan_picture.specs.Given.{single_label_views}
 use Rattle.codespan_renderer.specs.Inner.PointerLists.{starts_left}
 use Rattle.codespan_picture.specs.RowParts.{starts_in}
 use Rattle.codespan_renderer.specs.Inner.Runs.{best_from}
@@ -12,9 +12,9 @@ use Rattle.codespan_renderer.proofs.term.renderer.by_cells.sweep.Starts.best_sta
 -- the labels that are left better what was found; those behind start in no later character
 abbrev pub invariant-loop-self : goal.invariant-loop-self
 invariant-loop-self l = record {
-  here : best_from (starts_in l.cell) l.best (filter has_message (starts_left l.self)) ≡ best_from (starts_in l.cell) l.fn.found (filter has_message (all_labelled l.fn.self.labels.now));
+  here : best_from (starts_in l.cell) l.best (filter has_message (starts_left l.self)) ≡ best_from (starts_in l.cell) l.fn.found (filter has_message (single_label_views l.fn.self.labels.now));
   later : (c : Cell) (found : Option LabelStyle) → l.cell.place + l.cell.bytes ≤ c.place
-      → best_from (starts_in c) found (filter has_message (all_labelled l.fn.self.labels.now)) ≡ best_from (starts_in c) found (filter has_message (starts_left l.self));
+      → best_from (starts_in c) found (filter has_message (single_label_views l.fn.self.labels.now)) ≡ best_from (starts_in c) found (filter has_message (starts_left l.self));
   ordered : starts_from l.cell.place (starts_left l.self) ≡ true;
   same : l.self.labels.now ≡ l.fn.self.labels.now;
 }

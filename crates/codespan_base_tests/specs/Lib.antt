@@ -1,0 +1,2 @@
+-- the writers of docs/WRITERS.md
+pub mod Tags

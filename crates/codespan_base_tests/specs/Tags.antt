@@ -1,0 +1,26 @@
+-- The tags of the writers of docs/WRITERS.md, an example.
+use Rattle.std.specs.Prelude.{ℕ, Bool, List, [], Option, codes, if◌then◌else◌}
+use Rattle.codespan_base.specs.declared.diagnostic.LabelStyle.TheVariants.{Primary, Secondary}
+use Rattle.codespan_base.specs.declared.term.config.color.ColorSpec.{ColorSpec}
+use Rattle.codespan_base.specs.Streams.{StyleMark, Header, HeaderMessage, LineNumber, NoteBullet, SourceBorder, LabelMark, Reset}
+use Rattle.codespan_base.specs.WriterLaw.{Sink}
+
+-- the tag of a mark
+abbrev pub tag : StyleMark → List ℕ
+tag (Header severity) = codes "[header]"
+tag HeaderMessage = codes "[message]"
+tag LineNumber = codes "[number]"
+tag NoteBullet = codes "[bullet]"
+tag SourceBorder = codes "[border]"
+tag (LabelMark severity Primary) = codes "[primary]"
+tag (LabelMark severity Secondary) = codes "[secondary]"
+tag Reset = codes "[/]"
+
+-- what the law sees of a writer of tags
+abbrev pub tag_sink : Bool → Option (List ℕ) → Sink
+tag_sink refused held =
+    record { frame = record { spelling = tag; refused = refused; through = [] }; held = held }
+
+-- the tag of a style: bold alone has one
+abbrev pub color_tag : ColorSpec → List ℕ
+color_tag spec = if spec.bold then codes "[bold]" else []

@@ -1,0 +1,144 @@
+//! A table of files as users write their own: one text, whose lines are numbered by their indices, from 0.
+//!
+//! `docs/FILES.md` goes through it step by step.
+
+ghost use Rattle.std.specs.Prelude.{◌≡◌, refl, IfOk, OnErr, IsErrOf, None};
+
+use codespan_base::files::{Error, Files, Location, SimpleFile};
+use std::alloc::Global;
+use std::convert::AsStr;
+use std::ops::Range;
+use std::test::Fail;
+
+/// A text whose lines are numbered from 0, as a listing of memory is.
+#[derive(Drop)]
+pub struct Listing<'text> {
+    /// The text, with its line starts.
+    pub file: SimpleFile<&'text str, &'text str>,
+}
+
+impl<'text> Listing<'text> {
+    ghost use Rattle.codespan_base.specs.FileTables.{name_of, source_of};
+
+    /// A listing of this name and text. Refuses with `OutOfMemory`.
+    pub fn new(alloc: Global, name: &'text str, text: &'text str) -> Result<Self, Error>
+        ensures name { IfOk result (λ listing. (name_of listing.file).now ≡ name.now) }
+        ensures text { IfOk result (λ listing. (source_of listing.file).now ≡ text.now) }
+        ensures refused { OnErr result (IsErrOf result Error.OutOfMemory) }
+    {
+        Ok(Listing {
+            file: SimpleFile::new(alloc, name, text)?,
+        })
+    }
+}
+
+impl<'a, 'text: 'a> Files<'a> for Listing<'text> {
+    ghost use Rattle.std.specs.Prelude.{Some};
+    ghost use Rattle.codespan_base.specs.FileTables.{name_of, source_of};
+    ghost use Rattle.codespan_base.specs.FileModel.{line_of};
+    ghost use Rattle.codespan_base.specs.FileModel.Lookup.{Name as NameLookup, Source as SourceLookup, LineIndex, LineNumber, ColumnNumber, LocationAt, LineRange};
+    ghost use Rattle.codespan_base.specs.Lines.{line_starts_of};
+    ghost use Rattle.codespan_base.specs.SimpleModel.{simple_file, simple_column, past_end};
+    ghost use Rattle.codespan_base.specs.Lemmas.Simple.{renumbered_lawful, simple_lawful, simple_past_end, text_fits, text_is_utf8};
+
+    type FileId = ();
+
+    type Name = &'text str;
+
+    type Source = &'text str;
+
+    // The file of the text, with other numbers. The lookup of a number does not fail.
+    ghost database = { λ s. record {
+      same = ⟦<() as PartialEq>⟧.eq;
+      file = λ _.
+          let text = (source_of s.file).now in
+          record (simple_file (Some (name_of s.file).now) text) {
+            number = λ i. i;
+            location = λ byte.
+                let i = line_of (line_starts_of text) byte in
+                record { line_number = i; column_number = simple_column text i byte };
+          };
+      refusal = λ _. elim [
+        | NameLookup ↦ None
+        | SourceLookup ↦ None
+        | LineIndex byte ↦ None
+        | LineNumber i ↦ None
+        | ColumnNumber i byte ↦ past_end (source_of s.file).now i
+        | LocationAt byte ↦ None
+        | LineRange i ↦ past_end (source_of s.file).now i
+      ];
+    } };
+
+    fn name(&'a self, _id: ()) -> Result<&'text str, Error> {
+        Ok(*self.file.name())
+    }
+
+    fn source(&'a self, _id: ()) -> Result<&'text str, Error> {
+        Ok(*self.file.source())
+    }
+
+    fn line_index(&'a self, _id: (), byte_index: usize) -> Result<usize, Error> {
+        self.file.line_index((), byte_index)
+    }
+
+    fn line_number(&'a self, _id: (), line_index: usize) -> Result<usize, Error> {
+        Ok(line_index)
+    }
+
+    fn column_number(
+        &'a self,
+        _id: (),
+        line_index: usize,
+        byte_index: usize,
+    ) -> Result<usize, Error> {
+        self.file.column_number((), line_index, byte_index)
+    }
+
+    // The byte's line is a line, so its column is told.
+    #[tactic(auto, using(codespan_base::specs::Lemmas::Lines::line_of_below))]
+    fn location(&'a self, id: (), byte_index: usize) -> Result<Location, Error> {
+        codespan_base::location_by_default!(self, id, byte_index)
+    }
+
+    fn line_range(&'a self, _id: (), line_index: usize) -> Result<Range<usize>, Error> {
+        self.file.line_range((), line_index)
+    }
+
+    // The lines are those of the file of a text, which is lawful; numbers are free.
+    ghost lawful = { λ s _.
+        let text = (source_of s.file).now in
+        let name = Some (name_of s.file).now in
+        renumbered_lawful (simple_file name text) _ _ _
+        (simple_lawful name text (text_is_utf8 s.file) (text_fits s.file)) };
+
+    // There is one id.
+    ghost same_file = { λ s i j e. (refl, refl) };
+
+    ghost same_is = { λ s. refl };
+
+    // A line past the last is refused as there.
+    ghost past_end = { λ s _ i.
+        simple_past_end (Some (name_of s.file).now) (source_of s.file).now i };
+}
+
+#[test]
+fn listing_lookups(rt: HostRuntime) -> Result<(), Fail> {
+    let listing = Listing::new(rt.alloc(), "l", "a\nbc\nd")?;
+    assert_eq!(rt; listing.name(())?, "l");
+    assert_eq!(rt; listing.source(())?, "a\nbc\nd");
+    assert_eq!(rt; listing.line_number((), 0)?, 0);
+    assert_eq!(rt;
+        listing.location((), 3)?,
+        Location {
+            line_number: 1,
+            column_number: 2
+        }
+    );
+    assert!(rt;
+        matches!(
+            listing.line_range((), 3),
+            Err(Error::LineTooLarge { given: 3, max: 2 })
+        )
+    );
+    Ok(())
+}

@@ -1,0 +1,12 @@
+//! Writers of one's own, and tests of every writer.
+
+pub mod counting;
+pub mod example;
+#[cfg(test)]
+mod flushing;
+#[cfg(test)]
+mod marks;
+#[cfg(test)]
+mod parts;
+pub mod sequences;
+pub mod stopping;

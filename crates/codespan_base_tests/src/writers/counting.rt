@@ -1,0 +1,21 @@
+//! A writer that counts.
+
+use std::io;
+use std::io::Write;
+
+/// A writer that takes all bytes, and counts how often it is flushed.
+#[derive(Drop, Default)]
+pub struct Counting {
+    pub flushes: usize,
+}
+
+impl Write for Counting {
+    fn write(&mut self, buf: &[u8]) -> io::Result<usize> {
+        Ok(buf.len())
+    }
+
+    fn flush(&mut self) -> io::Result<()> {
+        self.flushes = self.flushes.saturating_add(1);
+        Ok(())
+    }
+}

@@ -1,0 +1,139 @@
+//! Writers of one's own, which docs/WRITERS.md explains.
+
+ghost use Rattle.std.specs.Prelude.{◌≡◌, false, codes, refl};
+ghost use Rattle.codespan_base.specs.Streams.{bytes};
+ghost use Rattle.codespan_base_tests.specs.Tags.{tag_sink, color_tag};
+ghost use Rattle.codespan_base.specs.WriterLaw.{Sends};
+
+use codespan_base::diagnostic::{LabelStyle, Severity};
+use codespan_base::term::config::pouring::pour;
+use codespan_base::term::config::putting::{put_through, send_through};
+use codespan_base::term::{ColorSpec, WriteColor, WriteStyle};
+use std::io;
+use std::io::Write;
+
+/// A writer that spells each mark as a tag in brackets.
+#[derive(Drop)]
+pub struct TagWriter<W> {
+    inner: W,
+    refused: bool,
+}
+
+impl<W: Write> TagWriter<W> {
+    pub fn new(writer: W) -> TagWriter<W>
+        ensures inner { result.inner ≡ writer }
+        ensures begins { result.refused ≡ false }
+    {
+        TagWriter {
+            inner: writer,
+            refused: false,
+        }
+    }
+
+    /// Sends a tag, or a beginning of it.
+    fn send_tag(&mut self, tag: &[u8]) -> io::Result<()>
+        ensures { Sends (tag_sink self.old.refused (W.contents self.old.inner)) (bytes tag.now)
+            result (tag_sink self.new.refused (W.contents self.new.inner)) }
+    {
+        send_through(&mut self.inner, &mut self.refused, tag)
+    }
+}
+
+impl<W: Write> Write for TagWriter<W> {
+    ghost contents = { λ t. W.contents t.inner };
+
+    fn write(&mut self, buf: &[u8]) -> io::Result<usize> {
+        self.inner.write(buf)
+    }
+
+    fn flush(&mut self) -> io::Result<()> {
+        self.inner.flush()
+    }
+}
+
+#[tactic(auto, using(codespan_base::proofs::Marks::marking))]
+impl<W: Write> WriteStyle for TagWriter<W> {
+    ghost sink = { λ t. tag_sink t.refused (W.contents t.inner) };
+
+    fn set_header(&mut self, _severity: Severity) -> io::Result<()> {
+        self.send_tag(b"[header]")
+    }
+
+    fn set_header_message(&mut self) -> io::Result<()> {
+        self.send_tag(b"[message]")
+    }
+
+    fn set_line_number(&mut self) -> io::Result<()> {
+        self.send_tag(b"[number]")
+    }
+
+    fn set_note_bullet(&mut self) -> io::Result<()> {
+        self.send_tag(b"[bullet]")
+    }
+
+    fn set_source_border(&mut self) -> io::Result<()> {
+        self.send_tag(b"[border]")
+    }
+
+    fn set_label(&mut self, _severity: Severity, label_style: LabelStyle) -> io::Result<()> {
+        match label_style {
+            LabelStyle::Primary => self.send_tag(b"[primary]"),
+            LabelStyle::Secondary => self.send_tag(b"[secondary]"),
+        }
+    }
+
+    fn reset(&mut self) -> io::Result<()> {
+        self.send_tag(b"[/]")
+    }
+
+    fn put(&mut self, bytes: &[u8]) -> io::Result<usize> {
+        put_through(&mut self.inner, &mut self.refused, bytes)
+    }
+
+    ghost tells = { λ _. refl };
+}
+
+/// A writer of colours that spells bold as a tag, and nothing else of a style.
+#[derive(Drop)]
+pub struct TagColor<W> {
+    inner: W,
+}
+
+impl<W: Write> TagColor<W> {
+    pub fn new(writer: W) -> TagColor<W>
+        ensures { result.inner ≡ writer }
+    {
+        TagColor { inner: writer }
+    }
+}
+
+impl<W: Write> Write for TagColor<W> {
+    ghost contents = { λ t. W.contents t.inner };
+
+    fn write(&mut self, buf: &[u8]) -> io::Result<usize> {
+        self.inner.write(buf)
+    }
+
+    fn flush(&mut self) -> io::Result<()> {
+        self.inner.flush()
+    }
+}
+
+#[tactic(auto, using(codespan_base::proofs::Paints::paintings))]
+impl<W: Write> WriteColor for TagColor<W> {
+    ghost color_bytes = { color_tag };
+
+    ghost reset_bytes = { codes "[/]" };
+
+    fn set_color(&mut self, spec: &ColorSpec) -> io::Result<()> {
+        if spec.bold {
+            pour(&mut self.inner, b"[bold]")
+        } else {
+            Ok(())
+        }
+    }
+
+    fn reset(&mut self) -> io::Result<()> {
+        pour(&mut self.inner, b"[/]")
+    }
+}

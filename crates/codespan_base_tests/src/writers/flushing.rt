@@ -1,0 +1,34 @@
+//! Which calls flush.
+
+use crate::writers::counting::Counting;
+use crate::writers::marks::send_every_mark;
+use codespan_base::term::config::lent::LentWriter;
+use codespan_base::term::config::sending::{send, send_blanks};
+use codespan_base::term::{Ansi, NoColor, PlainWriter, Styles, StylesWriter, WriteStyle};
+use std::io;
+use std::test::Fail;
+
+/// Every mark, some text by both ways of writing, and then one flush.
+fn send_and_flush<W: WriteStyle>(w: &mut W) -> io::Result<()> {
+    send_every_mark(w)?;
+    send(w, b"text")?;
+    send_blanks(w, 70)?;
+    w.write_all(b"text")?;
+    w.flush()
+}
+
+/// A write and a flush come through each writer, and nothing else flushes.
+#[test]
+fn only_flush_flushes(rt: HostRuntime) -> Result<(), Fail> {
+    let styles = Styles::default();
+    let mut inner = Counting::default();
+    send_and_flush(&mut PlainWriter::new(&mut inner))?;
+    assert_eq!(rt; inner.flushes, 1);
+    send_and_flush(&mut LentWriter::new(&mut inner))?;
+    assert_eq!(rt; inner.flushes, 2);
+    send_and_flush(&mut StylesWriter::new(Ansi::new(&mut inner), &styles))?;
+    assert_eq!(rt; inner.flushes, 3);
+    send_and_flush(&mut StylesWriter::new(NoColor::new(&mut inner), &styles))?;
+    assert_eq!(rt; inner.flushes, 4);
+    Ok(())
+}

@@ -1,0 +1,66 @@
+//! Parts of rows, sent to writers that take little at a time, or stop.
+
+use crate::writers::example::TagWriter;
+use crate::writers::stopping::{Stop, Stopping};
+use codespan_base::diagnostic::{LabelStyle, Severity};
+use codespan_base::term::config::sending::{
+    send, send_blanks, send_char, send_number, send_repeated,
+};
+use codespan_base::term::{PlainWriter, WriteStyle};
+use std::io;
+use std::test::Fail;
+
+/// A row with a part of each kind.
+fn send_row<W: WriteStyle>(w: &mut W) -> io::Result<()> {
+    send_number(w, 1024)?;
+    send(w, "┌─".as_bytes())?;
+    send_char(w, '·')?;
+    send_blanks(w, 3)?;
+    send_repeated(w, '─', 2)?;
+    send(w, b"")?;
+    send_blanks(w, 0)?;
+    w.set_header(Severity::Bug)?;
+    w.set_header_message()?;
+    w.set_line_number()?;
+    w.set_note_bullet()?;
+    w.set_source_border()?;
+    w.set_label(Severity::Help, LabelStyle::Primary)?;
+    w.set_label(Severity::Help, LabelStyle::Secondary)?;
+    w.reset()
+}
+
+const PLAIN_ROW: &str = "1024┌─·   ──";
+
+const TAG_ROW: &str =
+    "1024┌─·   ──[header][message][number][bullet][border][primary][secondary][/]";
+
+#[test]
+fn rows_over_writers_that_stop(rt: HostRuntime) -> Result<(), Fail> {
+    for stop in [
+        Stop::Refuses,
+        Stop::IsInterrupted,
+        Stop::TakesNothing,
+        Stop::TakesOneByte,
+    ] {
+        for most in [1, 2, 5, 100] {
+            for writes in 0..100 {
+                let mut inner = Stopping::new(rt.alloc(), most, writes, stop);
+                let result = send_row(&mut TagWriter::new(&mut inner));
+                assert!(rt;
+                    inner.is_right(result.is_ok(), TAG_ROW.as_bytes()),
+                    "{stop:?} {most} {writes}"
+                );
+
+                let mut plain = PlainWriter::new(Stopping::new(rt.alloc(), most, writes, stop));
+                let result = send_row(&mut plain);
+                assert_eq!(rt; plain.has_refused(), result.is_err());
+                let inner = plain.into_inner();
+                assert!(rt;
+                    inner.is_right(result.is_ok(), PLAIN_ROW.as_bytes()),
+                    "{stop:?} {most} {writes}"
+                );
+            }
+        }
+    }
+    Ok(())
+}

@@ -1,0 +1,114 @@
+//! Writers that take little at a time, or stop.
+
+ghost use Rattle.std.specs.Io.{WritesAtMost};
+
+use codespan_base::files::Error;
+use std::alloc::Global;
+use std::io;
+use std::io::{ErrorKind, Write};
+
+/// How a writer stops at a write.
+#[derive(Clone, Copy, Debug)]
+pub enum Stop {
+    /// It refuses.
+    Refuses,
+    /// It is interrupted.
+    IsInterrupted,
+    /// It takes nothing.
+    TakesNothing,
+    /// It takes one byte, and refuses the next write.
+    TakesOneByte,
+}
+
+/// A writer that takes so many bytes at most at a time, and stops after so many writes.
+#[derive(Drop)]
+pub struct Stopping {
+    /// What it has taken.
+    pub text: Vec<u8>,
+    most: usize,
+    writes_left: usize,
+    stop: Stop,
+    has_stopped: bool,
+    writes_after: usize,
+}
+
+impl Stopping {
+    /// A writer that takes `most` bytes at most at a time, and stops so after `writes` writes.
+    pub fn new(alloc: Global, most: usize, writes: usize, stop: Stop) -> Stopping {
+        Stopping {
+            text: Vec::new(alloc),
+            most,
+            writes_left: writes,
+            stop,
+            has_stopped: false,
+            writes_after: 0,
+        }
+    }
+
+    /// Whether it has stopped.
+    pub fn has_stopped(&self) -> bool {
+        self.has_stopped
+    }
+
+    /// Whether it holds what it should of the whole text: all of it, where it has not stopped, and else a beginning, and no write has
+    /// followed the refused one.
+    pub fn is_right(&self, succeeded: bool, whole: &[u8]) -> bool {
+        let text = self.text.as_slice();
+        succeeded != self.has_stopped
+            && self.writes_after == 0
+            && whole.starts_with(text)
+            && (self.has_stopped || text.len() == whole.len())
+    }
+
+    /// Takes the first of these bytes, as many as it may.
+    fn take(&mut self, buf: &[u8], most: usize) -> io::Result<usize>
+        ensures { WritesAtMost result buf.now }
+    {
+        let count = buf.len().min(most);
+        self.text.extend_from_slice(&buf[..count])?;
+        Ok(count)
+    }
+}
+
+impl Write for Stopping {
+    fn write(&mut self, buf: &[u8]) -> io::Result<usize> {
+        if self.has_stopped {
+            self.writes_after = self.writes_after.saturating_add(1);
+        }
+        if self.writes_left > 0 {
+            self.writes_left -= 1;
+            return self.take(buf, self.most);
+        }
+        match self.stop {
+            Stop::TakesOneByte => {
+                self.stop = Stop::Refuses;
+                self.take(buf, 1)
+            }
+            Stop::Refuses => {
+                self.has_stopped = true;
+                Err(io::Error::from(ErrorKind::PermissionDenied))
+            }
+            Stop::IsInterrupted => {
+                self.has_stopped = true;
+                Err(io::Error::from(ErrorKind::Interrupted))
+            }
+            Stop::TakesNothing => {
+                self.has_stopped = true;
+                Ok(0)
+            }
+        }
+    }
+
+    fn flush(&mut self) -> io::Result<()> {
+        Ok(())
+    }
+}
+
+/// Whether a drawing was refused with `Io`; `None` where it was refused otherwise.
+pub fn is_refused(answer: &Result<(), Error>) -> Option<bool> {
+    match answer {
+        Ok(()) => Some(false),
+        Err(Error::Io(_)) => Some(true),
+        Err(_) => None,
+    }
+}

@@ -1,0 +1,113 @@
+-- An output where the names of files are stated.
+use Rattle.std.proofs.Common.{◌≡◌, Bool, true, false, cond, ◌&&◌, List, [], ◌∷◌, ◌++◌, length, map, take, flat_map, Option, None, Some, refl, sym, ap, ◌∙◌, arith}
+use Rattle.std.specs.Prelude.{IsSome, is_none, take_while}
+use Rattle.std.proofs.Math.Seq.{take-append_seam}
+use Rattle.std.proofs.lemmas.List.{length-map, map-append}
+use Rattle.std.proofs.lemmas.List.Elements.{Contains-append_right}
+use Rattle.std.proofs.lemmas.List.Sums.{take_while-cons}
+use Rattle.codespan_base.specs.declared.diagnostic.Diagnostic.{Diagnostic}
+use Rattle.codespan_base.specs.declared.files.Error.{Error}
+use Rattle.codespan_base.specs.declared.term.config.Config.{Config}
+use Rattle.codespan_base.specs.declared.term.config.DisplayStyle.{DisplayStyle}
+use Rattle.codespan_base.specs.declared.term.config.DisplayStyle.TheVariants.{Short}
+use Rattle.codespan_base.specs.FileModel.{FileDatabase, FileModel, Lookup, or_refusal}
+use Rattle.codespan_base.specs.FileModel.Lookup.{Name, LocationAt}
+use Rattle.codespan_picture.specs.Lookups.{AllAnswered, Refusals, first_refusal, header_asked}
+use Rattle.codespan_picture.specs.Picture.{AreLoci, headers_at, label_start, labels_of, output, starts, stated_loci, stated_locus}
+use Rattle.codespan_picture.specs.Rows.{Locus}
+use Rattle.codespan_picture.specs.Snippets.{InFile, primary_of}
+use Rattle.codespan_laws.specs.StatedNames.{HeadersAreBeforeRefusal, NamesAreStated, OutputIsPicture}
+use Rattle.codespan_laws.proofs.Loci.{each_of, each_start, zip_stated}
+
+-- ---- labels before the first one for which a lookup fails
+
+-- whether both lookups for a header are answered
+abbrev is_answered : {Id : Type 0} → Refusals Id → InFile Id → Bool
+is_answered refusal x = is_none (refusal x.id Name) && is_none (refusal x.id (LocationAt x.label.start))
+
+-- where the two refuse nothing, each is answered
+both_answered : (o p : Option Error) → or_refusal o (or_refusal p None) ≡ None → (is_none o && is_none p) ≡ true
+both_answered None None h = refl
+both_answered None (Some e) h = cc
+both_answered (Some e) p h = cc
+
+-- where one of the two refuses, not both are answered
+one_refused : (o p : Option Error) (e : Error) → or_refusal o (or_refusal p None) ≡ Some e → (is_none o && is_none p) ≡ false
+one_refused None None e h = cc
+one_refused None (Some x) e h = refl
+one_refused (Some x) p e h = refl
+
+-- where the two refuse nothing, neither does
+none_first : (o p : Option Error) → or_refusal o p ≡ None → (o ≡ None) × (p ≡ None)
+none_first None p h = (refl, h)
+none_first (Some x) p h = cc
+
+-- lookups of which the first ones are answered as all are
+none_of_first : {Id : Type 0} (refusal : Refusals Id) (ls ms : List (Id × Lookup)) → first_refusal refusal (ls ++ ms) ≡ None
+    → (first_refusal refusal ls ≡ None) × (first_refusal refusal ms ≡ None)
+none_of_first refusal [] ms h = (refl, h)
+none_of_first refusal (l ∷ ls) ms h =
+    let parts = none_first (refusal l.0 l.1) (first_refusal refusal (ls ++ ms)) h in
+    let later = none_of_first refusal ls ms parts.1 in
+    (ap (λ (o : Option Error). or_refusal o (first_refusal refusal ls)) parts.0 ∙ later.0, later.1)
+
+-- labels whose lookups are answered, and then one whose are not
+run_before : {Id : Type 0} (refusal : Refusals Id) (before : List (InFile Id)) (here : InFile Id) (after : List (InFile Id)) → first_refusal refusal (flat_map header_asked before) ≡ None
+    → is_answered refusal here ≡ false → take_while (is_answered refusal) (before ++ here ∷ after) ≡ before
+run_before refusal [] here after answered refused =
+    take_while-cons (is_answered refusal) here after ∙ ap (λ (b : Bool). cond b (here ∷ take_while (is_answered refusal) after) []) refused
+run_before {Id} refusal (x ∷ xs) here after answered refused =
+    let parts = none_of_first refusal (header_asked x) (flat_map header_asked xs) answered in
+    let passes : is_answered refusal x ≡ true = both_answered _ _ parts.0 in
+    take_while-cons (is_answered refusal) x (xs ++ here ∷ after)
+    ∙ ap (λ (b : Bool). cond b (x ∷ take_while (is_answered refusal) (xs ++ here ∷ after)) []) passes
+    ∙ ap (λ (l : List (InFile Id)). x ∷ l) (run_before refusal xs here after parts.1 refused)
+
+-- ---- loci of files that state their names
+
+map_twice : {X Y Z : Type 0} (g : Y → Z) (f : X → Y) (xs : List X) → map g (map f xs) ≡ map (λ x. g (f x)) xs
+map_twice g f [] = refl
+map_twice g f (x ∷ xs) = ap (λ ys. g (f x) ∷ ys) (map_twice g f xs)
+
+module _ {Id : Type 0} (files : FileDatabase Id) (d : Diagnostic Id) (named : NamesAreStated files d) where
+  -- loci of the output are those that the files state
+  pub loci_stated : (style : DisplayStyle) (loci : List Locus) → AreLoci files d style loci → loci ≡ stated_loci files d style
+  loci_stated style loci are =
+      zip_stated (starts files.same files.file (labels_of d) style) loci are
+      (each_start files.same files.file (labels_of d) (λ (f : FileModel). IsSome f.name) (each_of (λ (x : InFile Id). IsSome (files.file x.id).name) (labels_of d) named) style)
+
+  -- so the output is the picture
+  pub output_stated : (style : DisplayStyle) (renderer view : Config) (loci : List Locus) → AreLoci files d style loci
+      → output style renderer view files d loci ≡ output style renderer view files d (stated_loci files d style)
+  output_stated style renderer view loci are = ap (output style renderer view files d) (loci_stated style loci are)
+
+  -- and the headers before a label that is refused are those of the labels before the first one that is refused
+  headers_stated : (config : Config) (loci : List Locus) → AreLoci files d Short loci
+      → (before : List (InFile Id)) (here : InFile Id) (after : List (InFile Id)) → before ++ here ∷ after ≡ primary_of (labels_of d)
+      → AllAnswered files.refusal (flat_map header_asked before) → (e : Error) → first_refusal files.refusal (header_asked here) ≡ Some e
+      → headers_at config d (take (length before) loci)
+      ≡ headers_at config d (map (λ (x : InFile Id). stated_locus (label_start files.file x)) (take_while (is_answered files.refusal) (primary_of (labels_of d))))
+  headers_stated config loci are before here after whole answered e refused =
+      let causes = primary_of (labels_of d) in
+      let place : InFile Id → Locus = λ x. stated_locus (label_start files.file x) in
+      let split : loci ≡ map place before ++ map place (here ∷ after) =
+      loci_stated Short loci are ∙ map_twice stated_locus (label_start files.file) causes ∙ ap (map place) (sym whole) ∙ map-append place before (here ∷ after) in
+      let taken : take (length before) loci ≡ map place before =
+      ap (λ n. take n loci) (sym (length-map before place)) ∙ ap (take (length (map place before))) split ∙ take-append_seam (map place before) (map place (here ∷ after)) in
+      let run : take_while (is_answered files.refusal) causes ≡ before =
+      ap (take_while (is_answered files.refusal)) (sym whole)
+      ∙ run_before files.refusal before here after (none_of (flat_map header_asked before) answered) (one_refused _ _ e refused) in
+      ap (headers_at config d) (taken ∙ ap (map place) (sym run))
+    where
+      none_of : (ls : List (Id × Lookup)) → AllAnswered files.refusal ls → first_refusal files.refusal ls ≡ None
+      none_of [] h = refl
+      none_of (l ∷ ls) h =
+          ap (λ (o : Option Error). or_refusal o (first_refusal files.refusal ls)) (h l.0 l.1 (0, omega arith, refl))
+          ∙ none_of ls (λ id lookup m. h id lookup (Contains-append_right (l ∷ []) ls (id, lookup) m))
+
+pub output_is_picture : {Id : Type 0} (files : FileDatabase Id) (d : Diagnostic Id) → OutputIsPicture files d
+output_is_picture files d named style renderer view loci are = output_stated files d named style renderer view loci are
+
+pub headers_are_before_refusal : {Id : Type 0} (files : FileDatabase Id) (d : Diagnostic Id) → HeadersAreBeforeRefusal files d
+headers_are_before_refusal files d named config loci are before here after whole answered e refused =
+    headers_stated files d named config loci are before here after whole answered e refused

@@ -1,0 +1,83 @@
+//! The characters of a line, as its rows need them.
+
+ghost use Rattle.std.specs.Prelude.{◌≡◌, ◌≤◌};
+ghost use Rattle.codespan_base.specs.WriterLaw.{Sends};
+ghost use Rattle.codespan_picture.specs.Cells.{width_of};
+ghost use Rattle.codespan_picture.specs.Given.{single_label_views};
+ghost use Rattle.codespan_picture.specs.RowParts.{cells_before, cells_up_to, greatest_start};
+ghost use Rattle.codespan_renderer.specs.Inner.GivenRows.{given_cells, given_pointers, given_pointers_before};
+ghost use Rattle.codespan_renderer.specs.Inner.Runs.{AreHanging};
+ghost use Rattle.codespan_renderer.specs.Inner.LineSources.{SourcedLine, sourced_line, characters_of, characters_to_end_of};
+
+use crate::term::renderer::char_cursor::CharCursor;
+use crate::term::renderer::line::{Line, Look};
+use crate::term::renderer::messages::Messages;
+use codespan_base::term::WriteStyle;
+use std::io;
+
+/// A line whose rows are to be rendered: the source of its characters, their widths and its
+/// pointers.
+///
+/// There are two: one scans the text again for each row, the other keeps the characters in a cache.
+pub trait LineSource {
+    /// A cursor over its characters.
+    type Cursor: CharCursor;
+
+    /// The tab width, the text and the labels of the line.
+    ghost of: { Self → SourcedLine };
+
+    /// Returns a cursor over the characters of the line.
+    fn characters(&self) -> Self::Cursor
+        ensures left { Self.Cursor.left result ≡ characters_of (of self.now) }
+        ensures labels { Self.Cursor.labels result ≡ (of self.now).labels };
+
+    /// Returns a cursor over the characters of the line and the position after the last one.
+    fn characters_to_end(&self) -> Self::Cursor
+        ensures left { Self.Cursor.left result ≡ characters_to_end_of (of self.now) }
+        ensures labels { Self.Cursor.labels result ≡ (of self.now).labels };
+
+    /// Returns how many cells the characters take that begin at this byte index or before it.
+    fn width_up_to(&self, place: usize) -> u128
+        ensures { result ≡ width_of (cells_up_to place (characters_of (of self.now))) };
+
+    /// Returns how many cells the characters take that begin before this byte index.
+    #[tactic(auto, using(crate::proofs::Underlines::widths_before))]
+    fn width_before(&self, place: usize) -> u128
+        ensures { result ≡ width_of (cells_before place (characters_of (of self.now))) }
+    {
+        match place.checked_sub(1) {
+            Some(last) => self.width_up_to(last),
+            None => 0,
+        }
+    }
+
+    /// Writes all pointers of the line.
+    fn send_pointers<W: WriteStyle>(
+        &self,
+        w: &mut W,
+        look: Look<'_>,
+        line: Line<'_, '_>,
+        messages: Messages<'_, '_>,
+    ) -> io::Result<()>
+        requires of { of self.now ≡ sourced_line look line }
+        requires hanging { AreHanging line.labels.now messages.before.now messages.after.now }
+        ensures { Sends (W.sink w.old)
+            (given_pointers look.entry line.entry (given_cells look.entry line.entry))
+            result (W.sink w.new) };
+
+    /// Writes the pointers of the characters that begin before this byte index, which is at most the
+    /// greatest start of a label.
+    fn send_pointers_before<W: WriteStyle>(
+        &self,
+        w: &mut W,
+        look: Look<'_>,
+        line: Line<'_, '_>,
+        messages: Messages<'_, '_>,
+        before: usize,
+    ) -> io::Result<()>
+        requires of { of self.now ≡ sourced_line look line }
+        requires hanging { AreHanging line.labels.now messages.before.now messages.after.now }
+        requires near { before ≤ greatest_start (single_label_views line.labels.now) }
+        ensures { Sends (W.sink w.old) (given_pointers_before look.entry line.entry before)
+            result (W.sink w.new) };
+}

@@ -1,0 +1,20 @@
+-- Loci whose names are texts, as the calls that look them up return them.
+use Rattle.std.specs.Prelude.{ℕ}
+use Rattle.std.specs.Str.{IsUtf8}
+use Rattle.codespan_base.specs.FileModel.{FileModel}
+use Rattle.codespan_picture.specs.Picture.{IsLocus, label_start, snippet_start}
+use Rattle.codespan_picture.specs.Rows.{Locus}
+use Rattle.codespan_picture.specs.Snippets.{InFile, LabelledFile}
+
+-- the locus of a byte of a file, whose name is a text
+pub record IsTextLocus (at : FileModel × ℕ) (locus : Locus) : Type 0 where
+  pub is_locus : IsLocus at locus
+  pub is_text : IsUtf8 locus.name
+
+-- that of a file's snippet
+abbrev pub IsLocusOfFile : LabelledFile → Locus → Type 0
+IsLocusOfFile s locus = IsTextLocus (snippet_start s) locus
+
+-- that of a label's header
+abbrev pub IsLocusOfLabel : {Id : Type 0} → (Id → FileModel) → InFile Id → Locus → Type 0
+IsLocusOfLabel file x locus = IsTextLocus (label_start file x) locus
