@@ -2,12 +2,16 @@
 import pathlib
 import re
 import subprocess
+import unicodedata
+
+from inks import SHOWN, document, glyphs
 
 ROOT = pathlib.Path(__file__).resolve().parents[2]
 PICTURES = ROOT / 'docs/pictures'
 GALLERY = ROOT / 'crates/gallery'
 
 LETTERS = {'n': '\n', 'r': '\r', 't': '\t', '0': '\0', '\\': '\\'}
+SPELLED = {'\n': '\\n', '\r': '\\r', '\t': '\\t', '\0': '\\0', '\\': '\\\\'}
 THEIRS = {**LETTERS, 's': ' ', 'e': ''}
 CONTEXT = ('start', 'end', 'before', 'after')
 
@@ -18,6 +22,29 @@ def unescaped(text, letters=LETTERS):
         escape = match.group(1)
         return chr(int(escape[2:-1], 16)) if escape.startswith('u{') else letters[escape]
     return re.sub(r'\\(u\{[0-9a-fA-F]+\}|[^u]|$)', said, text)
+
+
+def is_seen(character):
+    """Whether a character shows itself in a text file."""
+    return character == ' ' or unicodedata.category(character)[0] not in 'CMZ'
+
+
+def escaped(text):
+    """The text as the gallery reads it: one line, with each odd character, and a blank at its end, as an escape."""
+    spelled = [SPELLED.get(c, c if is_seen(c) else '\\u{%x}' % ord(c)) for c in text]
+    if spelled and spelled[-1] == ' ':
+        spelled[-1] = '\\u{20}'
+    return ''.join(spelled)
+
+
+def line(*fields):
+    """A line of these fields; one that would end in a blank ends before it."""
+    return ' '.join(fields).rstrip(' ')
+
+
+def text_lines(source):
+    """The lines that say a source, one for each of its lines."""
+    return [line('|', escaped(part)) for part in re.findall(r'[^\n]*\n|[^\n]+', source)]
 
 
 def field(text):
@@ -110,6 +137,16 @@ def outcomes(oracle, cases):
         kind, *texts = outcome.split(' ')
         assert kind in ('ok', 'err'), (case.name, outcome)
         yield kind, [unescaped(text, THEIRS) for text in texts]
+
+
+def written(case, kind, texts):
+    """A picture under its name, as the gallery writes it: of `ok` and the picture, or of `err`, the error and what was drawn before it."""
+    colours = case.looks['colours']
+    drawn = texts[0] if kind == 'ok' else texts[1] if colours == 'ansi' else ''
+    if colours == 'svg' and kind == 'ok':
+        drawn = document(list(glyphs(drawn)))
+    shown = ''.join(SHOWN.get(c, c) for c in drawn)
+    return '== %s\n%s%s' % (case.name, shown, 'refused: %s\n' % texts[0] if kind == 'err' else '')
 
 
 def section(name):

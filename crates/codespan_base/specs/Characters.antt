@@ -1,18 +1,7 @@
 -- The characters of a picture.
-use Rattle.std.specs.Prelude.{ℕ, Bool, true, false, List, codes, string_bytes, encode_utf8_all}
-use Rattle.codespan_base.specs.declared.term.config.chars.SnippetStart.{SnippetStart}
-use Rattle.codespan_base.specs.declared.term.config.chars.SnippetStart.TheVariants.{Fixed, Owned}
+use Rattle.std.specs.Prelude.{ℕ, List, codes, encode_utf8_all}
+use Rattle.codespan_base.specs.declared.term.config.chars.SnippetStart.TheVariants.{Fixed}
 use Rattle.codespan_base.specs.declared.term.config.chars.Chars.{Chars}
-
--- the text before a locus
-abbrev pub start_text : SnippetStart → List ℕ
-start_text (Fixed s) = s.now
-start_text (Owned s) = string_bytes s
-
--- whether that text takes no memory
-abbrev pub is_fixed : SnippetStart → Bool
-is_fixed (Fixed s) = true
-is_fixed (Owned s) = false
 
 -- the text of a literal in UTF-8
 abbrev pub utf8 : List ℕ → List ℕ

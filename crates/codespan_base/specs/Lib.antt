@@ -3,6 +3,7 @@ pub use Rattle.codespan_files.specs.Diagnostics
 pub use Rattle.codespan_files.specs.Lines
 pub use Rattle.codespan_files.specs.LineStarts
 pub use Rattle.codespan_files.specs.FileModel
+pub use Rattle.codespan_files.specs.LawfulFiles
 pub use Rattle.codespan_files.specs.SimpleModel
 pub use Rattle.codespan_files.specs.MappedModel
 pub use Rattle.codespan_files.specs.Settings
@@ -19,6 +20,7 @@ pub mod WriterLaw
 pub mod ColorLaw
 pub mod Writers
 -- tables
+pub mod SnippetStarts
 pub mod Characters
 pub mod StyleTables
 pub mod Ansi

@@ -2,7 +2,7 @@
 use Rattle.std.specs.Prelude.{◌≡◌}
 use Rattle.codespan_base.specs.declared.term.config.chars.Chars.{Chars}
 use Rattle.codespan_base.specs.declared.term.config.Config.{Config}
-use Rattle.codespan_base.specs.Characters.{start_text}
+use Rattle.codespan_base.specs.SnippetStarts.{start_text}
 
 -- the same text before a place, and the same characters
 pub record IsChars (table chars : Chars) : Type 0 where

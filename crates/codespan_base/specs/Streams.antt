@@ -1,8 +1,7 @@
 -- What a writer is given: bytes, marks of style, and, where a law speaks of them, slots that stand
 -- for labels' messages.
-use Rattle.std.specs.Prelude.{ℕ, Bool, not, List, [], ◌∷◌, ◌++◌, map, replicate, count_by}
+use Rattle.std.specs.Prelude.{ℕ, List, [], ◌∷◌, ◌++◌, map, replicate}
 use Rattle.std.specs.List.{repeat}
-use Rattle.std.specs.Int.{is_in_range}
 use Rattle.std.specs.Char.{encode_utf8}
 use Rattle.codespan_files.specs.declared.diagnostic.Severity.{Severity}
 use Rattle.codespan_files.specs.declared.diagnostic.LabelStyle.{LabelStyle}
@@ -80,15 +79,3 @@ filled message [] = []
 filled message (Slot k ∷ s) = map Byte (message k) ++ filled message s
 filled message (Byte b ∷ s) = Byte b ∷ filled message s
 filled message (Mark m ∷ s) = Mark m ∷ filled message s
-
--- the byte continues a character of UTF-8
-abbrev pub is_continuation : ℕ → Bool
-is_continuation b = is_in_range 128 191 b
-
--- how many characters a text has: each has one byte that continues none before it
-abbrev pub character_count : List ℕ → ℕ
-character_count bs = count_by (λ b. not (is_continuation b)) bs
-
--- the characters of a row
-abbrev pub row_length : Stream → ℕ
-row_length s = character_count (text_of s)

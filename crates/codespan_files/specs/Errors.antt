@@ -2,7 +2,7 @@
 use Rattle.codespan_files.specs.declared.files.error.Error.{Error}
 use Rattle.codespan_files.specs.declared.files.error.Error.TheVariants.{Io}
 
--- the error is one of a writer
+-- the error is `Io`
 abbrev pub IsIo : Error → Type 0
 IsIo (Io e) = Unit {0}
 IsIo _ = ⊥

@@ -1,7 +1,8 @@
 -- What the lines of a text are together, how columns grow, and how lines are counted and numbered.
 use Rattle.std.specs.Prelude.{◌≡◌, ℕ, ◌+◌, ◌-◌, ◌<◌, ◌≤◌, ◌==◌, ◌||◌, nat_lt, if◌then◌else◌, List, length, flat_map, take, count_by, Option, Some, None}
 use Rattle.std.specs.List.{range_with_len}
-use Rattle.codespan_files.specs.FileModel.{FileModel, line_count, line_start, line_end, line_of, line_text}
+use Rattle.codespan_files.specs.FileModel.{FileModel, line_count, line_start, line_of, line_text}
+use Rattle.codespan_files.specs.LawfulFiles.{line_end}
 use Rattle.codespan_files.specs.Lines.{column_index_of}
 
 -- the line ranges follow each other from 0 to the length, and the lines join to the text

@@ -4,6 +4,7 @@ pub mod Diagnostics
 pub mod Lines
 pub mod LineStarts
 pub mod FileModel
+pub mod LawfulFiles
 pub mod SimpleModel
 pub mod MappedModel
 pub mod Settings

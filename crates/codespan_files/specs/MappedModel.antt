@@ -4,7 +4,8 @@ use Rattle.std.specs.Prelude.{ℕ, ◌+◌, ◌-◌, ◌^◌, nat_le, nat_lt, �
 use Rattle.codespan_files.specs.declared.files.error.Error.{Error}
 use Rattle.codespan_files.specs.declared.files.error.Error.TheVariants.{LineTooLarge}
 use Rattle.codespan_files.specs.declared.files.Location.{Location}
-use Rattle.codespan_files.specs.FileModel.{FileModel, Lookup, line_of, line_number_refusal}
+use Rattle.codespan_files.specs.FileModel.{FileModel, Lookup, line_of}
+use Rattle.codespan_files.specs.LawfulFiles.{line_number_refusal}
 use Rattle.codespan_files.specs.FileModel.Lookup.{LineNumber, ColumnNumber, LocationAt, LineRange}
 use Rattle.codespan_files.specs.Lines.{line_starts_of, starts_after, column_index_of}
 use Rattle.codespan_files.specs.SimpleModel.{simple_file, past_end}

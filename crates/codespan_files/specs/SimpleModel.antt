@@ -5,7 +5,8 @@ use Rattle.std.specs.Option.{option_map_or}
 use Rattle.codespan_files.specs.declared.files.error.Error.{Error}
 use Rattle.codespan_files.specs.declared.files.error.Error.TheVariants.{LineTooLarge, FileMissing}
 use Rattle.codespan_files.specs.declared.files.Location.{Location}
-use Rattle.codespan_files.specs.FileModel.{FileModel, Lookup, line_of, line_number_refusal}
+use Rattle.codespan_files.specs.FileModel.{FileModel, Lookup, line_of}
+use Rattle.codespan_files.specs.LawfulFiles.{line_number_refusal}
 use Rattle.codespan_files.specs.FileModel.Lookup.{LineNumber, ColumnNumber, LineRange}
 use Rattle.codespan_files.specs.Lines.{line_starts_of, column_index_of}
 

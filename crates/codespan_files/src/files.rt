@@ -6,7 +6,7 @@
 //! one over a compiler's own sources.
 
 ghost use Rattle.std.specs.Prelude.{◌≡◌, true, Option, IfOk, ℕ};
-ghost use Rattle.codespan_files.specs.FileModel.{Tells};
+ghost use Rattle.codespan_files.specs.LawfulFiles.{Tells};
 
 mod defaults;
 mod error;
@@ -67,7 +67,8 @@ pub struct Location {
 /// `docs/FILES.md` goes through an implementation step by step.
 pub trait Files<'a> {
     ghost use Rattle.codespan_files.specs.declared.files.error.Error.{Error};
-    ghost use Rattle.codespan_files.specs.FileModel.{FileDatabase, IsLawful, RefusesPastEnd, line_of, IsLineRange};
+    ghost use Rattle.codespan_files.specs.FileModel.{FileDatabase, line_of};
+    ghost use Rattle.codespan_files.specs.LawfulFiles.{IsLawful, RefusesPastEnd, IsLineRange};
     ghost use Rattle.codespan_files.specs.FileModel.Lookup.{Name, Source, LineIndex, LineNumber, ColumnNumber, LocationAt, LineRange};
 
     /// What identifies a file of the database. Equal ids name one file.

@@ -6,7 +6,8 @@ use Rattle.codespan_base.specs.declared.term.config.Config.{Config}
 use Rattle.codespan_base.specs.Labels.{Labelled, LaneMark}
 use Rattle.codespan_picture.specs.Cells.{leading_whitespace}
 use Rattle.codespan_picture.specs.Rows.{Row, Lanes, Line, SourceRow, HangingRow, UnderlineRow, BreakRow, caret_rows, hanging_rows, underline_rows, rows_of, hanging, has_underline}
-use Rattle.codespan_picture.specs.Snippets.{LabelledFile, line_at, between, drawing}
+use Rattle.codespan_picture.specs.Sequences.{gap_between}
+use Rattle.codespan_picture.specs.Snippets.{LabelledFile, line_at, line_rows, break_rows, drawing}
 use Rattle.codespan_laws.specs.LineLaws.{broken_line, broken_before, shown_lines, BreaksAreGaps, DrawingOfShown}
 
 -- ---- rows that break nothing
@@ -40,12 +41,15 @@ breaks_of : (line : ℕ → Line) (c : ℕ) (ls : List ℕ)
     → filter_map broken_line (drawing line (Some c) ls) ≡ map (λ l. (line l).lanes) (broken_before (c ∷ ls))
 breaks_of line c [] = refl
 breaks_of line c (d ∷ more) =
-    breaks-append (between line (Some c) d ++ rows_of (line d)) (drawing line (Some d) more)
+    breaks-append (gap c d ++ rows_of (line d)) (drawing line (Some d) more)
     ∙ ap₂ (λ s t. s ++ t)
-    (breaks-append (between line (Some c) d) (rows_of (line d)) ∙ ap (λ t. filter_map broken_line (between line (Some c) d) ++ t) (no_break_line (line d)))
+    (breaks-append (gap c d) (rows_of (line d)) ∙ ap (λ t. filter_map broken_line (gap c d) ++ t) (no_break_line (line d)))
     (breaks_of line d more)
     ∙ by_tests (d == c + 2) (nat_le (c + 3) d) refl refl
   where
+    gap : ℕ → ℕ → List Row
+    gap = gap_between (line_rows line) (break_rows line)
+
     rest : List Lanes
     rest = map (λ l. (line l).lanes) (broken_before (d ∷ more))
 

@@ -5,15 +5,15 @@ use Rattle.codespan_base.specs.declared.diagnostic.Severity.{Severity}
 use Rattle.codespan_base.specs.declared.diagnostic.LabelStyle.{LabelStyle}
 use Rattle.codespan_base.specs.declared.term.config.chars.Chars.{Chars}
 use Rattle.codespan_base.specs.Labels.{Labelled, LaneMark, MultiLabel, Top, Left, Bottom}
-use Rattle.codespan_base.specs.Streams.{Stream, StyleMark, Reset, LabelMark, SourceBorder, NoteBullet, one_mark, bytes, glyph, repeated, space, row_length, character_count}
-use Rattle.codespan_base.specs.Characters.{start_text}
+use Rattle.codespan_base.specs.Streams.{Stream, StyleMark, Reset, LabelMark, SourceBorder, NoteBullet, one_mark, bytes, glyph, repeated, space}
+use Rattle.codespan_laws.specs.RowLaws.{row_length, character_count, CharactersAreFree}
+use Rattle.codespan_base.specs.SnippetStarts.{start_text}
 use Rattle.codespan_picture.specs.declared.cells.Cell.{Cell}
 use Rattle.codespan_picture.specs.Carets.{style_under, greatest_end}
 use Rattle.codespan_picture.specs.Lanes.{label_glyph}
 use Rattle.codespan_picture.specs.Rows.{Look, Locus, Lanes, Line, Row, HeaderRow, StartRow, EmptyRow, BreakRow, SourceRow, CaretRow, PointerRow, HangingRow, UnderlineRow, FirstNoteRow, LaterNoteRow, BlankRow, hanging, trailing}
 use Rattle.codespan_picture.specs.RowParts.{gutter, numbered_gutter, border, break_border, change, styled, lanes_in, locus, line_cells, line_cells_to_end, source_lanes, plain_lanes, below_lanes, underline_lanes, coloured_text, caret_glyphs, carets, trailing_message, label_message, starts_in, greatest_start, blanks_up_to, pointer_style, pointer_at, pointers, cells_before, underline, underline_message}
 use Rattle.codespan_picture.specs.RowStreams.{stream_of, start_row, empty_row, break_row, source_row, opening, caret_row, pointer_row, hanging_row, underline_row, first_note_row}
-use Rattle.codespan_laws.specs.RowLaws.{CharactersAreFree}
 use Rattle.codespan_laws.proofs.Texts.{row_length-append, row_length-glyph, row_length-repeated, text_of-bytes}
 use Rattle.codespan_laws.proofs.LaneWidths.{row_length-lanes_in, row_length-label_glyph}
 

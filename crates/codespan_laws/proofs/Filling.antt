@@ -1,9 +1,9 @@
 -- Lines of which some are shown: the drawn ones in order give what the shown ones give, with what stands between two of them.
-use Rattle.std.proofs.Common.{◌≡◌, ℕ, zero, suc, ◌+◌, ◌-◌, ◌≤◌, Bool, true, false, cond, ◌==◌, nat_lt, nat_le, ◌&&◌, ◌||◌, if◌then◌else◌, List, [], ◌∷◌, ◌++◌, filter, flat_map, Option, Some, None, refl, sym, ap, ◌∙◌, arith}
+use Rattle.std.proofs.Common.{◌≡◌, ℕ, zero, suc, ◌+◌, ◌-◌, ◌≤◌, Bool, true, false, cond, ◌==◌, nat_lt, nat_le, ◌&&◌, ◌||◌, if◌then◌else◌, List, [], ◌∷◌, ◌++◌, filter, Option, Some, None, refl, sym, ap, ◌∙◌, arith, append_assoc}
 use Rattle.std.specs.List.{range_with_len}
 use Rattle.std.proofs.Math.Bool.{and-false}
 use Rattle.std.proofs.lemmas.Bool.Decides.{nat_tests}
-use Rattle.codespan_picture.specs.Lines.{is_broken}
+use Rattle.codespan_picture.specs.Sequences.{before_line, break_between, gap_between, in_sequence}
 
 -- ---- one line
 
@@ -49,28 +49,17 @@ after-hidden shown a h = let back : a + 1 - 1 ≡ a = omega arith in rw back (si
 
 -- what a shown line, a filled one and a break before a line give
 module _ {X : Type 0} (drawn filled broken : ℕ → List X) where
-  -- a break, where lines are left out before this one
-  abbrev pub break_gives : Option ℕ → ℕ → List X
-  break_gives None d = []
-  break_gives (Some c) d = if is_broken c d then broken d else []
-
-  -- what stands between two shown lines
-  abbrev pub gap_gives : Option ℕ → ℕ → List X
-  gap_gives None d = []
-  gap_gives (Some c) d = if d == c + 2 then filled (c + 1) else if is_broken c d then broken d else []
-
-  -- shown lines, with what stands between them
-  abbrev pub shown_give : Option ℕ → List ℕ → List X
-  shown_give was [] = []
-  shown_give was (d ∷ ds) = gap_gives was d ++ (drawn d ++ shown_give (Some d) ds)
-
   -- where no line is filled in, a break stands between two shown lines or nothing
-  gap-break : (c d : ℕ) → (d == c + 2) ≡ false → gap_gives (Some c) d ≡ break_gives (Some c) d
-  gap-break c d h = ap (λ b. cond b (filled (c + 1)) (break_gives (Some c) d)) h
+  gap-break : (c d : ℕ) → (d == c + 2) ≡ false → gap_between filled broken c d ≡ break_between broken c d
+  gap-break c d h = ap (λ b. cond b (filled (c + 1)) (break_between broken c d)) h
 
   -- no break stands between two lines that follow each other
-  break-next : (c : ℕ) → break_gives (Some c) (c + 1) ≡ []
+  break-next : (c : ℕ) → break_between broken c (c + 1) ≡ []
   break-next c = let near : nat_le (c + 3) (c + 1) ≡ false = grind (arith, nat_tests) in ap (λ b. cond b (broken (c + 1)) []) near
+
+  -- shown lines, with what stands between them
+  abbrev shown_give : Option ℕ → List ℕ → List X
+  shown_give = in_sequence (λ l. l) (gap_between filled broken) drawn
 
   module _ (shown : ℕ → Bool) where
     -- what a drawn line gives
@@ -78,9 +67,8 @@ module _ {X : Type 0} (drawn filled broken : ℕ → List X) where
     given l = if shown l then drawn l else filled l
 
     -- drawn lines, with the breaks between them
-    abbrev pub lines_give : Option ℕ → List ℕ → List X
-    lines_give was [] = []
-    lines_give was (l ∷ ls) = break_gives was l ++ (given l ++ lines_give (Some l) ls)
+    abbrev lines_give : Option ℕ → List ℕ → List X
+    lines_give = in_sequence (λ l. l) (break_between broken) given
 
     -- so many lines from one on, by those of them that are drawn
     abbrev lines_from : Option ℕ → ℕ → ℕ → List X
@@ -101,17 +89,17 @@ module _ {X : Type 0} (drawn filled broken : ℕ → List X) where
 
     -- a drawn line gives what it gives
     lines-keep : (was : Option ℕ) (a n : ℕ) (b : Bool) → is_filled shown a ≡ true → shown a ≡ b
-        → lines_from was a (suc n) ≡ break_gives was a ++ (cond b (drawn a) (filled a) ++ lines_from (Some a) (a + 1) n)
+        → lines_from was a (suc n) ≡ before_line (break_between broken) was a ++ cond b (drawn a) (filled a) ++ lines_from (Some a) (a + 1) n
     lines-keep was a n b h k =
         ap (λ t. lines_give was (cond t (a ∷ filter (is_filled shown) (range_with_len (a + 1) n)) (filter (is_filled shown) (range_with_len (a + 1) n)))) h
-        ∙ ap (λ t. break_gives was a ++ (cond t (drawn a) (filled a) ++ lines_from (Some a) (a + 1) n)) k
+        ∙ ap (λ t. before_line (break_between broken) was a ++ cond t (drawn a) (filled a) ++ lines_from (Some a) (a + 1) n) k
 
     -- a line that is not shown is passed over
     shown-skip : (was : Option ℕ) (a n : ℕ) → shown a ≡ false → shown_from was a (suc n) ≡ shown_from was (a + 1) n
     shown-skip was a n h = ap (λ b. shown_give was (cond b (a ∷ filter shown (range_with_len (a + 1) n)) (filter shown (range_with_len (a + 1) n)))) h
 
     -- a shown line is taken
-    shown-keep : (was : Option ℕ) (a n : ℕ) → shown a ≡ true → shown_from was a (suc n) ≡ gap_gives was a ++ (drawn a ++ shown_from (Some a) (a + 1) n)
+    shown-keep : (was : Option ℕ) (a n : ℕ) → shown a ≡ true → shown_from was a (suc n) ≡ before_line (gap_between filled broken) was a ++ drawn a ++ shown_from (Some a) (a + 1) n
     shown-keep was a n h = ap (λ b. shown_give was (cond b (a ∷ filter shown (range_with_len (a + 1) n)) (filter shown (range_with_len (a + 1) n)))) h
 
     -- right after a shown line
@@ -130,8 +118,8 @@ module _ {X : Type 0} (drawn filled broken : ℕ → List X) where
     take-shown : (n : ℕ) → Next n → (c a : ℕ) → (a == c + 2) ≡ false → shown a ≡ true → NoneFrom (a + 1 + n) → lines_from (Some c) a (suc n) ≡ shown_from (Some c) a (suc n)
     take-shown n next c a other here none =
         lines-keep (Some c) a n true (filled-shown shown a here) here
-        ∙ ap (λ rest. break_gives (Some c) a ++ (drawn a ++ rest)) (next a here none)
-        ∙ ap (λ first. first ++ (drawn a ++ shown_from (Some a) (a + 1) n)) (sym (gap-break c a other))
+        ∙ ap (λ rest. break_between broken c a ++ drawn a ++ rest) (next a here none)
+        ∙ ap (λ first. first ++ drawn a ++ shown_from (Some a) (a + 1) n) (sym (gap-break c a other))
         ∙ sym (shown-keep (Some c) a n here)
 
     -- a shown line comes right after one
@@ -152,13 +140,14 @@ module _ {X : Type 0} (drawn filled broken : ℕ → List X) where
             let two : (c + 1 + 1 == c + 2) ≡ true = grind (arith, nat_tests) in
             let rest : List X = shown_from (Some (c + 1 + 1)) (c + 1 + 1 + 1) n in
             lines-keep (Some c) (c + 1) (suc n) false (filled-between shown c is here) hidden
-            ∙ ap (λ (first : List X). first ++ (filled (c + 1) ++ lines_from (Some (c + 1)) (c + 1 + 1) (suc n))) (break-next c)
+            ∙ ap (λ (first : List X). first ++ filled (c + 1) ++ lines_from (Some (c + 1)) (c + 1 + 1) (suc n)) (break-next c)
             ∙ ap (λ (more : List X). filled (c + 1) ++ more)
             (lines-keep (Some (c + 1)) (c + 1 + 1) n true (filled-shown shown (c + 1 + 1) here) here
-            ∙ ap (λ (first : List X). first ++ (drawn (c + 1 + 1) ++ lines_from (Some (c + 1 + 1)) (c + 1 + 1 + 1) n)) (break-next (c + 1))
+            ∙ ap (λ (first : List X). first ++ drawn (c + 1 + 1) ++ lines_from (Some (c + 1 + 1)) (c + 1 + 1 + 1) n) (break-next (c + 1))
             ∙ ap (λ (more : List X). drawn (c + 1 + 1) ++ more) (next (c + 1 + 1) here (λ l h. none l (omega arith))))
             ∙ sym (shown-keep (Some c) (c + 1 + 1) n here
-            ∙ ap (λ b. cond b (filled (c + 1)) (break_gives (Some c) (c + 1 + 1)) ++ (drawn (c + 1 + 1) ++ rest)) two)
+            ∙ ap (λ b. cond b (filled (c + 1)) (break_between broken c (c + 1 + 1)) ++ drawn (c + 1 + 1) ++ rest) two
+            ∙ append_assoc (filled (c + 1)) (drawn (c + 1 + 1)) rest)
         by_test false here =
             lines-skip (Some c) (c + 1) (suc n) (not_filled-before shown (c + 1) hidden here)
             ∙ lines-skip (Some c) (c + 1 + 1) n (not_filled-after shown (c + 1 + 1) here (after-hidden shown (c + 1) hidden))
@@ -202,21 +191,9 @@ module _ {X : Type 0} (drawn filled broken : ℕ → List X) where
             lines-skip None a n (not_filled-after shown a here was) ∙ later here ∙ sym (shown-skip None a n here)
 
     -- the drawn lines give what the shown lines give with what stands between them
-    pub lines-shown : (n : ℕ) → NoneFrom n → lines_from None 0 n ≡ shown_from None 0 n
-    lines-shown n none = from_start 0 n refl (λ l h. none l (omega arith))
-
--- where breaks give nothing, lines give one after the other
-pub lines-flat : {X : Type 0} (drawn filled : ℕ → List X) (shown : ℕ → Bool) (was : Option ℕ) (ls : List ℕ)
-    → lines_give drawn filled (λ _. []) shown was ls ≡ flat_map (given drawn filled (λ _. []) shown) ls
-lines-flat drawn filled shown was [] = refl
-lines-flat {X} drawn filled shown was (l ∷ ls) =
-    ap (λ (first : List X). first ++ (given drawn filled (λ _. []) shown l ++ lines_give drawn filled (λ _. []) shown (Some l) ls)) (nothing was)
-    ∙ ap (λ (rest : List X). given drawn filled (λ _. []) shown l ++ rest) (lines-flat drawn filled shown (Some l) ls)
-  where
-    by_test : (b : Bool) → cond {A = List X} b [] [] ≡ []
-    by_test true = refl
-    by_test false = refl
-
-    nothing : (before : Option ℕ) → break_gives drawn filled (λ _. []) before l ≡ []
-    nothing None = refl
-    nothing (Some c) = by_test (is_broken c l)
+    pub lines-shown : (own : ℕ → List X) → ((l : ℕ) → own l ≡ given l) → (n : ℕ) → NoneFrom n
+        → in_sequence (λ l. l) (break_between broken) own None (filter (is_filled shown) (range_with_len 0 n))
+        ≡ in_sequence (λ l. l) (gap_between filled broken) drawn None (filter shown (range_with_len 0 n))
+    lines-shown own are n none =
+        (λ i. in_sequence (λ l. l) (break_between broken) (λ l. are l i) None (filter (is_filled shown) (range_with_len 0 n)))
+        ∙ from_start 0 n refl (λ l h. none l (omega arith))

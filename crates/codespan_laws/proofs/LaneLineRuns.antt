@@ -12,7 +12,8 @@ use Rattle.codespan_picture.specs.declared.lanes.Shape.TheVariants.{Gap, Bar}
 use Rattle.codespan_picture.specs.Lanes.{plain_shape, mark_in, shape_of}
 use Rattle.codespan_picture.specs.Lines.{is_shown, is_drawn, drawn_lines, is_broken}
 use Rattle.codespan_picture.specs.Rows.{Row, BreakRow, StartRow, EmptyRow, rows_of}
-use Rattle.codespan_picture.specs.Snippets.{LabelledFile, line_at, break_rows, rows_after, snippet, bare_lanes}
+use Rattle.codespan_picture.specs.Snippets.{LabelledFile, line_at, rows_after, snippet, bare_lanes}
+use Rattle.codespan_laws.proofs.FillLemmas.{breaks_before}
 use Rattle.codespan_laws.specs.LaneLaws.{HasLane, LanesAreLines, rows_with_lanes}
 use Rattle.codespan_laws.specs.Meanings.{StartsBeforeEnds}
 use Rattle.codespan_laws.proofs.BarLemmas.{marks_from, mark_in-from}
@@ -104,7 +105,7 @@ part_after a b l top bottom order high =
 
 -- ---- the rows of the drawn lines
 
-each_break : (P : Row → Type 0) (s : LabelledFile) (was : Option ℕ) (l : ℕ) → P (BreakRow (line_at s l).lanes) → AllByRecursion P (break_rows s was l)
+each_break : (P : Row → Type 0) (s : LabelledFile) (was : Option ℕ) (l : ℕ) → P (BreakRow (line_at s l).lanes) → AllByRecursion P (breaks_before s was l)
 each_break P s None l h = tt
 each_break P s (Some c) l h = by_test (is_broken c l)
   where
@@ -159,15 +160,15 @@ module _ (layout : Layout) (s : LabelledFile) (lane : ℕ) (x : Labelled) (has :
   bars_line : (l : ℕ) → first_line s.file x < l → l < last_line s.file x → AllByRecursion (Shows layout lane Bar) (rows_of (line_at s l))
   bars_line l low high = left_mark layout lane (line_at s l) x.style (mark_at l (Some Left) (left_at l low high))
 
-  gaps_with : (was : Option ℕ) (l : ℕ) → NoMark l → AllByRecursion (Shows layout lane Gap) (break_rows s was l ++ rows_of (line_at s l))
+  gaps_with : (was : Option ℕ) (l : ℕ) → NoMark l → AllByRecursion (Shows layout lane Gap) (breaks_before s was l ++ rows_of (line_at s l))
   gaps_with was l none =
-      all-append (Shows layout lane Gap) (break_rows s was l) (rows_of (line_at s l))
+      all-append (Shows layout lane Gap) (breaks_before s was l) (rows_of (line_at s l))
       (each_break (Shows layout lane Gap) s was l (ap (shape_of plain_shape) none)) (no_mark layout lane (line_at s l) none)
 
-  gap_break : (was : Option ℕ) (l : ℕ) → first_line s.file x ≡ l → AllByRecursion (Shows layout lane Gap) (break_rows s was l)
+  gap_break : (was : Option ℕ) (l : ℕ) → first_line s.file x ≡ l → AllByRecursion (Shows layout lane Gap) (breaks_before s was l)
   gap_break was l h = each_break (Shows layout lane Gap) s was l (ap (shape_of plain_shape) (mark_at l (Some (top_of l)) (top_at l h)))
 
-  bar_break : (was : Option ℕ) (l : ℕ) (part : MultiLabel) → plain_shape part ≡ Bar → part_on s.file l x ≡ Some part → AllByRecursion (Shows layout lane Bar) (break_rows s was l)
+  bar_break : (was : Option ℕ) (l : ℕ) (part : MultiLabel) → plain_shape part ≡ Bar → part_on s.file l x ≡ Some part → AllByRecursion (Shows layout lane Bar) (breaks_before s was l)
   bar_break was l part bar is = each_break (Shows layout lane Bar) s was l (ap (shape_of plain_shape) (mark_at l (Some part) is) ∙ bar)
 
   abbrev lines_from : ℕ → ℕ → List ℕ
@@ -180,7 +181,7 @@ module _ (layout : Layout) (s : LabelledFile) (lane : ℕ) (x : Labelled) (has :
   skip was a n h = ap (λ b. rows_after s was (cond b (a ∷ lines_from (a + 1) n) (lines_from (a + 1) n))) h
 
   keep : (was : Option ℕ) (a n : ℕ) → drawn a ≡ true
-      → rows_from was a (suc n) ≡ break_rows s was a ++ rows_of (line_at s a) ++ rows_from (Some a) (a + 1) n
+      → rows_from was a (suc n) ≡ breaks_before s was a ++ rows_of (line_at s a) ++ rows_from (Some a) (a + 1) n
   keep was a n h = ap (λ b. rows_after s was (cond b (a ∷ lines_from (a + 1) n) (lines_from (a + 1) n))) h
 
   -- below the label
@@ -191,7 +192,7 @@ module _ (layout : Layout) (s : LabelledFile) (lane : ℕ) (x : Labelled) (has :
       by_test : ((w : Option ℕ) → AllByRecursion (Shows layout lane Gap) (rows_from w (a + 1) n)) → (b : Bool)
           → AllByRecursion (Shows layout lane Gap) (rows_after s was (cond b (a ∷ lines_from (a + 1) n) (lines_from (a + 1) n)))
       by_test rest true =
-          all-append (Shows layout lane Gap) (break_rows s was a ++ rows_of (line_at s a)) (rows_from (Some a) (a + 1) n)
+          all-append (Shows layout lane Gap) (breaks_before s was a ++ rows_of (line_at s a)) (rows_from (Some a) (a + 1) n)
           (gaps_with was a (no_mark_after a past)) (rest (Some a))
       by_test rest false = rest was
 
@@ -208,15 +209,15 @@ module _ (layout : Layout) (s : LabelledFile) (lane : ℕ) (x : Labelled) (has :
         where
           further : a < last_line s.file x → Finishes layout lane (rows_from was a (suc n))
           further h =
-              rw (keep was a n is) (finishes_later layout lane (break_rows s was a ++ rows_of (line_at s a)) (rows_from (Some a) (a + 1) n)
-              (all-append (Shows layout lane Bar) (break_rows s was a) (rows_of (line_at s a)) (bar_break was a Left refl (left_at a low h)) (bars_line a low h))
+              rw (keep was a n is) (finishes_later layout lane (breaks_before s was a ++ rows_of (line_at s a)) (rows_from (Some a) (a + 1) n)
+              (all-append (Shows layout lane Bar) (breaks_before s was a) (rows_of (line_at s a)) (bar_break was a Left refl (left_at a low h)) (bars_line a low h))
               (rest (Some a) h))
 
           ended : last_line s.file x ≤ a → Finishes layout lane (rows_from was a (suc n))
           ended h =
               let here : last_line s.file x ≡ a = omega arith in
-              rw (keep was a n is) (finishes_before layout lane (break_rows s was a ++ rows_of (line_at s a)) (rows_from (Some a) (a + 1) n)
-              (finishes_later layout lane (break_rows s was a) (rows_of (line_at s a)) (bar_break was a (bottom_of a) refl (bottom_at a here)) (finishes_line a here))
+              rw (keep was a n is) (finishes_before layout lane (breaks_before s was a ++ rows_of (line_at s a)) (rows_from (Some a) (a + 1) n)
+              (finishes_later layout lane (breaks_before s was a) (rows_of (line_at s a)) (bar_break was a (bottom_of a) refl (bottom_at a here)) (finishes_line a here))
               (gaps_after (Some a) (a + 1) n (omega arith)))
       by_test rest false is =
           rw (skip was a n is) (rest was (⊎_elim (λ h. h)
@@ -237,7 +238,7 @@ module _ (layout : Layout) (s : LabelledFile) (lane : ℕ) (x : Labelled) (has :
         where
           further : a < first_line s.file x → Whole layout lane (line_at s (first_line s.file x)) (rows_from was a (suc n))
           further h =
-              rw (keep was a n is) (whole_later layout lane (line_at s (first_line s.file x)) (break_rows s was a ++ rows_of (line_at s a)) (rows_from (Some a) (a + 1) n)
+              rw (keep was a n is) (whole_later layout lane (line_at s (first_line s.file x)) (breaks_before s was a ++ rows_of (line_at s a)) (rows_from (Some a) (a + 1) n)
               (gaps_with was a (no_mark_before a h)) (rest (Some a) h))
 
           joined : first_line s.file x ≡ a → Whole layout lane (line_at s a) (rows_of (line_at s a) ++ rows_from (Some a) (a + 1) n)
@@ -250,7 +251,7 @@ module _ (layout : Layout) (s : LabelledFile) (lane : ℕ) (x : Labelled) (has :
               let here : first_line s.file x ≡ a = omega arith in
               let one : Whole layout lane (line_at s (first_line s.file x)) (rows_of (line_at s a) ++ rows_from (Some a) (a + 1) n) =
               rw here (joined here) in
-              rw (keep was a n is, append_assoc (break_rows s was a) (rows_of (line_at s a)) (rows_from (Some a) (a + 1) n)) (whole_later layout lane (line_at s (first_line s.file x)) (break_rows s was a) (rows_of (line_at s a) ++ rows_from (Some a) (a + 1) n)
+              rw (keep was a n is, append_assoc (breaks_before s was a) (rows_of (line_at s a)) (rows_from (Some a) (a + 1) n)) (whole_later layout lane (line_at s (first_line s.file x)) (breaks_before s was a) (rows_of (line_at s a) ++ rows_from (Some a) (a + 1) n)
               (gap_break was a here) one)
       by_test rest false is =
           rw (skip was a n is) (rest was (⊎_elim (λ h. h)

@@ -6,7 +6,8 @@ use Rattle.codespan_base.specs.declared.term.config.chars.Chars.{Chars}
 use Rattle.codespan_base.specs.declared.diagnostic.LabelStyle.TheVariants.{Primary}
 use Rattle.codespan_base.specs.Labels.{LaneMark, MultiLabel}
 use Rattle.std.specs.List.{range_with_len}
-use Rattle.codespan_base.specs.Streams.{Stream, StyleMark, LabelMark, Reset, one_mark, glyph, repeated, row_length}
+use Rattle.codespan_base.specs.Streams.{Stream, StyleMark, LabelMark, Reset, one_mark, glyph, repeated}
+use Rattle.codespan_laws.specs.RowLaws.{row_length}
 use Rattle.codespan_picture.specs.declared.lanes.Shape.{Shape}
 use Rattle.codespan_picture.specs.declared.lanes.Shape.TheVariants.{Gap, Bar, TopCorner, BottomCorner}
 use Rattle.codespan_picture.specs.Lanes.{corner_line, filling, label_glyph, mark_in, lane_cells}

@@ -4,6 +4,7 @@ pub mod CaretLemmas
 pub mod ColourLemmas
 pub mod FillLemmas
 pub mod Filling
+pub mod Sequences
 pub mod LaneWidths
 pub mod LanesShown
 pub mod LaneLineLemmas

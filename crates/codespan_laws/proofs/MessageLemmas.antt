@@ -3,7 +3,7 @@ use Rattle.std.proofs.Common.{◌≡◌, ℕ, ◌+◌, Bool, true, false, cond, 
 use Rattle.std.proofs.lemmas.List.Sums.{sum_by-cons, sum_by-append}
 use Rattle.codespan_base.specs.Labels.{Labelled, has_message}
 use Rattle.codespan_picture.specs.Carets.{greatest_end}
-use Rattle.codespan_laws.specs.MessageLaws.{weight_of}
+use Rattle.codespan_laws.specs.TrailingLaws.{weight_of}
 use Rattle.codespan_picture.specs.Rows.{trailing, hanging}
 use Rattle.codespan_picture.proofs.Rightmost.{Around, others, around_trails, around_rightmost, trailing_of, hanging_of, around_is, some_rightmost, trailing_is, hanging_is}
 

@@ -18,16 +18,19 @@ use Rattle.codespan_base.specs.declared.diagnostic.Label.{Label}
 use Rattle.codespan_base.specs.declared.term.config.Config.{Config}
 use Rattle.codespan_base.specs.declared.term.config.DisplayStyle.{DisplayStyle}
 use Rattle.codespan_base.specs.declared.term.config.DisplayStyle.TheVariants.{Rich, Medium, Short}
-use Rattle.codespan_base.specs.FileModel.{FileDatabase, FileModel, IsLawful, line_text}
+use Rattle.codespan_base.specs.FileModel.{FileDatabase, FileModel, line_text}
+use Rattle.codespan_base.specs.LawfulFiles.{IsLawful}
 use Rattle.codespan_base.specs.Labels.{Labelled, LaneMark, Top, Left, Bottom, drawn_label, first_line, has_message, is_single, mark_of, multi_labels, part_at, part_on, put_in, single_labels, sorted, stands_before}
 use Rattle.codespan_picture.specs.Cells.{drawn_text, is_line_end}
-use Rattle.codespan_picture.specs.Lines.{drawn_lines, is_broken}
+use Rattle.codespan_picture.specs.Lines.{drawn_lines}
 use Rattle.codespan_picture.specs.Padding.{padding_of}
 use Rattle.codespan_picture.specs.Picture.{NamesAreTexts, files_of, heading_of, label_of, labels_of, look_of, notes_of, output, starts, stated_loci}
-use Rattle.codespan_picture.specs.Rows.{Line, Locus, Row, HeaderRow, EmptyRow, BreakRow, SourceRow, HangingRow, UnderlineRow, LaterNoteRow, BlankRow, caret_rows, hanging, hanging_rows, has_underline, rows_of, underline_rows}
+use Rattle.codespan_picture.specs.Rows.{Line, Locus, Row, HeaderRow, EmptyRow, SourceRow, HangingRow, UnderlineRow, LaterNoteRow, BlankRow, caret_rows, hanging, hanging_rows, has_underline, rows_of, underline_rows}
 use Rattle.codespan_picture.specs.Cells.{leading_whitespace}
 use Rattle.codespan_picture.specs.Carets.{greatest_end}
-use Rattle.codespan_picture.specs.Snippets.{InFile, LabelledFile, bare_lanes, break_rows, has_any, header_rows, headers, is_followed, labelled_file, line_at, note_rows, piece_rows, rich_rows, row_after, rows_after, snippet, snippets}
+use Rattle.codespan_picture.specs.Sequences.{break_between}
+use Rattle.codespan_picture.specs.Snippets.{InFile, LabelledFile, bare_lanes, break_rows, has_any, header_rows, headers, is_followed, labelled_file, line_at, line_rows, note_rows, piece_rows, rich_rows, row_after, rows_after, snippet, snippets}
+use Rattle.codespan_laws.proofs.Sequences.{all-break, all-sequence}
 use Rattle.codespan_laws.specs.TextLaws.{AreCharacters, IsText, OutputIsText, PictureIsText}
 use Rattle.codespan_laws.proofs.LaneLineLemmas.{each_all, each_map}
 use Rattle.codespan_picture.proofs.Rightmost.{Around, others, around_trails, around_rightmost, hanging_of, around_is, hanging_is}
@@ -262,16 +265,10 @@ module _ (s : LabelledFile) (ok : IsTextFile s) where
     marks = says-marks s.file s.labels ok.labels l 0 (multi_labels s.file s.labels) (all-filter SaysText (λ x. not (is_single s.file x)) s.labels ok.labels);
   }
 
-  rows-break : (was : Option ℕ) (d : ℕ) → AllByRecursion IsTextRow (break_rows s was d)
-  rows-break None d = tt
-  rows-break (Some c) d = cond_both (is_broken c d) (BreakRow (line_at s d).lanes ∷ []) [] (AllByRecursion IsTextRow) (λ _. (tt, tt)) (λ _. tt)
-
   rows-lines : (was : Option ℕ) (ls : List ℕ) → AllByRecursion IsTextRow (rows_after s was ls)
-  rows-lines was [] = tt
-  rows-lines was (l ∷ ls) =
-      all-append IsTextRow (break_rows s was l ++ rows_of (line_at s l)) (rows_after s (Some l) ls)
-      (all-append IsTextRow (break_rows s was l) (rows_of (line_at s l)) (rows-break was l) (rows-line (line_at s l) (line-text l)))
-      (rows-lines (Some l) ls)
+  rows-lines was ls =
+      all-sequence IsTextRow (λ l. l) (break_between (break_rows (line_at s))) (line_rows (line_at s))
+      (all-break IsTextRow (break_rows (line_at s)) (λ d. (tt, tt))) (λ l. rows-line (line_at s l) (line-text l)) was ls
 
   rows-placed : (config : Config) (followed : Bool) (place : Locus) → IsUtf8 place.name → AllByRecursion IsTextRow (snippet config place s ++ row_after followed s)
   rows-placed config followed place u =

@@ -13,7 +13,8 @@ use Rattle.codespan_base.specs.Labels.{Labelled, is_blank, LaneMark, MultiLabel,
 use Rattle.codespan_picture.specs.Cells.{leading_whitespace}
 use Rattle.codespan_picture.specs.Lines.{shows, is_shown, drawn_lines, is_broken}
 use Rattle.codespan_picture.specs.Rows.{Locus, Heading, Lanes, Line, HeaderRow, StartRow, EmptyRow, BreakRow, SourceRow, PointerRow, HangingRow, UnderlineRow, FirstNoteRow, LaterNoteRow, BlankRow, hanging, has_underline, caret_rows, hanging_rows, underline_rows, rows_of}
-use Rattle.codespan_picture.specs.Snippets.{LabelledFile, InFile, labelled_file, labelled_files, lane_count, bare_lanes, line_at, break_rows, rows_after, snippet, has_any, is_followed, row_after, snippets, piece_rows, note_rows, rich_rows}
+use Rattle.codespan_picture.specs.Snippets.{LabelledFile, InFile, labelled_file, labelled_files, lane_count, bare_lanes, line_at, rows_after, snippet, has_any, is_followed, row_after, snippets, piece_rows, note_rows, rich_rows}
+use Rattle.codespan_laws.proofs.FillLemmas.{breaks_before}
 use Rattle.codespan_picture.specs.Padding.{spans, spanned_lines, numbered_lines, digits_of, padding_of}
 use Rattle.codespan_laws.proofs.RefillLemmas.{any-map, filter-map, map-append', re, re_part, re_mark, re_lanes, re_line, hanging-re}
 use Rattle.codespan_laws.proofs.RefillRows.{re_row}
@@ -154,7 +155,7 @@ module _ (φ : Stream → Stream) (keeps : (s : Stream) → is_blank (φ s) ≡ 
 
   -- ---- a file
 
-  break-re : (s : LabelledFile) (was : Option ℕ) (l : ℕ) → map (re_row φ) (break_rows s was l) ≡ break_rows (re_file φ s) was l
+  break-re : (s : LabelledFile) (was : Option ℕ) (l : ℕ) → map (re_row φ) (breaks_before s was l) ≡ breaks_before (re_file φ s) was l
   break-re s None l = refl
   break-re s (Some c) l = by_test (is_broken c l)
     where
@@ -165,9 +166,9 @@ module _ (φ : Stream → Stream) (keeps : (s : Stream) → is_blank (φ s) ≡ 
   after-re : (s : LabelledFile) (was : Option ℕ) (ls : List ℕ) → map (re_row φ) (rows_after s was ls) ≡ rows_after (re_file φ s) was ls
   after-re s was [] = refl
   after-re s was (l ∷ ls) =
-      map-append' (re_row φ) (break_rows s was l ++ rows_of (line_at s l)) (rows_after s (Some l) ls)
+      map-append' (re_row φ) (breaks_before s was l ++ rows_of (line_at s l)) (rows_after s (Some l) ls)
       ∙ ap₂ (λ a b. a ++ b)
-      (map-append' (re_row φ) (break_rows s was l) (rows_of (line_at s l))
+      (map-append' (re_row φ) (breaks_before s was l) (rows_of (line_at s l))
       ∙ ap₂ (λ a b. a ++ b) (break-re s was l) (line-rows (line_at s l) ∙ ap rows_of (line-re s l)))
       (after-re s (Some l) ls)
 

@@ -10,7 +10,8 @@ use Rattle.codespan_base.specs.Labels.{Labelled, LaneMark, first_line, last_line
 use Rattle.codespan_picture.specs.Lines.{shows, is_shown, is_drawn, drawn_lines, is_broken}
 use Rattle.codespan_picture.specs.Cells.{leading_whitespace}
 use Rattle.codespan_picture.specs.Rows.{Line, SourceRow, BreakRow, HangingRow, UnderlineRow, PointerRow, caret_rows, hanging_rows, underline_rows, rows_of, hanging, has_underline}
-use Rattle.codespan_picture.specs.Snippets.{LabelledFile, line_at, break_rows, rows_after}
+use Rattle.codespan_picture.specs.Snippets.{LabelledFile, line_at, rows_after}
+use Rattle.codespan_laws.proofs.FillLemmas.{breaks_before}
 use Rattle.codespan_laws.specs.LineLaws.{is_source_row, reach, SourceRowsAreFew}
 
 -- ---- counts
@@ -173,7 +174,7 @@ module _ (shown : ℕ → Bool) where
 
 -- ---- source rows
 
-no_source_break : (s : LabelledFile) (was : Option ℕ) (l : ℕ) → count_by is_source_row (break_rows s was l) ≡ 0
+no_source_break : (s : LabelledFile) (was : Option ℕ) (l : ℕ) → count_by is_source_row (breaks_before s was l) ≡ 0
 no_source_break s None l = refl
 no_source_break s (Some c) l = by_test (is_broken c l)
   where
@@ -208,8 +209,8 @@ count-rows_after s was [] = refl
 count-rows_after s was (l ∷ ls) =
     omega (
       arith,
-      count-append is_source_row (break_rows s was l ++ rows_of (line_at s l)) (rows_after s (Some l) ls),
-      count-append is_source_row (break_rows s was l) (rows_of (line_at s l)),
+      count-append is_source_row (breaks_before s was l ++ rows_of (line_at s l)) (rows_after s (Some l) ls),
+      count-append is_source_row (breaks_before s was l) (rows_of (line_at s l)),
       no_source_break s was l,
       one_source (line_at s l),
       count-rows_after s (Some l) ls,

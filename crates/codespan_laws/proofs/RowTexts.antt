@@ -16,7 +16,7 @@ use Rattle.codespan_base.specs.declared.diagnostic.LabelStyle.TheVariants.{Prima
 use Rattle.codespan_base.specs.declared.diagnostic.Severity.{Severity}
 use Rattle.codespan_base.specs.declared.diagnostic.Severity.TheVariants.{Bug, Error, Warning, Note, Help}
 use Rattle.codespan_base.specs.declared.term.config.chars.Chars.{Chars}
-use Rattle.codespan_base.specs.Characters.{start_text}
+use Rattle.codespan_base.specs.SnippetStarts.{start_text}
 use Rattle.codespan_base.specs.Labels.{Labelled, LaneMark, MultiLabel, Top, Left, Bottom}
 use Rattle.codespan_base.specs.Streams.{Stream, StyleMark, Header, HeaderMessage, NoteBullet, SourceBorder, LabelMark, Reset, one_mark, glyph, bytes, blanks, space, repeated, newline, text_of}
 use Rattle.codespan_picture.specs.declared.cells.Cell.{Cell}

@@ -17,7 +17,8 @@ use Rattle.codespan_picture.specs.Lanes.{mark_in, label_glyph, filling, lane_cel
 use Rattle.codespan_picture.specs.Rows.{Locus, Look, Lanes, Line, Row, HeaderRow, StartRow, EmptyRow, BreakRow, SourceRow, CaretRow, PointerRow, HangingRow, UnderlineRow, FirstNoteRow, LaterNoteRow, BlankRow, trailing, hanging}
 use Rattle.codespan_picture.specs.RowParts.{locus, gutter, numbered_gutter, border, break_border, change, styled, label_message, lane_of, lanes_in, source_lanes, plain_lanes, below_lanes, underline_lanes, line_cells, source_style, source_glyph, coloured_text, caret_glyphs, carets, trailing_message, blanks_up_to, pointer_at, pointers, pointer_style, starts_in, greatest_start, underline_message, underline}
 use Rattle.codespan_picture.specs.RowStreams.{bracketed, leading_locus, header_row, start_row, empty_row, break_row, source_row, opening, caret_row, pointer_row, hanging_row, underline_row, first_note_row, later_note_row, stream_of, stream_of_rows}
-use Rattle.codespan_laws.specs.MessageLaws.{weight_of, is_slot, slot_count}
+use Rattle.codespan_laws.specs.MessageLaws.{is_slot, slot_count}
+use Rattle.codespan_laws.specs.TrailingLaws.{weight_of}
 
 -- how often a stream names a label, shut
 unfoldable pub slots : ℕ → Stream → ℕ

@@ -15,8 +15,10 @@ use Rattle.codespan_picture.specs.Cells.{leading_whitespace}
 use Rattle.codespan_picture.specs.Lines.{shows, is_drawn, drawn_lines, is_broken}
 use Rattle.codespan_picture.specs.Rows.{Heading, Locus, Look, Line, HeaderRow, StartRow, EmptyRow, BreakRow, SourceRow, CaretRow, PointerRow, HangingRow, UnderlineRow, FirstNoteRow, LaterNoteRow, BlankRow, trailing, hanging, has_underline, caret_rows, hanging_rows, underline_rows, rows_of}
 use Rattle.codespan_picture.specs.RowStreams.{stream_of_rows}
-use Rattle.codespan_picture.specs.Snippets.{LabelledFile, InFile, labelled_file, labelled_files, bare_lanes, line_at, break_rows, rows_after, snippet, has_any, is_followed, row_after, snippets, piece_rows, note_rows, rich_rows}
-use Rattle.codespan_laws.specs.MessageLaws.{weight_of, slot_count, slotted, all_slotted}
+use Rattle.codespan_picture.specs.Snippets.{LabelledFile, InFile, labelled_file, labelled_files, bare_lanes, line_at, rows_after, snippet, has_any, is_followed, row_after, snippets, piece_rows, note_rows, rich_rows}
+use Rattle.codespan_laws.proofs.FillLemmas.{breaks_before}
+use Rattle.codespan_laws.specs.MessageLaws.{slot_count, slotted, all_slotted}
+use Rattle.codespan_laws.specs.TrailingLaws.{weight_of}
 use Rattle.codespan_laws.proofs.MessageLemmas.{trailing_and_hanging}
 use Rattle.codespan_laws.proofs.SlotLemmas.{slots, slots-is, slots-nil, part_slots, row_slots, slots-rows}
 
@@ -276,7 +278,7 @@ all_drawn k config f some p (x ∷ xs) h =
 
 -- ---- the rows of a file
 
-break_sum : (k : ℕ) (s : LabelledFile) (was : Option ℕ) (l : ℕ) → sum_by (row_slots k) (break_rows s was l) ≡ 0
+break_sum : (k : ℕ) (s : LabelledFile) (was : Option ℕ) (l : ℕ) → sum_by (row_slots k) (breaks_before s was l) ≡ 0
 break_sum k s None l = refl
 break_sum k s (Some c) l = by_test (is_broken c l)
   where
@@ -289,8 +291,8 @@ lines_sum k s was [] = refl
 lines_sum k s was (l ∷ ls) =
     omega (
       arith,
-      sum_by-append (row_slots k) (break_rows s was l ++ rows_of (line_at s l)) (rows_after s (Some l) ls),
-      sum_by-append (row_slots k) (break_rows s was l) (rows_of (line_at s l)),
+      sum_by-append (row_slots k) (breaks_before s was l ++ rows_of (line_at s l)) (rows_after s (Some l) ls),
+      sum_by-append (row_slots k) (breaks_before s was l) (rows_of (line_at s l)),
       break_sum k s was l,
       labels_on_line k s l,
       lines_sum k s (Some l) ls,

@@ -12,7 +12,7 @@ use Rattle.codespan_base.specs.declared.term.config.DisplayStyle.{DisplayStyle}
 use Rattle.codespan_base.specs.declared.term.config.DisplayStyle.TheVariants.{Short}
 use Rattle.codespan_base.specs.FileModel.{FileDatabase, FileModel, Lookup, or_refusal}
 use Rattle.codespan_base.specs.FileModel.Lookup.{Name, LocationAt}
-use Rattle.codespan_picture.specs.Lookups.{AllAnswered, Refusals, first_refusal, header_asked}
+use Rattle.codespan_picture.specs.Lookups.{AllSucceed, Refusals, first_error, header_lookups_of}
 use Rattle.codespan_picture.specs.Picture.{AreLoci, headers_at, label_start, labels_of, output, starts, stated_loci, stated_locus}
 use Rattle.codespan_picture.specs.Rows.{Locus}
 use Rattle.codespan_picture.specs.Snippets.{InFile, primary_of}
@@ -43,21 +43,21 @@ none_first None p h = (refl, h)
 none_first (Some x) p h = cc
 
 -- lookups of which the first ones are answered as all are
-none_of_first : {Id : Type 0} (refusal : Refusals Id) (ls ms : List (Id × Lookup)) → first_refusal refusal (ls ++ ms) ≡ None
-    → (first_refusal refusal ls ≡ None) × (first_refusal refusal ms ≡ None)
+none_of_first : {Id : Type 0} (refusal : Refusals Id) (ls ms : List (Id × Lookup)) → first_error refusal (ls ++ ms) ≡ None
+    → (first_error refusal ls ≡ None) × (first_error refusal ms ≡ None)
 none_of_first refusal [] ms h = (refl, h)
 none_of_first refusal (l ∷ ls) ms h =
-    let parts = none_first (refusal l.0 l.1) (first_refusal refusal (ls ++ ms)) h in
+    let parts = none_first (refusal l.0 l.1) (first_error refusal (ls ++ ms)) h in
     let later = none_of_first refusal ls ms parts.1 in
-    (ap (λ (o : Option Error). or_refusal o (first_refusal refusal ls)) parts.0 ∙ later.0, later.1)
+    (ap (λ (o : Option Error). or_refusal o (first_error refusal ls)) parts.0 ∙ later.0, later.1)
 
 -- labels whose lookups are answered, and then one whose are not
-run_before : {Id : Type 0} (refusal : Refusals Id) (before : List (InFile Id)) (here : InFile Id) (after : List (InFile Id)) → first_refusal refusal (flat_map header_asked before) ≡ None
+run_before : {Id : Type 0} (refusal : Refusals Id) (before : List (InFile Id)) (here : InFile Id) (after : List (InFile Id)) → first_error refusal (flat_map header_lookups_of before) ≡ None
     → is_answered refusal here ≡ false → take_while (is_answered refusal) (before ++ here ∷ after) ≡ before
 run_before refusal [] here after answered refused =
     take_while-cons (is_answered refusal) here after ∙ ap (λ (b : Bool). cond b (here ∷ take_while (is_answered refusal) after) []) refused
 run_before {Id} refusal (x ∷ xs) here after answered refused =
-    let parts = none_of_first refusal (header_asked x) (flat_map header_asked xs) answered in
+    let parts = none_of_first refusal (header_lookups_of x) (flat_map header_lookups_of xs) answered in
     let passes : is_answered refusal x ≡ true = both_answered _ _ parts.0 in
     take_while-cons (is_answered refusal) x (xs ++ here ∷ after)
     ∙ ap (λ (b : Bool). cond b (x ∷ take_while (is_answered refusal) (xs ++ here ∷ after)) []) passes
@@ -84,7 +84,7 @@ module _ {Id : Type 0} (files : FileDatabase Id) (d : Diagnostic Id) (named : Na
   -- and the headers before a label that is refused are those of the labels before the first one that is refused
   headers_stated : (config : Config) (loci : List Locus) → AreLoci files d Short loci
       → (before : List (InFile Id)) (here : InFile Id) (after : List (InFile Id)) → before ++ here ∷ after ≡ primary_of (labels_of d)
-      → AllAnswered files.refusal (flat_map header_asked before) → (e : Error) → first_refusal files.refusal (header_asked here) ≡ Some e
+      → AllSucceed files.refusal (flat_map header_lookups_of before) → (e : Error) → first_error files.refusal (header_lookups_of here) ≡ Some e
       → headers_at config d (take (length before) loci)
       ≡ headers_at config d (map (λ (x : InFile Id). stated_locus (label_start files.file x)) (take_while (is_answered files.refusal) (primary_of (labels_of d))))
   headers_stated config loci are before here after whole answered e refused =
@@ -96,13 +96,13 @@ module _ {Id : Type 0} (files : FileDatabase Id) (d : Diagnostic Id) (named : Na
       ap (λ n. take n loci) (sym (length-map before place)) ∙ ap (take (length (map place before))) split ∙ take-append_seam (map place before) (map place (here ∷ after)) in
       let run : take_while (is_answered files.refusal) causes ≡ before =
       ap (take_while (is_answered files.refusal)) (sym whole)
-      ∙ run_before files.refusal before here after (none_of (flat_map header_asked before) answered) (one_refused _ _ e refused) in
+      ∙ run_before files.refusal before here after (none_of (flat_map header_lookups_of before) answered) (one_refused _ _ e refused) in
       ap (headers_at config d) (taken ∙ ap (map place) (sym run))
     where
-      none_of : (ls : List (Id × Lookup)) → AllAnswered files.refusal ls → first_refusal files.refusal ls ≡ None
+      none_of : (ls : List (Id × Lookup)) → AllSucceed files.refusal ls → first_error files.refusal ls ≡ None
       none_of [] h = refl
       none_of (l ∷ ls) h =
-          ap (λ (o : Option Error). or_refusal o (first_refusal files.refusal ls)) (h l.0 l.1 (0, omega arith, refl))
+          ap (λ (o : Option Error). or_refusal o (first_error files.refusal ls)) (h l.0 l.1 (0, omega arith, refl))
           ∙ none_of ls (λ id lookup m. h id lookup (Contains-append_right (l ∷ []) ls (id, lookup) m))
 
 pub output_is_picture : {Id : Type 0} (files : FileDatabase Id) (d : Diagnostic Id) → OutputIsPicture files d

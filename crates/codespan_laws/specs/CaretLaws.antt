@@ -1,7 +1,7 @@
 -- The laws of carets and pointers: they stand under the characters that their labels take.
 use Rattle.std.specs.Prelude.{◌≡◌, ℕ, ◌<◌, Bool, ◌&&◌, ◌==◌, nat_le, List, ◌++◌, map, filter, if◌then◌else◌, Contains, IsTrue, encode_utf8_all}
 use Rattle.std.specs.List.{list_any, range_with_len}
-use Rattle.codespan_base.specs.declared.term.config.chars.Chars.{Chars}
+use Rattle.codespan_picture.specs.Types.{Chars}
 use Rattle.codespan_base.specs.Labels.{Labelled}
 use Rattle.codespan_base.specs.Streams.{text_of}
 use Rattle.codespan_picture.specs.declared.cells.Cell.{Cell}

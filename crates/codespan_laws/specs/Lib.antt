@@ -1,11 +1,14 @@
 -- what stands below: files, labels, streams, writers, tables
 pub use Rattle.codespan_base.specs.FileModel
+pub use Rattle.codespan_base.specs.LawfulFiles
 pub use Rattle.codespan_base.specs.SimpleModel
 pub use Rattle.codespan_base.specs.MappedModel
+pub use Rattle.codespan_picture.specs.Types
 pub use Rattle.codespan_base.specs.Labels
 pub use Rattle.codespan_base.specs.Streams
 pub use Rattle.codespan_base.specs.WriterLaw
 pub use Rattle.codespan_base.specs.Errors
+pub use Rattle.codespan_base.specs.SnippetStarts
 pub use Rattle.codespan_base.specs.Characters
 pub use Rattle.codespan_base.specs.Defaults
 pub use Rattle.codespan_base.specs.StyleTables
@@ -18,7 +21,9 @@ pub use Rattle.codespan_picture.specs.Lanes
 pub use Rattle.codespan_picture.specs.Rows
 pub use Rattle.codespan_picture.specs.RowParts
 pub use Rattle.codespan_picture.specs.RowStreams
+pub use Rattle.codespan_picture.specs.RowWords
 pub use Rattle.codespan_picture.specs.Lines
+pub use Rattle.codespan_picture.specs.Sequences
 pub use Rattle.codespan_picture.specs.Snippets
 pub use Rattle.codespan_picture.specs.Padding
 pub use Rattle.codespan_picture.specs.Picture
@@ -35,5 +40,6 @@ pub mod PaddingLaws
 pub mod RowLaws
 pub mod SortLaws
 pub mod TextLaws
+pub mod TrailingLaws
 pub mod StatedNames
 pub mod Meanings

@@ -1,8 +1,7 @@
 -- The laws of drawn lines and breaks.
 use Rattle.std.specs.Prelude.{◌≡◌, ℕ, ◌+◌, ◌<◌, ◌≤◌, ◌↔◌, Bool, false, List, ◌∷◌, map, filter, filter_map, Option, Some, None, if◌then◌else◌, IsTrue, ◌*◌, true, sum_by, count_by, []}
 use Rattle.std.specs.List.{range_with_len}
-use Rattle.codespan_base.specs.declared.term.config.Config.{Config}
-use Rattle.codespan_base.specs.declared.term.config.Layout.{Layout}
+use Rattle.codespan_picture.specs.Types.{Config, Layout}
 use Rattle.codespan_base.specs.FileModel.{line_count}
 use Rattle.codespan_base.specs.Labels.{Labelled}
 use Rattle.codespan_picture.specs.declared.lanes.Shape.TheVariants.{Bar}

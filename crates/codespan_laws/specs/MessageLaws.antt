@@ -1,13 +1,11 @@
 -- The law of messages: each stands exactly once in a rich output.
-use Rattle.std.specs.Prelude.{◌≡◌, ℕ, ◌+◌, Bool, false, ◌==◌, List, ◌∷◌, map, sum_by, count_by, slice_get, Option, Some, None, if◌then◌else◌, []}
+use Rattle.std.specs.Prelude.{◌≡◌, ℕ, Bool, false, ◌==◌, List, ◌∷◌, map, count_by, slice_get, Option, Some, None, if◌then◌else◌, []}
 use Rattle.std.specs.List.{enumerate_from}
-use Rattle.codespan_base.specs.declared.term.config.Config.{Config}
-use Rattle.codespan_base.specs.declared.diagnostic.Diagnostic.{Diagnostic}
-use Rattle.codespan_base.specs.declared.term.config.DisplayStyle.TheVariants.{Rich}
+use Rattle.codespan_picture.specs.Types.{Config, Diagnostic, Rich}
 use Rattle.codespan_base.specs.FileModel.{FileDatabase}
-use Rattle.codespan_base.specs.Labels.{Labelled, has_message, is_blank}
+use Rattle.codespan_base.specs.Labels.{has_message, is_blank}
 use Rattle.codespan_base.specs.Streams.{Stream, Item, Slot, text_of, filled}
-use Rattle.codespan_picture.specs.Rows.{Locus, trailing, hanging}
+use Rattle.codespan_picture.specs.Rows.{Locus}
 use Rattle.codespan_picture.specs.Snippets.{InFile, labelled_files}
 use Rattle.codespan_picture.specs.Picture.{heading_of, labels_of, notes_of, output, rendered}
 
@@ -54,17 +52,3 @@ pub record MessagesStandOnce {Id : Type 0} (renderer view : Config) (files : Fil
       ≡ (if has_message x.label then 1 else 0)
   pub whole : filled (message_text (labels_of d)) (slotted_output renderer view files d loci)
       ≡ output Rich renderer view files d loci
-
--- ---- on one line
-
--- what a label weighs, if there is one
-abbrev pub weight_of : (Labelled → ℕ) → Option Labelled → ℕ
-weight_of weight None = 0
-weight_of weight (Some x) = weight x
-
--- the trailing label and the hanging ones weigh what all labels weigh, if those without a message
--- weigh nothing
-abbrev pub EachTrailsOrHangs : Type 0
-EachTrailsOrHangs = (weight : Labelled → ℕ) (labels : List Labelled)
-    → ((x : Labelled) → has_message x ≡ false → weight x ≡ 0)
-    → weight_of weight (trailing labels) + sum_by weight (hanging labels) ≡ sum_by weight labels

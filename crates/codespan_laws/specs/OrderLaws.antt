@@ -2,12 +2,10 @@
 use Rattle.std.specs.Prelude.{◌≡◌, ℕ, Bool, true, not, ◌&&◌, ◌==◌, List, filter}
 use Rattle.std.specs.Cmp.{IsEquivalence}
 use Rattle.std.specs.Cmp.Lexicographic.{pointwise}
-use Rattle.codespan_base.specs.declared.term.config.Config.{Config}
-use Rattle.codespan_base.specs.declared.term.config.DisplayStyle.TheVariants.{Rich}
+use Rattle.codespan_picture.specs.Types.{Config, Rich, Severity}
 use Rattle.codespan_base.specs.FileModel.{FileModel}
 use Rattle.codespan_base.specs.Labels.{Labelled, is_single, first_line, drawn_label}
 use Rattle.codespan_picture.specs.Rows.{Heading, Locus}
-use Rattle.codespan_base.specs.declared.diagnostic.Severity.{Severity}
 use Rattle.codespan_picture.specs.Snippets.{InFile, file_ids, labelled_file, labelled_files}
 use Rattle.codespan_picture.specs.Picture.{rendered, starts}
 

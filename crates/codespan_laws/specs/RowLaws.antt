@@ -1,10 +1,23 @@
 -- The laws of every row.
-use Rattle.std.specs.Prelude.{◌≡◌, Bool, true, false, [], ◌∷◌, IsTrue}
-use Rattle.codespan_base.specs.declared.term.config.chars.Chars.{Chars}
-use Rattle.codespan_base.specs.Streams.{Stream, StyleMark, Byte, Mark, Slot, Reset, row_length, character_count}
-use Rattle.codespan_base.specs.Characters.{start_text}
+use Rattle.std.specs.Prelude.{◌≡◌, Bool, true, false, [], ◌∷◌, IsTrue, ℕ, not, List, count_by}
+use Rattle.codespan_picture.specs.Types.{Chars}
+use Rattle.codespan_base.specs.Streams.{Stream, StyleMark, Byte, Mark, Slot, Reset, text_of}
+use Rattle.codespan_base.specs.SnippetStarts.{start_text}
 use Rattle.codespan_picture.specs.Rows.{Look, Row}
 use Rattle.codespan_picture.specs.RowStreams.{stream_of}
+use Rattle.std.specs.Int.{is_in_range}
+
+-- the byte continues a character of UTF-8
+abbrev pub is_continuation : ℕ → Bool
+is_continuation b = is_in_range 128 191 b
+
+-- how many characters a text has: each has one byte that continues none before it
+abbrev pub character_count : List ℕ → ℕ
+character_count bs = count_by (λ b. not (is_continuation b)) bs
+
+-- the characters of a row
+abbrev pub row_length : Stream → ℕ
+row_length s = character_count (text_of s)
 
 -- other characters, with a text before the locus of as many characters, change no row's number of
 -- characters

@@ -1,15 +1,20 @@
 -- The laws of stated names: where the files state their names, an output is the picture.
-use Rattle.std.specs.Prelude.{◌≡◌, List, ◌∷◌, ◌++◌, flat_map, Contains, IsSome, Some, length, take}
-use Rattle.codespan_base.specs.declared.diagnostic.Diagnostic.{Diagnostic}
-use Rattle.codespan_base.specs.declared.files.Error.{Error}
-use Rattle.codespan_base.specs.declared.term.config.Config.{Config}
-use Rattle.codespan_base.specs.declared.term.config.DisplayStyle.{DisplayStyle}
-use Rattle.codespan_base.specs.declared.term.config.DisplayStyle.TheVariants.{Short}
+use Rattle.std.specs.Prelude.{◌≡◌, List, ◌∷◌, ◌++◌, flat_map, Contains, IsSome, Some, length, take, Bool, ◌&&◌, map, is_none, take_while}
+use Rattle.codespan_picture.specs.Types.{Diagnostic, Error, Config, DisplayStyle, Short}
 use Rattle.codespan_base.specs.FileModel.{FileDatabase}
-use Rattle.codespan_picture.specs.Lookups.{AllAnswered, first_refusal, header_asked, headers_before_refusal}
-use Rattle.codespan_picture.specs.Picture.{AreLoci, headers_at, labels_of, output, picture}
+use Rattle.codespan_picture.specs.Lookups.{AllSucceed, first_error, header_lookups_of, Refusals}
+use Rattle.codespan_picture.specs.Picture.{AreLoci, headers_at, labels_of, output, picture, label_start, stated_locus}
 use Rattle.codespan_picture.specs.Rows.{Locus}
 use Rattle.codespan_picture.specs.Snippets.{InFile, primary_of}
+use Rattle.codespan_base.specs.FileModel.Lookup.{Name, LocationAt}
+use Rattle.codespan_base.specs.Streams.{Stream}
+
+-- the primary labels before the first one for which a lookup fails
+abbrev pub labels_before_refusal : {Id : Type 0} → Refusals Id → List (InFile Id) → List (InFile Id)
+labels_before_refusal {Id} refusal xs = take_while is_answered (primary_of xs)
+  where
+    is_answered : InFile Id → Bool
+    is_answered x = is_none (refusal x.id Name) && is_none (refusal x.id (LocationAt x.label.start))
 
 module _ {Id : Type 0} (files : FileDatabase Id) (d : Diagnostic Id) where
   -- the names of the labels' files are stated
@@ -23,6 +28,12 @@ module _ {Id : Type 0} (files : FileDatabase Id) (d : Diagnostic Id) where
       → AreLoci files d style loci
       → output style renderer view files d loci ≡ picture style renderer view files d
 
+  -- the headers of those labels, which short and medium style have written by then
+  abbrev pub headers_before_refusal : Config → Stream
+  headers_before_refusal config =
+      headers_at config d (map (λ (x : InFile Id). stated_locus (label_start files.file x))
+      (labels_before_refusal files.refusal (labels_of d)))
+
   -- the headers before a label for which a lookup fails are those of the labels before the first
   -- one for which a lookup fails
   abbrev pub HeadersAreBeforeRefusal : Type 0
@@ -30,7 +41,7 @@ module _ {Id : Type 0} (files : FileDatabase Id) (d : Diagnostic Id) where
       → (config : Config) (loci : List Locus) → AreLoci files d Short loci
       → (before : List (InFile Id)) (here : InFile Id) (after : List (InFile Id))
       → before ++ here ∷ after ≡ primary_of (labels_of d)
-      → AllAnswered files.refusal (flat_map header_asked before)
-      → (e : Error) → first_refusal files.refusal (header_asked here) ≡ Some e
+      → AllSucceed files.refusal (flat_map header_lookups_of before)
+      → (e : Error) → first_error files.refusal (header_lookups_of here) ≡ Some e
       → headers_at config d (take (length before) loci)
-      ≡ headers_before_refusal config files.file files.refusal d
+      ≡ headers_before_refusal config

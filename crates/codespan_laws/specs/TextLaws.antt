@@ -2,12 +2,10 @@
 use Rattle.std.specs.Prelude.{List, IfSome}
 use Rattle.std.specs.Char.{IsScalar}
 use Rattle.std.specs.Str.{IsUtf8}
-use Rattle.codespan_base.specs.declared.diagnostic.Diagnostic.{Diagnostic}
-use Rattle.codespan_base.specs.declared.term.config.Config.{Config}
-use Rattle.codespan_base.specs.declared.term.config.DisplayStyle.{DisplayStyle}
-use Rattle.codespan_base.specs.declared.term.config.chars.Chars.{Chars}
-use Rattle.codespan_base.specs.Characters.{start_text}
-use Rattle.codespan_base.specs.FileModel.{FileDatabase, IsLawful}
+use Rattle.codespan_picture.specs.Types.{Diagnostic, Config, DisplayStyle, Chars}
+use Rattle.codespan_base.specs.SnippetStarts.{start_text}
+use Rattle.codespan_base.specs.FileModel.{FileDatabase}
+use Rattle.codespan_base.specs.LawfulFiles.{IsLawful}
 use Rattle.codespan_base.specs.Streams.{Stream, text_of}
 use Rattle.codespan_picture.specs.Picture.{NamesAreTexts, output, picture}
 use Rattle.codespan_picture.specs.Rows.{Locus}

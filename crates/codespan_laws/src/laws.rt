@@ -13,16 +13,17 @@ ghost use Rattle.codespan_base.specs.declared.diagnostic.Diagnostic.{Diagnostic}
 ghost use Rattle.codespan_base.specs.FileModel.{FileDatabase, FileModel, line_count};
 ghost use Rattle.codespan_base.specs.Labels.{Labelled, LaneMark};
 ghost use Rattle.codespan_base.specs.declared.term.config.styles.Styles.{Styles};
-ghost use Rattle.codespan_base.specs.Streams.{Spelling, row_length};
+ghost use Rattle.codespan_base.specs.Streams.{Spelling};
+ghost use Rattle.codespan_laws.specs.RowLaws.{row_length, CharactersAreFree, RowsEndReset};
 ghost use Rattle.codespan_laws.specs.ColourLaws.{ColoursChangeNoText, NoColourIsPlain};
 ghost use Rattle.codespan_laws.specs.CaretLaws.{CaretsAreCells, PointersAreCells, StartsInWide};
 ghost use Rattle.codespan_laws.specs.Meanings.{MeansLabels, StartsBeforeEnds};
 ghost use Rattle.codespan_laws.specs.LaneLaws.{BarsAreLabels, LanesAreLines, LanesAreShown};
 ghost use Rattle.codespan_laws.specs.LineLaws.{BreaksAreCovered, BreaksAreGaps, DrawingOfShown, SourceRowsAreFew};
-ghost use Rattle.codespan_laws.specs.MessageLaws.{EachTrailsOrHangs, MessagesStandOnce};
+ghost use Rattle.codespan_laws.specs.MessageLaws.{MessagesStandOnce};
+ghost use Rattle.codespan_laws.specs.TrailingLaws.{EachTrailsOrHangs};
 ghost use Rattle.codespan_laws.specs.OrderLaws.{OrderIsFree};
 ghost use Rattle.codespan_laws.specs.PaddingLaws.{PaddingHasRoom};
-ghost use Rattle.codespan_laws.specs.RowLaws.{CharactersAreFree, RowsEndReset};
 ghost use Rattle.codespan_laws.specs.SortLaws.{SortsLabels};
 ghost use Rattle.codespan_laws.specs.StatedNames.{HeadersAreBeforeRefusal, OutputIsPicture};
 ghost use Rattle.codespan_laws.specs.TextLaws.{OutputIsText, PictureIsText};
@@ -136,8 +137,9 @@ pub fn order_is_free<Id>()
     ensures { (same : Id → Id → Bool) (file : Id → FileModel) → OrderIsFree same file }
 {}
 
-/// The labels inside a line are in the order of their ranges, those of one range in the order
-/// given: there is one such list.
+/// `sorted` gives the one list that is in the order of ranges, equal ranges in the order of its
+/// argument. A line's labels are handed to it in reverse, so of equal ranges the label given last
+/// comes first.
 pub fn labels_are_sorted()
     ensures { (labels : List Labelled) → SortsLabels labels }
 {}

@@ -3,14 +3,15 @@ use Rattle.std.proofs.Common.{◌≡◌, ℕ, List, [], ◌∷◌, ◌++◌, ref
 use Rattle.codespan_base.specs.declared.term.config.Config.{Config}
 use Rattle.codespan_base.specs.declared.term.config.chars.SnippetStart.{SnippetStart}
 use Rattle.codespan_base.specs.declared.diagnostic.Severity.{Severity}
-use Rattle.codespan_base.specs.Characters.{start_text}
+use Rattle.codespan_base.specs.SnippetStarts.{start_text}
 use Rattle.codespan_base.specs.declared.term.config.DisplayStyle.{DisplayStyle}
 use Rattle.codespan_base.specs.declared.term.config.DisplayStyle.TheVariants.{Rich, Medium, Short}
 use Rattle.codespan_base.specs.Lookalikes.{IsConfig}
 use Rattle.codespan_base.specs.Streams.{bytes, one_mark, Reset, SourceBorder, space}
 use Rattle.codespan_picture.specs.Rows.{Heading, Locus, Look, Row, HeaderRow, StartRow, EmptyRow, BreakRow, SourceRow, CaretRow, PointerRow, HangingRow, UnderlineRow, FirstNoteRow, LaterNoteRow, BlankRow}
 use Rattle.codespan_picture.specs.RowParts.{gutter, locus}
-use Rattle.codespan_picture.specs.RowStreams.{stream_of, stream_of_rows, row_words}
+use Rattle.codespan_picture.specs.RowStreams.{stream_of, stream_of_rows}
+use Rattle.codespan_picture.specs.RowWords.{row_words}
 use Rattle.codespan_picture.specs.Padding.{padding_of}
 use Rattle.codespan_picture.specs.Picture.{look_of, rendered}
 use Rattle.codespan_picture.specs.Snippets.{LabelledFile, header_rows, note_rows, rich_rows}

@@ -1,14 +1,13 @@
 -- Labels, marks and places as the calls of a renderer are given them.
-use Rattle.std.specs.Prelude.{ℕ, Bool, List, map, string_bytes}
+use Rattle.std.specs.Prelude.{ℕ, Bool, List, map, string_bytes, ◌+◌, true, ◌&&◌, nat_lt, nat_le, [], ◌∷◌}
 use Rattle.std.specs.Borrow.{Bor}
 use Rattle.std.specs.declared.ops.Range.{Range}
-use Rattle.codespan_base.specs.declared.diagnostic.LabelStyle.{LabelStyle}
+use Rattle.codespan_picture.specs.Types.{LabelStyle}
 use Rattle.codespan_base.specs.Labels.{Labelled, LaneMark, MultiLabel, Top, Left, Bottom}
 use Rattle.codespan_base.specs.Streams.{bytes}
 use Rattle.codespan_picture.specs.declared.given.Locus as rust_locus
 use Rattle.codespan_picture.specs.declared.given.MultiLabel as rust_multi_label
 use Rattle.codespan_picture.specs.declared.given.MultiLabel.TheVariants as given
-use Rattle.codespan_picture.specs.Lanes.{ascend_from}
 use Rattle.codespan_picture.specs.Rows.{Locus, Lanes}
 
 -- a single-line label as it is given
@@ -41,6 +40,12 @@ mark_view m = record { lane = m.0; style = m.1; part = multi_label_view m.2 }
 -- the marks in a row's lanes
 abbrev pub lanes_of : ℕ → List GivenMark → Lanes
 lanes_of count ms = record { count = count; marks = map mark_view ms }
+
+-- the lanes ascend strictly from `least` on and stay below their number
+abbrev pub ascend_from : ℕ → ℕ → List LaneMark → Bool
+ascend_from count least [] = true
+ascend_from count least (m ∷ ms) =
+    nat_le least m.lane && nat_lt m.lane count && ascend_from count (m.lane + 1) ms
 
 -- the one condition on a caller that gives marks: their lanes ascend strictly and stay below their
 -- number

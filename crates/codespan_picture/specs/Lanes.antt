@@ -1,11 +1,6 @@
 -- What each lane shows in each kind of row.
-use Rattle.std.specs.Prelude.{ℕ, ◌+◌, Bool, true, false, ◌&&◌, ◌==◌, nat_lt, nat_le, List, [], ◌∷◌, ◌++◌, find, Option, Some, None, if◌then◌else◌}
-use Rattle.codespan_base.specs.declared.diagnostic.Severity.{Severity}
-use Rattle.codespan_base.specs.declared.diagnostic.LabelStyle.{LabelStyle}
-use Rattle.codespan_base.specs.declared.diagnostic.LabelStyle.TheVariants.{Primary}
-use Rattle.codespan_base.specs.declared.term.config.chars.Chars.{Chars}
-use Rattle.codespan_base.specs.declared.term.config.Layout.{Layout}
-use Rattle.codespan_base.specs.declared.term.config.Layout.TheVariants.{Classic, Unbroken}
+use Rattle.std.specs.Prelude.{ℕ, Bool, true, false, ◌&&◌, ◌==◌, nat_lt, nat_le, List, ◌++◌, find, Option, Some, None, if◌then◌else◌}
+use Rattle.codespan_picture.specs.Types.{Severity, LabelStyle, Primary, Chars, Layout, Classic, Unbroken}
 use Rattle.codespan_base.specs.Streams.{Stream, LabelMark, Reset, one_mark, glyph, blanks, repeated}
 use Rattle.codespan_picture.specs.declared.lanes.Shape.{Shape}
 use Rattle.codespan_picture.specs.declared.lanes.Shape.TheVariants.{Gap, Bar, TopCorner, BottomCorner}
@@ -80,12 +75,6 @@ shape_of shape (Some m) = shape m.part
 abbrev pub style_of_mark : Option LaneMark → LabelStyle
 style_of_mark None = Primary
 style_of_mark (Some m) = m.style
-
--- the lanes ascend strictly from `least` on and stay below their number
-abbrev pub ascend_from : ℕ → ℕ → List LaneMark → Bool
-ascend_from count least [] = true
-ascend_from count least (m ∷ ms) =
-    nat_le least m.lane && nat_lt m.lane count && ascend_from count (m.lane + 1) ms
 
 -- ---- their characters
 

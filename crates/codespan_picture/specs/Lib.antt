@@ -1,15 +1,19 @@
 -- what stands below: files, labels, streams, writers, tables
 pub use Rattle.codespan_base.specs.FileModel
+pub use Rattle.codespan_base.specs.LawfulFiles
 pub use Rattle.codespan_base.specs.SimpleModel
 pub use Rattle.codespan_base.specs.MappedModel
 pub use Rattle.codespan_base.specs.Labels
 pub use Rattle.codespan_base.specs.Streams
 pub use Rattle.codespan_base.specs.WriterLaw
 pub use Rattle.codespan_base.specs.Errors
+pub use Rattle.codespan_base.specs.SnippetStarts
 pub use Rattle.codespan_base.specs.Characters
 pub use Rattle.codespan_base.specs.Defaults
 pub use Rattle.codespan_base.specs.StyleTables
 pub use Rattle.codespan_base.specs.Ansi
+-- the Rust types of all of these
+pub mod Types
 -- a line: its characters, carets and lanes
 pub mod Widths
 pub mod Cells
@@ -19,8 +23,10 @@ pub mod Lanes
 pub mod Rows
 pub mod RowParts
 pub mod RowStreams
+pub mod RowWords
 -- the picture
 pub mod Lines
+pub mod Sequences
 pub mod Snippets
 pub mod Padding
 pub mod Picture

@@ -1,12 +1,10 @@
 -- How much room the line numbers of a picture have.
 use Rattle.std.specs.Prelude.{ℕ, Bool, ◌&&◌, ◌||◌, ◌==◌, nat_le, max, List, map, filter, fold, flat_map, length, decimal}
 use Rattle.std.specs.List.{list_any, range_with_len}
-use Rattle.codespan_base.specs.declared.term.config.Config.{Config}
+use Rattle.codespan_picture.specs.Types.{Config, Layout, Classic, Unbroken}
 use Rattle.codespan_base.specs.FileModel.{FileModel, line_count}
 use Rattle.codespan_base.specs.Labels.{Labelled, first_line, last_line}
 use Rattle.codespan_picture.specs.Lines.{drawn_lines}
-use Rattle.codespan_base.specs.declared.term.config.Layout.{Layout}
-use Rattle.codespan_base.specs.declared.term.config.Layout.TheVariants.{Classic, Unbroken}
 use Rattle.codespan_picture.specs.Snippets.{LabelledFile}
 
 -- how many digits a number has; 0 has one

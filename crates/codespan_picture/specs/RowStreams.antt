@@ -1,14 +1,12 @@
 -- The stream of each row, and of many. Each word is shut: a chain of calls matches its parts from
 -- left to right.
 use Rattle.std.specs.Prelude.{ℕ, List, [], ◌∷◌, ◌++◌, flat_map, Option, Some, None, codes}
-use Rattle.codespan_base.specs.declared.diagnostic.Severity.{Severity}
-use Rattle.codespan_base.specs.declared.term.config.chars.Chars.{Chars}
-use Rattle.codespan_base.specs.Streams.{Stream, Header, HeaderMessage, NoteBullet, SourceBorder, LabelMark, Reset, one_mark, glyph, bytes, blanks, space, repeated, newline}
+use Rattle.codespan_picture.specs.Types.{Severity, Chars}
+use Rattle.codespan_base.specs.Streams.{Stream, Header, HeaderMessage, NoteBullet, SourceBorder, LabelMark, Reset, one_mark, glyph, bytes, space, newline}
 use Rattle.codespan_base.specs.Labels.{Labelled, LaneMark}
-use Rattle.codespan_base.specs.Characters.{start_text}
-use Rattle.codespan_picture.specs.Lanes.{label_glyph, filling, lane_cells}
+use Rattle.codespan_base.specs.SnippetStarts.{start_text}
 use Rattle.codespan_picture.specs.Rows.{Locus, Heading, Look, Lanes, Line, Row, HeaderRow, StartRow, EmptyRow, BreakRow, SourceRow, CaretRow, PointerRow, HangingRow, UnderlineRow, FirstNoteRow, LaterNoteRow, BlankRow, trailing}
-use Rattle.codespan_picture.specs.RowParts.{severity_name, locus, gutter, numbered_gutter, border, break_border, change, label_message, lane_of, source_lanes, plain_lanes, below_lanes, underline_lanes, leading_of, line_cells, line_cells_to_end, source_glyph, coloured_text, caret_glyphs, carets, trailing_message, blanks_up_to, pointer_at, pointers, cells_before, underline_message, underline}
+use Rattle.codespan_picture.specs.RowParts.{severity_name, locus, gutter, numbered_gutter, border, break_border, label_message, source_lanes, plain_lanes, below_lanes, underline_lanes, leading_of, line_cells, line_cells_to_end, coloured_text, carets, trailing_message, pointers, cells_before, underline}
 
 -- ---- rows, before their newlines
 
@@ -90,16 +88,6 @@ first_note_row chars padding piece =
 unfoldable pub later_note_row : ℕ → List ℕ → Stream
 later_note_row padding piece = gutter padding ++ space ++ space ++ bytes piece
 
--- the later rows of a note
-abbrev pub later_notes : ℕ → List (List ℕ) → Stream
-later_notes padding pieces = flat_map (λ piece. later_note_row padding piece ++ newline) pieces
-
--- the rows of a note of these pieces
-abbrev pub note_stream : Chars → ℕ → List (List ℕ) → Stream
-note_stream chars padding [] = []
-note_stream chars padding (p ∷ ps) =
-    first_note_row chars padding p ++ newline ++ later_notes padding ps
-
 -- the stream of a row
 abbrev pub stream_of : Look → Row → Stream
 stream_of look (HeaderRow place heading) = header_row look.severity place heading
@@ -118,13 +106,3 @@ stream_of look BlankRow = []
 -- the stream of many rows, each ended by one newline
 abbrev pub stream_of_rows : Look → List Row → Stream
 stream_of_rows look rows = flat_map (λ row. stream_of look row ++ newline) rows
-
--- opens all words of rows at once, as `unfolding row_words`
-unfoldable pub row_words : Unit {0}
-unfolding bytes one_mark blanks repeated label_glyph filling lane_cells locus gutter
-    numbered_gutter border break_border change label_message lane_of source_lanes plain_lanes
-    below_lanes underline_lanes source_glyph coloured_text caret_glyphs carets trailing_message
-    blanks_up_to pointer_at pointers underline_message underline bracketed leading_locus
-    header_row start_row empty_row break_row source_row opening caret_row pointer_row
-    hanging_row underline_row first_note_row later_note_row
-row_words = tt

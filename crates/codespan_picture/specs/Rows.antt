@@ -2,10 +2,7 @@
 use Rattle.std.specs.Prelude.{ℕ, Bool, true, false, not, ◌&&◌, ◌==◌, List, [], ◌∷◌, ◌++◌, map, filter, reverse, Option, Some, None, if◌then◌else◌}
 use Rattle.std.specs.List.{list_any, enumerate_from, last_or, remove}
 use Rattle.std.specs.Option.{option_and_then, option_map, option_map_or}
-use Rattle.codespan_base.specs.declared.diagnostic.Severity.{Severity}
-use Rattle.codespan_base.specs.declared.term.config.chars.Chars.{Chars}
-use Rattle.codespan_base.specs.declared.term.config.Layout.{Layout}
-use Rattle.codespan_base.specs.declared.files.Location.{Location}
+use Rattle.codespan_picture.specs.Types.{Severity, Chars, Layout, Location}
 use Rattle.codespan_base.specs.Labels.{Labelled, has_message, LaneMark, MultiLabel, Top, Left, Bottom}
 use Rattle.codespan_picture.specs.Cells.{leading_whitespace}
 use Rattle.codespan_picture.specs.Carets.{do_overlap, greatest_end}

@@ -1,12 +1,13 @@
 -- The rows of an output: of each line, of each file, and of all, with the loci in them.
-use Rattle.std.specs.Prelude.{ℕ, ◌+◌, Bool, true, false, ◌==◌, min, List, [], ◌∷◌, ◌++◌, map, filter, fold, flat_map, Option, Some, None, if◌then◌else◌, length}
+use Rattle.std.specs.Prelude.{ℕ, Bool, true, false, min, List, [], ◌∷◌, ◌++◌, map, filter, fold, flat_map, Option, Some, None, if◌then◌else◌, length}
 use Rattle.std.specs.Str.Lines.{lines}
-use Rattle.codespan_base.specs.declared.term.config.Config.{Config}
+use Rattle.codespan_picture.specs.Types.{Config}
 use Rattle.codespan_base.specs.FileModel.{FileModel, line_text}
 use Rattle.codespan_base.specs.Labels.{Labelled, is_primary, first_seen, multi_labels, single_labels, marks_on}
 use Rattle.codespan_picture.specs.Cells.{drawn_text}
-use Rattle.codespan_picture.specs.Lines.{drawn_lines, is_broken}
+use Rattle.codespan_picture.specs.Lines.{drawn_lines}
 use Rattle.codespan_picture.specs.Rows.{Locus, Heading, Lanes, Line, Row, HeaderRow, StartRow, EmptyRow, BreakRow, FirstNoteRow, LaterNoteRow, BlankRow, rows_of}
+use Rattle.codespan_picture.specs.Sequences.{break_between, gap_between, in_sequence}
 
 -- a file with its labels, in the order given
 pub record LabelledFile : Type 0 where
@@ -54,30 +55,23 @@ line_at s l = record {
   lanes = record { count = lane_count s; marks = marks_on s.file s.labels l };
 }
 
--- a break, where lines are left out before this one
-abbrev pub break_rows : LabelledFile → Option ℕ → ℕ → List Row
-break_rows s None d = []
-break_rows s (Some c) d = if is_broken c d then BreakRow (line_at s d).lanes ∷ [] else []
+-- the rows of a line
+abbrev pub line_rows : (ℕ → Line) → ℕ → List Row
+line_rows line l = rows_of (line l)
 
--- the rows of these lines, where `was` is drawn before them
+-- the row of a break before a line
+abbrev pub break_rows : (ℕ → Line) → ℕ → List Row
+break_rows line d = BreakRow (line d).lanes ∷ []
+
+-- the rows of drawn lines with their breaks, where `was` is drawn before them
 abbrev pub rows_after : LabelledFile → Option ℕ → List ℕ → List Row
-rows_after s was [] = []
-rows_after s was (l ∷ ls) = break_rows s was l ++ rows_of (line_at s l) ++ rows_after s (Some l) ls
+rows_after s =
+    in_sequence (λ l. l) (break_between (break_rows (line_at s))) (line_rows (line_at s))
 
--- ---- the same, from the shown lines alone
-
--- between two shown lines that follow each other stands nothing, the one line between them, or a
--- break
-abbrev pub between : (ℕ → Line) → Option ℕ → ℕ → List Row
-between line None d = []
-between line (Some c) d =
-    if d == c + 2 then rows_of (line (c + 1))
-    else if is_broken c d then BreakRow (line d).lanes ∷ [] else []
-
--- the drawing of an ascending list of lines
+-- the same from the shown lines alone: the drawing of an ascending list of them
 abbrev pub drawing : (ℕ → Line) → Option ℕ → List ℕ → List Row
-drawing line was [] = []
-drawing line was (l ∷ ls) = between line was l ++ rows_of (line l) ++ drawing line (Some l) ls
+drawing line =
+    in_sequence (λ l. l) (gap_between (line_rows line) (break_rows line)) (line_rows line)
 
 -- ---- where a snippet starts
 

@@ -9,10 +9,10 @@ use Rattle.std.proofs.lemmas.Grind.{common_steps}
 use Rattle.std.proofs.lemmas.List.{append_assoc}
 use Rattle.codespan_base.specs.Streams.{Stream, blanks, bytes}
 use Rattle.codespan_renderer.specs.declared.term.renderer.lanes.LaneRow.{LaneRow as GivenRow}
-use Rattle.codespan_picture.specs.Given.{GivenMark, mark_view, lanes_of, lanes_in_order}
+use Rattle.codespan_picture.specs.Given.{GivenMark, mark_view, lanes_of, lanes_in_order, ascend_from}
 use Rattle.codespan_renderer.specs.Inner.GivenLine.{given_lane, given_lanes, lane_row_view}
 use Rattle.codespan_renderer.specs.Inner.MarksLeft.{mark_here, marks_after}
-use Rattle.codespan_picture.specs.Lanes.{ascend_from, filling, lane_cells, mark_in, row_shape, row_crossing}
+use Rattle.codespan_picture.specs.Lanes.{filling, lane_cells, mark_in, row_shape, row_crossing}
 use Rattle.codespan_picture.specs.Rows.{Look, Lanes}
 use Rattle.codespan_picture.specs.RowParts.{lane_of}
 use Rattle.codespan_renderer.proofs.RowWords.{blanks-add}

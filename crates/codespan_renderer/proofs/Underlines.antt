@@ -23,7 +23,8 @@ use Rattle.codespan_renderer.specs.Inner.GivenLine.{given_lanes}
 use Rattle.codespan_picture.specs.Rows.{Look, Lanes, Line, UnderlineRow, has_underline}
 use Rattle.codespan_picture.specs.RowParts.{underline, underline_lanes, underline_message, cells_before, cells_up_to}
 use Rattle.codespan_renderer.specs.Inner.Underlines.{run_underline, run_width}
-use Rattle.codespan_picture.specs.RowStreams.{underline_row, stream_of_rows, later_notes}
+use Rattle.codespan_picture.specs.RowStreams.{underline_row, stream_of_rows}
+use Rattle.codespan_renderer.specs.Renderers.{later_notes}
 
 -- ---- the lanes of an underline row
 

@@ -1,12 +1,10 @@
 -- A renderer, as its contracts see it: a writer behind a reference, and a configuration; and what
 -- its calls render.
-use Rattle.std.specs.Prelude.{◌≡◌, ℕ, List, ◌∷◌, ◌++◌, Option, Result, IfErr}
+use Rattle.std.specs.Prelude.{◌≡◌, ℕ, List, ◌∷◌, ◌++◌, Option, Result, IfErr, [], flat_map}
 use Rattle.std.specs.Option.{option_map}
 use Rattle.std.specs.Borrow.{Bor, GName}
 use Rattle.std.specs.Str.Lines.{lines}
-use Rattle.codespan_base.specs.declared.diagnostic.Severity.{Severity}
-use Rattle.codespan_base.specs.declared.files.Error.{Error}
-use Rattle.codespan_base.specs.declared.term.config.Config.{Config}
+use Rattle.codespan_picture.specs.Types.{Severity, Error, Config, Chars}
 use Rattle.codespan_base.specs.Errors.{IsIo}
 use Rattle.codespan_base.specs.Streams.{Stream, newline}
 use Rattle.codespan_base.specs.WriterLaw.{Sends, Sink}
@@ -15,7 +13,7 @@ use Rattle.codespan_picture.specs.Cells.{drawn_text}
 use Rattle.codespan_picture.specs.Given.{GivenLabel, GivenMark, lanes_of, locus_view, single_label_views, text_now}
 use Rattle.codespan_picture.specs.Picture.{look_of}
 use Rattle.codespan_picture.specs.Rows.{Line, rows_of}
-use Rattle.codespan_picture.specs.RowStreams.{break_row, empty_row, header_row, note_stream, start_row, stream_of_rows}
+use Rattle.codespan_picture.specs.RowStreams.{break_row, empty_row, header_row, start_row, stream_of_rows, first_note_row, later_note_row}
 use Rattle.codespan_renderer.specs.declared.term.renderer.Renderer.{Renderer}
 
 -- the writer that it renders to
@@ -87,6 +85,16 @@ rendered_empty config severity padding lane_count marks =
 abbrev pub rendered_break : Config → Severity → ℕ → ℕ → List GivenMark → Stream
 rendered_break config severity padding lane_count marks =
     break_row (look_of config severity padding) (lanes_of lane_count marks) ++ newline
+
+-- the later rows of a note
+abbrev pub later_notes : ℕ → List (List ℕ) → Stream
+later_notes padding pieces = flat_map (λ piece. later_note_row padding piece ++ newline) pieces
+
+-- the rows of a note of these pieces
+abbrev pub note_stream : Chars → ℕ → List (List ℕ) → Stream
+note_stream chars padding [] = []
+note_stream chars padding (p ∷ ps) =
+    first_note_row chars padding p ++ newline ++ later_notes padding ps
 
 -- the rows of a note
 abbrev pub rendered_note : Config → ℕ → List ℕ → Stream

@@ -11,7 +11,7 @@ use Rattle.codespan_base.specs.Streams.{Stream}
 use Rattle.codespan_base.specs.WriterLaw.{Sink, Sends, Began}
 use Rattle.codespan_base.proofs.Sends.{sent-nil, Began-first, Began-last}
 use Rattle.codespan_reporting.specs.Inner.Asking.{Stopped, EndedAsking, SendsAsking}
-use Rattle.codespan_picture.specs.Lookups.{Refusals, asked_of, first_refusal}
+use Rattle.codespan_picture.specs.Lookups.{Refusals, asked_of, first_error}
 use Rattle.codespan_base.proofs.Chains.{came-then, stopped-before, stopped-then, told-after}
 use Rattle.codespan_reporting.proofs.Drawing.{Began-none}
 
@@ -37,17 +37,17 @@ or_refusal-answered o p h = ap (λ (x : Option Error). or_refusal x p) h
 
 module _ {Id : Type 0} (refusal : Refusals Id) where
   -- the first refusal of some lookups and of others after them
-  pub first_refusal-append : (ls ms : List (Id × Lookup)) → first_refusal refusal (ls ++ ms) ≡ or_refusal (first_refusal refusal ls) (first_refusal refusal ms)
-  first_refusal-append [] ms = refl
-  first_refusal-append (l ∷ ls) ms =
-      ap (or_refusal (refusal l.0 l.1)) (first_refusal-append ls ms)
-      ∙ sym (or_refusal_assoc (refusal l.0 l.1) (first_refusal refusal ls) (first_refusal refusal ms))
+  pub first_error-append : (ls ms : List (Id × Lookup)) → first_error refusal (ls ++ ms) ≡ or_refusal (first_error refusal ls) (first_error refusal ms)
+  first_error-append [] ms = refl
+  first_error-append (l ∷ ls) ms =
+      ap (or_refusal (refusal l.0 l.1)) (first_error-append ls ms)
+      ∙ sym (or_refusal_assoc (refusal l.0 l.1) (first_error refusal ls) (first_error refusal ms))
 
   -- the same of lookups of one file
-  pub first_refusal-asked : (id : Id) (ls ms : List Lookup)
-      → first_refusal refusal (asked_of id (ls ++ ms)) ≡ or_refusal (first_refusal refusal (asked_of id ls)) (first_refusal refusal (asked_of id ms))
-  first_refusal-asked id ls ms =
-      ap (first_refusal refusal) (map-append (λ (l : Lookup). (id, l)) ls ms) ∙ first_refusal-append (asked_of id ls) (asked_of id ms)
+  pub first_error-asked : (id : Id) (ls ms : List Lookup)
+      → first_error refusal (asked_of id (ls ++ ms)) ≡ or_refusal (first_error refusal (asked_of id ls)) (first_error refusal (asked_of id ms))
+  first_error-asked id ls ms =
+      ap (first_error refusal) (map-append (λ (l : Lookup). (id, l)) ls ms) ∙ first_error-append (asked_of id ls) (asked_of id ms)
 
 -- ---- one part
 

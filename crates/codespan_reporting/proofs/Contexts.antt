@@ -8,22 +8,23 @@ use Rattle.std.proofs.lemmas.Grind.{common_steps, flat_map-append}
 use Rattle.std.proofs.lemmas.List.{append-nil, map-append}
 use Rattle.codespan_base.specs.declared.files.Error.{Error}
 use Rattle.codespan_base.specs.declared.files.Error.TheVariants.{FileMissing, IndexTooLarge, LineTooLarge, ColumnTooLarge, InvalidCharBoundary, Io, FormatError, OutOfMemory}
-use Rattle.codespan_base.specs.FileModel.{IsLawful, Lookup, RefusesPastEnd, TellsPastEnd, line_count, or_refusal}
+use Rattle.codespan_base.specs.FileModel.{Lookup, line_count, or_refusal}
+use Rattle.codespan_base.specs.LawfulFiles.{IsLawful, RefusesPastEnd, TellsPastEnd}
 use Rattle.codespan_base.specs.FileModel.Lookup.{LineRange, LineNumber}
 use Rattle.codespan_base.specs.Labels.{first_line, last_line}
 use Rattle.codespan_base.specs.Lemmas.Lines.{lines_have_indices, lines_within_text}
-use Rattle.codespan_reporting.specs.Inner.AskedLabels.{AskedLabel, AsksFor, FindsLine, FindsLines, HasAskedLine, MakesRoom, MakesRoomForLine, lines_refusal, refusal_on}
+use Rattle.codespan_reporting.specs.Inner.AskedLabels.{AskedLabel, AsksFor, FindsLine, FindsLines, HasAskedLine, MakesRoom, MakesRoomForLine, lines_refusal, refusal_on, line_refusal}
 use Rattle.codespan_reporting.specs.Inner.Entries.{Entry, entries_of, line_entries}
 use Rattle.codespan_reporting.specs.declared.term.views.gather.FoundLines.{FoundLines}
 use Rattle.codespan_reporting.specs.Inner.FileLookups.{refusal_in}
 use Rattle.codespan_reporting.specs.Inner.GivenEntries.{AddsOf, entries_on, lookups_on}
 use Rattle.codespan_reporting.specs.Inner.SpannedDigits.{digits_on, label_digits}
-use Rattle.codespan_picture.specs.Lookups.{asked_lines, asked_of, ends_context, first_refusal, is_around, is_asked, line_refusal, of_line, probe}
+use Rattle.codespan_picture.specs.Lookups.{asked_lines, asked_of, ends_context, first_error, is_around, is_asked, of_line, probe}
 use Rattle.codespan_picture.specs.Padding.{digit_count, spans, spans_line}
 use Rattle.codespan_laws.proofs.CaretLemmas.{range_with_len-append}
 use Rattle.codespan_laws.proofs.Greatest.{greatest-append}
 use Rattle.codespan_reporting.proofs.Gathering.{Adds-as, Adds-both, Adds-none}
-use Rattle.codespan_reporting.proofs.Refusals.{first_refusal-none, first_refusal-some}
+use Rattle.codespan_reporting.proofs.Refusals.{first_error-none, first_error-some}
 
 module _ {X : Type 0} (g : ℕ → List X) where
   -- what numbers give of which each gives nothing
@@ -116,11 +117,11 @@ module _ {Id : Type 0} (x : AskedLabel Id) where
 
   -- lookups that are answered, and others after them
   answered_then : (ls ms : List Lookup) → refused ls ≡ None → refused (ls ++ ms) ≡ refused ms
-  answered_then ls ms none = ap (first_refusal x.refusal) (map-append (λ l. (x.id, l)) ls ms) ∙ first_refusal-none x.refusal (asked_of x.id ls) (asked_of x.id ms) none
+  answered_then ls ms none = ap (first_error x.refusal) (map-append (λ l. (x.id, l)) ls ms) ∙ first_error-none x.refusal (asked_of x.id ls) (asked_of x.id ms) none
 
   -- lookups that are refused, and others after them
   refused_then : (ls ms : List Lookup) (e : Error) → refused ls ≡ Some e → refused (ls ++ ms) ≡ Some e
-  refused_then ls ms e some = ap (first_refusal x.refusal) (map-append (λ l. (x.id, l)) ls ms) ∙ first_refusal-some x.refusal (asked_of x.id ls) (asked_of x.id ms) e some
+  refused_then ls ms e some = ap (first_error x.refusal) (map-append (λ l. (x.id, l)) ls ms) ∙ first_error-some x.refusal (asked_of x.id ls) (asked_of x.id ms) e some
 
   -- a line that is not asked for is not spanned
   no_digits : (l : ℕ) → is_asked x.config x.file x.label l ≡ false → digits_on x.file x.label l ≡ []

@@ -1,5 +1,5 @@
 -- Drawing a rich picture: what each way to end it comes to.
-use Rattle.std.proofs.Common.{◌≡◌, ◌≢◌, Bool, true, ◌<◌, List, [], ◌++◌, length, Option, None, Some, Ok, Err, Result, inl, inr, refl, sym, subst, ap, ◌∙◌, arith}
+use Rattle.std.proofs.Common.{◌≡◌, ◌≢◌, true, ◌<◌, List, [], ◌++◌, length, Option, None, Some, Ok, Err, Result, inl, inr, refl, sym, subst, ap, ◌∙◌, arith}
 use Rattle.std.proofs.lemmas.List.{length-append}
 use Rattle.std.specs.Prelude.{IfErr}
 use Rattle.codespan_base.specs.declared.term.config.Config.{Config}
@@ -7,7 +7,7 @@ use Rattle.codespan_base.specs.declared.diagnostic.Diagnostic.{Diagnostic}
 use Rattle.codespan_base.specs.declared.files.Error.{Error}
 use Rattle.codespan_base.specs.declared.files.Error.TheVariants.{FormatError, OutOfMemory}
 use Rattle.codespan_base.specs.Errors.{IsIo}
-use Rattle.codespan_base.specs.FileModel.{FileDatabase, FileModel, Lookup}
+use Rattle.codespan_base.specs.FileModel.{FileDatabase, Lookup}
 use Rattle.codespan_base.specs.Streams.{Stream}
 use Rattle.codespan_base.specs.WriterLaw.{Sink, sent, is_told, Began, Sends, refusing}
 use Rattle.codespan_base.proofs.HeldBytes.{gained-nil}
@@ -16,13 +16,13 @@ use Rattle.codespan_picture.specs.Picture.{files_of, labels_of, output, stated_l
 use Rattle.codespan_picture.specs.Rows.{Locus}
 use Rattle.codespan_reporting.specs.Inner.TextLoci.{IsLocusOfFile}
 use Rattle.std.specs.List.{AllZip}
-use Rattle.codespan_picture.specs.Lookups.{Refusals, early_lookups, late_lookups, first_refusal}
-use Rattle.codespan_reporting.specs.Output.{WritesStyled}
+use Rattle.codespan_picture.specs.Lookups.{early_lookups, late_lookups, first_error}
+use Rattle.codespan_reporting.specs.Output.{WritesOutput}
 use Rattle.codespan_reporting.proofs.OutputLoci.{file_loci, file_texts}
 use Rattle.codespan_laws.proofs.Loci.{stated_are_loci}
 use Rattle.codespan_reporting.specs.Inner.Asking.{Came}
 use Rattle.codespan_base.proofs.Chains.{came-then, stopped-then}
-use Rattle.codespan_reporting.proofs.Refusals.{first_refusal-some, first_refusal-none, all_answered, some_refused}
+use Rattle.codespan_reporting.proofs.Refusals.{first_error-some, first_error-none, all_answered, some_fails}
 
 -- nothing came, which is a beginning of everything
 pub Began-none : (s : Sink) (items : Stream) (t : Sink) → t ≡ s → Began s items t
@@ -32,22 +32,22 @@ Began-none s items t same = record { begun = []; rest = _; whole = refl; held = 
 two_errors : (e : Error) → e ≡ FormatError → e ≡ OutOfMemory → ⊥
 two_errors e h m = cc
 
-module _ {Id : Type 0} (view : Config) (same : Id → Id → Bool) (file : Id → FileModel) (refusal : Refusals Id) (d : Diagnostic Id) where
+module _ {Id : Type 0} (view : Config) (files : FileDatabase Id) (d : Diagnostic Id) where
   -- the lookups before the header
   abbrev pub before_header : List (Id × Lookup)
-  before_header = early_lookups view same file refusal (labels_of d)
+  before_header = early_lookups files (labels_of d) view
 
   -- the lookups after it
   abbrev pub after_header : List (Id × Lookup)
-  after_header = late_lookups view same file refusal (labels_of d)
+  after_header = late_lookups files (labels_of d) view
 
   -- what the lookups before it are refused with
   abbrev pub early_refusal : Option Error
-  early_refusal = first_refusal refusal before_header
+  early_refusal = first_error files.refusal before_header
 
   -- what those after it are refused with
   abbrev pub late_refusal : Option Error
-  late_refusal = first_refusal refusal after_header
+  late_refusal = first_error files.refusal after_header
 
 -- this holds of a rich output, by the places of its snippets
 pub record ByPlaces {Id : Type 0} (renderer view : Config) (files : FileDatabase Id) (d : Diagnostic Id) (Holds : Stream → Type 0) : Type 0 where
@@ -55,26 +55,18 @@ pub record ByPlaces {Id : Type 0} (renderer view : Config) (files : FileDatabase
   pub are : AllZip IsLocusOfFile (files_of files d) places
   pub holds : Holds (output Rich renderer view files d places)
 
-module _ {Id : Type 0} (view : Config) (files : FileDatabase Id) (d : Diagnostic Id) where
-  -- the lookups before the header, and those after it
-  abbrev early : List (Id × Lookup)
-  early = before_header view files.same files.file files.refusal d
-
-  abbrev late : List (Id × Lookup)
-  late = after_header view files.same files.file files.refusal d
-
 module _ {Id : Type 0} {renderer view : Config} {files : FileDatabase Id} {d : Diagnostic Id} where
   -- a lookup before the header refused: nothing is written
-  pub refused_early : {old new : Sink} {e : Error} → new ≡ old → 0 < length (early view files d)
-      → (e ≢ OutOfMemory → e ≢ FormatError → early_refusal view files.same files.file files.refusal d ≡ Some e) → WritesStyled Rich renderer view files d old (Err e) new
+  pub refused_early : {old new : Sink} {e : Error} → new ≡ old → 0 < length (before_header view files d)
+      → (e ≢ OutOfMemory → e ≢ FormatError → early_refusal view files d ≡ Some e) → WritesOutput Rich renderer view files d old (Err e) new
   refused_early {old} {new} {e} unchanged some told = record {
     loci = stated_loci files d Rich;
-    are = stated_are_loci files d Rich;
+    are_loci = stated_are_loci files d Rich;
     gains = λ tells. Began-none old _ new unchanged;
-    ends = record {
+    on_end = record {
       cause = inr (
         ap (λ (s : Sink). s.frame) unchanged,
-        (omega (arith, length-append (early view files d) (late view files d)), λ p q. first_refusal-some files.refusal (early view files d) (late view files d) e (told p q)),
+        (omega (arith, length-append (before_header view files d) (after_header view files d)), λ p q. first_error-some files.refusal (before_header view files d) (after_header view files d) e (told p q)),
         λ h. inl unchanged,
       );
       early = λ rich p. unchanged;
@@ -82,53 +74,53 @@ module _ {Id : Type 0} {renderer view : Config} {files : FileDatabase Id} {d : D
   }
 
   -- the writer refused
-  pub refused_by_writer : {old new : Sink} {e : Error} → early_refusal view files.same files.file files.refusal d ≡ None → new.frame ≡ refusing old.frame → IsIo e
-      → ByPlaces renderer view files d (λ s. is_told old ≡ true → Began old s new) → WritesStyled Rich renderer view files d old (Err e) new
+  pub refused_by_writer : {old new : Sink} {e : Error} → early_refusal view files d ≡ None → new.frame ≡ refusing old.frame → IsIo e
+      → ByPlaces renderer view files d (λ s. is_told old ≡ true → Began old s new) → WritesOutput Rich renderer view files d old (Err e) new
   refused_by_writer answered frame io begun = record {
     loci = begun.places;
-    are = file_loci files d begun.places begun.are;
+    are_loci = file_loci files d begun.places begun.are;
     gains = begun.holds;
-    ends = record { cause = inl (io, frame); early = λ rich p. absurd (some_refused files.refusal (early view files d) answered p) };
+    on_end = record { cause = inl (io, frame); early = λ rich p. absurd (some_fails files (before_header view files d) answered p) };
   }
 
   -- a lookup after the header refused
-  pub refused_late : {old new : Sink} {e : Error} → early_refusal view files.same files.file files.refusal d ≡ None → new.frame ≡ old.frame → 0 < length (late view files d)
-      → (e ≢ OutOfMemory → late_refusal view files.same files.file files.refusal d ≡ Some e)
-      → ByPlaces renderer view files d (λ s. is_told old ≡ true → Began old s new) → WritesStyled Rich renderer view files d old (Err e) new
+  pub refused_late : {old new : Sink} {e : Error} → early_refusal view files d ≡ None → new.frame ≡ old.frame → 0 < length (after_header view files d)
+      → (e ≢ OutOfMemory → late_refusal view files d ≡ Some e)
+      → ByPlaces renderer view files d (λ s. is_told old ≡ true → Began old s new) → WritesOutput Rich renderer view files d old (Err e) new
   refused_late {old} {new} {e} answered frame some told begun = record {
     loci = begun.places;
-    are = file_loci files d begun.places begun.are;
+    are_loci = file_loci files d begun.places begun.are;
     gains = begun.holds;
-    ends = record {
+    on_end = record {
       cause = inr (
         frame,
-        (omega (arith, length-append (early view files d) (late view files d)), λ p q. first_refusal-none files.refusal (early view files d) (late view files d) answered ∙ told p),
+        (omega (arith, length-append (before_header view files d) (after_header view files d)), λ p q. first_error-none files.refusal (before_header view files d) (after_header view files d) answered ∙ told p),
         λ h. inr (told (λ (m : e ≡ OutOfMemory). two_errors e h m)),
       );
-      early = λ rich p. absurd (some_refused files.refusal (early view files d) answered p);
+      early = λ rich p. absurd (some_fails files (before_header view files d) answered p);
     };
   }
 
   -- all was answered and written
-  drawn : {old new : Sink} → early_refusal view files.same files.file files.refusal d ≡ None → late_refusal view files.same files.file files.refusal d ≡ None → new.frame ≡ old.frame
-      → ByPlaces renderer view files d (λ s. is_told old ≡ true → new ≡ sent old s) → WritesStyled Rich renderer view files d old (Ok tt) new
+  drawn : {old new : Sink} → early_refusal view files d ≡ None → late_refusal view files d ≡ None → new.frame ≡ old.frame
+      → ByPlaces renderer view files d (λ s. is_told old ≡ true → new ≡ sent old s) → WritesOutput Rich renderer view files d old (Ok tt) new
   drawn {old} {new} answered_early answered_late frame came = record {
     loci = came.places;
-    are = file_loci files d came.places came.are;
+    are_loci = file_loci files d came.places came.are;
     gains = came.holds;
-    ends = (
+    on_end = (
       frame,
       record {
-        answered = all_answered files.refusal (early view files d ++ late view files d) (first_refusal-none files.refusal (early view files d) (late view files d) answered_early ∙ answered_late);
+        lookups_succeed = all_answered files.refusal (before_header view files d ++ after_header view files d) (first_error-none files.refusal (before_header view files d) (after_header view files d) answered_early ∙ answered_late);
         texts = file_texts files d came.places came.are;
       },
     );
   }
 
   -- after its first part, which came, the rest of the picture was sent or cut short
-  pub finished : {old mid new : Sink} (first rest : Stream) (r : Result (Unit {0}) Error) → early_refusal view files.same files.file files.refusal d ≡ None
-      → (late_refusal view files.same files.file files.refusal d ≡ None) × Came old first mid → Sends mid rest r new → IfErr r IsIo
-      → ByPlaces renderer view files d (λ s. s ≡ first ++ rest) → WritesStyled Rich renderer view files d old r new
+  pub finished : {old mid new : Sink} (first rest : Stream) (r : Result (Unit {0}) Error) → early_refusal view files d ≡ None
+      → (late_refusal view files d ≡ None) × Came old first mid → Sends mid rest r new → IfErr r IsIo
+      → ByPlaces renderer view files d (λ s. s ≡ first ++ rest) → WritesOutput Rich renderer view files d old r new
   finished {old} first rest (Ok x) answered came sends io names =
       let both = came-then old first rest came.1 sends in
       drawn answered came.0 both.0 (record { places = names.places; are = names.are; holds = λ told. both.1 told ∙ ap (sent old) (sym names.holds) })

@@ -1,17 +1,31 @@
 -- The walk over entries in order takes the steps of the lines that have entries, from the first on.
-use Rattle.std.proofs.Common.{◌≡◌, ℕ, zero, suc, ◌+◌, ◌<◌, ◌≤◌, Bool, true, false, cond, ◌==◌, nat_lt, List, [], ◌∷◌, ◌++◌, take, drop, filter, Option, Some, None, ⊎_elim, refl, sym, ◌∙◌, ap, subst, arith}
+use Rattle.std.proofs.Common.{◌≡◌, ℕ, zero, suc, ◌+◌, ◌<◌, ◌≤◌, Bool, true, false, cond, ◌==◌, nat_lt, if◌then◌else◌, List, [], ◌∷◌, ◌++◌, take, drop, filter, Option, Some, None, ⊎_elim, refl, sym, ◌∙◌, ap, subst, arith}
 use Rattle.std.specs.List.{prefix_len, range_with_len, AllByRecursion}
 use Rattle.std.proofs.lemmas.Bool.{cases_Bool, eqb-true, eqb-false, eq-eqb, ltb-true, ltb-false, lt-ltb, le-ltb}
 use Rattle.codespan_picture.specs.Snippets.{has_any}
 use Rattle.codespan_reporting.specs.Inner.Entries.{Entry, is_on_line}
-use Rattle.codespan_reporting.specs.Inner.Steps.{Step, join_group, groups, without_shown, steps_to, walk, steps_of}
+use Rattle.codespan_picture.specs.Sequences.{in_sequence}
+use Rattle.codespan_reporting.specs.Inner.Steps.{Step, Draw, Group, group_of, join_group, groups, without_shown, steps_between, steps_to, walk, steps_of}
 use Rattle.codespan_laws.proofs.SortedLists.{all-weaker, all-filter, filter-whole, filter-nothing}
 
 -- ---- groups
 
+-- entries of a line
+abbrev pub group_at : ℕ → List Entry → Group
+group_at l es = record { line = l; entries = es }
+
+-- an entry is a group of its own where the next one is not of its line
+groups-apart : (x y : Entry) (ys : List Entry)
+    → groups (y ∷ ys) ≡ group_of y (take (prefix_len (is_on_line y.line) ys) ys) ∷ groups (drop (prefix_len (is_on_line y.line) ys) ys)
+    → (y.line == x.line) ≡ false → groups (x ∷ y ∷ ys) ≡ group_of x [] ∷ groups (y ∷ ys)
+groups-apart x y ys first f =
+    let g : List Group = group_of y (take (prefix_len (is_on_line y.line) ys) ys) ∷ groups (drop (prefix_len (is_on_line y.line) ys) ys) in
+    let apart : join_group x g ≡ group_of x [] ∷ g = rw f refl in
+    ap (join_group x) first ∙ apart ∙ ap (λ (h : List Group). group_of x [] ∷ h) (sym first)
+
 -- the first group is the first entry with what follows it on its line
 pub groups-cons : (x : Entry) (xs : List Entry)
-    → groups (x ∷ xs) ≡ (x ∷ take (prefix_len (is_on_line x.line) xs) xs) ∷ groups (drop (prefix_len (is_on_line x.line) xs) xs)
+    → groups (x ∷ xs) ≡ group_of x (take (prefix_len (is_on_line x.line) xs) xs) ∷ groups (drop (prefix_len (is_on_line x.line) xs) xs)
 groups-cons x [] = refl
 groups-cons x (y ∷ ys) =
     ⊎_elim
@@ -20,11 +34,7 @@ groups-cons x (y ∷ ys) =
     let plus : 1 + prefix_len (is_on_line x.line) ys ≡ suc (prefix_len (is_on_line x.line) ys) = omega arith in
     rw (groups-cons y ys, t, k, plus) refl)
     (λ f. let none : prefix_len (is_on_line x.line) (y ∷ ys) ≡ 0 = rw f refl in
-    let m = prefix_len (is_on_line y.line) ys in
-    let g : List (List Entry) = (y ∷ take m ys) ∷ groups (drop m ys) in
-    let apart : join_group x g ≡ (x ∷ []) ∷ g = rw f refl in
-    subst (λ n. groups (x ∷ y ∷ ys) ≡ (x ∷ take n (y ∷ ys)) ∷ groups (drop n (y ∷ ys))) (sym none)
-    (ap (join_group x) (groups-cons y ys) ∙ apart ∙ ap (λ (h : List (List Entry)). (x ∷ []) ∷ h) (sym (groups-cons y ys))))
+    subst (λ n. groups (x ∷ y ∷ ys) ≡ group_of x (take n (y ∷ ys)) ∷ groups (drop n (y ∷ ys))) (sym none) (groups-apart x y ys (groups-cons y ys) f))
     (cases_Bool (y.line == x.line))
 
 -- ---- numbers that do not fall along a list
@@ -82,29 +92,25 @@ filter-above {X} n k l h (x ∷ xs) =
 -- ---- groups by lines
 
 -- a group in front of others, where it is not empty
-abbrev some_group : List Entry → List (List Entry) → List (List Entry)
-some_group [] gs = gs
-some_group (x ∷ g) gs = (x ∷ g) ∷ gs
+abbrev some_group : ℕ → List Entry → List Group → List Group
+some_group l es gs = if has_any es then group_at l es ∷ gs else gs
 
 -- the groups of these lines
-abbrev groups_on : (ℕ → List Entry) → List ℕ → List (List Entry)
+abbrev groups_on : (ℕ → List Entry) → List ℕ → List Group
 groups_on given [] = []
-groups_on given (l ∷ ls) = some_group (given l) (groups_on given ls)
+groups_on given (l ∷ ls) = some_group l (given l) (groups_on given ls)
 
 -- entries of one line in front of entries of later lines are a group
-groups-append : (k : ℕ) (g ys : List Entry) → AllByRecursion (λ e. e.line ≡ k) g → AllByRecursion (λ e. k < e.line) ys → groups (g ++ ys) ≡ some_group g (groups ys)
+groups-append : (k : ℕ) (g ys : List Entry) → AllByRecursion (λ e. e.line ≡ k) g → AllByRecursion (λ e. k < e.line) ys → groups (g ++ ys) ≡ some_group k g (groups ys)
 groups-append k [] ys h up = refl
-groups-append k (x ∷ []) [] h up = refl
+groups-append k (x ∷ []) [] h up = λ i. group_at (h.0 i) (x ∷ []) ∷ []
 groups-append k (x ∷ []) (y ∷ ys) h up =
     let f : (y.line == x.line) ≡ false = let e : x.line ≡ k = h.0 in let u : k < y.line = up.0 in not_equal x.line y.line (omega arith) in
-    let m = prefix_len (is_on_line y.line) ys in
-    let g : List (List Entry) = (y ∷ take m ys) ∷ groups (drop m ys) in
-    let apart : join_group x g ≡ (x ∷ []) ∷ g = rw f refl in
-    ap (join_group x) (groups-cons y ys) ∙ apart ∙ ap (λ (q : List (List Entry)). (x ∷ []) ∷ q) (sym (groups-cons y ys))
+    groups-apart x y ys (groups-cons y ys) f ∙ (λ i. group_at (h.0 i) (x ∷ []) ∷ groups (y ∷ ys))
 groups-append k (x ∷ y ∷ g) ys h up =
-    let t : (y.line == x.line) ≡ true = let e : x.line ≡ k = h.0 in let u : y.line ≡ k = h.1.0 in eq-eqb y.line x.line (omega arith) in
-    let same : join_group x ((y ∷ g) ∷ groups ys) ≡ (x ∷ y ∷ g) ∷ groups ys = rw t refl in
-    ap (join_group x) (groups-append k (y ∷ g) ys h.1 up) ∙ same
+    let t : (k == x.line) ≡ true = let e : x.line ≡ k = h.0 in eq-eqb k x.line (sym e) in
+    let same : join_group x (group_at k (y ∷ g) ∷ groups ys) ≡ group_of x (y ∷ g) ∷ groups ys = rw t refl in
+    ap (join_group x) (groups-append k (y ∷ g) ys h.1 up) ∙ same ∙ (λ i. group_at (h.0 i) (x ∷ y ∷ g) ∷ groups ys)
 
 -- the groups of lines are the same where their entries are
 groups_on-same : (given other : ℕ → List Entry) (n a : ℕ) → ((l : ℕ) → a ≤ l → given l ≡ other l) → groups_on given (range_with_len a n) ≡ groups_on other (range_with_len a n)
@@ -112,7 +118,7 @@ groups_on-same given other zero a h = refl
 groups_on-same given other (suc n) a h =
     let r = groups_on-same given other n (a + 1) (λ l q. h l (omega arith)) in
     let e = h a (omega arith) in
-    ap (λ (q : List (List Entry)). some_group (given a) q) r ∙ ap (λ (b : List Entry). some_group b (groups_on other (range_with_len (a + 1) n))) e
+    λ i. some_group a (e i) (r i)
 
 -- what is kept for its line is of that line
 pub all-on_line : (a : ℕ) (xs : List Entry) → AllByRecursion (λ e. e.line ≡ a) (filter (is_on_line a) xs)
@@ -138,16 +144,15 @@ groups-by_line (suc n) a xs h low high =
     (all-weaker (λ e. a < e.line) (λ e. a + 1 ≤ e.line) (λ e q. omega arith) ys (all-above_line a xs))
     (all-filter (λ e. e.line < a + 1 + n) (λ e. nat_lt a e.line) xs (all-weaker (λ e. e.line < a + suc n) (λ e. e.line < a + 1 + n) (λ e q. omega arith) xs high)) in
     ap groups cut ∙ groups-append a g ys (all-on_line a xs) (all-above_line a xs)
-    ∙ ap (λ (q : List (List Entry)). some_group g q) (inner ∙ groups_on-same _ _ n (a + 1) (λ l q. filter-above (λ (e : Entry). e.line) a l (omega arith) xs))
+    ∙ ap (λ (q : List Group). some_group a g q) (inner ∙ groups_on-same _ _ n (a + 1) (λ l q. filter-above (λ (e : Entry). e.line) a l (omega arith) xs))
 
 -- ---- the walk over groups of lines
 
 -- the steps of these shown lines, where each has these entries and `was` is shown before them
 abbrev pub steps_after : (ℕ → List Entry) → Option ℕ → List ℕ → List Step
-steps_after m was [] = []
-steps_after m was (d ∷ ds) = steps_to was d (m d) ++ steps_after m (Some d) ds
+steps_after m = in_sequence (λ l. l) steps_between (λ l. Draw l (m l) ∷ [])
 
-module _ (given : ℕ → List Entry) (on : (l : ℕ) → AllByRecursion (λ e. e.line ≡ l) (given l)) where
+module _ (given : ℕ → List Entry) where
   -- a line's entries of labels
   abbrev own : ℕ → List Entry
   own l = without_shown (given l)
@@ -157,22 +162,20 @@ module _ (given : ℕ → List Entry) (on : (l : ℕ) → AllByRecursion (λ e. 
   is_given l = has_any (given l)
 
   -- the walk takes the lines that have entries
-  walk-lines : (was : Option ℕ) (n a : ℕ) → walk was (groups_on given (range_with_len a n)) ≡ steps_after own was (filter is_given (range_with_len a n))
-  walk-lines was zero a = refl
-  walk-lines was (suc n) a = by_group (λ w. walk-lines w n (a + 1)) (given a) refl (on a)
+  walk-lines : (was : Option ℕ) (ls : List ℕ) → walk was (groups_on given ls) ≡ steps_after own was (filter is_given ls)
+  walk-lines was [] = refl
+  walk-lines was (l ∷ ls) = by_test (λ w. walk-lines w ls) (is_given l)
     where
-      gs : List (List Entry)
-      gs = groups_on given (range_with_len (a + 1) n)
+      gs : List Group
+      gs = groups_on given ls
 
-      ls : List ℕ
-      ls = filter is_given (range_with_len (a + 1) n)
+      ds : List ℕ
+      ds = filter is_given ls
 
-      by_group : ((w : Option ℕ) → walk w gs ≡ steps_after own w ls) → (g : List Entry) → given a ≡ g → AllByRecursion (λ e. e.line ≡ a) g
-          → walk was (some_group g gs) ≡ steps_after own was (cond (has_any g) (a ∷ ls) ls)
-      by_group rest [] e o = rest was
-      by_group rest (x ∷ g) e o =
-          (λ i. steps_to was (o.0 i) (without_shown (sym e i)) ++ walk (Some (o.0 i)) gs)
-          ∙ ap (λ (r : List Step). steps_to was a (own a) ++ r) (rest (Some a))
+      by_test : ((w : Option ℕ) → walk w gs ≡ steps_after own w ds) → (b : Bool)
+          → walk was (cond b (group_at l (given l) ∷ gs) gs) ≡ steps_after own was (cond b (l ∷ ds) ds)
+      by_test rest true = ap (λ (r : List Step). steps_to was l (own l) ++ r) (rest (Some l))
+      by_test rest false = rest was
 
 -- the steps of entries whose lines do not fall, and are all below n, are those of the lines that have entries
 pub steps-by_line : (n : ℕ) (xs : List Entry) → IsRising (λ e. e.line) xs → AllByRecursion (λ e. e.line < n) xs
@@ -180,4 +183,4 @@ pub steps-by_line : (n : ℕ) (xs : List Entry) → IsRising (λ e. e.line) xs �
 steps-by_line n xs h high =
     ap (walk None) (groups-by_line n 0 xs h (all-weaker (λ e. e.line < n) (λ e. 0 ≤ e.line) (λ e _. omega arith) xs high)
     (all-weaker (λ e. e.line < n) (λ e. e.line < 0 + n) (λ e q. omega arith) xs high))
-    ∙ walk-lines (λ l. filter (is_on_line l) xs) (λ l. all-on_line l xs) None n 0
+    ∙ walk-lines (λ l. filter (is_on_line l) xs) None (range_with_len 0 n)

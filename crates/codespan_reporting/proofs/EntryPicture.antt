@@ -16,8 +16,9 @@ use Rattle.codespan_reporting.specs.Inner.Lanes.{file_lanes}
 use Rattle.codespan_picture.specs.Lines as lines
 use Rattle.codespan_picture.specs.Lines.{drawn_lines}
 use Rattle.codespan_picture.specs.Lookups.{filled_lines}
+use Rattle.codespan_picture.specs.Sequences.{break_between, in_sequence}
 use Rattle.codespan_reporting.specs.Inner.PlacedLabels.{IsIdAt, all_entries}
-use Rattle.codespan_picture.specs.Snippets.{InFile, LabelledFile, labelled_file, line_at, drawing, rows_after, has_any, file_ids}
+use Rattle.codespan_picture.specs.Snippets.{InFile, LabelledFile, labelled_file, line_at, line_rows, break_rows, rows_after, has_any, file_ids}
 use Rattle.codespan_reporting.specs.Inner.Steps.{without_shown, steps_of, single_of, singles_in, line_of_group, rows_of_steps, fills_of, does_step_fit}
 use Rattle.codespan_reporting.proofs.EntryGroups.{IsRising, steps_after, steps-by_line, all-on_line}
 use Rattle.codespan_reporting.proofs.EntryLines as entry_lines
@@ -25,14 +26,14 @@ use Rattle.codespan_reporting.proofs.EntryLines.{HasPlace, says_range, is_of_ran
 use Rattle.codespan_reporting.proofs.EntryOrder.{below_order, line_rises, IsOn, singles-ascend}
 use Rattle.codespan_reporting.proofs.FilePlaces.{file_place-at}
 use Rattle.codespan_reporting.proofs.LaneMarks.{lane_marks-on, file_lanes-count}
-use Rattle.codespan_laws.proofs.FillLemmas.{drawing_of_shown, none_past}
+use Rattle.codespan_laws.proofs.FillLemmas.{none_past}
 use Rattle.codespan_reporting.proofs.LabelEntries.{is_kind}
 use Rattle.codespan_reporting.proofs.LabelPlaces.{AreFiles}
 use Rattle.codespan_laws.proofs.OrderSorts.{has_range, ascending-same, sorted-ascends, sorted-keeps}
 use Rattle.codespan_laws.proofs.SortedLists.{Rises, Falls, all-weaker, all-filter, all-both, all-pass, filter-filter, filter-reverse, any-filtered, reverse-cons, rises-filter, rises-from_sorted, filter-sorted_falls}
 use Rattle.codespan_renderer.specs.Inner.Sweeps.{starts_in_order}
 use Rattle.codespan_reporting.proofs.MarkOrder.{ascends-starts}
-use Rattle.codespan_reporting.proofs.StepLines.{lines_of_steps, steps-drawing, steps-fit, steps-lines, steps-fills}
+use Rattle.codespan_reporting.proofs.StepLines.{lines_of_steps, steps-rows, steps-fit, steps-lines, steps-fills}
 
 -- ---- what a group says
 
@@ -271,9 +272,8 @@ module _ {Id : Type 0} {table : FileDatabase Id} (lawful : AreFiles table)
   pub snippet-rows : rows_of_steps s.file (file_lanes s) (steps_of part) ≡ rows_after s None (drawn_lines config s.file s.labels)
   snippet-rows =
       ap (rows_of_steps (file id) (file_lanes s)) steps-are
-      ∙ steps-drawing (file id) (file_lanes s) own is_shown hidden-bare (line_count (file id))
-      ∙ (λ i. drawing (λ l. line-is l i) None shown)
-      ∙ sym (drawing_of_shown config s)
+      ∙ steps-rows (file id) (file_lanes s) own is_shown hidden-bare (line_count (file id)) (none_past config s)
+      ∙ (λ i. in_sequence (λ l. l) (break_between (break_rows (λ l. line-is l i))) (line_rows (λ l. line-is l i)) None (drawn_lines config s.file s.labels))
 
   -- they fill in the lines that are drawn and not shown
   pub snippet-fills : fills_of (steps_of part) ≡ filled_lines config s

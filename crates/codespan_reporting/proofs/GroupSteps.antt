@@ -1,5 +1,5 @@
 -- The walk over entries in order, group by group.
-use Rattle.std.proofs.Common.{◌≡◌, ℕ, zero, suc, ◌+◌, ◌-◌, ◌<◌, ◌≤◌, true, List, [], ◌∷◌, ◌++◌, length, take, drop, get_or, Option, Some, refl, sym, ◌∙◌, ap, subst, arith, length-drop}
+use Rattle.std.proofs.Common.{◌≡◌, ℕ, suc, ◌+◌, ◌-◌, ◌<◌, ◌≤◌, true, List, [], ◌∷◌, ◌++◌, length, take, drop, get_or, Option, Some, refl, sym, ◌∙◌, ap, subst, arith, length-drop}
 use Rattle.std.specs.List.{prefix_len}
 use Rattle.std.proofs.Math.Nat.{add-sub_cancel_left}
 use Rattle.std.proofs.Math.Seq.{take-length}
@@ -7,7 +7,7 @@ use Rattle.std.proofs.lemmas.List.{get_or-drop, length-take-le, drop-drop}
 use Rattle.std.proofs.lemmas.Bool.{eq-eqb}
 use Rattle.codespan_reporting.specs.Inner.Entries.{Entry, tells_shown, is_on_line}
 use Rattle.codespan_reporting.specs.Inner.Steps.{groups, without_shown, steps_to, walk}
-use Rattle.codespan_reporting.proofs.EntryGroups.{groups-cons}
+use Rattle.codespan_reporting.proofs.EntryGroups.{group_at, groups-cons}
 
 -- ---- groups
 
@@ -21,24 +21,16 @@ prefix_len-first x xs = rw (same_line x) (omega arith)
 
 -- the first group of a list that is not empty
 groups-first : (xs : List Entry) (d : Entry) (l : ℕ) → 0 < length xs → (get_or xs 0 d).line ≡ l
-    → groups xs ≡ take (prefix_len (is_on_line l) xs) xs ∷ groups (drop (prefix_len (is_on_line l) xs) xs)
+    → groups xs ≡ group_at l (take (prefix_len (is_on_line l) xs) xs) ∷ groups (drop (prefix_len (is_on_line l) xs) xs)
 groups-first [] d l some is = absurd (omega arith)
 groups-first (x ∷ xs) d l some is =
-    subst (λ n. groups (x ∷ xs) ≡ take (prefix_len (is_on_line n) (x ∷ xs)) (x ∷ xs) ∷ groups (drop (prefix_len (is_on_line n) (x ∷ xs)) (x ∷ xs))) is
+    subst (λ n. groups (x ∷ xs) ≡ group_at n (take (prefix_len (is_on_line n) (x ∷ xs)) (x ∷ xs)) ∷ groups (drop (prefix_len (is_on_line n) (x ∷ xs)) (x ∷ xs))) is
     (rw (prefix_len-first x xs) (groups-cons x xs))
 
 -- it is not empty
 prefix_len-some : (xs : List Entry) (d : Entry) (l : ℕ) → 0 < length xs → (get_or xs 0 d).line ≡ l → 0 < prefix_len (is_on_line l) xs
 prefix_len-some [] d l some is = absurd (omega arith)
 prefix_len-some (x ∷ xs) d l some is = subst (λ n. 0 < prefix_len (is_on_line n) (x ∷ xs)) is (omega (arith, prefix_len-first x xs))
-
--- ---- the walk
-
--- a group that is not empty
-walk-group : (was : Option ℕ) (group : List Entry) (gs : List (List Entry)) (d : Entry) (l : ℕ) → (get_or group 0 d).line ≡ l → 0 < length group
-    → walk was (group ∷ gs) ≡ steps_to was l (without_shown group) ++ walk (Some l) gs
-walk-group was [] gs d l is some = absurd (omega arith)
-walk-group was (x ∷ group) gs d l is some = λ i. steps_to was (is i) (without_shown (x ∷ group)) ++ walk (Some (is i)) gs
 
 -- ---- the walk by places
 
@@ -54,40 +46,33 @@ part xs at n = take (at + n - at) (drop at xs)
 without-drop : (m : ℕ) (xs : List Entry) → without m xs ≡ drop m xs
 without-drop m xs = ap (λ i. take i (drop m xs)) (sym (length-drop m xs)) ∙ take-length (drop m xs)
 
--- the first of some entries
-get_or-take-first : (n : ℕ) (xs : List Entry) (d : Entry) → 0 < n → get_or (take n xs) 0 d ≡ get_or xs 0 d
-get_or-take-first zero xs d some = absurd (omega arith)
-get_or-take-first (suc n) [] d some = refl
-get_or-take-first (suc n) (x ∷ xs) d some = refl
-
 -- so many entries from a place on are the next group
 pub record IsGroup (xs : List Entry) (at n : ℕ) (d : Entry) : Type 0 where
   pub len : length (part xs at n) ≡ n
   pub some : 0 < n
-  pub first : groups (drop at xs) ≡ part xs at n ∷ groups (drop (at + length (part xs at n)) xs)
-  pub line : (get_or (part xs at n) 0 d).line ≡ (get_or xs at d).line
+  pub first : groups (drop at xs) ≡ group_at (get_or xs at d).line (part xs at n) ∷ groups (drop (at + length (part xs at n)) xs)
 
 -- those of the line of the entry at a place are
 pub next_group : (xs : List Entry) (at n : ℕ) (d : Entry) → at < length xs
     → n ≡ prefix_len (is_on_line (get_or xs at d).line) (take (length xs - at) (drop at xs)) → n ≤ length (take (length xs - at) (drop at xs)) → IsGroup xs at n d
 next_group xs at n d inside is' le' =
+    let l = (get_or xs at d).line in
     let rest_is : take (length xs - at) (drop at xs) ≡ drop at xs = ap (λ i. take i (drop at xs)) (sym (length-drop at xs)) ∙ take-length (drop at xs) in
-    let is : n ≡ prefix_len (is_on_line (get_or xs at d).line) (drop at xs) = is' ∙ ap (prefix_len (is_on_line (get_or xs at d).line)) rest_is in
+    let is : n ≡ prefix_len (is_on_line l) (drop at xs) = is' ∙ ap (prefix_len (is_on_line l)) rest_is in
     let le : n ≤ length (drop at xs) = subst (λ (r : List Entry). n ≤ length r) rest_is le' in
     let cancelled : at + n - at ≡ n = add-sub_cancel_left at n in
     let at_first : get_or (drop at xs) 0 d ≡ get_or xs at d = get_or-drop at xs 0 d ∙ (let e : at + 0 ≡ at = omega arith in ap (λ i. get_or xs i d) e) in
     let more : 0 < length (drop at xs) = omega (arith, length-drop at xs) in
-    let line_is : (get_or (drop at xs) 0 d).line ≡ (get_or xs at d).line = ap (λ (e : Entry). e.line) at_first in
-    let some : 0 < n = rw is (prefix_len-some (drop at xs) d (get_or xs at d).line more line_is) in
+    let line_is : (get_or (drop at xs) 0 d).line ≡ l = ap (λ (e : Entry). e.line) at_first in
+    let some : 0 < n = rw is (prefix_len-some (drop at xs) d l more line_is) in
     let long : length (part xs at n) ≡ n = rw cancelled (length-take-le n (drop at xs) le) in
     let front : part xs at n ≡ take n (drop at xs) = ap (λ i. take i (drop at xs)) cancelled in
     let rest : drop (at + length (part xs at n)) xs ≡ drop n (drop at xs) = ap (λ i. drop (at + i) xs) long ∙ sym (drop-drop n at xs) in
     record {
       len = long;
       some = some;
-      first = subst (λ i. groups (drop at xs) ≡ take i (drop at xs) ∷ groups (drop i (drop at xs))) (sym is) (groups-first (drop at xs) d (get_or xs at d).line more line_is)
-          ∙ ap (λ (g : List Entry). g ∷ groups (drop n (drop at xs))) (sym front) ∙ ap (λ (r : List Entry). part xs at n ∷ groups r) (sym rest);
-      line = ap (λ (g : List Entry). (get_or g 0 d).line) front ∙ ap (λ (e : Entry). e.line) (get_or-take-first n (drop at xs) d some) ∙ line_is;
+      first = subst (λ i. groups (drop at xs) ≡ group_at l (take i (drop at xs)) ∷ groups (drop i (drop at xs))) (sym is) (groups-first (drop at xs) d l more line_is)
+          ∙ (λ i. group_at l (sym front i) ∷ groups (sym rest i));
     }
 
 -- a line is next: the steps up to it, and then the others
@@ -97,7 +82,6 @@ pub steps-next : (xs : List Entry) (at n m : ℕ) (d : Entry) (was : Option ℕ)
 steps-next xs at n m d was next is =
     let l = (get_or xs at d).line in
     let rest = groups (drop (at + length (part xs at n)) xs) in
-    let some : 0 < length (part xs at n) = omega (arith, next.len, next.some) in
     let own : without_shown (part xs at n) ≡ without m (part xs at n) = ap (λ i. drop i (part xs at n)) (sym is) ∙ sym (without-drop m (part xs at n)) in
-    ap (walk was) next.first ∙ walk-group was (part xs at n) rest d l next.line some
+    ap (walk was) next.first
     ∙ ap (λ (es : List Entry). steps_to was l es ++ walk (Some l) rest) own

@@ -17,20 +17,20 @@ use Rattle.codespan_base.specs.Labels.{is_primary}
 use Rattle.codespan_base.specs.Streams.{Stream, newline}
 use Rattle.codespan_base.specs.WriterLaw.{Sink, sent, is_told, Began, Sends, refusing}
 use Rattle.codespan_base.proofs.Sends.{is_told-sent, sent-append, sent-nil, Began-first, Began-last}
-use Rattle.codespan_picture.specs.Lookups.{Refusals, first_refusal, header_asked}
+use Rattle.codespan_picture.specs.Lookups.{Refusals, first_error, header_lookups_of}
 use Rattle.codespan_picture.specs.Picture.{AreLoci, IsLocus, heading_of, label_of, label_start, labels_of, look_of, notes_of, stated_locus}
 use Rattle.codespan_reporting.specs.Inner.TextLoci.{IsLocusOfLabel}
 use Rattle.codespan_picture.specs.Rows.{HeaderRow, Heading, Look, Locus, Row}
 use Rattle.codespan_picture.specs.RowStreams.{header_row, stream_of, stream_of_rows}
 use Rattle.codespan_picture.specs.Snippets.{InFile, has_any, header_rows, headers, note_rows, primary_of}
-use Rattle.codespan_reporting.specs.Output.{IsAnswered, WritesStyled}
+use Rattle.codespan_reporting.specs.Output.{Succeeds, WritesOutput}
 use Rattle.codespan_reporting.proofs.OutputLoci.{label_loci, label_texts}
 use Rattle.std.proofs.Math.Seq.{take-append_seam}
 use Rattle.codespan_reporting.specs.Inner.Headers.{HeaderRefused, HeadersCame, HeadersEnded, HeaderStopped}
 use Rattle.codespan_laws.proofs.Loci.{locus_there, zip_append, zip_each, zip_length, zip_map, zip_weaker}
 use Rattle.codespan_reporting.proofs.LabelPlaces.{StandsAt}
 use Rattle.codespan_reporting.proofs.Drawing.{Began-none}
-use Rattle.codespan_reporting.proofs.Refusals.{all_answered, first_refusal-none, first_refusal-some}
+use Rattle.codespan_reporting.proofs.Refusals.{all_answered, first_error-none, first_error-some}
 use Rattle.codespan_reporting.proofs.SnippetParts.{sends_at}
 
 -- what a filter keeps was there
@@ -162,8 +162,8 @@ module _ {Id : Type 0} {config : Config} {file : Id → FileModel} {refusal : Re
         ∙ ap (λ (x : Sink). sent x (placed config d second.places)) before
         ∙ sym (sent-append s (placed config d first.places) (placed config d second.places))
         ∙ ap (sent s) (sym (placed-append config d first.places second.places));
-    answered = ap (first_refusal refusal) (flat_map-append header_asked xs ys)
-        ∙ first_refusal-none refusal (flat_map header_asked xs) (flat_map header_asked ys) first.answered
+    answered = ap (first_error refusal) (flat_map-append header_lookups_of xs ys)
+        ∙ first_error-none refusal (flat_map header_lookups_of xs) (flat_map header_lookups_of ys) first.answered
         ∙ second.answered;
   }
 
@@ -217,7 +217,7 @@ module _ {Id : Type 0} {config : Config} {file : Id → FileModel} {refusal : Re
   secondary_one e = rw e (none_yet refl, refl)
 
   -- a lookup for it was refused, or memory, or a Display
-  pub refused_one : {s : Sink} {e : Error} → is_primary x.label ≡ true → (e ≢ OutOfMemory → e ≢ FormatError → first_refusal refusal (header_asked x) ≡ Some e)
+  pub refused_one : {s : Sink} {e : Error} → is_primary x.label ≡ true → (e ≢ OutOfMemory → e ≢ FormatError → first_error refusal (header_lookups_of x) ≡ Some e)
       → HeadersEnded config file refusal d s (primary_of (x ∷ [])) e s
   refused_one {s} primary told = rw primary (record {
     before = [];
@@ -249,7 +249,7 @@ module _ {Id : Type 0} {config : Config} {file : Id → FileModel} {refusal : Re
     })
 
     -- it came
-    pub came_one : first_refusal refusal (header_asked x) ≡ None → Sends {E = Error} s (header config d (Some place)) (Ok tt) t
+    pub came_one : first_error refusal (header_lookups_of x) ≡ None → Sends {E = Error} s (header config d (Some place)) (Ok tt) t
         → HeadersCame config file refusal d s (primary_of (x ∷ [])) t × (true ≡ has_any (primary_of (x ∷ [])))
     came_one answered sends = rw primary (
       record {
@@ -257,7 +257,7 @@ module _ {Id : Type 0} {config : Config} {file : Id → FileModel} {refusal : Re
         places = place ∷ [];
         are = (there, tt);
         came = λ told. sends.1 told ∙ ap (sent s) (sym (append-nil _));
-        answered = ap (first_refusal refusal) (append-nil (header_asked x)) ∙ answered;
+        answered = ap (first_error refusal) (append-nil (header_lookups_of x)) ∙ answered;
       },
       refl,
     )
@@ -268,11 +268,11 @@ module _ {Id : Type 0} {config : Config} {file : Id → FileModel} {refusal : Re
 module _ {Id : Type 0} {config : Config} (files : FileDatabase Id) {d : Diagnostic Id} {old new : Sink} {e : Error} (w : HeadersEnded config files.file files.refusal d old (causes d) e new) where
   -- the lookups of the headers
   abbrev asked : List (Id × Lookup)
-  asked = flat_map header_asked (causes d)
+  asked = flat_map header_lookups_of (causes d)
 
   -- those of the labels before that one, of that one, and of the others
-  asked-split : asked ≡ flat_map header_asked w.before ++ (header_asked w.here ++ flat_map header_asked w.after)
-  asked-split = ap (flat_map header_asked) (sym w.whole) ∙ flat_map-append header_asked w.before (w.here ∷ w.after)
+  asked-split : asked ≡ flat_map header_lookups_of w.before ++ (header_lookups_of w.here ++ flat_map header_lookups_of w.after)
+  asked-split = ap (flat_map header_lookups_of) (sym w.whole) ∙ flat_map-append header_lookups_of w.before (w.here ∷ w.after)
 
   -- the loci of those before it, its own, and those of labels that are not asked
   abbrev others : List Locus
@@ -307,17 +307,17 @@ module _ {Id : Type 0} {config : Config} (files : FileDatabase Id) {d : Diagnost
 
   -- the call ends so
   abbrev EndsShort : Type 0
-  EndsShort = WritesStyled Short config config files d old (Err e) new
+  EndsShort = WritesOutput Short config config files d old (Err e) new
 
   -- the writer refused within a header
   stopped_there : HeaderStopped config files.file files.refusal d w.mid w.here e new → EndsShort
   stopped_there stop = record {
     loci = loci_with stop.place;
-    are = loci_with-are stop.place stop.at.is_locus;
+    are_loci = loci_with-are stop.place stop.at.is_locus;
     gains = λ told. begun_whole stop.place told (λ there.
         subst (λ (s : Stream). Began w.mid s new) (sym (placed-append config d (stop.place ∷ []) others))
         (Began-first w.mid (placed config d (stop.place ∷ [])) new (placed config d others) (stop.begun there)));
-    ends = record { cause = inl (stop.io, stop.frame ∙ ap refusing w.came.frame); early = λ rich. cc };
+    on_end = record { cause = inl (stop.io, stop.frame ∙ ap refusing w.came.frame); early = λ rich. cc };
   }
 
   -- a lookup for a header refused, or memory, or a Display
@@ -326,9 +326,9 @@ module _ {Id : Type 0} {config : Config} (files : FileDatabase Id) {d : Diagnost
       let here = stated_of files.file w.here in
       record {
         loci = loci_with here;
-        are = loci_with-are here (locus_there (label_start files.file w.here));
+        are_loci = loci_with-are here (locus_there (label_start files.file w.here));
         gains = λ told. begun_whole here told (λ there. Began-none w.mid (placed config d (here ∷ others)) new stop.same);
-        ends = record {
+        on_end = record {
           cause = inr (
             ap (λ (x : Sink). x.frame) stop.same ∙ w.came.frame,
             (some, told_all),
@@ -337,8 +337,8 @@ module _ {Id : Type 0} {config : Config} (files : FileDatabase Id) {d : Diagnost
               here = w.here;
               after = w.after;
               whole = w.whole;
-              answered = all_answered files.refusal (flat_map header_asked w.before) w.came.answered;
-              refused = (omega arith, stop.told);
+              succeed = all_answered files.refusal (flat_map header_lookups_of w.before) w.came.answered;
+              fails = (omega arith, stop.told);
               wrote = λ told. stop.same ∙ w.came.came told ∙ ap (λ (ps : List Locus). sent old (placed config d ps)) (sym (taken here));
             },
           );
@@ -356,15 +356,15 @@ module _ {Id : Type 0} {config : Config} (files : FileDatabase Id) {d : Diagnost
       some = omega (
         arith,
         ap length asked-split,
-        length-append (flat_map header_asked w.before) (header_asked w.here ++ flat_map header_asked w.after),
-        length-append (header_asked w.here) (flat_map header_asked w.after),
+        length-append (flat_map header_lookups_of w.before) (header_lookups_of w.here ++ flat_map header_lookups_of w.after),
+        length-append (header_lookups_of w.here) (flat_map header_lookups_of w.after),
       )
 
-      told_all : e ≢ OutOfMemory → e ≢ FormatError → first_refusal files.refusal asked ≡ Some e
+      told_all : e ≢ OutOfMemory → e ≢ FormatError → first_error files.refusal asked ≡ Some e
       told_all p q =
-          ap (first_refusal files.refusal) asked-split
-          ∙ first_refusal-none files.refusal (flat_map header_asked w.before) (header_asked w.here ++ flat_map header_asked w.after) w.came.answered
-          ∙ first_refusal-some files.refusal (header_asked w.here) (flat_map header_asked w.after) e (stop.told p q)
+          ap (first_error files.refusal) asked-split
+          ∙ first_error-none files.refusal (flat_map header_lookups_of w.before) (header_lookups_of w.here ++ flat_map header_lookups_of w.after) w.came.answered
+          ∙ first_error-some files.refusal (header_lookups_of w.here) (flat_map header_lookups_of w.after) e (stop.told p q)
 
   -- either way
   pub headers_ended : EndsShort
@@ -376,20 +376,20 @@ module _ {Id : Type 0} {config : Config} (files : FileDatabase Id) {d : Diagnost
 -- the headers of all of them came
 module _ {Id : Type 0} {config : Config} (files : FileDatabase Id) {d : Diagnostic Id} {old mid : Sink} (came : HeadersCame config files.file files.refusal d old (causes d) mid) where
   -- all were answered
-  whole_answered : IsAnswered config files d Short came.places
+  whole_answered : Succeeds config files d Short came.places
   whole_answered = record {
-    answered = all_answered files.refusal (flat_map header_asked (causes d)) came.answered;
+    lookups_succeed = all_answered files.refusal (flat_map header_lookups_of (causes d)) came.answered;
     texts = label_texts files d came.places came.are;
   }
 
   -- there are some
-  pub headers_came : has_any (causes d) ≡ true → WritesStyled Short config config files d old (Ok tt) mid
+  pub headers_came : has_any (causes d) ≡ true → WritesOutput Short config config files d old (Ok tt) mid
   headers_came some = record {
     loci = came.places;
-    are = label_loci files d came.places came.are;
+    are_loci = label_loci files d came.places came.are;
     gains = λ told. came.came told
         ∙ ap (λ (rows : List Row). sent old (stream_of_rows (look config d) rows)) (sym (placed_some (IsLocusOfLabel files.file) (heading_of d) (causes d) came.places some came.are));
-    ends = (came.frame, whole_answered);
+    on_end = (came.frame, whole_answered);
   }
 
   -- there are none, so nothing came
@@ -405,41 +405,41 @@ module _ {Id : Type 0} {config : Config} (files : FileDatabase Id) {d : Diagnost
 
   -- then a header without a place was sent
   pub bare_header : {new : Sink} (r : Result (Unit {0}) Error) → has_any (causes d) ≡ false → Sends mid (header config d None) r new → IfErr r IsIo
-      → WritesStyled Short config config files d old r new
+      → WritesOutput Short config config files d old r new
   bare_header {new} (Ok x) none sends io = record {
     loci = came.places;
-    are = label_loci files d came.places came.are;
+    are_loci = label_loci files d came.places came.are;
     gains = λ told.
         let is = none_came none told in
         sends.1 (ap is_told is ∙ told) ∙ ap (λ (y : Sink). sent y (header config d None)) is ∙ ap (sent old) (sym (bare none));
-    ends = (sends.0 ∙ came.frame, whole_answered);
+    on_end = (sends.0 ∙ came.frame, whole_answered);
   }
   bare_header {new} (Err e) none sends io = record {
     loci = came.places;
-    are = label_loci files d came.places came.are;
+    are_loci = label_loci files d came.places came.are;
     gains = λ told.
         let is = none_came none told in
         subst (λ (s : Stream). Began old s new) (sym (bare none))
         (subst (λ (x : Sink). Began x (header config d None) new) is (sends.1 (ap is_told is ∙ told)));
-    ends = record { cause = inl (io, sends.0 ∙ ap refusing came.frame); early = λ rich. cc };
+    on_end = record { cause = inl (io, sends.0 ∙ ap refusing came.frame); early = λ rich. cc };
   }
 
 -- ---- the notes after them
 
 -- the headers were cut short
 pub medium_ended : {Id : Type 0} {config : Config} {files : FileDatabase Id} {d : Diagnostic Id} {old new : Sink} {e : Error}
-    → WritesStyled Short config config files d old (Err e) new → WritesStyled Medium config config files d old (Err e) new
+    → WritesOutput Short config config files d old (Err e) new → WritesOutput Medium config config files d old (Err e) new
 medium_ended {config = config} {d = d} {old = old} {new = new} drawn = record {
   loci = drawn.loci;
-  are = drawn.are;
+  are_loci = drawn.are_loci;
   gains = λ told.
       subst (λ (s : Stream). Began old s new) (sym (noted-after config d (header_rows (heading_of d) drawn.loci)))
       (Began-first old (short config d drawn.loci) new (noted config d) (drawn.gains told));
-  ends = record { cause = drawn.ends.cause; early = λ rich. cc };
+  on_end = record { cause = drawn.on_end.cause; early = λ rich. cc };
 }
 
 -- the headers came
-module _ {Id : Type 0} {config : Config} {files : FileDatabase Id} {d : Diagnostic Id} {old mid : Sink} (drawn : WritesStyled Short config config files d old (Ok tt) mid) where
+module _ {Id : Type 0} {config : Config} {files : FileDatabase Id} {d : Diagnostic Id} {old mid : Sink} (drawn : WritesOutput Short config config files d old (Ok tt) mid) where
   -- the notes
   abbrev notes : Stream
   notes = noted config d
@@ -450,27 +450,27 @@ module _ {Id : Type 0} {config : Config} {files : FileDatabase Id} {d : Diagnost
 
   -- the notes were sent after them, by an equal configuration
   pub medium_sent : {now : Config} {new : Sink} (r : Result (Unit {0}) Error) → now ≡ config → Sends mid (noted now d) r new → IfErr r IsIo
-      → WritesStyled Medium config config files d old r new
+      → WritesOutput Medium config config files d old r new
   medium_sent {now} {new} r alike sends io = by r (sends_at (λ (k : Config). noted k d) alike mid new r sends) io
     where
       rows : stream_of_rows (look config d) (header_rows (heading_of d) drawn.loci ++ note_rows (notes_of d)) ≡ before ++ notes
       rows = noted-after config d (header_rows (heading_of d) drawn.loci)
 
-      by : (r : Result (Unit {0}) Error) → Sends mid notes r new → IfErr r IsIo → WritesStyled Medium config config files d old r new
+      by : (r : Result (Unit {0}) Error) → Sends mid notes r new → IfErr r IsIo → WritesOutput Medium config config files d old r new
       by (Ok x) sends io = record {
         loci = drawn.loci;
-        are = drawn.are;
+        are_loci = drawn.are_loci;
         gains = λ told.
             let is = drawn.gains told in
             sends.1 (ap is_told is ∙ is_told-sent old before ∙ told) ∙ ap (λ (y : Sink). sent y notes) is ∙ sym (sent-append old before notes) ∙ ap (sent old) (sym rows);
-        ends = (sends.0 ∙ drawn.ends.0, record { answered = drawn.ends.1.answered; texts = drawn.ends.1.texts });
+        on_end = (sends.0 ∙ drawn.on_end.0, record { lookups_succeed = drawn.on_end.1.lookups_succeed; texts = drawn.on_end.1.texts });
       }
       by (Err e) sends io = record {
         loci = drawn.loci;
-        are = drawn.are;
+        are_loci = drawn.are_loci;
         gains = λ told.
             let is = drawn.gains told in
             subst (λ (s : Stream). Began old s new) (sym rows)
             (Began-last old before notes new (subst (λ (y : Sink). Began y notes new) is (sends.1 (ap is_told is ∙ is_told-sent old before ∙ told))));
-        ends = record { cause = inl (io, sends.0 ∙ ap refusing drawn.ends.0); early = λ rich. cc };
+        on_end = record { cause = inl (io, sends.0 ∙ ap refusing drawn.on_end.0); early = λ rich. cc };
       }

@@ -7,14 +7,14 @@ use Rattle.std.proofs.lemmas.Bool.{cases_Bool}
 use Rattle.std.proofs.lemmas.List.{append-nil, append_assoc, get_or-map, map-append, map-set, take_more}
 use Rattle.std.proofs.lemmas.List.Elements.{filter-append}
 use Rattle.codespan_base.specs.declared.term.config.Config.{Config}
-use Rattle.codespan_base.specs.FileModel.{FileDatabase, FileModel, IsLawful, line_count}
+use Rattle.codespan_base.specs.FileModel.{FileDatabase, FileModel, line_count}
+use Rattle.codespan_base.specs.LawfulFiles.{IsLawful}
 use Rattle.codespan_base.specs.Labels.{Labelled, first_line, is_single, last_line, multi_labels}
 use Rattle.codespan_reporting.specs.declared.term.views.label_lines.LabelLines.{LabelLines}
 use Rattle.codespan_reporting.specs.Inner.Entries.{Entry, entries_of}
 use Rattle.codespan_reporting.specs.Inner.LabelledFiles.{lanes_by}
 use Rattle.codespan_reporting.specs.Inner.Lanes.{Lane, file_lanes, lane_of, lanes_in}
 use Rattle.codespan_reporting.specs.Inner.PlacedLabels.{file_place, place_after, entries_after}
-use Rattle.codespan_picture.specs.Lookups.{Refusals}
 use Rattle.codespan_picture.specs.Snippets.{InFile}
 use Rattle.codespan_laws.proofs.SortedLists.{filter-nothing}
 use Rattle.codespan_reporting.proofs.FileOrder.{has}

@@ -21,7 +21,7 @@ use Rattle.codespan_reporting.specs.Inner.GivenEntries.{Adds, AddsOf, IsLineOf, 
 use Rattle.codespan_reporting.specs.Inner.LabelledFiles.{IsTold, all_lanes_given, ids_given, lanes_told, start_told, starts_given, with_file}
 use Rattle.codespan_reporting.specs.Inner.Lanes.{Lane, lanes_in}
 use Rattle.codespan_reporting.specs.Inner.Loci.{file_start, no_start}
-use Rattle.codespan_picture.specs.Lookups.{asked_of, first_refusal, label_asked, label_lookups, of_label}
+use Rattle.codespan_picture.specs.Lookups.{asked_of, first_error, label_asked, label_lookups, of_label}
 use Rattle.codespan_picture.specs.Picture.{label_of}
 use Rattle.codespan_reporting.specs.Inner.PlacedLabels.{IsIdAt, entries_after, file_place, place_after}
 use Rattle.codespan_reporting.specs.Inner.SpannedDigits.{all_digits, label_digits}
@@ -36,7 +36,7 @@ use Rattle.codespan_reporting.proofs.LabelPlaces.{AreFiles, StandsAt, IsChanged,
 use Rattle.codespan_reporting.proofs.LabelFiles.{added-with_file, known-more}
 use Rattle.codespan_reporting.proofs.LocusStarts.{start-unknown, starts-set}
 use Rattle.codespan_reporting.proofs.LabelTurns.{before, before-more, file-inside, has-file, ids-differ}
-use Rattle.codespan_reporting.proofs.Refusals.{first_refusal-none, first_refusal-some}
+use Rattle.codespan_reporting.proofs.Refusals.{first_error-none, first_error-some}
 
 -- these labels are done with: each file has what they tell, what they say is there, the lines that they span have room, and no lookup was refused
 pub record AreGathered {Id : Type 0} (table : FileDatabase Id) (config : Config) (ids : List Id) (done : List (InFile Id)) (files : List (GivenFile Id)) (found : FoundLines Id) : Type 0 where
@@ -186,10 +186,10 @@ module _ {Id : Type 0} {table : FileDatabase Id} (lawful : AreFiles table) {labe
             (subst (λ k. AddsOf (file label.file_id) found.entries.items more.entries.items (entries_of config (file label.file_id) (record { file = k; place = place }) (label_of label).label)) place-found own.added);
         counted = counted-more more own.counted;
         answered =
-            ap (λ xs. first_refusal table.refusal (label_lookups config file table.refusal xs)) (before-more turn)
-            ∙ ap (first_refusal table.refusal) (flat_map-append (label_asked config file table.refusal) (before labels place) (label_of label ∷ []))
-            ∙ first_refusal-none table.refusal (label_lookups config file table.refusal (before labels place)) _ g.answered
-            ∙ ap (first_refusal table.refusal) (append-nil (label_asked config file table.refusal (label_of label))) ∙ own.answered;
+            ap (λ xs. first_error table.refusal (label_lookups config table xs)) (before-more turn)
+            ∙ ap (first_error table.refusal) (flat_map-append (label_asked config table) (before labels place) (label_of label ∷ []))
+            ∙ first_error-none table.refusal (label_lookups config table (before labels place)) _ g.answered
+            ∙ ap (first_error table.refusal) (append-nil (label_asked config table (label_of label))) ∙ own.answered;
       }
 
   -- ---- the labels before it are done with
@@ -212,20 +212,20 @@ module _ {Id : Type 0} {table : FileDatabase Id} (lawful : AreFiles table) {labe
         })
 
     -- its lookups are refused
-    pub gathered-refused : (e : Error) → first_refusal table.refusal (asked_of label.file_id (of_label config (file label.file_id) (table.refusal label.file_id) (label_of label).label)) ≡ Some e
-        → first_refusal table.refusal (label_lookups config file table.refusal (map label_of labels)) ≡ Some e
+    pub gathered-refused : (e : Error) → first_error table.refusal (asked_of label.file_id (of_label config (file label.file_id) (table.refusal label.file_id) (label_of label).label)) ≡ Some e
+        → first_error table.refusal (label_lookups config table (map label_of labels)) ≡ Some e
     gathered-refused e some =
         let rest = map label_of (drop (place + 1) labels) in
         let whole : map label_of labels ≡ (before labels place ++ label_of label ∷ []) ++ rest =
         ap (map label_of) (sym (take-append-drop (place + 1) labels)) ∙ map-append label_of (take (place + 1) labels) (drop (place + 1) labels)
         ∙ ap (λ (xs : List (InFile Id)). xs ++ rest) (before-more turn) in
-        let asked = label_asked config file table.refusal in
-        ap (λ xs. first_refusal table.refusal (flat_map asked xs)) whole
-        ∙ ap (first_refusal table.refusal) (flat_map-append asked (before labels place ++ label_of label ∷ []) rest)
-        ∙ first_refusal-some table.refusal (flat_map asked (before labels place ++ label_of label ∷ [])) (flat_map asked rest) e
-        (ap (first_refusal table.refusal) (flat_map-append asked (before labels place) (label_of label ∷ []))
-        ∙ first_refusal-none table.refusal (label_lookups config file table.refusal (before labels place)) _ g.answered
-        ∙ ap (first_refusal table.refusal) (append-nil (label_asked config file table.refusal (label_of label))) ∙ some)
+        let asked = label_asked config table in
+        ap (λ xs. first_error table.refusal (flat_map asked xs)) whole
+        ∙ ap (first_error table.refusal) (flat_map-append asked (before labels place ++ label_of label ∷ []) rest)
+        ∙ first_error-some table.refusal (flat_map asked (before labels place ++ label_of label ∷ [])) (flat_map asked rest) e
+        (ap (first_error table.refusal) (flat_map-append asked (before labels place) (label_of label ∷ []))
+        ∙ first_error-none table.refusal (label_lookups config table (before labels place)) _ g.answered
+        ∙ ap (first_error table.refusal) (append-nil (label_asked config table (label_of label))) ∙ some)
 
 -- all labels are done with after the last one
 pub gathered-all : {Id : Type 0} {table : FileDatabase Id} {config : Config} {files : List (GivenFile Id)} {found : FoundLines Id} (labels : List (Label Id)) (place : ℕ)

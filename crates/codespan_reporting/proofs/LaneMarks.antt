@@ -5,8 +5,7 @@ use Rattle.std.proofs.lemmas.Bool.Decides.{nat_tests}
 use Rattle.std.proofs.lemmas.List.{length-map}
 use Rattle.codespan_base.specs.FileModel.{FileModel, line_start}
 use Rattle.codespan_base.specs.Labels.{Labelled, LaneMark, MultiLabel, mark_of, marks_on, multi_labels, part_at, part_on}
-use Rattle.codespan_picture.specs.Given.{GivenMark, mark_view, lanes_in_order}
-use Rattle.codespan_picture.specs.Lanes.{ascend_from}
+use Rattle.codespan_picture.specs.Given.{GivenMark, mark_view, lanes_in_order, ascend_from}
 use Rattle.codespan_picture.specs.Snippets.{LabelledFile, lane_count}
 use Rattle.codespan_reporting.specs.declared.term.views.lanes.Lane.{Lane as GivenLane}
 use Rattle.codespan_reporting.specs.Inner.Lanes.{Lane, file_lanes, lane_given, lane_marks, lane_of, lanes_given, mark_on}

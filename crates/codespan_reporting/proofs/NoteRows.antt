@@ -5,7 +5,8 @@ use Rattle.std.proofs.lemmas.Grind.{flat_map-append}
 use Rattle.std.proofs.lemmas.List.{append-nil, map-append, take-append-drop, take_all, take_more}
 use Rattle.codespan_base.specs.Streams.{Stream, newline}
 use Rattle.codespan_picture.specs.Rows.{Look, Row, BlankRow, LaterNoteRow}
-use Rattle.codespan_picture.specs.RowStreams.{first_note_row, later_note_row, later_notes, note_stream, stream_of, stream_of_rows}
+use Rattle.codespan_picture.specs.RowStreams.{first_note_row, later_note_row, stream_of, stream_of_rows}
+use Rattle.codespan_renderer.specs.Renderers.{later_notes, note_stream}
 use Rattle.codespan_picture.specs.Snippets.{note_rows, piece_rows}
 
 module _ (look : Look) where

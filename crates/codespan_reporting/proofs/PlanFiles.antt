@@ -12,7 +12,7 @@ use Rattle.codespan_base.specs.FileModel.{FileDatabase, FileModel, Lookup}
 use Rattle.codespan_base.specs.FileModel.Lookup.{LocationAt, Name}
 use Rattle.codespan_picture.specs.Given.{locus_view}
 use Rattle.codespan_picture.specs.Lines.{drawn_lines}
-use Rattle.codespan_picture.specs.Lookups.{asked_of, filled_lines, first_refusal, locus_lookups, numbers_for_padding, of_filled}
+use Rattle.codespan_picture.specs.Lookups.{asked_of, filled_lines, first_error, locus_lookups, numbers_for_padding, of_filled}
 use Rattle.codespan_picture.specs.Padding.{digit_count, digits_of, numbered_lines, padding_of}
 use Rattle.codespan_reporting.specs.Inner.TextLoci.{IsTextLocus}
 use Rattle.codespan_picture.specs.Snippets.{InFile, LabelledFile, labelled_file, labelled_files, locus_start, rows_after, file_ids}
@@ -125,13 +125,13 @@ module _ {Id : Type 0} {table : FileDatabase Id} (lawful : AreFiles table) {conf
   numbers-are : number_lookups config.layout es (ids_given gathered.files.items) ≡ sheet_numbers config table xs
   numbers-are =
       ap (number_lookups config.layout es) all.files.ids_are
-      ∙ by_place-same (λ k id. asked_of id (numbers_asked config.layout (fills_of (steps_at es k)))) (λ id. asked_of id (numbers_for_padding config same file table.refusal xs config.layout id)) 0 (file_ids same xs)
+      ∙ by_place-same (λ k id. asked_of id (numbers_asked config.layout (fills_of (steps_at es k)))) (λ id. asked_of id (numbers_for_padding table xs config config.layout id)) 0 (file_ids same xs)
       (λ i id at. let e : 0 + i ≡ i = omega arith in
       ap (λ k. asked_of id (numbers_asked config.layout (fills_of (steps_at es k)))) e
       ∙ ap (λ (ls : List ℕ). asked_of id (numbers_asked config.layout ls)) (snippet i id at).fills
       ∙ ap (λ (ls : List Lookup). asked_of id ls) (by_layout config.layout id))
     where
-      by_layout : (layout : Layout) (id : Id) → numbers_asked layout (filled_lines config (labelled id)) ≡ numbers_for_padding config same file table.refusal xs layout id
+      by_layout : (layout : Layout) (id : Id) → numbers_asked layout (filled_lines config (labelled id)) ≡ numbers_for_padding table xs config layout id
       by_layout Classic id = refl
       by_layout Unbroken id = refl
 
@@ -140,13 +140,13 @@ module _ {Id : Type 0} {table : FileDatabase Id} (lawful : AreFiles table) {conf
   file_start-is {f} told = ap start_byte told.start_is ∙ start-is same file f.id xs
 
   -- the places of files that are asked for are those of their snippets
-  places-asked : (fs : List (GivenFile Id)) → AllByRecursion (IsTold same file xs) fs → place_lookups fs ≡ flat_map (λ id. asked_of id (locus_lookups same file xs id)) (ids_given fs)
+  places-asked : (fs : List (GivenFile Id)) → AllByRecursion (IsTold same file xs) fs → place_lookups fs ≡ flat_map (λ id. asked_of id (locus_lookups table xs id)) (ids_given fs)
   places-asked [] told = refl
   places-asked (f ∷ fs) told = λ i. asked_of f.id (Name ∷ LocationAt (file_start-is told.0 i) ∷ []) ++ places-asked fs told.1 i
 
   -- so are those of all files
   places-are : place_lookups gathered.files.items ≡ sheet_places table xs
-  places-are = places-asked gathered.files.items all.files.told ∙ ap (flat_map (λ id. asked_of id (locus_lookups same file xs id))) all.files.ids_are
+  places-are = places-asked gathered.files.items all.files.told ∙ ap (flat_map (λ id. asked_of id (locus_lookups table xs id))) all.files.ids_are
 
   module _ {k : ℕ} {f : GivenFile Id} (at : IsIdAt (file_ids same xs) k f.id) (told : IsTold same file xs f) {plan : SheetFile Id} {own : List (GivenStep Id)}
       (is : IsPlan config.layout file es k f plan own) where
@@ -246,7 +246,7 @@ module _ {Id : Type 0} {table : FileDatabase Id} (lawful : AreFiles table) {conf
 module _ {Id : Type 0} {table : FileDatabase Id} (lawful : AreFiles table) {config : Config} {xs : List (InFile Id)} {gathered : Gathered Id} (all : IsGathered table config xs gathered) where
   -- plans are refused with what the sheet is refused with
   pub refusal-is : plans_refusal config.layout table.refusal gathered ≡ sheet_refusal config table xs
-  refusal-is = λ i. first_refusal table.refusal (numbers-are lawful all i ++ places-are lawful all i)
+  refusal-is = λ i. first_error table.refusal (numbers-are lawful all i ++ places-are lawful all i)
 
   -- plans, and the room for their numbers, are the sheet of the labels
   pub sheet-prepared : {sheet : Sheet Id} → ArePlansOf config.layout table.file gathered sheet.files.items sheet.steps.items → sheet.padding ≡ padding_of config (labelled_files table.same table.file xs)

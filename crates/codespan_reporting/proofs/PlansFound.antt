@@ -13,7 +13,8 @@ use Rattle.codespan_base.specs.declared.files.Error.{Error}
 use Rattle.codespan_base.specs.declared.files.Error.TheVariants.{FormatError, OutOfMemory}
 use Rattle.codespan_base.specs.declared.term.config.Layout.{Layout}
 use Rattle.codespan_base.specs.FileModel.{FileModel, Lookup, or_refusal}
-use Rattle.codespan_picture.specs.Lookups.{Refusals, TellsNaming, asked_of, first_refusal}
+use Rattle.codespan_picture.specs.Lookups.{Refusals, asked_of, first_error}
+use Rattle.codespan_reporting.specs.Inner.FileLookups.{TellsNaming}
 use Rattle.codespan_reporting.specs.declared.term.views.entry.Entry.{Entry as GivenEntry}
 use Rattle.codespan_reporting.specs.declared.term.views.file_order.LabelledFile.{LabelledFile as GivenFile}
 use Rattle.codespan_reporting.specs.declared.term.views.sheet.SheetFile.{SheetFile}
@@ -26,11 +27,11 @@ use Rattle.codespan_reporting.specs.Inner.Loci.{place_asked, place_lookups}
 use Rattle.codespan_reporting.specs.Inner.PlacedLabels.{IsIdAt}
 use Rattle.codespan_reporting.specs.Inner.Plans.{ArePlans, IsPlan, by_place, number_lookups, steps_at}
 use Rattle.codespan_reporting.specs.Inner.Steps.{Step, fills_of, steps_of}
-use Rattle.codespan_reporting.proofs.Askings.{first_refusal-append, or_refusal-answered, or_refusal-none, or_refusal-some}
+use Rattle.codespan_reporting.proofs.Askings.{first_error-append, or_refusal-answered, or_refusal-none, or_refusal-some}
 use Rattle.codespan_reporting.proofs.FileParts.{IsFilePart, from_file, next-file, next_part}
 use Rattle.codespan_reporting.proofs.FilePlaces.{at-get}
 use Rattle.codespan_reporting.proofs.LabelPlaces.{StandsAt, take-at}
-use Rattle.codespan_reporting.proofs.Refusals.{first_refusal-none, first_refusal-some}
+use Rattle.codespan_reporting.proofs.Refusals.{first_error-none, first_error-some}
 use Rattle.codespan_laws.proofs.SortedLists.{all-both, all-mapped, all-part, all-pass, all-weaker}
 
 -- ---- ids at their places
@@ -108,9 +109,9 @@ module _ {Id : Type 0} {files : List (GivenFile Id)} {xs : List (GivenEntry Id)}
     own_steps = ap steps_of own_entries
 
     -- and what they ask for
-    pub own_asked : (layout : Layout) (refusal : Refusals Id) → first_refusal refusal (asked_of f.id (numbers_asked layout (fills_of (steps_of (map entry_of (next_part zs at n))))))
-        ≡ first_refusal refusal (asked_of f.id (numbers_asked layout (fills_of (steps_at (map entry_of xs) k))))
-    own_asked layout refusal = ap (λ steps. first_refusal refusal (asked_of f.id (numbers_asked layout (fills_of steps)))) own_steps
+    pub own_asked : (layout : Layout) (refusal : Refusals Id) → first_error refusal (asked_of f.id (numbers_asked layout (fills_of (steps_of (map entry_of (next_part zs at n))))))
+        ≡ first_error refusal (asked_of f.id (numbers_asked layout (fills_of (steps_at (map entry_of xs) k))))
+    own_asked layout refusal = ap (λ steps. first_error refusal (asked_of f.id (numbers_asked layout (fills_of steps)))) own_steps
 
   -- the next file's turn is after it
   pub next_inside : at + n ≤ length xs
@@ -169,19 +170,19 @@ some-kept (Err x) e P = tt
 module _ {Id : Type 0} (layout : Layout) (file : Id → FileModel) (es : List Entry) (refusal : Refusals Id) where
   -- the numbers of these files are answered, the first refusal of their places is kept, and where no place is refused these are their plans
   pub record ArePlanned (files : List (GivenFile Id)) (now : List (SheetFile Id)) (steps : List (GivenStep Id)) (placed : Result (Unit {0}) Error) : Type 0 where
-    pub answered : first_refusal refusal (number_lookups layout es (ids_given files)) ≡ None
-    pub kept : TellsNaming (first_refusal refusal (place_lookups files)) placed
+    pub answered : first_error refusal (number_lookups layout es (ids_given files)) ≡ None
+    pub kept : TellsNaming (first_error refusal (place_lookups files)) placed
     pub plans : IfOk placed (λ _. ArePlans layout file es 0 files now steps)
 
 module _ {Id : Type 0} {layout : Layout} {file : Id → FileModel} {es : List Entry} {refusal : Refusals Id} {now : List (SheetFile Id)} {steps : List (GivenStep Id)}
     {placed : Result (Unit {0}) Error} where
   -- past the last file the lookups of all are refused with what is kept
   pub plans-tell : (files : List (GivenFile Id)) (k : ℕ) → length files ≤ k → ArePlanned layout file es refusal (take k files) now steps placed
-      → TellsNaming (first_refusal refusal (number_lookups layout es (ids_given files) ++ place_lookups files)) placed
+      → TellsNaming (first_error refusal (number_lookups layout es (ids_given files) ++ place_lookups files)) placed
   plans-tell files k past found =
       let all = subst (λ (fs : List (GivenFile Id)). ArePlanned layout file es refusal fs now steps placed) (take_all k files past) found in
       let numbers = number_lookups layout es (ids_given files) in
-      subst (λ o. TellsNaming o placed) (sym (first_refusal-none refusal numbers (place_lookups files) all.answered)) all.kept
+      subst (λ o. TellsNaming o placed) (sym (first_error-none refusal numbers (place_lookups files) all.answered)) all.kept
 
 module _ {Id : Type 0} {files : List (GivenFile Id)} {k : ℕ} {f : GivenFile Id} (here : StandsAt files k f) where
   -- how many files are before this one
@@ -200,8 +201,8 @@ module _ {Id : Type 0} {files : List (GivenFile Id)} {k : ℕ} {f : GivenFile Id
 
   -- they are refused with what those of these are, or its own
   place-refuses : (refusal : Refusals Id)
-      → first_refusal refusal (place_lookups (take (k + 1) files)) ≡ or_refusal (first_refusal refusal (place_lookups (take k files))) (first_refusal refusal (place_asked f))
-  place-refuses refusal = ap (first_refusal refusal) places-more ∙ first_refusal-append refusal (place_lookups (take k files)) (place_asked f)
+      → first_error refusal (place_lookups (take (k + 1) files)) ≡ or_refusal (first_error refusal (place_lookups (take k files))) (first_error refusal (place_asked f))
+  place-refuses refusal = ap (first_error refusal) places-more ∙ first_error-append refusal (place_lookups (take k files)) (place_asked f)
 
   module _ {layout : Layout} {file : Id → FileModel} {es : List Entry} {refusal : Refusals Id} {now : List (SheetFile Id)} {steps : List (GivenStep Id)}
       {placed : Result (Unit {0}) Error} (before : ArePlanned layout file es refusal (take k files) now steps placed) where
@@ -210,10 +211,10 @@ module _ {Id : Type 0} {files : List (GivenFile Id)} {k : ℕ} {f : GivenFile Id
     asked_at i id = asked_of id (numbers_asked layout (fills_of (steps_at es i)))
 
     -- the lookups with this one's
-    asked-more : first_refusal refusal (number_lookups layout es (ids_given (take (k + 1) files))) ≡ first_refusal refusal (asked_at k f.id)
+    asked-more : first_error refusal (number_lookups layout es (ids_given (take (k + 1) files))) ≡ first_error refusal (asked_at k f.id)
     asked-more =
-        ap (first_refusal refusal) (by_place-more asked_at k (ids_given (take k files)) (ids_given (take (k + 1) files)) f.id (length-map (take k files) _ ∙ files_before) ids-more)
-        ∙ first_refusal-none refusal (number_lookups layout es (ids_given (take k files))) (asked_at k f.id) before.answered
+        ap (first_error refusal) (by_place-more asked_at k (ids_given (take k files)) (ids_given (take (k + 1) files)) f.id (length-map (take k files) _ ∙ files_before) ids-more)
+        ∙ first_error-none refusal (number_lookups layout es (ids_given (take k files))) (asked_at k f.id) before.answered
 
     -- the plans with this one
     plans-with : {new : List (SheetFile Id)} {plan : SheetFile Id} {all own : List (GivenStep Id)} → new ≡ now ++ plan ∷ [] → all ≡ steps ++ own → IsPlan layout file es k f plan own
@@ -226,12 +227,12 @@ module _ {Id : Type 0} {files : List (GivenFile Id)} {k : ℕ} {f : GivenFile Id
 
     -- it is planned too
     pub planned-more : {new : List (SheetFile Id)} {plan : SheetFile Id} {all own : List (GivenStep Id)} → new ≡ now ++ plan ∷ [] → all ≡ steps ++ own → IsPlan layout file es k f plan own
-        → first_refusal refusal (asked_at k f.id) ≡ None → first_refusal refusal (place_asked f) ≡ None
+        → first_error refusal (asked_at k f.id) ≡ None → first_error refusal (place_asked f) ≡ None
         → ArePlanned layout file es refusal (take (k + 1) files) new all placed
     planned-more {new} {all = all} whole whole_steps is answered there = record {
       answered = asked-more ∙ answered;
       kept =
-          let others = first_refusal refusal (place_lookups (take k files)) in
+          let others = first_error refusal (place_lookups (take k files)) in
           subst (λ o. TellsNaming o placed) (sym (place-refuses refusal ∙ ap (or_refusal others) there ∙ or_refusal-none others)) before.kept;
       plans =
           IfOk-weaker placed (λ _. ArePlans layout file es 0 (take k files) now steps) (λ _. ArePlans layout file es 0 (take (k + 1) files) new all)
@@ -239,8 +240,8 @@ module _ {Id : Type 0} {files : List (GivenFile Id)} {k : ℕ} {f : GivenFile Id
     }
 
     -- its numbers are answered, and its place is refused
-    pub planned-unplaced : {all : List (GivenStep Id)} {e : Error} → first_refusal refusal (asked_at k f.id) ≡ None
-        → (e ≢ OutOfMemory → e ≢ FormatError → first_refusal refusal (place_asked f) ≡ Some e)
+    pub planned-unplaced : {all : List (GivenStep Id)} {e : Error} → first_error refusal (asked_at k f.id) ≡ None
+        → (e ≢ OutOfMemory → e ≢ FormatError → first_error refusal (place_asked f) ≡ Some e)
         → ArePlanned layout file es refusal (take (k + 1) files) now all (result_and placed (Err e))
     planned-unplaced {all} {e} answered told = record {
       answered = asked-more ∙ answered;
@@ -249,12 +250,12 @@ module _ {Id : Type 0} {files : List (GivenFile Id)} {k : ℕ} {f : GivenFile Id
     }
 
     -- what its numbers are refused with refuses all
-    pub planned-refuses : {e : Error} → first_refusal refusal (asked_at k f.id) ≡ Some e
-        → first_refusal refusal (number_lookups layout es (ids_given files) ++ place_lookups files) ≡ Some e
+    pub planned-refuses : {e : Error} → first_error refusal (asked_at k f.id) ≡ Some e
+        → first_error refusal (number_lookups layout es (ids_given files) ++ place_lookups files) ≡ Some e
     planned-refuses {e} told =
         let rest = drop (k + 1) files in
         let whole = ap ids_given (sym (take-append-drop (k + 1) files)) ∙ map-append (λ (g : GivenFile Id). g.id) (take (k + 1) files) rest in
-        first_refusal-some refusal (number_lookups layout es (ids_given files)) (place_lookups files) e
-        (ap (λ ids. first_refusal refusal (number_lookups layout es ids)) whole
-        ∙ ap (first_refusal refusal) (by_place-append asked_at 0 (ids_given (take (k + 1) files)) (ids_given rest))
-        ∙ first_refusal-some refusal (number_lookups layout es (ids_given (take (k + 1) files))) _ e (asked-more ∙ told))
+        first_error-some refusal (number_lookups layout es (ids_given files)) (place_lookups files) e
+        (ap (λ ids. first_error refusal (number_lookups layout es ids)) whole
+        ∙ ap (first_error refusal) (by_place-append asked_at 0 (ids_given (take (k + 1) files)) (ids_given rest))
+        ∙ first_error-some refusal (number_lookups layout es (ids_given (take (k + 1) files))) _ e (asked-more ∙ told))

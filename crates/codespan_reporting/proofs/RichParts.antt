@@ -1,5 +1,5 @@
 -- A rich picture, drawn part by part: its header, its snippets, and its notes.
-use Rattle.std.proofs.Common.{◌≡◌, ◌≢◌, ◌<◌, Bool, true, List, [], ◌∷◌, ◌++◌, length, drop, map, None, Some, Result, Ok, Err, ⊎_elim, refl, sym, subst, ap, ◌∙◌, arith}
+use Rattle.std.proofs.Common.{◌≡◌, ◌≢◌, ◌<◌, true, List, [], ◌∷◌, ◌++◌, length, drop, map, None, Some, Result, Ok, Err, ⊎_elim, refl, sym, subst, ap, ◌∙◌, arith}
 use Rattle.std.specs.Prelude.{IfErr}
 use Rattle.std.specs.List.{AllZip}
 use Rattle.std.proofs.lemmas.Grind.{flat_map-append}
@@ -11,7 +11,7 @@ use Rattle.codespan_base.specs.declared.diagnostic.Label.{Label}
 use Rattle.codespan_base.specs.declared.files.Error.{Error}
 use Rattle.codespan_base.specs.declared.files.Error.TheVariants.{FormatError, OutOfMemory}
 use Rattle.codespan_base.specs.Errors.{IsIo}
-use Rattle.codespan_base.specs.FileModel.{FileDatabase, FileModel}
+use Rattle.codespan_base.specs.FileModel.{FileDatabase}
 use Rattle.codespan_base.specs.Streams.{Stream, newline}
 use Rattle.codespan_base.specs.WriterLaw.{Sink, Sends, Began, is_told, sent}
 use Rattle.codespan_base.proofs.Sends.{Began-first, Began-last, sent-nil}
@@ -21,8 +21,8 @@ use Rattle.codespan_reporting.specs.declared.term.views.steps.Step.{Step as Give
 use Rattle.codespan_reporting.specs.Inner.AskedLabels.{labels_refusal}
 use Rattle.codespan_reporting.specs.Inner.Asking.{Came, Stopped, EndedAsking, SendsAsking}
 use Rattle.codespan_reporting.specs.Inner.GivenSheets.{AreSheetFiles, IsPrepared, ids_of, places_of, sheet_refusal}
-use Rattle.codespan_reporting.specs.Output.{WritesStyled}
-use Rattle.codespan_picture.specs.Lookups.{Refusals, early_lookups, first_refusal, late_lookups}
+use Rattle.codespan_reporting.specs.Output.{WritesOutput}
+use Rattle.codespan_picture.specs.Lookups.{early_lookups, first_error, late_lookups}
 use Rattle.codespan_picture.specs.Picture.{heading_of, label_of, labels_of, look_of, notes_of}
 use Rattle.codespan_picture.specs.Padding.{padding_of}
 use Rattle.codespan_picture.specs.Snippets.{snippets}
@@ -36,24 +36,24 @@ use Rattle.codespan_reporting.proofs.Drawing.{after_header, before_header, early
 use Rattle.codespan_reporting.proofs.NoteRows.{whole_of_notes}
 use Rattle.codespan_reporting.proofs.SheetPrepared.{labels-answered, labels-refused}
 
-module _ {Id : Type 0} (view : Config) (same : Id → Id → Bool) (file : Id → FileModel) (refusal : Refusals Id) (d : Diagnostic Id) (some : 0 < length d.labels.items) where
+module _ {Id : Type 0} (view : Config) (files : FileDatabase Id) (d : Diagnostic Id) (some : 0 < length d.labels.items) where
   -- its labels with their files are as many
   some_labels : 0 < length (labels_of d)
   some_labels = omega (arith, some, length-map d.labels.items label_of)
 
   -- where there is a label there is a lookup before the header
-  some_early : 0 < length (before_header view same file refusal d)
+  some_early : 0 < length (before_header view files d)
   some_early = from (labels_of d) some_labels
     where
-      from : (xs : List (InFile Id)) → 0 < length xs → 0 < length (early_lookups view same file refusal xs)
+      from : (xs : List (InFile Id)) → 0 < length xs → 0 < length (early_lookups files xs view)
       from [] none = absurd (omega arith)
       from (x ∷ xs) none = omega arith
 
   -- and one after it
-  some_late : 0 < length (after_header view same file refusal d)
+  some_late : 0 < length (after_header view files d)
   some_late = from (labels_of d) some_labels
     where
-      from : (xs : List (InFile Id)) → 0 < length xs → 0 < length (late_lookups view same file refusal xs)
+      from : (xs : List (InFile Id)) → 0 < length xs → 0 < length (late_lookups files xs view)
       from [] none = absurd (omega arith)
       from (x ∷ xs) none = omega arith
 
@@ -61,12 +61,12 @@ module _ {Id : Type 0} (view : Config) (same : Id → Id → Bool) (file : Id �
 pub bare-whole : {Id : Type 0} {renderer view : Config} {files : FileDatabase Id} {d : Diagnostic Id} {old new : Sink} (r : Result (Unit {0}) Error)
     → length d.labels.items ≡ 0
     → Sends old (header_row d.severity None (heading_of d) ++ newline ++ whole_of_notes (look_of renderer d.severity 0) (notes_of d)) r new → IfErr r IsIo
-    → WritesStyled Rich renderer view files d old r new
+    → WritesOutput Rich renderer view files d old r new
 bare-whole {renderer = renderer} {view = view} {files = files} {d = d} {old = old} r no_labels sends io =
     let none : labels_of d ≡ [] = ap (map label_of) (nil_from_length d.labels.items no_labels) in
     finished [] (header_row d.severity None (heading_of d) ++ newline ++ whole_of_notes (look_of renderer d.severity 0) (notes_of d)) r
-    (ap (λ (xs : List (InFile _)). first_refusal files.refusal (early_lookups view files.same files.file files.refusal xs)) none)
-    (ap (λ (xs : List (InFile _)). first_refusal files.refusal (late_lookups view files.same files.file files.refusal xs)) none, (refl, λ told. sym (sent-nil old)))
+    (ap (λ (xs : List (InFile _)). first_error files.refusal (early_lookups files xs view)) none)
+    (ap (λ (xs : List (InFile _)). first_error files.refusal (late_lookups files xs view)) none, (refl, λ told. sym (sent-nil old)))
     sends io
     (record {
       places = [];
@@ -80,9 +80,9 @@ bare-whole {renderer = renderer} {view = view} {files = files} {d = d} {old = ol
 -- where the labels' lookups are answered, those of the sheet tell what those before the header are refused with
 early-is_sheet : {Id : Type 0} (view : Config) (table : FileDatabase Id) {given gathered items : List (Label Id)} → given ≡ items → gathered ≡ given
     → labels_refusal view table (map label_of given) ≡ None
-    → first_refusal table.refusal (early_lookups view table.same table.file table.refusal (map label_of items)) ≡ sheet_refusal view table (map label_of gathered)
+    → first_error table.refusal (early_lookups table (map label_of items) view) ≡ sheet_refusal view table (map label_of gathered)
 early-is_sheet view table {given} given_are gathered_are answered =
-    ap (λ ls. first_refusal table.refusal (early_lookups view table.same table.file table.refusal (map label_of ls))) (sym given_are)
+    ap (λ ls. first_error table.refusal (early_lookups table (map label_of ls) view)) (sym given_are)
     ∙ labels-answered table view (map label_of given) answered
     ∙ ap (λ ls. sheet_refusal view table (map label_of ls)) (sym gathered_are)
 
@@ -95,23 +95,23 @@ prepared-of_all {view = view} {table = table} {sheet = sheet} given_are gathered
 -- a view is ready to draw: its sheet is prepared, and the lookups before the header are answered
 pub record IsReady {Id : Type 0} (view : Config) (table : FileDatabase Id) (d : Diagnostic Id) (sheet : Sheet Id) : Type 0 where
   pub prepared : IsPrepared table view (labels_of d) sheet
-  pub early : early_refusal view table.same table.file table.refusal d ≡ None
+  pub early : early_refusal view table d ≡ None
 
 module _ {Id : Type 0} {view : Config} {table : FileDatabase Id} {d : Diagnostic Id} {given : List (Label Id)} (given_are : given ≡ d.labels.items) where
   -- a label's lookup refused
   pub stopped-gathering : {renderer : Config} {s : Sink} {e : Error} → 0 < length d.labels.items
-      → (e ≢ OutOfMemory → labels_refusal view table (map label_of given) ≡ Some e) → WritesStyled Rich renderer view table d s (Err e) s
+      → (e ≢ OutOfMemory → labels_refusal view table (map label_of given) ≡ Some e) → WritesOutput Rich renderer view table d s (Err e) s
   stopped-gathering {e = e} some told =
-      refused_early refl (some_early view table.same table.file table.refusal d some)
-      (λ memory display. ap (λ ls. first_refusal table.refusal (early_lookups view table.same table.file table.refusal (map label_of ls))) (sym given_are)
+      refused_early refl (some_early view table d some)
+      (λ memory display. ap (λ ls. first_error table.refusal (early_lookups table (map label_of ls) view)) (sym given_are)
       ∙ labels-refused table view (map label_of given) e (told memory))
 
   module _ {gathered : List (Label Id)} (gathered_are : gathered ≡ given) (answered : labels_refusal view table (map label_of given) ≡ None) where
     -- a lookup of the sheet refused
     pub stopped-preparing : {renderer : Config} {s : Sink} {e : Error} → 0 < length d.labels.items
-        → (e ≢ OutOfMemory → e ≢ FormatError → sheet_refusal view table (map label_of gathered) ≡ Some e) → WritesStyled Rich renderer view table d s (Err e) s
+        → (e ≢ OutOfMemory → e ≢ FormatError → sheet_refusal view table (map label_of gathered) ≡ Some e) → WritesOutput Rich renderer view table d s (Err e) s
     stopped-preparing some told =
-        refused_early refl (some_early view table.same table.file table.refusal d some)
+        refused_early refl (some_early view table d some)
         (λ memory display. early-is_sheet view table given_are gathered_are answered ∙ told memory display)
 
     -- all of these lookups are answered
@@ -143,7 +143,7 @@ module _ {Id : Type 0} {view : Config} {table : FileDatabase Id} {d : Diagnostic
 
   -- the call draws the snippets so, and makes their lookups
   abbrev DrawsMiddle : Config → Sink → Result (Unit {0}) Error → Sink → Type 0
-  DrawsMiddle k old r new = SendsAsking (late_refusal view table.same table.file table.refusal d) old (middle k) r new
+  DrawsMiddle k old r new = SendsAsking (late_refusal view table d) old (middle k) r new
 
   -- where the snippets start are places of the files
   places-are : AllZip IsLocusOfFile (labelled_files table.same table.file (labels_of d)) (places_of sheet.files.items)
@@ -177,17 +177,17 @@ module _ {Id : Type 0} {view : Config} {table : FileDatabase Id} {d : Diagnostic
 
   module _ {renderer : Config} where
     -- the header was cut short
-    pub stopped-in_header : {old new : Sink} {e : Error} → Sends old header (Err e) new → IsIo e → WritesStyled Rich renderer view table d old (Err e) new
+    pub stopped-in_header : {old new : Sink} {e : Error} → Sends old header (Err e) new → IsIo e → WritesOutput Rich renderer view table d old (Err e) new
     stopped-in_header sends io = refused_by_writer ready.early sends.0 io (begun-as renderer (stopped-before (end renderer) (stopped-before (middle renderer) sends)).1)
 
     -- the snippets were cut short, drawn by an equal configuration
     pub stopped-in_snippets : {now : Config} {old mid new : Sink} {e : Error} → 0 < length d.labels.items → Came old header mid → now ≡ renderer
-        → DrawsMiddle now mid (Err e) new → WritesStyled Rich renderer view table d old (Err e) new
+        → DrawsMiddle now mid (Err e) new → WritesOutput Rich renderer view table d old (Err e) new
     stopped-in_snippets {now} {old} {mid} {new} {e} some came alike part =
         ⊎_elim
         (λ (w : IsIo e × Stopped mid (middle renderer) new). let stopped = stopped-before (end renderer) (stopped-then header came w.1) in refused_by_writer ready.early stopped.0 w.0 (begun-as renderer stopped.1))
-        (λ (w : EndedAsking (late_refusal view table.same table.file table.refusal d) mid (middle renderer) e new).
-        refused_late ready.early (w.frame ∙ came.0) (some_late view table.same table.file table.refusal d some) w.told
+        (λ (w : EndedAsking (late_refusal view table d) mid (middle renderer) e new).
+        refused_late ready.early (w.frame ∙ came.0) (some_late view table d some) w.told
         (begun-as renderer (λ told. cut told (came.1 told) w.begun)))
         (subst (λ (k : Config). DrawsMiddle k mid (Err e) new) alike part)
       where
@@ -199,7 +199,7 @@ module _ {Id : Type 0} {view : Config} {table : FileDatabase Id} {d : Diagnostic
     -- header and snippets came, and then the notes were sent
     pub drawn-whole : {second third : Config} {old mid last new : Sink} (r : Result (Unit {0}) Error) → Came old header mid
         → second ≡ renderer → DrawsMiddle second mid (Ok tt) last
-        → third ≡ renderer → Sends last (end third) r new → IfErr r IsIo → WritesStyled Rich renderer view table d old r new
+        → third ≡ renderer → Sends last (end third) r new → IfErr r IsIo → WritesOutput Rich renderer view table d old r new
     drawn-whole {old = old} {mid = mid} {last = last} {new = new} r came alike part alike_end sends io =
         let drawn = subst (λ (k : Config). DrawsMiddle k mid (Ok tt) last) alike part in
         finished (header ++ middle renderer) (end renderer) r ready.early (drawn.0, came-then old header (middle renderer) came drawn.1)

@@ -13,7 +13,7 @@ use Rattle.codespan_base.specs.WriterLaw.{Sends, Sink}
 use Rattle.codespan_base.specs.Errors.{IsIo}
 use Rattle.codespan_reporting.specs.Inner.Asking.{Came, SendsAsking}
 use Rattle.codespan_picture.specs.Snippets.{row_after, snippet, snippets}
-use Rattle.codespan_picture.specs.Lookups.{asked_of, first_refusal, late_lookups, snippet_lookups}
+use Rattle.codespan_picture.specs.Lookups.{asked_of, first_error, late_lookups, snippet_lookups}
 use Rattle.codespan_picture.specs.Picture.{labels_of, look_of, notes_of}
 use Rattle.codespan_picture.specs.Rows.{EmptyRow, Look, Locus, Row, StartRow}
 use Rattle.codespan_picture.specs.RowStreams.{stream_of_rows}
@@ -30,7 +30,7 @@ use Rattle.codespan_reporting.specs.declared.term.views.rich.RichDiagnostic.{Ric
 use Rattle.codespan_reporting.specs.declared.term.views.sheet.Sheet.{Sheet}
 use Rattle.codespan_reporting.specs.declared.term.views.sheet.SheetFile.{SheetFile}
 use Rattle.codespan_reporting.specs.declared.term.views.steps.Step.{Step as GivenStep}
-use Rattle.codespan_reporting.proofs.Askings.{IsAsking, asking_as, asking_cut, asking_nothing, asking_of_sends, asking_then, first_refusal-append, or_refusal-none}
+use Rattle.codespan_reporting.proofs.Askings.{IsAsking, asking_as, asking_cut, asking_nothing, asking_of_sends, asking_then, first_error-append, or_refusal-none}
 use Rattle.codespan_reporting.proofs.FileParts.{next_part}
 use Rattle.codespan_reporting.proofs.LabelPlaces.{StandsAt}
 use Rattle.codespan_reporting.proofs.LaneMarks.{file_lanes-count}
@@ -146,7 +146,7 @@ module _ {Id : Type 0} (table : FileDatabase Id) (view : RichDiagnostic Id) wher
 
   -- the lookups with a file's snippet
   abbrev pub snippet_asked : Id → List (Id × Lookup)
-  snippet_asked = snippet_lookups (view_config_of view) table.same table.file (labels_of (diagnostic_of view))
+  snippet_asked = λ id. asked_of id (snippet_lookups table (labels_of (diagnostic_of view)) (view_config_of view) id)
 
   module _ (sheet : Sheet Id) where
     -- the rows of the files from a place on
@@ -163,7 +163,7 @@ module _ {Id : Type 0} (table : FileDatabase Id) (view : RichDiagnostic Id) wher
       pub drawn : IsAsking None old (stream_of_rows (look_of renderer (diagnostic_of view).severity sheet.padding) rows) (Ok tt) now
       pub rows_whole : rows ++ rows_left k ≡ rows_left 0
       pub asked : List (Id × Lookup)
-      pub answered : first_refusal table.refusal asked ≡ None
+      pub answered : first_error table.refusal asked ≡ None
       pub asked_whole : asked ++ asked_left k ≡ asked_left 0
 
 -- no file is drawn
@@ -209,14 +209,14 @@ module _ {Id : Type 0} {table : FileDatabase Id} {view : RichDiagnostic Id} {ren
 
   -- what all their lookups are refused with
   abbrev all_refusal : Option Error
-  all_refusal = first_refusal table.refusal (late_lookups (view_config_of view) table.same table.file table.refusal (labels_of (diagnostic_of view)))
+  all_refusal = first_error table.refusal (late_lookups table (labels_of (diagnostic_of view)) (view_config_of view))
 
   -- from the first place on these are all of them
   rows-all : rest 0 ≡ all_rows
   rows-all = ap (drawn_at places) prepared.ids_are
 
-  refusal-all : first_refusal table.refusal (asks 0) ≡ all_refusal
-  refusal-all = ap (λ js. first_refusal table.refusal (flat_map (snippet_asked table view) js)) prepared.ids_are
+  refusal-all : first_error table.refusal (asks 0) ≡ all_refusal
+  refusal-all = ap (λ js. first_error table.refusal (flat_map (snippet_asked table view) js)) prepared.ids_are
 
   -- all files are drawn
   pub left-end : {gs : List (SheetFile Id)} → gs ≡ sheet.files.items → length gs ≤ k → SendsAsking all_refusal old (stream_of_rows look all_rows) (Ok tt) mid
@@ -224,7 +224,7 @@ module _ {Id : Type 0} {table : FileDatabase Id} {view : RichDiagnostic Id} {ren
       let none : drop k ids ≡ [] =
       drop-end ids k (omega (arith, ids-count sheet.files.items, subst (λ (hs : List (SheetFile Id)). length hs ≤ k) alike past)) in
       subst₂ (λ (o : Option Error) (s : Stream). SendsAsking o old s (Ok tt) mid)
-      (sym left.answered ∙ ap (first_refusal table.refusal) (sym (append-nil left.asked) ∙ ap (λ js. left.asked ++ flat_map (snippet_asked table view) js) (sym none) ∙ left.asked_whole) ∙ refusal-all)
+      (sym left.answered ∙ ap (first_error table.refusal) (sym (append-nil left.asked) ∙ ap (λ js. left.asked ++ flat_map (snippet_asked table view) js) (sym none) ∙ left.asked_whole) ∙ refusal-all)
       (ap (stream_of_rows look) (sym (append-nil left.rows) ∙ ap (λ r. left.rows ++ r) (sym (no-rows (drop k places)) ∙ ap (drawn_at (drop k places)) (sym none))
       ∙ left.rows_whole ∙ rows-all))
       left.drawn.draws
@@ -274,7 +274,7 @@ module _ {Id : Type 0} {table : FileDatabase Id} {view : RichDiagnostic Id} {ren
 
     -- its lookups, as its steps make them
     abbrev steps_refusal : Option Error
-    steps_refusal = first_refusal table.refusal (asked_of f.file.now.id (lookups_with steps))
+    steps_refusal = first_error table.refusal (asked_of f.file.now.id (lookups_with steps))
 
     -- the snippet is drawn, by an equal configuration
     snippet-here : {r : Result (Unit {0}) Error} {new : Sink} → SendsAsking steps_refusal mid (stream_of_rows (look_by now) (rows_in f (table.file f.file.now.id) steps)) r new
@@ -283,38 +283,38 @@ module _ {Id : Type 0} {table : FileDatabase Id} {view : RichDiagnostic Id} {ren
 
     -- both are the rows and the lookups at the place
     drawn-here : {r : Result (Unit {0}) Error} {new : Sink} → IsAsking (or_refusal steps_refusal None) mid (snippet_stream ++ end_stream) r new
-        → IsAsking (first_refusal table.refusal asked_here) mid (stream_of_rows look rows_here) r new
+        → IsAsking (first_error table.refusal asked_here) mid (stream_of_rows look rows_here) r new
     drawn-here both =
         let followed : follows ≡ is_followed has_notes (drop (k + 1) ids) =
         (λ i. notes_are i || nat_lt (k + 1) ((count_is ∙ sym (ids-count sheet.files.items)) i)) ∙ sym (followed-at has_notes ids k) in
-        asking_as (or_refusal-none steps_refusal ∙ ap (λ (ls : List Lookup). first_refusal table.refusal (asked_of f.file.now.id (Source ∷ ls))) is.asked)
+        asking_as (or_refusal-none steps_refusal ∙ ap (λ (ls : List Lookup). first_error table.refusal (asked_of f.file.now.id (Source ∷ ls))) is.asked)
         (sym (rows-two look (rows_in f (table.file f.file.now.id) steps) (end_rows f follows))
         ∙ ap (stream_of_rows look) (rows-are is follows)
         ∙ ap (λ (b : Bool). stream_of_rows look (snippet (view_config_of view) (locus_view f.locus) own ++ row_after b own)) followed)
         both
 
     -- the file is drawn
-    left-next : {new : Sink} → IsAsking (first_refusal table.refusal asked_here) mid (stream_of_rows look rows_here) (Ok tt) new → SnippetsLeft table view sheet renderer (k + 1) old new
+    left-next : {new : Sink} → IsAsking (first_error table.refusal asked_here) mid (stream_of_rows look rows_here) (Ok tt) new → SnippetsLeft table view sheet renderer (k + 1) old new
     left-next drawn =
         record {
           rows = left.rows ++ rows_here;
           drawn = asking_as drawn.draws.0 (sym (rows-two look left.rows rows_here)) (asking_then left.drawn drawn);
           rows_whole = append_assoc left.rows rows_here (rest (k + 1)) ∙ ap (λ (r : List Row). left.rows ++ r) (sym rows-next) ∙ left.rows_whole;
           asked = left.asked ++ asked_here;
-          answered = first_refusal-append table.refusal left.asked asked_here ∙ ap (λ (o : Option Error). or_refusal o (first_refusal table.refusal asked_here)) left.answered ∙ drawn.draws.0;
+          answered = first_error-append table.refusal left.asked asked_here ∙ ap (λ (o : Option Error). or_refusal o (first_error table.refusal asked_here)) left.answered ∙ drawn.draws.0;
           asked_whole = append_assoc left.asked asked_here (asks (k + 1)) ∙ ap (λ (ls : List (Id × Lookup)). left.asked ++ ls) (sym asked-next) ∙ left.asked_whole;
         }
 
     -- the file was cut short
-    left-cut : {new : Sink} {e : Error} → IsAsking (first_refusal table.refusal asked_here) mid (stream_of_rows look rows_here) (Err e) new
+    left-cut : {new : Sink} {e : Error} → IsAsking (first_error table.refusal asked_here) mid (stream_of_rows look rows_here) (Err e) new
         → SendsAsking all_refusal old (stream_of_rows look all_rows) (Err e) new
     left-cut drawn =
-        let here = first_refusal table.refusal asked_here in
-        let after = first_refusal table.refusal (asks (k + 1)) in
+        let here = first_error table.refusal asked_here in
+        let after = first_error table.refusal (asks (k + 1)) in
         (asking_as
         (sym (ap (λ (o : Option Error). or_refusal o (or_refusal here after)) left.answered)
-        ∙ ap (or_refusal (first_refusal table.refusal left.asked)) (sym (first_refusal-append table.refusal asked_here (asks (k + 1))) ∙ ap (first_refusal table.refusal) (sym asked-next))
-        ∙ sym (first_refusal-append table.refusal left.asked (asks k)) ∙ ap (first_refusal table.refusal) left.asked_whole ∙ refusal-all)
+        ∙ ap (or_refusal (first_error table.refusal left.asked)) (sym (first_error-append table.refusal asked_here (asks (k + 1))) ∙ ap (first_error table.refusal) (sym asked-next))
+        ∙ sym (first_error-append table.refusal left.asked (asks k)) ∙ ap (first_error table.refusal) left.asked_whole ∙ refusal-all)
         (ap (λ (s : Stream). stream_of_rows look left.rows ++ s) (sym (rows-two look rows_here (rest (k + 1))) ∙ ap (stream_of_rows look) (sym rows-next))
         ∙ sym (rows-two look left.rows (rest k)) ∙ ap (stream_of_rows look) (left.rows_whole ∙ rows-all))
         (asking_then left.drawn (asking_cut after (stream_of_rows look (rest (k + 1))) drawn))).draws
@@ -328,7 +328,7 @@ module _ {Id : Type 0} {table : FileDatabase Id} {view : RichDiagnostic Id} {ren
         {after : Config} (alike_after : after ≡ now) where
       -- then the row after it was drawn, by an equal configuration, however that ends
       end-here : {r : Result (Unit {0}) Error} {new : Sink} → Sends inner (stream_of_rows (look_by after) (end_rows f follows)) r new → IfErr r IsIo
-          → IsAsking (first_refusal table.refusal asked_here) mid (stream_of_rows look rows_here) r new
+          → IsAsking (first_error table.refusal asked_here) mid (stream_of_rows look rows_here) r new
       end-here {r} {new} sends io =
           drawn-here (asking_then (snippet-here draws) (asking_of_sends r (sends_at (λ (c : Config). stream_of_rows (look_by c) (end_rows f follows)) (alike_after ∙ alike) inner new r sends) io))
 

@@ -4,7 +4,7 @@ use Rattle.std.specs.List.Sorted.{IsPermutation, IsSortedBy}
 use Rattle.codespan_base.specs.declared.files.Error.{Error}
 use Rattle.codespan_base.specs.declared.term.config.Config.{Config}
 use Rattle.codespan_base.specs.FileModel.{FileDatabase, Lookup, or_refusal}
-use Rattle.codespan_picture.specs.Lookups.{early_lookups, first_refusal, label_lookups}
+use Rattle.codespan_picture.specs.Lookups.{early_lookups, first_error, label_lookups}
 use Rattle.codespan_picture.specs.Snippets.{InFile}
 use Rattle.codespan_reporting.specs.declared.term.views.entry.Entry.{Entry as GivenEntry}
 use Rattle.codespan_reporting.specs.declared.term.views.gather.Gathered.{Gathered}
@@ -14,7 +14,7 @@ use Rattle.codespan_reporting.specs.Inner.GivenEntries.{IsOfFiles, entry_of}
 use Rattle.codespan_reporting.specs.Inner.GivenSheets.{IsGathered, IsGatheredInTurn, sheet_lookups, sheet_numbers, sheet_places, sheet_refusal}
 use Rattle.codespan_reporting.specs.Inner.LabelledFiles.{ids_given}
 use Rattle.codespan_reporting.specs.Inner.PlacedLabels.{all_entries}
-use Rattle.codespan_reporting.proofs.Askings.{first_refusal-append}
+use Rattle.codespan_reporting.proofs.Askings.{first_error-append}
 use Rattle.codespan_reporting.proofs.Gathering.{gathered-each, gathered-says}
 use Rattle.codespan_reporting.proofs.FileParts.{gathered-sorted}
 
@@ -34,17 +34,17 @@ gathered-in_order {Id} {table} {config} {xs} {was} entries g perm up =
 module _ {Id : Type 0} (table : FileDatabase Id) (config : Config) (xs : List (InFile Id)) where
   -- what these lookups are refused with
   abbrev refused : List (Id × Lookup) → Option Error
-  refused = first_refusal table.refusal
+  refused = first_error table.refusal
 
   -- all lookups before the header
   abbrev early : List (Id × Lookup)
-  early = early_lookups config table.same table.file table.refusal xs
+  early = early_lookups table xs config
 
   -- the lookups of the labels come first, and then those of the files
   early-is : refused early ≡ or_refusal (labels_refusal config table xs) (sheet_refusal config table xs)
   early-is =
-      let of_labels = label_lookups config table.file table.refusal xs in
-      ap refused (append_assoc of_labels (sheet_numbers config table xs) (sheet_places table xs)) ∙ first_refusal-append table.refusal of_labels (sheet_lookups config table xs)
+      let of_labels = label_lookups config table xs in
+      ap refused (append_assoc of_labels (sheet_numbers config table xs) (sheet_places table xs)) ∙ first_error-append table.refusal of_labels (sheet_lookups config table xs)
 
   -- a lookup of a label refuses
   pub labels-refused : (e : Error) → labels_refusal config table xs ≡ Some e → refused early ≡ Some e

@@ -17,7 +17,7 @@ use Rattle.codespan_reporting.specs.Inner.GivenSnippets.{start_rows}
 use Rattle.codespan_reporting.specs.Inner.GivenSteps.{asked_by_all, step_of}
 use Rattle.codespan_reporting.specs.Inner.Lanes.{lanes_given}
 use Rattle.codespan_reporting.specs.Inner.Steps.{rows_of_steps}
-use Rattle.codespan_picture.specs.Lookups.{asked_of, first_refusal}
+use Rattle.codespan_picture.specs.Lookups.{asked_of, first_error}
 use Rattle.codespan_picture.specs.Picture.{look_of}
 use Rattle.codespan_picture.specs.Rows.{Look, Row}
 use Rattle.codespan_picture.specs.RowStreams.{stream_of, stream_of_rows}
@@ -64,7 +64,7 @@ module _ {F Id : Type 0} {table : F → FileDatabase Id} {page : Page F} {snippe
 
   -- what the lookups of these steps are refused with
   abbrev asked : List (Step Id) → Option Error
-  asked steps = first_refusal (table page.files.now).refusal (asked_of snippet.file.now.id (asked_by_all steps))
+  asked steps = first_error (table page.files.now).refusal (asked_of snippet.file.now.id (asked_by_all steps))
 
   -- the streams of its first rows, and of its lines
   abbrev at_start : Stream

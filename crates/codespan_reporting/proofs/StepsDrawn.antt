@@ -17,7 +17,7 @@ use Rattle.codespan_reporting.specs.Inner.FileLookups.{refusal_in}
 use Rattle.codespan_reporting.specs.Inner.GivenSteps.{asked_by, asked_by_all, step_of}
 use Rattle.codespan_reporting.specs.Inner.Lanes.{lanes_given}
 use Rattle.codespan_reporting.specs.Inner.Steps.{Step, rows_of_step, rows_of_steps}
-use Rattle.codespan_reporting.proofs.Askings.{IsAsking, asking_as, asking_cut, asking_nothing, asking_then, first_refusal-asked}
+use Rattle.codespan_reporting.proofs.Askings.{IsAsking, asking_as, asking_cut, asking_nothing, asking_then, first_error-asked}
 use Rattle.codespan_reporting.proofs.LabelPlaces.{StandsAt, take-at}
 
 module _ {F Id Name Source : Type 0} (table : F → FileDatabase Id) (lines : FileLines F Id Name Source) (config : Config) where
@@ -59,7 +59,7 @@ module _ {F Id Name Source : Type 0} (table : F → FileDatabase Id) (lines : Fi
   -- the lookups of steps, one after another
   asked-append : (xs ys : List (GivenStep Id)) → asked_all (xs ++ ys) ≡ or_refusal (asked_all xs) (asked_all ys)
   asked-append xs ys =
-      ap asked (flat_map-append asked_by xs ys) ∙ first_refusal-asked (table lines.page.now.files.now).refusal lines.id (asked_by_all xs) (asked_by_all ys)
+      ap asked (flat_map-append asked_by xs ys) ∙ first_error-asked (table lines.page.now.files.now).refusal lines.id (asked_by_all xs) (asked_by_all ys)
 
 module _ {F Id Name Source : Type 0} {table : F → FileDatabase Id} {lines : FileLines F Id Name Source} {config : Config} where
   -- nothing is drawn

@@ -7,11 +7,11 @@ use Rattle.codespan_base.specs.declared.term.config.Layout.{Layout}
 use Rattle.codespan_base.specs.declared.term.config.Layout.TheVariants.{Classic, Unbroken}
 use Rattle.codespan_base.specs.FileModel.{FileModel, Lookup, or_refusal}
 use Rattle.codespan_base.specs.FileModel.Lookup.{LineNumber}
-use Rattle.codespan_picture.specs.Lookups.{Refusals, asked_of, first_refusal}
+use Rattle.codespan_picture.specs.Lookups.{Refusals, asked_of, first_error}
 use Rattle.codespan_reporting.specs.declared.term.views.steps.Step.{Step as GivenStep}
 use Rattle.codespan_reporting.specs.Inner.GivenSteps.{AddsSteps, IsStepIn, numbers_asked, step_of}
 use Rattle.codespan_reporting.specs.Inner.Steps.{Step, fill_of, fills_of}
-use Rattle.codespan_reporting.proofs.Askings.{first_refusal-asked, or_refusal-answered, or_refusal-some}
+use Rattle.codespan_reporting.proofs.Askings.{first_error-asked, or_refusal-answered, or_refusal-some}
 use Rattle.codespan_laws.proofs.SortedLists.{all-append}
 
 module _ {Id : Type 0} {layout : Layout} {f : FileModel} where
@@ -41,14 +41,14 @@ numbers_asked-nothing Unbroken = refl
 module _ {Id : Type 0} (refusal : Refusals Id) (id : Id) (layout : Layout) where
   -- the first of the numbers of lines filled in by these steps that refuses
   abbrev pub numbers_refused : List Step → Option Error
-  numbers_refused steps = first_refusal refusal (asked_of id (numbers_asked layout (fills_of steps)))
+  numbers_refused steps = first_error refusal (asked_of id (numbers_asked layout (fills_of steps)))
 
   -- the numbers of some steps, and then those of others
   numbers_refused-append : (xs ys : List Step) → numbers_refused (xs ++ ys) ≡ or_refusal (numbers_refused xs) (numbers_refused ys)
   numbers_refused-append xs ys =
-      ap (λ (ls : List ℕ). first_refusal refusal (asked_of id (numbers_asked layout ls))) (flat_map-append fill_of xs ys)
-      ∙ ap (λ (ls : List Lookup). first_refusal refusal (asked_of id ls)) (numbers_asked-append layout (fills_of xs) (fills_of ys))
-      ∙ first_refusal-asked refusal id (numbers_asked layout (fills_of xs)) (numbers_asked layout (fills_of ys))
+      ap (λ (ls : List ℕ). first_error refusal (asked_of id (numbers_asked layout ls))) (flat_map-append fill_of xs ys)
+      ∙ ap (λ (ls : List Lookup). first_error refusal (asked_of id ls)) (numbers_asked-append layout (fills_of xs) (fills_of ys))
+      ∙ first_error-asked refusal id (numbers_asked layout (fills_of xs)) (numbers_asked layout (fills_of ys))
 
   -- of all steps some were added, and the rest is left
   pub record StepsLeft (f : FileModel) (whole rest : List Step) (old now : List (GivenStep Id)) : Type 0 where
@@ -64,7 +64,7 @@ left_all {Id} {refusal} {id} {layout} same none = record {
   taken = [];
   is_whole = same;
   adds = adds_nothing none;
-  answered = ap (λ (ls : List Lookup). first_refusal refusal (asked_of id ls)) (numbers_asked-nothing layout);
+  answered = ap (λ (ls : List Lookup). first_error refusal (asked_of id ls)) (numbers_asked-nothing layout);
 }
 
 module _ {Id : Type 0} {refusal : Refusals Id} {id : Id} {layout : Layout} {f : FileModel} {whole rest : List Step} {old now : List (GivenStep Id)} (left : StepsLeft refusal id layout f whole rest old now)

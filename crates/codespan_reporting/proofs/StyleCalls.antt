@@ -6,17 +6,12 @@ use Rattle.codespan_base.specs.declared.files.Error.{Error}
 use Rattle.codespan_base.specs.declared.term.config.Config.{Config}
 use Rattle.codespan_base.specs.declared.term.config.DisplayStyle.{DisplayStyle}
 use Rattle.codespan_base.specs.WriterLaw.{Sink}
-use Rattle.codespan_laws.specs.Meanings.{MeansLabels}
 use Rattle.codespan_reporting.specs.Output.{WritesStyled}
 use Rattle.codespan_base.specs.FileModel.{FileDatabase}
 
-module _ {Id : Type 0} {config k : Config} {d e : Diagnostic Id} (configs : k ≡ config) (diagnostics : e ≡ d) where
-  -- what the rich view's picture means
-  pub rich_means : {files : FileDatabase Id} {v : Config} → v ≡ config → MeansLabels k v files e → MeansLabels config config files d
-  rich_means {files} views means = transport (λ i. MeansLabels (configs i) (views i) files (diagnostics i)) means
-
-  module _ {files : FileDatabase Id} {style : DisplayStyle} {r : Result (Unit {0}) Error} {s t u w : Sink} (before : s ≡ t) (after : u ≡ w) where
-    -- what a view does in its style, by its configurations
-    pub view_drawn : {own : DisplayStyle} {v : Config} → own ≡ style → v ≡ config → WritesStyled own k v files e s r u → WritesStyled style config config files d t r w
-    view_drawn styles views draws =
-        transport (λ i. WritesStyled (styles i) (configs i) (views i) files (diagnostics i) (before i) r (after i)) draws
+module _ {Id : Type 0} {config k : Config} {d e : Diagnostic Id} (configs : k ≡ config) (diagnostics : e ≡ d) {files : FileDatabase Id} {style : DisplayStyle}
+    {r : Result (Unit {0}) Error} {s t u w : Sink} (before : s ≡ t) (after : u ≡ w) where
+  -- what a view does in its style, by its configurations
+  pub view_drawn : {own : DisplayStyle} {v : Config} → own ≡ style → v ≡ config → WritesStyled own k v files e s r u → WritesStyled style config config files d t r w
+  view_drawn styles views draws =
+      transport (λ i. WritesStyled (styles i) (configs i) (views i) files (diagnostics i) (before i) r (after i)) draws

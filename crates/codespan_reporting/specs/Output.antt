@@ -2,25 +2,21 @@
 -- write plain text, and those that write to a writer of styles. `Failures` says what an error
 -- means.
 use Rattle.std.specs.Prelude.{◌≡◌, true, ℕ, ◌⊎◌, List, ◌++◌, Option, Result, MatchResult}
-use Rattle.codespan_base.specs.declared.diagnostic.Diagnostic.{Diagnostic}
-use Rattle.codespan_base.specs.declared.files.Error.{Error}
-use Rattle.codespan_base.specs.declared.files.Error.TheVariants.{OutOfMemory}
-use Rattle.codespan_base.specs.declared.term.config.Config.{Config}
-use Rattle.codespan_base.specs.declared.term.config.DisplayStyle.{DisplayStyle}
-use Rattle.codespan_base.specs.declared.term.config.DisplayStyle.TheVariants.{Rich}
+use Rattle.codespan_picture.specs.Types.{Diagnostic, Error, OutOfMemory, Config, DisplayStyle, Rich}
 use Rattle.codespan_base.specs.FileModel.{FileDatabase}
 use Rattle.codespan_base.specs.Streams.{text_of}
 use Rattle.codespan_base.specs.WriterLaw.{GainedPartly, Gains, Sink, gained, is_told, refusing, sent, tells}
 use Rattle.codespan_laws.specs.Meanings.{MeansLabels}
 use Rattle.codespan_picture.specs.Picture.{AreLoci, NamesAreTexts, headers_at, output}
 use Rattle.codespan_picture.specs.Rows.{Locus}
-use Rattle.codespan_reporting.specs.Failures.{FailsAs, LookupsFail, LookupsSucceed}
+use Rattle.codespan_picture.specs.Lookups.{AllSucceed, IsLookupError, lookups_in}
+use Rattle.codespan_reporting.specs.Failures.{FailsAs}
 
 module _ {Id : Type 0} (view : Config) (files : FileDatabase Id) (d : Diagnostic Id)
     (style : DisplayStyle) where
   -- no lookup failed, and each name is a text
-  pub record IsAnswered (loci : List Locus) : Type 0 where
-    pub answered : LookupsSucceed view files d style
+  pub record Succeeds (loci : List Locus) : Type 0 where
+    pub lookups_succeed : AllSucceed files.refusal (lookups_in style view files d)
     pub texts : NamesAreTexts loci
 
 module _ {Id : Type 0} (config : Config) (files : FileDatabase Id) (d : Diagnostic Id) where
@@ -33,14 +29,15 @@ module _ {Id : Type 0} (config : Config) (files : FileDatabase Id) (d : Diagnost
   -- the text is that of the output with some loci, and in rich style the output means the labels
   pub record IsRendered (text : List ℕ) : Type 0 where
     pub loci : List Locus
-    pub are : AreLoci files d config.display_style loci
-    pub is : text ≡ text_at loci
-    pub ends : IsAnswered config files d config.display_style loci
-    pub meaning : config.display_style ≡ Rich → MeansLabels config config files d
+    pub are_loci : AreLoci files d config.display_style loci
+    pub text_is : text ≡ text_at loci
+    pub succeeds : Succeeds config files d config.display_style loci
+    pub means : config.display_style ≡ Rich → MeansLabels config config files d
 
-  -- the error is `OutOfMemory`, or that of a lookup
+  -- the error is `OutOfMemory`, or one of lookups
   abbrev pub IsEmitError : Error → Type 0
-  IsEmitError e = (e ≡ OutOfMemory) ⊎ LookupsFail config files d config.display_style e
+  IsEmitError e =
+      (e ≡ OutOfMemory) ⊎ IsLookupError files (lookups_in config.display_style config files d) e
 
   -- the call returns the text, or fails
   abbrev pub Emits : {T : Type 0} → (T → List ℕ) → Result T Error → Type 0
@@ -62,30 +59,35 @@ module _ {Id : Type 0} (config : Config) (files : FileDatabase Id) (d : Diagnost
   pub record Writes (old : Option (List ℕ)) (r : Result (Unit {0}) Error) (new : Option (List ℕ))
       : Type 0 where
     pub loci : List Locus
-    pub are : AreLoci files d config.display_style loci
+    pub are_loci : AreLoci files d config.display_style loci
     pub gains : tells old ≡ true
         → MatchResult r (λ _. new ≡ gained old (text_at config files d loci))
         (λ _. GainedPartly old (text_at config files d loci) new)
-    pub ends : MatchResult r (λ _. IsAnswered config files d config.display_style loci)
+    pub on_end : MatchResult r (λ _. Succeeds config files d config.display_style loci)
         (λ e. FailsAs config files d loci
         (new ≡ old)
         (λ wrote. tells old ≡ true → new ≡ gained old (text_of (headers_at config d wrote)))
         e config.display_style (Unit {0}) (Unit {0}))
-    pub meaning : config.display_style ≡ Rich → MeansLabels config config files d
+    pub means : config.display_style ≡ Rich → MeansLabels config config files d
 
 module _ {Id : Type 0} (style : DisplayStyle) (renderer view : Config) (files : FileDatabase Id)
     (d : Diagnostic Id) where
   -- the call writes the output with some loci, and where it fails a prefix of it, to a writer of
   -- styles; the frame, which is all of the writer but its bytes, is unchanged, but that the writer
   -- has failed where the error is its own
-  pub record WritesStyled (old : Sink) (r : Result (Unit {0}) Error) (new : Sink) : Type 0 where
+  pub record WritesOutput (old : Sink) (r : Result (Unit {0}) Error) (new : Sink) : Type 0 where
     pub loci : List Locus
-    pub are : AreLoci files d style loci
+    pub are_loci : AreLoci files d style loci
     pub gains : Gains old (output style renderer view files d loci) r new
-    pub ends :
+    pub on_end :
         MatchResult r
-        (λ _. (new.frame ≡ old.frame) × IsAnswered view files d style loci)
+        (λ _. (new.frame ≡ old.frame) × Succeeds view files d style loci)
         (λ e. FailsAs view files d loci
         (new ≡ old)
         (λ wrote. is_told old ≡ true → new ≡ sent old (headers_at renderer d wrote))
         e style (new.frame ≡ refusing old.frame) (new.frame ≡ old.frame))
+
+  -- the call writes the output, and whatever the result, in rich style the output means the labels
+  pub record WritesStyled (old : Sink) (r : Result (Unit {0}) Error) (new : Sink) : Type 0 where
+    pub writes : WritesOutput old r new
+    pub means : style ≡ Rich → MeansLabels renderer view files d

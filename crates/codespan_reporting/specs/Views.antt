@@ -1,9 +1,6 @@
 -- The views, as their contracts see them: a diagnostic, and a configuration or a style.
 use Rattle.std.specs.Prelude.{Bool, if◌then◌else◌}
-use Rattle.codespan_base.specs.declared.diagnostic.Diagnostic.{Diagnostic}
-use Rattle.codespan_base.specs.declared.term.config.Config.{Config}
-use Rattle.codespan_base.specs.declared.term.config.DisplayStyle.{DisplayStyle}
-use Rattle.codespan_base.specs.declared.term.config.DisplayStyle.TheVariants.{Medium, Short}
+use Rattle.codespan_picture.specs.Types.{Diagnostic, Config, DisplayStyle, Medium, Short}
 use Rattle.codespan_reporting.specs.declared.term.views.rich.RichDiagnostic.{RichDiagnostic}
 use Rattle.codespan_reporting.specs.declared.term.views.short.ShortDiagnostic.{ShortDiagnostic}
 

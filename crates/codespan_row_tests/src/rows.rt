@@ -147,6 +147,31 @@ fn wide_pointers(rt: HostRuntime) -> Result<(), Fail> {
     Ok(())
 }
 
+/// A combining character has no caret, and a wide one has two.
+#[test]
+fn wide_and_combining(rt: HostRuntime) -> Result<(), Fail> {
+    let labels = [
+        (LabelStyle::Primary, 1..4, "w"),
+        (LabelStyle::Secondary, 5..7, "m"),
+    ];
+    let given = Given::labelled("a路b\u{301}c", &labels);
+    let want = "1 │ a路b\u{301}c\n  │  ^^  m\n  │  │  \n  │  w\n";
+    assert_rows(&rt, rt.alloc(), &Config::default(), &given, want)?;
+    Ok(())
+}
+
+/// Carets stand under all cells of a character that a range cuts.
+#[test]
+fn moon_jump(rt: HostRuntime) -> Result<(), Fail> {
+    let message = "Cow does not start or end at boundary.";
+    let labels = [(LabelStyle::Secondary, 1..11, message)];
+    let given = Given::labelled("🐄🌑🐄🌒🐄🌓🐄🌔🐄🌕🐄🌖🐄🌗🐄🌘🐄", &labels);
+    let want = "1 │ 🐄🌑🐄🌒🐄🌓🐄🌔🐄🌕🐄🌖🐄🌗🐄🌘🐄\n\
+                \x20 │ ------ Cow does not start or end at boundary.\n";
+    assert_rows(&rt, rt.alloc(), &Config::default(), &given, want)?;
+    Ok(())
+}
+
 #[test]
 fn tab_stops(rt: HostRuntime) -> Result<(), Fail> {
     let table = [

@@ -11,7 +11,8 @@ use Rattle.std.proofs.lemmas.Str.{IsCharBoundary-before_ascii, IsUtf8-from_ascii
 use Rattle.std.proofs.lemmas.Str.Ascii.{IsAscii-from_all}
 use Rattle.codespan_base.specs.declared.files.Error.{Error}
 use Rattle.codespan_base.specs.declared.files.Error.TheVariants.{FileMissing, LineTooLarge}
-use Rattle.codespan_base.specs.FileModel.{FileModel, IsLawful, Lookup, RefusesPastEnd, line_of}
+use Rattle.codespan_base.specs.FileModel.{FileModel, Lookup, line_of}
+use Rattle.codespan_base.specs.LawfulFiles.{IsLawful, RefusesPastEnd}
 use Rattle.codespan_base.specs.FileModel.Lookup.{Source, LineRange}
 use Rattle.codespan_base.specs.Lemmas.Lines.{count_split}
 use Rattle.codespan_base.specs.Lemmas.Simple.{past_end_is}

@@ -4,13 +4,8 @@ use Rattle.std.specs.List.{range_with_len}
 use Rattle.std.specs.Fmt.{digits}
 use Rattle.std.specs.Option.{option_map_or}
 use Rattle.unicode_width.proofs.Computing.{unicode_width}
-use Rattle.codespan_base.specs.declared.term.config.Config.{Config}
-use Rattle.codespan_base.specs.declared.term.config.DisplayStyle.{DisplayStyle}
-use Rattle.codespan_base.specs.declared.term.config.DisplayStyle.TheVariants.{Rich, Medium, Short}
-use Rattle.codespan_base.specs.declared.diagnostic.Severity.{Severity}
+use Rattle.codespan_picture.specs.Types.{Config, DisplayStyle, Rich, Medium, Short, Severity, LabelStyle, Primary, Secondary}
 use Rattle.codespan_base.specs.declared.diagnostic.Severity.TheVariants.{Error}
-use Rattle.codespan_base.specs.declared.diagnostic.LabelStyle.{LabelStyle}
-use Rattle.codespan_base.specs.declared.diagnostic.LabelStyle.TheVariants.{Primary, Secondary}
 use Rattle.codespan_base.specs.FileModel.{FileModel, line_of}
 use Rattle.codespan_base.specs.SimpleModel.{simple_file, missing_file}
 use Rattle.codespan_base.specs.MappedModel.{mapped_file}
@@ -20,7 +15,7 @@ use Rattle.codespan_base.specs.Ansi.{ansi_style, ansi_reset, escape, ansi_bold, 
 use Rattle.codespan_picture.specs.declared.given.MultiLabel.TheVariants as given
 use Rattle.codespan_picture.specs.Given.{GivenMark}
 use Rattle.codespan_picture.specs.Rows.{Line}
-use Rattle.codespan_picture.specs.RowStreams.{row_words}
+use Rattle.codespan_picture.specs.RowWords.{row_words}
 use Rattle.codespan_picture.specs.Snippets.{InFile, labelled_files}
 use Rattle.codespan_picture.specs.Picture.{rendered, starts, stated_locus}
 

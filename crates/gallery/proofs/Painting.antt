@@ -1,19 +1,17 @@
 -- What is painted is the stream of the picture.
-use Rattle.std.proofs.Common.{◌≡◌, ℕ, Bool, true, List, ◌++◌, IsSome, None, Some, Result, Ok, Err, OnOk, refl, sym, ◌∙◌, ap}
+use Rattle.std.proofs.Common.{◌≡◌, ℕ, true, List, ◌++◌, IsSome, None, Some, Result, Ok, Err, OnOk, refl, sym, ◌∙◌, ap}
 use Rattle.std.specs.List.{slice_get}
 use Rattle.std.specs.Prelude.{Contains}
 use Rattle.std.specs.Option.{option_map_or}
 use Rattle.codespan_base.specs.declared.diagnostic.Diagnostic.{Diagnostic}
 use Rattle.codespan_base.specs.declared.files.Error.{Error}
 use Rattle.codespan_base.specs.declared.term.config.Config.{Config}
-use Rattle.codespan_base.specs.declared.term.config.DisplayStyle.{DisplayStyle}
-use Rattle.codespan_base.specs.declared.term.config.DisplayStyle.TheVariants.{Rich, Medium, Short}
-use Rattle.codespan_base.specs.FileModel.{FileDatabase, FileModel}
+use Rattle.codespan_base.specs.FileModel.{FileDatabase}
 use Rattle.codespan_base.specs.SimpleModel.{missing_file, simple_file, table_file}
 use Rattle.codespan_base.specs.Streams.{Spelling, Stream, spelled}
 use Rattle.codespan_base.specs.WriterLaw.{Sink, is_told, sent, tells, gained}
 use Rattle.codespan_base.specs.Writers.{fresh_sink}
-use Rattle.codespan_picture.specs.Lookups.{AllAnswered, Refusals, lookups_in}
+use Rattle.codespan_picture.specs.Lookups.{AllSucceed, lookups_in}
 use Rattle.codespan_picture.specs.Picture.{labels_of, picture}
 use Rattle.codespan_picture.specs.Snippets.{InFile}
 use Rattle.codespan_reporting.specs.Output.{WritesStyled}
@@ -25,9 +23,9 @@ module _ {Id : Type 0} (config : Config) (files : FileDatabase Id) (d : Diagnost
   -- a call that draws sends the stream of the picture, and no lookup was refused
   pub drawn_stream : (old new : Sink) (r : Result (Unit {0}) Error) → WritesStyled config.display_style config config files d old r new
       → NamesAreStated files d → is_told old ≡ true
-      → OnOk r (AllAnswered files.refusal (lookups_in config.display_style config files.same files.file files.refusal d) × (new ≡ sent old (picture config.display_style config config files d)))
+      → OnOk r (AllSucceed files.refusal (lookups_in config.display_style config files d) × (new ≡ sent old (picture config.display_style config config files d)))
   drawn_stream old new (Ok done) drawn stated told =
-      (drawn.ends.1.answered, drawn.gains told ∙ ap (sent old) (output_stated files d stated config.display_style config config drawn.loci drawn.are))
+      (drawn.writes.on_end.1.lookups_succeed, drawn.writes.gains told ∙ ap (sent old) (output_stated files d stated config.display_style config config drawn.writes.loci drawn.writes.are_loci))
   drawn_stream old new (Err error) drawn stated told = tt
 
 -- a fresh writer that told some bytes tells after them the stream that was sent

@@ -5,7 +5,7 @@ use Rattle.codespan_base.specs.declared.term.config.color.Color.TheVariants.{Bla
 use Rattle.codespan_base.specs.declared.term.config.Config.{Config}
 use Rattle.codespan_base.specs.declared.diagnostic.Diagnostic.{Diagnostic}
 use Rattle.codespan_base.specs.Streams.{spelled}
-use Rattle.codespan_picture.specs.Lookups.{AllAnswered, lookups_in}
+use Rattle.codespan_picture.specs.Lookups.{AllSucceed, lookups_in}
 use Rattle.codespan_picture.specs.Picture.{picture}
 use Rattle.codespan_base.specs.FileModel.{FileDatabase}
 use Rattle.gallery.specs.declared.case.Case.{Case}
@@ -137,8 +137,8 @@ svg_document glyphs =
 -- refused
 pub record IsPaintedOver {Id : Type 0} (config : Config) (files : FileDatabase Id)
     (d : Diagnostic Id) (runs : List InkedText) : Type 0 where
-  pub answered : AllAnswered files.refusal
-      (lookups_in config.display_style config files.same files.file files.refusal d)
+  pub answered : AllSucceed files.refusal
+      (lookups_in config.display_style config files d)
   pub is : all_told runs
       ≡ ink_number plain_ink
       ∷ spelled ink_spelling (picture config.display_style config config files d)

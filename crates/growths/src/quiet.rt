@@ -4,10 +4,11 @@ use crate::outcome::{Outcome, judge_made};
 use codespan_reporting::diagnostic::LabelStyle::{Primary, Secondary};
 use codespan_reporting::diagnostic::{Diagnostic, Label, LabelStyle, Severity};
 use codespan_reporting::files::{
-    Error, Files, Location, MappedFile, SimpleFile, SimpleFiles, column_index, line_starts,
+    Error, Files, Location, MappedFile, SimpleFile, SimpleFiles, column_index,
+    default_column_number, default_line_number, default_location, line_starts,
 };
 use codespan_reporting::term::{
-    Ansi, Chars, Config, Locus, MultiLabel, PlainWriter, Renderer, Styles, StylesWriter,
+    Ansi, Chars, Color, Config, Locus, MultiLabel, PlainWriter, Renderer, Styles, StylesWriter,
     WriteStyle, emit, lanes_in_order,
 };
 use std::alloc::Global;
@@ -105,6 +106,9 @@ fn are_right(alloc: Global, needs: Needs<'_>) -> Result<bool, Error> {
             && answers(&files, 0, 2)
             && answers(&mapped, (), 40)
             && matches!(files.get(1), Err(Error::FileMissing))
+            && is_got(&files)
+            && are_defaults(&files)
+            && are_styles(&Styles::default())
             && are_starts()
             && column_index("\n\n🗻∈🌏\n\n", 2..13, 10) == 2
             && are_made(alloc),
@@ -136,6 +140,41 @@ fn answers<'files, F: Files<'files>>(files: &'files F, id: F::FileId, number: us
         && files.name(id).is_ok()
         && matches!(files.line_index(id, 7), Ok(1))
         && matches!(files.column_number(id, 1, 7), Ok(3))
+}
+
+/// Whether the file that is there is had.
+fn is_got(files: &SimpleFiles<&str, &str>) -> bool {
+    match files.get(0) {
+        Ok(file) => file.source().as_str() == TEXT,
+        Err(_) => false,
+    }
+}
+
+/// Whether the calls that stand for a table's own lookups answer as they should, of the byte 7.
+fn are_defaults(files: &SimpleFiles<&str, &str>) -> bool {
+    let is_place = match default_location(files, 0, 7) {
+        Ok(place) => place.line_number == 2 && place.column_number == 3,
+        Err(_) => false,
+    };
+    is_place
+        && matches!(default_line_number(1), Ok(2))
+        && matches!(
+            default_line_number(usize::MAX),
+            Err(Error::LineTooLarge { .. })
+        )
+        && matches!(default_column_number(files, 0, 1, 7), Ok(3))
+}
+
+/// Whether each lookup of the default styles gives what it should.
+fn are_styles(styles: &Styles) -> bool {
+    let mark = Some(Color::Cyan);
+    styles.header(Severity::Warning).fg == Some(Color::Yellow)
+        && styles.header_message().bold
+        && styles.line_number().fg == mark
+        && styles.note_bullet().fg == mark
+        && styles.source_border().fg == mark
+        && styles.label(Severity::Bug, Primary).fg == Some(Color::Red)
+        && styles.label(Severity::Bug, Secondary).fg == mark
 }
 
 /// Whether the lines of a text start where they should.

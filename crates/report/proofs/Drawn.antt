@@ -1,5 +1,5 @@
 -- What is drawn of what a diagnostic says.
-use Rattle.std.proofs.Common.{◌≡◌, ℕ, true, List, [], ◌∷◌, map, Some, Result, Ok, Err, IfOk, refl, ap, ◌∙◌}
+use Rattle.std.proofs.Common.{◌≡◌, ℕ, true, List, [], ◌∷◌, map, Result, Ok, Err, IfOk, refl, ap, ◌∙◌}
 use Rattle.codespan_base.specs.declared.diagnostic.Diagnostic.{Diagnostic}
 use Rattle.codespan_base.specs.declared.diagnostic.Label.{Label}
 use Rattle.codespan_base.specs.declared.files.Error.{Error}
@@ -43,8 +43,8 @@ module _ (style : DisplayStyle) (d : Diagnostic (Unit {0})) where
       → (named held : List ℕ) → name ≡ named → source ≡ held → text ≡ picture_text style named held (diagnostic_view d)
   unfolding picture_text
   drawn_text name source config refusal text alike drawn named held n s =
-      drawn.is
-      ∙ ap text_of (output_stated (table_at name source refusal) d (λ x has. refl) style (record config { display_style = style }) (record config { display_style = style }) drawn.loci drawn.are)
+      drawn.text_is
+      ∙ ap text_of (output_stated (table_at name source refusal) d (λ x has. refl) style (record config { display_style = style }) (record config { display_style = style }) drawn.loci drawn.are_loci)
       ∙ ap text_of (rendered_alike (config_of style) (record config { display_style = style }) (restyled default_config config style alike) d.severity (heading_of d)
       (map stated_locus (starts (λ i j. true) (only_file name source) (labels_of d) style)) (labelled_files (λ i j. true) (only_file name source) (labels_of d)) (notes_of d) style)
       ∙ ap (λ m. text_of (drawn_by (config_of style) m source (labels_of d))) n

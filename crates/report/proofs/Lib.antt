@@ -5,3 +5,4 @@ pub mod Words
 pub mod ScriptCuts
 pub mod FaultPlaces
 pub mod ReadBack
+mod Received

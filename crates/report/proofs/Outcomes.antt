@@ -4,7 +4,7 @@ use Rattle.std.specs.Str.{IsUtf8}
 use Rattle.report.specs.declared.fault.Fault.{Fault}
 use Rattle.report.specs.declared.fault.Fault.TheVariants.{WrongArguments, CannotReadInput, NotUtf8, Drawing, BadScript, CannotWriteOutput}
 use Rattle.report.specs.Drawings.{drawing_of}
-use Rattle.report.specs.Faults.{FaultTells, IfBadScript, IsStatusOf}
+use Rattle.report.specs.Faults.{AppendsPrefix, FaultTells, IfBadScript, IsStatusOf, StaysUnlessDrawn, refused_output_line}
 use Rattle.report.specs.Requests.{AskedView, WhereKnown, asked_of}
 
 -- the status is one of four
@@ -53,29 +53,18 @@ faulty_by_status (Err (Drawing error)) status is three follows = absurd (omega a
 faulty_by_status (Err (BadScript picture)) status is three follows = follows picture refl
 faulty_by_status (Err CannotWriteOutput) status is three follows = absurd (omega arith)
 
--- at wrong arguments the output stays
-pub kept_at_wrong : (outcome : Result (Unit {0}) Fault) {X : Type 0} → IfErr outcome (λ fault. fault ≢ CannotWriteOutput → X)
-    → IsErrOf outcome WrongArguments → X
-kept_at_wrong (Ok done) kept wrong = absurd (cc wrong)
-kept_at_wrong (Err fault) kept wrong = kept (λ output. cc (wrong, output))
-
--- at a script's fault the output stays
-pub kept_at_faulty : (outcome : Result (Unit {0}) Fault) (status : ℕ) {X : Type 0} → IsStatusOf outcome status → status ≡ 3
-    → IfErr outcome (λ fault. fault ≢ CannotWriteOutput → X) → X
-kept_at_faulty (Ok done) status is three kept = absurd (omega arith)
-kept_at_faulty (Err WrongArguments) status is three kept = absurd (omega arith)
-kept_at_faulty (Err CannotReadInput) status is three kept = absurd (omega arith)
-kept_at_faulty (Err NotUtf8) status is three kept = absurd (omega arith)
-kept_at_faulty (Err (Drawing error)) status is three kept = absurd (omega arith)
-kept_at_faulty (Err (BadScript picture)) status is three kept = kept (λ output. cc output)
-kept_at_faulty (Err CannotWriteOutput) status is three kept = absurd (omega arith)
-
 -- what follows from a fact of two known values
 known_weaker : {A B : Type 0} (a : Option A) (b : Option B) (P Q : A → B → Type 0) → ((x : A) (y : B) → P x y → Q x y)
     → IfSome a (λ x. IfSome b (P x)) → IfSome a (λ x. IfSome b (Q x))
 known_weaker None b P Q follows known = tt
 known_weaker (Some x) None P Q follows known = tt
 known_weaker (Some x) (Some y) P Q follows known = follows x y known
+
+-- the same of a fact that always holds
+stays : {A B : Type 0} (a : Option A) (b : Option B) (X : Type 0) (Y : A → B → Type 0) → X → IfSome a (λ x. IfSome b (λ y. X ⊎ Y x y))
+stays None b X Y held = tt
+stays (Some x) None X Y held = tt
+stays (Some x) (Some y) X Y held = inl held
 
 -- where the source is not UTF-8 the output stays
 pub kept_at_not_utf8 : (words : List (List ℕ)) (bytes : Option (List ℕ)) (X : Type 0) (outcome : Result (Unit {0}) Fault)
@@ -135,3 +124,32 @@ faulty_status words bytes (Err fault) status X Wrote is drawn tells kept =
     known_weaker (asked_of words) bytes (FaultTells fault)
     (λ asked source. (picture : List ℕ) → drawing_of asked source ≡ Err picture → ((status ≡ 3) ⊎ (status ≡ 1)) × X)
     (λ asked source told picture bad. faulty_fault fault status X asked source picture is told kept bad) tells
+
+-- the output stays, or its whole picture was drawn
+pub stays_unless_drawn : (outcome : Result (Unit {0}) Fault) (status : ℕ) (X : Type 0) (old new : Option (List ℕ))
+    → IsStatusOf outcome status
+    → (IsErrOf outcome CannotWriteOutput → AppendsPrefix old new refused_output_line)
+    → IfErr outcome (λ fault. fault ≢ CannotWriteOutput → X)
+    → StaysUnlessDrawn X status old new
+stays_unless_drawn (Ok done) status X old new is line kept = inr (inl is)
+stays_unless_drawn (Err WrongArguments) status X old new is line kept = inl (kept (λ output. cc output))
+stays_unless_drawn (Err CannotReadInput) status X old new is line kept = inl (kept (λ output. cc output))
+stays_unless_drawn (Err NotUtf8) status X old new is line kept = inl (kept (λ output. cc output))
+stays_unless_drawn (Err (Drawing error)) status X old new is line kept = inl (kept (λ output. cc output))
+stays_unless_drawn (Err (BadScript picture)) status X old new is line kept = inl (kept (λ output. cc output))
+stays_unless_drawn (Err CannotWriteOutput) status X old new is line kept = inr (inr (is, line refl))
+
+-- where the output does not stay, a prefix of the picture came to it
+pub prefix_written : (words : List (List ℕ)) (bytes : Option (List ℕ)) (outcome : Result (Unit {0}) Fault) (status : ℕ) (X : Type 0) (Wrote : AskedView → List ℕ → Type 0)
+    → IsStatusOf outcome status → status ≡ 1
+    → (IsErrOf outcome CannotWriteOutput → WhereKnown words bytes Wrote)
+    → IfErr outcome (λ fault. fault ≢ CannotWriteOutput → X)
+    → WhereKnown words bytes (λ asked source. X ⊎ Wrote asked source)
+prefix_written words bytes (Ok done) status X Wrote is one wrote kept = absurd (omega arith)
+prefix_written words bytes (Err WrongArguments) status X Wrote is one wrote kept = absurd (omega arith)
+prefix_written words bytes (Err CannotReadInput) status X Wrote is one wrote kept = stays (asked_of words) bytes X Wrote (kept (λ output. cc output))
+prefix_written words bytes (Err NotUtf8) status X Wrote is one wrote kept = stays (asked_of words) bytes X Wrote (kept (λ output. cc output))
+prefix_written words bytes (Err (Drawing error)) status X Wrote is one wrote kept = stays (asked_of words) bytes X Wrote (kept (λ output. cc output))
+prefix_written words bytes (Err (BadScript picture)) status X Wrote is one wrote kept = stays (asked_of words) bytes X Wrote (kept (λ output. cc output))
+prefix_written words bytes (Err CannotWriteOutput) status X Wrote is one wrote kept =
+    known_weaker (asked_of words) bytes Wrote (λ asked source. X ⊎ Wrote asked source) (λ asked source came. inr came) (wrote refl)

@@ -3,8 +3,9 @@
 ghost use Rattle.std.specs.Prelude.{◌≡◌, IfSome, OnOk};
 ghost use Rattle.std.specs.Fmt.{with_newline};
 ghost use Rattle.std.specs.Io.KnownBytes.{Appends};
-ghost use Rattle.report.specs.declared.fault.Fault.TheVariants.{Drawing};
+ghost use Rattle.report.specs.declared.fault.Fault.TheVariants.{CannotWriteOutput, Drawing};
 
+use crate::streams::write_whole;
 use codespan_reporting::files::Error;
 use std::io::Write;
 use std::{fmt, io};
@@ -27,14 +28,20 @@ pub enum Fault {
 }
 
 impl Fault {
-    ghost use Rattle.report.specs.Faults.{fault_text};
+    ghost use Rattle.report.specs.Faults.{AppendsPrefix, fault_text, refused_output_line};
 
-    /// Writes the fault's line.
+    /// Writes the fault's line, and where it is refused a prefix of it, which is promised of the line of a refused output.
     pub fn write_line<W: Write>(&self, faults: &mut W) -> io::Result<()>
-        ensures { OnOk result (IfSome (with_newline (fault_text self.now))
+        ensures written { OnOk result (IfSome (with_newline (fault_text self.now))
             (Appends (W.contents faults.old) (W.contents faults.new))) }
+        ensures begun { self.now ≡ CannotWriteOutput
+            → AppendsPrefix (W.contents faults.old) (W.contents faults.new) refused_output_line }
     {
-        writeln!(faults, "{self}")
+        match self {
+            // The contract of `writeln!` leaves open what a refused one has written.
+            Fault::CannotWriteOutput => write_whole(faults, b"report: cannot write output\n"),
+            _ => writeln!(faults, "{self}"),
+        }
     }
 }
 

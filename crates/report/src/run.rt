@@ -4,7 +4,7 @@ ghost use Rattle.std.specs.Prelude.{◌≡◌, ◌≢◌, ◌≤◌, ◌↔◌, 
 ghost use Rattle.std.specs.Io.KnownBytes.{Appends, IsAtEnd};
 ghost use Rattle.std.specs.Str.{IsUtf8};
 ghost use Rattle.report.specs.Drawings.{drawing_of};
-ghost use Rattle.report.specs.Faults.{FaultTells, IfBadScript, IsStatusOf};
+ghost use Rattle.report.specs.Faults.{AppendsPrefix, FaultTells, IfBadScript, IsStatusOf, StaysUnlessDrawn, refused_output_line};
 ghost use Rattle.report.specs.Requests.{WhereKnown, asked_of};
 
 use crate::drawing::draw;
@@ -18,6 +18,9 @@ use std::io::{Read, Write};
 ///
 /// Where nothing is drawn, or the output is refused, it tells why to `faults`: the fault of a script as its picture, and any other in one
 /// line. The status 3 is answered where a script's fault was told whole; any other refusal of `faults` is ignored.
+///
+/// The output is changed only where the whole picture was drawn: where the status is 0, or it is 1 and `faults` has received nothing but
+/// the line of a refused output or a prefix of it.
 pub fn run<R: Read, W: Write, E: Write>(
     alloc: Global,
     args: &[String],
@@ -28,7 +31,6 @@ pub fn run<R: Read, W: Write, E: Write>(
     ensures status { result ≤ 3 }
     ensures usage { (result ≡ 2) ↔ (asked_of (map string_bytes args.now) ≡ None) }
     ensures unread { result ≡ 2 → input.new ≡ input.old }
-    ensures unwritten { result ≡ 2 → output.new ≡ output.old }
     ensures silent { result ≡ 0 → faults.new ≡ faults.old }
     ensures read { result ≡ 0 → IsAtEnd (R.remaining input.new) }
     ensures drawn { result ≡ 0 → WhereKnown (map string_bytes args.now) (R.remaining input.old)
@@ -46,7 +48,12 @@ pub fn run<R: Read, W: Write, E: Write>(
     ensures faulty { WhereKnown (map string_bytes args.now) (R.remaining input.old) (λ asked source.
         (picture : List ℕ) → drawing_of asked source ≡ Err picture → ((result ≡ 3) ⊎ (result ≡ 1))
         × (output.new ≡ output.old)) }
-    ensures undrawn { result ≡ 3 → output.new ≡ output.old }
+    ensures undrawn { StaysUnlessDrawn (output.new ≡ output.old) result
+        (E.contents faults.old) (E.contents faults.new) }
+    ensures begun { result ≡ 1 → WhereKnown (map string_bytes args.now) (R.remaining input.old)
+        (λ asked source. (output.new ≡ output.old)
+        ⊎ ((picture : List ℕ) × (drawing_of asked source ≡ Ok picture)
+        × AppendsPrefix (W.contents output.old) (W.contents output.new) picture)) }
 {
     conclude(report(alloc, args, input, output), faults)
 }
@@ -61,6 +68,8 @@ pub fn conclude<E: Write>(outcome: Result<(), Fault>, faults: &mut E) -> u8
         (λ fault. IfBadScript fault
         (λ picture. Appends (E.contents faults.old) (E.contents faults.new)
         (string_bytes picture))) }
+    ensures begun { IsErrOf outcome Fault.CannotWriteOutput
+        → AppendsPrefix (E.contents faults.old) (E.contents faults.new) refused_output_line }
 {
     match outcome {
         Ok(()) => 0,
@@ -99,6 +108,10 @@ fn report<R: Read, W: Write>(
         WhereKnown (map string_bytes args.now) (R.remaining input.old) (FaultTells fault)) }
     ensures kept { IfErr result (λ fault. fault ≢ Fault.CannotWriteOutput
         → output.new ≡ output.old) }
+    ensures begun { IsErrOf result Fault.CannotWriteOutput
+        → WhereKnown (map string_bytes args.now) (R.remaining input.old) (λ asked source.
+        (picture : List ℕ) × (drawing_of asked source ≡ Ok picture)
+        × AppendsPrefix (W.contents output.old) (W.contents output.new) picture) }
 {
     let asked = Asked::from_arguments(args).ok_or(Fault::WrongArguments)?;
     let source = read_source(alloc, input)?;

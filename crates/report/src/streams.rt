@@ -3,11 +3,12 @@
 ghost use Rattle.std.specs.Prelude.{◌≡◌, ◌⊎◌, IfOk, IfErr, IfSome, OnOk, IsErrOf, string_bytes};
 ghost use Rattle.std.specs.Io.KnownBytes.{Appends, IsAtEnd};
 ghost use Rattle.std.specs.Str.{IsUtf8};
+ghost use Rattle.report.specs.Faults.{AppendsPrefix};
 
 use crate::fault::Fault;
 use std::alloc::Global;
 use std::io;
-use std::io::{Read, Write};
+use std::io::{ErrorKind, Read, Write};
 
 /// The whole input, as a text.
 pub fn read_source<R: Read>(alloc: Global, input: &mut R) -> Result<String, Fault>
@@ -34,6 +35,7 @@ pub fn read_source<R: Read>(alloc: Global, input: &mut R) -> Result<String, Faul
 pub fn write_text<W: Write>(output: &mut W, text: &str) -> Result<(), Fault>
     ensures written { OnOk result (Appends (W.contents output.old)
         (W.contents output.new) text.now) }
+    ensures begun { AppendsPrefix (W.contents output.old) (W.contents output.new) text.now }
     ensures refused { IfErr result (λ fault. fault ≡ Fault.CannotWriteOutput) }
 {
     match write_and_flush(output, text) {
@@ -44,8 +46,34 @@ pub fn write_text<W: Write>(output: &mut W, text: &str) -> Result<(), Fault>
 
 /// The same, with the cause of a refusal.
 fn write_and_flush<W: Write>(output: &mut W, text: &str) -> io::Result<()>
-    ensures { OnOk result (Appends (W.contents output.old) (W.contents output.new) text.now) }
+    ensures written { OnOk result (Appends (W.contents output.old)
+        (W.contents output.new) text.now) }
+    ensures begun { AppendsPrefix (W.contents output.old) (W.contents output.new) text.now }
 {
-    output.write_all(text.as_bytes())?;
+    write_whole(output, text.as_bytes())?;
     output.flush()
+}
+
+/// Writes all the bytes, and where it is refused a prefix of them. An interrupted write is tried again.
+///
+/// That is what `write_all` does, but its contract leaves open what a refused one has written.
+pub fn write_whole<W: Write>(writer: &mut W, bytes: &[u8]) -> io::Result<()>
+    ensures written { OnOk result (Appends (W.contents writer.old)
+        (W.contents writer.new) bytes.now) }
+    ensures begun { AppendsPrefix (W.contents writer.old) (W.contents writer.new) bytes.now }
+{
+    let mut rest = bytes;
+    // No run makes as many writes.
+    for _ in 0..u64::MAX {
+        if rest.is_empty() {
+            return Ok(());
+        }
+        match writer.write(rest) {
+            Ok(0) => return Err(io::Error::from(ErrorKind::WriteZero)),
+            Ok(count) => rest = &rest[count..],
+            Err(error) if error.kind() == ErrorKind::Interrupted => {}
+            Err(error) => return Err(error),
+        }
+    }
+    Err(io::Error::from(ErrorKind::Other))
 }

@@ -1,7 +1,7 @@
 //! Columns and locations as most files count them, for tables of files that count so.
 
 ghost use Rattle.std.specs.Prelude.{◌≡◌, ◌+◌, IfOk};
-ghost use Rattle.codespan_files.specs.FileModel.{Tells, column_of, location_of, column_refusal, location_refusal};
+ghost use Rattle.codespan_files.specs.LawfulFiles.{Tells, column_of, location_of, column_refusal, location_refusal};
 
 use crate::files::{Error, Files, Location};
 use std::convert::AsStr;

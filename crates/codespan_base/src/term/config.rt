@@ -1,7 +1,7 @@
 //! The configuration of a picture, and the writers that it is sent to.
 
 ghost use Rattle.std.specs.Prelude.{◌≡◌, Ok, IsTrue, IfOk, OnErr, IsErrOf};
-ghost use Rattle.codespan_base.specs.Characters.{is_fixed};
+ghost use Rattle.codespan_base.specs.SnippetStarts.{is_fixed};
 ghost use Rattle.codespan_base.specs.Lookalikes.{IsConfig};
 ghost use Rattle.codespan_base.specs.Defaults.{default_config};
 

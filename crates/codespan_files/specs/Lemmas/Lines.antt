@@ -6,7 +6,8 @@ use Rattle.std.proofs.lemmas.Bool.Decides.{eqb_tells}
 use Rattle.std.proofs.lemmas.List.{drop_more, drop_all}
 use Rattle.std.proofs.lemmas.List.Sums.{sum_by-cons, count_by-le-length}
 use Rattle.codespan_files.specs.Lines.{starts_after}
-use Rattle.codespan_files.specs.FileModel.{FileModel, IsLawful, line_count, line_of}
+use Rattle.codespan_files.specs.FileModel.{FileModel, line_count, line_of}
+use Rattle.codespan_files.specs.LawfulFiles.{IsLawful}
 
 -- the starts xs after the newlines of bs, of which the first byte stands at `from`
 pub record Cuts (from : ℕ) (bs xs : List ℕ) : Type 0 where

@@ -5,7 +5,7 @@ use Rattle.std.proofs.lemmas.Str.{IsCharBoundary-before_ascii, IsCharBoundary-en
 use Rattle.std.proofs.lemmas.List.{get_or_append_left, get_or_push, get_or-map, length-append, length-map}
 use Rattle.codespan_files.specs.Lines.{line_starts_of, starts_after}
 use Rattle.codespan_files.specs.Lemmas.Lines.{cuts}
-use Rattle.codespan_files.specs.FileModel.{IsLawful, RefusesPastEnd}
+use Rattle.codespan_files.specs.LawfulFiles.{IsLawful, RefusesPastEnd}
 use Rattle.codespan_files.specs.FileModel.Lookup.{LineRange}
 use Rattle.codespan_files.specs.Lemmas.Simple.{ascending, last_or_not, simple_lawful, simple_past_end, start_cut}
 use Rattle.codespan_files.specs.MappedModel.{mapped_file, mapped_ends, mapped_refusal}

@@ -7,7 +7,8 @@ use Rattle.std.proofs.Common.{get_or}
 use Rattle.std.specs.Str.{IsCharBoundary}
 use Rattle.std.proofs.lemmas.Str.{IsUtf8-nil}
 use Rattle.codespan_files.specs.declared.files.error.Error.{Error}
-use Rattle.codespan_files.specs.FileModel.{FileModel, Lookup, IsLawful, RefusesPastEnd}
+use Rattle.codespan_files.specs.FileModel.{FileModel, Lookup}
+use Rattle.codespan_files.specs.LawfulFiles.{IsLawful, RefusesPastEnd}
 use Rattle.codespan_files.specs.FileModel.Lookup.{LineRange}
 use Rattle.codespan_files.specs.SimpleModel.{missing_file, missing_refusal}
 

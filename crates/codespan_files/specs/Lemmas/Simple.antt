@@ -20,7 +20,8 @@ use Rattle.std.proofs.lemmas.List.{get_or_append_left, get_or_push, length-appen
 use Rattle.codespan_files.specs.Lines.{line_starts_of, starts_after}
 use Rattle.codespan_files.specs.SimpleModel.{simple_file, simple_refusal, line_ends}
 use Rattle.codespan_files.specs.declared.files.Location.{Location}
-use Rattle.codespan_files.specs.FileModel.{FileModel, IsLawful, RefusesPastEnd, TellsPastEnd, or_refusal}
+use Rattle.codespan_files.specs.FileModel.{FileModel, or_refusal}
+use Rattle.codespan_files.specs.LawfulFiles.{IsLawful, RefusesPastEnd, TellsPastEnd}
 use Rattle.codespan_files.specs.FileModel.Lookup.{LineRange}
 use Rattle.codespan_files.specs.Lemmas.Lines.{cuts, count_split}
 

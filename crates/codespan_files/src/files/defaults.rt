@@ -1,7 +1,7 @@
 //! Line numbers as most files count them, for tables of files that count so.
 
 ghost use Rattle.std.specs.Prelude.{◌≡◌, ◌+◌, IfOk};
-ghost use Rattle.codespan_files.specs.FileModel.{NeedsNoMemory, Tells, line_number_refusal};
+ghost use Rattle.codespan_files.specs.LawfulFiles.{NeedsNoMemory, Tells, line_number_refusal};
 
 use crate::files::Error;
 

@@ -51,7 +51,7 @@ impl<Name: Drop, Source: AsStr + Drop> MappedFile<Name, Source> {
 
 impl<Name, Source: AsStr> MappedFile<Name, Source> {
     ghost use Rattle.codespan_files.specs.FileTables.{mapped_name_of, mapped_source_of, mapped_text_of, settings_of};
-    ghost use Rattle.codespan_files.specs.FileModel.{Tells};
+    ghost use Rattle.codespan_files.specs.LawfulFiles.{Tells};
     ghost use Rattle.codespan_files.specs.SimpleModel.{past_end};
     ghost use Rattle.codespan_files.specs.MappedModel.{setting, with_number};
 
@@ -114,7 +114,8 @@ impl<'a, Name: Display + 'a, Source: AsStr + 'a> Files<'a> for MappedFile<Name, 
     ghost use Rattle.codespan_files.specs.FileTables.{mapped_error_of, mapped_file_of, mapped_name_of, mapped_text_of, settings_of};
     ghost use Rattle.codespan_files.specs.SimpleModel.{past_end};
     ghost use Rattle.codespan_files.specs.MappedModel.{mapped_column, mapped_location, number_from, setting};
-    ghost use Rattle.codespan_files.specs.FileModel.{IsLineRange, NeedsNoMemory, Tells, line_of};
+    ghost use Rattle.codespan_files.specs.FileModel.{line_of};
+    ghost use Rattle.codespan_files.specs.LawfulFiles.{IsLineRange, NeedsNoMemory, Tells};
     ghost use Rattle.codespan_files.specs.FileModel.Lookup.{LineNumber, LocationAt};
     ghost use Rattle.codespan_files.specs.Lemmas.Mapped.{mapped_lawful, mapped_past_end};
     ghost use Rattle.std.proofs.lemmas.Str.{IsUtf8-had};

@@ -64,7 +64,8 @@ impl<Name, Source: AsStr> SimpleFile<Name, Source> {
 impl<'a, Name: Display + 'a, Source: AsStr + 'a> Files<'a> for SimpleFile<Name, Source> {
     ghost use Rattle.codespan_files.specs.FileTables.{file_of, name_of, text_of};
     ghost use Rattle.codespan_files.specs.SimpleModel.{simple_refusal, simple_column, simple_location, past_end};
-    ghost use Rattle.codespan_files.specs.FileModel.{IsLineRange, NeedsNoMemory, Tells, line_of, line_number_refusal};
+    ghost use Rattle.codespan_files.specs.FileModel.{line_of};
+    ghost use Rattle.codespan_files.specs.LawfulFiles.{IsLineRange, NeedsNoMemory, Tells, line_number_refusal};
     ghost use Rattle.codespan_files.specs.Lemmas.Simple.{simple_lawful, simple_past_end, text_fits, text_is_utf8};
 
     /// There is one file.

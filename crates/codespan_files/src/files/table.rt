@@ -66,7 +66,8 @@ impl<Name, Source: AsStr> SimpleFiles<Name, Source> {
 impl<'a, Name: Display + 'a, Source: AsStr + 'a> Files<'a> for SimpleFiles<Name, Source> {
     ghost use Rattle.codespan_files.specs.FileTables.{entries, error_in, file_in, name_of, source_of, text_of};
     ghost use Rattle.codespan_files.specs.SimpleModel.{simple_refusal};
-    ghost use Rattle.codespan_files.specs.FileModel.{IsLineRange, NeedsNoMemory, Tells, line_of, line_number_refusal};
+    ghost use Rattle.codespan_files.specs.FileModel.{line_of};
+    ghost use Rattle.codespan_files.specs.LawfulFiles.{IsLineRange, NeedsNoMemory, Tells, line_number_refusal};
     ghost use Rattle.codespan_files.specs.FileModel.Lookup.{Name as NameLookup, Source as SourceLookup, LineIndex, LineNumber, ColumnNumber, LocationAt, LineRange};
     ghost use Rattle.codespan_files.specs.Lemmas.Simple.{simple_lawful, simple_past_end, text_fits, text_is_utf8};
     ghost use Rattle.codespan_files.specs.Lemmas.Missing.{table_lawful, past_end_or, same_at};

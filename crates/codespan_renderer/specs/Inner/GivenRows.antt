@@ -2,8 +2,7 @@
 use Rattle.std.specs.Prelude.{ℕ, List, ◌++◌, filter, Option}
 use Rattle.std.specs.Option.{option_map}
 use Rattle.std.specs.Borrow.{Bor}
-use Rattle.codespan_base.specs.declared.diagnostic.LabelStyle.{LabelStyle}
-use Rattle.codespan_base.specs.declared.diagnostic.Severity.{Severity}
+use Rattle.codespan_picture.specs.Types.{LabelStyle, Severity}
 use Rattle.codespan_base.specs.Labels.{has_message}
 use Rattle.codespan_base.specs.Streams.{Stream, Header, bytes, newline, one_mark, space}
 use Rattle.codespan_picture.specs.declared.cells.Cell.{Cell}

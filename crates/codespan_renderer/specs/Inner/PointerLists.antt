@@ -2,7 +2,7 @@
 use Rattle.std.specs.Prelude.{◌≡◌, ℕ, ◌+◌, ◌-◌, ◌^◌, ◌<◌, ◌≤◌, length, slice_index_or, true, nat_lt, min, List, [], ◌∷◌, ◌++◌, filter, drop, Option}
 use Rattle.std.specs.Option.{option_map}
 use Rattle.std.specs.List.{filter_map}
-use Rattle.codespan_base.specs.declared.diagnostic.LabelStyle.{LabelStyle}
+use Rattle.codespan_picture.specs.Types.{LabelStyle}
 use Rattle.codespan_base.specs.Labels.{Labelled, has_message}
 use Rattle.codespan_base.specs.Streams.{Stream, blanks}
 use Rattle.codespan_picture.specs.declared.cells.Cell.{Cell}

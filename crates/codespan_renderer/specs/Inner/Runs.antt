@@ -3,9 +3,7 @@ use Rattle.std.specs.Prelude.{◌≡◌, ℕ, Bool, List, ◌++◌, map, filter,
 use Rattle.std.specs.List.{list_any}
 use Rattle.std.specs.Option.{option_map}
 use Rattle.std.specs.Borrow.{Bor}
-use Rattle.codespan_base.specs.declared.diagnostic.LabelStyle.{LabelStyle}
-use Rattle.codespan_base.specs.declared.diagnostic.LabelStyle.TheVariants.{Primary}
-use Rattle.codespan_base.specs.declared.term.config.chars.Chars.{Chars}
+use Rattle.codespan_picture.specs.Types.{LabelStyle, Primary, Chars}
 use Rattle.codespan_base.specs.Labels.{Labelled, has_message}
 use Rattle.codespan_base.specs.Streams.{Stream, blanks, repeated}
 use Rattle.codespan_picture.specs.declared.cells.Cell.{Cell}

@@ -1,7 +1,6 @@
 -- An underline by the number of cells that its line runs over.
 use Rattle.std.specs.Prelude.{ℕ, List, [], ◌++◌}
-use Rattle.codespan_base.specs.declared.diagnostic.LabelStyle.{LabelStyle}
-use Rattle.codespan_base.specs.declared.term.config.chars.Chars.{Chars}
+use Rattle.codespan_picture.specs.Types.{LabelStyle, Chars}
 use Rattle.codespan_base.specs.Labels.{MultiLabel, Top, Left, Bottom}
 use Rattle.codespan_base.specs.Streams.{Stream, glyph, repeated}
 use Rattle.codespan_picture.specs.declared.cells.Cell.{Cell}

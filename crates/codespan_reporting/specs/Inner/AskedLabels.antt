@@ -1,12 +1,10 @@
 -- Labels whose lines are asked for, one after another.
-use Rattle.std.specs.Prelude.{◌≡◌, ℕ, ◌<◌, ◌≤◌, Bool, true, false, List, ◌++◌, flat_map, fold, max, Option, Some, IfOk, Result}
-use Rattle.codespan_base.specs.declared.diagnostic.Label.{Label}
-use Rattle.codespan_base.specs.declared.files.Error.{Error}
-use Rattle.codespan_base.specs.declared.term.config.Config.{Config}
-use Rattle.codespan_base.specs.FileModel.{FileDatabase, FileModel, line_count}
-use Rattle.codespan_base.specs.FileModel.Lookup.{LineRange}
+use Rattle.std.specs.Prelude.{◌≡◌, ℕ, ◌<◌, ◌≤◌, Bool, true, false, List, ◌++◌, flat_map, fold, max, Option, Some, IfOk, Result, ◌&&◌, nat_lt, None, if◌then◌else◌}
+use Rattle.codespan_picture.specs.Types.{Label, Error, Config}
+use Rattle.codespan_base.specs.FileModel.{FileDatabase, FileModel, line_count, Lookup, or_refusal}
+use Rattle.codespan_base.specs.FileModel.Lookup.{LineRange, LineNumber}
 use Rattle.codespan_base.specs.Labels.{Labelled}
-use Rattle.codespan_picture.specs.Lookups.{Refusals, asked_lines, ends_context, first_refusal, is_asked, label_lookups, line_refusal, of_label, of_line, probe}
+use Rattle.codespan_picture.specs.Lookups.{Refusals, asked_lines, ends_context, first_error, is_asked, label_lookups, of_label, of_line, probe}
 use Rattle.codespan_picture.specs.Picture.{label_of}
 use Rattle.codespan_picture.specs.Snippets.{InFile}
 use Rattle.codespan_reporting.specs.declared.term.views.entry.Entry.{Entry as GivenEntry}
@@ -23,7 +21,7 @@ use Rattle.codespan_reporting.specs.Inner.SpannedDigits.{digits_on, label_digits
 abbrev pub labels_refusal : {Id : Type 0} → Config → FileDatabase Id → List (InFile Id)
     → Option Error
 labels_refusal config table xs =
-    first_refusal table.refusal (label_lookups config table.file table.refusal xs)
+    first_error table.refusal (label_lookups config table xs)
 
 -- a label in its file, with what the file refuses, the configuration that it is asked for by, and
 -- its place among the labels of the diagnostic
@@ -101,13 +99,21 @@ module _ {Id : Type 0} (x : AskedLabel Id) where
   abbrev pub label_refusal : Option Error
   label_refusal = refusal_in x.refusal x.id (of_label x.config x.file (x.refusal x.id) x.label)
 
+-- what a line is refused with: its range, and, where the file has it, its number; after the label's
+-- last line `LineTooLarge` refuses nothing
+abbrev pub line_refusal : FileModel → (Lookup → Option Error) → ℕ → ℕ → Option Error
+line_refusal f refusal last l =
+    if nat_lt last l && ends_context (refusal (LineRange l)) then None
+    else or_refusal (refusal (LineRange l))
+    (if nat_lt l (line_count f) then refusal (LineNumber l) else None)
+
 -- where the call gives that the lines around a label go on
 abbrev pub IfOn : Result Bool Error → Type 0 → Type 0
-IfOn r then = IfOk r (λ goes_on. goes_on ≡ true → then)
+IfOn r P = IfOk r (λ goes_on. goes_on ≡ true → P)
 
 -- where it gives that they ended with the file
 abbrev pub IfEnded : Result Bool Error → Type 0 → Type 0
-IfEnded r then = IfOk r (λ goes_on. goes_on ≡ false → then)
+IfEnded r P = IfOk r (λ goes_on. goes_on ≡ false → P)
 
 -- what a label says of a line, by the lines of its ends
 abbrev pub says_by : {F Id : Type 0} → Asking F → Label Id → SourceLine → Option Says

@@ -1,7 +1,6 @@
 -- Drawing with lookups on the way.
 use Rattle.std.specs.Prelude.{◌≡◌, ◌≢◌, ◌⊎◌, true, Option, Some, None, MatchResult, Result}
-use Rattle.codespan_base.specs.declared.files.Error.{Error}
-use Rattle.codespan_base.specs.declared.files.Error.TheVariants.{OutOfMemory}
+use Rattle.codespan_picture.specs.Types.{Error, OutOfMemory}
 use Rattle.codespan_base.specs.Errors.{IsIo}
 use Rattle.codespan_base.specs.Streams.{Stream}
 use Rattle.codespan_base.specs.WriterLaw.{Sink, sent, is_told, Began, refusing}

@@ -3,12 +3,11 @@
 use Rattle.std.specs.Prelude.{◌≡◌, List, [], ◌∷◌, ◌++◌, length, take, drop, flat_map, fold, map, max, Option, None}
 use Rattle.std.specs.List.{AllByRecursion}
 use Rattle.std.specs.List.Sorted.{IsPermutation, IsSortedBy}
-use Rattle.codespan_base.specs.declared.files.Error.{Error}
-use Rattle.codespan_base.specs.declared.term.config.Config.{Config}
+use Rattle.codespan_picture.specs.Types.{Error, Config}
 use Rattle.codespan_base.specs.FileModel.{Lookup}
 use Rattle.codespan_picture.specs.Given.{locus_view}
 use Rattle.codespan_picture.specs.Lines.{drawn_lines}
-use Rattle.codespan_picture.specs.Lookups.{asked_of, filled_lines, first_refusal, locus_lookups, numbers_for_padding, of_filled}
+use Rattle.codespan_picture.specs.Lookups.{asked_of, filled_lines, first_error, locus_lookups, numbers_for_padding, of_filled}
 use Rattle.codespan_picture.specs.Padding.{padding_of}
 use Rattle.codespan_picture.specs.Rows.{Locus}
 use Rattle.codespan_picture.specs.Snippets.{InFile, LabelledFile, labelled_file, labelled_files, rows_after, file_ids}
@@ -95,13 +94,13 @@ abbrev pub sheet_numbers : {Id : Type 0} → Config → FileDatabase Id → List
 sheet_numbers config table xs =
     flat_map
     (λ id. asked_of id
-    (numbers_for_padding config table.same table.file table.refusal xs config.layout id))
+    (numbers_for_padding table xs config config.layout id))
     (file_ids table.same xs)
 
 -- those of their names and places
 abbrev pub sheet_places : {Id : Type 0} → FileDatabase Id → List (InFile Id) → List (Id × Lookup)
 sheet_places table xs =
-    flat_map (λ id. asked_of id (locus_lookups table.same table.file xs id))
+    flat_map (λ id. asked_of id (locus_lookups table xs id))
     (file_ids table.same xs)
 
 -- both, which come after those of its labels
@@ -112,4 +111,4 @@ sheet_lookups config table xs = sheet_numbers config table xs ++ sheet_places ta
 -- what these lookups are refused with
 abbrev pub sheet_refusal : {Id : Type 0} → Config → FileDatabase Id → List (InFile Id)
     → Option Error
-sheet_refusal config table xs = first_refusal table.refusal (sheet_lookups config table xs)
+sheet_refusal config table xs = first_error table.refusal (sheet_lookups config table xs)

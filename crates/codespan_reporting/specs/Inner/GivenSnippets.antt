@@ -1,6 +1,6 @@
 -- Snippets as a view holds them.
 use Rattle.std.specs.Prelude.{Bool, List, [], ◌∷◌, ◌++◌, length, map, if◌then◌else◌, Result}
-use Rattle.codespan_base.specs.declared.files.Error.{Error}
+use Rattle.codespan_picture.specs.Types.{Error}
 use Rattle.codespan_base.specs.FileModel.{FileDatabase, FileModel, Lookup}
 use Rattle.codespan_base.specs.FileModel.Lookup.{Source}
 use Rattle.codespan_base.specs.WriterLaw.{Sink}

@@ -1,14 +1,11 @@
 -- Headers of labels, drawn one after another, each after the lookups of its place.
 use Rattle.std.specs.Prelude.{◌≡◌, ◌≢◌, ◌⊎◌, true, Bool, List, [], ◌∷◌, ◌++◌, flat_map, None, Some, Result, MatchResult}
 use Rattle.std.specs.List.{AllZip}
-use Rattle.codespan_base.specs.declared.diagnostic.Diagnostic.{Diagnostic}
-use Rattle.codespan_base.specs.declared.files.Error.{Error}
-use Rattle.codespan_base.specs.declared.files.Error.TheVariants.{FormatError, OutOfMemory}
-use Rattle.codespan_base.specs.declared.term.config.Config.{Config}
+use Rattle.codespan_picture.specs.Types.{Diagnostic, Error, FormatError, OutOfMemory, Config}
 use Rattle.codespan_base.specs.Errors.{IsIo}
 use Rattle.codespan_base.specs.FileModel.{FileModel}
 use Rattle.codespan_base.specs.WriterLaw.{Sink, sent, is_told, Began, refusing}
-use Rattle.codespan_picture.specs.Lookups.{Refusals, first_refusal, header_asked}
+use Rattle.codespan_picture.specs.Lookups.{Refusals, first_error, header_lookups_of}
 use Rattle.codespan_picture.specs.Picture.{headers_at}
 use Rattle.codespan_picture.specs.Rows.{Locus}
 use Rattle.codespan_picture.specs.Snippets.{InFile, has_any}
@@ -22,7 +19,7 @@ module _ {Id : Type 0} (config : Config) (file : Id → FileModel) (refusal : Re
     pub places : List Locus
     pub are : AllZip (IsLocusOfLabel file) xs places
     pub came : is_told old ≡ true → new ≡ sent old (headers_at config d places)
-    pub answered : first_refusal refusal (flat_map header_asked xs) ≡ None
+    pub answered : first_error refusal (flat_map header_lookups_of xs) ≡ None
 
   -- the writer refused within a label's header
   pub record HeaderStopped (old : Sink) (x : InFile Id) (error : Error) (new : Sink) : Type 0 where
@@ -36,7 +33,7 @@ module _ {Id : Type 0} (config : Config) (file : Id → FileModel) (refusal : Re
   -- the header is written
   pub record HeaderRefused (old : Sink) (x : InFile Id) (error : Error) (new : Sink) : Type 0 where
     pub same : new ≡ old
-    pub told : error ≢ OutOfMemory → error ≢ FormatError → first_refusal refusal (header_asked x)
+    pub told : error ≢ OutOfMemory → error ≢ FormatError → first_error refusal (header_lookups_of x)
         ≡ Some error
 
   -- the drawing ended at one of these labels

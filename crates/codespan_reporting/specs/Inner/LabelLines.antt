@@ -1,8 +1,6 @@
 -- The lines of a label's ends.
 use Rattle.std.specs.Prelude.{ℕ, ◌+◌, Bool, ◌&&◌, ◌||◌, nat_lt, nat_le, [], ◌∷◌, Option}
-use Rattle.codespan_base.specs.declared.diagnostic.Label.{Label}
-use Rattle.codespan_base.specs.declared.files.Error.{Error}
-use Rattle.codespan_base.specs.declared.term.config.Config.{Config}
+use Rattle.codespan_picture.specs.Types.{Label, Error, Config}
 use Rattle.codespan_base.specs.FileModel.{FileModel}
 use Rattle.codespan_base.specs.FileModel.Lookup.{LineIndex}
 use Rattle.codespan_base.specs.Labels.{first_line, last_line}

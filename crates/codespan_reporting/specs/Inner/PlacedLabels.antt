@@ -1,7 +1,7 @@
 -- The labels of a diagnostic among each other: their files, their places and their lanes.
 use Rattle.std.specs.Prelude.{◌≡◌, ℕ, zero, suc, Bool, false, List, [], ◌∷◌, ◌++◌, length}
 use Rattle.std.specs.List.{AllByRecursion, position_or_len}
-use Rattle.codespan_base.specs.declared.term.config.Config.{Config}
+use Rattle.codespan_picture.specs.Types.{Config}
 use Rattle.codespan_base.specs.FileModel.{FileModel}
 use Rattle.codespan_reporting.specs.declared.term.views.gather.LabelPlace.{LabelPlace}
 use Rattle.codespan_reporting.specs.Inner.Entries.{Entry, entries_of}

@@ -1,11 +1,10 @@
 -- What is drawn of each file, as entries in order tell it, and where its snippet starts.
 use Rattle.std.specs.Prelude.{◌≡◌, ℕ, ◌+◌, List, [], ◌∷◌, ◌++◌, length, take, drop, filter, map, Option, Some, None}
 use Rattle.std.specs.List.{AllByRecursion}
-use Rattle.codespan_base.specs.declared.files.Error.{Error}
-use Rattle.codespan_base.specs.declared.term.config.Layout.{Layout}
+use Rattle.codespan_picture.specs.Types.{Error, Layout}
 use Rattle.codespan_base.specs.FileModel.{FileModel, Lookup}
 use Rattle.codespan_picture.specs.Given.{locus_view}
-use Rattle.codespan_picture.specs.Lookups.{Refusals, asked_of, first_refusal}
+use Rattle.codespan_picture.specs.Lookups.{Refusals, asked_of, first_error}
 use Rattle.codespan_picture.specs.Padding.{digit_count}
 use Rattle.codespan_reporting.specs.declared.term.views.file_order.LabelledFile.{LabelledFile as GivenFile}
 use Rattle.codespan_reporting.specs.declared.term.views.gather.Gathered.{Gathered}
@@ -69,7 +68,7 @@ plan_lookups layout gathered =
 
 -- what these lookups are refused with
 abbrev pub plans_refusal : {Id : Type 0} → Layout → Refusals Id → Gathered Id → Option Error
-plans_refusal layout refusal gathered = first_refusal refusal (plan_lookups layout gathered)
+plans_refusal layout refusal gathered = first_error refusal (plan_lookups layout gathered)
 
 -- the digits of the number of a step's line, where it has one
 abbrev pub step_digits : {Id : Type 0} → GivenStep Id → List ℕ

@@ -1,7 +1,6 @@
 -- Calls that draw by a renderer: with its configuration, to its writer.
 use Rattle.std.specs.Prelude.{ℕ, List, Option, Result}
-use Rattle.codespan_base.specs.declared.diagnostic.Severity.{Severity}
-use Rattle.codespan_base.specs.declared.files.Error.{Error}
+use Rattle.codespan_picture.specs.Types.{Severity, Error}
 use Rattle.codespan_base.specs.Streams.{Stream}
 use Rattle.codespan_base.specs.WriterLaw.{Sends, Sink}
 use Rattle.codespan_picture.specs.Picture.{look_of}

@@ -1,7 +1,7 @@
 -- The steps of one file, drawn: what is sent for them and what is asked.
 use Rattle.std.specs.Prelude.{◌≡◌, true, List, map, Result}
 use Rattle.std.specs.List.{AllByRecursion}
-use Rattle.codespan_base.specs.declared.files.Error.{Error}
+use Rattle.codespan_picture.specs.Types.{Error}
 use Rattle.codespan_base.specs.FileModel.{FileDatabase, FileModel, Lookup}
 use Rattle.codespan_base.specs.WriterLaw.{Sink}
 use Rattle.codespan_picture.specs.Rows.{Row}

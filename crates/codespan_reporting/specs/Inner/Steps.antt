@@ -1,11 +1,11 @@
 -- The steps that entries in order make: lines that are drawn, lines that are filled in, and breaks.
-use Rattle.std.specs.Prelude.{ℕ, ◌+◌, Bool, true, ◌==◌, List, [], ◌∷◌, ◌++◌, flat_map, drop, Option, Some, None, if◌then◌else◌}
+use Rattle.std.specs.Prelude.{ℕ, Bool, true, ◌==◌, List, [], ◌∷◌, ◌++◌, flat_map, drop, Option, Some, None, if◌then◌else◌}
 use Rattle.std.specs.List.{prefix_len, filter_map}
 use Rattle.codespan_base.specs.FileModel.{FileModel, line_text}
 use Rattle.codespan_base.specs.Labels.{Labelled}
 use Rattle.codespan_picture.specs.Cells.{drawn_text}
-use Rattle.codespan_picture.specs.Lines.{is_broken}
 use Rattle.codespan_picture.specs.Rows.{Line, Row, BreakRow, rows_of}
+use Rattle.codespan_picture.specs.Sequences.{before_line, gap_between, in_sequence}
 use Rattle.codespan_renderer.specs.Inner.Sweeps.{starts_in_order}
 use Rattle.codespan_reporting.specs.Inner.Entries.{Entry, Says, Shown, Single, tells_shown}
 use Rattle.codespan_reporting.specs.Inner.Lanes.{Lane, lanes_on}
@@ -19,40 +19,43 @@ pub data Step : Type 0 where
 
 -- ---- the walk over entries in order
 
+-- a line with entries of it, in order
+pub record Group : Type 0 where
+  pub line : ℕ
+  pub entries : List Entry
+
+-- an entry in front of others of its line
+abbrev pub group_of : Entry → List Entry → Group
+group_of x others = record { line = x.line; entries = x ∷ others }
+
 -- an entry in front of groups: it joins the first one where that is of its line
-abbrev pub join_group : Entry → List (List Entry) → List (List Entry)
-join_group x [] = (x ∷ []) ∷ []
-join_group x ([] ∷ gs) = (x ∷ []) ∷ gs
-join_group x ((y ∷ g) ∷ gs) = if y.line == x.line then (x ∷ y ∷ g) ∷ gs else (x ∷ []) ∷ (y ∷ g) ∷ gs
+abbrev pub join_group : Entry → List Group → List Group
+join_group x [] = group_of x [] ∷ []
+join_group x (g ∷ gs) =
+    if g.line == x.line then group_of x g.entries ∷ gs else group_of x [] ∷ g ∷ gs
 
 -- the longest runs of entries of one line
-abbrev pub groups : List Entry → List (List Entry)
+abbrev pub groups : List Entry → List Group
 groups [] = []
 groups (x ∷ xs) = join_group x (groups xs)
 
--- a group without those in front that say that the line is shown
+-- entries without those in front that say that the line is shown
 abbrev pub without_shown : List Entry → List Entry
-without_shown g = drop (prefix_len tells_shown g) g
+without_shown es = drop (prefix_len tells_shown es) es
 
--- what stands between two shown lines: the one line between them, a break, or nothing
-abbrev pub gap : ℕ → ℕ → List Step
-gap c d = if d == c + 2 then Fill (c + 1) ∷ [] else if is_broken c d then Break d ∷ [] else []
-
--- nothing stands before the first shown line
-abbrev pub gap_after : Option ℕ → ℕ → List Step
-gap_after None d = []
-gap_after (Some c) d = gap c d
+-- the steps between two shown lines: the one line between them, a break, or nothing
+abbrev pub steps_between : ℕ → ℕ → List Step
+steps_between = gap_between (λ l. Fill l ∷ []) (λ d. Break d ∷ [])
 
 -- the steps up to a shown line: what stands before it, and the line itself
 abbrev pub steps_to : Option ℕ → ℕ → List Entry → List Step
-steps_to was d singles = gap_after was d ++ Draw d singles ∷ []
+steps_to was d singles = before_line steps_between was d ++ Draw d singles ∷ []
 
--- the steps of these groups, each of which is of a shown line, where `was` is the last shown line
--- before them
-abbrev pub walk : Option ℕ → List (List Entry) → List Step
-walk was [] = []
-walk was ([] ∷ gs) = walk was gs
-walk was ((x ∷ g) ∷ gs) = steps_to was x.line (without_shown (x ∷ g)) ++ walk (Some x.line) gs
+-- the steps of groups, whose lines are the shown ones, where `was` is shown before them
+abbrev pub walk : Option ℕ → List Group → List Step
+walk =
+    in_sequence (λ (g : Group). g.line) steps_between
+    (λ (g : Group). Draw g.line (without_shown g.entries) ∷ [])
 
 -- the steps of the entries of one file
 abbrev pub steps_of : List Entry → List Step

@@ -1,13 +1,9 @@
 -- What the views draw by a renderer.
 use Rattle.std.specs.Prelude.{Bool, List, [], ◌∷◌, ◌++◌, Option, None, Result}
-use Rattle.codespan_base.specs.declared.diagnostic.Diagnostic.{Diagnostic}
-use Rattle.codespan_base.specs.declared.files.Error.{Error}
-use Rattle.codespan_base.specs.declared.term.config.Config.{Config}
-use Rattle.codespan_base.specs.declared.term.config.DisplayStyle.{DisplayStyle}
-use Rattle.codespan_base.specs.declared.term.config.DisplayStyle.TheVariants.{Rich}
+use Rattle.codespan_picture.specs.Types.{Diagnostic, Error, Config, DisplayStyle, Rich}
 use Rattle.codespan_base.specs.Streams.{Stream, newline}
 use Rattle.codespan_base.specs.WriterLaw.{Sink}
-use Rattle.codespan_picture.specs.Lookups.{first_refusal, late_lookups}
+use Rattle.codespan_picture.specs.Lookups.{first_error, late_lookups}
 use Rattle.codespan_picture.specs.Picture.{heading_of, labels_of, look_of, notes_of}
 use Rattle.codespan_picture.specs.Snippets.{snippets}
 use Rattle.codespan_picture.specs.Rows.{BlankRow, Locus, Row}
@@ -17,7 +13,7 @@ use Rattle.codespan_renderer.specs.declared.term.renderer.Renderer.{Renderer}
 use Rattle.codespan_renderer.specs.Renderers.{config_of, writer_of}
 use Rattle.codespan_reporting.specs.declared.term.views.rich.RichDiagnostic.{RichDiagnostic}
 use Rattle.codespan_reporting.specs.declared.term.views.sheet.Sheet.{Sheet}
-use Rattle.codespan_reporting.specs.Output.{WritesStyled}
+use Rattle.codespan_reporting.specs.Output.{WritesOutput}
 use Rattle.codespan_reporting.specs.Views.{diagnostic_of, view_config_of}
 use Rattle.codespan_reporting.specs.Inner.GivenSheets.{places_of}
 use Rattle.codespan_reporting.specs.Inner.Headers.{DrawsHeaders}
@@ -56,22 +52,21 @@ module _ {W Id : Type 0} (sink : W → Sink) (table : FileDatabase Id) where
   abbrev pub DrawsInStyle : DisplayStyle → Diagnostic Id → Renderer W → Result (Unit {0}) Error
       → Renderer W → Type 0
   DrawsInStyle style d old r new =
-      WritesStyled style (config_of old) (config_of old) table d (sink (writer_of old)) r
+      WritesOutput style (config_of old) (config_of old) table d (sink (writer_of old)) r
       (sink (writer_of new))
 
   module _ (view : RichDiagnostic Id) where
     -- the call draws the picture of a rich view
     abbrev pub DrawsView : Renderer W → Result (Unit {0}) Error → Renderer W → Type 0
     DrawsView old r new =
-        WritesStyled Rich (config_of old) (view_config_of view) table (diagnostic_of view)
+        WritesOutput Rich (config_of old) (view_config_of view) table (diagnostic_of view)
         (sink (writer_of old)) r (sink (writer_of new))
 
     -- what the lookups of its snippets are refused with, which come after its header
     abbrev pub snippets_refusal : Option Error
     snippets_refusal =
-        first_refusal table.refusal
-        (late_lookups (view_config_of view) table.same table.file table.refusal
-        (labels_of (diagnostic_of view)))
+        first_error table.refusal
+        (late_lookups table (labels_of (diagnostic_of view)) (view_config_of view))
 
     -- the call draws its snippets, which start where a sheet says, and makes their lookups
     abbrev pub DrawsSnippets : Sheet Id → Renderer W → Result (Unit {0}) Error → Renderer W → Type 0

@@ -1,6 +1,6 @@
 -- Walks over what labels say of the lines of one file.
 use Rattle.std.specs.Prelude.{ℕ, List, Option}
-use Rattle.codespan_base.specs.declared.files.Error.{Error}
+use Rattle.codespan_picture.specs.Types.{Error}
 use Rattle.codespan_base.specs.FileModel.{FileModel}
 use Rattle.codespan_picture.specs.Lookups.{Refusals}
 use Rattle.codespan_reporting.specs.declared.term.views.steps.Step.{Step as GivenStep}

@@ -4,7 +4,7 @@
 
 ghost use Rattle.std.specs.Char.{IsScalar};
 ghost use Rattle.std.specs.Str.{IsUtf8};
-ghost use Rattle.codespan_base.specs.Characters.{start_text};
+ghost use Rattle.codespan_base.specs.SnippetStarts.{start_text};
 ghost use Rattle.codespan_laws.specs.TextLaws.{AreCharacters};
 
 use codespan_base::term::{Chars, SnippetStart};

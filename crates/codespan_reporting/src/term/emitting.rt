@@ -1,8 +1,6 @@
 //! The calls that emit a diagnostic.
 
-ghost use Rattle.std.specs.Prelude.{◌≡◌, string_bytes};
-ghost use Rattle.codespan_base.specs.declared.term.config.DisplayStyle.TheVariants.{Rich};
-ghost use Rattle.codespan_laws.specs.Meanings.{MeansLabels};
+ghost use Rattle.std.specs.Prelude.{string_bytes};
 ghost use Rattle.codespan_reporting.specs.Output.{Appends, Emits, WritesStyled, Writes};
 
 use crate::term::characters::are_characters;
@@ -83,8 +81,9 @@ pub fn emit_to_string<'files, F: Files<'files>>(
 /// - Any other error: that of the first lookup that fails.
 ///
 /// A prefix of the text has then been written. In rich style nothing has been written where a lookup
-/// before the header fails. In short and medium style, unless the writer fails, exactly the headers
-/// of the primary labels before the one at which the call fails have been written.
+/// before the header fails. In short and medium style, unless the error is `Io`, exactly the headers
+/// of the primary labels before one at which the call fails have been written. This is known of a
+/// writer whose bytes are known.
 ///
 /// Nothing is looked up without labels, and in short and medium style without primary labels.
 pub fn emit_to_io_write<'files, F: Files<'files>, W: Write>(
@@ -113,10 +112,8 @@ pub fn emit_to_write_style<'files, F: Files<'files>, W: WriteStyle>(
     files: &'files F,
     diagnostic: &Diagnostic<F::FileId>,
 ) -> Result<(), Error>
-    ensures draws { WritesStyled config.now.display_style config.now config.now
+    ensures { WritesStyled config.now.display_style config.now config.now
         (F.database files.now) diagnostic.now (W.sink writer.old) result (W.sink writer.new) }
-    ensures meaning { config.now.display_style ≡ Rich
-        → MeansLabels config.now config.now (F.database files.now) diagnostic.now }
 {
     let mut renderer = Renderer::new(writer, config);
     match config.display_style {

@@ -146,7 +146,7 @@ fn written_before(asked: Asked, layout: Layout) -> &'static str {
 
 /// Of two lookups that refuse the first is told. Each lookup of a picture refuses in turn, and the next one with it.
 #[test]
-fn first_refusal(rt: HostRuntime) -> Result<(), Fail> {
+fn first_error(rt: HostRuntime) -> Result<(), Fail> {
     let alloc = rt.alloc();
     let diagnostic = Diagnostic::error(alloc)
         .with_label(Label::primary(alloc, (), 2..7))?

@@ -1,13 +1,12 @@
 //! Short and medium style, and the calls that emit.
 
-use crate::pictures::drawing::{Drawing, assert_drawn, files_of};
-use crate::pictures::other_files::type_error;
+use crate::pictures::drawing::files_of;
 use codespan_base_tests::writers::example::TagWriter;
 use codespan_base_tests::writers::sequences::without_sequences;
-use codespan_reporting::diagnostic::{Diagnostic, Label, LabelStyle, Severity};
+use codespan_reporting::diagnostic::{Diagnostic, Label};
 use codespan_reporting::files::{Error, SimpleFiles};
 use codespan_reporting::term::{
-    Ansi, Config, DisplayStyle, PlainWriter, Renderer, ShortDiagnostic, Styles, StylesWriter, emit,
+    Config, DisplayStyle, PlainWriter, Renderer, RichDiagnostic, ShortDiagnostic, emit,
     emit_into_string, emit_to_io_write, emit_to_string, emit_to_write_style,
 };
 use std::alloc::Global;
@@ -21,6 +20,7 @@ fn in_style<'chars>(display_style: DisplayStyle) -> Config<'chars> {
     }
 }
 
+/// Each call that emits draws, and what a string or a vector holds stays before it.
 #[test]
 fn bare_bug(rt: HostRuntime) -> Result<(), Fail> {
     let alloc = rt.alloc();
@@ -47,59 +47,30 @@ fn bare_bug(rt: HostRuntime) -> Result<(), Fail> {
         let mut bytes = held.to_string(alloc)?.into_bytes();
         emit(&mut bytes, &config, &files, &bug)?;
         assert_eq!(rt; bytes.as_slice(), text.as_bytes());
-        let drawing = Drawing {
-            config,
-            severity: Severity::Bug,
-            picture,
-            ..Drawing::default()
-        };
-        assert_drawn(&rt, alloc, drawing)?;
     }
     Ok(())
 }
 
+/// The views draw the same.
 #[test]
-fn medium_and_short(rt: HostRuntime) -> Result<(), Fail> {
-    let medium = "Test.fun:4:11: error[E0001]: unexpected type in application of `_+_`\n \
-                  = expected type `Nat`\n      found type `String`\n";
-    let short = "Test.fun:4:11: error[E0001]: unexpected type in application of `_+_`\n";
-    assert_drawn(
-        &rt,
-        rt.alloc(),
-        type_error(in_style(DisplayStyle::Medium), medium),
-    )?;
-    assert_drawn(
-        &rt,
-        rt.alloc(),
-        type_error(in_style(DisplayStyle::Short), short),
-    )?;
-    let without_code = Drawing {
-        config: in_style(DisplayStyle::Short),
-        code: Some(""),
-        message: "where did my errorcode go?",
-        picture: "error: where did my errorcode go?\n",
-        ..Drawing::default()
-    };
-    assert_drawn(&rt, rt.alloc(), without_code)?;
-    let without_cause = Drawing {
-        config: in_style(DisplayStyle::Short),
-        files: &[("f", "")],
-        labels: &[(LabelStyle::Secondary, 0, 0..0, "")],
-        picture: "error: \n",
-        ..Drawing::default()
-    };
-    assert_drawn(&rt, rt.alloc(), without_cause)?;
-    let with_note = Drawing {
-        message: "a message",
-        notes: &["a note"],
-        picture: "error: a message\n = a note\n\n",
-        ..Drawing::default()
-    };
-    assert_drawn(&rt, rt.alloc(), with_note)?;
+fn bare_views(rt: HostRuntime) -> Result<(), Fail> {
+    let alloc = rt.alloc();
+    let files: SimpleFiles<&str, &str> = SimpleFiles::new(alloc);
+    let bug = Diagnostic::bug(alloc);
+    let config = Config::default();
+    let mut plain = PlainWriter::new(Vec::new(alloc));
+    let mut renderer = Renderer::new(&mut plain, &config);
+    RichDiagnostic::new(&bug, &config).render(&files, &mut renderer)?;
+    ShortDiagnostic::new(&bug, true).render(&files, &mut renderer)?;
+    ShortDiagnostic::new(&bug, false).render(&files, &mut renderer)?;
+    assert_eq!(rt;
+        plain.into_inner().as_slice(),
+        b"bug: \n\nbug: \nbug: \n".as_slice()
+    );
     Ok(())
 }
 
-/// What is taken out of coloured text is its escape sequences. Each drawing of a table is drawn in colours besides.
+/// What is taken out of coloured text is its escape sequences.
 #[test]
 fn colours_change_no_text(rt: HostRuntime) -> Result<(), Fail> {
     let coloured = b"\x1b[0m\x1b[1m\x1b[38;5;9merror\x1b[0m\x1b[1m: m\x1b[0m\n";
@@ -128,27 +99,6 @@ fn tags_of_styles(rt: HostRuntime) -> Result<(), Fail> {
         assert!(rt; text.starts_with(header.as_bytes()));
         assert_eq!(rt; &text[header.len()..], note.as_bytes());
     }
-    Ok(())
-}
-
-/// A header alone, in colour, by the call and by the view.
-#[test]
-fn coloured_header(rt: HostRuntime) -> Result<(), Fail> {
-    let alloc = rt.alloc();
-    let files: SimpleFiles<&str, &str> = SimpleFiles::new(alloc);
-    let error = Diagnostic::error(alloc).with_message("m")?;
-    let config = in_style(DisplayStyle::Short);
-    let styles = Styles::default();
-    let coloured = b"\x1b[0m\x1b[1m\x1b[38;5;9merror\x1b[0m\x1b[1m: m\x1b[0m\n";
-    let mut bytes = Vec::new(alloc);
-    let mut writer = StylesWriter::new(Ansi::new(&mut bytes), &styles);
-    emit_to_write_style(&mut writer, &config, &files, &error)?;
-    assert_eq!(rt; bytes.as_slice(), coloured.as_slice());
-    let mut bytes = Vec::new(alloc);
-    let mut writer = StylesWriter::new(Ansi::new(&mut bytes), &styles);
-    let mut renderer = Renderer::new(&mut writer, &config);
-    ShortDiagnostic::new(&error, true).render(&files, &mut renderer)?;
-    assert_eq!(rt; bytes.as_slice(), coloured.as_slice());
     Ok(())
 }
 

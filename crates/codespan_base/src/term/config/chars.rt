@@ -1,7 +1,7 @@
 //! The characters that a picture is drawn with.
 
 ghost use Rattle.std.specs.Prelude.{◌≡◌, Ok, IsTrue, IfOk, OnErr, IsErrOf};
-ghost use Rattle.codespan_base.specs.Characters.{start_text, is_fixed};
+ghost use Rattle.codespan_base.specs.SnippetStarts.{start_text, is_fixed};
 
 use codespan_files::files::Error;
 

@@ -4,7 +4,7 @@ ghost use Rattle.std.specs.Prelude.{◌≡◌, ◌++◌};
 ghost use Rattle.std.specs.Option.{option_map};
 ghost use Rattle.codespan_base.specs.Streams.{newline};
 ghost use Rattle.codespan_base.specs.WriterLaw.{Sends};
-ghost use Rattle.codespan_base.specs.Characters.{start_text};
+ghost use Rattle.codespan_base.specs.SnippetStarts.{start_text};
 ghost use Rattle.codespan_picture.specs.Given.{locus_view, text_now};
 ghost use Rattle.codespan_picture.specs.RowParts.{severity_name};
 ghost use Rattle.codespan_picture.specs.RowStreams.{bracketed, leading_locus, start_row};

@@ -5,7 +5,8 @@ ghost use Rattle.std.specs.Str.Lines.{lines};
 ghost use Rattle.codespan_base.specs.Streams.{newline};
 ghost use Rattle.codespan_base.specs.WriterLaw.{Sends};
 ghost use Rattle.codespan_renderer.specs.Inner.GivenLine.{look_view, lanes_of_given};
-ghost use Rattle.codespan_picture.specs.RowStreams.{empty_row, break_row, first_note_row, later_note_row, note_stream};
+ghost use Rattle.codespan_picture.specs.RowStreams.{empty_row, break_row, first_note_row, later_note_row};
+ghost use Rattle.codespan_renderer.specs.Renderers.{note_stream};
 
 use crate::term::renderer::lanes::{LaneRow, send_lanes};
 use crate::term::renderer::line::{Lanes, Look};

@@ -2,7 +2,7 @@
 
 ghost use Rattle.std.specs.Prelude.{◌≡◌, ◌≢◌, None, map, IfErr, IfOk, IfSome, OnOk, OnErr, IsErrOf};
 ghost use Rattle.std.specs.Option.{option_map};
-ghost use Rattle.codespan_base.specs.FileModel.{Tells};
+ghost use Rattle.codespan_base.specs.LawfulFiles.{Tells};
 ghost use Rattle.codespan_picture.specs.Lookups.{of_line};
 ghost use Rattle.codespan_picture.specs.Picture.{label_of};
 ghost use Rattle.codespan_reporting.specs.Inner.AskedLabels.{AddsLine, EndsBefore, FindsLine, FindsLines, HasAskedLine, IfEnded, IfOn, MakesRoom, MakesRoomForLine, RefusesLine, asked_as, asked_label, label_refusal, labels_refusal, lines_refusal, refusal_at, refusal_on, says_by};

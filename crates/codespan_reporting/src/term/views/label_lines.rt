@@ -1,7 +1,7 @@
 //! The lines of a label, and what it says of lines.
 
 ghost use Rattle.std.specs.Prelude.{◌≡◌, ◌==◌, IfOk};
-ghost use Rattle.codespan_base.specs.FileModel.{Tells};
+ghost use Rattle.codespan_base.specs.LawfulFiles.{Tells};
 ghost use Rattle.codespan_picture.specs.Lines.{shows};
 ghost use Rattle.codespan_picture.specs.Lookups.{is_around};
 ghost use Rattle.codespan_picture.specs.Padding.{spans_line};

@@ -2,7 +2,7 @@
 
 ghost use Rattle.std.specs.Prelude.{◌≡◌, [], IfOk, IfSome, IsTrue, map};
 ghost use Rattle.std.specs.List.{AllByRecursion};
-ghost use Rattle.codespan_base.specs.FileModel.{Tells};
+ghost use Rattle.codespan_base.specs.LawfulFiles.{Tells};
 ghost use Rattle.codespan_renderer.specs.Renderers.{SameRenderer};
 ghost use Rattle.codespan_reporting.specs.Inner.FileLookups.{refusal_in};
 ghost use Rattle.codespan_reporting.specs.Inner.GivenEntries.{IsLineAt, IsLineOf, entry_of};

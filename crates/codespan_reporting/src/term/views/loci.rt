@@ -4,7 +4,8 @@ ghost use Rattle.std.specs.Prelude.{◌≡◌, ◌∷◌, [], IfOk};
 ghost use Rattle.codespan_base.specs.FileModel.Lookup.{Name as NameLookup, LocationAt};
 ghost use Rattle.codespan_base.specs.Labels.{is_primary};
 ghost use Rattle.codespan_picture.specs.Given.{locus_view};
-ghost use Rattle.codespan_picture.specs.Lookups.{TellsNaming, asked_of, first_refusal};
+ghost use Rattle.codespan_picture.specs.Lookups.{asked_of, first_error};
+ghost use Rattle.codespan_reporting.specs.Inner.FileLookups.{TellsNaming};
 ghost use Rattle.codespan_picture.specs.Picture.{label_of};
 ghost use Rattle.codespan_reporting.specs.Inner.TextLoci.{IsTextLocus};
 ghost use Rattle.codespan_reporting.specs.Inner.Loci.{least_with, no_start, start_byte, start_with};
@@ -92,7 +93,7 @@ pub fn locus_at<'files, F: Files<'files>>(
 ) -> Result<Locus, Error>
     ensures locus { IfOk result
         (λ locus. IsTextLocus ((F.database files.now).file id, byte_index) (locus_view locus)) }
-    ensures refused { TellsNaming (first_refusal (F.database files.now).refusal
+    ensures refused { TellsNaming (first_error (F.database files.now).refusal
         (asked_of id (NameLookup ∷ LocationAt byte_index ∷ []))) result }
 {
     let named = files.name(id)?;

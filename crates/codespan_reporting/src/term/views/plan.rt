@@ -3,7 +3,7 @@
 ghost use Rattle.std.specs.Prelude.{◌≡◌, [], IfOk, map};
 ghost use Rattle.std.specs.List.{AllByRecursion};
 ghost use Rattle.std.specs.List.Sorted.{IsSortedBy};
-ghost use Rattle.codespan_picture.specs.Lookups.{TellsNaming};
+ghost use Rattle.codespan_reporting.specs.Inner.FileLookups.{TellsNaming};
 ghost use Rattle.codespan_reporting.specs.Inner.Entries.{is_below};
 ghost use Rattle.codespan_reporting.specs.Inner.GivenEntries.{IsOfFiles, entry_of};
 ghost use Rattle.codespan_reporting.specs.Inner.LabelledFiles.{ids_given};

@@ -3,7 +3,6 @@
 ghost use Rattle.std.specs.Prelude.{◌≡◌, ◌<◌, IfErr, length};
 ghost use Rattle.codespan_base.specs.declared.term.config.DisplayStyle.TheVariants.{Rich};
 ghost use Rattle.codespan_base.specs.Errors.{IsIo};
-ghost use Rattle.codespan_laws.specs.Meanings.{MeansLabels};
 ghost use Rattle.codespan_picture.specs.Picture.{labels_of, notes_of};
 ghost use Rattle.codespan_picture.specs.Snippets.{has_any};
 ghost use Rattle.codespan_renderer.specs.Renderers.{writer_of, config_of, SameRenderer};
@@ -60,9 +59,11 @@ impl<'diagnostic, 'config, FileId: Copy + Eq> RichDiagnostic<'diagnostic, 'confi
     /// - Any other error: that of the first lookup that fails.
     ///
     /// A prefix of the output has then been written. Nothing has been written where a lookup before
-    /// the header fails, nor where the `Display` of a name fails. The lookups after the header are
-    /// those of a file's source, and of the range and, in the classic layout, the number of a line
-    /// between two shown ones. Without labels nothing is looked up.
+    /// the header fails, nor where the error is `FormatError`, unless the first lookup after the header
+    /// that fails does so with it. What has been written is known of a writer whose bytes are known.
+    ///
+    /// The lookups after the header are those of a file's source, and of the range and, in the classic
+    /// layout, the number of a line between two shown ones. Without labels nothing is looked up.
     pub fn render<'files, F, W>(
         &self,
         files: &'files F,
@@ -76,8 +77,6 @@ impl<'diagnostic, 'config, FileId: Copy + Eq> RichDiagnostic<'diagnostic, 'confi
         ensures draws { WritesStyled Rich (config_of renderer.old) (view_config_of self.now)
             (F.database files.now) (diagnostic_of self.now)
             (W.sink (writer_of renderer.old)) result (W.sink (writer_of renderer.new)) }
-        ensures meaning { MeansLabels (config_of renderer.old) (view_config_of self.now)
-            (F.database files.now) (diagnostic_of self.now) }
     {
         if self.diagnostic.labels.is_empty() {
             draw_bare(self.diagnostic, renderer)?;

@@ -1,7 +1,7 @@
 //! All that is known of a picture before its header is drawn.
 
 ghost use Rattle.std.specs.Prelude.{IfOk, map};
-ghost use Rattle.codespan_picture.specs.Lookups.{TellsNaming};
+ghost use Rattle.codespan_reporting.specs.Inner.FileLookups.{TellsNaming};
 ghost use Rattle.codespan_picture.specs.Picture.{label_of};
 ghost use Rattle.codespan_reporting.specs.Inner.GivenSheets.{IsGathered, IsPrepared, sheet_refusal};
 

@@ -53,8 +53,9 @@ impl<'diagnostic, FileId: Copy + Eq> ShortDiagnostic<'diagnostic, FileId> {
     ///   contract leaves open when, but it is not returned without primary labels.
     /// - Any other error: that of the first lookup that fails.
     ///
-    /// Unless the writer fails, exactly the headers of the primary labels before the one at which
-    /// the call fails have then been written. Where the writer fails, a prefix of the output has.
+    /// Unless the writer fails, exactly the headers of the primary labels before one at which the call
+    /// fails have been written; where it fails, a prefix of the output has. This is known of a writer
+    /// whose bytes are known.
     pub fn render<'files, F, W>(
         &self,
         files: &'files F,

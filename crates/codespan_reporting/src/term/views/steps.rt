@@ -1,10 +1,11 @@
 //! What is drawn of a file, step by step: lines that are shown, lines between two that are, and breaks.
 
 ghost use Rattle.std.specs.Prelude.{◌≡◌, ◌∷◌, [], All, IfOk, OnOk, map};
-ghost use Rattle.codespan_base.specs.FileModel.{Tells};
+ghost use Rattle.codespan_base.specs.LawfulFiles.{Tells};
+ghost use Rattle.codespan_picture.specs.Sequences.{before_line};
 ghost use Rattle.codespan_reporting.specs.Inner.GivenEntries.{IsLineOf, entry_of};
 ghost use Rattle.codespan_reporting.specs.Inner.GivenSteps.{gap_steps, known_number};
-ghost use Rattle.codespan_reporting.specs.Inner.Steps.{fills_of, gap_after, steps_of, steps_to};
+ghost use Rattle.codespan_reporting.specs.Inner.Steps.{fills_of, steps_between, steps_of, steps_to};
 ghost use Rattle.codespan_reporting.specs.Inner.Walks.{AddsWalked, numbers_refusal, walked_file};
 
 use crate::term::views::entry::{Entry, SourceLine};
@@ -49,7 +50,7 @@ pub enum Gap {
 
 /// What stands before the shown line of this index, where `last` is the index of the line that is shown before it.
 pub fn gap_before(last: Option<usize>, index: usize) -> Gap
-    ensures { gap_after last index ≡ gap_steps result index }
+    ensures { before_line steps_between last index ≡ gap_steps result index }
 {
     let Some(last) = last else {
         return Gap::Nothing;

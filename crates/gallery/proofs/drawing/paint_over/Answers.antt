@@ -17,7 +17,7 @@ returns g c = λ stated.
     let stream = picture config.display_style config config (g.F.Files.database c.args.files.now) c.args.said.now in
     let begins = c.new-writer.ensures.begins in
     let told_first = fresh_told (inked c.default-styles.result) _ (told c.in_ok-new.field-0) begins in
-    let came = drawn_stream config _ _ _ _ _ c.in_ok-emit_to_write_style.ensures.draws stated told_first in
+    let came = drawn_stream config _ _ _ _ _ c.in_ok-emit_to_write_style.ensures stated told_first in
     record {
       answered = came.0;
       is = ap all_told c.into_runs.ensures ∙ ap told c.into_inner.ensures

@@ -1,4 +1,4 @@
-use Rattle.report.proofs.Outcomes.{faulty_status, kept_at_faulty, kept_at_not_utf8, kept_at_wrong, status_at_most, status_of_wrong, success_by_status, told_at_faulty, wrong_by_status}
+use Rattle.report.proofs.Outcomes.{faulty_status, kept_at_not_utf8, prefix_written, status_at_most, status_of_wrong, stays_unless_drawn, success_by_status, told_at_faulty, wrong_by_status}
 use Rattle.report.proofs.run.run.Goals as goal
 
 pub returns-clause-status : goal.returns-clause-status
@@ -12,10 +12,6 @@ returns-clause-usage g c = (
 
 pub returns-clause-unread : goal.returns-clause-unread
 returns-clause-unread g c = λ two. c.report.ensures.unread (wrong_by_status c.report.result c.conclude.result c.conclude.ensures.status two)
-
-pub returns-clause-unwritten : goal.returns-clause-unwritten
-returns-clause-unwritten g c =
-    λ two. kept_at_wrong c.report.result c.report.ensures.kept (wrong_by_status c.report.result c.conclude.result c.conclude.ensures.status two)
 
 pub returns-clause-silent : goal.returns-clause-silent
 returns-clause-silent g c = λ zero. success_by_status c.report.result c.conclude.result c.conclude.ensures.status zero c.conclude.ensures.silent
@@ -40,4 +36,7 @@ pub returns-clause-faulty : goal.returns-clause-faulty
 returns-clause-faulty g c = faulty_status _ _ c.report.result c.conclude.result _ _ c.conclude.ensures.status c.report.ensures.drawn c.report.ensures.told c.report.ensures.kept
 
 pub returns-clause-undrawn : goal.returns-clause-undrawn
-returns-clause-undrawn g c = λ three. kept_at_faulty c.report.result c.conclude.result c.conclude.ensures.status three c.report.ensures.kept
+returns-clause-undrawn g c = stays_unless_drawn c.report.result c.conclude.result _ _ _ c.conclude.ensures.status c.conclude.ensures.begun c.report.ensures.kept
+
+pub returns-clause-begun : goal.returns-clause-begun
+returns-clause-begun g c = λ one. prefix_written _ _ c.report.result c.conclude.result _ _ c.conclude.ensures.status one c.report.ensures.begun c.report.ensures.kept

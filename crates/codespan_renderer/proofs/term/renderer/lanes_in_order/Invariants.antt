@@ -1,6 +1,5 @@
 use Rattle.std.proofs.Common.{◌≡◌, drop, map}
-use Rattle.codespan_picture.specs.Given.{lanes_in_order, mark_view}
-use Rattle.codespan_picture.specs.Lanes.{ascend_from}
+use Rattle.codespan_picture.specs.Given.{lanes_in_order, mark_view, ascend_from}
 use Rattle.codespan_renderer.proofs.term.renderer.lanes_in_order.Given as goal
 
 -- the marks that are left decide

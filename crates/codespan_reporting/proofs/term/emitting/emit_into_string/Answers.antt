@@ -1,5 +1,5 @@
 use Rattle.std.proofs.Common.{rules, ◌≡◌, ℕ, List, [], Some, inl, refl, sym, ap, ◌∙◌}
-use Rattle.codespan_base.specs.FileModel.{IsLawful}
+use Rattle.codespan_base.specs.LawfulFiles.{IsLawful}
 use Rattle.codespan_base.specs.Streams.{no_marks}
 use Rattle.codespan_base.specs.WriterLaw.{Sink}
 use Rattle.codespan_base.specs.Writers.{fresh_sink}
@@ -17,16 +17,16 @@ from_utf8_unchecked-requires g c =
     let file = ((g.F.Files.database c.args.files.now).file) in
     let claim : g.claim c.lifetimes = search rules in
     let lawful : (id : g.row.F-FileId.Denot) → IsLawful (file id) = λ id. (g.met.F.Files c.lifetimes claim).lawful c.args.files.now id in
-    text_held c.in-Ok.ensures.draws (begins-empty c.new-plain.ensures.begins c.in_ok-bytes.ensures.items) (search rules) c.are_characters.ensures lawful
+    text_held c.in-Ok.ensures (begins-empty c.new-plain.ensures.begins c.in_ok-bytes.ensures.items) (search rules) c.are_characters.ensures lawful
 
 pub returns-in-Ok : goal.returns-in-Ok
 returns-in-Ok g c =
-    string_drawn c.in-Ok.ensures.draws (begins-empty c.new-plain.ensures.begins c.in_ok-bytes.ensures.items) (search rules) c.in-Ok.ensures.meaning
+    string_drawn c.in-Ok.ensures (begins-empty c.new-plain.ensures.begins c.in_ok-bytes.ensures.items) (search rules)
 
 -- a growth was refused, or the writer has refused nothing
 pub returns-after-has_refused : goal.returns-after-has_refused
 returns-after-has_refused g c =
-    let drawn = c.in-Err.ensures.draws in
+    let drawn = c.in-Err.ensures in
     elim c.if-has_refused.branch [
       | then-has_refused w ↦ rw w.result-is (inl refl)
       | else-has_refused w ↦ rw w.result-is (told_of_string drawn (sym c.has_refused.ensures ∙ w.if-has_refused.false))

@@ -4,5 +4,4 @@ use Rattle.codespan_reporting.proofs.term.emitting.emit_to_io_write.Goals as goa
 
 pub returns : goal.returns
 returns g c =
-    written_back g.W.Write.contents c.new-plain.result c.emit_to_write_style.new.writer c.new-plain.ensures.begins c.emit_to_write_style.ensures.draws
-    c.emit_to_write_style.ensures.meaning (search rules)
+    written_back g.W.Write.contents c.new-plain.result c.emit_to_write_style.new.writer c.new-plain.ensures.begins c.emit_to_write_style.ensures (search rules)

@@ -2,7 +2,7 @@ use Rattle.std.proofs.Common.{ap, refl}
 use Rattle.std.proofs.lemmas.Iterator.Splits.{YieldsList-from_lines}
 use Rattle.std.proofs.lemmas.Result.{err_from_is_err_and}
 use Rattle.codespan_base.proofs.Loops.{StillToCome-start, StillToCome-more, StillToCome-refused, StillToCome-end}
-use Rattle.codespan_picture.specs.RowStreams.{later_notes, note_stream}
+use Rattle.codespan_renderer.specs.Renderers.{later_notes, note_stream}
 use Rattle.codespan_renderer.proofs.Underlines.{lines-next, lines-none}
 use Rattle.codespan_renderer.proofs.term.renderer.notes.send_note.Goals as goal
 

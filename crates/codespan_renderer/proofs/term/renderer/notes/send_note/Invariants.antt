@@ -1,5 +1,5 @@
 use Rattle.std.specs.Str.Lines.{lines}
-use Rattle.codespan_picture.specs.RowStreams.{note_stream}
+use Rattle.codespan_renderer.specs.Renderers.{note_stream}
 use Rattle.codespan_renderer.proofs.Underlines.{NotesToCome}
 use Rattle.codespan_renderer.proofs.term.renderer.notes.send_note.Given as goal
 

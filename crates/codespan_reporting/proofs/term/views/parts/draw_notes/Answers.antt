@@ -7,8 +7,7 @@ use Rattle.codespan_base.specs.Streams.{Stream}
 use Rattle.codespan_base.proofs.Sends.{sent-nil}
 use Rattle.codespan_reporting.specs.Inner.Asking.{Came, Stopped}
 use Rattle.codespan_picture.specs.Picture.{look_of}
-use Rattle.codespan_renderer.specs.Renderers.{config_of, writer_of}
-use Rattle.codespan_picture.specs.RowStreams.{note_stream}
+use Rattle.codespan_renderer.specs.Renderers.{config_of, writer_of, note_stream}
 use Rattle.codespan_base.proofs.Chains.{came-then, stopped-before, stopped-then}
 use Rattle.codespan_reporting.proofs.Chains.{came_at, stopped_at}
 use Rattle.codespan_reporting.proofs.NoteRows.{notes-all, notes-cut, notes-next, stream_of_notes}

@@ -1,6 +1,6 @@
 use Rattle.std.proofs.Common.{◌<◌, ◌≤◌, [], Err, length, map, get_or, refl, sym, ap, ◌∙◌, subst, arith}
 use Rattle.std.proofs.lemmas.Result.{err_from_is_err_and}
-use Rattle.codespan_picture.specs.Lookups.{TellsNaming}
+use Rattle.codespan_reporting.specs.Inner.FileLookups.{TellsNaming}
 use Rattle.codespan_reporting.specs.Inner.GivenEntries.{entry_of}
 use Rattle.codespan_reporting.specs.Inner.Plans.{ArePlans, plans_refusal}
 use Rattle.codespan_reporting.proofs.FileParts.{from_file-first}

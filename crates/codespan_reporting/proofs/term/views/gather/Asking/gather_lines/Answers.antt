@@ -4,8 +4,7 @@ use Rattle.std.proofs.lemmas.Result.{err_from_is_err_and}
 use Rattle.codespan_base.specs.declared.diagnostic.Label.{Label}
 use Rattle.codespan_base.specs.Lemmas.Lines.{line_of_below}
 use Rattle.codespan_reporting.specs.declared.term.views.gather.Asking.{Asking}
-use Rattle.codespan_reporting.specs.Inner.AskedLabels.{AskedLabel, asked_as}
-use Rattle.codespan_picture.specs.Lookups.{line_refusal}
+use Rattle.codespan_reporting.specs.Inner.AskedLabels.{AskedLabel, asked_as, line_refusal}
 use Rattle.codespan_reporting.proofs.Contexts.{GathersLabel, GathersLines, HasEnds, gathered-start, gathered-context, gathered-reach, gathered-refused, gathered-step}
 use Rattle.codespan_reporting.proofs.term.views.gather.Asking.gather_lines.Given.{Over}
 use Rattle.codespan_reporting.proofs.term.views.gather.Asking.gather_lines.Goals.{Else-not-branch}

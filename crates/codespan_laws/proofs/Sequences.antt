@@ -1,0 +1,77 @@
+-- Items in sequence: what holds of all that they and what stands between them give.
+use Rattle.std.proofs.Common.{◌≡◌, ℕ, ◌+◌, Bool, true, false, cond, ◌==◌, List, [], ◌∷◌, ◌++◌, flat_map, Option, Some, None, refl, ap, ap₂, ◌∙◌}
+use Rattle.std.specs.List.{AllByRecursion}
+use Rattle.std.proofs.lemmas.Bool.{cond_both}
+use Rattle.std.proofs.lemmas.List.Concat.{flat_map-append}
+use Rattle.codespan_picture.specs.Lines.{is_broken}
+use Rattle.codespan_picture.specs.Sequences.{before_line, break_between, gap_between, in_sequence}
+use Rattle.codespan_laws.proofs.SortedLists.{all-append}
+
+module _ {A : Type 0} (P : A → Type 0) where
+  -- what holds of all that breaks give
+  pub all-break : (broken : ℕ → List A) → ((d : ℕ) → AllByRecursion P (broken d)) → (c d : ℕ) → AllByRecursion P (break_between broken c d)
+  all-break broken each c d = cond_both (is_broken c d) (broken d) [] (AllByRecursion P) (λ _. each d) (λ _. tt)
+
+  -- and of all that filled lines give
+  pub all-gap : (filled broken : ℕ → List A) → ((l : ℕ) → AllByRecursion P (filled l)) → ((d : ℕ) → AllByRecursion P (broken d))
+      → (c d : ℕ) → AllByRecursion P (gap_between filled broken c d)
+  all-gap filled broken fills breaks c d =
+      cond_both (d == c + 2) (filled (c + 1)) (break_between broken c d) (AllByRecursion P) (λ _. fills (c + 1)) (λ _. all-break broken breaks c d)
+
+  -- what holds of all that stands between lines holds of what stands before one
+  pub all-before : (between : ℕ → ℕ → List A) → ((c d : ℕ) → AllByRecursion P (between c d))
+      → (was : Option ℕ) (d : ℕ) → AllByRecursion P (before_line between was d)
+  all-before between gaps None d = tt
+  all-before between gaps (Some c) d = gaps c d
+
+  -- with what the items give it holds of all
+  pub all-sequence : {X : Type 0} (line_of : X → ℕ) (between : ℕ → ℕ → List A) (own : X → List A)
+      → ((c d : ℕ) → AllByRecursion P (between c d)) → ((x : X) → AllByRecursion P (own x))
+      → (was : Option ℕ) (xs : List X) → AllByRecursion P (in_sequence line_of between own was xs)
+  all-sequence line_of between own gaps each was [] = tt
+  all-sequence line_of between own gaps each was (x ∷ xs) =
+      all-append P (before_line between was (line_of x) ++ own x) (in_sequence line_of between own (Some (line_of x)) xs)
+      (all-append P (before_line between was (line_of x)) (own x) (all-before between gaps was (line_of x)) (each x))
+      (all-sequence line_of between own gaps each (Some (line_of x)) xs)
+
+-- what all of a sequence gives is what its items give and what stands between them gives
+pub flat_map-sequence : {X A B : Type 0} (give : A → List B) (line_of : X → ℕ) (between : ℕ → ℕ → List A) (own : X → List A) (was : Option ℕ) (xs : List X)
+    → flat_map give (in_sequence line_of between own was xs)
+    ≡ in_sequence line_of (λ c d. flat_map give (between c d)) (λ x. flat_map give (own x)) was xs
+flat_map-sequence give line_of between own was [] = refl
+flat_map-sequence {X} {A} {B} give line_of between own was (x ∷ xs) =
+    flat_map-append give (before_line between was (line_of x) ++ own x) (in_sequence line_of between own (Some (line_of x)) xs)
+    ∙ ap₂ (λ a b. a ++ b)
+    (flat_map-append give (before_line between was (line_of x)) (own x) ∙ ap (λ (first : List B). first ++ flat_map give (own x)) (before was))
+    (flat_map-sequence give line_of between own (Some (line_of x)) xs)
+  where
+    before : (c : Option ℕ) → flat_map give (before_line between c (line_of x)) ≡ before_line (λ c d. flat_map give (between c d)) c (line_of x)
+    before None = refl
+    before (Some c) = refl
+
+-- what a gap gives is what the filled line or the break in it gives
+pub flat_map-gap : {A B : Type 0} (give : A → List B) (filled broken : ℕ → List A) (c d : ℕ)
+    → flat_map give (gap_between filled broken c d) ≡ gap_between (λ l. flat_map give (filled l)) (λ l. flat_map give (broken l)) c d
+flat_map-gap give filled broken c d = by_tests (d == c + 2) (is_broken c d)
+  where
+    by_tests : (a b : Bool) → flat_map give (cond a (filled (c + 1)) (cond b (broken d) []))
+        ≡ cond a (flat_map give (filled (c + 1))) (cond b (flat_map give (broken d)) [])
+    by_tests true b = refl
+    by_tests false true = refl
+    by_tests false false = refl
+
+-- where breaks give nothing, items give one after the other
+pub sequence-flat : {X A : Type 0} (line_of : X → ℕ) (own : X → List A) (was : Option ℕ) (xs : List X)
+    → in_sequence line_of (break_between (λ _. [])) own was xs ≡ flat_map own xs
+sequence-flat line_of own was [] = refl
+sequence-flat {X} {A} line_of own was (x ∷ xs) =
+    ap (λ (first : List A). first ++ own x ++ in_sequence line_of (break_between (λ _. [])) own (Some (line_of x)) xs) (nothing was)
+    ∙ ap (λ (rest : List A). own x ++ rest) (sequence-flat line_of own (Some (line_of x)) xs)
+  where
+    by_test : (b : Bool) → cond {A = List A} b [] [] ≡ []
+    by_test true = refl
+    by_test false = refl
+
+    nothing : (before : Option ℕ) → before_line {A = A} (break_between (λ _. [])) before (line_of x) ≡ []
+    nothing None = refl
+    nothing (Some c) = by_test (is_broken c (line_of x))

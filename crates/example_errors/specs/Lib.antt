@@ -1,0 +1,2 @@
+-- where the errors are in the text of the settings
+pub mod Places

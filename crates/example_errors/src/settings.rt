@@ -1,0 +1,105 @@
+//! What can be wrong in the settings of a server, and how that is reported.
+
+ghost use Rattle.std.specs.Prelude.{◌≡◌, IfOk, IsSome, IfSome, slice_get};
+ghost use Rattle.example_errors.specs.Places.{wrong_bytes};
+
+use codespan_reporting::diagnostic::{Diagnostic, Label, LabelStyle};
+use codespan_reporting::files::Error;
+use std::alloc::Global;
+use std::fmt;
+use std::fmt::Write;
+use std::ops::Range;
+
+/// A key of the settings.
+#[derive(Clone, Copy)]
+pub enum Key {
+    /// The port that the server listens on.
+    Port,
+    /// How many requests are handled at a time.
+    Workers,
+    /// How many seconds a request may take.
+    Timeout,
+}
+
+/// The key, as it is written in the settings.
+impl fmt::Display for Key {
+    fn fmt<W: Write>(&self, f: &mut fmt::Formatter<W>) -> fmt::Result {
+        match self {
+            Key::Port => write!(f, "port"),
+            Key::Workers => write!(f, "workers"),
+            Key::Timeout => write!(f, "timeout"),
+        }
+    }
+}
+
+/// What is wrong in a text of settings. Ranges are bytes of the text.
+#[derive(Drop)]
+pub enum SettingsError {
+    /// The value of a key is not a number.
+    NotANumber {
+        /// The key.
+        key: Key,
+        /// Where its value stands.
+        value: Range<usize>,
+    },
+    /// A key is set twice.
+    SetTwice {
+        /// The key.
+        key: Key,
+        /// Where it stands first.
+        first: Range<usize>,
+        /// Where it stands again.
+        again: Range<usize>,
+    },
+    /// A key is none of the settings.
+    UnknownKey {
+        /// Where the word stands.
+        name: Range<usize>,
+        /// The key that may have been meant.
+        meant: Option<Key>,
+    },
+}
+
+impl SettingsError {
+    /// The diagnostic of the error, in this file. Its first label is on the bytes that are wrong.
+    pub fn diagnostic<FileId: Copy + Drop>(
+        &self,
+        alloc: Global,
+        file: FileId,
+    ) -> Result<Diagnostic<FileId>, Error>
+        ensures labeled { IfOk result (λ d. IsSome (slice_get d.labels.items 0)) }
+        ensures place { IfOk result (λ d. IfSome (slice_get d.labels.items 0) (λ label.
+            (label.style ≡ LabelStyle.Primary) × (label.range ≡ wrong_bytes self.now))) }
+    {
+        match self {
+            SettingsError::NotANumber { key, value } => {
+                let wrong = Label::primary(alloc, file, value.start..value.end);
+                Diagnostic::error(alloc)
+                    .with_code("S001")?
+                    .with_message(format_args!("`{key}` must be a number"))?
+                    .with_label(wrong.with_message("not a number")?)
+            }
+            SettingsError::SetTwice { key, first, again } => {
+                let wrong = Label::primary(alloc, file, again.start..again.end);
+                let before = Label::secondary(alloc, file, first.start..first.end);
+                Diagnostic::warning(alloc)
+                    .with_code("S002")?
+                    .with_message(format_args!("`{key}` is set twice"))?
+                    .with_label(wrong.with_message("set again here")?)?
+                    .with_label(before.with_message("first set here")?)?
+                    .with_note("the last value is used")
+            }
+            SettingsError::UnknownKey { name, meant } => {
+                let wrong = Label::primary(alloc, file, name.start..name.end);
+                let diagnostic = Diagnostic::error(alloc)
+                    .with_code("S003")?
+                    .with_message("unknown key")?
+                    .with_label(wrong.with_message("no such setting")?)?;
+                match meant {
+                    Some(key) => diagnostic.with_note(format_args!("help: did you mean `{key}`?")),
+                    None => Ok(diagnostic),
+                }
+            }
+        }
+    }
+}

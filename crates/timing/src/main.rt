@@ -1,0 +1,39 @@
+//! `timing` draws the diagnostic on standard input, as often as that says, and writes the last picture.
+//!
+//! On standard error it tells in nanoseconds how long the drawing took, in one line. It is made to be measured beside a program over the
+//! Rust crate that reads the same: tools/bench does that. [`fields`] says what the input is. Where the input is something else, or anything
+//! is refused, the status is 1.
+#![tactic(auto)]
+
+mod fault;
+mod fields;
+mod request;
+
+use codespan_reporting::term::{Config, emit_into_string};
+use fault::Fault;
+use fields::Fields;
+use request::{read_diagnostic, read_files};
+use std::io::{Read, Write};
+use std::time::Instant;
+
+fn main(rt: HostRuntime) -> Result<(), Fault> {
+    let alloc = rt.alloc();
+    let mut input = Vec::new(alloc);
+    rt.stdin().read_to_end(&mut input)?;
+    let mut fields = Fields::new(input.as_slice());
+    let times = fields.number()?;
+    let files = read_files(alloc, &mut fields)?;
+    let diagnostic = read_diagnostic(alloc, &mut fields)?;
+
+    let config = Config::default();
+    let mut picture = String::new(alloc);
+    let start = Instant::now(&rt)?;
+    for _ in 0..times {
+        picture = emit_into_string(&config, &files, &diagnostic)?;
+    }
+    let nanos = start.elapsed(&rt)?.as_nanos();
+
+    rt.stdout().write_all(picture.as_bytes())?;
+    writeln!(rt.stderr(), "{nanos}")?;
+    Ok(())
+}

@@ -1,0 +1,51 @@
+//! What is to be drawn.
+
+use crate::fault::Fault;
+use crate::fields::Fields;
+use codespan_reporting::diagnostic::{Diagnostic, Label, LabelStyle};
+use codespan_reporting::files::SimpleFiles;
+use std::alloc::Global;
+
+/// Reads the files.
+pub fn read_files<'a>(
+    alloc: Global,
+    fields: &mut Fields<'a>,
+) -> Result<SimpleFiles<&'a str, &'a str>, Fault> {
+    let mut files = SimpleFiles::new(alloc);
+    for _ in 0..fields.number()? {
+        let name = fields.text()?;
+        files.add(name, fields.text()?)?;
+    }
+    Ok(files)
+}
+
+/// Reads the diagnostic, an error.
+pub fn read_diagnostic(alloc: Global, fields: &mut Fields<'_>) -> Result<Diagnostic<usize>, Fault> {
+    let mut diagnostic = Diagnostic::error(alloc);
+    let code = fields.text()?;
+    if !code.is_empty() {
+        diagnostic = diagnostic.with_code(code)?;
+    }
+    diagnostic = diagnostic.with_message(fields.text()?)?;
+    for _ in 0..fields.number()? {
+        diagnostic = diagnostic.with_label(read_label(alloc, fields)?)?;
+    }
+    for _ in 0..fields.number()? {
+        diagnostic = diagnostic.with_note(fields.text()?)?;
+    }
+    Ok(diagnostic)
+}
+
+/// Reads a label.
+fn read_label(alloc: Global, fields: &mut Fields<'_>) -> Result<Label<usize>, Fault> {
+    let style = match fields.line()? {
+        "primary" => LabelStyle::Primary,
+        "secondary" => LabelStyle::Secondary,
+        _ => return Err(Fault::Input),
+    };
+    let file = fields.number()?;
+    let start = fields.number()?;
+    let end = fields.number()?;
+    let label = Label::new(alloc, style, file, start..end);
+    Ok(label.with_message(fields.text()?)?)
+}

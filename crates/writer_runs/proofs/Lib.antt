@@ -1,0 +1,2 @@
+-- a mark that broke off
+mod BrokenMarks

@@ -1,0 +1,2 @@
+-- the writer of styles that stops at a mark
+pub mod Spellings

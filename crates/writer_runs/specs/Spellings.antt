@@ -1,0 +1,19 @@
+-- The spelling of the program's own writer of styles.
+use Rattle.std.specs.Prelude.{ℕ, Bool, List, [], ◌∷◌, Option, codes}
+use Rattle.codespan_base.specs.Streams.{StyleMark, Header, HeaderMessage, LineNumber, NoteBullet, SourceBorder, LabelMark, Reset}
+use Rattle.codespan_base.specs.WriterLaw.{Sink}
+
+-- the escape sequence of a mark
+abbrev pub sequence : StyleMark → List ℕ
+sequence (Header severity) = 0x1b ∷ codes "[1m"
+sequence HeaderMessage = 0x1b ∷ codes "[2m"
+sequence LineNumber = 0x1b ∷ codes "[3m"
+sequence NoteBullet = 0x1b ∷ codes "[4m"
+sequence SourceBorder = 0x1b ∷ codes "[5m"
+sequence (LabelMark severity style) = 0x1b ∷ codes "[6m"
+sequence Reset = 0x1b ∷ codes "[0m"
+
+-- what the law sees of the writer
+abbrev pub spelling_sink : Bool → Option (List ℕ) → Sink
+spelling_sink refused held =
+    record { frame = record { spelling = sequence; refused = refused; through = [] }; held = held }

@@ -1,0 +1,147 @@
+//! The calls of `Renderer` that draw rows.
+
+use crate::drawing::Draws;
+use codespan_reporting::diagnostic::{LabelStyle, Severity};
+use codespan_reporting::files::{Error, Location};
+use codespan_reporting::term::{
+    Config, Locus, MultiLabel, PlainWriter, Renderer, SingleLabel, WriteStyle, lanes_in_order,
+};
+use std::alloc::Global;
+use std::fmt;
+use std::io::Write;
+
+/// A line of source, at padding 1.
+#[derive(Clone, Copy)]
+pub struct Line<'text> {
+    /// Its number.
+    pub number: usize,
+    /// Its text.
+    pub text: &'text str,
+    /// The severity that its labels are coloured by.
+    pub severity: Severity,
+    /// Its labels.
+    pub labels: &'text [SingleLabel<'text>],
+    /// How many lanes the file has.
+    pub lanes: usize,
+    /// What the lanes do on the line.
+    pub marks: &'text [(usize, LabelStyle, MultiLabel<'text>)],
+}
+
+/// A call of `Renderer` that draws rows.
+#[derive(Clone, Copy)]
+pub enum RowCall<'text> {
+    /// `render_header` of an error, with a place: its code and its message.
+    Header(Option<&'text str>, &'text str),
+    /// `render_empty`
+    Empty,
+    /// `render_snippet_start` at padding 1.
+    Start,
+    /// `render_snippet_source`
+    Source(Line<'text>),
+    /// `render_snippet_empty` at a padding, in a file of so many lanes.
+    SnippetEmpty(usize, usize),
+    /// `render_snippet_break` at a padding, in a file of so many lanes, which do this.
+    Break(usize, usize, &'text [(usize, LabelStyle, MultiLabel<'text>)]),
+    /// `render_snippet_note` at a padding.
+    Note(usize, &'text str),
+}
+
+/// The name of the call.
+impl fmt::Display for RowCall<'_> {
+    fn fmt<W: fmt::Write>(&self, f: &mut fmt::Formatter<W>) -> fmt::Result {
+        match self {
+            RowCall::Header(_, _) => write!(f, "render_header"),
+            RowCall::Empty => write!(f, "render_empty"),
+            RowCall::Start => write!(f, "render_snippet_start"),
+            RowCall::Source(_) => write!(f, "render_snippet_source"),
+            RowCall::SnippetEmpty(_, _) => write!(f, "render_snippet_empty"),
+            RowCall::Break(_, _, _) => write!(f, "render_snippet_break"),
+            RowCall::Note(_, _) => write!(f, "render_snippet_note"),
+        }
+    }
+}
+
+/// A call of `Renderer`, and the place that it may tell.
+#[derive(Drop)]
+pub struct Direct<'text> {
+    call: RowCall<'text>,
+    locus: Locus,
+}
+
+impl<'text> Direct<'text> {
+    /// The call, with the first place of `f.txt`. Refuses with `OutOfMemory`.
+    pub fn new(alloc: Global, call: RowCall<'text>) -> Result<Self, Error> {
+        Ok(Direct {
+            call,
+            locus: Locus {
+                name: String::from_str(alloc, "f.txt")?,
+                location: Location {
+                    line_number: 1,
+                    column_number: 1,
+                },
+            },
+        })
+    }
+}
+
+/// Draws a line. Refuses lanes that are not in order.
+fn draw_line<W: WriteStyle>(
+    renderer: &mut Renderer<'_, '_, W>,
+    line: Line<'_>,
+) -> Result<(), Error> {
+    if !lanes_in_order(line.lanes, line.marks) {
+        return Err(Error::FormatError);
+    }
+    renderer.render_snippet_source(
+        1,
+        line.number,
+        line.text,
+        line.severity,
+        line.labels,
+        line.lanes,
+        line.marks,
+    )
+}
+
+/// Draws a break. Refuses lanes that are not in order.
+fn draw_break<W: WriteStyle>(
+    renderer: &mut Renderer<'_, '_, W>,
+    padding: usize,
+    lanes: usize,
+    marks: &[(usize, LabelStyle, MultiLabel<'_>)],
+) -> Result<(), Error> {
+    if !lanes_in_order(lanes, marks) {
+        return Err(Error::FormatError);
+    }
+    renderer.render_snippet_break(padding, Severity::Error, lanes, marks)
+}
+
+impl<'text> Draws for Direct<'text> {
+    fn draw<W: WriteStyle>(&self, writer: &mut W) -> Result<(), Error> {
+        let config = Config::default();
+        let mut renderer = Renderer::new(writer, &config);
+        match self.call {
+            RowCall::Header(code, message) => {
+                renderer.render_header(Some(&self.locus), Severity::Error, code, message)
+            }
+            RowCall::Empty => renderer.render_empty(),
+            RowCall::Start => renderer.render_snippet_start(1, &self.locus),
+            RowCall::Source(line) => draw_line(&mut renderer, line),
+            RowCall::SnippetEmpty(padding, lanes) => {
+                renderer.render_snippet_empty(padding, Severity::Error, lanes, &[])
+            }
+            RowCall::Break(padding, lanes, marks) => {
+                draw_break(&mut renderer, padding, lanes, marks)
+            }
+            RowCall::Note(padding, message) => renderer.render_snippet_note(padding, message),
+        }
+    }
+
+    fn draw_plain<W: Write>(&self, writer: &mut W) -> Result<(), Error> {
+        self.draw(&mut PlainWriter::new(writer))
+    }
+
+    fn has_marks(&self) -> bool {
+        !matches!(self.call, RowCall::Empty)
+    }
+}

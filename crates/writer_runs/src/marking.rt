@@ -1,0 +1,135 @@
+//! A writer of styles that stops at a mark.
+
+ghost use Rattle.std.specs.Prelude.{◌≡◌, false, refl};
+ghost use Rattle.codespan_base.specs.Streams.{bytes};
+ghost use Rattle.codespan_base.specs.WriterLaw.{Sends};
+ghost use Rattle.writer_runs.specs.Spellings.{spelling_sink};
+
+use codespan_reporting::diagnostic::{LabelStyle, Severity};
+use codespan_reporting::term::WriteStyle;
+use codespan_reporting::term::config::pouring::pour;
+use codespan_reporting::term::config::putting::{put_through, send_through};
+use std::io;
+use std::io::{ErrorKind, Write};
+
+/// The count of calls after a refusal, at one more call.
+fn counted(calls_after: usize, refused: bool) -> usize {
+    if refused {
+        calls_after.saturating_add(1)
+    } else {
+        calls_after
+    }
+}
+
+/// A writer that spells each mark as an escape sequence, and refuses the mark after so many others, once the first byte of its spelling is sent.
+#[derive(Drop)]
+pub struct Marking<W> {
+    inner: W,
+    refused: bool,
+    marks_left: usize,
+    /// How many marks and writes came after the refused one.
+    pub calls_after: usize,
+}
+
+impl<W: Write> Marking<W> {
+    /// A writer of `marks` marks.
+    pub fn new(writer: W, marks: usize) -> Marking<W> {
+        Marking {
+            inner: writer,
+            refused: false,
+            marks_left: marks,
+            calls_after: 0,
+        }
+    }
+
+    /// Whether a mark or a write was refused.
+    pub fn has_refused(&self) -> bool {
+        self.refused
+    }
+
+    /// The writer inside.
+    pub fn into_inner(self) -> W {
+        self.inner
+    }
+
+    /// Sends the spelling of a mark, or its first byte and then no more.
+    fn send_mark(&mut self, text: &[u8]) -> io::Result<()>
+        ensures { Sends (spelling_sink self.old.refused (W.contents self.old.inner))
+            (bytes text.now) result
+            (spelling_sink self.new.refused (W.contents self.new.inner)) }
+    {
+        self.calls_after = counted(self.calls_after, self.refused);
+        if self.marks_left == 0 {
+            self.break_off(text)
+        } else {
+            self.marks_left -= 1;
+            send_through(&mut self.inner, &mut self.refused, text)
+        }
+    }
+
+    /// Sends the first byte and refuses.
+    fn break_off(&mut self, text: &[u8]) -> io::Result<()>
+        ensures { Sends (spelling_sink self.old.refused (W.contents self.old.inner))
+            (bytes text.now) result
+            (spelling_sink self.new.refused (W.contents self.new.inner)) }
+    {
+        self.refused = true;
+        let (first, _rest) = text.split_at(text.len().min(1));
+        match pour(&mut self.inner, first) {
+            Ok(()) => Err(io::Error::from(ErrorKind::PermissionDenied)),
+            Err(error) => Err(error),
+        }
+    }
+}
+
+impl<W: Write> Write for Marking<W> {
+    ghost contents = { λ t. W.contents t.inner };
+
+    fn write(&mut self, buf: &[u8]) -> io::Result<usize> {
+        self.inner.write(buf)
+    }
+
+    fn flush(&mut self) -> io::Result<()> {
+        self.inner.flush()
+    }
+}
+
+#[tactic(auto, using(codespan_base::proofs::Marks::marking))]
+impl<W: Write> WriteStyle for Marking<W> {
+    ghost sink = { λ t. spelling_sink t.refused (W.contents t.inner) };
+
+    fn set_header(&mut self, _severity: Severity) -> io::Result<()> {
+        self.send_mark(b"\x1b[1m")
+    }
+
+    fn set_header_message(&mut self) -> io::Result<()> {
+        self.send_mark(b"\x1b[2m")
+    }
+
+    fn set_line_number(&mut self) -> io::Result<()> {
+        self.send_mark(b"\x1b[3m")
+    }
+
+    fn set_note_bullet(&mut self) -> io::Result<()> {
+        self.send_mark(b"\x1b[4m")
+    }
+
+    fn set_source_border(&mut self) -> io::Result<()> {
+        self.send_mark(b"\x1b[5m")
+    }
+
+    fn set_label(&mut self, _severity: Severity, _label_style: LabelStyle) -> io::Result<()> {
+        self.send_mark(b"\x1b[6m")
+    }
+
+    fn reset(&mut self) -> io::Result<()> {
+        self.send_mark(b"\x1b[0m")
+    }
+
+    fn put(&mut self, bytes: &[u8]) -> io::Result<usize> {
+        self.calls_after = counted(self.calls_after, self.refused);
+        put_through(&mut self.inner, &mut self.refused, bytes)
+    }
+
+    ghost tells = { λ _. refl };
+}

@@ -1,0 +1,184 @@
+//! What is drawn, and what has to come.
+
+use codespan_reporting::diagnostic::{Diagnostic, Label, LabelStyle, Severity};
+use codespan_reporting::files::Error;
+use codespan_reporting::term::{Chars, Config, DisplayStyle, Layout};
+use std::alloc::Global;
+
+/// A label: its style, the place of its file among the files, the start and the end of its range, and its message.
+pub type GivenLabel<'text> = (LabelStyle, usize, usize, usize, &'text str);
+
+/// The kind of table that the files of a row stand in.
+#[derive(Clone, Copy)]
+pub enum Table {
+    /// `SimpleFiles`.
+    Several,
+    /// A `MappedFile`, whose line of this index has this number.
+    Mapped(usize, usize),
+    /// A file whose lines are numbered from 0.
+    FromZero,
+}
+
+/// The characters that a row is drawn with.
+#[derive(Clone, Copy)]
+pub enum Look {
+    /// Those of box drawing.
+    Boxes,
+    /// ASCII alone.
+    Ascii,
+    /// Those of box drawing, with others at the bottom of a label over several lines.
+    OtherBottoms,
+    /// Those of box drawing, with another from the top corner of a label over several lines to its start.
+    OtherTops,
+}
+
+/// What a row says of its text in escape sequences.
+#[derive(Clone, Copy)]
+pub enum Colours<'text> {
+    /// What it ends with.
+    End(&'text str),
+    /// All of it.
+    Whole(&'text str),
+}
+
+impl Colours<'_> {
+    /// Whether a text is as it says.
+    pub fn are_those(self, text: &[u8]) -> bool {
+        match self {
+            Colours::End(end) => text.ends_with(end.as_bytes()),
+            Colours::Whole(whole) => text == whole.as_bytes(),
+        }
+    }
+}
+
+/// A worked row: a diagnostic, its files, and its texts.
+#[derive(Clone, Copy)]
+pub struct Row<'text> {
+    /// What it is called.
+    pub name: &'text str,
+    /// What its files stand in.
+    pub table: Table,
+    /// The name and the text of each file.
+    pub files: &'text [(&'text str, &'text str)],
+    /// Its characters.
+    pub look: Look,
+    /// Its layout.
+    pub layout: Layout,
+    /// The cells between its tab stops.
+    pub tab_width: usize,
+    /// The lines that are shown after a start, before an end, before a label and after one.
+    pub context: [usize; 4],
+    /// Its severity.
+    pub severity: Severity,
+    /// Its code.
+    pub code: Option<&'text str>,
+    /// Its message.
+    pub message: &'text str,
+    /// Its labels.
+    pub labels: &'text [GivenLabel<'text>],
+    /// Its notes.
+    pub notes: &'text [&'text str],
+    /// Its text in rich style, where the row says it.
+    pub rich: Option<&'text str>,
+    /// Its text in medium style, where the row says it.
+    pub medium: Option<&'text str>,
+    /// Its text in short style, where the row says it.
+    pub short: Option<&'text str>,
+    /// Its text in escape sequences, in each style of which the row says the text.
+    pub colours: Colours<'text>,
+}
+
+/// A row that says nothing.
+pub const ROW: Row<'_> = Row {
+    name: "",
+    table: Table::Several,
+    files: &[],
+    look: Look::Boxes,
+    layout: Layout::Classic,
+    tab_width: 4,
+    context: [3, 1, 0, 0],
+    severity: Severity::Error,
+    code: None,
+    message: "",
+    labels: &[],
+    notes: &[],
+    rich: None,
+    medium: None,
+    short: None,
+    colours: Colours::End(""),
+};
+
+impl Look {
+    /// The characters.
+    fn chars<'chars>(self) -> Chars<'chars> {
+        match self {
+            Look::Boxes => Chars::box_drawing(),
+            Look::Ascii => Chars::ascii(),
+            Look::OtherBottoms => Chars {
+                multi_bottom: '=',
+                multi_primary_caret_end: '*',
+                multi_secondary_caret_end: '"',
+                ..Chars::box_drawing()
+            },
+            Look::OtherTops => Chars {
+                multi_top: '%',
+                ..Chars::box_drawing()
+            },
+        }
+    }
+}
+
+impl<'text> Row<'text> {
+    /// The text of the row in a style, where the row says it.
+    pub fn text(&self, style: DisplayStyle) -> Option<&'text str> {
+        match style {
+            DisplayStyle::Rich => self.rich,
+            DisplayStyle::Medium => self.medium,
+            DisplayStyle::Short => self.short,
+        }
+    }
+
+    /// What is said of its text in escape sequences in a style; nothing where the row does not say the text.
+    pub fn colours(&self, style: DisplayStyle) -> Colours<'text> {
+        match self.text(style) {
+            Some(_) => self.colours,
+            None => Colours::End(""),
+        }
+    }
+
+    /// How the row is drawn in a style.
+    pub fn config<'chars>(&self, style: DisplayStyle) -> Config<'chars> {
+        let [start, end, before, after] = self.context;
+        Config {
+            display_style: style,
+            tab_width: self.tab_width,
+            chars: self.look.chars(),
+            layout: self.layout,
+            start_context_lines: start,
+            end_context_lines: end,
+            before_label_lines: before,
+            after_label_lines: after,
+        }
+    }
+
+    /// The diagnostic of the row, over files of these ids.
+    pub fn diagnostic<FileId: Copy + Drop>(
+        &self,
+        alloc: Global,
+        ids: &[FileId],
+    ) -> Result<Diagnostic<FileId>, Error> {
+        let mut diagnostic = Diagnostic::new(alloc, self.severity).with_message(self.message)?;
+        if let Some(code) = self.code {
+            diagnostic = diagnostic.with_code(code)?;
+        }
+        for (style, place, start, end, message) in self.labels {
+            let id = ids.get(*place).ok_or(Error::FileMissing)?;
+            let label = Label::new(alloc, *style, *id, *start..*end).with_message(*message)?;
+            diagnostic = diagnostic.with_label(label)?;
+        }
+        for note in self.notes {
+            diagnostic = diagnostic.with_note(*note)?;
+        }
+        Ok(diagnostic)
+    }
+}

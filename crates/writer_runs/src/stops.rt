@@ -1,0 +1,110 @@
+//! Runs into writers that stop.
+
+use crate::drawing::Draws;
+use crate::failure::{Ending, Failure};
+use crate::marking::Marking;
+use crate::path::Path;
+use crate::record::Record;
+use codespan_base_tests::writers::stopping::{Stop, Stopping, is_refused};
+use std::alloc::Global;
+
+/// How a writer stops at a write.
+pub const STOPS: [Stop; 4] = [
+    Stop::Refuses,
+    Stop::TakesNothing,
+    Stop::IsInterrupted,
+    Stop::TakesOneByte,
+];
+
+/// The writers: those that stop, the one that takes a byte at a time, and the one that stops at a mark.
+pub const WRITERS: usize = STOPS.len() + 2;
+
+/// Draws by a path into each writer that stops, at each of the writes that are made; answers how many runs these were.
+pub fn judge_stops<D: Draws>(
+    alloc: Global,
+    path: Path,
+    drawn: &D,
+    record: &Record,
+) -> Result<usize, Failure> {
+    let whole = record.text.as_slice();
+    let slow = Stopping::new(alloc, 1, usize::MAX, Stop::Refuses);
+    if !stops_at(path, drawn, slow, whole, whole.len()) {
+        return Err(Failure::Stopped(path, Ending::Slow, 0));
+    }
+    let mut runs = 1usize;
+    for stop in STOPS {
+        for (writes, start) in record.starts.iter().enumerate() {
+            let inner = Stopping::new(alloc, usize::MAX, writes, stop);
+            let length = held_length(stop, *start, whole.len());
+            if !stops_at(path, drawn, inner, whole, length) {
+                return Err(Failure::Stopped(path, Ending::AtWrite(stop), writes));
+            }
+            runs = runs.saturating_add(1);
+        }
+        let inner = Stopping::new(alloc, usize::MAX, record.starts.len(), stop);
+        if !stops_at(path, drawn, inner, whole, whole.len()) {
+            return Err(Failure::Stopped(path, Ending::AtWrite(stop), record.starts.len()));
+        }
+        runs = runs.saturating_add(1);
+    }
+    Ok(runs)
+}
+
+/// The bytes that a writer holds which stops so, where so many were written before.
+fn held_length(stop: Stop, start: usize, whole: usize) -> usize {
+    match stop {
+        Stop::TakesOneByte => start.saturating_add(1).min(whole),
+        Stop::Refuses | Stop::TakesNothing | Stop::IsInterrupted => start,
+    }
+}
+
+/// Draws by a path into a writer, and answers whether it holds this length of the whole text then: where that is less than all, the answer
+/// is `Io`, the writer has stopped, and no write followed.
+fn stops_at<D: Draws>(
+    path: Path,
+    drawn: &D,
+    mut inner: Stopping,
+    whole: &[u8],
+    length: usize,
+) -> bool {
+    let is_whole = length == whole.len();
+    let answer = path.draw(drawn, &mut inner);
+    is_refused(&answer) == Some(!is_whole)
+        && inner.is_right(is_whole, whole)
+        && inner.text.len() == length
+}
+
+/// Draws to the program's own writer of styles, which refuses each mark in turn after its first byte; answers how many runs these were.
+pub fn judge_marks<D: Draws>(alloc: Global, drawn: &D, whole: &[u8]) -> Result<usize, Failure> {
+    let mut marks = 0usize;
+    for (place, byte) in whole.iter().enumerate() {
+        if *byte == b'\x1b' {
+            let (held, _rest) = whole.split_at(place.saturating_add(1).min(whole.len()));
+            if !stops_at_mark(alloc, drawn, marks, held, true) {
+                return Err(Failure::Stopped(Path::Own, Ending::AtMark, marks));
+            }
+            marks = marks.saturating_add(1);
+        }
+    }
+    if !stops_at_mark(alloc, drawn, marks, whole, false) {
+        return Err(Failure::Stopped(Path::Own, Ending::AtMark, marks));
+    }
+    Ok(marks.saturating_add(1))
+}
+
+/// Draws to a writer that refuses the mark after so many, and answers whether it holds this then: where that is not all, the answer is `Io`,
+/// and no mark and no write followed.
+fn stops_at_mark<D: Draws>(
+    alloc: Global,
+    drawn: &D,
+    marks: usize,
+    held: &[u8],
+    is_stopped: bool,
+) -> bool {
+    let mut writer = Marking::new(Vec::new(alloc), marks);
+    let answer = drawn.draw(&mut writer);
+    is_refused(&answer) == Some(is_stopped)
+        && writer.has_refused() == is_stopped
+        && writer.calls_after == 0
+        && writer.into_inner().as_slice() == held
+}

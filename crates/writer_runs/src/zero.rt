@@ -1,0 +1,114 @@
+//! A table of files whose lines are numbered from 0.
+
+ghost use Rattle.std.specs.Prelude.{refl, None, Some};
+
+use codespan_reporting::files::{Error, Files, Location, SimpleFile};
+use std::alloc::Global;
+use std::ops::Range;
+
+/// One file, whose lines are numbered by their indices.
+#[derive(Drop)]
+pub struct FromZero<'text> {
+    file: SimpleFile<&'text str, &'text str>,
+}
+
+impl<'text> FromZero<'text> {
+    /// The file of this name and text. Refuses with `OutOfMemory`.
+    pub fn new(alloc: Global, name: &'text str, text: &'text str) -> Result<Self, Error> {
+        Ok(FromZero {
+            file: SimpleFile::new(alloc, name, text)?,
+        })
+    }
+}
+
+impl<'a, 'text: 'a> Files<'a> for FromZero<'text> {
+    ghost use Rattle.codespan_base.specs.FileTables.{name_of, source_of};
+    ghost use Rattle.codespan_base.specs.FileModel.{line_of};
+    ghost use Rattle.codespan_base.specs.FileModel.Lookup.{Name as NameLookup, Source as SourceLookup, LineIndex, LineNumber, ColumnNumber, LocationAt, LineRange};
+    ghost use Rattle.codespan_base.specs.Lines.{line_starts_of};
+    ghost use Rattle.codespan_base.specs.SimpleModel.{simple_file, simple_column, past_end};
+    ghost use Rattle.codespan_base.specs.Lemmas.Simple.{renumbered_lawful, simple_lawful, simple_past_end, text_fits, text_is_utf8};
+
+    type FileId = ();
+
+    type Name = &'text str;
+
+    type Source = &'text str;
+
+    // The file of the text, with other numbers.
+    ghost database = { λ s. record {
+      same = ⟦<() as PartialEq>⟧.eq;
+      file = λ _.
+          let text = (source_of s.file).now in
+          record (simple_file (Some (name_of s.file).now) text) {
+            number = λ i. i;
+            location = λ byte.
+                let i = line_of (line_starts_of text) byte in
+                record { line_number = i; column_number = simple_column text i byte };
+          };
+      refusal = λ _. elim [
+        | NameLookup ↦ None
+        | SourceLookup ↦ None
+        | LineIndex byte ↦ None
+        | LineNumber i ↦ None
+        | ColumnNumber i byte ↦ past_end (source_of s.file).now i
+        | LocationAt byte ↦ None
+        | LineRange i ↦ past_end (source_of s.file).now i
+      ];
+    } };
+
+    fn name(&'a self, _id: ()) -> Result<&'text str, Error> {
+        Ok(*self.file.name())
+    }
+
+    fn source(&'a self, _id: ()) -> Result<&'text str, Error> {
+        Ok(*self.file.source())
+    }
+
+    fn line_index(&'a self, _id: (), byte_index: usize) -> Result<usize, Error> {
+        self.file.line_index((), byte_index)
+    }
+
+    fn line_number(&'a self, _id: (), line_index: usize) -> Result<usize, Error> {
+        Ok(line_index)
+    }
+
+    fn column_number(
+        &'a self,
+        _id: (),
+        line_index: usize,
+        byte_index: usize,
+    ) -> Result<usize, Error> {
+        self.file.column_number((), line_index, byte_index)
+    }
+
+    // The byte's line is a line, so its column is told.
+    #[tactic(auto, using(codespan_base::specs::Lemmas::Lines::line_of_below))]
+    fn location(&'a self, _id: (), byte_index: usize) -> Result<Location, Error> {
+        let line_index = self.file.line_index((), byte_index)?;
+        Ok(Location {
+            line_number: line_index,
+            column_number: self.file.column_number((), line_index, byte_index)?,
+        })
+    }
+
+    fn line_range(&'a self, _id: (), line_index: usize) -> Result<Range<usize>, Error> {
+        self.file.line_range((), line_index)
+    }
+
+    // The lines are those of the file of a text, which is lawful; numbers are free.
+    ghost lawful = { λ s _.
+        let text = (source_of s.file).now in
+        let name = Some (name_of s.file).now in
+        renumbered_lawful (simple_file name text) _ _ _
+        (simple_lawful name text (text_is_utf8 s.file) (text_fits s.file)) };
+
+    // There is one id.
+    ghost same_file = { λ s i j e. (refl, refl) };
+
+    ghost same_is = { λ s. refl };
+
+    // A line past the last is refused as there.
+    ghost past_end = { λ s _ i.
+        simple_past_end (Some (name_of s.file).now) (source_of s.file).now i };
+}

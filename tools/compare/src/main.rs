@@ -1,0 +1,104 @@
+//! `compare < CASES` draws cases of the gallery by the Rust crate, and writes for each `NAME KIND LENGTH`, and then a text of that many bytes
+//! and a newline. KIND is `drawn`, and the text is the picture; or `refused`, and the text is the error, a newline, and what was drawn before
+//! the refusal; or `panicked`, with an empty text. A case in colours is drawn with escape sequences.
+
+mod case;
+mod mapped;
+
+use case::{Case, Table};
+use codespan_reporting::diagnostic::{Diagnostic, Label};
+use codespan_reporting::files::{Files, SimpleFile, SimpleFiles};
+use codespan_reporting::term::{self, termcolor::Ansi, Styles, StylesWriter};
+use mapped::MappedFile;
+use std::io::{self, Read, Write};
+use std::panic;
+
+/// What the crate draws of a case: a picture, or an error and what was drawn before it.
+type Outcome = Result<Vec<u8>, (String, Vec<u8>)>;
+
+/// Draws a case.
+fn draw(case: &Case) -> Outcome {
+    let mut files = case.files.iter().map(|file| (file.name.as_str(), file.text.as_str()));
+    match case.table {
+        Table::Several => {
+            let mut table = SimpleFiles::new();
+            for (name, text) in files {
+                table.add(name, text);
+            }
+            draw_over(case, &table, |file| file)
+        }
+        Table::One => {
+            let (name, text) = files.next().expect("one file");
+            draw_over(case, &SimpleFile::new(name, text), |_| ())
+        }
+        Table::Mapped => {
+            let (name, text) = files.next().expect("one file");
+            draw_over(case, &MappedFile::new(name, text, &case.numbers), |_| ())
+        }
+    }
+}
+
+/// Draws a case over its files, of which each has an id in the table.
+fn draw_over<'files, F: Files<'files>>(
+    case: &Case,
+    files: &'files F,
+    id: impl Fn(usize) -> F::FileId,
+) -> Outcome {
+    let diagnostic = diagnostic(case, id);
+    if !case.in_colours {
+        return term::emit_into_string(&case.config, files, &diagnostic)
+            .map(String::into_bytes)
+            .map_err(|error| (error.to_string(), Vec::new()));
+    }
+    let styles = Styles::default();
+    let mut colours = Ansi::new(Vec::new());
+    let mut writer = StylesWriter::new(&mut colours, &styles);
+    let answer = term::emit_to_write_style(&mut writer, &case.config, files, &diagnostic);
+    drop(writer);
+    let drawn = colours.into_inner();
+    match answer {
+        Ok(()) => Ok(drawn),
+        Err(error) => Err((error.to_string(), drawn)),
+    }
+}
+
+/// The diagnostic of a case.
+fn diagnostic<Id>(case: &Case, id: impl Fn(usize) -> Id) -> Diagnostic<Id> {
+    let labels = case.labels.iter().map(|label| {
+        Label::new(label.style, id(label.file), label.start..label.end).with_message(&label.message)
+    });
+    let bare = Diagnostic::new(case.severity)
+        .with_message(&case.message)
+        .with_labels(labels.collect())
+        .with_notes(case.notes.clone());
+    match &case.code {
+        Some(code) => bare.with_code(code),
+        None => bare,
+    }
+}
+
+/// Writes what came of a case.
+fn write(output: &mut impl Write, name: &str, kind: &str, text: &[u8]) -> io::Result<()> {
+    writeln!(output, "{name} {kind} {}", text.len())?;
+    output.write_all(text)?;
+    writeln!(output)
+}
+
+fn main() -> io::Result<()> {
+    let mut input = String::new();
+    io::stdin().read_to_string(&mut input)?;
+    let cases = case::read(&input).map_err(io::Error::other)?;
+    panic::set_hook(Box::new(|_| ()));
+    let mut output = io::stdout().lock();
+    for case in &cases {
+        match panic::catch_unwind(|| draw(case)) {
+            Ok(Ok(picture)) => write(&mut output, &case.name, "drawn", &picture)?,
+            Ok(Err((error, drawn))) => {
+                let text = [error.as_bytes(), b"\n", &drawn].concat();
+                write(&mut output, &case.name, "refused", &text)?
+            }
+            Err(_) => write(&mut output, &case.name, "panicked", b"")?,
+        }
+    }
+    Ok(())
+}
