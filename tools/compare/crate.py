@@ -46,3 +46,13 @@ def built(folder):
     if subprocess.run(build + told).returncode != 0:
         sys.exit('cargo did not build the program; tools/compare/README.md says how it is built without a network')
     return out / 'release' / folder.name
+
+
+def answers(text):
+    """What the program `compare` says of each case of an input: its name, `drawn`, `refused` or `panicked`, and a text."""
+    said = subprocess.run([built(pathlib.Path(__file__).resolve().parent)], input=text.encode(), stdout=subprocess.PIPE, check=True).stdout
+    while said:
+        head, _, rest = said.partition(b'\n')
+        name, kind, length = head.decode().rsplit(' ', 2)
+        yield name, kind, rest[:int(length)].decode()
+        said = rest[int(length) + 1:]

@@ -1,16 +1,16 @@
--- The bytes of a colour, as they are sent.
+-- The bytes of a color, as they are written.
 use Rattle.std.proofs.Common.{◌≡◌, ℕ, ◌+◌, ◌-◌, ◌<◌, ◌≤◌, Bool, true, false, List, [], ◌∷◌, None, Some, refl, arith}
 use Rattle.std.specs.Fmt.{digits}
 use Rattle.codespan_base.specs.declared.term.config.color.Color.{Color}
 use Rattle.codespan_base.specs.declared.term.config.color.Color.TheVariants.{Black, Red, Green, Yellow, Blue, Magenta, Cyan, White}
 use Rattle.codespan_base.specs.Ansi.{color_number, escape, ansi_color}
 
--- no colour sends nothing
+-- without a color nothing is written
 pub ansi_color-none : (plane : List ℕ) (b : Bool) → ansi_color plane b None ≡ []
 unfolding ansi_color
 ansi_color-none plane b = refl
 
--- one of the eight colours
+-- one of the eight colors
 pub ansi_color-plain : (plane : ℕ) (c : Color) → ansi_color (plane ∷ []) false (Some c) ≡ 0x1b ∷ 91 ∷ plane ∷ (48 + color_number c) ∷ 109 ∷ []
 unfolding ansi_color escape digits
 ansi_color-plain plane Black = refl
@@ -22,7 +22,7 @@ ansi_color-plain plane Magenta = refl
 ansi_color-plain plane Cyan = refl
 ansi_color-plain plane White = refl
 
--- a bright colour whose number has one digit
+-- a bright color whose number has one digit
 pub ansi_color-bright : (plane : ℕ) (c : Color) → color_number c < 2 → ansi_color (plane ∷ []) true (Some c) ≡ 0x1b ∷ 91 ∷ plane ∷ 56 ∷ 59 ∷ 53 ∷ 59 ∷ (56 + color_number c) ∷ 109 ∷ []
 unfolding ansi_color escape digits
 ansi_color-bright plane Black h = refl
@@ -34,7 +34,7 @@ ansi_color-bright plane Magenta h = absurd (omega arith)
 ansi_color-bright plane Cyan h = absurd (omega arith)
 ansi_color-bright plane White h = absurd (omega arith)
 
--- a bright colour whose number has two digits
+-- a bright color whose number has two digits
 pub ansi_color-bright_two : (plane : ℕ) (c : Color) → 2 ≤ color_number c → ansi_color (plane ∷ []) true (Some c) ≡ 0x1b ∷ 91 ∷ plane ∷ 56 ∷ 59 ∷ 53 ∷ 59 ∷ 49 ∷ (48 + (color_number c - 2)) ∷ 109 ∷ []
 unfolding ansi_color escape digits
 ansi_color-bright_two plane Black h = absurd (omega arith)
@@ -46,5 +46,5 @@ ansi_color-bright_two plane Magenta h = refl
 ansi_color-bright_two plane Cyan h = refl
 ansi_color-bright_two plane White h = refl
 
--- the sequences of a colour
+-- the sequences of a color
 pub ruleset sequences = (ansi_color-none, ansi_color-plain, ansi_color-bright, ansi_color-bright_two)

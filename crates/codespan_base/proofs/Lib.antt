@@ -5,5 +5,5 @@ pub mod Loops
 pub mod Chains
 pub mod Repeats
 pub mod Marks
-pub mod Paints
+pub mod AppendsBytes
 pub mod AnsiLemmas

@@ -1,4 +1,4 @@
--- Blanks, repeated characters and numbers, part by part.
+-- Spaces, repeated characters and numbers, part by part.
 use Rattle.std.proofs.Common.{◌≡◌, ℕ, zero, suc, ◌+◌, ◌-◌, ◌*◌, ◌/◌, ◌%◌, ◌^◌, ◌<◌, ◌≤◌, List, [], ◌∷◌, ◌++◌, length, take, drop, replicate, refl, sym, ap, ◌∙◌, append_assoc, append-nil, arith, mul-le-mul_right}
 use Rattle.std.specs.Fmt.{decimal}
 use Rattle.std.specs.List.{repeat}
@@ -11,7 +11,7 @@ use Rattle.std.specs.Prelude.{slice_set}
 use Rattle.codespan_base.specs.Streams.{Stream, bytes, blanks, repeated, glyph}
 use Rattle.codespan_base.proofs.Sends.{bytes-append}
 
--- ---- blanks
+-- ---- spaces
 
 -- the first k of them
 pub blanks-next : (k n : ℕ) → k ≤ n → blanks n ≡ bytes (replicate k 32) ++ blanks (n - k)
@@ -21,7 +21,7 @@ blanks-next k n h =
     let f : replicate {A = ℕ} n 32 ≡ replicate k 32 ++ replicate (n - k) 32 = ap (λ (m : ℕ). replicate {A = ℕ} m 32) e ∙ sym (replicate-append-replicate k (n - k) 32) in
     ap bytes f ∙ bytes-append (replicate k 32) (replicate (n - k) 32)
 
--- the first n of k blanks
+-- the first n of k spaces
 pub blanks-front : (k n : ℕ) → n ≤ k → bytes (take n (replicate k 32)) ≡ blanks n
 unfolding blanks
 blanks-front k n h = let e : take n (replicate {A = ℕ} k 32) ≡ replicate n 32 = take-replicate n k 32 h in ap bytes e
@@ -99,7 +99,7 @@ digits_fit n rest start ds h l s e =
     let parts : length (decimal n) ≡ length (decimal rest) + length (drop start ds) = ap length e ∙ length-append (decimal rest) (drop start ds) in
     omega (arith, length-drop start ds)
 
--- so there is room for one more
+-- so one more fits
 pub digits_room : (n rest start : ℕ) (ds : List ℕ) → n < 2 ^ 64 → rest < 2 ^ 64 → length ds ≡ 20 → start ≤ 20 → decimal n ≡ decimal rest ++ drop start ds → 0 < start
 digits_room n rest start ds h k l s e = omega (arith, digits_fit n rest start ds h l s e, decimal_nonempty rest k)
 

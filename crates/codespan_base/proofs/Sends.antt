@@ -1,8 +1,8 @@
--- Calls that send, one after another.
+-- Calls that write, one after another.
 use Rattle.std.proofs.Common.{◌≡◌, ℕ, List, [], ◌∷◌, ◌++◌, refl, sym, ap, ◌∙◌, append_assoc, Option}
 use Rattle.codespan_base.specs.Streams.{Stream, Byte, Mark, Slot, Spelling, spelled, bytes}
-use Rattle.codespan_base.specs.WriterLaw.{Sink, sent, is_told, gained, Began}
-use Rattle.codespan_base.proofs.HeldBytes.{gained-append, gained-nil, tells-gained}
+use Rattle.codespan_base.specs.WriterLaw.{Sink, with_written, is_known, extended, PrefixWritten}
+use Rattle.codespan_base.proofs.HeldBytes.{extended-append, extended-nil, are_known-extended}
 
 -- what two streams spell, one after the other
 pub spelled-append : (f : Spelling) (a b : Stream) → spelled f (a ++ b) ≡ spelled f a ++ spelled f b
@@ -23,66 +23,66 @@ unfolding bytes
 bytes-append [] b = refl
 bytes-append (x ∷ a) b = ap (λ (l : Stream). Byte x ∷ l) (bytes-append a b)
 
--- a stream came, and then another
-pub sent-append : (s : Sink) (a b : Stream) → sent s (a ++ b) ≡ sent (sent s a) b
-unfolding sent
-sent-append s a b =
+-- a stream was written, and then another
+pub with_written-append : (s : Sink) (a b : Stream) → with_written s (a ++ b) ≡ with_written (with_written s a) b
+unfolding with_written
+with_written-append s a b =
     ap (λ (o : Option (List ℕ)). record s { held = o })
-    (ap (gained s.held) (spelled-append s.frame.spelling a b) ∙ gained-append s.held (spelled s.frame.spelling a) (spelled s.frame.spelling b))
+    (ap (extended s.held) (spelled-append s.frame.spelling a b) ∙ extended-append s.held (spelled s.frame.spelling a) (spelled s.frame.spelling b))
 
--- a beginning of the first part is one of the whole
-pub Began-first : (s : Sink) (a : Stream) (t : Sink) (b : Stream) → Began s a t → Began s (a ++ b) t
-Began-first s a t b p = record {
+-- a prefix of the first part is one of the whole
+pub PrefixWritten-first : (s : Sink) (a : Stream) (t : Sink) (b : Stream) → PrefixWritten s a t → PrefixWritten s (a ++ b) t
+PrefixWritten-first s a t b p = record {
   begun = p.begun;
   rest = p.rest ++ spelled s.frame.spelling b;
   whole = sym (append_assoc p.begun p.rest (spelled s.frame.spelling b)) ∙ ap (λ (l : List ℕ). l ++ spelled s.frame.spelling b) p.whole ∙ sym (spelled-append s.frame.spelling a b);
   held = p.held;
 }
 
--- a beginning of the last part, after the first part came
-pub Began-last : (s : Sink) (a b : Stream) (u : Sink) → Began (sent s a) b u → Began s (a ++ b) u
-unfolding sent
-Began-last s a b u q = record {
+-- a prefix of the last part, after the first part was written
+pub PrefixWritten-last : (s : Sink) (a b : Stream) (u : Sink) → PrefixWritten (with_written s a) b u → PrefixWritten s (a ++ b) u
+unfolding with_written
+PrefixWritten-last s a b u q = record {
   begun = spelled s.frame.spelling a ++ q.begun;
   rest = q.rest;
   whole = append_assoc (spelled s.frame.spelling a) q.begun q.rest ∙ ap (λ (l : List ℕ). spelled s.frame.spelling a ++ l) q.whole ∙ sym (spelled-append s.frame.spelling a b);
-  held = q.held ∙ sym (gained-append s.held (spelled s.frame.spelling a) q.begun);
+  held = q.held ∙ sym (extended-append s.held (spelled s.frame.spelling a) q.begun);
 }
 
--- nothing came
-pub sent-nil : (s : Sink) → sent s [] ≡ s
-unfolding sent
-sent-nil s = ap (λ (o : Option (List ℕ)). record s { held = o }) (gained-nil s.held)
+-- nothing was written
+pub with_written-nil : (s : Sink) → with_written s [] ≡ s
+unfolding with_written
+with_written-nil s = ap (λ (o : Option (List ℕ)). record s { held = o }) (extended-nil s.held)
 
--- a writer that tells its bytes goes on telling them
-pub is_told-sent : (s : Sink) (a : Stream) → is_told (sent s a) ≡ is_told s
-unfolding sent is_told
-is_told-sent s a = tells-gained s.held (spelled s.frame.spelling a)
+-- known bytes stay known
+pub is_known-with_written : (s : Sink) (a : Stream) → is_known (with_written s a) ≡ is_known s
+unfolding with_written is_known
+is_known-with_written s a = are_known-extended s.held (spelled s.frame.spelling a)
 
--- a beginning of the first part is one of the whole, however many parts follow
-pub Began_first_2 : (s : Sink) (a : Stream) (t : Sink) (b1 b2 : Stream) → Began s a t → Began s (a ++ b1 ++ b2) t
-Began_first_2 s a t b1 b2 p = Began-first s (a ++ b1) t b2 (Began-first s a t b1 p)
+-- a prefix of the first part is one of the whole, however many parts follow
+pub Began_first_2 : (s : Sink) (a : Stream) (t : Sink) (b1 b2 : Stream) → PrefixWritten s a t → PrefixWritten s (a ++ b1 ++ b2) t
+Began_first_2 s a t b1 b2 p = PrefixWritten-first s (a ++ b1) t b2 (PrefixWritten-first s a t b1 p)
 
-pub Began_first_3 : (s : Sink) (a : Stream) (t : Sink) (b1 b2 b3 : Stream) → Began s a t → Began s (a ++ b1 ++ b2 ++ b3) t
-Began_first_3 s a t b1 b2 b3 p = Began-first s (a ++ b1 ++ b2) t b3 (Began_first_2 s a t b1 b2 p)
+pub Began_first_3 : (s : Sink) (a : Stream) (t : Sink) (b1 b2 b3 : Stream) → PrefixWritten s a t → PrefixWritten s (a ++ b1 ++ b2 ++ b3) t
+Began_first_3 s a t b1 b2 b3 p = PrefixWritten-first s (a ++ b1 ++ b2) t b3 (Began_first_2 s a t b1 b2 p)
 
-pub Began_first_4 : (s : Sink) (a : Stream) (t : Sink) (b1 b2 b3 b4 : Stream) → Began s a t → Began s (a ++ b1 ++ b2 ++ b3 ++ b4) t
-Began_first_4 s a t b1 b2 b3 b4 p = Began-first s (a ++ b1 ++ b2 ++ b3) t b4 (Began_first_3 s a t b1 b2 b3 p)
+pub Began_first_4 : (s : Sink) (a : Stream) (t : Sink) (b1 b2 b3 b4 : Stream) → PrefixWritten s a t → PrefixWritten s (a ++ b1 ++ b2 ++ b3 ++ b4) t
+Began_first_4 s a t b1 b2 b3 b4 p = PrefixWritten-first s (a ++ b1 ++ b2 ++ b3) t b4 (Began_first_3 s a t b1 b2 b3 p)
 
-pub Began_first_5 : (s : Sink) (a : Stream) (t : Sink) (b1 b2 b3 b4 b5 : Stream) → Began s a t → Began s (a ++ b1 ++ b2 ++ b3 ++ b4 ++ b5) t
-Began_first_5 s a t b1 b2 b3 b4 b5 p = Began-first s (a ++ b1 ++ b2 ++ b3 ++ b4) t b5 (Began_first_4 s a t b1 b2 b3 b4 p)
+pub Began_first_5 : (s : Sink) (a : Stream) (t : Sink) (b1 b2 b3 b4 b5 : Stream) → PrefixWritten s a t → PrefixWritten s (a ++ b1 ++ b2 ++ b3 ++ b4 ++ b5) t
+Began_first_5 s a t b1 b2 b3 b4 b5 p = PrefixWritten-first s (a ++ b1 ++ b2 ++ b3 ++ b4) t b5 (Began_first_4 s a t b1 b2 b3 b4 p)
 
-pub Began_first_6 : (s : Sink) (a : Stream) (t : Sink) (b1 b2 b3 b4 b5 b6 : Stream) → Began s a t → Began s (a ++ b1 ++ b2 ++ b3 ++ b4 ++ b5 ++ b6) t
-Began_first_6 s a t b1 b2 b3 b4 b5 b6 p = Began-first s (a ++ b1 ++ b2 ++ b3 ++ b4 ++ b5) t b6 (Began_first_5 s a t b1 b2 b3 b4 b5 p)
+pub Began_first_6 : (s : Sink) (a : Stream) (t : Sink) (b1 b2 b3 b4 b5 b6 : Stream) → PrefixWritten s a t → PrefixWritten s (a ++ b1 ++ b2 ++ b3 ++ b4 ++ b5 ++ b6) t
+Began_first_6 s a t b1 b2 b3 b4 b5 b6 p = PrefixWritten-first s (a ++ b1 ++ b2 ++ b3 ++ b4 ++ b5) t b6 (Began_first_5 s a t b1 b2 b3 b4 b5 p)
 
-pub Began_first_7 : (s : Sink) (a : Stream) (t : Sink) (b1 b2 b3 b4 b5 b6 b7 : Stream) → Began s a t → Began s (a ++ b1 ++ b2 ++ b3 ++ b4 ++ b5 ++ b6 ++ b7) t
-Began_first_7 s a t b1 b2 b3 b4 b5 b6 b7 p = Began-first s (a ++ b1 ++ b2 ++ b3 ++ b4 ++ b5 ++ b6) t b7 (Began_first_6 s a t b1 b2 b3 b4 b5 b6 p)
+pub Began_first_7 : (s : Sink) (a : Stream) (t : Sink) (b1 b2 b3 b4 b5 b6 b7 : Stream) → PrefixWritten s a t → PrefixWritten s (a ++ b1 ++ b2 ++ b3 ++ b4 ++ b5 ++ b6 ++ b7) t
+Began_first_7 s a t b1 b2 b3 b4 b5 b6 b7 p = PrefixWritten-first s (a ++ b1 ++ b2 ++ b3 ++ b4 ++ b5 ++ b6) t b7 (Began_first_6 s a t b1 b2 b3 b4 b5 b6 p)
 
-pub Began_first_8 : (s : Sink) (a : Stream) (t : Sink) (b1 b2 b3 b4 b5 b6 b7 b8 : Stream) → Began s a t → Began s (a ++ b1 ++ b2 ++ b3 ++ b4 ++ b5 ++ b6 ++ b7 ++ b8) t
-Began_first_8 s a t b1 b2 b3 b4 b5 b6 b7 b8 p = Began-first s (a ++ b1 ++ b2 ++ b3 ++ b4 ++ b5 ++ b6 ++ b7) t b8 (Began_first_7 s a t b1 b2 b3 b4 b5 b6 b7 p)
+pub Began_first_8 : (s : Sink) (a : Stream) (t : Sink) (b1 b2 b3 b4 b5 b6 b7 b8 : Stream) → PrefixWritten s a t → PrefixWritten s (a ++ b1 ++ b2 ++ b3 ++ b4 ++ b5 ++ b6 ++ b7 ++ b8) t
+Began_first_8 s a t b1 b2 b3 b4 b5 b6 b7 b8 p = PrefixWritten-first s (a ++ b1 ++ b2 ++ b3 ++ b4 ++ b5 ++ b6 ++ b7) t b8 (Began_first_7 s a t b1 b2 b3 b4 b5 b6 b7 p)
 
-pub Began_first_9 : (s : Sink) (a : Stream) (t : Sink) (b1 b2 b3 b4 b5 b6 b7 b8 b9 : Stream) → Began s a t → Began s (a ++ b1 ++ b2 ++ b3 ++ b4 ++ b5 ++ b6 ++ b7 ++ b8 ++ b9) t
-Began_first_9 s a t b1 b2 b3 b4 b5 b6 b7 b8 b9 p = Began-first s (a ++ b1 ++ b2 ++ b3 ++ b4 ++ b5 ++ b6 ++ b7 ++ b8) t b9 (Began_first_8 s a t b1 b2 b3 b4 b5 b6 b7 b8 p)
+pub Began_first_9 : (s : Sink) (a : Stream) (t : Sink) (b1 b2 b3 b4 b5 b6 b7 b8 b9 : Stream) → PrefixWritten s a t → PrefixWritten s (a ++ b1 ++ b2 ++ b3 ++ b4 ++ b5 ++ b6 ++ b7 ++ b8 ++ b9) t
+Began_first_9 s a t b1 b2 b3 b4 b5 b6 b7 b8 b9 p = PrefixWritten-first s (a ++ b1 ++ b2 ++ b3 ++ b4 ++ b5 ++ b6 ++ b7 ++ b8) t b9 (Began_first_8 s a t b1 b2 b3 b4 b5 b6 b7 b8 p)
 
--- calls that send, one after another
-pub ruleset sendings = (is_told-sent, sent-append, sent-nil, Began-first, Began-last, Began_first_2, Began_first_3, Began_first_4, Began_first_5, Began_first_6, Began_first_7, Began_first_8, Began_first_9)
+-- calls that write, one after another
+pub ruleset sendings = (is_known-with_written, with_written-append, with_written-nil, PrefixWritten-first, PrefixWritten-last, Began_first_2, Began_first_3, Began_first_4, Began_first_5, Began_first_6, Began_first_7, Began_first_8, Began_first_9)

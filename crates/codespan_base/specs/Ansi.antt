@@ -4,7 +4,7 @@ use Rattle.codespan_base.specs.declared.term.config.color.Color.{Color}
 use Rattle.codespan_base.specs.declared.term.config.color.Color.TheVariants.{Black, Red, Green, Yellow, Blue, Magenta, Cyan, White}
 use Rattle.codespan_base.specs.declared.term.config.color.ColorSpec.{ColorSpec}
 
--- the number of a colour
+-- the number of a color
 abbrev pub color_number : Color → ℕ
 color_number Black = 0
 color_number Red = 1
@@ -19,23 +19,23 @@ color_number White = 7
 unfoldable pub escape : List ℕ → List ℕ
 escape parameters = 0x1b ∷ codes "[" ++ parameters ++ codes "m"
 
--- what turns all styles off
+-- the sequence that turns all styles off
 unfoldable pub ansi_reset : List ℕ
 ansi_reset = escape (codes "0")
 
--- what turns bold on
+-- the sequence that turns bold on, where it is on
 unfoldable pub ansi_bold : Bool → List ℕ
 ansi_bold true = escape (codes "1")
 ansi_bold false = []
 
--- what sets a colour in a plane: `3` is the text, `4` what is behind it
+-- the sequence that sets a color in a plane: `3` is the text, `4` the background
 unfoldable pub ansi_color : List ℕ → Bool → Option Color → List ℕ
 ansi_color plane intense None = []
 ansi_color plane true (Some color) =
     escape (plane ++ codes "8;5;" ++ decimal (8 + color_number color))
 ansi_color plane false (Some color) = escape (plane ++ decimal (color_number color))
 
--- what sets a style, whatever was set before
+-- the sequences of a style, whose first one turns all styles off
 unfoldable pub ansi_style : ColorSpec → List ℕ
 ansi_style spec =
     ansi_reset ++ ansi_bold spec.bold ++ ansi_color (codes "3") spec.intense spec.fg

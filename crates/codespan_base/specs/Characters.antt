@@ -1,4 +1,4 @@
--- The characters of a picture.
+-- The characters of the output.
 use Rattle.std.specs.Prelude.{ℕ, List, codes, encode_utf8_all}
 use Rattle.codespan_base.specs.declared.term.config.chars.SnippetStart.TheVariants.{Fixed}
 use Rattle.codespan_base.specs.declared.term.config.chars.Chars.{Chars}

@@ -1,9 +1,10 @@
--- The law of writers of colours: each style, and the reset, has fixed bytes.
+-- The law of writers of colors: each style, and the reset, has fixed bytes.
 use Rattle.std.specs.Prelude.{◌≡◌, ℕ, true, List, Option, Result, MatchResult}
-use Rattle.codespan_base.specs.WriterLaw.{tells, gained, GainedPartly}
+use Rattle.codespan_base.specs.WriterLaw.{are_known, extended, PrefixAppended}
 
--- of a writer that tells its bytes: these came, or where the call is refused a beginning of them
-abbrev pub Paints : {E : Type 0}
+-- where the writer's bytes are known, these were appended, or where the call fails a prefix
+abbrev pub AppendsBytes : {E : Type 0}
     → Option (List ℕ) → List ℕ → Result (Unit {0}) E → Option (List ℕ) → Type 0
-Paints old bs r new =
-    tells old ≡ true → MatchResult r (λ _. new ≡ gained old bs) (λ _. GainedPartly old bs new)
+AppendsBytes old bs r new =
+    are_known old ≡ true
+    → MatchResult r (λ _. new ≡ extended old bs) (λ _. PrefixAppended old bs new)

@@ -1,4 +1,4 @@
--- Labels, as a picture sees them.
+-- Labels, as rendering sees them.
 use Rattle.std.specs.Prelude.{ℕ, ◌+◌, ◌-◌, ◌^◌, min, max, Bool, true, false, not, ◌&&◌, ◌||◌, ◌==◌, nat_lt, List, [], ◌∷◌, map, filter, reverse, Option, Some, None, if◌then◌else◌}
 use Rattle.std.specs.List.{enumerate_from, filter_map}
 use Rattle.codespan_files.specs.declared.diagnostic.LabelStyle.{LabelStyle}
@@ -6,7 +6,7 @@ use Rattle.codespan_files.specs.declared.diagnostic.LabelStyle.TheVariants.{Prim
 use Rattle.codespan_base.specs.Streams.{Stream}
 use Rattle.codespan_files.specs.FileModel.{FileModel, line_of, line_start}
 
--- a label's range is of the file, or, once it is drawn, of its line; its message is a stream, so
+-- a label: its range counts from the start of the file or of its line; its message is a stream, so
 -- that a slot can stand for it
 pub record Labelled : Type 0 where
   pub style : LabelStyle
@@ -23,12 +23,12 @@ is_blank _ = false
 abbrev pub has_message : Labelled → Bool
 has_message x = not (is_blank x.message)
 
--- the style is that of a cause
+-- the style is `Primary`
 abbrev pub is_primary_style : LabelStyle → Bool
 is_primary_style Primary = true
 is_primary_style Secondary = false
 
--- the label is a cause
+-- the label is primary
 abbrev pub is_primary : Labelled → Bool
 is_primary x = is_primary_style x.style
 
@@ -65,7 +65,7 @@ abbrev pub first_seen : {Id : Type 0} → (Id → Id → Bool) → List Id → L
 first_seen same [] = []
 first_seen same (id ∷ ids) = id ∷ filter (λ other. not (same id other)) (first_seen same ids)
 
--- the labels that end on another line than they begin on; each one's place in this list is its lane
+-- the labels that end on another line than they begin on; each one's index in this list is its lane
 abbrev pub multi_labels : FileModel → List Labelled → List Labelled
 multi_labels f labels = filter (λ x. not (is_single f x)) labels
 
@@ -91,15 +91,15 @@ single_labels f labels l =
     sorted (reverse (map (drawn_label f)
     (filter (λ x. is_single f x && (first_line f x == l)) labels)))
 
--- ---- marks of the multi-line labels on a line
+-- ---- multi-line label marks of a line
 
--- what a label over several lines does on one of them
+-- what a multi-line label does on a line
 pub data MultiLabel : Type 0 where
   Top : ℕ → MultiLabel
   Left : MultiLabel
   Bottom : ℕ → Stream → MultiLabel
 
--- a mark: what a label does on a line, with the label's lane and style
+-- a multi-line label mark: what a label does on a line, with the label's lane and style
 pub record LaneMark : Type 0 where
   pub lane : ℕ
   pub style : LabelStyle
@@ -118,12 +118,12 @@ part_at s e l start x =
 abbrev pub part_on : FileModel → ℕ → Labelled → Option MultiLabel
 part_on f l x = part_at (first_line f x) (last_line f x) l (line_start f l) x
 
--- a mark, where the label has one
+-- the multi-line label mark, where the label has one
 abbrev pub mark_of : ℕ → Labelled → Option MultiLabel → Option LaneMark
 mark_of lane x None = None
 mark_of lane x (Some part) = Some (record { lane = lane; style = x.style; part = part })
 
--- the marks of a line, in the order of the lanes
+-- the multi-line label marks of a line, in the order of the lanes
 abbrev pub marks_on : FileModel → List Labelled → ℕ → List LaneMark
 marks_on f labels l =
     filter_map (λ (entry : ℕ × Labelled). mark_of entry.0 entry.1 (part_on f l entry.1))

@@ -1,4 +1,4 @@
--- what stands below: diagnostics and files
+-- re-exports: diagnostics and files
 pub use Rattle.codespan_files.specs.Diagnostics
 pub use Rattle.codespan_files.specs.Lines
 pub use Rattle.codespan_files.specs.LineStarts

@@ -1,10 +1,10 @@
--- When two sets of characters, or two configurations, draw alike, whatever memory has their texts.
+-- When two sets of characters, or two configurations, are equal but for the memory of their texts.
 use Rattle.std.specs.Prelude.{◌≡◌}
 use Rattle.codespan_base.specs.declared.term.config.chars.Chars.{Chars}
 use Rattle.codespan_base.specs.declared.term.config.Config.{Config}
 use Rattle.codespan_base.specs.SnippetStarts.{start_text}
 
--- the same text before a place, and the same characters
+-- the same text before a locus, and the same characters
 pub record IsChars (table chars : Chars) : Type 0 where
   pub start : start_text chars.snippet_start ≡ start_text table.snippet_start
   pub others : chars ≡ record table { snippet_start = chars.snippet_start }

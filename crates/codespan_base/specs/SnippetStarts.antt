@@ -8,7 +8,7 @@ abbrev pub start_text : SnippetStart → List ℕ
 start_text (Fixed s) = s.now
 start_text (Owned s) = string_bytes s
 
--- whether that text takes no memory
+-- whether that text is `Fixed`
 abbrev pub is_fixed : SnippetStart → Bool
 is_fixed (Fixed s) = true
 is_fixed (Owned s) = false

@@ -1,12 +1,12 @@
--- What a writer is given: bytes, marks of style, and, where a law speaks of them, slots that stand
--- for labels' messages.
+-- What is written to a writer: bytes, style marks, and, where a law speaks of them, slots that
+-- stand for labels' messages.
 use Rattle.std.specs.Prelude.{ℕ, List, [], ◌∷◌, ◌++◌, map, replicate}
 use Rattle.std.specs.List.{repeat}
 use Rattle.std.specs.Char.{encode_utf8}
 use Rattle.codespan_files.specs.declared.diagnostic.Severity.{Severity}
 use Rattle.codespan_files.specs.declared.diagnostic.LabelStyle.{LabelStyle}
 
--- the marks of style, one for each call of `WriteStyle`
+-- the style marks, one for each call of `WriteStyle` that writes one
 pub data StyleMark : Type 0 where
   Header : Severity → StyleMark
   HeaderMessage : StyleMark
@@ -16,13 +16,13 @@ pub data StyleMark : Type 0 where
   LabelMark : Severity → LabelStyle → StyleMark
   Reset : StyleMark
 
--- a slot names a label by its place in the diagnostic's list
+-- bytes, style marks, and slots, each of which names a label by its index in the diagnostic's list
 pub data Item : Type 0 where
   Byte : ℕ → Item
   Mark : StyleMark → Item
   Slot : ℕ → Item
 
--- what a row, or a whole picture, sends
+-- what is written of a row, or of a whole output
 abbrev pub Stream : Type 0
 Stream = List Item
 
@@ -30,15 +30,15 @@ Stream = List Item
 unfoldable pub bytes : List ℕ → Stream
 bytes bs = map Byte bs
 
--- one mark as a stream
+-- one style mark as a stream
 unfoldable pub one_mark : StyleMark → Stream
 one_mark m = Mark m ∷ []
 
--- so many blanks
+-- that many spaces
 unfoldable pub blanks : ℕ → Stream
 blanks n = bytes (replicate n 32)
 
--- one blank
+-- one space
 abbrev pub space : Stream
 space = bytes (32 ∷ [])
 
@@ -50,22 +50,22 @@ newline = bytes (10 ∷ [])
 abbrev pub glyph : ℕ → Stream
 glyph c = bytes (encode_utf8 c)
 
--- so many of one character
+-- that many of one character
 unfoldable pub repeated : ℕ → ℕ → Stream
 repeated n c = repeat n (glyph c)
 
--- fixed bytes for each mark
+-- fixed bytes for each style mark
 abbrev pub Spelling : Type 0
 Spelling = StyleMark → List ℕ
 
--- what a writer gains that spells each mark as these bytes
+-- the bytes of a stream, each style mark spelled as these bytes, and slots as nothing
 abbrev pub spelled : Spelling → Stream → List ℕ
 spelled spelling [] = []
 spelled spelling (Byte b ∷ s) = b ∷ spelled spelling s
 spelled spelling (Mark m ∷ s) = spelling m ++ spelled spelling s
 spelled spelling (Slot k ∷ s) = spelled spelling s
 
--- every mark is spelled as nothing
+-- every style mark is spelled as nothing
 abbrev pub no_marks : Spelling
 no_marks _ = []
 

@@ -1,4 +1,4 @@
--- The styles of a picture's parts, and which style each mark has.
+-- The styles of the parts of the output, and which style each style mark has.
 use Rattle.std.specs.Prelude.{ℕ, true, false, List, Option, Some, None}
 use Rattle.codespan_files.specs.declared.diagnostic.Severity.{Severity}
 use Rattle.codespan_files.specs.declared.diagnostic.Severity.TheVariants.{Bug, Error, Warning, Note, Help}
@@ -12,11 +12,11 @@ use Rattle.codespan_base.specs.Streams.{StyleMark, Header, HeaderMessage, LineNu
 
 -- ---- the default styles
 
--- a plain colour
+-- a color alone
 abbrev pub colored : Color → ColorSpec
 colored color = record { fg = Some color; bg = None; bold = false; intense = false }
 
--- bold and intense
+-- bold and intense, with a color or without
 abbrev pub bright : Option Color → ColorSpec
 bright color = record { fg = color; bg = None; bold = true; intense = true }
 
@@ -40,7 +40,7 @@ default_styles = record {
   note_bullet = colored Cyan;
 }
 
--- ---- the style of each mark
+-- ---- the style of each style mark
 
 -- the style of a header
 abbrev pub header_style : Styles → Severity → ColorSpec
@@ -59,7 +59,7 @@ label_style styles Warning Primary = styles.primary_label_warning
 label_style styles Note Primary = styles.primary_label_note
 label_style styles Help Primary = styles.primary_label_help
 
--- how a writer of colours spells a mark, by its bytes for each style and for the reset
+-- how a writer of colors spells a style mark, by its bytes for each style and for the reset
 abbrev pub spelling_by : Styles → (ColorSpec → List ℕ) → List ℕ → StyleMark → List ℕ
 spelling_by styles set reset (Header severity) = set (header_style styles severity)
 spelling_by styles set reset HeaderMessage = set styles.header_message

@@ -4,82 +4,84 @@ use Rattle.std.specs.Io.KnownBytes.{append_known}
 use Rattle.std.specs.Borrow.{GName}
 use Rattle.codespan_base.specs.Streams.{Stream, Spelling, spelled}
 
--- ---- the bytes that a writer holds, where it tells them
+-- ---- the bytes that a writer holds, where they are known
 
--- they are told
-unfoldable pub tells : Option (List ℕ) → Bool
-tells held = is_some held
+-- the bytes are known
+unfoldable pub are_known : Option (List ℕ) → Bool
+are_known held = is_some held
 
--- told bytes, and then these
-unfoldable pub gained : Option (List ℕ) → List ℕ → Option (List ℕ)
-gained held bs = append_known held bs
+-- the bytes with these appended, where they are known
+unfoldable pub extended : Option (List ℕ) → List ℕ → Option (List ℕ)
+extended held bs = append_known held bs
 
--- told bytes, and then a beginning of these
-pub record GainedPartly (old : Option (List ℕ)) (bs : List ℕ) (new : Option (List ℕ)) : Type 0 where
+-- the bytes with a prefix of these appended
+pub record PrefixAppended (old : Option (List ℕ)) (bs : List ℕ) (new : Option (List ℕ))
+    : Type 0 where
   pub begun : List ℕ
   pub rest : List ℕ
   pub whole : begun ++ rest ≡ bs
-  pub held : new ≡ gained old begun
+  pub held : new ≡ extended old begun
 
 -- ---- a writer
 
 -- all of a writer but its bytes
 pub record Frame : Type 0 where
-  -- the bytes of each mark, which no call changes
+  -- the bytes of each style mark
   pub spelling : Spelling
-  -- a mark or a `put` was refused, or a `put` of some bytes took none
-  pub refused : Bool
+  -- a style mark or a `put` failed, or a `put` of some bytes took none
+  pub failed : Bool
   -- the references that it writes through
   pub through : List GName
 
--- a writer, as a contract sees it; the bytes of some writers are not told
+-- a writer, as a contract sees it; the bytes of some writers are not known
 pub record Sink : Type 0 where
   pub frame : Frame
   pub held : Option (List ℕ)
 
--- the writer tells its bytes
-unfoldable pub is_told : Sink → Bool
-is_told s = tells s.held
+-- the writer's bytes are known
+unfoldable pub is_known : Sink → Bool
+is_known s = are_known s.held
 
--- the frame once the writer has refused
-abbrev pub refusing : Frame → Frame
-refusing f = record f { refused = true }
+-- the frame once the writer has failed
+abbrev pub failing : Frame → Frame
+failing f = record f { failed = true }
 
--- the writer after the stream came, with its marks spelled
-unfoldable pub sent : Sink → Stream → Sink
-sent s items = record s { held = gained s.held (spelled s.frame.spelling items) }
+-- the writer with the stream appended, its style marks spelled
+unfoldable pub with_written : Sink → Stream → Sink
+with_written s items = record s { held = extended s.held (spelled s.frame.spelling items) }
 
--- the writer has gained a beginning of the stream
-pub record Began (s : Sink) (items : Stream) (t : Sink) : Type 0 where
+-- a prefix of the stream has been appended to the bytes of the writer
+pub record PrefixWritten (s : Sink) (items : Stream) (t : Sink) : Type 0 where
   pub begun : List ℕ
   pub rest : List ℕ
   pub whole : begun ++ rest ≡ spelled s.frame.spelling items
-  pub held : t.held ≡ gained s.held begun
+  pub held : t.held ≡ extended s.held begun
 
--- a call that is refused sets the flag, and nothing else of the frame changes
+-- a call that fails sets the flag, and nothing else of the frame changes
 abbrev pub KeepsFrame : {T E : Type 0} → Frame → Result T E → Frame → Type 0
-KeepsFrame old r new = MatchResult r (λ _. new ≡ old) (λ _. new ≡ refusing old)
+KeepsFrame old r new = MatchResult r (λ _. new ≡ old) (λ _. new ≡ failing old)
 
--- of a writer that tells its bytes: the stream came, or where the call is refused a beginning of it
-abbrev pub Gains : {E : Type 0} → Sink → Stream → Result (Unit {0}) E → Sink → Type 0
-Gains old items r new =
-    is_told old ≡ true → MatchResult r (λ _. new ≡ sent old items) (λ _. Began old items new)
+-- where the writer's bytes are known, the stream was appended, or where the call fails a prefix
+abbrev pub WritesOrPrefix : {E : Type 0} → Sink → Stream → Result (Unit {0}) E → Sink → Type 0
+WritesOrPrefix old items r new =
+    is_known old ≡ true
+    → MatchResult r (λ _. new ≡ with_written old items) (λ _. PrefixWritten old items new)
 
--- the call sends the stream
+-- the call writes the stream
 abbrev pub Sends : {E : Type 0} → Sink → Stream → Result (Unit {0}) E → Sink → Type 0
-Sends old items r new = KeepsFrame old.frame r new.frame × Gains old items r new
+Sends old items r new = KeepsFrame old.frame r new.frame × WritesOrPrefix old items r new
 
--- the frame after `put` took n of these bytes: to take none of some is a refusal
+-- the frame after `put` took n of these bytes: to take none of some is an error
 abbrev pub after_put : Frame → List ℕ → ℕ → Frame
-after_put f bs n = if n == 0 && nat_lt 0 (length bs) then refusing f else f
+after_put f bs n = if n == 0 && nat_lt 0 (length bs) then failing f else f
 
--- `put` takes as many of its first bytes as it answers, and none where it is refused
+-- `put` takes as many of its first bytes as it returns, and none where it fails
 abbrev pub Puts : {E : Type 0} → Sink → List ℕ → Result ℕ E → Sink → Type 0
 Puts old bs r new =
-    MatchResult r (λ n. new.frame ≡ after_put old.frame bs n) (λ _. new.frame ≡ refusing old.frame)
-    × (is_told old ≡ true → MatchResult r
+    MatchResult r (λ n. new.frame ≡ after_put old.frame bs n) (λ _. new.frame ≡ failing old.frame)
+    × (is_known old ≡ true → MatchResult r
     (λ n. new.held ≡ append_known old.held (take n bs)) (λ _. new.held ≡ old.held))
 
--- a writer of this frame, but for whether it has refused, and with these bytes
+-- a writer of this frame, but for whether it has failed, and with these bytes
 abbrev pub with_flag : Frame → Bool → Option (List ℕ) → Sink
-with_flag f flag bytes = record { frame = record f { refused = flag }; held = bytes }
+with_flag f flag bytes = record { frame = record f { failed = flag }; held = bytes }

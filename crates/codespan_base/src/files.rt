@@ -1,4 +1,4 @@
-//! The files that diagnostics speak of: the lookups that a picture makes, and tables of files.
+//! The lookups that rendering makes, and file databases.
 
 mod defaults;
 

@@ -1,6 +1,7 @@
-//! Diagnostics as data, the files that they speak of, and what their pictures look like.
+//! Diagnostics, file databases, and the configuration and the writers of rendering.
 //!
-//! Users name these by the paths of `codespan_reporting`, which has `diagnostic`, `files` and `term` again.
+//! Users name these by the paths of `codespan_reporting`, which re-exports `diagnostic`, `files` and `term`, and the laws as
+//! `codespan_base::laws`.
 #![tactic(auto)]
 
 pub mod files;

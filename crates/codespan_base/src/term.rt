@@ -1,4 +1,4 @@
-//! What a picture looks like, and the writers that it is sent to.
+//! The configuration of the output, and the writers that it is written to.
 
 pub mod config;
 

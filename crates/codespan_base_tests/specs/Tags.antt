@@ -5,7 +5,7 @@ use Rattle.codespan_base.specs.declared.term.config.color.ColorSpec.{ColorSpec}
 use Rattle.codespan_base.specs.Streams.{StyleMark, Header, HeaderMessage, LineNumber, NoteBullet, SourceBorder, LabelMark, Reset}
 use Rattle.codespan_base.specs.WriterLaw.{Sink}
 
--- the tag of a mark
+-- the tag of a style mark
 abbrev pub tag : StyleMark → List ℕ
 tag (Header severity) = codes "[header]"
 tag HeaderMessage = codes "[message]"
@@ -18,8 +18,8 @@ tag Reset = codes "[/]"
 
 -- what the law sees of a writer of tags
 abbrev pub tag_sink : Bool → Option (List ℕ) → Sink
-tag_sink refused held =
-    record { frame = record { spelling = tag; refused = refused; through = [] }; held = held }
+tag_sink failed held =
+    record { frame = record { spelling = tag; failed = failed; through = [] }; held = held }
 
 -- the tag of a style: bold alone has one
 abbrev pub color_tag : ColorSpec → List ℕ

@@ -9,7 +9,7 @@ use std::fmt;
 use std::fmt::{Display, Write};
 use std::test::Fail;
 
-/// A value whose `Display` writes two bytes and then refuses.
+/// A value whose `Display` writes two bytes and then fails.
 #[derive(Drop)]
 struct StopsAfterTwoBytes;
 
@@ -141,7 +141,7 @@ fn lists(rt: HostRuntime) -> Result<(), Fail> {
 }
 
 #[test]
-fn refusing_display(rt: HostRuntime) {
+fn failing_display(rt: HostRuntime) {
     let alloc = rt.alloc();
     let label = Label::primary(alloc, 0usize, 0..1).with_message(StopsAfterTwoBytes);
     assert!(rt; matches!(label, Err(Error::FormatError)));

@@ -1,4 +1,4 @@
-//! Worked lookups, errors, and tables called through the trait alone.
+//! Worked lookups, errors, and file databases called through the trait alone.
 
 mod example;
 
@@ -12,7 +12,7 @@ use std::convert::AsStr;
 use std::test::Fail;
 use std::{fmt, io};
 
-/// What a table answers of one byte of a file.
+/// What the lookups of one byte of a file return.
 #[derive(Drop)]
 struct Answers {
     name: String,
@@ -23,7 +23,7 @@ struct Answers {
     line: String,
 }
 
-/// Every lookup of a byte, through the trait. The law keeps the line inside the source.
+/// Looks up all of a byte, through the trait. The law keeps the line inside the source.
 fn answers_at<'a, F: Files<'a>>(
     alloc: Global,
     files: &'a F,
@@ -85,9 +85,9 @@ fn missing_file(rt: HostRuntime) -> Result<(), Fail> {
     Ok(())
 }
 
-/// How many of the lookups of a file refuse with `FileMissing`, of the six that ask for the file.
+/// Counts the lookups of a file that fail with `FileMissing`, of the six that need the file.
 fn missing_lookups<'a, F: Files<'a>>(files: &'a F, id: F::FileId) -> usize {
-    let refusals = [
+    let failures = [
         matches!(files.name(id), Err(Error::FileMissing)),
         matches!(files.source(id), Err(Error::FileMissing)),
         matches!(files.line_index(id, 0), Err(Error::FileMissing)),
@@ -95,7 +95,7 @@ fn missing_lookups<'a, F: Files<'a>>(files: &'a F, id: F::FileId) -> usize {
         matches!(files.location(id, 0), Err(Error::FileMissing)),
         matches!(files.line_range(id, 0), Err(Error::FileMissing)),
     ];
-    refusals.iter().filter(|refused| **refused).count()
+    failures.iter().filter(|failed| **failed).count()
 }
 
 /// The files `f` of `"ab"` and `g` of `"c\nd"`.
@@ -146,8 +146,8 @@ fn mapped_overflow(rt: HostRuntime) -> Result<(), Fail> {
     assert_eq!(rt; file.line_number((), 1)?, usize::MAX);
     let past = file.line_number((), 2);
     assert!(rt; matches!(past, Err(Error::LineTooLarge { given: 2, max: 1 })));
-    let refused = file.set_line(4, 1);
-    assert!(rt; matches!(refused, Err(Error::LineTooLarge { given: 4, max: 3 })));
+    let failed = file.set_line(4, 1);
+    assert!(rt; matches!(failed, Err(Error::LineTooLarge { given: 4, max: 3 })));
     assert_eq!(rt; file.line_number((), 0)?, 1);
     assert_eq!(rt; file.line_number((), 1)?, usize::MAX);
     Ok(())
@@ -163,11 +163,11 @@ fn greatest_indices(rt: HostRuntime) -> Result<(), Fail> {
         _ => panic!(rt; "a line past the last"),
     }
     assert_eq!(rt; file.line_number((), usize::MAX - 1)?, usize::MAX);
-    for refused in [
+    for failed in [
         file.line_number((), usize::MAX),
         default_line_number(usize::MAX),
     ] {
-        match refused {
+        match failed {
             Err(Error::LineTooLarge { given, max }) => {
                 assert_eq!(rt; (given, max), (usize::MAX, usize::MAX - 1))
             }

@@ -1,4 +1,4 @@
-//! Writers of one's own, and tests of every writer.
+//! Custom writers, and tests of every writer.
 
 pub mod counting;
 pub mod example;

@@ -17,15 +17,15 @@ is_char_boundary_yes text i b = grind (arith, nat_tests, b)
 boundary_from_test : (text : List ℕ) (i : ℕ) → is_char_boundary text i ≡ true → IsCharBoundary text i
 boundary_from_test text i e = grind (arith, nat_tests, e)
 
--- and no other place
+-- and no other index
 pub is_char_boundary_no : (text : List ℕ) (i : ℕ) → ¬ (IsCharBoundary text i) → is_char_boundary text i ≡ false
 is_char_boundary_no text i b = false_from_ne_true (is_char_boundary text i) (λ e. b (boundary_from_test text i e))
 
--- a count over one place more
+-- a count over one index more
 count_range_more : (p : ℕ → Bool) (a n : ℕ) → count_by p (range_with_len a (n + 1)) ≡ count_by p (range_with_len a n) + cond (p (a + n)) 1 0
 count_range_more p a n = simp (map-id {A = ℕ}) at (sum_by-map-range_with_len_more (λ x. cond (p x) 1 0) (λ x. x) a n (a + n) refl)
 
--- the step of a count over the places after `start`
+-- the step of a count over the indices after `start`
 pub count_range_step : (p : ℕ → Bool) (start i : ℕ) → start ≤ i → count_by p (range_with_len (start + 1) (i + 1 - start)) ≡ count_by p (range_with_len (start + 1) (i - start)) + cond (p (i + 1)) 1 0
 count_range_step p start i h =
     let e : i + 1 - start ≡ (i - start) + 1 = omega arith in

@@ -1,4 +1,4 @@
--- The lines of a text join to it, and columns rise.
+-- The lines of a text join to it, and columns ascend.
 use Rattle.std.proofs.Common.{◌≡◌, ℕ, zero, suc, ◌+◌, ◌-◌, ◌≤◌, min, Bool, cond, List, ◌++◌, drop, flat_map, length, get_or, Option, refl, sym, ap, ◌∙◌, arith}
 use Rattle.std.specs.Prelude.{count_by, slice_range}
 use Rattle.std.specs.List.{range_with_len}
@@ -44,7 +44,7 @@ lines_join name text u = record {
   joined = joined-from name text u (length (starts_after 0 text)) 0 (omega arith);
 }
 
--- more places have no fewer boundaries
+-- more byte indices have no fewer boundaries
 counts-rise : (p : ℕ → Bool) (a m n : ℕ) → m ≤ n → count_by p (range_with_len a m) ≤ count_by p (range_with_len a n)
 counts-rise p a zero n h = omega arith
 counts-rise p a (suc m) zero h = absurd (omega arith)
@@ -56,7 +56,7 @@ counts-rise p a (suc m) (suc n) h =
       counts-rise p (a + 1) m n (omega arith),
     )
 
--- columns rise along a line
+-- columns ascend along a line
 pub columns_rise : ColumnsRise
 columns_rise text start end byte later h =
     counts-rise (is_char_boundary text) (start + 1) (min byte (min end (length text)) - start) (min later (min end (length text)) - start) (omega arith)

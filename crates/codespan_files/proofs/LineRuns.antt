@@ -1,4 +1,4 @@
--- What the iterator over line starts gives up to its end.
+-- What the iterator over line starts returns up to its end.
 use Rattle.std.proofs.Common.{◌≡◌, ℕ, List, refl, sym, ◌∙◌}
 use Rattle.std.proofs.lemmas.Iterator.{items_from_drains}
 use Rattle.std.proofs.lemmas.Iterator.Consumers.{YieldsList-from_first}
@@ -7,7 +7,7 @@ use Rattle.std.specs.Iterator.{Drains, YieldsFirst}
 use Rattle.codespan_files.specs.LineStarts.{starts_left}
 use Rattle.codespan_files.specs.declared.files.starts.LineStarts.{LineStarts}
 
--- it gives the starts that were left
+-- it returns the starts that were left
 pub drained : (starts : LineStarts) (given : List ℕ) → Drains (YieldsFirst starts_left) starts given → given ≡ starts_left starts
 drained starts given run =
     sym (map-id given) ∙ items_from_drains given (run.1.0, run.1.1, λ _. (run.0, run.1.2)) (YieldsList-from_first (λ x. x) starts_left (starts_left starts) refl)

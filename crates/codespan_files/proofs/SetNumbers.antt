@@ -5,7 +5,7 @@ use Rattle.codespan_files.specs.Settings.{set_index_at, IsStrictlySorted}
 use Rattle.codespan_files.specs.MappedModel.{setting, with_number}
 use Rattle.codespan_files.specs.FileLaws.{setting_after}
 
--- the step of the next lemma, from what the later settings give
+-- the step of the next lemma, from the setting among the later ones
 found_step : (b : ℕ) (x : ℕ × ℕ) (l : List (ℕ × ℕ)) (i : ℕ) (t : ℕ × ℕ) → b < x.0 → (o : Option (ℕ × ℕ)) → setting l i ≡ o → ((u : ℕ × ℕ) → setting l i ≡ Some u → b < u.0) → setting (x ∷ l) i ≡ Some t → b < t.0
 found_step b x l i t first (Some u) same later found =
     let above : b < u.0 = later u same in

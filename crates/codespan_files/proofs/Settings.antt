@@ -1,4 +1,4 @@
--- What a search finds among settings, and what an edit at that place does.
+-- What a search finds among settings, and what an edit at that index does.
 use Rattle.std.proofs.Common.{◌≡◌, ℕ, zero, suc, ◌+◌, ◌-◌, ◌<◌, ◌≤◌, Bool, true, false, if◌then◌else◌, List, [], ◌∷◌, length, get_or, set, Some, None, Result, Ok, Err, IfOk, IfErr, refl, sym, ap, subst, arith}
 use Rattle.std.specs.List.{insert}
 use Rattle.std.specs.List.Sorted.{IsSearchInRange, IsBinarySearchResult, IsNonDecreasingBy}
@@ -11,7 +11,7 @@ use Rattle.codespan_files.specs.Settings.{set_index_at, IsStrictlySorted, IsAt, 
 use Rattle.codespan_files.specs.MappedModel.{setting, with_number}
 
 module _ (l : List (ℕ × ℕ)) (sorted : IsStrictlySorted l) (k : ℕ) where
-  -- the comparisons with k rise along the list, as a binary search asks
+  -- the comparisons with k ascend along the list, as a binary search requires
   comparisons_rise : IsNonDecreasingBy (λ pair. ordering_index (nat_cmp pair.0 k)) l
   comparisons_rise = IsNonDecreasingBy-from_default (λ pair. ordering_index (nat_cmp pair.0 k)) l (0, 0) (λ i j le in_range.
       let keys_rise : set_index_at l i ≤ set_index_at l j = grind (arith, sorted i j, λ (same : i ≡ j). ap (set_index_at l) same) in
@@ -101,7 +101,7 @@ module _ (l : List (ℕ × ℕ)) (k at : ℕ) (gap : IsGapFor l k at) where
       let key_above : (i : ℕ) → at < i → set_index_at new i ≡ set_index_at l (i - 1) = λ i above. subst (λ q. set_index_at new q ≡ set_index_at l (i - 1)) {x = i - 1 + 1} (omega arith) (ap key (get_or-insert_above l at (k, v) (0, 0) (i - 1) (omega arith) gap.in_range)) in
       grind (arith, key_below i, key_here i, key_above i, key_below j, key_here j, key_above j, sorted i j, sorted i (j - 1), sorted (i - 1) (j - 1), gap.smaller_before i, gap.greater_after (j - 1))
 
-  -- so it is whether the insert went through or not
+  -- so it is whether the insert succeeded or failed
   pub sorted_either : (v : ℕ) → IsStrictlySorted l → (b : Bool) (xs : List (ℕ × ℕ)) → xs ≡ (if b then insert l at (k, v) else l) → IsStrictlySorted xs
   sorted_either v sorted true xs e = rw e (sorted_insert v sorted)
   sorted_either v sorted false xs e = rw e sorted

@@ -1,4 +1,4 @@
--- What a growing text holds after a value was written to it.
+-- What a collected text holds after a value was written to it.
 use Rattle.std.proofs.Common.{◌≡◌, ℕ, List, [], ◌++◌, Option, Some, None, IfSome, string_bytes, ap, ◌∙◌}
 use Rattle.std.specs.Fmt.{WritesText}
 use Rattle.std.proofs.lemmas.Fmt.{contents_after_writes}

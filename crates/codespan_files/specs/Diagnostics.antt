@@ -1,5 +1,5 @@
--- What labels and diagnostics say, whatever memory holds their texts, and the order of severities
--- and styles.
+-- Labels and diagnostics by the values of their fields, with texts as bytes, and the order of
+-- severities and label styles.
 use Rattle.std.specs.Prelude.{ℕ, List, map, Option, string_bytes}
 use Rattle.std.specs.Option.{option_map}
 use Rattle.std.specs.declared.ops.Range.{Range}
@@ -10,7 +10,7 @@ use Rattle.codespan_files.specs.declared.diagnostic.Diagnostic.{Diagnostic}
 use Rattle.codespan_files.specs.declared.diagnostic.Severity.{Severity}
 use Rattle.codespan_files.specs.declared.diagnostic.Severity.TheVariants.{Help, Note, Warning, Error, Bug}
 use Rattle.codespan_files.specs.declared.files.error.Error.TheVariants.{FormatError, OutOfMemory}
-use Rattle.codespan_files.specs.declared.files.error.Error as refusals
+use Rattle.codespan_files.specs.declared.files.error.Error as failures
 
 -- a label by its fields, its message as bytes
 pub record LabelView (FileId : Type 0) : Type 0 where
@@ -19,7 +19,7 @@ pub record LabelView (FileId : Type 0) : Type 0 where
   pub range : Range ℕ
   pub message : List ℕ
 
--- what a label says
+-- the view of a label
 abbrev pub label_view : {FileId : Type 0} → Label FileId → LabelView FileId
 label_view label = record {
   style = label.style;
@@ -36,7 +36,7 @@ pub record DiagnosticView (FileId : Type 0) : Type 0 where
   pub labels : List (LabelView FileId)
   pub notes : List (List ℕ)
 
--- what a diagnostic says
+-- the view of a diagnostic
 abbrev pub diagnostic_view : {FileId : Type 0} → Diagnostic FileId → DiagnosticView FileId
 diagnostic_view diagnostic = record {
   severity = diagnostic.severity;
@@ -46,13 +46,13 @@ diagnostic_view diagnostic = record {
   notes = map string_bytes diagnostic.notes.items;
 }
 
--- a value's Display refused, or a growth of its text was refused
-abbrev pub IsTextRefusal : refusals.Error → Type 0
-IsTextRefusal FormatError = Unit {0}
-IsTextRefusal OutOfMemory = Unit {0}
-IsTextRefusal _ = ⊥
+-- the error is `FormatError` or `OutOfMemory`
+abbrev pub IsTextFailure : failures.Error → Type 0
+IsTextFailure FormatError = Unit {0}
+IsTextFailure OutOfMemory = Unit {0}
+IsTextFailure _ = ⊥
 
--- the place of a severity in their order, from help to bug
+-- the rank of a severity in their order, from help to bug
 abbrev pub severity_rank : Severity → ℕ
 severity_rank Help = 0
 severity_rank Note = 1
@@ -60,7 +60,7 @@ severity_rank Warning = 2
 severity_rank Error = 3
 severity_rank Bug = 4
 
--- the place of a label's style in their order
+-- the rank of a label's style in their order
 abbrev pub style_rank : LabelStyle → ℕ
 style_rank Primary = 0
 style_rank Secondary = 1

@@ -1,10 +1,10 @@
--- What an error prints.
+-- What an error displays.
 use Rattle.std.specs.Prelude.{ℕ, List, ◌++◌, Option, Some, None, codes}
 use Rattle.std.specs.Fmt.{decimal}
 use Rattle.codespan_files.specs.declared.files.error.Error.{Error}
 use Rattle.codespan_files.specs.declared.files.error.Error.TheVariants.{FileMissing, IndexTooLarge, LineTooLarge, ColumnTooLarge, InvalidCharBoundary, Io, FormatError, OutOfMemory}
 
--- the text of an error; that of `Io` is the cause's, and nothing is said of it
+-- the text of an error; that of `Io` is its inner error's, and nothing is stated of it
 abbrev pub error_text : Error → Option (List ℕ)
 error_text FileMissing = Some (codes "file missing")
 error_text (IndexTooLarge given max) =

@@ -1,4 +1,4 @@
--- Which errors are those of a writer.
+-- Which errors are `Io`.
 use Rattle.codespan_files.specs.declared.files.error.Error.{Error}
 use Rattle.codespan_files.specs.declared.files.error.Error.TheVariants.{Io}
 

@@ -5,7 +5,7 @@ use Rattle.codespan_files.specs.declared.files.Location.{Location}
 
 -- a file; line i runs from its start to its end, and has a number
 pub record FileModel : Type 0 where
-  -- whether its id names one
+  -- whether its id names a file
   pub there : Bool
   -- the text that the name's Display states, if it states one
   pub name : Option (List ℕ)
@@ -19,7 +19,7 @@ pub record FileModel : Type 0 where
   pub number : ℕ → ℕ
   -- the column number of a byte on a line
   pub column : ℕ → ℕ → ℕ
-  -- the place of a byte
+  -- the location of a byte
   pub location : ℕ → Location
 
 -- what is looked up in a file
@@ -38,8 +38,8 @@ pub record FileDatabase (Id : Type 0) : Type 0 where
   pub same : Id → Id → Bool
   -- the file that an id names
   pub file : Id → FileModel
-  -- the error that a lookup of it fails with, if any; that an allocation fails is no part of this
-  pub refusal : Id → Lookup → Option Error
+  -- the error that a lookup of it fails with, if any, `OutOfMemory` aside
+  pub failure : Id → Lookup → Option Error
 
 -- how many lines a file has
 abbrev pub line_count : FileModel → ℕ
@@ -49,10 +49,10 @@ line_count f = length f.starts
 unfoldable pub line_of : List ℕ → ℕ → ℕ
 line_of starts byte = count_by (λ s. nat_le s byte) starts - 1
 
--- the first refusal of the two, if there is one
-abbrev pub or_refusal : Option Error → Option Error → Option Error
-or_refusal (Some e) o = Some e
-or_refusal None o = o
+-- the first error of the two, if there is one
+abbrev pub or_failure : Option Error → Option Error → Option Error
+or_failure (Some e) o = Some e
+or_failure None o = o
 
 -- the first byte of line i
 abbrev pub line_start : FileModel → ℕ → ℕ

@@ -1,4 +1,4 @@
--- What tables of files show: the names and texts that they were given, and set line numbers.
+-- What file databases show: the names and sources that they have, and set line numbers.
 use Rattle.std.specs.Prelude.{ℕ, List, map, Option}
 use Rattle.std.specs.declared.convert.AsStr.{Ghosts}
 use Rattle.codespan_files.specs.declared.files.error.Error.{Error}
@@ -6,8 +6,8 @@ use Rattle.codespan_files.specs.declared.files.simple.SimpleFile.{SimpleFile}
 use Rattle.codespan_files.specs.declared.files.table.SimpleFiles.{SimpleFiles}
 use Rattle.codespan_files.specs.declared.files.mapped.MappedFile.{MappedFile}
 use Rattle.codespan_files.specs.FileModel.{FileModel, Lookup}
-use Rattle.codespan_files.specs.SimpleModel.{simple_file, table_file, table_refusal}
-use Rattle.codespan_files.specs.MappedModel.{mapped_file, mapped_refusal}
+use Rattle.codespan_files.specs.SimpleModel.{simple_file, table_file, table_failure}
+use Rattle.codespan_files.specs.MappedModel.{mapped_file, mapped_failure}
 
 module _ {Name Source : Type 0} {texts : Ghosts Source} where
   -- the name of a file
@@ -22,21 +22,21 @@ module _ {Name Source : Type 0} {texts : Ghosts Source} where
   abbrev pub text_of : SimpleFile Name Source texts → List ℕ
   text_of file = texts.text file.source
 
-  -- what its lookups return, where names display so
+  -- the file that its lookups return, where `output` is what names display
   abbrev pub file_of : (Name → Option (List ℕ)) → SimpleFile Name Source texts → FileModel
   file_of output file = simple_file (output (name_of file)) (text_of file)
 
-  -- the names and sources of a table's files, in the order of their ids
+  -- the names and sources of a database's files, in the order of their ids
   abbrev pub entries : SimpleFiles Name Source texts → List (Name × Source)
   entries table = map (λ file. (name_of file, source_of file)) table.files.items
 
-  -- the file of an id in a table, where names display so
+  -- the file of an id in a database, where `output` is what names display
   abbrev pub file_in : (Name → Option (List ℕ)) → SimpleFiles Name Source texts → ℕ → FileModel
   file_in output table id = table_file output texts.text (entries table) id
 
   -- what a lookup fails with there
   abbrev pub error_in : SimpleFiles Name Source texts → ℕ → Lookup → Option Error
-  error_in table id lookup = table_refusal texts.text (entries table) id lookup
+  error_in table id lookup = table_failure texts.text (entries table) id lookup
 
   -- the name of a file whose line numbers are set
   abbrev pub mapped_name_of : MappedFile Name Source texts → Name
@@ -54,11 +54,11 @@ module _ {Name Source : Type 0} {texts : Ghosts Source} where
   abbrev pub settings_of : MappedFile Name Source texts → List (ℕ × ℕ)
   settings_of file = file.numbers.items
 
-  -- what its lookups return, where names display so
+  -- the file that its lookups return, where `output` is what names display
   abbrev pub mapped_file_of : (Name → Option (List ℕ)) → MappedFile Name Source texts → FileModel
   mapped_file_of output file =
       mapped_file (output (mapped_name_of file)) (mapped_text_of file) (settings_of file)
 
   -- what they fail with
   abbrev pub mapped_error_of : MappedFile Name Source texts → Lookup → Option Error
-  mapped_error_of file lookup = mapped_refusal (mapped_text_of file) (settings_of file) lookup
+  mapped_error_of file lookup = mapped_failure (mapped_text_of file) (settings_of file) lookup

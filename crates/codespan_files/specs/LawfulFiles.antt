@@ -6,7 +6,7 @@ use Rattle.codespan_files.specs.declared.files.error.Error.{Error}
 use Rattle.codespan_files.specs.declared.files.error.Error.TheVariants.{LineTooLarge, OutOfMemory}
 use Rattle.codespan_files.specs.declared.files.Location.{Location}
 use Rattle.codespan_files.specs.Lines.{column_index_of}
-use Rattle.codespan_files.specs.FileModel.{FileModel, Lookup, line_of, or_refusal}
+use Rattle.codespan_files.specs.FileModel.{FileModel, Lookup, line_of, or_failure}
 use Rattle.codespan_files.specs.FileModel.Lookup.{Source, LineIndex, LineNumber, ColumnNumber, LineRange}
 
 -- the range of line i
@@ -15,16 +15,16 @@ pub record IsLineRange (f : FileModel) (i : ℕ) (r : Range ℕ) : Type 0 where
   pub start_is : r.start ≡ slice_index f.starts i
   pub end_is : r.end ≡ slice_index f.ends i
 
--- a lookup that is to fail with this error does, unless an allocation fails, and one that is not to
--- fail fails only where an allocation does
-abbrev pub Tells : {T : Type 0} → Option Error → Result T Error → Type 0
-Tells o r = MatchResult r (λ _. o ≡ None) (λ e. e ≢ OutOfMemory → o ≡ Some e)
+-- where the lookup succeeds it has no such error, and where it fails it returns this error or
+-- `OutOfMemory`
+abbrev pub FailsBy : {T : Type 0} → Option Error → Result T Error → Type 0
+FailsBy o r = MatchResult r (λ _. o ≡ None) (λ e. e ≢ OutOfMemory → o ≡ Some e)
 
--- the call does not fail for want of memory
+-- the call does not fail with `OutOfMemory`
 abbrev pub NeedsNoMemory : {T : Type 0} → Result T Error → Type 0
 NeedsNoMemory r = IfErr r (λ e. e ≢ OutOfMemory)
 
--- the text is one, and short enough for a string, and it is cut into lines
+-- the text is UTF-8, short enough for a string, and cut into lines
 pub record IsLawful (f : FileModel) : Type 0 where
   pub is_text : IsUtf8 f.text
   pub fits : length f.text < 2 ^ 64
@@ -41,19 +41,19 @@ pub record IsLawful (f : FileModel) : Type 0 where
   pub missing_name : f.there ≡ false → f.name ≡ Some []
   pub missing_text : f.there ≡ false → f.text ≡ []
 
--- the refusal is that of a line past the last
+-- the error is that of a line past the last
 abbrev pub IsLineTooLarge : Error → Type 0
 IsLineTooLarge (LineTooLarge given max) = Unit {0}
 IsLineTooLarge _ = ⊥
 
--- a lookup is refused as past the last line
-abbrev pub TellsPastEnd : Option Error → Type 0
-TellsPastEnd None = ⊥
-TellsPastEnd (Some e) = IsLineTooLarge e
+-- a lookup fails as past the last line
+abbrev pub IsPastEndError : Option Error → Type 0
+IsPastEndError None = ⊥
+IsPastEndError (Some e) = IsLineTooLarge e
 
--- of a file that is there, a line is refused so exactly where it is past the last
-abbrev pub RefusesPastEnd : FileModel → ℕ → Option Error → Type 0
-RefusesPastEnd f i o = f.there ≡ true → TellsPastEnd o ↔ (length f.starts ≤ i)
+-- of a file that exists, a line fails so exactly where it is past the last
+abbrev pub FailsPastEnd : FileModel → ℕ → Option Error → Type 0
+FailsPastEnd f i o = f.there ≡ true → IsPastEndError o ↔ (length f.starts ≤ i)
 
 -- the column of a byte on line i, counted from 0
 abbrev pub column_of : FileModel → ℕ → ℕ → ℕ
@@ -65,20 +65,20 @@ location_of f byte =
     let i = line_of f.starts byte in
     record { line_number = f.number i; column_number = f.column i byte }
 
--- what the number of a line is refused with, where it is the index plus 1
-abbrev pub line_number_refusal : ℕ → Option Error
-line_number_refusal i = if i == 2 ^ 64 - 1 then Some (LineTooLarge i (2 ^ 64 - 2)) else None
+-- what the number of a line fails with, where it is the index plus 1
+abbrev pub line_number_failure : ℕ → Option Error
+line_number_failure i = if i == 2 ^ 64 - 1 then Some (LineTooLarge i (2 ^ 64 - 2)) else None
 
--- what the column by default is refused with
-abbrev pub column_refusal : (Lookup → Option Error) → ℕ → Option Error
-column_refusal refusal i = or_refusal (refusal Source) (refusal (LineRange i))
+-- what the column by default fails with
+abbrev pub column_failure : (Lookup → Option Error) → ℕ → Option Error
+column_failure failure i = or_failure (failure Source) (failure (LineRange i))
 
--- what the location by default is refused with
-abbrev pub location_refusal : FileModel → (Lookup → Option Error) → ℕ → Option Error
-location_refusal f refusal byte =
+-- what the location by default fails with
+abbrev pub location_failure : FileModel → (Lookup → Option Error) → ℕ → Option Error
+location_failure f failure byte =
     let i = line_of f.starts byte in
-    or_refusal (refusal (LineIndex byte))
-    (or_refusal (refusal (LineNumber i)) (refusal (ColumnNumber i byte)))
+    or_failure (failure (LineIndex byte))
+    (or_failure (failure (LineNumber i)) (failure (ColumnNumber i byte)))
 
 -- the byte at which line i ends
 abbrev pub line_end : FileModel → ℕ → ℕ

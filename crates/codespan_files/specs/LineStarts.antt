@@ -1,9 +1,9 @@
--- What the iterator over line starts has left.
+-- What the iterator over line starts has yet to return.
 use Rattle.std.specs.Prelude.{ℕ, List, ◌∷◌, drop, if◌then◌else◌}
 use Rattle.codespan_files.specs.Lines.{starts_after}
 use Rattle.codespan_files.specs.declared.files.starts.LineStarts.{LineStarts}
 
--- the starts that are still to come
+-- the starts that are left
 abbrev pub starts_left : LineStarts → List ℕ
 starts_left s =
     if s.begun then starts_after s.at (drop s.at s.source.now)

@@ -5,7 +5,7 @@ use Rattle.codespan_files.specs.declared.files.error.Error.{Error}
 use Rattle.codespan_files.specs.declared.files.error.Error.TheVariants.{LineTooLarge}
 use Rattle.codespan_files.specs.declared.files.Location.{Location}
 use Rattle.codespan_files.specs.FileModel.{FileModel, Lookup, line_of}
-use Rattle.codespan_files.specs.LawfulFiles.{line_number_refusal}
+use Rattle.codespan_files.specs.LawfulFiles.{line_number_failure}
 use Rattle.codespan_files.specs.FileModel.Lookup.{LineNumber, ColumnNumber, LocationAt, LineRange}
 use Rattle.codespan_files.specs.Lines.{line_starts_of, starts_after, column_index_of}
 use Rattle.codespan_files.specs.SimpleModel.{simple_file, past_end}
@@ -36,10 +36,10 @@ abbrev pub number_from : Option (ℕ × ℕ) → ℕ → ℕ
 number_from None i = i + 1
 number_from (Some s) i = s.1 + (i - s.0)
 
--- a number past the greatest usize is refused
-abbrev pub number_refusal : Option (ℕ × ℕ) → ℕ → Option Error
-number_refusal None i = line_number_refusal i
-number_refusal (Some s) i =
+-- a number past the greatest usize fails
+abbrev pub number_failure : Option (ℕ × ℕ) → ℕ → Option Error
+number_failure None i = line_number_failure i
+number_failure (Some s) i =
     if nat_lt (s.1 + (i - s.0)) (2 ^ 64) then None
     else Some (LineTooLarge i (s.0 + (2 ^ 64 - 1 - s.1)))
 
@@ -67,11 +67,11 @@ mapped_file name text settings = record (simple_file name text) {
   location = mapped_location text settings;
 }
 
--- what a lookup is refused with
-abbrev pub mapped_refusal : List ℕ → List (ℕ × ℕ) → Lookup → Option Error
-mapped_refusal text settings (LineNumber i) = number_refusal (setting settings i) i
-mapped_refusal text settings (ColumnNumber i byte) = past_end text i
-mapped_refusal text settings (LineRange i) = past_end text i
-mapped_refusal text settings (LocationAt byte) =
-    let i = line_of (line_starts_of text) byte in number_refusal (setting settings i) i
-mapped_refusal text settings _ = None
+-- what a lookup fails with
+abbrev pub mapped_failure : List ℕ → List (ℕ × ℕ) → Lookup → Option Error
+mapped_failure text settings (LineNumber i) = number_failure (setting settings i) i
+mapped_failure text settings (ColumnNumber i byte) = past_end text i
+mapped_failure text settings (LineRange i) = past_end text i
+mapped_failure text settings (LocationAt byte) =
+    let i = line_of (line_starts_of text) byte in number_failure (setting settings i) i
+mapped_failure text settings _ = None

@@ -1,12 +1,12 @@
--- A text as a file, and a table of such files: a line starts after each newline, and ends where the
--- next one starts.
+-- A text as a file, and a database of such files: a line starts after each newline, and ends where
+-- the next one starts.
 use Rattle.std.specs.Prelude.{ℕ, ◌+◌, ◌-◌, nat_lt, true, false, if◌then◌else◌, List, [], ◌∷◌, ◌++◌, length, drop, slice_index, slice_get, Option, Some, None}
 use Rattle.std.specs.Option.{option_map_or}
 use Rattle.codespan_files.specs.declared.files.error.Error.{Error}
 use Rattle.codespan_files.specs.declared.files.error.Error.TheVariants.{LineTooLarge, FileMissing}
 use Rattle.codespan_files.specs.declared.files.Location.{Location}
 use Rattle.codespan_files.specs.FileModel.{FileModel, Lookup, line_of}
-use Rattle.codespan_files.specs.LawfulFiles.{line_number_refusal}
+use Rattle.codespan_files.specs.LawfulFiles.{line_number_failure}
 use Rattle.codespan_files.specs.FileModel.Lookup.{LineNumber, ColumnNumber, LineRange}
 use Rattle.codespan_files.specs.Lines.{line_starts_of, column_index_of}
 
@@ -39,20 +39,20 @@ simple_file name text = record {
   location = simple_location text;
 }
 
--- a line past the last is refused
+-- a line past the last fails
 abbrev pub past_end : List ℕ → ℕ → Option Error
 past_end text i =
     if nat_lt i (length (line_starts_of text)) then None
     else Some (LineTooLarge i (length (line_starts_of text) - 1))
 
--- what a lookup is refused with
-abbrev pub simple_refusal : List ℕ → Lookup → Option Error
-simple_refusal text (LineNumber i) = line_number_refusal i
-simple_refusal text (ColumnNumber i byte) = past_end text i
-simple_refusal text (LineRange i) = past_end text i
-simple_refusal text _ = None
+-- what a lookup fails with
+abbrev pub simple_failure : List ℕ → Lookup → Option Error
+simple_failure text (LineNumber i) = line_number_failure i
+simple_failure text (ColumnNumber i byte) = past_end text i
+simple_failure text (LineRange i) = past_end text i
+simple_failure text _ = None
 
--- the file of an id that is not there
+-- the file of an id that names none
 abbrev pub missing_file : FileModel
 missing_file = record {
   there = false;
@@ -65,21 +65,21 @@ missing_file = record {
   location = λ byte. record { line_number = 1; column_number = 1 };
 }
 
--- every lookup but that of a line's number needs the file
-abbrev pub missing_refusal : Lookup → Option Error
-missing_refusal (LineNumber i) = line_number_refusal i
-missing_refusal _ = Some FileMissing
+-- every lookup but that of a line's number fails with `FileMissing`
+abbrev pub missing_failure : Lookup → Option Error
+missing_failure (LineNumber i) = line_number_failure i
+missing_failure _ = Some FileMissing
 
--- the file of an id, in a table of names and sources
+-- the file of an id, in a database of names and sources
 abbrev pub table_file : {Name Source : Type 0} → (Name → Option (List ℕ)) → (Source → List ℕ)
     → List (Name × Source) → ℕ → FileModel
 table_file output text entries id =
     option_map_or (λ entry. simple_file (output entry.0) (text entry.1))
     (slice_get entries id) missing_file
 
--- what a lookup is refused with there
-abbrev pub table_refusal : {Name Source : Type 0} → (Source → List ℕ) → List (Name × Source) → ℕ
+-- what a lookup fails with there
+abbrev pub table_failure : {Name Source : Type 0} → (Source → List ℕ) → List (Name × Source) → ℕ
     → Lookup → Option Error
-table_refusal text entries id lookup =
-    option_map_or (λ entry. simple_refusal (text entry.1) lookup) (slice_get entries id)
-    (missing_refusal lookup)
+table_failure text entries id lookup =
+    option_map_or (λ entry. simple_failure (text entry.1) lookup) (slice_get entries id)
+    (missing_failure lookup)

@@ -1,7 +1,7 @@
-//! Diagnostics as data: what is reported, how bad it is, and the places that it speaks of.
+//! Diagnostics as data: severities, labels on ranges of files, messages and notes.
 //!
-//! Each type is built by a constructor and then by calls that begin with `with_`, which take the value and give it
-//! back. Constructors answer no refusal. A call that is refused drops the value that it was given.
+//! Constructors do not allocate and do not fail. The calls that begin with `with_` take a value and return it with one field changed;
+//! where such a call fails, the value is dropped.
 
 ghost use Rattle.std.specs.Prelude.{◌≡◌, ◌++◌, ◌∷◌, [], IfOk, IfSome, IfErr, OnErr, IsErrOf, IsSome, String, string_bytes, map, Some, None};
 ghost use Rattle.std.specs.Global.{Global};
@@ -19,48 +19,66 @@ use std::alloc::Global;
 use std::fmt::Display;
 use std::ops::Range;
 
-/// How bad a diagnostic is: `Help` < `Note` < `Warning` < `Error` < `Bug`.
+/// The severity of a diagnostic. The order is the Rust crate's: `Help` < `Note` < `Warning` < `Error` < `Bug`.
 ///
-/// Equality, order and hash agree: see [`crate::laws::severities_agree`].
+/// Equality, order and hash agree, by the law [`codespan_base::laws::severities_agree`].
+///
+/// # Examples
+///
+/// ```rust
+/// assert!(rt; Severity::Bug > Severity::Error);
+/// assert!(rt; Severity::Error > Severity::Warning);
+/// assert!(rt; Severity::Warning > Severity::Note);
+/// assert!(rt; Severity::Note > Severity::Help);
+/// ```
 #[derive(Clone, Copy, Debug, PartialEq, Eq, PartialOrd, Ord, Hash)]
 pub enum Severity {
-    /// How to help oneself.
+    /// Advice on what to do.
     Help,
-    /// What is good to know.
+    /// Information.
     Note,
-    /// What may be wrong.
+    /// A possible error.
     Warning,
-    /// What is wrong.
+    /// An error in the input.
     Error,
-    /// A fault of the program that reports.
+    /// An error in the program that reports.
     Bug,
 }
 
-/// Whether a label is the cause of a diagnostic, or tells more of it: `Primary` < `Secondary`.
+/// The style of a label. The order is the Rust crate's: `Primary` < `Secondary`.
+///
+/// Equality and order agree, by the law [`codespan_base::laws::label_styles_agree`].
 #[derive(Clone, Copy, Debug, PartialEq, Eq, PartialOrd)]
 pub enum LabelStyle {
-    /// The cause.
+    /// Labels what the diagnostic is about. Short and medium style render a header for each primary label.
     Primary,
-    /// What else there is to see.
+    /// Labels a range that explains more of it.
     Secondary,
 }
 
-/// A labelled range of a file's text.
+/// A labeled range of a file's text, with a message.
+///
+/// # Examples
+///
+/// ```rust
+/// let label = Label::primary(alloc, 'a', 0..1).with_message("here")?;
+/// assert_eq!(rt; label.message.as_str(), "here");
+/// ```
 #[derive(Debug, Drop, PartialEq, Eq)]
 pub struct Label<FileId> {
-    /// Whether it is the cause.
+    /// Whether the label is primary or secondary.
     pub style: LabelStyle,
-    /// The file that it is in.
+    /// The id of the file, in the file database that the diagnostic is rendered with.
     pub file_id: FileId,
-    /// The bytes of the file that it labels. Any range may stand here, also one past the end of the file, off
+    /// The labeled bytes of the file's text, from 0, with an exclusive end. Any range is valid, also one past the end of the text, off
     /// character boundaries, or with its start after its end.
     pub range: Range<usize>,
-    /// What it says of them, in one line. Where it is empty, nothing is written.
+    /// The message: one line, without line breaks, by the Rust crate's documentation. An empty one is not rendered.
     pub message: String,
 }
 
 impl<FileId> Label<FileId> {
-    /// A label of this style on these bytes of the file, with no message.
+    /// Returns a label of this style without a message. The range is in bytes of the text, from 0, with an exclusive end.
     pub fn new(alloc: Global, style: LabelStyle, file_id: FileId, range: Range<usize>) -> Self
         ensures style { result.style ≡ style }
         ensures file_id { result.file_id ≡ file_id }
@@ -75,7 +93,8 @@ impl<FileId> Label<FileId> {
         }
     }
 
-    /// A label of the style [`LabelStyle::Primary`], with no message.
+    /// Returns a label of style [`LabelStyle::Primary`] without a message. The range is in bytes of the text, from 0, with an exclusive
+    /// end.
     pub fn primary(alloc: Global, file_id: FileId, range: Range<usize>) -> Self
         ensures style { result.style ≡ LabelStyle.Primary }
         ensures file_id { result.file_id ≡ file_id }
@@ -85,7 +104,8 @@ impl<FileId> Label<FileId> {
         Label::new(alloc, LabelStyle::Primary, file_id, range)
     }
 
-    /// A label of the style [`LabelStyle::Secondary`], with no message.
+    /// Returns a label of style [`LabelStyle::Secondary`] without a message. The range is in bytes of the text, from 0, with an exclusive
+    /// end.
     pub fn secondary(alloc: Global, file_id: FileId, range: Range<usize>) -> Self
         ensures style { result.style ≡ LabelStyle.Secondary }
         ensures file_id { result.file_id ≡ file_id }
@@ -97,16 +117,19 @@ impl<FileId> Label<FileId> {
 }
 
 impl<FileId: Drop> Label<FileId> {
-    ghost use Rattle.codespan_files.specs.Diagnostics.{IsTextRefusal};
+    ghost use Rattle.codespan_files.specs.Diagnostics.{IsTextFailure};
 
-    /// The label with the text that `message` displays as its message.
+    /// Returns the label with the text that `message` displays as its message, in place of the earlier one.
     ///
-    /// Refuses with `FormatError` where the `Display` refused, and with `OutOfMemory` where a growth was refused.
+    /// # Errors
+    ///
+    /// - [`Error::FormatError`] where the `Display` fails.
+    /// - [`Error::OutOfMemory`] where an allocation fails.
     pub fn with_message<D: Display + Drop>(mut self, message: D) -> Result<Self, Error>
         ensures message { IfOk result (λ label.
             IfSome (D.output message) (λ bytes. string_bytes label.message ≡ bytes)) }
         ensures others { IfOk result (λ label. label ≡ record self { message = label.message }) }
-        ensures refused { IfErr result IsTextRefusal }
+        ensures failed { IfErr result IsTextFailure }
     {
         let text = display_text(*self.message.allocator(), message)?;
         self.message = text;
@@ -117,10 +140,14 @@ impl<FileId: Drop> Label<FileId> {
 impl<FileId: Copy> Label<FileId> {
     ghost use Rattle.codespan_files.specs.Diagnostics.{label_view};
 
-    /// An equal label. Refuses with `OutOfMemory`.
+    /// Returns an equal label.
+    ///
+    /// # Errors
+    ///
+    /// [`Error::OutOfMemory`] where an allocation fails.
     pub fn clone(&self) -> Result<Self, Error>
         ensures same { IfOk result (λ label. label_view label ≡ label_view self.now) }
-        ensures refused { OnErr result (IsErrOf result Error.OutOfMemory) }
+        ensures failed { OnErr result (IsErrOf result Error.OutOfMemory) }
     {
         Ok(Label {
             style: self.style,
@@ -131,26 +158,39 @@ impl<FileId: Copy> Label<FileId> {
     }
 }
 
-/// A diagnostic of a compiler or of any program that speaks of texts.
+/// A diagnostic: what a compiler, or any program that reads texts, reports.
 ///
-/// The order of its labels decides the order of files, of lanes and of equal ranges in rich style, the order of
-/// headers in the other styles, and which error is returned where several lookups fail; nothing else.
+/// The order of its labels decides the order of files, of lanes and of equal ranges in rich style, the order of headers in the other
+/// styles, and which error is returned where several lookups fail; nothing else. The Rust crate's documentation says that the order has
+/// no meaning, but its code does the same.
+///
+/// # Examples
+///
+/// ```rust
+/// let label = Label::primary(alloc, id, 10..14).with_message("expected a number")?;
+/// let diagnostic = Diagnostic::error(alloc)
+///     .with_code("E0001")?
+///     .with_message("invalid value for `retries`")?
+///     .with_label(label)?;
+///
+/// emit_into_string(&Config::default(), &files, &diagnostic)
+/// ```
 #[derive(Debug, Drop, PartialEq, Eq)]
 pub struct Diagnostic<FileId> {
-    /// How bad it is.
+    /// The severity.
     pub severity: Severity,
-    /// A code that names its kind. An empty one is not written.
+    /// The code of this kind of diagnostic. An empty one is not rendered.
     pub code: Option<String>,
-    /// What it says, in one line that makes sense alone.
+    /// The message: one line that makes sense without labels and notes, by the Rust crate's documentation.
     pub message: String,
-    /// The places that it speaks of.
+    /// The labels.
     pub labels: Vec<Label<FileId>>,
-    /// What else is to be said, in any number of lines.
+    /// The notes, each of any number of lines.
     pub notes: Vec<String>,
 }
 
 impl<FileId> Diagnostic<FileId> {
-    /// A diagnostic of this severity, with empty texts and lists and no code.
+    /// Returns a diagnostic of this severity, with empty texts and lists and no code.
     pub fn new(alloc: Global, severity: Severity) -> Self
         ensures severity { result.severity ≡ severity }
         ensures code { result.code ≡ None }
@@ -167,7 +207,7 @@ impl<FileId> Diagnostic<FileId> {
         }
     }
 
-    /// A diagnostic of the severity [`Severity::Bug`], with empty texts and lists and no code.
+    /// Returns a diagnostic of severity [`Severity::Bug`], with empty texts and lists and no code.
     pub fn bug(alloc: Global) -> Self
         ensures severity { result.severity ≡ Severity.Bug }
         ensures code { result.code ≡ None }
@@ -178,7 +218,7 @@ impl<FileId> Diagnostic<FileId> {
         Diagnostic::new(alloc, Severity::Bug)
     }
 
-    /// A diagnostic of the severity [`Severity::Error`], with empty texts and lists and no code.
+    /// Returns a diagnostic of severity [`Severity::Error`], with empty texts and lists and no code.
     pub fn error(alloc: Global) -> Self
         ensures severity { result.severity ≡ Severity.Error }
         ensures code { result.code ≡ None }
@@ -189,7 +229,7 @@ impl<FileId> Diagnostic<FileId> {
         Diagnostic::new(alloc, Severity::Error)
     }
 
-    /// A diagnostic of the severity [`Severity::Warning`], with empty texts and lists and no code.
+    /// Returns a diagnostic of severity [`Severity::Warning`], with empty texts and lists and no code.
     pub fn warning(alloc: Global) -> Self
         ensures severity { result.severity ≡ Severity.Warning }
         ensures code { result.code ≡ None }
@@ -200,7 +240,7 @@ impl<FileId> Diagnostic<FileId> {
         Diagnostic::new(alloc, Severity::Warning)
     }
 
-    /// A diagnostic of the severity [`Severity::Note`], with empty texts and lists and no code.
+    /// Returns a diagnostic of severity [`Severity::Note`], with empty texts and lists and no code.
     pub fn note(alloc: Global) -> Self
         ensures severity { result.severity ≡ Severity.Note }
         ensures code { result.code ≡ None }
@@ -211,7 +251,7 @@ impl<FileId> Diagnostic<FileId> {
         Diagnostic::new(alloc, Severity::Note)
     }
 
-    /// A diagnostic of the severity [`Severity::Help`], with empty texts and lists and no code.
+    /// Returns a diagnostic of severity [`Severity::Help`], with empty texts and lists and no code.
     pub fn help(alloc: Global) -> Self
         ensures severity { result.severity ≡ Severity.Help }
         ensures code { result.code ≡ None }
@@ -224,58 +264,78 @@ impl<FileId> Diagnostic<FileId> {
 }
 
 impl<FileId: Drop> Diagnostic<FileId> {
-    ghost use Rattle.codespan_files.specs.Diagnostics.{IsTextRefusal};
+    ghost use Rattle.codespan_files.specs.Diagnostics.{IsTextFailure};
 
-    /// The diagnostic with the text that `code` displays as its code.
+    /// Returns the diagnostic with the text that `code` displays as its code.
     ///
-    /// Refuses with `FormatError` where the `Display` refused, and with `OutOfMemory` where a growth was refused.
+    /// # Errors
+    ///
+    /// - [`Error::FormatError`] where the `Display` fails.
+    /// - [`Error::OutOfMemory`] where an allocation fails.
     pub fn with_code<D: Display + Drop>(mut self, code: D) -> Result<Self, Error>
         ensures code { IfOk result (λ d.
             IfSome (D.output code) (λ bytes. option_map string_bytes d.code ≡ Some bytes)) }
         ensures set { IfOk result (λ d. IsSome d.code) }
         ensures others { IfOk result (λ d. d ≡ record self { code = d.code }) }
-        ensures refused { IfErr result IsTextRefusal }
+        ensures failed { IfErr result IsTextFailure }
     {
         self.code = Some(display_text(*self.message.allocator(), code)?);
         Ok(self)
     }
 
-    /// The diagnostic with the text that `message` displays as its message.
+    /// Returns the diagnostic with the text that `message` displays as its message.
     ///
-    /// Refuses with `FormatError` where the `Display` refused, and with `OutOfMemory` where a growth was refused.
+    /// # Errors
+    ///
+    /// - [`Error::FormatError`] where the `Display` fails.
+    /// - [`Error::OutOfMemory`] where an allocation fails.
     pub fn with_message<D: Display + Drop>(mut self, message: D) -> Result<Self, Error>
         ensures message { IfOk result (λ d.
             IfSome (D.output message) (λ bytes. string_bytes d.message ≡ bytes)) }
         ensures others { IfOk result (λ d. d ≡ record self { message = d.message }) }
-        ensures refused { IfErr result IsTextRefusal }
+        ensures failed { IfErr result IsTextFailure }
     {
         self.message = display_text(*self.message.allocator(), message)?;
         Ok(self)
     }
 
-    /// The diagnostic with one more label at the end. Refuses with `OutOfMemory`.
+    /// Returns the diagnostic with one more label at the end.
+    ///
+    /// # Errors
+    ///
+    /// [`Error::OutOfMemory`] where an allocation fails.
     pub fn with_label(mut self, label: Label<FileId>) -> Result<Self, Error>
         ensures labels { IfOk result (λ d. d.labels.items ≡ self.labels.items ++ label ∷ []) }
         ensures others { IfOk result (λ d. d ≡ record self { labels = d.labels }) }
-        ensures refused { OnErr result (IsErrOf result Error.OutOfMemory) }
+        ensures failed { OnErr result (IsErrOf result Error.OutOfMemory) }
     {
         self.labels.push(label)?;
         Ok(self)
     }
 
-    /// The diagnostic with these labels at the end, in their order. Refuses with `OutOfMemory`.
+    /// Returns the diagnostic with these labels at the end, in their order.
+    ///
+    /// # Errors
+    ///
+    /// [`Error::OutOfMemory`] where an allocation fails.
     pub fn with_labels(mut self, mut labels: Vec<Label<FileId>>) -> Result<Self, Error>
         ensures labels { IfOk result (λ d. d.labels.items ≡ self.labels.items ++ labels.items) }
         ensures others { IfOk result (λ d. d ≡ record self { labels = d.labels }) }
-        ensures refused { OnErr result (IsErrOf result Error.OutOfMemory) }
+        ensures failed { OnErr result (IsErrOf result Error.OutOfMemory) }
     {
         self.labels.append(&mut labels)?;
         Ok(self)
     }
 
-    /// The diagnostic with the labels that an iterator gives at the end, in its order. The iterator has to end.
+    /// Returns the diagnostic with the labels of an iterator at the end, in their order.
     ///
-    /// Refuses with `OutOfMemory`.
+    /// # Errors
+    ///
+    /// [`Error::OutOfMemory`] where an allocation fails.
+    ///
+    /// # Requires
+    ///
+    /// Whichever iterator `into_iter` returns: its `next` may be called, and its items come to an end.
     pub fn with_labels_iter<I: IntoIterator<Item = Label<FileId>>>(
         mut self,
         labels: I,
@@ -289,16 +349,19 @@ impl<FileId: Drop> Diagnostic<FileId> {
             × WholeRun I.IntoIter.next_gives it (λ run.
             d.labels.items ≡ self.labels.items ++ run.items)) }
         ensures others { IfOk result (λ d. d ≡ record self { labels = d.labels }) }
-        ensures refused { OnErr result (IsErrOf result Error.OutOfMemory) }
+        ensures failed { OnErr result (IsErrOf result Error.OutOfMemory) }
     {
         let mut more: Vec<Label<FileId>> = labels.into_iter().collect(*self.labels.allocator())?;
         self.labels.append(&mut more)?;
         Ok(self)
     }
 
-    /// The diagnostic with the text that `note` displays as one more note at the end.
+    /// Returns the diagnostic with the text that `note` displays as one more note at the end.
     ///
-    /// Refuses with `FormatError` where the `Display` refused, and with `OutOfMemory` where a growth was refused.
+    /// # Errors
+    ///
+    /// - [`Error::FormatError`] where the `Display` fails.
+    /// - [`Error::OutOfMemory`] where an allocation fails.
     pub fn with_note<D: Display + Drop>(mut self, note: D) -> Result<Self, Error>
         ensures note { IfOk result (λ d.
             IfSome (D.output note) (λ bytes.
@@ -307,26 +370,36 @@ impl<FileId: Drop> Diagnostic<FileId> {
         ensures added { IfOk result (λ d.
             (added : String Global) × (d.notes.items ≡ self.notes.items ++ added ∷ [])) }
         ensures others { IfOk result (λ d. d ≡ record self { notes = d.notes }) }
-        ensures refused { IfErr result IsTextRefusal }
+        ensures failed { IfErr result IsTextFailure }
     {
         let text = display_text(*self.message.allocator(), note)?;
         self.notes.push(text)?;
         Ok(self)
     }
 
-    /// The diagnostic with these notes at the end, in their order. Refuses with `OutOfMemory`.
+    /// Returns the diagnostic with these notes at the end, in their order.
+    ///
+    /// # Errors
+    ///
+    /// [`Error::OutOfMemory`] where an allocation fails.
     pub fn with_notes(mut self, mut notes: Vec<String>) -> Result<Self, Error>
         ensures notes { IfOk result (λ d. d.notes.items ≡ self.notes.items ++ notes.items) }
         ensures others { IfOk result (λ d. d ≡ record self { notes = d.notes }) }
-        ensures refused { OnErr result (IsErrOf result Error.OutOfMemory) }
+        ensures failed { OnErr result (IsErrOf result Error.OutOfMemory) }
     {
         self.notes.append(&mut notes)?;
         Ok(self)
     }
 
-    /// The diagnostic with the notes that an iterator gives at the end, in its order. The iterator has to end.
+    /// Returns the diagnostic with the notes of an iterator at the end, in their order.
     ///
-    /// Refuses with `OutOfMemory`.
+    /// # Errors
+    ///
+    /// [`Error::OutOfMemory`] where an allocation fails.
+    ///
+    /// # Requires
+    ///
+    /// Whichever iterator `into_iter` returns: its `next` may be called, and its items come to an end.
     pub fn with_notes_iter<I: IntoIterator<Item = String>>(
         mut self,
         notes: I,
@@ -340,7 +413,7 @@ impl<FileId: Drop> Diagnostic<FileId> {
             × WholeRun I.IntoIter.next_gives it (λ run.
             d.notes.items ≡ self.notes.items ++ run.items)) }
         ensures others { IfOk result (λ d. d ≡ record self { notes = d.notes }) }
-        ensures refused { OnErr result (IsErrOf result Error.OutOfMemory) }
+        ensures failed { OnErr result (IsErrOf result Error.OutOfMemory) }
     {
         let mut more: Vec<String> = notes.into_iter().collect(*self.notes.allocator())?;
         self.notes.append(&mut more)?;
@@ -351,10 +424,14 @@ impl<FileId: Drop> Diagnostic<FileId> {
 impl<FileId: Copy> Diagnostic<FileId> {
     ghost use Rattle.codespan_files.specs.Diagnostics.{diagnostic_view};
 
-    /// An equal diagnostic. Refuses with `OutOfMemory`.
+    /// Returns an equal diagnostic.
+    ///
+    /// # Errors
+    ///
+    /// [`Error::OutOfMemory`] where an allocation fails.
     pub fn clone(&self) -> Result<Self, Error>
         ensures same { IfOk result (λ d. diagnostic_view d ≡ diagnostic_view self.now) }
-        ensures refused { OnErr result (IsErrOf result Error.OutOfMemory) }
+        ensures failed { OnErr result (IsErrOf result Error.OutOfMemory) }
     {
         let code = match &self.code {
             Some(code) => Some(code.clone()?),

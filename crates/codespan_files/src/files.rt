@@ -1,12 +1,13 @@
-//! The files that diagnostics speak of: the lookups that rendering makes, and file databases.
+//! The lookups that rendering makes, and file databases.
 //!
-//! [`Files`] is what rendering looks up in a file database. Three of them are here: [`SimpleFile`] is
-//! one text, [`SimpleFiles`] many, and [`MappedFile`] one text whose line numbers are set in the
-//! manner of `#line`. They are small, and users implement [`Files`] for databases of their own, as
-//! one over a compiler's own sources.
+//! [`Files`] is the trait of file databases. This module has three implementations: [`SimpleFile`] has one text, [`SimpleFiles`] many,
+//! and [`MappedFile`] one text whose line numbers can be set as `#line` does in C. They are small; implement [`Files`] for other
+//! databases, for example over the sources that a compiler keeps.
+//!
+//! Line indices and byte indices count from 0, and the end of a range is exclusive. Line numbers and column numbers are for users.
 
 ghost use Rattle.std.specs.Prelude.{◌≡◌, true, Option, IfOk, ℕ};
-ghost use Rattle.codespan_files.specs.LawfulFiles.{Tells};
+ghost use Rattle.codespan_files.specs.LawfulFiles.{FailsBy};
 
 mod defaults;
 mod error;
@@ -27,14 +28,12 @@ use std::fmt::Display;
 use std::ops::Range;
 pub use table::SimpleFiles;
 
-/// A place in a file, as its users count.
-///
-/// Given by [`Files::location`].
+/// A location in a file, as users count. Returned by [`Files::location`].
 #[derive(Clone, Copy, Debug, PartialEq, Eq)]
 pub struct Location {
-    /// The line's number, mostly counted from 1.
+    /// The line's number, in most databases from 1.
     pub line_number: usize,
-    /// The column's number, mostly counted in characters from 1.
+    /// The column's number, in most databases in characters from 1.
     pub column_number: usize,
 }
 
@@ -44,102 +43,161 @@ pub struct Location {
 ///
 /// # The law
 ///
-/// What a database returns is one ghost member, `database`: which ids are equal, the file that an id
-/// names, and the error that each lookup of it fails with. Each call returns what `database` says,
-/// and these laws hold of it. The proof of an implementation shows both, and rendering rests on them:
+/// The ghost member `database` says what a database returns: which ids are equal, the file of an id, and the error of each lookup. Each
+/// call returns what `database` says, so a result depends on the database and on the arguments alone. Only [`Error::OutOfMemory`] is
+/// free: any call may return it where an allocation fails. An implementation proves this and the following, and the contracts of
+/// rendering rest on it:
 ///
-/// - A file is a name, a text, a strictly ascending list of line starts, and an end for each line.
-///   Lines are counted from 0 by their indices, and offsets are bytes of the text. The text is
-///   UTF-8, and shorter than 2^64 bytes, as each `str` is.
-/// - The first line starts at byte 0. Starts and ends are character boundaries of the text. A line's
-///   end is not before its start, nor after the next line's start.
-/// - Which ids are equal says the `==` of `FileId`, and equal ids have one file and fail alike.
-/// - `line_index` returns the last line whose start is not after the byte; past the end of the text
-///   that is the last line.
-/// - `line_range` returns a line's start and end. Of a file that is there it fails with
-///   [`Error::LineTooLarge`] exactly where the index is not below the number of lines.
-///
-/// So what a call returns depends on the database and on the arguments alone. Only
-/// [`Error::OutOfMemory`] may come and go: any call may return it where an allocation fails.
+/// - A file is a name, a text, a strictly ascending list of line starts, and an end for each line. Lines are counted from 0 by their
+///   indices, and offsets are bytes of the text. The text is UTF-8, and shorter than 2^64 bytes, as each `str` is.
+/// - The first line starts at byte 0. Starts and ends are character boundaries of the text. A line's end is not before its start, nor
+///   after the next line's start.
+/// - Ids are equal where the `==` of `FileId` says so. Equal ids have one file and the same errors.
+/// - `line_index` returns the last line whose start is not after the byte; past the end of the text that is the last line.
+/// - `line_range` returns a line's start and end. Of a file that exists it fails with [`Error::LineTooLarge`] exactly where the index is
+///   not below the number of lines.
 ///
 /// A name is the text that its `Display` states; where it states none, nothing is known of it.
 ///
-/// `docs/FILES.md` goes through an implementation step by step.
+/// # Examples
+///
+/// A database of two files. `docs/FILES.md` goes through another one step by step.
+///
+/// ```rust
+/// impl<'a, 'text: 'a> Files<'a> for Checked<'text> {
+///     ghost use Rattle.codespan_base.specs.SimpleModel.{simple_file, simple_failure};
+///     ghost use Rattle.codespan_base.specs.Lemmas.Simple.{simple_lawful, simple_past_end, text_fits, text_is_utf8};
+///     ghost use Rattle.example_files.specs.Parts.{one_part};
+///
+///     type FileId = Part;
+///
+///     type Name = Part;
+///
+///     type Source = &'text str;
+///
+///     // A part is the file of its name and of its text.
+///     ghost database = { λ s. record {
+///       same = ⟦<Part as PartialEq>⟧.eq;
+///       file = λ id. simple_file (part_name id) (source_of (of_part s.schema s.document id)).now;
+///       failure = λ id. simple_failure (source_of (of_part s.schema s.document id)).now;
+///     } };
+///
+///     fn name(&'a self, id: Part) -> Result<Part, Error> {
+///         Ok(id)
+///     }
+///
+///     fn source(&'a self, id: Part) -> Result<&'text str, Error> {
+///         Ok(*self.file(id).source())
+///     }
+///
+///     fn line_index(&'a self, id: Part, byte: usize) -> Result<usize, Error> {
+///         self.file(id).line_index((), byte)
+///     }
+///
+///     fn line_number(&'a self, _id: Part, line: usize) -> Result<usize, Error> {
+///         default_line_number(line)
+///     }
+///
+///     fn column_number(&'a self, id: Part, line: usize, byte: usize) -> Result<usize, Error> {
+///         self.file(id).column_number((), line, byte)
+///     }
+///
+///     fn location(&'a self, id: Part, byte: usize) -> Result<Location, Error> {
+///         self.file(id).location((), byte)
+///     }
+///
+///     fn line_range(&'a self, id: Part, line: usize) -> Result<Range<usize>, Error> {
+///         self.file(id).line_range((), line)
+///     }
+///
+///     // The file of a text is lawful.
+///     ghost lawful = { λ s id.
+///         let file = of_part s.schema s.document id in
+///         simple_lawful (part_name id) (source_of file).now (text_is_utf8 file) (text_fits file) };
+///
+///     // Equal ids are one part.
+///     ghost same_file = { λ s i j e.
+///         rw (one_part ⟦<Part as PartialEq>⟧.eq (λ h. absurd (cc)) (λ h. absurd (cc)) i j e)
+///         (refl, refl) };
+///
+///     ghost same_is = { λ s. refl };
+///
+///     // A line past the last fails as there.
+///     ghost past_end = { λ s id i.
+///         simple_past_end (part_name id) (source_of (of_part s.schema s.document id)).now i };
+/// }
+/// ```
 pub trait Files<'a> {
     ghost use Rattle.codespan_files.specs.declared.files.error.Error.{Error};
     ghost use Rattle.codespan_files.specs.FileModel.{FileDatabase, line_of};
-    ghost use Rattle.codespan_files.specs.LawfulFiles.{IsLawful, RefusesPastEnd, IsLineRange};
+    ghost use Rattle.codespan_files.specs.LawfulFiles.{IsLawful, FailsPastEnd, IsLineRange};
     ghost use Rattle.codespan_files.specs.FileModel.Lookup.{Name, Source, LineIndex, LineNumber, ColumnNumber, LocationAt, LineRange};
 
-    /// What identifies a file of the database. Equal ids name one file.
+    /// The type of ids. Equal ids are ids of one file.
     type FileId: 'a + Copy + Eq;
 
-    /// A file's name, as users see it.
+    /// The type of a file's name, as users see it.
     type Name: 'a + Display + Drop;
 
-    /// A file's text.
+    /// The type of a file's text.
     type Source: 'a + AsStr + Drop;
 
-    /// Which ids are equal, the file that an id names, and the error that a lookup of it fails with,
-    /// `OutOfMemory` aside.
+    /// Which ids are equal, the file of an id, and the error of each lookup of it, [`Error::OutOfMemory`] aside.
     ghost database: { Self → FileDatabase Self.FileId };
 
     /// Returns the file's name, as users see it.
     ///
     /// # Errors
     ///
-    /// - [`Error::FileMissing`], or another error of the database's own, where it has no such file.
+    /// - [`Error::FileMissing`], or a custom error, where the database has no such file.
     /// - [`Error::OutOfMemory`] where an allocation fails.
     fn name(&'a self, id: Self::FileId) -> Result<Self::Name, Error>
         ensures value { IfOk result (λ n. Self.Name.output n ≡ ((database self.now).file id).name) }
-        ensures refused { Tells ((database self.now).refusal id Name) result };
+        ensures failed { FailsBy ((database self.now).failure id Name) result };
 
     /// Returns the file's text.
     ///
     /// # Errors
     ///
-    /// - [`Error::FileMissing`], or another error of the database's own, where it has no such file or
-    ///   can not read it.
+    /// - [`Error::FileMissing`], or a custom error, where the database has no such file or can not read it.
     /// - [`Error::OutOfMemory`] where an allocation fails.
     fn source(&'a self, id: Self::FileId) -> Result<Self::Source, Error>
         ensures value { IfOk result (λ s. Self.Source.text s ≡ ((database self.now).file id).text) }
-        ensures refused { Tells ((database self.now).refusal id Source) result };
+        ensures failed { FailsBy ((database self.now).failure id Source) result };
 
-    /// Returns the index of the line that the byte is on, counted from 0. Past the end of the text
-    /// it is that of the last line, so no byte index is too large.
+    /// Returns the index of the byte's line, from 0. `byte_index` is in bytes of the text, from 0, and none is too large: past the end of
+    /// the text the line is the last one. The rule is the Rust crate's.
     ///
-    /// Keep the starts that [`line_starts`] returns, and search among them: [`SimpleFile`] does.
+    /// Keep the starts that [`line_starts`] returns, and search among them, as [`SimpleFile`] does.
     ///
     /// # Errors
     ///
-    /// - [`Error::FileMissing`], or another error of the database's own, where it has no such file.
+    /// - [`Error::FileMissing`], or a custom error, where the database has no such file.
     /// - [`Error::OutOfMemory`] where an allocation fails.
     fn line_index(&'a self, id: Self::FileId, byte_index: usize) -> Result<usize, Error>
         ensures value { IfOk result (λ i.
             i ≡ line_of ((database self.now).file id).starts byte_index) }
-        ensures refused { Tells ((database self.now).refusal id (LineIndex byte_index)) result };
+        ensures failed { FailsBy ((database self.now).failure id (LineIndex byte_index)) result };
 
-    /// Returns the number of a line as users see it, mostly the index plus 1:
-    /// [`default_line_number`].
+    /// Returns the number of a line as users see it, in most databases the 0-based index plus 1, as [`default_line_number`] has it.
     ///
-    /// Whether the file has such a line need not be looked up. A database may number its lines
-    /// otherwise: [`MappedFile`] does.
+    /// The file need not be looked up for it, and the line need not exist. A database may number its lines otherwise, as [`MappedFile`]
+    /// does.
     ///
     /// # Errors
     ///
-    /// - [`Error::LineTooLarge`], or another error of the database's own, where the number does not
-    ///   fit or the line has none.
+    /// - [`Error::LineTooLarge`], or a custom error, where the number does not fit into a `usize` or the line has none.
     /// - [`Error::OutOfMemory`] where an allocation fails.
     fn line_number(&'a self, id: Self::FileId, line_index: usize) -> Result<usize, Error>
         ensures value { IfOk result (λ n. n ≡ ((database self.now).file id).number line_index) }
-        ensures refused { Tells ((database self.now).refusal id (LineNumber line_index)) result };
+        ensures failed { FailsBy ((database self.now).failure id (LineNumber line_index)) result };
 
-    /// Returns the column number of a byte on a line, as users see it: mostly the characters from
-    /// the line's start, counted from 1, as `codespan_base::files::default_column_number` has it.
+    /// Returns the column number of a byte on a line as users see it: in most databases the characters from the line's start to the byte,
+    /// counted from 1, as [`default_column_number`](codespan_reporting::files::default_column_number) has it. Both indices count from 0.
     ///
     /// # Errors
     ///
-    /// - Mostly those of `source` and `line_range`.
+    /// - In most databases those of `source` and `line_range`.
     /// - [`Error::OutOfMemory`] where an allocation fails.
     fn column_number(
         &'a self,
@@ -149,44 +207,43 @@ pub trait Files<'a> {
     ) -> Result<usize, Error>
         ensures value { IfOk result (λ n.
             n ≡ ((database self.now).file id).column line_index byte_index) }
-        ensures refused { Tells
-            ((database self.now).refusal id (ColumnNumber line_index byte_index)) result };
+        ensures failed { FailsBy
+            ((database self.now).failure id (ColumnNumber line_index byte_index)) result };
 
-    /// Returns the numbers of a byte's line and of its column there: mostly
-    /// `codespan_base::files::default_location`.
+    /// Returns the line number and the column number of a byte, as users see them: in most databases as
+    /// [`default_location`](codespan_reporting::files::default_location) has it. The byte index counts from 0.
     ///
     /// # Errors
     ///
-    /// - Mostly those of `line_index`, `line_number` and `column_number`.
+    /// - In most databases those of `line_index`, `line_number` and `column_number`.
     /// - [`Error::OutOfMemory`] where an allocation fails.
     fn location(&'a self, id: Self::FileId, byte_index: usize) -> Result<Location, Error>
         ensures value { IfOk result (λ p. p ≡ ((database self.now).file id).location byte_index) }
-        ensures refused { Tells ((database self.now).refusal id (LocationAt byte_index)) result };
+        ensures failed { FailsBy ((database self.now).failure id (LocationAt byte_index)) result };
 
-    /// Returns the bytes of a line.
+    /// Returns the bytes of a line, from 0, with an exclusive end. Whether they have the line's newline is up to the database.
     ///
     /// # Errors
     ///
-    /// - [`Error::LineTooLarge`] exactly where a file that is there has no such line.
-    /// - [`Error::FileMissing`], or another error of the database's own, where it has no such file or
-    ///   does not show the line.
+    /// - [`Error::LineTooLarge`] exactly where the file exists and has no such line.
+    /// - [`Error::FileMissing`], or a custom error, where the database has no such file or does not show the line.
     /// - [`Error::OutOfMemory`] where an allocation fails.
     fn line_range(&'a self, id: Self::FileId, line_index: usize) -> Result<Range<usize>, Error>
         ensures value { IfOk result (IsLineRange ((database self.now).file id) line_index) }
-        ensures refused { Tells ((database self.now).refusal id (LineRange line_index)) result };
+        ensures failed { FailsBy ((database self.now).failure id (LineRange line_index)) result };
 
     /// Each file is cut into lines.
     ghost lawful: { (s : Self) (id : Self.FileId) → IsLawful ((database s).file id) };
 
-    /// Equal ids have one file, and fail alike.
+    /// Equal ids have one file and the same errors.
     ghost same_file: { (s : Self) (i j : Self.FileId) → (database s).same i j ≡ true
         → ((database s).file i ≡ (database s).file j)
-        × ((database s).refusal i ≡ (database s).refusal j) };
+        × ((database s).failure i ≡ (database s).failure j) };
 
     /// Ids are equal where `==` says so.
     ghost same_is: { (s : Self) → (database s).same ≡ Self.FileId.eq };
 
-    /// Of a file that is there, `line_range` fails with `LineTooLarge` exactly past the last line.
+    /// Of a file that exists, `line_range` fails with [`Error::LineTooLarge`] exactly past the last line.
     ghost past_end: { (s : Self) (id : Self.FileId) (i : ℕ) →
-        RefusesPastEnd ((database s).file id) i ((database s).refusal id (LineRange i)) };
+        FailsPastEnd ((database s).file id) i ((database s).failure id (LineRange i)) };
 }

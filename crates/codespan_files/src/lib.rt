@@ -1,6 +1,7 @@
-//! Diagnostics as data, and the files that they speak of.
+//! Diagnostics as data, and the file databases that rendering looks up.
 //!
-//! Users name these by the paths of `codespan_files` or `codespan_reporting`, which have them again.
+//! This crate is a layer of `codespan_base`. Users name its items as `codespan_reporting::diagnostic`, `codespan_reporting::files` and
+//! `codespan_base::laws`.
 #![tactic(auto)]
 
 pub mod diagnostic;

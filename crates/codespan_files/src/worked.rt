@@ -5,11 +5,11 @@ ghost use Rattle.std.specs.Prelude.{◌≡◌, ◌^◌, ◌-◌, [], ◌∷◌, 
 ghost use Rattle.codespan_files.specs.FileModel.{line_of, line_text};
 ghost use Rattle.codespan_files.specs.FileModel.Lookup.{Source, LineNumber, LineRange};
 ghost use Rattle.codespan_files.specs.Lines.{line_starts_of, column_index_of};
-ghost use Rattle.codespan_files.specs.SimpleModel.{simple_file, simple_refusal, past_end, missing_refusal};
-ghost use Rattle.codespan_files.specs.MappedModel.{with_number, number_from, setting, mapped_refusal};
+ghost use Rattle.codespan_files.specs.SimpleModel.{simple_file, simple_failure, past_end, missing_failure};
+ghost use Rattle.codespan_files.specs.MappedModel.{with_number, number_from, setting, mapped_failure};
 ghost use Rattle.codespan_files.specs.declared.files.error.Error.TheVariants.{FileMissing, LineTooLarge};
 
-/// Columns count the characters that begin after the line's start; lines start after each newline.
+/// Computes columns, which count the characters that end after the line's start, and lines, which start after newlines.
 fn columns_and_starts()
     ensures first_line { column_index_of (encode_utf8_all (codes "\n\n🗻∈🌏\n\n")) 0 1 0 ≡ 0 }
     ensures in_line { map (column_index_of (encode_utf8_all (codes "\n\n🗻∈🌏\n\n")) 2 13)
@@ -23,35 +23,35 @@ fn columns_and_starts()
         ≡ 1 ∷ 3 ∷ [] }
 {}
 
-/// A file that is not there, and a line past the last.
+/// Computes the errors of a missing file and of a line past the last.
 fn missing_file()
-    ensures missing { missing_refusal Source ≡ Some FileMissing }
-    ensures past_end { simple_refusal (codes "a\nb") (LineRange 2) ≡ Some (LineTooLarge 2 1) }
+    ensures missing { missing_failure Source ≡ Some FileMissing }
+    ensures past_end { simple_failure (codes "a\nb") (LineRange 2) ≡ Some (LineTooLarge 2 1) }
 {}
 
-/// Any number may be asked for.
+/// Computes lookups of the greatest indices.
 fn greatest_indices()
     ensures wide { column_index_of (encode_utf8_all (codes "é")) 0 9 (2 ^ 64 - 1) ≡ 1 }
     ensures reversed { column_index_of (codes "ab") 5 1 9 ≡ 0 }
-    ensures range { simple_refusal (codes "a\nb") (LineRange (2 ^ 64 - 1))
+    ensures range { simple_failure (codes "a\nb") (LineRange (2 ^ 64 - 1))
         ≡ Some (LineTooLarge (2 ^ 64 - 1) 1) }
-    ensures answered { simple_refusal (codes "a\nb") (LineNumber (2 ^ 64 - 2)) ≡ None }
+    ensures answered { simple_failure (codes "a\nb") (LineNumber (2 ^ 64 - 2)) ≡ None }
     ensures number { (simple_file None (codes "a\nb")).number (2 ^ 64 - 2) ≡ 2 ^ 64 - 1 }
-    ensures refused { simple_refusal (codes "a\nb") (LineNumber (2 ^ 64 - 1))
+    ensures failed { simple_failure (codes "a\nb") (LineNumber (2 ^ 64 - 1))
         ≡ Some (LineTooLarge (2 ^ 64 - 1) (2 ^ 64 - 2)) }
 {}
 
-/// A set number from which the next line's number does not fit.
+/// Computes the numbers after a set number so great that the next line's number does not fit.
 fn mapped_overflow()
     ensures greatest { number_from (setting (with_number 1 (2 ^ 64 - 1) []) 1) 1 ≡ 2 ^ 64 - 1 }
     ensures answered { let settings = with_number 1 (2 ^ 64 - 1) [] in
-        mapped_refusal (codes "a\nb\nc\nd") settings (LineNumber 1) ≡ None }
-    ensures refused { let settings = with_number 1 (2 ^ 64 - 1) [] in
-        mapped_refusal (codes "a\nb\nc\nd") settings (LineNumber 2) ≡ Some (LineTooLarge 2 1) }
+        mapped_failure (codes "a\nb\nc\nd") settings (LineNumber 1) ≡ None }
+    ensures failed { let settings = with_number 1 (2 ^ 64 - 1) [] in
+        mapped_failure (codes "a\nb\nc\nd") settings (LineNumber 2) ≡ Some (LineTooLarge 2 1) }
     ensures no_line { past_end (codes "a\nb\nc\nd") 4 ≡ Some (LineTooLarge 4 3) }
 {}
 
-/// A number that is set again stands in place of the earlier one.
+/// Computes the settings after a number is set again: the later one replaces the earlier one.
 fn set_again()
     ensures { with_number 2 7 (with_number 1 5 (with_number 2 100 [])) ≡ (1, 5) ∷ (2, 7) ∷ [] }
 {}

@@ -12,10 +12,9 @@ use Rattle.codespan_base.specs.declared.term.config.chars.Chars.{Chars}
 use Rattle.codespan_base.specs.Labels.{Labelled}
 use Rattle.codespan_base.specs.Streams.{Stream, blanks, text_of}
 use Rattle.codespan_picture.specs.declared.cells.Cell.{Cell}
-use Rattle.codespan_picture.specs.Widths.{width_at}
-use Rattle.codespan_picture.specs.Cells.{cells_then, placeholder, width_of}
+use Rattle.codespan_picture.specs.Cells.{cells_then, placeholder, width_of, width_at}
 use Rattle.codespan_picture.proofs.CaretEnds.{style_under-below}
-use Rattle.codespan_picture.specs.Carets.{style_under, caret_for, greatest_end, caret_width, owns, style_at, caret_cells}
+use Rattle.codespan_picture.specs.Carets.{style_under, caret_for, greatest_end, owns, style_at, caret_cells}
 use Rattle.codespan_laws.proofs.Texts.{text_of-append, encode_utf8_all-append, encode_utf8_all-blanks, text_of-blanks, text_of-one_mark, text_of-repeated}
 use Rattle.codespan_picture.specs.Rows.{Look, Line}
 use Rattle.codespan_picture.specs.RowParts.{line_cells_to_end, change, styled, caret_glyphs, carets}
@@ -109,7 +108,7 @@ none-after chars labels end place column (c ∷ cs) laid after =
     (simp past rest.0, simp past rest.1)
 
 caret_codes : (chars : Chars) (labels : List Labelled) (place column : ℕ) (cs : List Cell) → AreLaid place column cs
-    → map (λ k. caret_for chars (style_at labels cs k)) (range_with_len column (caret_width labels cs))
+    → map (λ k. caret_for chars (style_at labels cs k)) (range_with_len column (width_of (filter (λ (c : Cell). nat_lt c.place (greatest_end labels)) cs)))
     ≡ flat_map (λ c. codes_of chars (greatest_end labels) (style_under labels c) c) cs
 caret_codes chars labels place column [] laid = refl
 caret_codes chars labels place column (c ∷ cs) laid =

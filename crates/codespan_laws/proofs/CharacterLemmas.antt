@@ -12,7 +12,7 @@ use Rattle.codespan_picture.specs.declared.cells.Cell.{Cell}
 use Rattle.codespan_picture.specs.Carets.{style_under, greatest_end}
 use Rattle.codespan_picture.specs.Lanes.{label_glyph}
 use Rattle.codespan_picture.specs.Rows.{Look, Locus, Lanes, Line, Row, HeaderRow, StartRow, EmptyRow, BreakRow, SourceRow, CaretRow, PointerRow, HangingRow, UnderlineRow, FirstNoteRow, LaterNoteRow, BlankRow, hanging, trailing}
-use Rattle.codespan_picture.specs.RowParts.{gutter, numbered_gutter, border, break_border, change, styled, lanes_in, locus, line_cells, line_cells_to_end, source_lanes, plain_lanes, below_lanes, underline_lanes, coloured_text, caret_glyphs, carets, trailing_message, label_message, starts_in, greatest_start, blanks_up_to, pointer_style, pointer_at, pointers, cells_before, underline, underline_message}
+use Rattle.codespan_picture.specs.RowParts.{gutter, numbered_gutter, border, break_border, change, styled, lanes_in, locus, line_cells, line_cells_to_end, row_lanes, coloured_text, caret_glyphs, carets, trailing_message, label_message, starts_in, greatest_start, blanks_up_to, pointer_style, pointer_at, pointers, cells_before, underline, underline_message}
 use Rattle.codespan_picture.specs.RowStreams.{stream_of, start_row, empty_row, break_row, source_row, opening, caret_row, pointer_row, hanging_row, underline_row, first_note_row}
 use Rattle.codespan_laws.proofs.Texts.{row_length-append, row_length-glyph, row_length-repeated, text_of-bytes}
 use Rattle.codespan_laws.proofs.LaneWidths.{row_length-lanes_in, row_length-label_glyph}
@@ -75,7 +75,7 @@ module _ (look : Look) (chars : Chars) where
   break_border_alike = marked SourceBorder chars.source_border_left_break look.chars.source_border_left_break
 
   opening_alike : (line : Line) → AreAsLong (opening other line) (opening look line)
-  unfolding opening below_lanes
+  unfolding opening row_lanes
   opening_alike line =
       same_before _ _ space
       (joined (gutter look.padding ++ border chars) (gutter look.padding ++ border look.chars) _ _
@@ -126,7 +126,7 @@ module _ (look : Look) (chars : Chars) where
 
   rows_alike : character_count (start_text chars.snippet_start) ≡ character_count (start_text look.chars.snippet_start) → (row : Row)
       → AreAsLong (stream_of other row) (stream_of look row)
-  unfolding empty_row break_row source_row caret_row pointer_row hanging_row underline_row first_note_row plain_lanes source_lanes underline_lanes coloured_text
+  unfolding empty_row break_row source_row caret_row pointer_row hanging_row underline_row first_note_row coloured_text row_lanes
   rows_alike e (HeaderRow place heading) = alike _
   rows_alike e (StartRow place) = start_alike e place
   rows_alike e (EmptyRow lanes) =

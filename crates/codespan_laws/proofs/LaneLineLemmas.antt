@@ -10,7 +10,7 @@ use Rattle.codespan_picture.specs.declared.lanes.Shape.TheVariants.{Gap, Bar, To
 use Rattle.codespan_picture.specs.Lanes.{is_unbroken}
 use Rattle.codespan_picture.specs.Rows.{Line, Row, SourceRow}
 use Rattle.codespan_picture.specs.Snippets.{LabelledFile, line_at}
-use Rattle.codespan_laws.specs.LaneLaws.{shape_in, shape_at, line_below, MayLeaveOut, IsOneLine}
+use Rattle.codespan_laws.specs.LaneLaws.{shape_in, shape_at, line_of_row, MayLeaveOut, IsOneLine}
 use Rattle.codespan_laws.proofs.SortedLists.{all-append, all-weaker}
 
 -- ---- lists
@@ -76,7 +76,7 @@ pub record LeftOut (layout : Layout) (lane : ℕ) (line : Line) (top row : Row) 
   pub is_gap : shape_in layout row lane ≡ Gap
   pub is_classic : is_unbroken layout ≡ false
   pub turns_early : top ≡ SourceRow line
-  pub is_below : line_below row ≡ Some line
+  pub is_of_line : line_of_row row ≡ Some line
 
 -- a bar, or nothing that counts
 abbrev pub GoesOn : Layout → ℕ → Line → Row → Row → Type 0
@@ -251,5 +251,5 @@ one_line layout s rows lane x w = record {
       is_classic = out.is_classic;
       is_gap = ap show is ∙ ap Some out.is_gap;
       turns_early = top_is ∙ ap Some out.turns_early;
-      is_below = λ other other_is. let same : row ≡ other = cc in ap line_below (sym same) ∙ out.is_below;
+      is_of_line = λ other other_is. let same : row ≡ other = cc in ap line_of_row (sym same) ∙ out.is_of_line;
     })

@@ -194,7 +194,7 @@ top_early layout lane line style start is r early = record {
     shown o = ap (shape_of (underline_shape Classic (leading_of line) o.lane lane)) is
 
     on_low : (o : LaneMark) → o.lane < lane → GoesOn Classic lane line (SourceRow line) (UnderlineRow line o)
-    on_low o h = inr (record { is_gap = top_low lane o.lane h (shown o); is_classic = refl; turns_early = refl; is_below = refl })
+    on_low o h = inr (record { is_gap = top_low lane o.lane h (shown o); is_classic = refl; turns_early = refl; is_of_line = refl })
 
     on_high : (o : LaneMark) → lane < o.lane → GoesOn Classic lane line (SourceRow line) (UnderlineRow line o)
     on_high o h = inl (top_high lane o.lane h (shown o))
@@ -203,9 +203,9 @@ top_early layout lane line style start is r early = record {
     by_layout Classic =
         all-append (GoesOn Classic lane line (SourceRow line)) (below_rows line) (underline_rows line)
         (each_below (GoesOn Classic lane line (SourceRow line)) line
-        (inr (record { is_gap = gap; is_classic = refl; turns_early = refl; is_below = refl }))
-        (inr (record { is_gap = gap; is_classic = refl; turns_early = refl; is_below = refl }))
-        (λ y. inr (record { is_gap = gap; is_classic = refl; turns_early = refl; is_below = refl })))
+        (inr (record { is_gap = gap; is_classic = refl; turns_early = refl; is_of_line = refl }))
+        (inr (record { is_gap = gap; is_classic = refl; turns_early = refl; is_of_line = refl }))
+        (λ y. inr (record { is_gap = gap; is_classic = refl; turns_early = refl; is_of_line = refl })))
         (rw without (all-append (GoesOn Classic lane line (SourceRow line)) (map (UnderlineRow line) (filter (is_underlined line) r.low)) (map (UnderlineRow line) (filter (is_underlined line) r.high))
         (each_under (GoesOn Classic lane line (SourceRow line)) line r.low
         (all-weaker (λ (o : LaneMark). o.lane < lane) (λ o. GoesOn Classic lane line (SourceRow line) (UnderlineRow line o)) on_low r.low r.below))

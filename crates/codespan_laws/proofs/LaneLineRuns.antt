@@ -1,4 +1,4 @@
--- AllByRecursion lane is one line, by the drawn lines of the file.
+-- Each lane is one line, by the drawn lines of the file.
 use Rattle.std.proofs.Common.{◌≡◌, ℕ, zero, suc, ◌+◌, ◌-◌, ◌<◌, ◌≤◌, Bool, true, false, not, cond, ◌||◌, ◌&&◌, ◌==◌, nat_lt, nat_le, ⊎_elim, List, [], ◌∷◌, ◌++◌, filter, length, Option, Some, None, slice_get, refl, sym, ap, ◌∙◌, zero-add, append_assoc, arith, if◌then◌else◌}
 use Rattle.std.specs.List.{range_with_len, cons_option, AllByRecursion}
 use Rattle.std.proofs.lemmas.Bool.{cases_lt}
@@ -12,9 +12,9 @@ use Rattle.codespan_picture.specs.declared.lanes.Shape.TheVariants.{Gap, Bar}
 use Rattle.codespan_picture.specs.Lanes.{plain_shape, mark_in, shape_of}
 use Rattle.codespan_picture.specs.Lines.{is_shown, is_drawn, drawn_lines, is_broken}
 use Rattle.codespan_picture.specs.Rows.{Row, BreakRow, StartRow, EmptyRow, rows_of}
-use Rattle.codespan_picture.specs.Snippets.{LabelledFile, line_at, rows_after, snippet, bare_lanes}
+use Rattle.codespan_picture.specs.Snippets.{LabelledFile, line_at, rows_after, row_after, snippet, bare_lanes}
 use Rattle.codespan_laws.proofs.FillLemmas.{breaks_before}
-use Rattle.codespan_laws.specs.LaneLaws.{HasLane, LanesAreLines, rows_with_lanes}
+use Rattle.codespan_laws.specs.LaneLaws.{HasLane, LanesAreLines}
 use Rattle.codespan_laws.specs.Meanings.{StartsBeforeEnds}
 use Rattle.codespan_laws.proofs.BarLemmas.{marks_from, mark_in-from}
 use Rattle.codespan_laws.proofs.RangeLemmas.{kept, has_lane-ordered, line_of-below, shown-by, shows-first, shows-last}
@@ -275,7 +275,7 @@ lanes_are_lines config layout s ordered = λ locus is_followed lane x has.
     let some : 0 < line_count s.file = some_line s.file.starts x.start x.end several in
     let low = line_of-below s.file.starts x.start some in
     let high = line_of-below s.file.starts x.end some in
-    one_line layout s (rows_with_lanes config locus s is_followed) lane x
+    one_line layout s (snippet config locus s ++ row_after is_followed s) lane x
     (whole_before layout lane (line_at s (first_line s.file x)) (snippet config locus s) (end_rows is_followed)
     (whole_later layout lane (line_at s (first_line s.file x)) (StartRow locus ∷ EmptyRow (bare_lanes s) ∷ []) (rows_after s None (drawn_lines config s.file s.labels))
     (refl, (refl, tt))

@@ -5,9 +5,9 @@ use Rattle.std.specs.List.{range_with_len}
 use Rattle.codespan_base.specs.Labels.{Labelled, LaneMark, MultiLabel}
 use Rattle.codespan_base.specs.Streams.{Stream, LabelMark, Reset, one_mark, space}
 use Rattle.codespan_picture.specs.declared.lanes.Shape.{Shape}
-use Rattle.codespan_picture.specs.Lanes.{Underline, row_shape, row_crossing, source_shape, plain_shape, below_shape, mark_in, shape_of, style_of_mark, lane_cells}
+use Rattle.codespan_picture.specs.Lanes.{Source, Plain, Below, Underline, row_shape, row_crossing, source_shape, plain_shape, below_shape, mark_in, shape_of, style_of_mark, lane_cells}
 use Rattle.codespan_picture.specs.Rows.{Look, Lanes, Line, Row, HeaderRow, StartRow, EmptyRow, BreakRow, SourceRow, CaretRow, PointerRow, HangingRow, UnderlineRow, FirstNoteRow, LaterNoteRow, BlankRow, trailing}
-use Rattle.codespan_picture.specs.RowParts.{gutter, numbered_gutter, border, break_border, label_message, lane_of, lanes_in, source_lanes, plain_lanes, below_lanes, underline_lanes, line_cells, line_cells_to_end, leading_of, coloured_text, carets, trailing_message, pointers, cells_before, underline}
+use Rattle.codespan_picture.specs.RowParts.{gutter, numbered_gutter, border, break_border, label_message, lane_of, lanes_in, row_lanes, line_cells, line_cells_to_end, leading_of, coloured_text, carets, trailing_message, pointers, cells_before, underline}
 use Rattle.codespan_picture.specs.RowStreams.{stream_of, empty_row, break_row, source_row, opening, caret_row, pointer_row, hanging_row, underline_row}
 use Rattle.codespan_laws.specs.LaneLaws.{lanes_shown, before_lanes, ShowsLanes, LanesAreShown}
 
@@ -47,21 +47,21 @@ shows : (look : Look) (row : Row) (lanes : Lanes) → Starts (before_lanes look 
     → ShowsLanes look row lanes
 shows look row lanes starts = record { after = starts.after; is = starts.is }
 
-plain_are : (look : Look) (lanes : Lanes) → plain_lanes look lanes ≡ lanes_shown look (EmptyRow lanes) lanes
-unfolding plain_lanes
+plain_are : (look : Look) (lanes : Lanes) → row_lanes look 0 Plain lanes ≡ lanes_shown look (EmptyRow lanes) lanes
+unfolding row_lanes
 plain_are look lanes = lanes_are look (λ _. None) (λ _. plain_shape) lanes
 
-source_are : (look : Look) (line : Line) → source_lanes look (leading_of line) line.lanes ≡ lanes_shown look (SourceRow line) line.lanes
-unfolding source_lanes
+source_are : (look : Look) (line : Line) → row_lanes look (leading_of line) Source line.lanes ≡ lanes_shown look (SourceRow line) line.lanes
+unfolding row_lanes
 source_are look line = lanes_are look (λ _. None) (λ _. source_shape (leading_of line)) line.lanes
 
-below_are : (look : Look) (line : Line) → below_lanes look (leading_of line) line.lanes ≡ lanes_shown look (CaretRow line) line.lanes
-unfolding below_lanes
+below_are : (look : Look) (line : Line) → row_lanes look (leading_of line) Below line.lanes ≡ lanes_shown look (CaretRow line) line.lanes
+unfolding row_lanes
 below_are look line = lanes_are look (λ _. None) (λ _. below_shape look.layout (leading_of line)) line.lanes
 
 underline_are : (look : Look) (line : Line) (m : LaneMark)
-    → underline_lanes look (leading_of line) m line.lanes ≡ lanes_shown look (UnderlineRow line m) line.lanes
-unfolding underline_lanes
+    → row_lanes look (leading_of line) (Underline m) line.lanes ≡ lanes_shown look (UnderlineRow line m) line.lanes
+unfolding row_lanes
 underline_are look line m =
     lanes_are look (row_crossing (Underline m)) (row_shape look.layout (leading_of line) (Underline m)) line.lanes
 

@@ -11,6 +11,7 @@ use Rattle.codespan_base.specs.declared.diagnostic.Severity.{Severity}
 use Rattle.codespan_base.specs.FileModel.{FileDatabase, FileModel, line_count}
 use Rattle.codespan_base.specs.declared.term.config.DisplayStyle.TheVariants.{Rich}
 use Rattle.std.specs.Cmp.{IsEquivalence}
+use Rattle.std.specs.Option.{option_map_or}
 use Rattle.std.specs.List.{AllZip}
 use Rattle.std.proofs.lemmas.List.{length-map}
 use Rattle.codespan_base.specs.Streams.{Stream, Byte, Slot, bytes, text_of, filled}
@@ -21,7 +22,7 @@ use Rattle.codespan_picture.specs.RowStreams.{stream_of_rows}
 use Rattle.codespan_picture.specs.Snippets.{LabelledFile, InFile, file_ids, labelled_file, labelled_files, rich_rows}
 use Rattle.codespan_picture.specs.Picture.{AreLoci, IsLocus, heading_of, label_of, labels_of, look_of, notes_of, rendered, snippet_start}
 use Rattle.codespan_picture.specs.Padding.{padding_of}
-use Rattle.codespan_laws.specs.MessageLaws.{slotted, all_slotted, message_of, message_text, slotted_output, MessagesStandOnce}
+use Rattle.codespan_laws.specs.MessageLaws.{slotted, all_slotted, message_text, slotted_output, MessagesStandOnce}
 use Rattle.codespan_laws.proofs.Loci.{zip_length}
 use Rattle.codespan_laws.proofs.Texts.{text_of-bytes}
 use Rattle.codespan_laws.proofs.SlotLemmas.{slots, slots-rows}
@@ -117,7 +118,7 @@ no_text x is none =
 unnamed : {Id : Type 0} (xs : List (InFile Id)) → IsPlain xs → (k : ℕ) → message_text xs k ≡ [] → slotted_sum k (slotted_from k 0 xs) ≡ 0
 unnamed {Id = Id} xs plain k none = by_label (slice_get xs k) refl none
   where
-    by_label : (o : Option (InFile Id)) → slice_get xs k ≡ o → message_of o ≡ [] → slotted_sum k (slotted_from k 0 xs) ≡ 0
+    by_label : (o : Option (InFile Id)) → slice_get xs k ≡ o → option_map_or (λ (y : InFile Id). text_of y.label.message) o [] ≡ [] → slotted_sum k (slotted_from k 0 xs) ≡ 0
     by_label None at e = none_here k 0 k xs (omega arith) at
     by_label (Some x) at e = one_here k 0 k xs x (omega arith) at ∙ no_text x.label (plain k x at) e
 
@@ -179,7 +180,7 @@ filled_output {Id = Id} renderer view same file severity heading loci notes xs m
     whole =
         refilled φ 0 0 xs
         (λ j i x e at. refill_one (full_text xs) i (text_of x.label.message) x.label.message (plain j x at)
-        (ap (λ n. full_text xs n) (sym e ∙ zero_plus j) ∙ ap (λ o. nonempty (message_of o)) at))
+        (ap (λ n. full_text xs n) (sym e ∙ zero_plus j) ∙ ap (λ o. nonempty (option_map_or (λ (y : InFile Id). text_of y.label.message) o [])) at))
       where
         zero_plus : (j : ℕ) → 0 + j ≡ j
         zero_plus j = omega arith

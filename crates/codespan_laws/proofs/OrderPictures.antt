@@ -19,7 +19,7 @@ use Rattle.codespan_picture.specs.Padding.{spans, spanned_lines, numbered_lines,
 use Rattle.codespan_picture.specs.Picture.{look_of, rendered, snippet_start}
 use Rattle.codespan_picture.specs.RowStreams.{stream_of_rows}
 use Rattle.codespan_picture.specs.Rows.{Locus, Heading, Lanes, Line, HeaderRow, StartRow, EmptyRow, BlankRow}
-use Rattle.codespan_picture.specs.Snippets.{LabelledFile, InFile, labelled_file, bare_lanes, line_at, rows_after, drawing, labelled_files, snippet, has_any, is_followed, row_after, snippets, note_rows}
+use Rattle.codespan_picture.specs.Snippets.{LabelledFile, InFile, labelled_file, bare_lanes, line_at, rows_after, drawing, labelled_files, snippet, has_any, row_after, snippets, note_rows}
 use Rattle.codespan_laws.proofs.FillLemmas.{drawing_of_shown}
 use Rattle.codespan_laws.proofs.OrderMembers.{AreAlike, SameTests, same-tests, locus-same, singles-same}
 
@@ -98,7 +98,7 @@ module _ {Id : Type 0} (view : Config) (g h : Id → LabelledFile) (gives : (id 
   followed-same true p id = ap₂ (λ rows lanes. rows ++ (EmptyRow lanes ∷ [])) ((gives id).rows p) (gives id).bare
   followed-same false p id = ap (λ rows. rows ++ []) ((gives id).rows p)
 
-  is_followed-same : (b : Bool) (ids : List Id) → is_followed b (map g ids) ≡ is_followed b (map h ids)
+  is_followed-same : (b : Bool) (ids : List Id) → (has_any (map g ids) || b) ≡ (has_any (map h ids) || b)
   is_followed-same b [] = refl
   is_followed-same b (i ∷ ids) = refl
 
@@ -107,7 +107,7 @@ module _ {Id : Type 0} (view : Config) (g h : Id → LabelledFile) (gives : (id 
   snippets-same has_notes (p ∷ ps) [] = refl
   snippets-same has_notes (p ∷ ps) (i ∷ ids) =
       ap₂ (λ a b. a ++ b)
-      (followed-same (is_followed has_notes (map g ids)) p i
+      (followed-same (has_any (map g ids) || has_notes) p i
       ∙ ap (λ b. snippet view p (h i) ++ row_after b (h i)) (is_followed-same has_notes ids))
       (snippets-same has_notes ps ids)
 

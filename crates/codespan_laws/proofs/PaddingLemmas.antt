@@ -15,7 +15,7 @@ use Rattle.codespan_picture.specs.Lanes.{is_unbroken}
 use Rattle.codespan_picture.specs.Lines.{shows, is_shown, is_drawn, drawn_lines}
 use Rattle.codespan_picture.specs.Snippets.{LabelledFile}
 use Rattle.codespan_picture.specs.Padding.{spans, spanned_lines, digit_count, numbered_lines, digits_of, padding_of}
-use Rattle.codespan_laws.specs.PaddingLaws.{NumbersAscend, PaddingHasRoom}
+use Rattle.codespan_laws.specs.LineLaws.{NumbersAscend, PaddingHasRoom}
 use Rattle.codespan_laws.proofs.RangeLemmas.{line_of-below}
 use Rattle.codespan_laws.proofs.Greatest.{greatest-low}
 

@@ -1,5 +1,5 @@
 -- The rows of a picture say texts.
-use Rattle.std.proofs.Common.{◌≡◌, ℕ, zero, suc, ◌+◌, ◌-◌, ◌<◌, ◌≤◌, Bool, true, false, not, ◌&&◌, ◌==◌, cond, List, [], ◌∷◌, ◌++◌, length, take, drop, get_or, map, filter, reverse, Option, Some, None, encode_utf8_all, refl, sym, ap, ◌∙◌, subst, arith, append_assoc, append-nil, ⊎_elim}
+use Rattle.std.proofs.Common.{◌≡◌, ℕ, zero, suc, ◌+◌, ◌-◌, ◌<◌, ◌≤◌, Bool, true, false, not, ◌&&◌, ◌==◌, cond, List, [], ◌∷◌, ◌++◌, length, take, drop, get_or, map, filter, reverse, Option, Some, None, encode_utf8_all, refl, sym, ap, ◌∙◌, subst, arith, append_assoc, append-nil, ⊎_elim, ◌||◌}
 use Rattle.std.specs.Prelude.{if◌then◌else◌, IfSome, String, nat_lt, string_bytes}
 use Rattle.std.specs.Char.{encode_utf8}
 use Rattle.std.specs.List.{AllByRecursion, cons_option, enumerate_from, filter_map, onto_first, slice_split, suffix_len}
@@ -24,12 +24,13 @@ use Rattle.codespan_base.specs.Labels.{Labelled, LaneMark, Top, Left, Bottom, dr
 use Rattle.codespan_picture.specs.Cells.{drawn_text, is_line_end}
 use Rattle.codespan_picture.specs.Lines.{drawn_lines}
 use Rattle.codespan_picture.specs.Padding.{padding_of}
-use Rattle.codespan_picture.specs.Picture.{NamesAreTexts, files_of, heading_of, label_of, labels_of, look_of, notes_of, output, starts, stated_loci}
+use Rattle.codespan_picture.specs.Picture.{NamesAreTexts, files_of, heading_of, label_of, labels_of, look_of, notes_of, output, starts}
+use Rattle.codespan_picture.specs.StatedPicture.{stated_loci, headers}
 use Rattle.codespan_picture.specs.Rows.{Line, Locus, Row, HeaderRow, EmptyRow, SourceRow, HangingRow, UnderlineRow, LaterNoteRow, BlankRow, caret_rows, hanging, hanging_rows, has_underline, rows_of, underline_rows}
 use Rattle.codespan_picture.specs.Cells.{leading_whitespace}
 use Rattle.codespan_picture.specs.Carets.{greatest_end}
 use Rattle.codespan_picture.specs.Sequences.{break_between}
-use Rattle.codespan_picture.specs.Snippets.{InFile, LabelledFile, bare_lanes, break_rows, has_any, header_rows, headers, is_followed, labelled_file, line_at, line_rows, note_rows, piece_rows, rich_rows, row_after, rows_after, snippet, snippets}
+use Rattle.codespan_picture.specs.Snippets.{InFile, LabelledFile, bare_lanes, break_rows, has_any, header_rows, labelled_file, line_at, line_rows, note_rows, piece_rows, rich_rows, row_after, rows_after, snippet, snippets}
 use Rattle.codespan_laws.proofs.Sequences.{all-break, all-sequence}
 use Rattle.codespan_laws.specs.TextLaws.{AreCharacters, IsText, OutputIsText, PictureIsText}
 use Rattle.codespan_laws.proofs.LaneLineLemmas.{each_all, each_map}
@@ -281,8 +282,8 @@ rows-snippets : (config : Config) (has_notes : Bool) (places : List Locus) (ss :
 rows-snippets config has_notes [] ss named ok = tt
 rows-snippets config has_notes (p ∷ ps) [] named ok = tt
 rows-snippets config has_notes (p ∷ ps) (s ∷ ss) named ok =
-    all-append IsTextRow (snippet config p s ++ row_after (is_followed has_notes ss) s) (snippets config has_notes ps ss)
-    (rows-placed s ok.0 config (is_followed has_notes ss) p named.0) (rows-snippets config has_notes ps ss named.1 ok.1)
+    all-append IsTextRow (snippet config p s ++ row_after (has_any ss || has_notes) s) (snippets config has_notes ps ss)
+    (rows-placed s ok.0 config (has_any ss || has_notes) p named.0) (rows-snippets config has_notes ps ss named.1 ok.1)
 
 -- ---- a diagnostic
 

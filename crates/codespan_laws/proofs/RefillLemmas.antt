@@ -7,13 +7,13 @@ use Rattle.codespan_base.specs.declared.diagnostic.LabelStyle.TheVariants.{Prima
 use Rattle.codespan_base.specs.Streams.{Stream}
 use Rattle.codespan_base.specs.Labels.{Labelled, has_message, is_blank, is_primary, is_primary_style, LaneMark, MultiLabel, Top, Left, Bottom}
 use Rattle.codespan_picture.specs.declared.cells.Cell.{Cell}
-use Rattle.codespan_picture.specs.Carets.{style_under, covers, greatest_end, do_overlap}
+use Rattle.codespan_picture.specs.Carets.{style_under, covers, greatest_end, covers_part}
 use Rattle.codespan_picture.specs.declared.lanes.Shape.{Shape}
 use Rattle.codespan_picture.specs.declared.lanes.Shape.TheVariants.{Gap, Bar, TopCorner, BottomCorner}
-use Rattle.codespan_picture.specs.Lanes.{source_shape, plain_shape, below_shape, underline_shape, mark_in, corner_line, filling, lane_cells}
+use Rattle.codespan_picture.specs.Lanes.{source_shape, plain_shape, below_shape, underline_shape, mark_in, corner_line, filling, lane_cells, Source, Plain, Below, Underline}
 use Rattle.codespan_picture.specs.Rows.{Look, Lanes, Line, trailing, hanging}
 use Rattle.codespan_picture.proofs.Rightmost.{Around, others, behind, around_with_end, around_trails, around_rightmost, trailing_of, hanging_of, trailing_is, hanging_is}
-use Rattle.codespan_picture.specs.RowParts.{styled, lane_of, lanes_in, source_lanes, plain_lanes, below_lanes, underline_lanes, line_cells, takes_in, source_style, source_glyph, coloured_text, caret_glyphs, carets, pointer_style, pointer_at, pointers, starts_in, greatest_start}
+use Rattle.codespan_picture.specs.RowParts.{styled, lane_of, lanes_in, row_lanes, line_cells, takes_in, source_style, source_glyph, coloured_text, caret_glyphs, carets, pointer_style, pointer_at, pointers, starts_in, greatest_start}
 
 -- ---- lists
 
@@ -95,8 +95,8 @@ module _ (φ : Stream → Stream) (keeps : (s : Stream) → is_blank (φ s) ≡ 
   trails : (a : Around) → around_trails (re_around φ a) ≡ around_trails a
   trails a =
       ap₂ (λ b c. b && not c) (kept_message a.here)
-      (ap (list_any (λ (x : Labelled). do_overlap a.here.start a.here.end x.start x.end)) (others-re a)
-      ∙ any-map (λ (x : Labelled). do_overlap a.here.start a.here.end x.start x.end) (re φ) (others a))
+      (ap (list_any (λ (x : Labelled). covers_part a.here x.start x.end)) (others-re a)
+      ∙ any-map (λ (x : Labelled). covers_part a.here x.start x.end) (re φ) (others a))
 
   rightmost-re : (labels : List Labelled) → around_rightmost (map (re φ) labels) ≡ option_map (re_around φ) (around_rightmost labels)
   rightmost-re labels = ap (λ e. around_with_end e (map (re φ) labels)) (greatest labels) ∙ around (greatest_end labels) labels
@@ -194,21 +194,21 @@ module _ (φ : Stream → Stream) (keeps : (s : Stream) → is_blank (φ s) ≡ 
   underline_shape-re layout leading turning lane Left = refl
   underline_shape-re layout leading turning lane (Bottom end message) = refl
 
-  pub source_lanes-re : (look : Look) (leading : ℕ) (lanes : Lanes) → source_lanes look leading (re_lanes φ lanes) ≡ source_lanes look leading lanes
-  unfolding source_lanes
+  pub source_lanes-re : (look : Look) (leading : ℕ) (lanes : Lanes) → row_lanes look leading Source (re_lanes φ lanes) ≡ row_lanes look leading Source lanes
+  unfolding row_lanes
   source_lanes-re look leading lanes = lanes-re look (λ _. None) (λ _. None) (λ _. source_shape leading) lanes (λ _. refl) (λ _. source_shape-re leading)
 
-  pub plain_lanes-re : (look : Look) (lanes : Lanes) → plain_lanes look (re_lanes φ lanes) ≡ plain_lanes look lanes
-  unfolding plain_lanes
+  pub plain_lanes-re : (look : Look) (lanes : Lanes) → row_lanes look 0 Plain (re_lanes φ lanes) ≡ row_lanes look 0 Plain lanes
+  unfolding row_lanes
   plain_lanes-re look lanes = lanes-re look (λ _. None) (λ _. None) (λ _. plain_shape) lanes (λ _. refl) (λ _. plain_shape-re)
 
-  pub below_lanes-re : (look : Look) (leading : ℕ) (lanes : Lanes) → below_lanes look leading (re_lanes φ lanes) ≡ below_lanes look leading lanes
-  unfolding below_lanes
+  pub below_lanes-re : (look : Look) (leading : ℕ) (lanes : Lanes) → row_lanes look leading Below (re_lanes φ lanes) ≡ row_lanes look leading Below lanes
+  unfolding row_lanes
   below_lanes-re look leading lanes = lanes-re look (λ _. None) (λ _. None) (λ _. below_shape look.layout leading) lanes (λ _. refl) (λ _. below_shape-re look.layout leading)
 
   pub underline_lanes-re : (look : Look) (leading : ℕ) (m : LaneMark) (lanes : Lanes)
-      → underline_lanes look leading (re_mark φ m) (re_lanes φ lanes) ≡ underline_lanes look leading m lanes
-  unfolding underline_lanes
+      → row_lanes look leading (Underline (re_mark φ m)) (re_lanes φ lanes) ≡ row_lanes look leading (Underline m) lanes
+  unfolding row_lanes
   underline_lanes-re look leading m lanes =
       lanes-re look (λ lane. if nat_lt m.lane lane then Some m else None) (λ lane. if nat_lt m.lane lane then Some (re_mark φ m) else None)
       (underline_shape look.layout leading m.lane) lanes (λ lane. by_test (nat_lt m.lane lane)) (underline_shape-re look.layout leading m.lane)

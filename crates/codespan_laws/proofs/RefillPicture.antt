@@ -13,7 +13,7 @@ use Rattle.codespan_base.specs.Labels.{Labelled, is_blank, LaneMark, MultiLabel,
 use Rattle.codespan_picture.specs.Cells.{leading_whitespace}
 use Rattle.codespan_picture.specs.Lines.{shows, is_shown, drawn_lines, is_broken}
 use Rattle.codespan_picture.specs.Rows.{Locus, Heading, Lanes, Line, HeaderRow, StartRow, EmptyRow, BreakRow, SourceRow, PointerRow, HangingRow, UnderlineRow, FirstNoteRow, LaterNoteRow, BlankRow, hanging, has_underline, caret_rows, hanging_rows, underline_rows, rows_of}
-use Rattle.codespan_picture.specs.Snippets.{LabelledFile, InFile, labelled_file, labelled_files, lane_count, bare_lanes, line_at, rows_after, snippet, has_any, is_followed, row_after, snippets, piece_rows, note_rows, rich_rows}
+use Rattle.codespan_picture.specs.Snippets.{LabelledFile, InFile, labelled_file, labelled_files, lane_count, bare_lanes, line_at, rows_after, snippet, has_any, row_after, snippets, piece_rows, note_rows, rich_rows}
 use Rattle.codespan_laws.proofs.FillLemmas.{breaks_before}
 use Rattle.codespan_picture.specs.Padding.{spans, spanned_lines, numbered_lines, digits_of, padding_of}
 use Rattle.codespan_laws.proofs.RefillLemmas.{any-map, filter-map, map-append', re, re_part, re_mark, re_lanes, re_line, hanging-re}
@@ -196,7 +196,7 @@ module _ (φ : Stream → Stream) (keeps : (s : Stream) → is_blank (φ s) ≡ 
   followed-re config followed locus s =
       map-append' (re_row φ) (snippet config locus s) (row_after followed s) ∙ ap₂ (λ a b. a ++ b) (snippet-re config locus s) (row_after-re followed s)
 
-  is_followed-re : (b : Bool) (ss : List LabelledFile) → is_followed b (map (re_file φ) ss) ≡ is_followed b ss
+  is_followed-re : (b : Bool) (ss : List LabelledFile) → (has_any (map (re_file φ) ss) || b) ≡ (has_any ss || b)
   is_followed-re b [] = refl
   is_followed-re b (s ∷ ss) = refl
 
@@ -205,7 +205,7 @@ module _ (φ : Stream → Stream) (keeps : (s : Stream) → is_blank (φ s) ≡ 
   snippets-re config has_notes [] ss = refl
   snippets-re config has_notes (p ∷ ps) [] = refl
   snippets-re config has_notes (p ∷ ps) (s ∷ ss) =
-      let followed = is_followed has_notes ss in
+      let followed = has_any ss || has_notes in
       map-append' (re_row φ) (snippet config p s ++ row_after followed s) (snippets config has_notes ps ss)
       ∙ ap₂ (λ a b. a ++ b)
       (followed-re config followed p s

@@ -10,12 +10,13 @@ use Rattle.codespan_base.specs.Labels.{Labelled, is_blank, MultiLabel, Top, Left
 use Rattle.codespan_picture.specs.declared.cells.Cell.{Cell}
 use Rattle.codespan_picture.specs.Cells.{width_of}
 use Rattle.codespan_picture.specs.Rows.{Look, Line, Row, HeaderRow, StartRow, EmptyRow, BreakRow, SourceRow, CaretRow, PointerRow, HangingRow, UnderlineRow, FirstNoteRow, LaterNoteRow, BlankRow, trailing}
-use Rattle.codespan_picture.specs.RowParts.{gutter, numbered_gutter, border, break_border, label_message, underline_lanes, leading_of, line_cells, line_cells_to_end, carets, trailing_message, pointers, cells_before, underline_message, underline, end_caret}
+use Rattle.codespan_picture.specs.RowParts.{gutter, numbered_gutter, border, break_border, label_message, row_lanes, leading_of, line_cells, line_cells_to_end, carets, trailing_message, pointers, cells_before, underline_message, underline, end_caret}
 use Rattle.codespan_picture.specs.RowStreams.{empty_row, break_row, source_row, opening, caret_row, pointer_row, hanging_row, underline_row, stream_of, stream_of_rows}
 use Rattle.codespan_laws.specs.MessageLaws.{is_slot}
 use Rattle.codespan_laws.proofs.SlotLemmas as slot
 use Rattle.codespan_laws.proofs.SlotLemmas.{slots}
 use Rattle.codespan_laws.proofs.RefillLemmas.{re, re_part, re_mark, re_lanes, re_line, source_lanes-re, plain_lanes-re, below_lanes-re, underline_lanes-re, coloured_text-re, carets-re, pointers-re, trailing-re}
+use Rattle.codespan_picture.specs.Lanes.{Underline}
 
 -- the stream with each slot filled, shut
 unfoldable pub fill : (ℕ → List ℕ) → Stream → Stream
@@ -163,7 +164,7 @@ module _ (m : ℕ → List ℕ) (full : (k : ℕ) → is_blank (map Byte (m k)) 
       join _ _ (join _ _ (join _ _ (join _ _ (join _ _
       (quiet (gutter look.padding) (λ k. slot.slots-gutter k look.padding) refl)
       (quiet (border look.chars) (λ k. slot.slots-border k look.chars) refl))
-      (quiet (underline_lanes look (leading_of line) a line.lanes) (λ k. slot.slots-underline_lanes k look (leading_of line) a line.lanes)
+      (quiet (row_lanes look (leading_of line) (Underline a) line.lanes) (λ k. slot.slots-row_lanes k look (leading_of line) (Underline a) line.lanes)
       (underline_lanes-re (fill m) keeps look (leading_of line) a line.lanes)))
       (one-mark (LabelMark look.severity a.style)))
       (underline-re look.chars a.style (line_cells look line) a.part))

@@ -14,7 +14,7 @@ use Rattle.codespan_picture.specs.declared.lanes.Shape.{Shape}
 use Rattle.codespan_picture.specs.declared.lanes.Shape.TheVariants.{Gap, Bar, TopCorner, BottomCorner}
 use Rattle.codespan_picture.specs.Lanes.{filling, label_glyph, lane_cells, mark_in}
 use Rattle.codespan_picture.specs.Rows.{Locus, Look, Lanes, Line, Row, HeaderRow, StartRow, EmptyRow, BreakRow, SourceRow, CaretRow, PointerRow, HangingRow, UnderlineRow, FirstNoteRow, LaterNoteRow, BlankRow, hanging}
-use Rattle.codespan_picture.specs.RowParts.{change, styled, lane_of, lanes_in, source_lanes, plain_lanes, below_lanes, source_glyph, source_style, coloured_text, caret_glyphs, carets, trailing_message, label_message, blanks_up_to, pointer_at, pointer_style, pointers, starts_in, greatest_start, gutter, numbered_gutter, border, break_border, locus, line_cells}
+use Rattle.codespan_picture.specs.RowParts.{change, styled, lane_of, lanes_in, row_lanes, source_glyph, source_style, coloured_text, caret_glyphs, carets, trailing_message, label_message, blanks_up_to, pointer_at, pointer_style, pointers, starts_in, greatest_start, gutter, numbered_gutter, border, break_border, locus, line_cells}
 use Rattle.codespan_picture.specs.RowStreams.{stream_of, header_row, start_row, empty_row, break_row, source_row, opening, caret_row, pointer_row, hanging_row, underline_row, first_note_row, later_note_row}
 use Rattle.codespan_laws.specs.RowLaws.{is_reset, ends_reset, RowsEndReset}
 
@@ -203,12 +203,12 @@ closes-locus p =
     closes-append _ _ (closes-append _ _ (closes-append _ _ (closes-append _ _ (closes-bytes _) (closes-bytes _)) (closes-bytes _)) (closes-bytes _)) (closes-bytes _)
 
 closes-opening : (look : Look) (line : Line) → Closes (opening look line)
-unfolding opening below_lanes
+unfolding opening row_lanes
 closes-opening look line =
     closes-append _ space (closes-append _ _ (closes-append _ _ (closes-gutter _) (closes-border _)) (closes-lanes_in look _ _ line.lanes)) (closes-bytes _)
 
 closes-row : (look : Look) (row : Row) → Closes (stream_of look row)
-unfolding header_row start_row empty_row break_row source_row caret_row pointer_row hanging_row underline_row first_note_row later_note_row source_lanes plain_lanes
+unfolding header_row start_row empty_row break_row source_row caret_row pointer_row hanging_row underline_row first_note_row later_note_row row_lanes
 closes-row look (HeaderRow place heading) = closes-reset _
 closes-row look (StartRow place) =
     closes-append _ (locus place) (closes-append _ space (closes-reset _) (closes-bytes _)) (closes-locus place)

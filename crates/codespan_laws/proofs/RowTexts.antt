@@ -23,11 +23,10 @@ use Rattle.codespan_picture.specs.declared.cells.Cell.{Cell}
 use Rattle.codespan_picture.specs.declared.lanes.Shape.{Shape}
 use Rattle.codespan_picture.specs.declared.lanes.Shape.TheVariants.{Gap, Bar, TopCorner, BottomCorner}
 use Rattle.codespan_picture.specs.Carets.{caret_for, greatest_end, style_under}
-use Rattle.codespan_picture.specs.Cells.{cells, cells_then, width_of}
+use Rattle.codespan_picture.specs.Cells.{cells, cells_then, width_of, width_at}
 use Rattle.codespan_picture.specs.Lanes.{LaneRow, Source, Plain, Below, Underline, corner_line, filling, label_glyph, lane_cells, mark_in, row_crossing, row_shape, shape_of, style_of_mark}
 use Rattle.codespan_picture.specs.Rows.{Locus, Look, Lanes, Line, Row, HeaderRow, StartRow, EmptyRow, BreakRow, SourceRow, CaretRow, PointerRow, HangingRow, UnderlineRow, FirstNoteRow, LaterNoteRow, BlankRow, hanging, trailing}
-use Rattle.codespan_picture.specs.Widths.{width_at}
-use Rattle.codespan_picture.specs.RowParts.{severity_name, locus, gutter, numbered_gutter, border, break_border, change, styled, label_message, lane_of, row_lanes, source_lanes, plain_lanes, below_lanes, underline_lanes, leading_of, line_cells, line_cells_to_end, source_style, source_glyph, coloured_text, caret_glyphs, carets, trailing_message, starts_in, greatest_start, blanks_up_to, pointer_style, pointer_at, pointers, cells_before, cells_up_to, start_caret, end_caret, underline_message, underline}
+use Rattle.codespan_picture.specs.RowParts.{severity_name, locus, gutter, numbered_gutter, border, break_border, change, styled, label_message, lane_of, row_lanes, leading_of, line_cells, line_cells_to_end, source_style, source_glyph, coloured_text, caret_glyphs, carets, trailing_message, starts_in, greatest_start, blanks_up_to, pointer_style, pointer_at, pointers, cells_before, cells_up_to, start_caret, end_caret, underline_message, underline}
 use Rattle.codespan_picture.specs.RowStreams.{bracketed, leading_locus, header_row, start_row, empty_row, break_row, source_row, opening, caret_row, pointer_row, hanging_row, underline_row, first_note_row, later_note_row, stream_of, stream_of_rows}
 use Rattle.codespan_laws.specs.TextLaws.{IsText, AreCharacters}
 use Rattle.codespan_laws.proofs.LaneLineLemmas.{each_all}
@@ -321,27 +320,12 @@ module _ (look : Look) (ok : AreCharacters look.chars) where
   text-lane_of crossing shape mark = text-lane_cells look.chars ok look.severity crossing (style_of_mark mark) (shape_of shape mark)
 
   text-row_lanes : (leading : ℕ) (row : LaneRow) (lanes : Lanes) → IsText (row_lanes look leading row lanes)
+  unfolding row_lanes
   text-row_lanes leading row lanes =
       let shown : ℕ → Stream = λ lane. lane_of look (row_crossing row lane) (row_shape look.layout leading row lane) (mark_in lanes.marks lane) in
       text-each shown (range_with_len 0 lanes.count)
       (each_all (λ lane. IsText (shown lane)) (range_with_len 0 lanes.count)
       (λ lane. text-lane_of (row_crossing row lane) (row_shape look.layout leading row lane) (mark_in lanes.marks lane)))
-
-  text-source_lanes : (leading : ℕ) (lanes : Lanes) → IsText (source_lanes look leading lanes)
-  unfolding source_lanes
-  text-source_lanes leading lanes = text-row_lanes leading Source lanes
-
-  text-plain_lanes : (lanes : Lanes) → IsText (plain_lanes look lanes)
-  unfolding plain_lanes
-  text-plain_lanes lanes = text-row_lanes 0 Plain lanes
-
-  text-below_lanes : (leading : ℕ) (lanes : Lanes) → IsText (below_lanes look leading lanes)
-  unfolding below_lanes
-  text-below_lanes leading lanes = text-row_lanes leading Below lanes
-
-  text-underline_lanes : (leading : ℕ) (m : LaneMark) (lanes : Lanes) → IsText (underline_lanes look leading m lanes)
-  unfolding underline_lanes
-  text-underline_lanes leading m lanes = text-row_lanes leading (Underline m) lanes
 
   -- the source
   text-coloured : (line : Line) → IsUtf8 line.text → IsText (coloured_text look line)
@@ -398,7 +382,7 @@ module _ (look : Look) (ok : AreCharacters look.chars) where
 
   text-opening : (line : Line) → IsText (opening look line)
   unfolding opening
-  text-opening line = followed (followed (followed (text-gutter look.padding) (text-border look.chars ok)) (text-below_lanes (leading_of line) line.lanes)) text-space
+  text-opening line = followed (followed (followed (text-gutter look.padding) (text-border look.chars ok)) (text-row_lanes (leading_of line) Below line.lanes)) text-space
 
   -- the stream of a row is a text where what the row says is
   pub text-row : (row : Row) → IsTextRow row → IsText (stream_of look row)
@@ -408,11 +392,11 @@ module _ (look : Look) (ok : AreCharacters look.chars) where
   text-row (StartRow place) h =
       followed (followed (followed (followed (followed (text-gutter look.padding) (text-mark SourceBorder)) (text-bytes (start_text look.chars.snippet_start) ok.snippet_start)) (text-mark Reset)) text-space) (text-locus place h)
   text-row (EmptyRow lanes) h =
-      followed (followed (text-gutter look.padding) (text-border look.chars ok)) (text-plain_lanes lanes)
+      followed (followed (text-gutter look.padding) (text-border look.chars ok)) (text-row_lanes 0 Plain lanes)
   text-row (BreakRow lanes) h =
-      followed (followed (text-gutter look.padding) (text-break_border look.chars ok)) (text-plain_lanes lanes)
+      followed (followed (text-gutter look.padding) (text-break_border look.chars ok)) (text-row_lanes 0 Plain lanes)
   text-row (SourceRow line) h =
-      followed (followed (followed (followed (text-numbered_gutter look.padding line.number) (text-border look.chars ok)) (text-source_lanes (leading_of line) line.lanes)) text-space) (text-coloured line h)
+      followed (followed (followed (followed (text-numbered_gutter look.padding line.number) (text-border look.chars ok)) (text-row_lanes (leading_of line) Source line.lanes)) text-space) (text-coloured line h)
   text-row (CaretRow line) h =
       followed (followed (text-opening line) (text-carets line.labels (line_cells_to_end look line))) (text-trailing look.severity line.labels h)
   text-row (PointerRow line) h =
@@ -420,7 +404,7 @@ module _ (look : Look) (ok : AreCharacters look.chars) where
   text-row (HangingRow line x) h =
       followed (followed (text-opening line) (text-pointers line.labels (cells_before x.start (line_cells look line)))) (text-label_message look.severity x.style x.message h)
   text-row (UnderlineRow line m) h =
-      followed (followed (followed (followed (followed (text-gutter look.padding) (text-border look.chars ok)) (text-underline_lanes (leading_of line) m line.lanes)) (text-mark (LabelMark look.severity m.style))) (text-underline m.style (line_cells look line) m.part h)) (text-mark Reset)
+      followed (followed (followed (followed (followed (text-gutter look.padding) (text-border look.chars ok)) (text-row_lanes (leading_of line) (Underline m) line.lanes)) (text-mark (LabelMark look.severity m.style))) (text-underline m.style (line_cells look line) m.part h)) (text-mark Reset)
   text-row (FirstNoteRow piece) h =
       followed (followed (followed (followed (followed (text-gutter look.padding) (text-mark NoteBullet)) (text-glyph look.chars.note_bullet ok.note_bullet)) (text-mark Reset)) text-space) (text-bytes piece h)
   text-row (LaterNoteRow piece) h =

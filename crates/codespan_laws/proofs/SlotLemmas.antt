@@ -1,6 +1,6 @@
 -- The slots in each row.
 use Rattle.std.proofs.Common.{◌≡◌, ℕ, zero, suc, ◌+◌, ◌-◌, Bool, true, false, cond, ◌==◌, nat_lt, nat_le, List, [], ◌∷◌, ◌++◌, replicate, Option, Some, None, if◌then◌else◌, refl, ap₂, ◌∙◌, arith}
-use Rattle.std.specs.Prelude.{sum_by, flat_map}
+use Rattle.std.specs.Prelude.{sum_by, count_by, flat_map}
 use Rattle.std.specs.List.{repeat, list_any, range_with_len}
 use Rattle.std.proofs.lemmas.List.Sums.{sum_by-cons, sum_by-append}
 use Rattle.codespan_base.specs.declared.diagnostic.Severity.{Severity}
@@ -13,18 +13,18 @@ use Rattle.codespan_picture.specs.declared.cells.Cell.{Cell}
 use Rattle.codespan_picture.specs.Carets.{style_under, greatest_end}
 use Rattle.codespan_picture.specs.declared.lanes.Shape.{Shape}
 use Rattle.codespan_picture.specs.declared.lanes.Shape.TheVariants.{Gap, Bar, TopCorner, BottomCorner}
-use Rattle.codespan_picture.specs.Lanes.{mark_in, label_glyph, filling, lane_cells}
+use Rattle.codespan_picture.specs.Lanes.{mark_in, label_glyph, filling, lane_cells, LaneRow}
 use Rattle.codespan_picture.specs.Rows.{Locus, Look, Lanes, Line, Row, HeaderRow, StartRow, EmptyRow, BreakRow, SourceRow, CaretRow, PointerRow, HangingRow, UnderlineRow, FirstNoteRow, LaterNoteRow, BlankRow, trailing, hanging}
-use Rattle.codespan_picture.specs.RowParts.{locus, gutter, numbered_gutter, border, break_border, change, styled, label_message, lane_of, lanes_in, source_lanes, plain_lanes, below_lanes, underline_lanes, line_cells, source_style, source_glyph, coloured_text, caret_glyphs, carets, trailing_message, blanks_up_to, pointer_at, pointers, pointer_style, starts_in, greatest_start, underline_message, underline}
+use Rattle.codespan_picture.specs.RowParts.{locus, gutter, numbered_gutter, border, break_border, change, styled, label_message, lane_of, lanes_in, row_lanes, line_cells, source_style, source_glyph, coloured_text, caret_glyphs, carets, trailing_message, blanks_up_to, pointer_at, pointers, pointer_style, starts_in, greatest_start, underline_message, underline}
 use Rattle.codespan_picture.specs.RowStreams.{bracketed, leading_locus, header_row, start_row, empty_row, break_row, source_row, opening, caret_row, pointer_row, hanging_row, underline_row, first_note_row, later_note_row, stream_of, stream_of_rows}
-use Rattle.codespan_laws.specs.MessageLaws.{is_slot, slot_count}
+use Rattle.codespan_laws.specs.MessageLaws.{is_slot}
 use Rattle.codespan_laws.specs.TrailingLaws.{weight_of}
 
 -- how often a stream names a label, shut
 unfoldable pub slots : ℕ → Stream → ℕ
-slots k s = slot_count k s
+slots k s = count_by (is_slot k) s
 
-pub slots-is : (k : ℕ) (s : Stream) → slot_count k s ≡ slots k s
+pub slots-is : (k : ℕ) (s : Stream) → count_by (is_slot k) s ≡ slots k s
 unfolding slots
 slots-is k s = refl
 
@@ -89,21 +89,9 @@ slots-lanes_in k look crossing shape lanes =
     slots-flat_map k (λ lane. lane_of look (crossing lane) (shape lane) (mark_in lanes.marks lane)) (range_with_len 0 lanes.count)
     (λ lane. slots-lane_of k look (crossing lane) (shape lane) (mark_in lanes.marks lane))
 
-pub slots-source_lanes : (k : ℕ) (look : Look) (leading : ℕ) (lanes : Lanes) → slots k (source_lanes look leading lanes) ≡ 0
-unfolding source_lanes
-slots-source_lanes k look leading lanes = slots-lanes_in k look _ _ lanes
-
-pub slots-plain_lanes : (k : ℕ) (look : Look) (lanes : Lanes) → slots k (plain_lanes look lanes) ≡ 0
-unfolding plain_lanes
-slots-plain_lanes k look lanes = slots-lanes_in k look _ _ lanes
-
-pub slots-below_lanes : (k : ℕ) (look : Look) (leading : ℕ) (lanes : Lanes) → slots k (below_lanes look leading lanes) ≡ 0
-unfolding below_lanes
-slots-below_lanes k look leading lanes = slots-lanes_in k look _ _ lanes
-
-pub slots-underline_lanes : (k : ℕ) (look : Look) (leading : ℕ) (m : LaneMark) (lanes : Lanes) → slots k (underline_lanes look leading m lanes) ≡ 0
-unfolding underline_lanes
-slots-underline_lanes k look leading m lanes = slots-lanes_in k look _ _ lanes
+pub slots-row_lanes : (k : ℕ) (look : Look) (leading : ℕ) (row : LaneRow) (lanes : Lanes) → slots k (row_lanes look leading row lanes) ≡ 0
+unfolding row_lanes
+slots-row_lanes k look leading row lanes = slots-lanes_in k look _ _ lanes
 
 pub slots-locus : (k : ℕ) (p : Locus) → slots k (locus p) ≡ 0
 unfolding locus
@@ -190,7 +178,7 @@ pub slots-pointers : (k : ℕ) (look : Look) (labels : List Labelled) (cs : List
 unfolding pointers
 slots-pointers k look labels cs = slots-flat_map k (pointer_at look labels (hanging labels)) cs (slots-pointer_at k look labels (hanging labels))
 
-ruleset parts = (words, slots-source_lanes, slots-plain_lanes, slots-below_lanes, slots-underline_lanes, slots-locus, slots-gutter, slots-numbered_gutter, slots-border, slots-break_border, slots-coloured_text, slots-carets, slots-pointers)
+ruleset parts = (words, slots-row_lanes, slots-locus, slots-gutter, slots-numbered_gutter, slots-border, slots-break_border, slots-coloured_text, slots-carets, slots-pointers)
 
 pub slots-label_message : (k : ℕ) (severity : Severity) (style : LabelStyle) (message : Stream) → slots k (label_message severity style message) ≡ slots k message
 unfolding label_message

@@ -1,6 +1,6 @@
 -- Each label's message stands in one slot.
 use Rattle.std.proofs.Common.{◌≡◌, ℕ, zero, suc, ◌+◌, ◌-◌, ◌<◌, ◌≤◌, Bool, true, false, not, cond, ◌&&◌, ◌||◌, ◌==◌, nat_lt, nat_le, List, [], ◌∷◌, ◌++◌, map, filter, filter_map, reverse, Option, Some, None, slice_get, length, if◌then◌else◌, refl, sym, ap, ◌∙◌, arith}
-use Rattle.std.specs.Prelude.{sum_by, flat_map}
+use Rattle.std.specs.Prelude.{sum_by, count_by, flat_map}
 use Rattle.std.specs.List.{list_any, range_with_len, enumerate_from, cons_option}
 use Rattle.std.specs.Str.Lines.{lines}
 use Rattle.std.proofs.lemmas.Bool.Decides.{nat_tests}
@@ -15,9 +15,9 @@ use Rattle.codespan_picture.specs.Cells.{leading_whitespace}
 use Rattle.codespan_picture.specs.Lines.{shows, is_drawn, drawn_lines, is_broken}
 use Rattle.codespan_picture.specs.Rows.{Heading, Locus, Look, Line, HeaderRow, StartRow, EmptyRow, BreakRow, SourceRow, CaretRow, PointerRow, HangingRow, UnderlineRow, FirstNoteRow, LaterNoteRow, BlankRow, trailing, hanging, has_underline, caret_rows, hanging_rows, underline_rows, rows_of}
 use Rattle.codespan_picture.specs.RowStreams.{stream_of_rows}
-use Rattle.codespan_picture.specs.Snippets.{LabelledFile, InFile, labelled_file, labelled_files, bare_lanes, line_at, rows_after, snippet, has_any, is_followed, row_after, snippets, piece_rows, note_rows, rich_rows}
+use Rattle.codespan_picture.specs.Snippets.{LabelledFile, InFile, labelled_file, labelled_files, bare_lanes, line_at, rows_after, snippet, has_any, row_after, snippets, piece_rows, note_rows, rich_rows}
 use Rattle.codespan_laws.proofs.FillLemmas.{breaks_before}
-use Rattle.codespan_laws.specs.MessageLaws.{slot_count, slotted, all_slotted}
+use Rattle.codespan_laws.specs.MessageLaws.{is_slot, slotted, all_slotted}
 use Rattle.codespan_laws.specs.TrailingLaws.{weight_of}
 use Rattle.codespan_laws.proofs.MessageLemmas.{trailing_and_hanging}
 use Rattle.codespan_laws.proofs.SlotLemmas.{slots, slots-is, slots-nil, part_slots, row_slots, slots-rows}
@@ -339,7 +339,7 @@ snippets_sum k config has_notes [] [] h = refl
 snippets_sum k config has_notes [] (s ∷ ss) h = absurd (omega (arith, h))
 snippets_sum k config has_notes (p ∷ ps) [] h = absurd (omega (arith, h))
 snippets_sum k config has_notes (p ∷ ps) (s ∷ ss) h =
-    let followed = is_followed has_notes ss in
+    let followed = has_any ss || has_notes in
     omega (
       arith,
       sum_by-append (row_slots k) (snippet config p s ++ row_after followed s) (snippets config has_notes ps ss),
@@ -451,7 +451,7 @@ unfolding slots
 slotted_slots k n x = by_tests (is_blank x.label.message) (n == k) refl refl
   where
     by_tests : (b c : Bool) → is_blank x.label.message ≡ b → (n == k) ≡ c
-        → slot_count k (if b then [] else Slot n ∷ []) ≡ cond c (if not b then 1 else 0) 0
+        → count_by (is_slot k) (if b then [] else Slot n ∷ []) ≡ cond c (if not b then 1 else 0) 0
     by_tests true true h i = refl
     by_tests true false h i = refl
     by_tests false true h i = let e = ap {B = ℕ} (λ b. cond b 1 0) i in omega (arith, e)
@@ -507,7 +507,7 @@ module _ {Id : Type 0} (k : ℕ) where
 pub each_once : {Id : Type 0} (look : Look) (config : Config) (same : Id → Id → Bool) (file : Id → FileModel) (heading : Heading) (notes : List (List ℕ)) (xs : List (InFile Id)) (ps : List Locus)
     → length ps ≡ length (labelled_files same file (all_slotted xs))
     → IsEquivalence same → ((id : Id) → 0 < line_count (file id)) → (k : ℕ) (x : InFile Id) → slice_get xs k ≡ Some x
-    → slot_count k (stream_of_rows look (rich_rows config heading ps (labelled_files same file (all_slotted xs)) notes)) ≡ (if has_message x.label then 1 else 0)
+    → count_by (is_slot k) (stream_of_rows look (rich_rows config heading ps (labelled_files same file (all_slotted xs)) notes)) ≡ (if has_message x.label then 1 else 0)
 each_once look config same file heading notes xs ps as_many law some k x at =
     let ss = labelled_files same file (all_slotted xs) in
     slots-is k (stream_of_rows look (rich_rows config heading ps ss notes))

@@ -322,3 +322,9 @@ pub filter-sorted_falls : {X : Type 0} (lt : X → X → Bool) → IsStrictWeakO
 filter-sorted_falls lt o given sorted perm up q falls =
     filter-sorted lt o given sorted perm up q (reverse (filter q given)) (climbs-reverse lt (filter q given) falls)
     (same_sums-reverse (filter q given)) (λ x i. in-reverse x (filter q given) i)
+
+-- a filter keeps of a sorted list what it keeps of the list that was sorted, where that climbs
+pub filter-sorted_climbs : {X : Type 0} (lt : X → X → Bool) → IsStrictWeakOrder lt → (given sorted : List X) → IsPermutation given sorted → IsSortedBy lt sorted
+    → (q : X → Bool) → Climbs lt (filter q given) → filter q sorted ≡ filter q given
+filter-sorted_climbs lt o given sorted perm up q climbs =
+    filter-sorted lt o given sorted perm up q (filter q given) climbs (λ f. refl) (λ x i. i)

@@ -10,58 +10,59 @@ use Rattle.codespan_base.specs.declared.files.Error.{Error}
 use Rattle.codespan_base.specs.declared.term.config.Config.{Config}
 use Rattle.codespan_base.specs.declared.term.config.DisplayStyle.{DisplayStyle}
 use Rattle.codespan_base.specs.declared.term.config.DisplayStyle.TheVariants.{Short}
-use Rattle.codespan_base.specs.FileModel.{FileDatabase, FileModel, Lookup, or_refusal}
+use Rattle.codespan_base.specs.FileModel.{FileDatabase, FileModel, Lookup, or_failure}
 use Rattle.codespan_base.specs.FileModel.Lookup.{Name, LocationAt}
-use Rattle.codespan_picture.specs.Lookups.{AllSucceed, Refusals, first_error, header_lookups_of}
-use Rattle.codespan_picture.specs.Picture.{AreLoci, headers_at, label_start, labels_of, output, starts, stated_loci, stated_locus}
+use Rattle.codespan_picture.specs.Lookups.{AllSucceed, Failures, first_error, header_lookups_of}
+use Rattle.codespan_picture.specs.Picture.{AreLoci, label_start, labels_of, output, starts}
+use Rattle.codespan_picture.specs.StatedPicture.{headers_at, stated_loci, stated_locus}
 use Rattle.codespan_picture.specs.Rows.{Locus}
 use Rattle.codespan_picture.specs.Snippets.{InFile, primary_of}
-use Rattle.codespan_laws.specs.StatedNames.{HeadersAreBeforeRefusal, NamesAreStated, OutputIsPicture}
+use Rattle.codespan_laws.specs.StatedNames.{HeadersAreBeforeFailure, NamesAreStated, OutputIsPicture}
 use Rattle.codespan_laws.proofs.Loci.{each_of, each_start, zip_stated}
 
 -- ---- labels before the first one for which a lookup fails
 
 -- whether both lookups for a header are answered
-abbrev is_answered : {Id : Type 0} → Refusals Id → InFile Id → Bool
-is_answered refusal x = is_none (refusal x.id Name) && is_none (refusal x.id (LocationAt x.label.start))
+abbrev is_answered : {Id : Type 0} → Failures Id → InFile Id → Bool
+is_answered failure x = is_none (failure x.id Name) && is_none (failure x.id (LocationAt x.label.start))
 
--- where the two refuse nothing, each is answered
-both_answered : (o p : Option Error) → or_refusal o (or_refusal p None) ≡ None → (is_none o && is_none p) ≡ true
+-- where the two fail nothing, each is answered
+both_answered : (o p : Option Error) → or_failure o (or_failure p None) ≡ None → (is_none o && is_none p) ≡ true
 both_answered None None h = refl
 both_answered None (Some e) h = cc
 both_answered (Some e) p h = cc
 
--- where one of the two refuses, not both are answered
-one_refused : (o p : Option Error) (e : Error) → or_refusal o (or_refusal p None) ≡ Some e → (is_none o && is_none p) ≡ false
-one_refused None None e h = cc
-one_refused None (Some x) e h = refl
-one_refused (Some x) p e h = refl
+-- where one of the two fails, not both are answered
+one_failed : (o p : Option Error) (e : Error) → or_failure o (or_failure p None) ≡ Some e → (is_none o && is_none p) ≡ false
+one_failed None None e h = cc
+one_failed None (Some x) e h = refl
+one_failed (Some x) p e h = refl
 
--- where the two refuse nothing, neither does
-none_first : (o p : Option Error) → or_refusal o p ≡ None → (o ≡ None) × (p ≡ None)
+-- where the two fail nothing, neither does
+none_first : (o p : Option Error) → or_failure o p ≡ None → (o ≡ None) × (p ≡ None)
 none_first None p h = (refl, h)
 none_first (Some x) p h = cc
 
 -- lookups of which the first ones are answered as all are
-none_of_first : {Id : Type 0} (refusal : Refusals Id) (ls ms : List (Id × Lookup)) → first_error refusal (ls ++ ms) ≡ None
-    → (first_error refusal ls ≡ None) × (first_error refusal ms ≡ None)
-none_of_first refusal [] ms h = (refl, h)
-none_of_first refusal (l ∷ ls) ms h =
-    let parts = none_first (refusal l.0 l.1) (first_error refusal (ls ++ ms)) h in
-    let later = none_of_first refusal ls ms parts.1 in
-    (ap (λ (o : Option Error). or_refusal o (first_error refusal ls)) parts.0 ∙ later.0, later.1)
+none_of_first : {Id : Type 0} (failure : Failures Id) (ls ms : List (Id × Lookup)) → first_error failure (ls ++ ms) ≡ None
+    → (first_error failure ls ≡ None) × (first_error failure ms ≡ None)
+none_of_first failure [] ms h = (refl, h)
+none_of_first failure (l ∷ ls) ms h =
+    let parts = none_first (failure l.0 l.1) (first_error failure (ls ++ ms)) h in
+    let later = none_of_first failure ls ms parts.1 in
+    (ap (λ (o : Option Error). or_failure o (first_error failure ls)) parts.0 ∙ later.0, later.1)
 
 -- labels whose lookups are answered, and then one whose are not
-run_before : {Id : Type 0} (refusal : Refusals Id) (before : List (InFile Id)) (here : InFile Id) (after : List (InFile Id)) → first_error refusal (flat_map header_lookups_of before) ≡ None
-    → is_answered refusal here ≡ false → take_while (is_answered refusal) (before ++ here ∷ after) ≡ before
-run_before refusal [] here after answered refused =
-    take_while-cons (is_answered refusal) here after ∙ ap (λ (b : Bool). cond b (here ∷ take_while (is_answered refusal) after) []) refused
-run_before {Id} refusal (x ∷ xs) here after answered refused =
-    let parts = none_of_first refusal (header_lookups_of x) (flat_map header_lookups_of xs) answered in
-    let passes : is_answered refusal x ≡ true = both_answered _ _ parts.0 in
-    take_while-cons (is_answered refusal) x (xs ++ here ∷ after)
-    ∙ ap (λ (b : Bool). cond b (x ∷ take_while (is_answered refusal) (xs ++ here ∷ after)) []) passes
-    ∙ ap (λ (l : List (InFile Id)). x ∷ l) (run_before refusal xs here after parts.1 refused)
+run_before : {Id : Type 0} (failure : Failures Id) (before : List (InFile Id)) (here : InFile Id) (after : List (InFile Id)) → first_error failure (flat_map header_lookups_of before) ≡ None
+    → is_answered failure here ≡ false → take_while (is_answered failure) (before ++ here ∷ after) ≡ before
+run_before failure [] here after answered failed =
+    take_while-cons (is_answered failure) here after ∙ ap (λ (b : Bool). cond b (here ∷ take_while (is_answered failure) after) []) failed
+run_before {Id} failure (x ∷ xs) here after answered failed =
+    let parts = none_of_first failure (header_lookups_of x) (flat_map header_lookups_of xs) answered in
+    let passes : is_answered failure x ≡ true = both_answered _ _ parts.0 in
+    take_while-cons (is_answered failure) x (xs ++ here ∷ after)
+    ∙ ap (λ (b : Bool). cond b (x ∷ take_while (is_answered failure) (xs ++ here ∷ after)) []) passes
+    ∙ ap (λ (l : List (InFile Id)). x ∷ l) (run_before failure xs here after parts.1 failed)
 
 -- ---- loci of files that state their names
 
@@ -81,33 +82,33 @@ module _ {Id : Type 0} (files : FileDatabase Id) (d : Diagnostic Id) (named : Na
       → output style renderer view files d loci ≡ output style renderer view files d (stated_loci files d style)
   output_stated style renderer view loci are = ap (output style renderer view files d) (loci_stated style loci are)
 
-  -- and the headers before a label that is refused are those of the labels before the first one that is refused
+  -- and the headers before a label that fails are those of the labels before the first one that fails
   headers_stated : (config : Config) (loci : List Locus) → AreLoci files d Short loci
       → (before : List (InFile Id)) (here : InFile Id) (after : List (InFile Id)) → before ++ here ∷ after ≡ primary_of (labels_of d)
-      → AllSucceed files.refusal (flat_map header_lookups_of before) → (e : Error) → first_error files.refusal (header_lookups_of here) ≡ Some e
+      → AllSucceed files.failure (flat_map header_lookups_of before) → (e : Error) → first_error files.failure (header_lookups_of here) ≡ Some e
       → headers_at config d (take (length before) loci)
-      ≡ headers_at config d (map (λ (x : InFile Id). stated_locus (label_start files.file x)) (take_while (is_answered files.refusal) (primary_of (labels_of d))))
-  headers_stated config loci are before here after whole answered e refused =
+      ≡ headers_at config d (map (λ (x : InFile Id). stated_locus (label_start files.file x)) (take_while (is_answered files.failure) (primary_of (labels_of d))))
+  headers_stated config loci are before here after whole answered e failed =
       let causes = primary_of (labels_of d) in
       let place : InFile Id → Locus = λ x. stated_locus (label_start files.file x) in
       let split : loci ≡ map place before ++ map place (here ∷ after) =
       loci_stated Short loci are ∙ map_twice stated_locus (label_start files.file) causes ∙ ap (map place) (sym whole) ∙ map-append place before (here ∷ after) in
       let taken : take (length before) loci ≡ map place before =
       ap (λ n. take n loci) (sym (length-map before place)) ∙ ap (take (length (map place before))) split ∙ take-append_seam (map place before) (map place (here ∷ after)) in
-      let run : take_while (is_answered files.refusal) causes ≡ before =
-      ap (take_while (is_answered files.refusal)) (sym whole)
-      ∙ run_before files.refusal before here after (none_of (flat_map header_lookups_of before) answered) (one_refused _ _ e refused) in
+      let run : take_while (is_answered files.failure) causes ≡ before =
+      ap (take_while (is_answered files.failure)) (sym whole)
+      ∙ run_before files.failure before here after (none_of (flat_map header_lookups_of before) answered) (one_failed _ _ e failed) in
       ap (headers_at config d) (taken ∙ ap (map place) (sym run))
     where
-      none_of : (ls : List (Id × Lookup)) → AllSucceed files.refusal ls → first_error files.refusal ls ≡ None
+      none_of : (ls : List (Id × Lookup)) → AllSucceed files.failure ls → first_error files.failure ls ≡ None
       none_of [] h = refl
       none_of (l ∷ ls) h =
-          ap (λ (o : Option Error). or_refusal o (first_error files.refusal ls)) (h l.0 l.1 (0, omega arith, refl))
+          ap (λ (o : Option Error). or_failure o (first_error files.failure ls)) (h l.0 l.1 (0, omega arith, refl))
           ∙ none_of ls (λ id lookup m. h id lookup (Contains-append_right (l ∷ []) ls (id, lookup) m))
 
 pub output_is_picture : {Id : Type 0} (files : FileDatabase Id) (d : Diagnostic Id) → OutputIsPicture files d
 output_is_picture files d named style renderer view loci are = output_stated files d named style renderer view loci are
 
-pub headers_are_before_refusal : {Id : Type 0} (files : FileDatabase Id) (d : Diagnostic Id) → HeadersAreBeforeRefusal files d
-headers_are_before_refusal files d named config loci are before here after whole answered e refused =
-    headers_stated files d named config loci are before here after whole answered e refused
+pub headers_are_before_failure : {Id : Type 0} (files : FileDatabase Id) (d : Diagnostic Id) → HeadersAreBeforeFailure files d
+headers_are_before_failure files d named config loci are before here after whole answered e failed =
+    headers_stated files d named config loci are before here after whole answered e failed

@@ -1,5 +1,5 @@
 -- The laws of carets and pointers: they stand under the characters that their labels take.
-use Rattle.std.specs.Prelude.{◌≡◌, ℕ, ◌<◌, Bool, ◌&&◌, ◌==◌, nat_le, List, ◌++◌, map, filter, if◌then◌else◌, Contains, IsTrue, encode_utf8_all}
+use Rattle.std.specs.Prelude.{◌≡◌, ℕ, ◌<◌, Bool, ◌&&◌, ◌==◌, List, ◌++◌, map, if◌then◌else◌, Contains, IsTrue, encode_utf8_all}
 use Rattle.std.specs.List.{list_any, range_with_len}
 use Rattle.codespan_picture.specs.Types.{Chars}
 use Rattle.codespan_base.specs.Labels.{Labelled}
@@ -8,7 +8,7 @@ use Rattle.codespan_picture.specs.declared.cells.Cell.{Cell}
 use Rattle.codespan_picture.specs.Cells.{width_of}
 use Rattle.codespan_picture.specs.Carets.{caret_cells}
 use Rattle.codespan_picture.specs.Rows.{Look, Line, trailing, hanging}
-use Rattle.codespan_picture.specs.RowParts.{line_cells, line_cells_to_end, trailing_message, starts_in, greatest_start, cells_before, label_message}
+use Rattle.codespan_picture.specs.RowParts.{line_cells, line_cells_to_end, trailing_message, starts_in, greatest_start, cells_before, cells_up_to, label_message}
 use Rattle.codespan_picture.specs.RowStreams.{caret_row, pointer_row, hanging_row, opening}
 
 -- between the lanes and the trailing message of a caret row stand its caret cells
@@ -42,8 +42,7 @@ pub record PointersAreCells (look : Look) (line : Line) : Type 0 where
   pub in_pointer_row : text_of (pointer_row look line)
       ≡ text_of (opening look line)
       ++ encode_utf8_all (pointer_cells look.chars line.labels (line_cells look line)
-      (width_of (filter (λ (c : Cell). nat_le c.place (greatest_start line.labels))
-      (line_cells look line))))
+      (width_of (cells_up_to (greatest_start line.labels) (line_cells look line))))
   pub in_hanging_row : (x : Labelled) → Contains (hanging line.labels) x
       → text_of (hanging_row look line x)
       ≡ text_of (opening look line)

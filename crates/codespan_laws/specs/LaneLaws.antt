@@ -15,29 +15,20 @@ use Rattle.codespan_picture.specs.RowParts.{gutter, numbered_gutter, border, bre
 use Rattle.codespan_picture.specs.RowStreams.{stream_of}
 use Rattle.codespan_picture.specs.Snippets.{LabelledFile, line_at, row_after, snippet}
 
+-- the line of a row that has one
+abbrev pub line_of_row : Row → Option Line
+line_of_row (SourceRow line) = Some line
+line_of_row (CaretRow line) = Some line
+line_of_row (PointerRow line) = Some line
+line_of_row (HangingRow line x) = Some line
+line_of_row (UnderlineRow line m) = Some line
+line_of_row _ = None
+
 -- the lanes of a row that has them
 abbrev pub lanes_of_row : Row → Option Lanes
 lanes_of_row (EmptyRow lanes) = Some lanes
 lanes_of_row (BreakRow lanes) = Some lanes
-lanes_of_row (SourceRow line) = Some line.lanes
-lanes_of_row (CaretRow line) = Some line.lanes
-lanes_of_row (PointerRow line) = Some line.lanes
-lanes_of_row (HangingRow line x) = Some line.lanes
-lanes_of_row (UnderlineRow line m) = Some line.lanes
-lanes_of_row _ = None
-
--- the line of a row that stands below that line's source row
-abbrev pub line_below : Row → Option Line
-line_below (CaretRow line) = Some line
-line_below (PointerRow line) = Some line
-line_below (HangingRow line x) = Some line
-line_below (UnderlineRow line m) = Some line
-line_below _ = None
-
--- the line of a row that has one
-abbrev pub line_of_row : Row → Option Line
-line_of_row (SourceRow line) = Some line
-line_of_row row = line_below row
+lanes_of_row row = option_map (λ (line : Line). line.lanes) (line_of_row row)
 
 -- the kind of a row, as far as its lanes go
 abbrev pub kind_of : Row → LaneRow
@@ -81,8 +72,8 @@ pub record MayLeaveOut (layout : Layout) (s : LabelledFile) (rows : List Row) (l
   pub is_classic : is_unbroken layout ≡ false
   pub turns_early : slice_get rows top ≡ Some (SourceRow (line_at s (first_line s.file x)))
   pub is_gap : shape_at layout rows k lane ≡ Some Gap
-  pub is_below : (row : Row) → slice_get rows k ≡ Some row
-      → line_below row ≡ Some (line_at s (first_line s.file x))
+  pub is_of_line : (row : Row) → slice_get rows k ≡ Some row
+      → line_of_row row ≡ Some (line_at s (first_line s.file x))
 
 -- a lane turns in one row, runs down, and turns back in one later row
 pub record IsOneLine (layout : Layout) (s : LabelledFile) (rows : List Row) (lane : ℕ)
@@ -97,27 +88,21 @@ pub record IsOneLine (layout : Layout) (s : LabelledFile) (rows : List Row) (lan
   pub before : (k : ℕ) → k < top → shape_at layout rows k lane ≡ Some Gap
   pub after : (k : ℕ) → bottom < k → k < length rows → shape_at layout rows k lane ≡ Some Gap
 
--- the rows of a file's snippet, and the empty row after it, if it has one
-abbrev pub rows_with_lanes : Config → Locus → LabelledFile → Bool → List Row
-rows_with_lanes config locus s is_followed = snippet config locus s ++ row_after is_followed s
-
--- each lane of a file is one line, whatever the locus
+-- each lane of a file is one line through the rows of its snippet and the empty row after it, if it
+-- has one, whatever the locus
 abbrev pub LanesAreLines : Config → Layout → LabelledFile → Type 0
 LanesAreLines config layout s =
     (locus : Locus) (is_followed : Bool) (lane : ℕ) (x : Labelled) → HasLane s lane x
-    → IsOneLine layout s (rows_with_lanes config locus s is_followed) lane x
+    → IsOneLine layout s (snippet config locus s ++ row_after is_followed s) lane x
 
 -- ---- what each lane shows is what the stream of its row has there
 
--- the two characters of what a row shows in a lane
-abbrev pub lane_shown : Look → Row → Lanes → ℕ → Stream
-lane_shown look row lanes lane =
-    lane_cells look.severity look.chars (row_crossing (kind_of row) lane)
-    (style_of_mark (mark_in lanes.marks lane)) (shape_in look.layout row lane)
-
--- those of each lane, from left to right
+-- the two characters of what a row shows in each lane, from left to right
 abbrev pub lanes_shown : Look → Row → Lanes → Stream
-lanes_shown look row lanes = flat_map (lane_shown look row lanes) (range_with_len 0 lanes.count)
+lanes_shown look row lanes =
+    flat_map (λ lane. lane_cells look.severity look.chars (row_crossing (kind_of row) lane)
+    (style_of_mark (mark_in lanes.marks lane)) (shape_in look.layout row lane))
+    (range_with_len 0 lanes.count)
 
 -- what stands left of the lanes: in a source row the line's number, else blanks, and the bar left
 -- of the source

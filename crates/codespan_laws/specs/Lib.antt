@@ -14,7 +14,6 @@ pub use Rattle.codespan_base.specs.Defaults
 pub use Rattle.codespan_base.specs.StyleTables
 pub use Rattle.codespan_base.specs.Ansi
 -- the picture
-pub use Rattle.codespan_picture.specs.Widths
 pub use Rattle.codespan_picture.specs.Cells
 pub use Rattle.codespan_picture.specs.Carets
 pub use Rattle.codespan_picture.specs.Lanes
@@ -27,6 +26,7 @@ pub use Rattle.codespan_picture.specs.Sequences
 pub use Rattle.codespan_picture.specs.Snippets
 pub use Rattle.codespan_picture.specs.Padding
 pub use Rattle.codespan_picture.specs.Picture
+pub use Rattle.codespan_picture.specs.StatedPicture
 pub use Rattle.codespan_picture.specs.Lookups
 pub use Rattle.codespan_picture.specs.Given
 -- what a picture means
@@ -36,7 +36,6 @@ pub mod LaneLaws
 pub mod LineLaws
 pub mod MessageLaws
 pub mod OrderLaws
-pub mod PaddingLaws
 pub mod RowLaws
 pub mod SortLaws
 pub mod TextLaws

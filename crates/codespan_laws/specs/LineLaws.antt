@@ -1,13 +1,15 @@
--- The laws of drawn lines and breaks.
-use Rattle.std.specs.Prelude.{◌≡◌, ℕ, ◌+◌, ◌<◌, ◌≤◌, ◌↔◌, Bool, false, List, ◌∷◌, map, filter, filter_map, Option, Some, None, if◌then◌else◌, IsTrue, ◌*◌, true, sum_by, count_by, []}
+-- The laws of drawn lines, breaks, and line numbers.
+use Rattle.std.specs.Prelude.{◌≡◌, ℕ, ◌+◌, ◌<◌, ◌≤◌, ◌↔◌, Bool, false, List, ◌∷◌, Contains, map, filter, filter_map, Option, Some, None, if◌then◌else◌, IsTrue, ◌*◌, true, sum_by, count_by, []}
 use Rattle.std.specs.List.{range_with_len}
 use Rattle.codespan_picture.specs.Types.{Config, Layout}
-use Rattle.codespan_base.specs.FileModel.{line_count}
+use Rattle.codespan_base.specs.FileModel.{FileModel, line_count}
 use Rattle.codespan_base.specs.Labels.{Labelled}
 use Rattle.codespan_picture.specs.declared.lanes.Shape.TheVariants.{Bar}
+use Rattle.codespan_picture.specs.Lanes.{is_unbroken}
 use Rattle.codespan_picture.specs.Lines.{drawn_lines, is_broken, is_shown}
 use Rattle.codespan_picture.specs.Rows.{Lanes, Locus, Row, BreakRow, SourceRow}
 use Rattle.codespan_picture.specs.Snippets.{LabelledFile, rows_after, drawing, line_at, snippet}
+use Rattle.codespan_picture.specs.Padding.{padding_of, digit_count}
 use Rattle.codespan_laws.specs.LaneLaws.{shape_in, HasLane, IsCovered}
 
 -- the shown lines of a file, all of which it has
@@ -67,3 +69,17 @@ reach config =
 abbrev pub SourceRowsAreFew : Config → LabelledFile → Type 0
 SourceRowsAreFew config s = (locus : Locus)
     → count_by is_source_row (snippet config locus s) ≤ 2 * sum_by (λ _. reach config) s.labels
+
+-- the numbers of a file's lines never fall as the index rises
+abbrev pub NumbersAscend : FileModel → Type 0
+NumbersAscend f = (i : ℕ) → i + 1 < line_count f → f.number i ≤ f.number (i + 1)
+
+-- every drawn line's number fits the padding: in the unbroken layout, and in the classic one where
+-- the configuration shows no lines after labels and the numbers never fall
+abbrev pub PaddingHasRoom : Config → List LabelledFile → Type 0
+PaddingHasRoom config ss =
+    (is_unbroken config.layout ≡ false → (config.after_label_lines ≡ 0)
+    × ((s : LabelledFile) → Contains ss s → NumbersAscend s.file))
+    → (s : LabelledFile) (l : ℕ) → Contains ss s
+    → Contains (drawn_lines config s.file s.labels) l
+    → digit_count (s.file.number l) ≤ padding_of config ss

@@ -10,9 +10,8 @@ use Rattle.codespan_picture.specs.Padding.{padding_of}
 use Rattle.codespan_picture.specs.Picture.{AreLoci, files_of, look_of}
 use Rattle.codespan_laws.specs.CaretLaws.{CaretsAreCells, StartsInWide, PointersAreCells}
 use Rattle.codespan_laws.specs.LaneLaws.{BarsAreLabels, LanesAreLines, LanesAreShown}
-use Rattle.codespan_laws.specs.LineLaws.{BreaksAreGaps, BreaksAreCovered, DrawingOfShown, SourceRowsAreFew}
+use Rattle.codespan_laws.specs.LineLaws.{BreaksAreGaps, BreaksAreCovered, DrawingOfShown, SourceRowsAreFew, PaddingHasRoom}
 use Rattle.codespan_laws.specs.MessageLaws.{MessagesStandOnce}
-use Rattle.codespan_laws.specs.PaddingLaws.{PaddingHasRoom}
 
 -- no label of a file starts after its end
 abbrev pub StartsBeforeEnds : List Labelled → Type 0

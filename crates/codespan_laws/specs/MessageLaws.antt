@@ -1,6 +1,7 @@
 -- The law of messages: each stands exactly once in a rich output.
-use Rattle.std.specs.Prelude.{◌≡◌, ℕ, Bool, false, ◌==◌, List, ◌∷◌, map, count_by, slice_get, Option, Some, None, if◌then◌else◌, []}
+use Rattle.std.specs.Prelude.{◌≡◌, ℕ, Bool, false, ◌==◌, List, ◌∷◌, map, count_by, slice_get, Some, if◌then◌else◌, []}
 use Rattle.std.specs.List.{enumerate_from}
+use Rattle.std.specs.Option.{option_map_or}
 use Rattle.codespan_picture.specs.Types.{Config, Diagnostic, Rich}
 use Rattle.codespan_base.specs.FileModel.{FileDatabase}
 use Rattle.codespan_base.specs.Labels.{has_message, is_blank}
@@ -24,18 +25,9 @@ abbrev pub is_slot : ℕ → Item → Bool
 is_slot k (Slot j) = j == k
 is_slot k _ = false
 
--- how often a stream names a label
-abbrev pub slot_count : ℕ → Stream → ℕ
-slot_count k s = count_by (is_slot k) s
-
--- the message of a label, if there is one
-abbrev pub message_of : {Id : Type 0} → Option (InFile Id) → List ℕ
-message_of None = []
-message_of (Some x) = text_of x.label.message
-
--- the message of a label, by its place
+-- the message of a label, by its place, and nothing where no label has the place
 abbrev pub message_text : {Id : Type 0} → List (InFile Id) → ℕ → List ℕ
-message_text xs k = message_of (slice_get xs k)
+message_text xs k = option_map_or (λ x. text_of x.label.message) (slice_get xs k) []
 
 -- the rich output with slots in place of the messages
 abbrev pub slotted_output : {Id : Type 0}
@@ -48,7 +40,7 @@ slotted_output renderer view files d loci =
 pub record MessagesStandOnce {Id : Type 0} (renderer view : Config) (files : FileDatabase Id)
     (d : Diagnostic Id) (loci : List Locus) : Type 0 where
   pub once : (k : ℕ) (x : InFile Id) → slice_get (labels_of d) k ≡ Some x
-      → slot_count k (slotted_output renderer view files d loci)
+      → count_by (is_slot k) (slotted_output renderer view files d loci)
       ≡ (if has_message x.label then 1 else 0)
   pub whole : filled (message_text (labels_of d)) (slotted_output renderer view files d loci)
       ≡ output Rich renderer view files d loci

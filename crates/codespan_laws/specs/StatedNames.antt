@@ -2,19 +2,20 @@
 use Rattle.std.specs.Prelude.{◌≡◌, List, ◌∷◌, ◌++◌, flat_map, Contains, IsSome, Some, length, take, Bool, ◌&&◌, map, is_none, take_while}
 use Rattle.codespan_picture.specs.Types.{Diagnostic, Error, Config, DisplayStyle, Short}
 use Rattle.codespan_base.specs.FileModel.{FileDatabase}
-use Rattle.codespan_picture.specs.Lookups.{AllSucceed, first_error, header_lookups_of, Refusals}
-use Rattle.codespan_picture.specs.Picture.{AreLoci, headers_at, labels_of, output, picture, label_start, stated_locus}
+use Rattle.codespan_picture.specs.Lookups.{AllSucceed, first_error, header_lookups_of, Failures}
+use Rattle.codespan_picture.specs.Picture.{AreLoci, labels_of, output, label_start}
+use Rattle.codespan_picture.specs.StatedPicture.{headers_at, picture, stated_locus}
 use Rattle.codespan_picture.specs.Rows.{Locus}
 use Rattle.codespan_picture.specs.Snippets.{InFile, primary_of}
 use Rattle.codespan_base.specs.FileModel.Lookup.{Name, LocationAt}
 use Rattle.codespan_base.specs.Streams.{Stream}
 
 -- the primary labels before the first one for which a lookup fails
-abbrev pub labels_before_refusal : {Id : Type 0} → Refusals Id → List (InFile Id) → List (InFile Id)
-labels_before_refusal {Id} refusal xs = take_while is_answered (primary_of xs)
+abbrev pub labels_before_failure : {Id : Type 0} → Failures Id → List (InFile Id) → List (InFile Id)
+labels_before_failure {Id} failure xs = take_while is_answered (primary_of xs)
   where
     is_answered : InFile Id → Bool
-    is_answered x = is_none (refusal x.id Name) && is_none (refusal x.id (LocationAt x.label.start))
+    is_answered x = is_none (failure x.id Name) && is_none (failure x.id (LocationAt x.label.start))
 
 module _ {Id : Type 0} (files : FileDatabase Id) (d : Diagnostic Id) where
   -- the names of the labels' files are stated
@@ -29,19 +30,19 @@ module _ {Id : Type 0} (files : FileDatabase Id) (d : Diagnostic Id) where
       → output style renderer view files d loci ≡ picture style renderer view files d
 
   -- the headers of those labels, which short and medium style have written by then
-  abbrev pub headers_before_refusal : Config → Stream
-  headers_before_refusal config =
+  abbrev pub headers_before_failure : Config → Stream
+  headers_before_failure config =
       headers_at config d (map (λ (x : InFile Id). stated_locus (label_start files.file x))
-      (labels_before_refusal files.refusal (labels_of d)))
+      (labels_before_failure files.failure (labels_of d)))
 
   -- the headers before a label for which a lookup fails are those of the labels before the first
   -- one for which a lookup fails
-  abbrev pub HeadersAreBeforeRefusal : Type 0
-  HeadersAreBeforeRefusal = NamesAreStated
+  abbrev pub HeadersAreBeforeFailure : Type 0
+  HeadersAreBeforeFailure = NamesAreStated
       → (config : Config) (loci : List Locus) → AreLoci files d Short loci
       → (before : List (InFile Id)) (here : InFile Id) (after : List (InFile Id))
       → before ++ here ∷ after ≡ primary_of (labels_of d)
-      → AllSucceed files.refusal (flat_map header_lookups_of before)
-      → (e : Error) → first_error files.refusal (header_lookups_of here) ≡ Some e
+      → AllSucceed files.failure (flat_map header_lookups_of before)
+      → (e : Error) → first_error files.failure (header_lookups_of here) ≡ Some e
       → headers_at config d (take (length before) loci)
-      ≡ headers_before_refusal config
+      ≡ headers_before_failure config

@@ -7,7 +7,8 @@ use Rattle.codespan_base.specs.SnippetStarts.{start_text}
 use Rattle.codespan_base.specs.FileModel.{FileDatabase}
 use Rattle.codespan_base.specs.LawfulFiles.{IsLawful}
 use Rattle.codespan_base.specs.Streams.{Stream, text_of}
-use Rattle.codespan_picture.specs.Picture.{NamesAreTexts, output, picture}
+use Rattle.codespan_picture.specs.Picture.{NamesAreTexts, output}
+use Rattle.codespan_picture.specs.StatedPicture.{picture}
 use Rattle.codespan_picture.specs.Rows.{Locus}
 
 -- what the stream writes is UTF-8, marks aside

@@ -11,7 +11,7 @@ ghost use Rattle.codespan_base.specs.declared.term.config.DisplayStyle.TheVarian
 ghost use Rattle.codespan_base.specs.declared.term.config.Layout.{Layout};
 ghost use Rattle.codespan_base.specs.declared.diagnostic.Diagnostic.{Diagnostic};
 ghost use Rattle.codespan_base.specs.FileModel.{FileDatabase, FileModel, line_count};
-ghost use Rattle.codespan_base.specs.Labels.{Labelled, LaneMark};
+ghost use Rattle.codespan_base.specs.Labels.{Labelled};
 ghost use Rattle.codespan_base.specs.declared.term.config.styles.Styles.{Styles};
 ghost use Rattle.codespan_base.specs.Streams.{Spelling};
 ghost use Rattle.codespan_laws.specs.RowLaws.{row_length, CharactersAreFree, RowsEndReset};
@@ -19,16 +19,17 @@ ghost use Rattle.codespan_laws.specs.ColourLaws.{ColoursChangeNoText, NoColourIs
 ghost use Rattle.codespan_laws.specs.CaretLaws.{CaretsAreCells, PointersAreCells, StartsInWide};
 ghost use Rattle.codespan_laws.specs.Meanings.{MeansLabels, StartsBeforeEnds};
 ghost use Rattle.codespan_laws.specs.LaneLaws.{BarsAreLabels, LanesAreLines, LanesAreShown};
-ghost use Rattle.codespan_laws.specs.LineLaws.{BreaksAreCovered, BreaksAreGaps, DrawingOfShown, SourceRowsAreFew};
+ghost use Rattle.codespan_laws.specs.LineLaws.{BreaksAreCovered, BreaksAreGaps, DrawingOfShown, PaddingHasRoom, SourceRowsAreFew};
 ghost use Rattle.codespan_laws.specs.MessageLaws.{MessagesStandOnce};
 ghost use Rattle.codespan_laws.specs.TrailingLaws.{EachTrailsOrHangs};
 ghost use Rattle.codespan_laws.specs.OrderLaws.{OrderIsFree};
-ghost use Rattle.codespan_laws.specs.PaddingLaws.{PaddingHasRoom};
 ghost use Rattle.codespan_laws.specs.SortLaws.{SortsLabels};
-ghost use Rattle.codespan_laws.specs.StatedNames.{HeadersAreBeforeRefusal, OutputIsPicture};
+ghost use Rattle.codespan_laws.specs.StatedNames.{HeadersAreBeforeFailure, OutputIsPicture};
 ghost use Rattle.codespan_laws.specs.TextLaws.{OutputIsText, PictureIsText};
-ghost use Rattle.codespan_picture.specs.RowParts.{plain_lanes, source_lanes, below_lanes, underline_lanes, line_cells};
-ghost use Rattle.codespan_picture.specs.Picture.{AreLoci, output, stated_loci};
+ghost use Rattle.codespan_picture.specs.Lanes.{LaneRow};
+ghost use Rattle.codespan_picture.specs.RowParts.{line_cells, row_lanes};
+ghost use Rattle.codespan_picture.specs.Picture.{AreLoci, output};
+ghost use Rattle.codespan_picture.specs.StatedPicture.{stated_loci};
 ghost use Rattle.codespan_picture.specs.Rows.{Locus, Look, Lanes, Line};
 ghost use Rattle.codespan_picture.specs.Snippets.{LabelledFile};
 
@@ -101,14 +102,8 @@ pub fn lanes_are_shown()
 
 /// Each lane takes two characters.
 pub fn lanes_take_two()
-    ensures source { (look : Look) (leading : ℕ) (lanes : Lanes)
-        → row_length (source_lanes look leading lanes) ≡ 2 * lanes.count }
-    ensures plain { (look : Look) (lanes : Lanes)
-        → row_length (plain_lanes look lanes) ≡ 2 * lanes.count }
-    ensures below { (look : Look) (leading : ℕ) (lanes : Lanes)
-        → row_length (below_lanes look leading lanes) ≡ 2 * lanes.count }
-    ensures underline { (look : Look) (leading : ℕ) (m : LaneMark) (lanes : Lanes)
-        → row_length (underline_lanes look leading m lanes) ≡ 2 * lanes.count }
+    ensures { (look : Look) (leading : ℕ) (row : LaneRow) (lanes : Lanes)
+        → row_length (row_lanes look leading row lanes) ≡ 2 * lanes.count }
 {}
 
 // ---- messages
@@ -179,7 +174,7 @@ pub fn stated_names_make_the_picture<Id>()
 /// Where they are stated, the headers that a failed lookup leaves are those of the labels before
 /// the first one for which a lookup fails.
 pub fn stated_names_make_the_headers<Id>()
-    ensures { (files : FileDatabase Id) (d : Diagnostic Id) → HeadersAreBeforeRefusal files d }
+    ensures { (files : FileDatabase Id) (d : Diagnostic Id) → HeadersAreBeforeFailure files d }
 {}
 
 /// What is rendered is UTF-8, style marks aside, in each style: where its characters are

@@ -3,8 +3,7 @@ use Rattle.std.proofs.Common.{◌≡◌, ℕ, ◌+◌, ◌<◌, ◌≤◌, Bool,
 use Rattle.std.specs.Char.{len_utf8}
 use Rattle.std.proofs.lemmas.Str.{len_utf8_bounds}
 use Rattle.codespan_picture.specs.declared.cells.Cell.{Cell}
-use Rattle.codespan_picture.specs.Widths.{width_at}
-use Rattle.codespan_picture.specs.Cells.{cells_then}
+use Rattle.codespan_picture.specs.Cells.{cells_then, width_at}
 
 -- they begin at this place and this column, each has a byte, and each follows the one before
 abbrev pub AreSpread : ℕ → ℕ → List Cell → Type 0

@@ -7,28 +7,20 @@ use Rattle.codespan_base.specs.Labels.{Labelled, is_primary}
 use Rattle.codespan_picture.specs.declared.cells.Cell.{Cell}
 use Rattle.codespan_picture.specs.Cells.{width_of}
 
--- two ranges share a byte
-abbrev pub do_overlap : ℕ → ℕ → ℕ → ℕ → Bool
-do_overlap a b c d = nat_lt (max a c) (min b d)
-
 -- the label has a byte from `start` to `end`
 abbrev pub covers_part : Labelled → ℕ → ℕ → Bool
-covers_part x start end = do_overlap x.start x.end start end
+covers_part x start end = nat_lt (max x.start start) (min x.end end)
 
 -- the label has a byte of the character
 abbrev pub covers : Labelled → Cell → Bool
 covers x c = covers_part x c.place (c.place + c.bytes)
 
--- of the labels over some bytes a primary one goes first
-abbrev pub style_over : List Labelled → ℕ → ℕ → Option LabelStyle
-style_over labels start end =
-    if list_any (λ x. is_primary x && covers_part x start end) labels then Some Primary
-    else if list_any (λ x. covers_part x start end) labels then Some Secondary
-    else None
-
--- the style under a character
+-- the style under a character: of the labels over it a primary one goes first
 abbrev pub style_under : List Labelled → Cell → Option LabelStyle
-style_under labels c = style_over labels c.place (c.place + c.bytes)
+style_under labels c =
+    if list_any (λ x. is_primary x && covers x c) labels then Some Primary
+    else if list_any (λ x. covers x c) labels then Some Secondary
+    else None
 
 -- the greatest end of the labels, 0 where there is none
 abbrev pub greatest_end : List Labelled → ℕ
@@ -51,11 +43,8 @@ caret_for chars None = 32
 caret_for chars (Some Primary) = chars.single_primary_caret
 caret_for chars (Some Secondary) = chars.single_secondary_caret
 
--- the caret cells reach as far as the characters that begin before the greatest end
-abbrev pub caret_width : List Labelled → List Cell → ℕ
-caret_width labels cs = width_of (filter (λ (c : Cell). nat_lt c.place (greatest_end labels)) cs)
-
--- the caret cells of a line
+-- the caret cells of a line, as far as the characters that begin before the greatest end
 abbrev pub caret_cells : Chars → List Labelled → List Cell → List ℕ
 caret_cells chars labels cs =
-    map (λ k. caret_for chars (style_at labels cs k)) (range_with_len 0 (caret_width labels cs))
+    map (λ k. caret_for chars (style_at labels cs k))
+    (range_with_len 0 (width_of (filter (λ (c : Cell). nat_lt c.place (greatest_end labels)) cs)))

@@ -1,10 +1,10 @@
 -- The characters of a drawn line and the cells that they own.
-use Rattle.std.specs.Prelude.{ℕ, ◌+◌, ◌-◌, Bool, ◌||◌, ◌==◌, List, ◌∷◌, length, sum_by, take, take_while, []}
+use Rattle.std.specs.Prelude.{ℕ, ◌+◌, ◌-◌, ◌%◌, Bool, false, ◌||◌, ◌==◌, if◌then◌else◌, unwrap_or, List, ◌∷◌, length, sum_by, take, take_while, []}
 use Rattle.std.specs.List.{suffix_len}
 use Rattle.std.specs.Str.{chars}
 use Rattle.std.specs.Char.{len_utf8, is_whitespace}
 use Rattle.codespan_picture.specs.declared.cells.Cell.{Cell}
-use Rattle.codespan_picture.specs.Widths.{width_at}
+use Rattle.unicode_width.specs.Width.{char_width}
 
 -- line feeds, carriage returns and NULs are not drawn at a line's end
 abbrev pub is_line_end : ℕ → Bool
@@ -13,6 +13,13 @@ is_line_end b = (b == 10) || (b == 13) || (b == 0)
 -- the text of a line as it is drawn
 abbrev pub drawn_text : List ℕ → List ℕ
 drawn_text text = take (length text - suffix_len is_line_end text) text
+
+-- the cells that a character takes at a column: a tab those up to its next stop, none where stops
+-- are no cells apart; any other what `unicode_width` gives it, none where that gives none
+abbrev pub width_at : ℕ → ℕ → ℕ → ℕ
+width_at tab column c =
+    if c == 9 then (if tab == 0 then 0 else tab - column % tab)
+    else unwrap_or (char_width false c) 0
 
 -- the cells of these characters from a place and a column on, and then those that `after` gives
 -- where they end

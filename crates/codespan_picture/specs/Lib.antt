@@ -15,7 +15,6 @@ pub use Rattle.codespan_base.specs.Ansi
 -- the Rust types of all of these
 pub mod Types
 -- a line: its characters, carets and lanes
-pub mod Widths
 pub mod Cells
 pub mod Carets
 pub mod Lanes
@@ -30,6 +29,7 @@ pub mod Sequences
 pub mod Snippets
 pub mod Padding
 pub mod Picture
+pub mod StatedPicture
 pub mod Lookups
 -- labels, marks and places as calls are given them
 pub mod Given

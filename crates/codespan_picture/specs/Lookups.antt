@@ -1,8 +1,8 @@
 -- The lookups that an output rests on, in their order, and which error is returned.
 use Rattle.std.specs.Prelude.{◌≡◌, ◌≢◌, ◌<◌, length, ℕ, ◌+◌, Bool, not, ◌&&◌, ◌||◌, nat_lt, nat_le, List, [], ◌∷◌, ◌++◌, map, filter, flat_map, Option, Some, None, Contains, if◌then◌else◌, true, false}
 use Rattle.std.specs.List.{range_with_len}
-use Rattle.codespan_picture.specs.Types.{Config, DisplayStyle, Rich, Medium, Short, Layout, Classic, Unbroken, Diagnostic, Error, FormatError, LineTooLarge, OutOfMemory}
-use Rattle.codespan_base.specs.FileModel.{FileDatabase, FileModel, Lookup, line_count, or_refusal}
+use Rattle.codespan_picture.specs.Types.{Config, DisplayStyle, Rich, Layout, Classic, Unbroken, Diagnostic, Error, FormatError, LineTooLarge, OutOfMemory}
+use Rattle.codespan_base.specs.FileModel.{FileDatabase, FileModel, Lookup, line_count, or_failure}
 use Rattle.codespan_base.specs.FileModel.Lookup.{Name, Source, LineIndex, LineNumber, LocationAt, LineRange}
 use Rattle.codespan_base.specs.Labels.{Labelled, first_line, last_line}
 use Rattle.codespan_picture.specs.Lines.{is_shown, is_drawn}
@@ -11,8 +11,8 @@ use Rattle.codespan_picture.specs.Padding.{spans}
 use Rattle.codespan_picture.specs.Picture.{labels_of}
 
 -- the error that a lookup of a file fails with, if any
-abbrev pub Refusals : Type 0 → Type 0
-Refusals Id = Id → Lookup → Option Error
+abbrev pub Failures : Type 0 → Type 0
+Failures Id = Id → Lookup → Option Error
 
 -- the range and the number of a line
 abbrev pub of_line : ℕ → List Lookup
@@ -37,10 +37,10 @@ ends_context _ = false
 
 -- the line past the file's last one, where the context reaches it and the lookup of its range does
 -- not fail with `LineTooLarge`
-abbrev pub probe : Config → FileModel → (Lookup → Option Error) → Labelled → List Lookup
-probe config f refusal x =
+abbrev pub lookup_past_end : Config → FileModel → (Lookup → Option Error) → Labelled → List Lookup
+lookup_past_end config f failure x =
     if nat_le (line_count f) (last_line f x + config.after_label_lines)
-    && not (ends_context (refusal (LineRange (line_count f))))
+    && not (ends_context (failure (LineRange (line_count f))))
     then LineRange (line_count f) ∷ [] else []
 
 -- the line is one of the label's, or stands around them
@@ -54,9 +54,9 @@ asked_lines config f x = filter (is_asked config f x) (range_with_len 0 (line_co
 -- those of one label: the lines of its ends, then the ranges and numbers of its lines and those
 -- around them
 abbrev pub of_label : Config → FileModel → (Lookup → Option Error) → Labelled → List Lookup
-of_label config f refusal x =
+of_label config f failure x =
     LineIndex x.start ∷ LineIndex x.end
-    ∷ flat_map of_line (asked_lines config f x) ++ probe config f refusal x
+    ∷ flat_map of_line (asked_lines config f x) ++ lookup_past_end config f failure x
 
 -- lines that are drawn and not shown
 abbrev pub filled_lines : Config → LabelledFile → List ℕ
@@ -70,14 +70,12 @@ asked_of {Id} id ls = map (λ l. (id, l)) ls
 
 -- ---- those of a diagnostic
 
-module _ {Id : Type 0} (config : Config) (files : FileDatabase Id) where
-  -- those of one label
-  abbrev pub label_asked : InFile Id → List (Id × Lookup)
-  label_asked x = asked_of x.id (of_label config (files.file x.id) (files.refusal x.id) x.label)
-
-  -- those of all labels, in their order
-  abbrev pub label_lookups : List (InFile Id) → List (Id × Lookup)
-  label_lookups xs = flat_map label_asked xs
+-- those of all labels, in their order
+abbrev pub label_lookups : {Id : Type 0}
+    → Config → FileDatabase Id → List (InFile Id) → List (Id × Lookup)
+label_lookups {Id} config files xs =
+    flat_map (λ (x : InFile Id).
+    asked_of x.id (of_label config (files.file x.id) (files.failure x.id) x.label)) xs
 
 module _ {Id : Type 0} (files : FileDatabase Id) (xs : List (InFile Id)) where
   -- a file with its labels
@@ -116,31 +114,26 @@ module _ {Id : Type 0} (files : FileDatabase Id) (xs : List (InFile Id)) where
 abbrev pub header_lookups_of : {Id : Type 0} → InFile Id → List (Id × Lookup)
 header_lookups_of x = asked_of x.id (Name ∷ LocationAt x.label.start ∷ [])
 
--- those of the headers of all primary labels
-abbrev pub header_lookups : {Id : Type 0} → List (InFile Id) → List (Id × Lookup)
-header_lookups xs = flat_map header_lookups_of (primary_of xs)
-
--- all lookups of an output in a style
+-- all lookups of an output in a style: in short and medium style those of all primary labels
 abbrev pub lookups_in : {Id : Type 0}
     → DisplayStyle → Config → FileDatabase Id → Diagnostic Id → List (Id × Lookup)
 lookups_in Rich config files d =
     early_lookups files (labels_of d) config ++ late_lookups files (labels_of d) config
-lookups_in Medium config files d = header_lookups (labels_of d)
-lookups_in Short config files d = header_lookups (labels_of d)
+lookups_in _ config files d = flat_map header_lookups_of (primary_of (labels_of d))
 
 -- the error of the first of these lookups that fails
-abbrev pub first_error : {Id : Type 0} → Refusals Id → List (Id × Lookup) → Option Error
-first_error refusal [] = None
-first_error refusal (l ∷ ls) = or_refusal (refusal l.0 l.1) (first_error refusal ls)
+abbrev pub first_error : {Id : Type 0} → Failures Id → List (Id × Lookup) → Option Error
+first_error failure [] = None
+first_error failure (l ∷ ls) = or_failure (failure l.0 l.1) (first_error failure ls)
 
 -- none of these lookups fails
-abbrev pub AllSucceed : {Id : Type 0} → Refusals Id → List (Id × Lookup) → Type 0
-AllSucceed {Id} refusal lookups = (id : Id) (lookup : Lookup)
-    → Contains lookups (id, lookup) → refusal id lookup ≡ None
+abbrev pub AllSucceed : {Id : Type 0} → Failures Id → List (Id × Lookup) → Type 0
+AllSucceed {Id} failure lookups = (id : Id) (lookup : Lookup)
+    → Contains lookups (id, lookup) → failure id lookup ≡ None
 
 -- there is a lookup, and the error is that of the first one that fails, `OutOfMemory`, or
 -- `FormatError`, which stands for a name whose `Display` fails
 abbrev pub IsLookupError : {Id : Type 0} → FileDatabase Id → List (Id × Lookup) → Error → Type 0
 IsLookupError files lookups e =
     (0 < length lookups)
-    × (e ≢ OutOfMemory → e ≢ FormatError → first_error files.refusal lookups ≡ Some e)
+    × (e ≢ OutOfMemory → e ≢ FormatError → first_error files.failure lookups ≡ Some e)

@@ -1,9 +1,10 @@
 -- How much room the line numbers of a picture have.
-use Rattle.std.specs.Prelude.{ℕ, Bool, ◌&&◌, ◌||◌, ◌==◌, nat_le, max, List, map, filter, fold, flat_map, length, decimal}
+use Rattle.std.specs.Prelude.{ℕ, Bool, ◌&&◌, ◌||◌, ◌==◌, nat_le, max, List, map, filter, fold, flat_map, length, decimal, if◌then◌else◌}
 use Rattle.std.specs.List.{list_any, range_with_len}
-use Rattle.codespan_picture.specs.Types.{Config, Layout, Classic, Unbroken}
+use Rattle.codespan_picture.specs.Types.{Config}
 use Rattle.codespan_base.specs.FileModel.{FileModel, line_count}
 use Rattle.codespan_base.specs.Labels.{Labelled, first_line, last_line}
+use Rattle.codespan_picture.specs.Lanes.{is_unbroken}
 use Rattle.codespan_picture.specs.Lines.{drawn_lines}
 use Rattle.codespan_picture.specs.Snippets.{LabelledFile}
 
@@ -11,13 +12,11 @@ use Rattle.codespan_picture.specs.Snippets.{LabelledFile}
 abbrev pub digit_count : ℕ → ℕ
 digit_count n = length (decimal n)
 
--- the line is one of these two, or stands between them
-abbrev pub spans_line : ℕ → ℕ → ℕ → Bool
-spans_line s e l = (l == s) || (l == e) || (nat_le s l && nat_le l e)
-
 -- the line is an end of the label or stands between its ends
 abbrev pub spans : FileModel → Labelled → ℕ → Bool
-spans f x l = spans_line (first_line f x) (last_line f x) l
+spans f x l =
+    (l == first_line f x) || (l == last_line f x)
+    || (nat_le (first_line f x) l && nat_le l (last_line f x))
 
 -- the lines of the labels
 abbrev pub spanned_lines : LabelledFile → List ℕ
@@ -28,11 +27,8 @@ spanned_lines s =
 -- the lines whose numbers the padding has room for: those of the labels, or, in the unbroken
 -- layout, those that are drawn
 abbrev pub numbered_lines : Config → LabelledFile → List ℕ
-numbered_lines config s = by_layout config.layout
-  where
-    by_layout : Layout → List ℕ
-    by_layout Classic = spanned_lines s
-    by_layout Unbroken = drawn_lines config s.file s.labels
+numbered_lines config s =
+    if is_unbroken config.layout then drawn_lines config s.file s.labels else spanned_lines s
 
 -- the digits of these lines' numbers
 abbrev pub digits_of : LabelledFile → List ℕ → List ℕ

@@ -4,12 +4,12 @@ use Rattle.std.specs.List.{AllByRecursion, AllZip}
 use Rattle.std.specs.Option.{option_map}
 use Rattle.std.specs.Str.{IsUtf8}
 use Rattle.codespan_picture.specs.Types.{Config, DisplayStyle, Rich, Medium, Short, Diagnostic, Label, Severity}
-use Rattle.codespan_base.specs.FileModel.{FileDatabase, FileModel, name_text}
+use Rattle.codespan_base.specs.FileModel.{FileDatabase, FileModel}
 use Rattle.codespan_base.specs.Streams.{Stream, bytes}
 use Rattle.codespan_picture.specs.Padding.{padding_of}
 use Rattle.codespan_picture.specs.Rows.{Heading, Locus, Look}
 use Rattle.codespan_picture.specs.RowStreams.{stream_of_rows}
-use Rattle.codespan_picture.specs.Snippets.{InFile, LabelledFile, header_rows, headers, labelled_files, locus_start, note_rows, primary_of, rich_rows}
+use Rattle.codespan_picture.specs.Snippets.{InFile, LabelledFile, header_rows, labelled_files, locus_start, note_rows, primary_of, rich_rows}
 
 -- ---- a diagnostic, as its output reads it
 
@@ -49,10 +49,6 @@ pub record IsLocus (at : FileModel × ℕ) (locus : Locus) : Type 0 where
   pub location : locus.location ≡ at.0.location at.1
   pub name : IfSome at.0.name (λ name. locus.name ≡ name)
 
--- the one with the name that the file states, and with an empty name where it states none
-abbrev pub stated_locus : FileModel × ℕ → Locus
-stated_locus at = record { name = name_text at.0; location = at.0.location at.1 }
-
 -- where a file's snippet starts
 abbrev pub snippet_start : LabelledFile → FileModel × ℕ
 snippet_start s = (s.file, locus_start s.labels)
@@ -66,8 +62,7 @@ module _ {Id : Type 0} (same : Id → Id → Bool) (file : Id → FileModel) (xs
   -- label
   abbrev pub starts : DisplayStyle → List (FileModel × ℕ)
   starts Rich = map snippet_start (labelled_files same file xs)
-  starts Medium = map (label_start file) (primary_of xs)
-  starts Short = map (label_start file) (primary_of xs)
+  starts _ = map (label_start file) (primary_of xs)
 
 -- the names of these loci are texts
 abbrev pub NamesAreTexts : List Locus → Type 0
@@ -77,10 +72,6 @@ module _ {Id : Type 0} (files : FileDatabase Id) (d : Diagnostic Id) (style : Di
   -- these are the loci of an output
   abbrev pub AreLoci : List Locus → Type 0
   AreLoci loci = AllZip IsLocus (starts files.same files.file (labels_of d) style) loci
-
-  -- those with the names that the files state
-  abbrev pub stated_loci : List Locus
-  stated_loci = map stated_locus (starts files.same files.file (labels_of d) style)
 
 -- ---- the output
 
@@ -112,12 +103,3 @@ module _ {Id : Type 0} (style : DisplayStyle) (renderer view : Config)
   abbrev pub output : List Locus → Stream
   output loci =
       rendered style renderer view d.severity (heading_of d) loci (files_of files d) (notes_of d)
-
-  -- its picture: the output with the names that the files state
-  abbrev pub picture : Stream
-  picture = output (stated_loci files d style)
-
--- headers with these loci alone
-abbrev pub headers_at : {Id : Type 0} → Config → Diagnostic Id → List Locus → Stream
-headers_at renderer d loci =
-    stream_of_rows (look_of renderer d.severity 0) (headers (heading_of d) loci)

@@ -10,7 +10,7 @@ use Rattle.codespan_picture.specs.declared.cells.Cell.{Cell}
 use Rattle.codespan_picture.specs.Cells.{cells, cells_to_end, width_of, leading_whitespace}
 use Rattle.codespan_picture.specs.Carets.{covers, style_under, caret_for, greatest_end}
 use Rattle.codespan_picture.specs.declared.lanes.Shape.{Shape}
-use Rattle.codespan_picture.specs.Lanes.{LaneRow, Source, Plain, Below, Underline, row_shape, row_crossing, mark_in, shape_of, style_of_mark, lane_cells, label_glyph}
+use Rattle.codespan_picture.specs.Lanes.{LaneRow, row_shape, row_crossing, mark_in, shape_of, style_of_mark, lane_cells, label_glyph}
 use Rattle.codespan_picture.specs.Rows.{Locus, Look, Lanes, Line, hanging}
 
 -- ---- parts of rows
@@ -81,26 +81,10 @@ lanes_in look crossing shape lanes =
     flat_map (λ lane. lane_of look (crossing lane) (shape lane) (mark_in lanes.marks lane))
     (range_with_len 0 lanes.count)
 
--- the lanes of a kind of row
-abbrev pub row_lanes : Look → ℕ → LaneRow → Lanes → Stream
+-- the lanes of a kind of row, of a line whose text begins with so many bytes of white space
+unfoldable pub row_lanes : Look → ℕ → LaneRow → Lanes → Stream
 row_lanes look leading row lanes =
     lanes_in look (row_crossing row) (row_shape look.layout leading row) lanes
-
--- the lanes of a source row
-unfoldable pub source_lanes : Look → ℕ → Lanes → Stream
-source_lanes look leading lanes = row_lanes look leading Source lanes
-
--- the lanes of an empty row or a break row
-unfoldable pub plain_lanes : Look → Lanes → Stream
-plain_lanes look lanes = row_lanes look 0 Plain lanes
-
--- the lanes of a caret, pointer or hanging row
-unfoldable pub below_lanes : Look → ℕ → Lanes → Stream
-below_lanes look leading lanes = row_lanes look leading Below lanes
-
--- the lanes of an underline row: right of the corner its line runs through them
-unfoldable pub underline_lanes : Look → ℕ → LaneMark → Lanes → Stream
-underline_lanes look leading m lanes = row_lanes look leading (Underline m) lanes
 
 -- ---- the source text and the carets under it
 

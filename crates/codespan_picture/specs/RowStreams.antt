@@ -5,8 +5,9 @@ use Rattle.codespan_picture.specs.Types.{Severity, Chars}
 use Rattle.codespan_base.specs.Streams.{Stream, Header, HeaderMessage, NoteBullet, SourceBorder, LabelMark, Reset, one_mark, glyph, bytes, space, newline}
 use Rattle.codespan_base.specs.Labels.{Labelled, LaneMark}
 use Rattle.codespan_base.specs.SnippetStarts.{start_text}
+use Rattle.codespan_picture.specs.Lanes.{Source, Plain, Below, Underline}
 use Rattle.codespan_picture.specs.Rows.{Locus, Heading, Look, Lanes, Line, Row, HeaderRow, StartRow, EmptyRow, BreakRow, SourceRow, CaretRow, PointerRow, HangingRow, UnderlineRow, FirstNoteRow, LaterNoteRow, BlankRow, trailing}
-use Rattle.codespan_picture.specs.RowParts.{severity_name, locus, gutter, numbered_gutter, border, break_border, label_message, source_lanes, plain_lanes, below_lanes, underline_lanes, leading_of, line_cells, line_cells_to_end, coloured_text, carets, trailing_message, pointers, cells_before, underline}
+use Rattle.codespan_picture.specs.RowParts.{severity_name, locus, gutter, numbered_gutter, border, break_border, label_message, row_lanes, leading_of, line_cells, line_cells_to_end, coloured_text, carets, trailing_message, pointers, cells_before, underline}
 
 -- ---- rows, before their newlines
 
@@ -36,24 +37,25 @@ start_row chars padding place =
 
 -- an empty row of a snippet
 unfoldable pub empty_row : Look → Lanes → Stream
-empty_row look lanes = gutter look.padding ++ border look.chars ++ plain_lanes look lanes
+empty_row look lanes = gutter look.padding ++ border look.chars ++ row_lanes look 0 Plain lanes
 
 -- the row of a break
 unfoldable pub break_row : Look → Lanes → Stream
-break_row look lanes = gutter look.padding ++ break_border look.chars ++ plain_lanes look lanes
+break_row look lanes =
+    gutter look.padding ++ break_border look.chars ++ row_lanes look 0 Plain lanes
 
 -- a line of the source
 unfoldable pub source_row : Look → Line → Stream
 source_row look line =
     numbered_gutter look.padding line.number ++ border look.chars
-    ++ source_lanes look (leading_of line) line.lanes ++ space
+    ++ row_lanes look (leading_of line) Source line.lanes ++ space
     ++ coloured_text look line
 
 -- the beginning of each row under a line
 unfoldable pub opening : Look → Line → Stream
 opening look line =
-    gutter look.padding ++ border look.chars ++ below_lanes look (leading_of line) line.lanes
-    ++ space
+    gutter look.padding ++ border look.chars
+    ++ row_lanes look (leading_of line) Below line.lanes ++ space
 
 -- the carets under a line
 unfoldable pub caret_row : Look → Line → Stream
@@ -74,7 +76,8 @@ hanging_row look line x =
 -- the underline of a multi-line label's start or end
 unfoldable pub underline_row : Look → Line → LaneMark → Stream
 underline_row look line m =
-    gutter look.padding ++ border look.chars ++ underline_lanes look (leading_of line) m line.lanes
+    gutter look.padding ++ border look.chars
+    ++ row_lanes look (leading_of line) (Underline m) line.lanes
     ++ one_mark (LabelMark look.severity m.style)
     ++ underline look.chars m.style (line_cells look line) m.part ++ one_mark Reset
 

@@ -5,7 +5,7 @@ use Rattle.std.specs.Option.{option_and_then, option_map, option_map_or}
 use Rattle.codespan_picture.specs.Types.{Severity, Chars, Layout, Location}
 use Rattle.codespan_base.specs.Labels.{Labelled, has_message, LaneMark, MultiLabel, Top, Left, Bottom}
 use Rattle.codespan_picture.specs.Cells.{leading_whitespace}
-use Rattle.codespan_picture.specs.Carets.{do_overlap, greatest_end}
+use Rattle.codespan_picture.specs.Carets.{covers_part, greatest_end}
 use Rattle.codespan_picture.specs.Lanes.{turns_early}
 
 -- a place as readers see it
@@ -60,22 +60,19 @@ abbrev pub last_with_end : ℕ → List Labelled → Option (ℕ × Labelled)
 last_with_end end labels =
     last_or None (filter (λ (e : ℕ × Labelled). e.1.end == end) (enumerate_from 0 labels))
 
--- the last of the labels with the greatest end, with its index
-abbrev pub rightmost : List Labelled → Option (ℕ × Labelled)
-rightmost labels = last_with_end (greatest_end labels) labels
-
 -- one of the others overlaps the label
 abbrev pub is_overlapped : Labelled → List Labelled → Bool
-is_overlapped x others = list_any (λ (y : Labelled). do_overlap x.start x.end y.start y.end) others
+is_overlapped x others = list_any (λ (y : Labelled). covers_part x y.start y.end) others
 
 -- its message trails where it has one and no other label of the line overlaps it
 abbrev pub does_trail : List Labelled → ℕ × Labelled → Bool
 does_trail labels e = has_message e.1 && not (is_overlapped e.1 (remove labels e.0))
 
--- the rightmost label, where its message trails
+-- the last of the labels with the greatest end, where its message trails
 abbrev pub trailing_entry : List Labelled → Option (ℕ × Labelled)
 trailing_entry labels =
-    option_and_then (λ e. if does_trail labels e then Some e else None) (rightmost labels)
+    option_and_then (λ e. if does_trail labels e then Some e else None)
+    (last_with_end (greatest_end labels) labels)
 
 -- the label whose message trails
 abbrev pub trailing : List Labelled → Option Labelled

@@ -1,5 +1,5 @@
 -- The rows of an output: of each line, of each file, and of all, with the loci in them.
-use Rattle.std.specs.Prelude.{ℕ, Bool, true, false, min, List, [], ◌∷◌, ◌++◌, map, filter, fold, flat_map, Option, Some, None, if◌then◌else◌, length}
+use Rattle.std.specs.Prelude.{ℕ, Bool, true, false, ◌||◌, min, List, [], ◌∷◌, ◌++◌, map, filter, fold, flat_map, Option, Some, None, if◌then◌else◌, length}
 use Rattle.std.specs.Str.Lines.{lines}
 use Rattle.codespan_picture.specs.Types.{Config}
 use Rattle.codespan_base.specs.FileModel.{FileModel, line_text}
@@ -107,18 +107,13 @@ abbrev pub has_any : {A : Type 0} → List A → Bool
 has_any [] = false
 has_any (x ∷ xs) = true
 
--- something stands after a snippet: another one, or notes
-abbrev pub is_followed : {A : Type 0} → Bool → List A → Bool
-is_followed has_notes [] = has_notes
-is_followed has_notes (s ∷ ss) = true
-
 -- the snippets of files with these loci; an empty row stands after each, but after the last only
 -- where notes follow
 abbrev pub snippets : Config → Bool → List Locus → List LabelledFile → List Row
 snippets config has_notes [] ss = []
 snippets config has_notes (p ∷ ps) [] = []
 snippets config has_notes (p ∷ ps) (s ∷ ss) =
-    snippet config p s ++ row_after (is_followed has_notes ss) s ++ snippets config has_notes ps ss
+    snippet config p s ++ row_after (has_any ss || has_notes) s ++ snippets config has_notes ps ss
 
 -- the rows of a note's pieces
 abbrev pub piece_rows : List (List ℕ) → List Row
@@ -141,11 +136,8 @@ rich_rows config heading loci ss notes =
 abbrev pub primary_of : {Id : Type 0} → List (InFile Id) → List (InFile Id)
 primary_of {Id} xs = filter (λ (x : InFile Id). is_primary x.label) xs
 
--- headers with these loci
-abbrev pub headers : Heading → List Locus → List Row
-headers heading loci = map (λ (locus : Locus). HeaderRow (Some locus) heading) loci
-
 -- a header with each of these loci, or one without a locus where there is none
 abbrev pub header_rows : Heading → List Locus → List Row
-header_rows heading [] = HeaderRow None heading ∷ []
-header_rows heading (p ∷ ps) = headers heading (p ∷ ps)
+header_rows heading loci =
+    if_any (map (λ (locus : Locus). HeaderRow (Some locus) heading) loci)
+    (HeaderRow None heading ∷ [])

@@ -1,52 +1,64 @@
-//! Labels, marks and places, as the calls of a renderer are given them.
+//! Loci, labels and multi-line label marks, as the calls of a `Renderer` take them.
 
 use codespan_base::diagnostic::LabelStyle;
 use codespan_base::files::Location;
 use std::ops::Range;
 
-/// Where a snippet is: the name of its file, and a location there. In a picture it is that of the
-/// least byte at which a primary label of the file starts, or any label of it where none is
-/// primary.
+/// A file's name and a location in it, as the start of a snippet and a header show them.
+///
+/// In rich style the location is that of the least byte index at which a primary label of the file
+/// starts, or any label of it where none is primary, as in the Rust crate; in short and medium style
+/// it is that of the primary label's start.
 #[derive(Debug, Drop)]
 pub struct Locus {
-    /// The name of the file, as users see it.
+    /// The name of the file, the text of its `Display`.
     pub name: String,
-    /// The numbers of line and column.
+    /// The line number and the column number, as users see them.
     pub location: Location,
 }
 
-/// A label inside one line: its style, its range in bytes from the line's start, and its message.
+/// A label inside one line: its style, its range and its message.
+///
+/// The range is in bytes from the line's start, the end exclusive. One without a byte has no caret;
+/// the views make it one byte long, as the Rust crate does. An empty message is not rendered.
 ///
 /// ```text
-/// ^^^^^^^^^ blah blah
+/// 1 │ retries = many
+///   │           ^^^^ expected a number
 /// ```
 pub type SingleLabel<'d> = (LabelStyle, Range<usize>, &'d str);
 
-/// What a label over several lines does on one of them. Places are bytes from the line's start.
+/// A multi-line label mark: what a multi-line label does on one line.
+///
+/// Byte indices are from the line's start. The label's message is in its last mark.
 #[derive(Clone, Copy, Debug)]
 pub enum MultiLabel<'d> {
-    /// It starts at this place.
+    /// It starts at this byte index. The caret is under the last cell of the last character that begins
+    /// at the index or before it.
     ///
     /// ```text
-    /// ╭────────────^
+    /// 1 │   let x = (
+    ///   │ ╭─────────^
     /// ```
     ///
-    /// Where there is white space alone before it, its corner stands in the row of the source.
+    /// Where only white space is before it, its corner is in the source row, and it has no caret.
     ///
     /// ```text
-    /// ╭
+    /// 1 │ ╭ (
     /// ```
     Top(usize),
-    /// It goes through the line.
+    /// It covers the whole line.
     ///
     /// ```text
-    /// │
+    /// 2 │ │     1 +
     /// ```
     Left,
-    /// It ends at this place, and says this.
+    /// It ends before this byte index, and this is its message. The caret is under the last cell of
+    /// the last character that begins before the index.
     ///
     /// ```text
-    /// ╰────────────^ blah blah
+    /// 3 │ │     2)
+    ///   │ ╰──────^ never used
     /// ```
     Bottom(usize, &'d str),
 }

@@ -15,12 +15,12 @@ use Rattle.codespan_picture.proofs.CaretEnds.{style_under-below}
 use Rattle.codespan_renderer.proofs.RowWords.{blanks-add, repeated-add, change-same, regroup}
 use Rattle.codespan_renderer.specs.Inner.CursorStates.{Follow}
 
--- the carets of the cells that are left
+-- the carets of the remaining cells
 abbrev glyphs_left : Look → List Labelled → Option LabelStyle → List Cell → Stream
 glyphs_left look labels was cs =
     styled look.severity (style_under labels) (λ c. caret_glyphs look.chars (greatest_end labels) (style_under labels c) c) was cs
 
--- the carets of a run that has begun, and of the cells that are left
+-- the carets of a run that has begun, and of the remaining cells
 abbrev pub carets_left : Look → List Labelled → Option LabelStyle → ℕ → List Cell → Stream
 carets_left look labels was run cs = caret_run look.chars was run ++ glyphs_left look labels was cs
 
@@ -31,7 +31,7 @@ carets-start look labels cs = refl
 
 -- ---- a run
 
--- how many cells of carets or blanks a character has under it, where they reach to this end
+-- how many cells of carets or spaces a character has under it, where they reach to this end
 abbrev pub caret_count : ℕ → Option LabelStyle → Cell → ℕ
 caret_count end None c = if nat_lt c.place end then c.width else 0
 caret_count end (Some style) c = c.width
@@ -55,7 +55,7 @@ unfolding caret_run caret_glyphs
 run-counts chars end None c run = blanks-count chars end c run _ refl
 run-counts chars end (Some style) c run = repeated-add run c.width (caret_for chars (Some style))
 
--- ---- the cells that are left
+-- ---- the remaining cells
 
 grown : (run shown more rest : Stream) → more ≡ run ++ shown → run ++ (shown ++ rest) ≡ more ++ rest
 grown run shown more rest e = sym (append_assoc run shown rest) ∙ ap (λ (l : Stream). l ++ rest) (sym e)
@@ -99,7 +99,7 @@ carets-turn look labels was style run count c left cs l s n =
     (regroup (caret_run look.chars was run) (change look.severity was (style_under labels c)) (caret_glyphs look.chars (greatest_end labels) (style_under labels c) c) (glyphs_left look labels (style_under labels c) cs)
     ∙ ap (λ (l : Stream). caret_run look.chars was run ++ change look.severity was (style_under labels c) ++ l) (begins look labels c cs))
 
--- none is left
+-- none remains
 pub carets-end : (look : Look) (labels : List Labelled) (was : Option LabelStyle) (run : ℕ) (left : List Cell)
     → left ≡ [] → caret_run look.chars was run ++ change look.severity was None ≡ carets_left look labels was run left
 carets-end look labels was run left e = rw e refl

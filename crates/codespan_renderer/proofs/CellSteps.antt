@@ -9,8 +9,7 @@ use Rattle.std.proofs.lemmas.List.Sums.{sum_by-cons, take_while-cons}
 use Rattle.std.proofs.lemmas.Str.{chars_past_char, chars-nil, length-encode}
 use Rattle.unicode_width.specs.Width.{char_width}
 use Rattle.codespan_picture.specs.declared.cells.Cell.{Cell}
-use Rattle.codespan_picture.specs.Widths.{width_at}
-use Rattle.codespan_picture.specs.Cells.{cells_then, leading_whitespace}
+use Rattle.codespan_picture.specs.Cells.{cells_then, leading_whitespace, width_at}
 
 -- the characters of ASCII that are seen take one cell each
 pub width_at-seen : (tab column c : ℕ) → 32 ≤ c → c ≤ 126 → 1 ≡ width_at tab column c
@@ -21,7 +20,7 @@ width_at-seen tab column c low high =
     let seen : nat_le 0x20 c ≡ true = grind (arith, nat_tests) in
     rw (no_tab, ascii, seen) refl
 
--- the first of the characters that are left
+-- the first of the remaining characters
 pub cells_then-char : (after : ℕ → ℕ → List Cell) (tab place column : ℕ) (bs rest : List ℕ) (c bytes width : ℕ)
     → IsUtf8 bs → bs ≡ encode_utf8 c ++ rest → bytes ≡ len_utf8 c → width ≡ width_at tab column c
     → cells_then after tab place column (chars bs)
@@ -29,23 +28,23 @@ pub cells_then-char : (after : ℕ → ℕ → List Cell) (tab place column : �
 cells_then-char after tab place column bs rest c bytes width u e b w =
     ap (cells_then after tab place column) (chars_past_char bs rest c u e) ∙ rw (b, w) refl
 
--- none is left
+-- none remains
 pub cells_then-end : (after : ℕ → ℕ → List Cell) (tab place column : ℕ) (bs : List ℕ) → length bs ≡ 0
     → cells_then after tab place column (chars bs) ≡ after place column
 cells_then-end after tab place column [] e = ap (cells_then after tab place column) chars-nil
 cells_then-end after tab place column (b ∷ bs) e = absurd (omega arith)
 
--- a character that is left has room in the text
+-- a remaining character fits in the text
 pub bytes_left : (text rest : List ℕ) (place c : ℕ) → drop place text ≡ encode_utf8 c ++ rest → len_utf8 c ≤ length text - place
 bytes_left text rest place c e =
     omega (arith, ap length e, length-drop place text, length-append (encode_utf8 c) rest, length-encode c)
 
--- it took so many bytes of what was left
+-- how many bytes of the remaining text it took
 pub bytes-taken : (was left bs rest : List ℕ) (c : ℕ) → was ≡ bs → left ≡ rest → bs ≡ encode_utf8 c ++ rest → length was - length left ≡ len_utf8 c
 bytes-taken was left bs rest c w l e =
     omega (arith, ap length w, ap length l, ap length e, length-append (encode_utf8 c) rest, length-encode c)
 
--- ---- white space at the beginning of a line
+-- ---- white space at the start of a line
 
 -- the white space goes on
 pub leading-more : (bs rest : List ℕ) (c : ℕ) → IsUtf8 bs → bs ≡ encode_utf8 c ++ rest → is_whitespace c ≡ true → leading_whitespace bs ≡ len_utf8 c + leading_whitespace rest
@@ -60,7 +59,7 @@ leading-stop bs rest c u e h =
     ap (λ cs. sum_by len_utf8 (take_while is_whitespace cs)) (chars_past_char bs rest c u e)
     ∙ ap (sum_by len_utf8) (take_while-cons is_whitespace c (chars rest) ∙ ap (λ b. cond b (c ∷ take_while is_whitespace (chars rest)) []) h)
 
--- nothing is left
+-- nothing remains
 pub leading-end : (bs : List ℕ) → length bs ≡ 0 → leading_whitespace bs ≡ 0
 leading-end [] e = ap (λ cs. sum_by len_utf8 (take_while is_whitespace cs)) chars-nil
 leading-end (b ∷ bs) e = absurd (omega arith)

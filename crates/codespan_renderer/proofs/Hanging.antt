@@ -19,7 +19,7 @@ use Rattle.codespan_picture.specs.declared.cells.Cell.{Cell}
 use Rattle.codespan_picture.specs.Carets.{greatest_end}
 use Rattle.codespan_picture.specs.Given.{GivenLabel, single_label_view, single_label_views}
 use Rattle.codespan_picture.specs.Lanes.{label_glyph}
-use Rattle.codespan_picture.specs.Rows.{Look, Line, HangingRow, last_with_end, is_overlapped, does_trail, rightmost, trailing_entry, trailing, hanging, hanging_rows}
+use Rattle.codespan_picture.specs.Rows.{Look, Line, HangingRow, last_with_end, is_overlapped, does_trail, trailing_entry, trailing, hanging, hanging_rows}
 use Rattle.codespan_picture.specs.RowParts.{starts_in, pointer_style, greatest_start, blanks_up_to, pointer_at, pointers, cells_before}
 use Rattle.codespan_picture.specs.RowStreams.{pointer_row, hanging_row, stream_of, stream_of_rows}
 use Rattle.codespan_renderer.specs.Inner.Runs.{better, best_from, pointer_found, entry_given, AreHanging, hanging_stream}
@@ -120,7 +120,7 @@ trails_at xs k d empty h e = rw (entry_is xs k d h, without_at xs k, e, blank_is
 -- ---- where one trails
 
 -- the rightmost label trails
-trails_by : (xs : List Labelled) (e : ℕ × Labelled) → rightmost xs ≡ Some e → does_trail xs e ≡ true → trailing_entry xs ≡ Some e
+trails_by : (xs : List Labelled) (e : ℕ × Labelled) → last_with_end (greatest_end xs) xs ≡ Some e → does_trail xs e ≡ true → trailing_entry xs ≡ Some e
 trails_by xs e is h = rw (is, h) refl
 
 -- the label at an index trails
@@ -142,7 +142,7 @@ pub trailing_here : (xs : List GivenLabel) (k end : ℕ) (d : GivenLabel) → k 
 trailing_here xs k end d h greatest last holds =
     ap (option_map (λ (e : ℕ × Labelled). e.1)) (sym (entry_trails xs k end d h greatest last holds))
 
--- all that stands from an index on
+-- all elements from an index on
 all_after : (n : ℕ) (xs : List GivenLabel) → take (length xs - n) (drop n xs) ≡ drop n xs
 all_after n xs = ap (λ k. take k (drop n xs)) (sym (length-drop n xs)) ∙ take-length (drop n xs)
 
@@ -167,7 +167,7 @@ hanging_here (x ∷ xs) k end h greatest last holds = hanging_at (x ∷ xs) k en
 -- ---- where none trails
 
 -- no label trails where the rightmost one does not
-none_by : (xs : List Labelled) (o : Option (ℕ × Labelled)) → rightmost xs ≡ o → option_map_or (does_trail xs) o false ≡ false
+none_by : (xs : List Labelled) (o : Option (ℕ × Labelled)) → last_with_end (greatest_end xs) xs ≡ o → option_map_or (does_trail xs) o false ≡ false
     → trailing_entry xs ≡ None
 none_by xs None is h = rw is refl
 none_by xs (Some e) is h = rw (is, h) refl
@@ -232,7 +232,7 @@ hanging_parts : (labels before after : List GivenLabel) → AreHanging labels be
 hanging_parts labels before after h =
     sym (filter-append has_message (single_label_views before) (single_label_views after)) ∙ ap (filter has_message) (sym (map-append single_label_view before after)) ∙ h.are
 
--- the labels of the one list and then of the other give the style of a pointer
+-- the style of a pointer is that of the labels of the one list and then of the other
 pub pointer_is : (labels before after : List GivenLabel) (c : Cell) → AreHanging labels before after
     → best_from (starts_in c) (best_from (starts_in c) None (filter has_message (single_label_views before))) (filter has_message (single_label_views after))
     ≡ pointer_found (hanging (single_label_views labels)) c
@@ -241,7 +241,7 @@ pointer_is labels before after c h =
     ∙ ap (best_from (starts_in c) None) (hanging_parts labels before after h)
     ∙ best_is c (hanging (single_label_views labels))
 
--- a step over the label at a place
+-- a step over the label at an index
 pub best_step : (c : Cell) (found best : Option LabelStyle) (xs : List GivenLabel) (i : ℕ) (d : GivenLabel) (empty : Bool) → i < length xs
     → empty ≡ (length (get_or xs i d).2.now == 0)
     → best ≡ (if not empty then (if starts_in c (single_label_view (get_or xs i d)) then better found (get_or xs i d).0 else found) else found)
@@ -256,12 +256,12 @@ best_step c found best xs i d empty h is e = rw (drop-cons xs i d h, add-one, e,
 
 -- ---- the pointers of a line
 
--- no blank is owed
+-- no space is pending
 pub blanks_none : (s : Stream) → blanks 0 ++ s ≡ s
 unfolding blanks bytes
 blanks_none s = refl
 
--- a character before the place shows its own
+-- a character before the byte index shows its own
 pointers_next : (look : Look) (labels : List Labelled) (before : ℕ) (c : Cell) (cs : List Cell) → c.place < before
     → pointers look labels (cells_before before (c ∷ cs)) ≡ pointer_at look labels (hanging labels) c ++ pointers look labels (cells_before before cs)
 unfolding pointers
@@ -293,7 +293,7 @@ pointer_some look labels c style h = by_test (list_any (starts_in c) (hanging la
     by_test true is h = let same : pointer_style (hanging labels) c ≡ style = cc in rw (is, same) refl
     by_test false is h = cc
 
--- the blanks of a character come to those that are owed
+-- the spaces of a character are added to the pending ones
 pub blanks_owed : (reach : ℕ) (c : Cell) (blank width : ℕ) (s : Stream) → c.place ≤ reach
     → blanks blank ++ (blanks_up_to reach c width ++ s) ≡ blanks (blank + width) ++ s
 unfolding blanks_up_to
@@ -308,7 +308,7 @@ blanks_past reach c width s h =
     let past : nat_le c.place reach ≡ false = lt-leb c.place reach h in
     rw past refl
 
--- what is still to come begins with the blanks that are owed and a pointer
+-- what is still to be written begins with the pending spaces and a pointer
 pub pointer_first : (look : Look) (labels : List Labelled) (before reach : ℕ) (left : List Cell) (c : Cell) (cs : List Cell) (blank : ℕ) (style : LabelStyle)
     → reach ≡ greatest_start labels → left ≡ c ∷ cs → c.place < before → pointer_found (hanging labels) c ≡ Some style
     → blanks blank ++ pointers look labels (cells_before before left)
@@ -317,7 +317,7 @@ pub pointer_first : (look : Look) (labels : List Labelled) (before reach : ℕ) 
 pointer_first look labels before reach left c cs blank style far step h found =
     rw (far, step, pointers_next look labels before c cs h, pointer_some look labels c style found) (simp append_assoc)
 
--- it begins with the blanks that are owed and those of a character
+-- it begins with the pending spaces and those of a character
 pub blanks_first : (look : Look) (labels : List Labelled) (before reach : ℕ) (left : List Cell) (c : Cell) (cs : List Cell) (blank : ℕ)
     → reach ≡ greatest_start labels → left ≡ c ∷ cs → c.place < before → pointer_found (hanging labels) c ≡ None
     → blanks blank ++ pointers look labels (cells_before before left)
@@ -325,7 +325,7 @@ pub blanks_first : (look : Look) (labels : List Labelled) (before reach : ℕ) (
 blanks_first look labels before reach left c cs blank far step h found =
     rw (far, step, pointers_next look labels before c cs h, pointer_none look labels c found) refl
 
--- only the blanks that are owed are still to come
+-- only the pending spaces are still to be written
 pub blanks_last : (look : Look) (labels : List Labelled) (before : ℕ) (left : List Cell) (blank : ℕ) → left ≡ []
     → blanks blank ++ pointers look labels (cells_before before left) ≡ blanks blank
 unfolding pointers
@@ -333,7 +333,7 @@ blanks_last look labels before left blank none = rw none (append-nil (blanks bla
 
 -- ---- the messages that hang
 
--- the message of the last label goes first
+-- the message of the last label is first
 hanging_push : (look : Look) (line : Line) (xs : List Labelled) (x : Labelled)
     → hanging_stream look line (xs ++ x ∷ []) ≡ (hanging_row look line x ++ newline) ++ hanging_stream look line xs
 hanging_push look line xs x = rw (reverse-append xs (x ∷ [])) refl
@@ -343,7 +343,7 @@ messages_push : (xs : List GivenLabel) (x : GivenLabel) (b : Bool) → not (leng
     → filter has_message (single_label_views (push xs x)) ≡ filter has_message (single_label_views xs) ++ cond b (single_label_view x ∷ []) []
 messages_push xs x b h = rw (map-append single_label_view xs (x ∷ []), filter-append, blank_is, h) refl
 
--- the last of the labels that are left has a message
+-- the last of the remaining labels has a message
 pub hanging_first : (look : Look) (line : Line) (left rest : List GivenLabel) (x : GivenLabel) (empty : Bool) → left ≡ push rest x
     → empty ≡ (length x.2.now == 0) → empty ≡ false
     → hanging_stream look line (filter has_message (single_label_views left))
@@ -357,7 +357,7 @@ pub hanging_skip : (look : Look) (line : Line) (left rest : List GivenLabel) (x 
     → hanging_stream look line (filter has_message (single_label_views left)) ≡ hanging_stream look line (filter has_message (single_label_views rest))
 hanging_skip look line left rest x empty step is none = rw (step, messages_push rest x false (ap not (sym is ∙ none)), append-nil) refl
 
--- none is left
+-- none remains
 pub hanging_end : (look : Look) (line : Line) (left : List GivenLabel) → length left ≡ 0 → hanging_stream look line (filter has_message (single_label_views left)) ≡ []
 hanging_end look line [] h = refl
 hanging_end look line (x ∷ xs) h = absurd (omega arith)
@@ -387,7 +387,7 @@ pub none_hangs : (labels before after : List GivenLabel) → AreHanging labels b
     → list_any has_message (single_label_views before) ≡ false → list_any has_message (single_label_views after) ≡ false → hanging (single_label_views labels) ≡ []
 none_hangs labels before after h early late = rw (← hanging_parts labels before after h, no_message before early, no_message after late) refl
 
--- so nothing is drawn of any
+-- so nothing is written of any
 pub nothing_hangs : (look : Look) (line : Line) (labels before after : List GivenLabel) → AreHanging labels before after
     → list_any has_message (single_label_views before) ≡ false → list_any has_message (single_label_views after) ≡ false
     → stream_of_rows look (hanging_rows line (hanging (single_label_views labels))) ≡ []

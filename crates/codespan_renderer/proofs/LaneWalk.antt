@@ -1,4 +1,4 @@
--- A walk over marks in order gives each lane its mark.
+-- A walk over multi-line label marks in order finds the mark of each lane.
 use Rattle.std.proofs.Common.{◌≡◌, ℕ, suc, zero, ◌+◌, ◌-◌, ◌<◌, ◌≤◌, Bool, true, false, cond, eqb, leb, ltb, ◌&&◌, List, [], ◌∷◌, ◌++◌, map, length, get_or, drop, None, Some, refl, sym, ap, ◌∙◌, arith, add-one, drop-cons, max}
 use Rattle.std.specs.Prelude.{IsTrue, flat_map}
 use Rattle.std.specs.List.{range_with_len}
@@ -14,10 +14,10 @@ use Rattle.codespan_renderer.specs.Inner.GivenLine.{given_lane, given_lanes, lan
 use Rattle.codespan_renderer.specs.Inner.MarksLeft.{mark_here, marks_after}
 use Rattle.codespan_picture.specs.Lanes.{filling, lane_cells, mark_in, row_shape, row_crossing}
 use Rattle.codespan_picture.specs.Rows.{Look, Lanes}
-use Rattle.codespan_picture.specs.RowParts.{lane_of}
+use Rattle.codespan_picture.specs.RowParts.{lane_of, row_lanes}
 use Rattle.codespan_renderer.proofs.RowWords.{blanks-add}
 
--- ---- the first of the marks that are left
+-- ---- the first of the remaining marks
 
 pub here-is : (marks : List GivenMark) (next lane : ℕ) (d : GivenMark) → next < length marks → (get_or marks next d).0 ≡ lane → mark_here (drop next marks) lane ≡ Some (get_or marks next d)
 here-is marks next lane d h e = rw (drop-cons marks next d h, eq-eqb (get_or marks next d).0 lane e) refl
@@ -67,7 +67,7 @@ none_below count from (m ∷ ms) lane h k =
     let e : eqb m.0 lane ≡ false = ne_eqb m.0 lane (λ e. omega (arith, e, f.above)) in
     rw e (none_below count (m.0 + 1) ms lane f.after (omega (arith, f.above)))
 
--- at the lane the walk finds the mark that the lane bears
+-- at a lane the walk finds the mark of the lane
 here-cons : (count lane : ℕ) (m : GivenMark) (ms : List GivenMark) (b : Bool) → eqb m.0 lane ≡ b → IsTrue (ascend_from count lane (map mark_view (m ∷ ms)))
     → mark_in (map mark_view (m ∷ ms)) lane ≡ option_map mark_view (mark_here (m ∷ ms) lane)
 here-cons count lane m ms true e h = rw e refl
@@ -79,7 +79,7 @@ here : (count lane : ℕ) (marks : List GivenMark) → IsTrue (ascend_from count
 here count lane [] h = refl
 here count lane (m ∷ ms) h = here-cons count lane m ms _ refl h
 
--- what it leaves agrees with the marks further on
+-- the marks that remain agree with those of later lanes
 left-cons : (count lane : ℕ) (m : GivenMark) (ms : List GivenMark) (k : ℕ) (b : Bool) → eqb m.0 lane ≡ b → lane < k
     → mark_in (map mark_view (m ∷ ms)) k ≡ mark_in (map mark_view (marks_after (m ∷ ms) lane)) k
 left-cons count lane m ms k true e h =
@@ -110,7 +110,7 @@ order count lane (m ∷ ms) h = order-cons count lane m ms _ refl h
 
 -- ---- the walk
 
--- so many lanes from this one on, each with the mark that the walk finds
+-- a number of lanes from this one on, each with the mark that the walk finds
 abbrev pub walk : Look → ℕ → GivenRow → ℕ → ℕ → List GivenMark → Stream
 walk look leading row lane zero marks = []
 walk look leading row lane (suc n) marks = given_lane look leading row lane (mark_here marks lane) ++ walk look leading row (lane + 1) n (marks_after marks lane)
@@ -122,12 +122,12 @@ walk-next look leading row i n marks h = let e : n - i ≡ suc (n - (i + 1)) = o
 pub walk-end : (look : Look) (leading : ℕ) (row : GivenRow) (i n : ℕ) (marks : List GivenMark) → n ≤ i → walk look leading row i (n - i) marks ≡ []
 walk-end look leading row i n marks h = let e : n - i ≡ 0 = omega arith in rw e refl
 
--- a lane without a mark, and without a line through it, is blank
+-- a lane without a mark, and without a line through it, is spaces
 blank-lane : (look : Look) (leading : ℕ) (row : GivenRow) (lane : ℕ) → row_crossing (lane_row_view row) lane ≡ None → given_lane look leading row lane None ≡ blanks 2
 unfolding given_lane lane_of lane_cells filling
 blank-lane look leading row lane clear = rw clear refl
 
--- where no mark is taken all are left
+-- where no mark is taken all remain
 left-all : (marks : List GivenMark) (lane : ℕ) → mark_here marks lane ≡ None → marks_after marks lane ≡ marks
 left-all [] lane none = refl
 left-all (m ∷ ms) lane none = by (eqb m.0 lane) none
@@ -136,12 +136,12 @@ left-all (m ∷ ms) lane none = by (eqb m.0 lane) none
     by false h = refl
     by true h = cc
 
--- no blanks in front
+-- no empty lanes in front
 none-first : (s : Stream) → s ≡ blanks 0 ++ s
 unfolding blanks bytes
 none-first s = refl
 
--- the walk goes past blank lanes
+-- the walk goes past empty lanes
 pub walk-past : (look : Look) (leading : ℕ) (row : GivenRow) (marks : List GivenMark) (n lane rest : ℕ)
     → ((k : ℕ) → lane ≤ k → k < lane + n → row_crossing (lane_row_view row) k ≡ None) → ((k : ℕ) → lane ≤ k → k < lane + n → mark_here marks k ≡ None)
     → walk look leading row lane (n + rest) marks ≡ blanks (n + n) ++ walk look leading row (lane + n) rest marks
@@ -161,7 +161,7 @@ walk-past look leading row marks (suc n) lane rest clear bare =
     ∙ sym (append_assoc (blanks 2) (blanks (n + n)) (walk look leading row (lane + 1 + n) rest marks))
     ∙ (λ i. (sym (blanks-add 2 (n + n)) ∙ ap blanks two) i ++ walk look leading row (b i) rest marks)
 
--- the blank lanes up to that of the next mark are sent at once
+-- the empty lanes up to that of the next mark are written at once
 pub walk-blank : (look : Look) (leading : ℕ) (row : GivenRow) (marks : List GivenMark) (count lane until blank : ℕ) → lane < count → until ≤ count → lane + blank ≤ max lane until
     → ((k : ℕ) → lane ≤ k → k < lane + blank → row_crossing (lane_row_view row) k ≡ None) → ((k : ℕ) → k < until → mark_here marks k ≡ None)
     → walk look leading row lane (count - lane) marks ≡ blanks (blank + blank) ++ walk look leading row (lane + blank) (count - (lane + blank)) marks
@@ -184,6 +184,6 @@ walk_is look leading row count whole lane (suc n) marks a h =
 -- over all lanes it is the lanes of the row
 pub walk-lanes : (look : Look) (leading : ℕ) (kind : GivenRow) (count : ℕ) (marks : List GivenMark) → IsTrue (lanes_in_order count marks)
     → walk look leading kind 0 (count - 0) marks ≡ given_lanes look leading kind (lanes_of count marks)
-unfolding given_lanes
+unfolding given_lanes row_lanes
 walk-lanes look leading kind count marks h =
     let e : count - 0 ≡ count = omega arith in rw e (walk_is look leading kind count (lanes_of count marks) 0 count marks (λ k b. refl) h)

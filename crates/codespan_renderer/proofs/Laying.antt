@@ -1,27 +1,26 @@
--- How the cells of a line lie one after another: what a loop over them knows of places and columns.
+-- How the cells of a line follow one another: what a loop over them knows of byte indices and columns.
 use Rattle.std.proofs.Common.{◌≡◌, ℕ, ◌+◌, ◌*◌, ◌-◌, ◌^◌, ◌<◌, ◌≤◌, List, [], ◌∷◌, length, refl, sym, ap, ◌∙◌, arith, length-append}
 use Rattle.std.specs.Char.{encode_utf8, len_utf8}
 use Rattle.std.specs.Str.{IsUtf8, chars}
 use Rattle.std.proofs.lemmas.Str.{encodes-chars, length-encode, len_utf8_bounds}
 use lib.Utf8.{encodes}
 use Rattle.codespan_picture.specs.declared.cells.Cell.{Cell}
-use Rattle.codespan_picture.specs.Widths.{width_at}
-use Rattle.codespan_picture.specs.Cells.{cells_then, cells, placeholder, cells_to_end}
+use Rattle.codespan_picture.specs.Cells.{cells_then, cells, placeholder, cells_to_end, width_at}
 use Rattle.codespan_renderer.specs.Inner.CursorStates.{Follow}
 
--- a cell stands at this place and column, and ends at `top` at the most
+-- a cell is at this byte index and column, and ends at `top` at the most
 pub record IsLaid (top place column : ℕ) (x : Cell) : Type 0 where
   pub here : x.place ≡ place
   pub at : x.column ≡ column
   pub some : 1 ≤ x.bytes
   pub room : place + x.bytes ≤ top
 
--- cells lie one after another from a place and a column on
+-- cells follow one another from a byte index and a column on
 abbrev pub Lays : ℕ → ℕ → ℕ → List Cell → Type 0
 Lays top place column [] = Unit {0}
 Lays top place column (x ∷ cs) = IsLaid top place column x × Lays top (place + x.bytes) (column + x.width) cs
 
--- a loop has them still before it, and has counted `run` of the cells behind it
+-- a loop has not reached them, and has counted `run` of the cells behind it
 pub record Laying (top run : ℕ) (cs : List Cell) : Type 0 where
   pub place : ℕ
   pub column : ℕ
@@ -34,7 +33,7 @@ pub lays-follow : (top place column : ℕ) (cs : List Cell) → Lays top place c
 lays-follow top place column [] l = tt
 lays-follow top place column (x ∷ cs) l = (l.0.here, l.0.some, lays-follow top (place + x.bytes) (column + x.width) cs l.1)
 
--- ---- the beginning of a loop
+-- ---- the start of a loop
 
 -- how many bytes characters have
 abbrev bytes_of : List ℕ → ℕ
@@ -55,7 +54,7 @@ lays-then after more top tab place column (c ∷ cs) last h =
     let some = len_utf8_bounds c in
     (record { here = refl; at = refl; some = some.0; room = omega arith }, lays-then after more top tab (place + len_utf8 c) (column + width_at tab column c) cs last (omega arith))
 
--- the characters of a line, and the place after the last one
+-- the characters of a line, and the position after the last one
 pub laying-to_end : (tab : ℕ) (text : List ℕ) → IsUtf8 text → Laying (length text + 1) 0 (cells_to_end tab text)
 laying-to_end tab text u = record {
   place = 0;
@@ -83,7 +82,7 @@ laying-fits top run x cs t w l =
     let here = l.lays.0 in
     omega (arith, here.room, here.some, l.narrow, l.small)
 
--- so many cells are counted after it, at the most with it
+-- how many cells are counted after it, at the most with it
 pub laying-more : (top run counted : ℕ) (x : Cell) (cs : List Cell) → x.width < 2 ^ 64 → counted ≤ run + x.width → Laying top run (x ∷ cs) → Laying top counted cs
 laying-more top run counted x cs w h l =
     let here = l.lays.0 in

@@ -14,5 +14,5 @@ pub mod StartsMet
 pub mod SpacedPointers
 pub mod PointerWalks
 pub mod WidthSearch
+pub mod KeptScans
 pub mod Pieces
-pub mod CellLists

@@ -1,4 +1,4 @@
--- Beginnings and ends of the labels of a line.
+-- Prefixes and suffixes of the labels of a line.
 use Rattle.std.proofs.Common.{◌≡◌, ℕ, ◌-◌, ◌≤◌, max, true, nat_le, List, [], ◌∷◌, ◌++◌, length, length-drop, take, drop, fold, refl, sym, ap, ◌∙◌, arith}
 use Rattle.std.proofs.Math.Seq.{take-length}
 use Rattle.std.proofs.lemmas.Bool.{and_parts}
@@ -13,7 +13,7 @@ use Rattle.codespan_renderer.specs.Inner.Runs.{ArePieces}
 use Rattle.codespan_renderer.specs.Inner.Sweeps.{starts_from, starts_in_order}
 use Rattle.codespan_renderer.proofs.Sweeping.{starts-lower}
 
--- what stands before a place of a list and what stands from there on make the list
+-- the elements before an index of a list and those from there on make the list
 pub taken-dropped : (n : ℕ) (xs : List GivenLabel) → take n xs ++ take (length xs - n) (drop n xs) ≡ xs
 taken-dropped n xs =
     ap (λ (l : List GivenLabel). take n xs ++ l) (ap (λ k. take k (drop n xs)) (sym (length-drop n xs)) ∙ take-length (drop n xs)) ∙ take-append-drop n xs

@@ -1,4 +1,4 @@
--- Text of a line that is drawn as it stands.
+-- Text of a line that is rendered as it is.
 use Rattle.std.proofs.Common.{◌≡◌, ℕ, ◌+◌, Bool, true, false, ◌&&◌, ◌||◌, ◌==◌, List, [], ◌∷◌, None, refl, sym, ap, ◌∙◌}
 use Rattle.std.specs.Char.{encode_utf8, len_utf8}
 use Rattle.std.specs.Prelude.{not}
@@ -13,10 +13,9 @@ use Rattle.codespan_base.specs.Streams.{bytes, glyph}
 use Rattle.codespan_base.proofs.Sends.{bytes-append}
 use Rattle.codespan_picture.specs.declared.cells.Cell.{Cell}
 use Rattle.codespan_picture.specs.Carets.{covers}
-use Rattle.codespan_picture.specs.Cells.{cells_then}
+use Rattle.codespan_picture.specs.Cells.{cells_then, width_at}
 use Rattle.codespan_picture.specs.Rows.{Line, Look}
 use Rattle.codespan_picture.specs.RowParts.{change, coloured_text, source_glyph, source_style, styled, takes_in}
-use Rattle.codespan_picture.specs.Widths.{width_at}
 
 -- ---- no label is primary
 
@@ -31,7 +30,7 @@ no-label c (x ∷ xs) e =
     let parts = or_parts (is_primary x) (list_any is_primary xs) e in
     rw (parts.0, no-label c xs parts.1) refl
 
--- none of these marks is primary and takes in the character
+-- none of these marks is of a primary label that covers the character
 no-mark : (c : Cell) (ms : List LaneMark) → list_any (λ (m : LaneMark). is_primary_style m.style) ms ≡ false
     → list_any (λ (m : LaneMark). is_primary_style m.style && takes_in c m.part) ms ≡ false
 no-mark c [] e = refl

@@ -1,5 +1,5 @@
 -- A walk that finds the pointers of a line.
-use Rattle.std.proofs.Common.{◌≡◌, ℕ, ◌+◌, ◌<◌, ◌≤◌, Bool, true, false, arith, List, [], ◌∷◌, ◌++◌, length, drop, get_or, Option, Some, None, refl, ◌∙◌, append_assoc, filter}
+use Rattle.std.proofs.Common.{◌≡◌, ℕ, ◌+◌, ◌<◌, ◌≤◌, Bool, true, false, arith, List, [], ◌∷◌, ◌++◌, Option, Some, None, refl, ◌∙◌, append_assoc, filter}
 use Rattle.codespan_base.specs.declared.diagnostic.LabelStyle.{LabelStyle}
 use Rattle.codespan_base.specs.Labels.{Labelled, has_message}
 use Rattle.codespan_picture.specs.declared.cells.Cell.{Cell}
@@ -14,7 +14,6 @@ use Rattle.std.specs.List.{list_any}
 use Rattle.codespan_renderer.specs.Inner.Runs.{best_from, pointer_found, AreHanging}
 use Rattle.codespan_renderer.proofs.Hanging.{pointer_is}
 use Rattle.codespan_picture.proofs.Spread.{AreSpread}
-use Rattle.codespan_renderer.proofs.Sweeping.{cells-step}
 
 -- two walks have met the labels of two lists that begin before these cells
 pub record IsPassing (before after : List GivenLabel) (s t : Starts) (left : List Cell) : Type 0 where
@@ -35,10 +34,10 @@ pub record IsPassingAt (before after : List GivenLabel) (s t : Starts) (c : Cell
   pub same_late : t.labels.now ≡ after
   pub spread : AreSpread (c.place + c.bytes) (c.column + c.width) left
 
-pub passing-at : (before after : List GivenLabel) (s t : Starts) (cs : List Cell) (i : ℕ) (d : Cell) → i < length cs → IsPassing before after s t (drop i cs)
-    → IsPassingAt before after s t (get_or cs i d) (drop (i + 1) cs)
-passing-at before after s t cs i d h w =
-    let spread : AreSpread w.place w.column (get_or cs i d ∷ drop (i + 1) cs) = rw (cells-step cs i d h) at w.spread in
+pub passing-at : (before after : List GivenLabel) (s t : Starts) (cs left : List Cell) (c : Cell) → cs ≡ c ∷ left → IsPassing before after s t cs
+    → IsPassingAt before after s t c left
+passing-at before after s t cs left c step w =
+    let spread : AreSpread w.place w.column (c ∷ left) = rw step at w.spread in
     let here = spread.0 in
     let at = spread.1 in
     record {
@@ -64,11 +63,11 @@ passing-more before after s t u v c left w early late same same2 = record {
 }
 
 -- the style that the two walks find
-pub found-style : (labels before after bs ds : List GivenLabel) (cs : List Cell) (i : ℕ) (d : Cell) (first second : Option LabelStyle) → AreHanging labels before after → bs ≡ before → ds ≡ after
-    → first ≡ best_from (starts_in (get_or cs i d)) None (filter has_message (single_label_views bs))
-    → second ≡ best_from (starts_in (get_or cs i d)) first (filter has_message (single_label_views ds))
-    → second ≡ pointer_found (hanging (single_label_views labels)) (get_or cs i d)
-found-style labels before after bs ds cs i d first second h e f p q = rw (q, p, e, f) (pointer_is labels before after (get_or cs i d) h)
+pub found-style : (labels before after bs ds : List GivenLabel) (c : Cell) (first second : Option LabelStyle) → AreHanging labels before after → bs ≡ before → ds ≡ after
+    → first ≡ best_from (starts_in c) None (filter has_message (single_label_views bs))
+    → second ≡ best_from (starts_in c) first (filter has_message (single_label_views ds))
+    → second ≡ pointer_found (hanging (single_label_views labels)) c
+found-style labels before after bs ds c first second h e f p q = rw (q, p, e, f) (pointer_is labels before after c h)
 
 -- no pointer stands where no label hangs
 pub no-pointers : (cs : List Cell) → pointers_in [] cs ≡ []
@@ -76,16 +75,16 @@ no-pointers [] = refl
 no-pointers (c ∷ cs) = no-pointers cs
 
 -- a pointer comes to those that were found
-pub found-some : (labels : List Labelled) (ps : List Pointer) (cs : List Cell) (i : ℕ) (d : Cell) (style : LabelStyle) → i < length cs
-    → pointer_found (hanging labels) (get_or cs i d) ≡ Some style
-    → (ps ++ pointer_under (get_or cs i d) style ∷ []) ++ pointers_in (hanging labels) (drop (i + 1) cs) ≡ ps ++ pointers_in (hanging labels) (drop i cs)
-found-some labels ps cs i d style h is = rw (cells-step cs i d h, is) (append_assoc ps (pointer_under (get_or cs i d) style ∷ []) (pointers_in (hanging labels) (drop (i + 1) cs)))
+pub found-some : (labels : List Labelled) (ps : List Pointer) (cs left : List Cell) (c : Cell) (style : LabelStyle) → cs ≡ c ∷ left
+    → pointer_found (hanging labels) c ≡ Some style
+    → (ps ++ pointer_under c style ∷ []) ++ pointers_in (hanging labels) left ≡ ps ++ pointers_in (hanging labels) cs
+found-some labels ps cs left c style step is = rw (step, is) (append_assoc ps (pointer_under c style ∷ []) (pointers_in (hanging labels) left))
 
 -- none does
-pub found-none : (labels : List Labelled) (ps : List Pointer) (cs : List Cell) (i : ℕ) (d : Cell) → i < length cs
-    → pointer_found (hanging labels) (get_or cs i d) ≡ None
-    → ps ++ pointers_in (hanging labels) (drop (i + 1) cs) ≡ ps ++ pointers_in (hanging labels) (drop i cs)
-found-none labels ps cs i d h is = rw (cells-step cs i d h, is) refl
+pub found-none : (labels : List Labelled) (ps : List Pointer) (cs left : List Cell) (c : Cell) → cs ≡ c ∷ left
+    → pointer_found (hanging labels) c ≡ None
+    → ps ++ pointers_in (hanging labels) left ≡ ps ++ pointers_in (hanging labels) cs
+found-none labels ps cs left c step is = rw (step, is) refl
 
 -- both walks are at the line's start
 pub passing-start : (before after : List GivenLabel) (s t : Starts) (cs : List Cell) → HasPassed 0 s → HasPassed 0 t → s.labels.now ≡ before → t.labels.now ≡ after
@@ -120,10 +119,10 @@ pointers-past labels place column (c ∷ cs) spread past =
     let there : greatest_start labels < c.place = omega (arith, spread.0) in
     rw (none-past labels c there) (pointers-past labels (place + c.bytes) (column + c.width) cs spread.3 (omega arith))
 
--- the cell at a place of the list begins past the starts, and so do all that follow
-pub pointers-past-at : (labels before after : List GivenLabel) (s t : Starts) (last : ℕ) (cs : List Cell) (i : ℕ) (d : Cell) → i < length cs
-    → IsPassing before after s t (drop i cs) → last < (get_or cs i d).place → last ≡ greatest_start (single_label_views labels)
-    → pointers_in (hanging (single_label_views labels)) (drop i cs) ≡ []
-pointers-past-at labels before after s t last cs i d h w past e =
-    let spread : AreSpread w.place w.column (get_or cs i d ∷ drop (i + 1) cs) = rw (cells-step cs i d h) at w.spread in
-    pointers-past (single_label_views labels) w.place w.column (drop i cs) w.spread (omega (arith, e, past, spread.0))
+-- the next cell begins past the starts, and so do all that follow
+pub pointers-past-at : (labels before after : List GivenLabel) (s t : Starts) (last : ℕ) (cs left : List Cell) (c : Cell) → cs ≡ c ∷ left
+    → IsPassing before after s t cs → last < c.place → last ≡ greatest_start (single_label_views labels)
+    → pointers_in (hanging (single_label_views labels)) cs ≡ []
+pointers-past-at labels before after s t last cs left c step w past e =
+    let spread : AreSpread w.place w.column (c ∷ left) = rw step at w.spread in
+    pointers-past (single_label_views labels) w.place w.column cs w.spread (omega (arith, e, past, spread.0))

@@ -1,4 +1,4 @@
--- Words of rows, as the calls that send them put them together.
+-- Words of rows, as the calls that write them put them together.
 use Rattle.std.proofs.Common.{◌≡◌, ℕ, ◌+◌, ◌-◌, ◌/◌, ◌%◌, ◌^◌, ◌<◌, ◌≤◌, List, [], ◌∷◌, ◌++◌, true, nat_lt, lt-ltb, Option, None, Some, append_assoc, append-nil, length, replicate, decimal, refl, ap, sym, ◌∙◌, arith}
 use Rattle.std.proofs.lemmas.Fmt.{decimal_digit, decimal_step, length-decimal-le}
 use Rattle.std.proofs.lemmas.List.{length_push, replicate-append-replicate}
@@ -19,29 +19,30 @@ use Rattle.std.specs.Str.{IsUtf8}
 use Rattle.codespan_picture.specs.declared.cells.Cell.{Cell}
 use Rattle.codespan_picture.specs.Cells.{cells}
 use Rattle.codespan_renderer.proofs.Laying.{Lays, laying-cells}
-use Rattle.codespan_picture.specs.RowParts.{cells_before, change, gutter, source_lanes, plain_lanes, below_lanes}
+use Rattle.codespan_picture.specs.Lanes as kind
+use Rattle.codespan_picture.specs.RowParts.{cells_before, change, gutter, row_lanes}
 
--- a gutter is the padding's blanks and one more
+-- a gutter is the padding's spaces and one more
 pub gutter_blanks : (n : ℕ) → gutter n ≡ blanks (n + 1)
 unfolding gutter blanks
 gutter_blanks n = refl
 
 -- the lanes of each kind of row are those of that kind
-pub source_lanes_are : (look : Look) (leading : ℕ) (lanes : Lanes) → given_lanes look leading Source lanes ≡ source_lanes look leading lanes
-unfolding given_lanes source_lanes
+pub source_lanes_are : (look : Look) (leading : ℕ) (lanes : Lanes) → given_lanes look leading Source lanes ≡ row_lanes look leading kind.Source lanes
+unfolding given_lanes row_lanes
 source_lanes_are look leading lanes = refl
 
-pub plain_lanes_are : (look : Look) (leading : ℕ) (lanes : Lanes) → given_lanes look leading Plain lanes ≡ plain_lanes look lanes
-unfolding given_lanes plain_lanes
+pub plain_lanes_are : (look : Look) (leading : ℕ) (lanes : Lanes) → given_lanes look leading Plain lanes ≡ row_lanes look 0 kind.Plain lanes
+unfolding given_lanes row_lanes
 plain_lanes_are look leading lanes = refl
 
-pub below_lanes_are : (look : Look) (leading : ℕ) (lanes : Lanes) → given_lanes look leading Below lanes ≡ below_lanes look leading lanes
-unfolding given_lanes below_lanes
+pub below_lanes_are : (look : Look) (leading : ℕ) (lanes : Lanes) → given_lanes look leading Below lanes ≡ row_lanes look leading kind.Below lanes
+unfolding given_lanes row_lanes
 below_lanes_are look leading lanes = refl
 
 pub ruleset lanes_are = (source_lanes_are, plain_lanes_are, below_lanes_are)
 
--- a code that is not empty stands in brackets
+-- a code that is not empty is in brackets
 pub bracketed-some : (code : List ℕ) → 0 < length code → bracketed (Some code) ≡ bytes (codes "[") ++ bytes code ++ bytes (codes "]")
 unfolding bracketed
 bracketed-some [] h = absurd (omega arith)
@@ -62,7 +63,7 @@ pub ruleset counting = (digits_step, digits_last, digits_few)
 
 -- ---- runs
 
--- so many blanks are some and then the others
+-- a number of spaces is some and then the others
 pub blanks-add : (k n : ℕ) → blanks (k + n) ≡ blanks k ++ blanks n
 unfolding blanks
 blanks-add k n = ap bytes (sym (replicate-append-replicate k n 32)) ∙ bytes-append (replicate k 32) (replicate n 32)
@@ -70,7 +71,7 @@ blanks-add k n = ap bytes (sym (replicate-append-replicate k n 32)) ∙ bytes-ap
 pub blanks-past : (k n : ℕ) → k ≤ n → blanks n ≡ blanks k ++ blanks (n - k)
 blanks-past k n h = let e : n ≡ k + (n - k) = omega arith in ap blanks e ∙ blanks-add k (n - k)
 
--- so many of one character are some and then the others
+-- a number of copies of one character is some and then the others
 pub repeated-add : (k n c : ℕ) → repeated (k + n) c ≡ repeated k c ++ repeated n c
 unfolding repeated
 repeated-add k n c = repeat-add k n (glyph c)
@@ -114,9 +115,9 @@ pub caret_rows_some : (look : Look) (line : Line) (labels : List GivenLabel) →
 caret_rows_some look line [] h = absurd (omega arith)
 caret_rows_some look line (x ∷ xs) h = append-nil (caret_row look line ++ newline)
 
--- ---- cells before a place
+-- ---- cells before a byte index
 
--- all cells begin before the greatest place
+-- all cells begin before the greatest byte index
 all_below : (top limit place column : ℕ) (cs : List Cell) → top ≤ limit → Lays top place column cs → cells_before limit cs ≡ cs
 all_below top limit place column [] h l = refl
 all_below top limit place column (x ∷ cs) h l =

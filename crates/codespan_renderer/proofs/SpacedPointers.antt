@@ -1,4 +1,4 @@
--- The pointers of a line with blanks between them.
+-- The pointers of a line with spaces between them.
 use Rattle.std.proofs.Common.{◌≡◌, ℕ, ◌+◌, ◌-◌, ◌<◌, ◌≤◌, max, min, Bool, true, false, cond, nat_lt, nat_le, List, [], ◌∷◌, ◌++◌, length, drop, get_or, drop-cons, add-one, Option, Some, None, refl, sym, ap, ◌∙◌, arith, append_assoc, append-nil, lt-ltb}
 use Rattle.std.proofs.lemmas.Bool.Decides.{nat_tests}
 use Rattle.std.proofs.lemmas.Grind.{common_steps}
@@ -25,7 +25,7 @@ use Rattle.codespan_renderer.proofs.Underlines.{width-in, width-out}
 
 -- ---- a loop over the pointers
 
--- a pointer before the place comes next
+-- a pointer before the byte index is next
 pub spaced-next : (look : Look) (edge column before : ℕ) (ps : List Pointer) (i : ℕ) (d : Pointer) → i < length ps → (get_or ps i d).place < before
     → spaced look edge column (pointers_before before (drop i ps))
     ≡ (blanks ((get_or ps i d).column - column) ++ label_glyph look.severity (get_or ps i d).style look.chars.pointer_left)
@@ -34,14 +34,14 @@ spaced-next look edge column before ps i d h near =
     let kept : nat_lt (get_or ps i d).place before ≡ true = lt-ltb (get_or ps i d).place before near in
     rw (drop-cons ps i d h, kept, add-one) refl
 
--- a later one is not drawn
+-- a later one is not written
 pub spaced-skip : (look : Look) (edge column before : ℕ) (ps : List Pointer) (i : ℕ) (d : Pointer) → i < length ps → before ≤ (get_or ps i d).place
     → spaced look edge column (pointers_before before (drop i ps)) ≡ spaced look edge column (pointers_before before (drop (i + 1) ps))
 spaced-skip look edge column before ps i d h far =
     let past : nat_lt (get_or ps i d).place before ≡ false = grind (arith, nat_tests) in
     rw (drop-cons ps i d h, past, add-one) refl
 
--- none is left
+-- none remains
 pub spaced-end : (look : Look) (edge column before : ℕ) (ps : List Pointer) (i : ℕ) → length ps ≤ i
     → spaced look edge column (pointers_before before (drop i ps)) ≡ blanks (edge - column)
 spaced-end look edge column before ps i h = let none : drop i ps ≡ [] = grind (arith, common_steps) in rw none refl
@@ -83,7 +83,7 @@ far-cells look labels place column (c ∷ cs) laid far =
 regroup_pointer : (blank mark after rest : Stream) → blank ++ ((mark ++ after) ++ rest) ≡ (blank ++ mark) ++ (after ++ rest)
 regroup_pointer blank mark after rest = simp append_assoc
 
--- the blanks that are owed, and then what the cells show
+-- the pending spaces, and then what the cells show
 pub spaced-cells : (look : Look) (labels : List Labelled) (place column at : ℕ) (cs : List Cell) → AreSpread place column cs → at ≤ column
     → blanks (column - at) ++ pointers look labels cs
     ≡ spaced look (column + width_of (cells_up_to (greatest_start labels) cs)) at (pointers_in (hanging labels) cs)
@@ -142,7 +142,7 @@ spaced-line look labels cs laid =
     ap (λ n. spaced look n 0 (pointers_in (hanging labels) cs)) e
     ∙ sym (spaced-cells look labels 0 0 0 cs laid (omega arith)) ∙ blanks_none (pointers look labels cs)
 
--- ---- the cells before a place
+-- ---- the cells before a byte index
 
 -- they lie as all do
 before-spread : (before place column : ℕ) (cs : List Cell) → AreSpread place column cs → AreSpread place column (cells_before before cs)
@@ -157,7 +157,7 @@ before-spread before place column (c ∷ cs) laid = by_test (before-spread befor
         none-before (λ q. nat_lt q before) (place + c.bytes) (column + c.width) cs laid.3 (λ q low. (let here = laid.0 in grind (arith, nat_tests))) in
         rw none tt
 
--- their pointers are those before the place
+-- their pointers are those before the byte index
 pub before-found : (labels : List Labelled) (before : ℕ) (cs : List Cell) → pointers_in labels (cells_before before cs) ≡ pointers_before before (pointers_in labels cs)
 before-found labels before [] = refl
 before-found labels before (c ∷ cs) = by_both (before-found labels before cs) (nat_lt c.place before) (pointer_found labels c) refl refl
@@ -180,7 +180,7 @@ before-reach before reach (c ∷ cs) low = by_test (before-reach before reach cs
     by_test rest true is = let near : nat_le c.place reach ≡ true = grind (arith, nat_tests) in rw near (ap (λ ds. c ∷ ds) rest)
     by_test rest false is = rest
 
--- the cells before a place from the line's start
+-- the cells before a byte index from the line's start
 pub spaced-before : (look : Look) (labels : List Labelled) (before : ℕ) (cs : List Cell) → AreSpread 0 0 cs → before ≤ greatest_start labels
     → spaced look (width_of (cells_before before cs)) 0 (pointers_before before (pointers_in (hanging labels) cs)) ≡ pointers look labels (cells_before before cs)
 spaced-before look labels before cs laid near =
@@ -198,7 +198,7 @@ spaced-all look labels cs ps top reach edge laid all found far wide =
     let kept = sym (before-found (hanging labels) top cs) ∙ ap (pointers_in (hanging labels)) all in
     rw (wide, far, found, kept) (spaced-line look labels cs laid)
 
--- those before a place
+-- those before a byte index
 pub spaced-near : (look : Look) (labels : List Labelled) (cs : List Cell) (ps : List Pointer) (before edge : ℕ) → AreSpread 0 0 cs → before ≤ greatest_start labels
     → ps ≡ pointers_in (hanging labels) cs → edge ≡ width_of (cells_before before cs)
     → spaced look edge 0 (pointers_before before ps) ≡ pointers look labels (cells_before before cs)
@@ -207,7 +207,7 @@ spaced-near look labels cs ps before edge laid near found wide =
 
 -- ---- labels from the last one on
 
--- the last of the labels that are left starts no later than the greatest start, nor do the others
+-- the last of the remaining labels starts no later than the greatest start, nor do the others
 pub record IsNear (rest : List GivenLabel) (x : GivenLabel) (reach : ℕ) : Type 0 where
   pub here : x.1.start ≤ reach
   pub others : greatest_start (single_label_views rest) ≤ reach

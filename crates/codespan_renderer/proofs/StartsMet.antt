@@ -49,7 +49,7 @@ none-start c found place (x ∷ xs) ordered past =
     by_message rest outside true = best-cons (starts_in c) found x (filter has_message xs) ∙ rw outside rest
     by_message rest outside false = rest
 
--- a label that begins by a place
+-- a label that begins at a byte index or before it
 pub begun-start : (xs : List GivenLabel) (i : ℕ) (d : GivenLabel) (place : ℕ) → nat_lt (single_label_view (get_or xs i d)).start place ≡ true
     → (get_or xs i d).1.start < place
 begun-start xs i d place h = grind (arith, nat_tests)

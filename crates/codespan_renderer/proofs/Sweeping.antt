@@ -1,8 +1,9 @@
 -- A walk over the characters of a line that meets its labels as they begin.
 use Rattle.std.proofs.Props.{props}
 use Rattle.std.proofs.Math.Logic.{∥∥₁_elim}
-use Rattle.std.proofs.Common.{◌≡◌, ℕ, ◌+◌, ◌<◌, ◌≤◌, max, Bool, true, false, ◌&&◌, ◌||◌, nat_lt, nat_le, List, [], ◌∷◌, length, drop, get_or, drop-cons, add-one, refl, sym, ap, ◌∙◌, arith}
-use Rattle.std.specs.Prelude.{if◌then◌else◌}
+use Rattle.std.proofs.Common.{◌≡◌, ℕ, ◌+◌, ◌<◌, ◌≤◌, max, Bool, true, false, ◌&&◌, ◌||◌, nat_lt, nat_le, List, [], ◌∷◌, length, drop, get_or, drop-cons, add-one, refl, sym, ap, subst, ◌∙◌, arith, Option, Some, None}
+use Rattle.std.specs.Prelude.{if◌then◌else◌, IfSome}
+use Rattle.std.specs.Iterator.{YieldsFirst}
 use Rattle.std.proofs.lemmas.Bool.{and_parts}
 use Rattle.std.proofs.lemmas.Bool.Decides.{nat_tests}
 use Rattle.codespan_base.specs.Labels.{Labelled}
@@ -11,10 +12,12 @@ use Rattle.std.specs.Char.{len_utf8}
 use Rattle.std.specs.Str.{chars}
 use Rattle.std.proofs.lemmas.Str.{len_utf8_bounds}
 use Rattle.codespan_renderer.specs.declared.term.renderer.by_cells.sweep.Sweep.{Sweep}
-use Rattle.codespan_picture.specs.Widths.{width_at}
-use Rattle.codespan_picture.specs.Cells.{cells_then, placeholder, cells, cells_to_end}
+use Rattle.codespan_picture.specs.Cells.{cells_then, placeholder, width_at}
+use Rattle.codespan_renderer.specs.Inner.CellsLeft.{after_last, no_more}
 use Rattle.codespan_picture.specs.Carets.{covers}
 use Rattle.codespan_picture.specs.Given.{GivenLabel, single_label_view, single_label_views}
+use Rattle.codespan_renderer.specs.declared.term.renderer.by_cells.kept_cells.KeptCells.{KeptCells}
+use Rattle.codespan_renderer.specs.Inner.KeptCells.{kept_left}
 use Rattle.codespan_renderer.specs.Inner.CursorStates.{Follow, IsBefore, HasReturned}
 use Rattle.codespan_renderer.specs.Inner.Sweeps.{starts_from, is_covered, end_with, IsReached, HasMet}
 
@@ -127,11 +130,10 @@ follow-then after tab place column [] last = last place column
 follow-then after tab place column (c ∷ cs) last =
     (refl, omega (arith, (len_utf8_bounds c).0), follow-then after tab (place + len_utf8 c) (column + width_at tab column c) cs last)
 
-pub follow-to_end : (tab : ℕ) (text : List ℕ) → Follow 0 (cells_to_end tab text)
-follow-to_end tab text = follow-then placeholder tab 0 0 (chars text) (λ p q. (refl, omega arith, tt))
-
-pub follow-cells : (tab : ℕ) (text : List ℕ) → Follow 0 (cells tab text)
-follow-cells tab text = follow-then (λ _ _. []) tab 0 0 (chars text) (λ p q. tt)
+-- the characters of a line, and the placeholder where it is asked for
+pub follow-after : (to_end : Bool) (tab : ℕ) (text : List ℕ) → Follow 0 (cells_then (after_last to_end) tab 0 0 (chars text))
+follow-after true tab text = follow-then placeholder tab 0 0 (chars text) (λ p q. (refl, omega arith, tt))
+follow-after false tab text = follow-then no_more tab 0 0 (chars text) (λ p q. tt)
 
 -- one of the cells that are left
 pub cells-step : (cs : List Cell) (i : ℕ) (d : Cell) → i < length cs → drop i cs ≡ get_or cs i d ∷ drop (i + 1) cs
@@ -165,6 +167,17 @@ module _ (s : Sweep) (left rest : List Cell) (c : Cell) (step : left ≡ c ∷ r
 pub cursor-goes_on : (s : Sweep) (rest : List Cell) (c : Cell) → ∥ HasReturned c s rest ∥₁ → ∥ IsBefore s rest ∥₁
 cursor-goes_on s rest c kept =
     ∥∥₁_elim kept (Prim.hlevel props) (λ g. ∣ record { place = c.place + c.bytes; met = met-later s c.place (c.place + c.bytes) (omega arith) g.met; follow = g.follow } ∣₁)
+
+-- as it does where none is left
+pub cursor-turn : (s : Sweep) (old new : KeptCells) (r : Option Cell) → YieldsFirst kept_left old r new → ∥ IsBefore s (kept_left old) ∥₁ → ∥ IsBefore s (kept_left new) ∥₁
+cursor-turn s old new (Some c) step kept = cursor-goes_on s (kept_left new) c (cursor-returns s (kept_left old) (kept_left new) c step kept)
+cursor-turn s old new None ends kept = subst (λ (cs : List Cell). ∥ IsBefore s cs ∥₁) (ends.0 ∙ sym ends.1) kept
+
+-- what it has returned
+pub cursor-turned : (s : Sweep) (old new : KeptCells) (r : Option Cell) → YieldsFirst kept_left old r new → ∥ IsBefore s (kept_left old) ∥₁
+    → IfSome r (λ c. ∥ HasReturned c s (kept_left new) ∥₁)
+cursor-turned s old new (Some c) step kept = cursor-returns s (kept_left old) (kept_left new) c step kept
+cursor-turned s old new None ends kept = tt
 
 pub cursor-asked : (s t : Sweep) (rest : List Cell) (c : Cell) → ∥ HasReturned c s rest ∥₁ → HasMet (c.place + c.bytes) t → ∥ IsBefore t rest ∥₁
 cursor-asked s t rest c kept met = ∥∥₁_elim kept (Prim.hlevel props) (λ g. ∣ record { place = c.place + c.bytes; met = met; follow = g.follow } ∣₁)

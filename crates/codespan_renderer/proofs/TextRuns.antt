@@ -13,14 +13,13 @@ use Rattle.codespan_base.proofs.Sends.{bytes-append}
 use Rattle.codespan_picture.specs.declared.cells.Cell.{Cell}
 use Rattle.codespan_renderer.proofs.CellSteps.{bytes_left}
 use Rattle.codespan_renderer.proofs.RowWords.{change-same, regroup}
-use Rattle.codespan_picture.specs.Cells.{cells_then, cells}
-use Rattle.codespan_picture.specs.Widths.{width_at}
+use Rattle.codespan_picture.specs.Cells.{cells_then, cells, width_at}
 use Rattle.codespan_picture.specs.Rows.{Look, Line}
 use Rattle.codespan_picture.specs.RowParts.{change, styled, source_glyph, source_style, coloured_text}
 
--- ---- where a loop stands in the text
+-- ---- where a loop is in the text
 
--- the cells that are left are those of the text from a place on
+-- the remaining cells are those of the text from a byte index on
 pub record IsOver (tab : ℕ) (text : List ℕ) (place : ℕ) (left : List Cell) : Type 0 where
   pub codes : List ℕ
   pub column : ℕ
@@ -68,7 +67,7 @@ over-next tab text place x left after e o = over-cons tab text place o.column x 
 
 -- ---- a piece of the text
 
--- the text from a place to before another
+-- the text from one byte index to before another
 abbrev pub piece : List ℕ → ℕ → ℕ → List ℕ
 piece text start end = take (end - start) (drop start text)
 
@@ -85,7 +84,7 @@ piece-grows text start end code n h t e =
 
 -- ---- the rest of a source row
 
--- the text of a run that has begun, and of the cells that are left
+-- the text of a run that has begun, and of the remaining cells
 abbrev pub text_rest : Look → Line → Option LabelStyle → List ℕ → List Cell → Stream
 text_rest look line was run cs = bytes run ++ styled look.severity (source_style line) source_glyph was cs
 
@@ -135,7 +134,7 @@ text-tab look line was style run c left cs l s h =
     ∙ ap (λ (g : Stream). bytes run ++ change look.severity was (source_style line c) ++ (g ++ st)) (tab_shown c h)
     ∙ sym (append_assoc (bytes run ++ change look.severity was (source_style line c)) (blanks c.width) st))
 
--- none is left
+-- none remains
 pub text-end : (look : Look) (line : Line) (was : Option LabelStyle) (run : List ℕ) (left : List Cell)
     → left ≡ [] → bytes run ++ change look.severity was None ≡ text_rest look line was run left
 text-end look line was run left e = rw e refl

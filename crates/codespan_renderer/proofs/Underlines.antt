@@ -1,4 +1,4 @@
--- The underlines of labels over several lines, and the rows of a note.
+-- The underlines of multi-line labels, and the rows of a note.
 use Rattle.std.proofs.Common.{◌≡◌, ℕ, ◌+◌, ◌≤◌, ◌<◌, Bool, true, false, cond, List, [], ◌∷◌, ◌++◌, length, drop, None, Some, refl, sym, ap, ◌∙◌, arith, get_or, add-one, drop-cons}
 use Rattle.std.specs.Prelude.{nat_lt, nat_le, filter, map}
 use Rattle.std.specs.Borrow.{Bor}
@@ -21,7 +21,8 @@ use Rattle.codespan_picture.specs.Cells.{width_of, leading_whitespace}
 use Rattle.codespan_picture.specs.Given.{GivenMark, mark_view, multi_label_view}
 use Rattle.codespan_renderer.specs.Inner.GivenLine.{given_lanes}
 use Rattle.codespan_picture.specs.Rows.{Look, Lanes, Line, UnderlineRow, has_underline}
-use Rattle.codespan_picture.specs.RowParts.{underline, underline_lanes, underline_message, cells_before, cells_up_to}
+use Rattle.codespan_picture.specs.Lanes as kind
+use Rattle.codespan_picture.specs.RowParts.{row_lanes, underline, underline_message, cells_before, cells_up_to}
 use Rattle.codespan_renderer.specs.Inner.Underlines.{run_underline, run_width}
 use Rattle.codespan_picture.specs.RowStreams.{underline_row, stream_of_rows}
 use Rattle.codespan_renderer.specs.Renderers.{later_notes}
@@ -30,8 +31,8 @@ use Rattle.codespan_renderer.specs.Renderers.{later_notes}
 
 -- the lanes of the row of a mark are those of that kind of row
 pub underline_lanes_are : (look : Look) (leading : ℕ) (lane : ℕ) (style : LabelStyle) (part : rust_multi_label.MultiLabel) (lanes : Lanes)
-    → given_lanes look leading (Underline lane style part) lanes ≡ underline_lanes look leading (mark_view (lane, style, part)) lanes
-unfolding given_lanes underline_lanes
+    → given_lanes look leading (Underline lane style part) lanes ≡ row_lanes look leading (kind.Underline (mark_view (lane, style, part))) lanes
+unfolding given_lanes row_lanes
 underline_lanes_are look leading lane style part lanes = refl
 
 -- ---- the message of an underline
@@ -42,7 +43,7 @@ unfolding underline_message bytes
 underline_message-none [] e = refl
 underline_message-none (b ∷ bs) e = absurd (omega arith)
 
--- one blank and the message
+-- a space and the message
 pub underline_message-some : (bs : List ℕ) → 0 < length bs → underline_message (bytes bs) ≡ space ++ bytes bs
 unfolding underline_message bytes
 underline_message-some [] e = absurd (omega arith)
@@ -60,9 +61,9 @@ underline-runs chars style width cs (Top start) e = rw e refl
 underline-runs chars style width cs Left e = refl
 underline-runs chars style width cs (Bottom end message) e = rw e refl
 
--- ---- the width up to a place
+-- ---- the width up to a byte index
 
--- a cell that begins at the place or before it is counted
+-- a cell that begins at the byte index or before it is counted
 pub width-in : (place : ℕ) (x : Cell) (cs : List Cell) → x.place ≤ place → width_of (cells_up_to place (x ∷ cs)) ≡ x.width + width_of (cells_up_to place cs)
 width-in place x cs h = let e : nat_le x.place place ≡ true = le-leb x.place place h in rw e (sum_by-cons (λ (c : Cell). c.width) x (cells_up_to place cs))
 
@@ -77,11 +78,11 @@ width-before-first place (x ∷ cs) e =
     let k : nat_lt x.place place ≡ false = le-ltb x.place place (omega (arith, e)) in
     rw k (width-before-first place cs e)
 
--- a place is at most the last one where it is before the next
+-- a byte index is at most the last one where it is before the next
 same-test : (last place k : ℕ) → place ≡ last + 1 → nat_le k last ≡ nat_lt k place
 same-test last place k e = grind (arith, nat_tests)
 
--- the cells up to a place are those before the next one
+-- the cells up to a byte index are those before the next one
 pub before-next : (last place : ℕ) (cs : List Cell) → place ≡ last + 1 → cells_up_to last cs ≡ cells_before place cs
 before-next last place [] e = refl
 before-next last place (x ∷ cs) e = ap (λ (b : Bool). cond b (x ∷ cells_up_to last cs) (cells_up_to last cs)) (same-test last place x.place e)
@@ -95,11 +96,11 @@ pub ruleset widths_before = (width-before-first, width-before-next)
 
 -- ---- the underlines of a line
 
--- the rows of the marks that are left
+-- the rows of the remaining marks
 abbrev pub underlines_of : Look → Line → List GivenMark → Stream
 underlines_of look line marks = stream_of_rows look (map (UnderlineRow line) (filter (λ (m : LaneMark). has_underline (leading_whitespace line.text) m.part) (map mark_view marks)))
 
--- the mark at a place has a row
+-- the mark at an index has a row
 pub underlines-in : (look : Look) (line : Line) (leading : ℕ) (marks : List GivenMark) (i : ℕ) (d : GivenMark) → i < length marks
     → leading ≡ leading_whitespace line.text → has_underline leading (multi_label_view (get_or marks i d).2) ≡ true
     → underlines_of look line (drop i marks) ≡ underline_row look line (mark_view (get_or marks i d)) ++ newline ++ underlines_of look line (drop (i + 1) marks)
@@ -117,11 +118,11 @@ underlines-out look line leading marks i d h e t =
 
 -- ---- the rows of a note
 
--- a text still has these lines
+-- these lines of a text remain
 abbrev pub HasLines : TextLines → List (List ℕ) → Type 0
 HasLines s pieces = YieldsList lines_steps (λ (x : Bor (List ℕ)). x.now) s pieces
 
--- the rows of the lines that are left are still to come
+-- the rows of the remaining lines are still to be written
 pub record NotesToCome (s : Sink) (whole : Stream) (padding : ℕ) (left : TextLines) (t : Sink) : Type 0 where
   pub pieces : List (List ℕ)
   pub yields : HasLines left pieces
@@ -137,7 +138,7 @@ pub lines-next : (s : TextLines) (x : Bor (List ℕ)) (t : TextLines) (pieces : 
 lines-next s x t [] p k = absurd (p.runs x t k)
 lines-next s x t (y ∷ ys) p k = let n = p.runs.1 x t k in record { after = ys; is = ap (λ v. v ∷ ys) (sym n.0); yields = record { runs = n.1 } }
 
--- no line is left
+-- no line remains
 pub lines-none : (s t : TextLines) (pieces : List (List ℕ)) → HasLines s pieces → lines_steps s None t → pieces ≡ []
 lines-none s t [] p k = refl
 lines-none s t (y ∷ ys) p k = absurd (p.runs.0 t k)

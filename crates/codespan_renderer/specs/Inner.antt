@@ -3,7 +3,7 @@ pub mod CellsLeft
 pub mod CursorStates
 pub mod GivenLine
 pub mod GivenRows
-pub mod LineCells
+pub mod KeptCells
 pub mod LineSources
 pub mod MarksLeft
 pub mod PointerLists

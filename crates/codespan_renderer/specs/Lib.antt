@@ -1,4 +1,4 @@
--- what stands below: files, labels, streams, writers, tables
+-- what is below: files, labels, streams, writers, file databases
 pub use Rattle.codespan_base.specs.FileModel
 pub use Rattle.codespan_base.specs.SimpleModel
 pub use Rattle.codespan_base.specs.MappedModel
@@ -12,8 +12,7 @@ pub use Rattle.codespan_base.specs.Characters
 pub use Rattle.codespan_base.specs.Defaults
 pub use Rattle.codespan_base.specs.StyleTables
 pub use Rattle.codespan_base.specs.Ansi
--- the picture
-pub use Rattle.codespan_picture.specs.Widths
+-- the definition of an output
 pub use Rattle.codespan_picture.specs.Cells
 pub use Rattle.codespan_picture.specs.Carets
 pub use Rattle.codespan_picture.specs.Lanes

@@ -62,7 +62,7 @@ rendered_header locus severity code message =
 abbrev pub rendered_start : Config → ℕ → rust_locus.Locus → Stream
 rendered_start config padding locus = start_row config.chars padding (locus_view locus) ++ newline
 
--- a line of the source, with the labels inside it and what labels over several lines do on it
+-- a line of the source, with the labels inside it and the multi-line label marks on it
 abbrev pub source_line : ℕ → List ℕ → List GivenLabel → ℕ → List GivenMark → Line
 source_line number source labels lane_count marks = record {
   number = number;

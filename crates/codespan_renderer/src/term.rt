@@ -1,3 +1,3 @@
-//! The calls that draw rows.
+//! The calls that render rows.
 
 pub mod renderer;

@@ -8,23 +8,24 @@ use Rattle.std.proofs.lemmas.Grind.{common_steps, flat_map-append}
 use Rattle.std.proofs.lemmas.List.{append-nil, map-append}
 use Rattle.codespan_base.specs.declared.files.Error.{Error}
 use Rattle.codespan_base.specs.declared.files.Error.TheVariants.{FileMissing, IndexTooLarge, LineTooLarge, ColumnTooLarge, InvalidCharBoundary, Io, FormatError, OutOfMemory}
-use Rattle.codespan_base.specs.FileModel.{Lookup, line_count, or_refusal}
-use Rattle.codespan_base.specs.LawfulFiles.{IsLawful, RefusesPastEnd, TellsPastEnd}
+use Rattle.codespan_base.specs.FileModel.{Lookup, line_count, or_failure}
+use Rattle.codespan_base.specs.LawfulFiles.{IsLawful, FailsPastEnd, IsPastEndError}
 use Rattle.codespan_base.specs.FileModel.Lookup.{LineRange, LineNumber}
 use Rattle.codespan_base.specs.Labels.{first_line, last_line}
 use Rattle.codespan_base.specs.Lemmas.Lines.{lines_have_indices, lines_within_text}
-use Rattle.codespan_reporting.specs.Inner.AskedLabels.{AskedLabel, AsksFor, FindsLine, FindsLines, HasAskedLine, MakesRoom, MakesRoomForLine, lines_refusal, refusal_on, line_refusal}
+use Rattle.codespan_reporting.specs.Inner.AskedLabels.{AskedLabel, AsksFor, FindsLine, FindsLines, HasAskedLine, MakesRoom, MakesRoomForLine, lines_failure, failure_on, line_failure}
 use Rattle.codespan_reporting.specs.Inner.Entries.{Entry, entries_of, line_entries}
-use Rattle.codespan_reporting.specs.declared.term.views.gather.FoundLines.{FoundLines}
-use Rattle.codespan_reporting.specs.Inner.FileLookups.{refusal_in}
+use Rattle.codespan_reporting.specs.declared.term.views.label_entries.FoundLines.{FoundLines}
+use Rattle.codespan_reporting.specs.Inner.FileLookups.{failure_in}
 use Rattle.codespan_reporting.specs.Inner.GivenEntries.{AddsOf, entries_on, lookups_on}
 use Rattle.codespan_reporting.specs.Inner.SpannedDigits.{digits_on, label_digits}
-use Rattle.codespan_picture.specs.Lookups.{asked_lines, asked_of, ends_context, first_error, is_around, is_asked, of_line, probe}
-use Rattle.codespan_picture.specs.Padding.{digit_count, spans, spans_line}
+use Rattle.codespan_picture.specs.Lookups.{asked_lines, asked_of, ends_context, first_error, is_around, is_asked, of_line, lookup_past_end}
+use Rattle.codespan_picture.specs.Padding.{digit_count, spans}
+use Rattle.codespan_reporting.specs.Inner.LabelLines.{spans_line}
 use Rattle.codespan_laws.proofs.CaretLemmas.{range_with_len-append}
 use Rattle.codespan_laws.proofs.Greatest.{greatest-append}
 use Rattle.codespan_reporting.proofs.Gathering.{Adds-as, Adds-both, Adds-none}
-use Rattle.codespan_reporting.proofs.Refusals.{first_error-none, first_error-some}
+use Rattle.codespan_reporting.proofs.Failures.{first_error-none, first_error-some}
 
 module _ {X : Type 0} (g : ℕ → List X) where
   -- what numbers give of which each gives nothing
@@ -87,9 +88,9 @@ near_after : (s e b a l : ℕ) → s < l → e < l → is_near s e b a l ≡ tru
 near_after s e b a l low high near = grind (arith, common_steps)
 
 module _ {Id : Type 0} (x : AskedLabel Id) where
-  -- what some lookups of the file are refused with
-  abbrev refused : List Lookup → Option Error
-  refused = refusal_in x.refusal x.id
+  -- what some lookups of the file fail with
+  abbrev failed : List Lookup → Option Error
+  failed = failure_in x.failure x.id
 
   -- what is said of the lines below this one
   abbrev entries_below : ℕ → List Entry
@@ -116,12 +117,12 @@ module _ {Id : Type 0} (x : AskedLabel Id) where
   some_lookups l asked = ap (λ (b : Bool). if b then of_line l else []) asked
 
   -- lookups that are answered, and others after them
-  answered_then : (ls ms : List Lookup) → refused ls ≡ None → refused (ls ++ ms) ≡ refused ms
-  answered_then ls ms none = ap (first_error x.refusal) (map-append (λ l. (x.id, l)) ls ms) ∙ first_error-none x.refusal (asked_of x.id ls) (asked_of x.id ms) none
+  answered_then : (ls ms : List Lookup) → failed ls ≡ None → failed (ls ++ ms) ≡ failed ms
+  answered_then ls ms none = ap (first_error x.failure) (map-append (λ l. (x.id, l)) ls ms) ∙ first_error-none x.failure (asked_of x.id ls) (asked_of x.id ms) none
 
-  -- lookups that are refused, and others after them
-  refused_then : (ls ms : List Lookup) (e : Error) → refused ls ≡ Some e → refused (ls ++ ms) ≡ Some e
-  refused_then ls ms e some = ap (first_error x.refusal) (map-append (λ l. (x.id, l)) ls ms) ∙ first_error-some x.refusal (asked_of x.id ls) (asked_of x.id ms) e some
+  -- lookups that fail, and others after them
+  failed_then : (ls ms : List Lookup) (e : Error) → failed ls ≡ Some e → failed (ls ++ ms) ≡ Some e
+  failed_then ls ms e some = ap (first_error x.failure) (map-append (λ l. (x.id, l)) ls ms) ∙ first_error-some x.failure (asked_of x.id ls) (asked_of x.id ms) e some
 
   -- a line that is not asked for is not spanned
   no_digits : (l : ℕ) → is_asked x.config x.file x.label l ≡ false → digits_on x.file x.label l ≡ []
@@ -137,18 +138,18 @@ module _ {Id : Type 0} (x : AskedLabel Id) where
     pub last : last_line x.file x.label < line_count x.file
 
   -- the lines below this one are done with: the file has them, what the label says of them is there, those that it spans have room, and
-  -- no lookup was refused
+  -- no lookup failed
   pub record GathersLines (old new : FoundLines Id) (n : ℕ) : Type 0 where
     pub within : n ≤ line_count x.file
     pub added : AddsOf x.file old.entries.items new.entries.items (entries_below n)
     pub counted : new.padding ≡ fold max old.padding (digits_below n)
-    pub answered : refused (lookups_below n) ≡ None
+    pub answered : failed (lookups_below n) ≡ None
 
   -- all lines are done with
   pub record GathersLabel (old new : FoundLines Id) : Type 0 where
     pub added : FindsLines x old new
     pub counted : MakesRoom x old new
-    pub answered : lines_refusal x ≡ None
+    pub answered : lines_failure x ≡ None
 
 module _ {Id : Type 0} {x : AskedLabel Id} where
   -- no line below the first one that is near enough
@@ -158,7 +159,7 @@ module _ {Id : Type 0} {x : AskedLabel Id} where
     within = omega (arith, there.last);
     added = Adds-as (gives_none (entries_on x.config x.file x.label x.at) 0 n (λ l _ high. no_entries x l (too_far l (omega arith)))) Adds-none;
     counted = sym (ap (fold max xs.padding) (gives_none (digits_on x.file x.label) 0 n (λ l _ high. no_digits x l (too_far l (omega arith)))));
-    answered = ap (refused x) (gives_none (lookups_on x.config x.file x.label) 0 n (λ l _ high. no_lookups x l (too_far l (omega arith))));
+    answered = ap (failed x) (gives_none (lookups_on x.config x.file x.label) 0 n (λ l _ high. no_lookups x l (too_far l (omega arith))));
   }
     where
       too_far : (l : ℕ) → l < n → is_asked x.config x.file x.label l ≡ false
@@ -168,13 +169,13 @@ module _ {Id : Type 0} {x : AskedLabel Id} where
     -- one more line
     pub gathered-step : {zs : FoundLines Id} → HasEnds x
         → n ≤ max (last_line x.file x.label + x.config.after_label_lines) (first_line x.file x.label)
-        → HasAskedLine x n → FindsLine x ys zs n → MakesRoomForLine x ys zs n → refusal_on x n ≡ None
+        → HasAskedLine x n → FindsLine x ys zs n → MakesRoomForLine x ys zs n → failure_on x n ≡ None
         → GathersLines x xs zs (n + 1)
     gathered-step there near inside adds counts none = record {
       within = ⊎_elim (λ asked. let k = inside asked in omega arith) (λ skipped. further skipped) (cases_Bool (is_asked x.config x.file x.label n));
       added = Adds-as (gives_more (entries_on x.config x.file x.label x.at) n) (Adds-both g.added adds);
       counted = counts ∙ ap (λ k. fold max k (digits_on x.file x.label n)) g.counted ∙ sym (greatest-append xs.padding (digits_below x n) (digits_on x.file x.label n)) ∙ sym (ap (fold max xs.padding) (gives_more (digits_on x.file x.label) n));
-      answered = ap (refused x) (gives_more (lookups_on x.config x.file x.label) n) ∙ answered_then x (lookups_below x n) (lookups_on x.config x.file x.label n) g.answered ∙ none;
+      answered = ap (failed x) (gives_more (lookups_on x.config x.file x.label) n) ∙ answered_then x (lookups_below x n) (lookups_on x.config x.file x.label n) g.answered ∙ none;
     }
       where
         at_end : is_asked x.config x.file x.label n ≡ false → line_count x.file ≤ n → ⊥
@@ -197,11 +198,11 @@ module _ {Id : Type 0} {x : AskedLabel Id} where
 
     -- the lines that are done with are all
     gathered-up : entries_of x.config x.file x.at x.label ≡ entries_below x n → flat_map of_line (asked_lines x.config x.file x.label) ≡ lookups_below x n
-        → label_digits x.file x.label ≡ digits_below x n → probe x.config x.file (x.refusal x.id) x.label ≡ [] → GathersLabel x xs ys
+        → label_digits x.file x.label ≡ digits_below x n → lookup_past_end x.config x.file (x.failure x.id) x.label ≡ [] → GathersLabel x xs ys
     gathered-up said asked digits no_probe = record {
       added = Adds-as said g.added;
       counted = g.counted ∙ sym (ap (fold max xs.padding) digits);
-      answered = ap (refused x) (ap (λ (ls : List Lookup). flat_map of_line (asked_lines x.config x.file x.label) ++ ls) no_probe ∙ append-nil _ ∙ asked) ∙ g.answered;
+      answered = ap (failed x) (ap (λ (ls : List Lookup). flat_map of_line (asked_lines x.config x.file x.label) ++ ls) no_probe ∙ append-nil _ ∙ asked) ∙ g.answered;
     }
 
     -- the end of the lines that are near enough
@@ -210,18 +211,18 @@ module _ {Id : Type 0} {x : AskedLabel Id} where
     gathered-end first far =
         let all = all_said (λ l low high. above_both (first_line x.file x.label) (last_line x.file x.label) x.config.before_label_lines x.config.after_label_lines l (omega arith) (omega arith)) in
         let unreached : nat_le (line_count x.file) (last_line x.file x.label + x.config.after_label_lines) ≡ false = lt-leb _ _ (omega (arith, g.within)) in
-        let no_probe : probe x.config x.file (x.refusal x.id) x.label ≡ [] =
-        ap (λ (b : Bool). if b && not (ends_context (x.refusal x.id (LineRange (line_count x.file)))) then LineRange (line_count x.file) ∷ [] else []) unreached in
+        let no_probe : lookup_past_end x.config x.file (x.failure x.id) x.label ≡ [] =
+        ap (λ (b : Bool). if b && not (ends_context (x.failure x.id (LineRange (line_count x.file)))) then LineRange (line_count x.file) ∷ [] else []) unreached in
         gathered-up all.0 all.1 all.2 no_probe
 
     -- the end of the file
-    pub gathered-context : line_count x.file ≤ n → ends_context (x.refusal x.id (LineRange n)) ≡ true
+    pub gathered-context : line_count x.file ≤ n → ends_context (x.failure x.id (LineRange n)) ≡ true
         → GathersLabel x xs ys
     gathered-context past ends =
         let here : n ≡ line_count x.file = omega (arith, g.within) in
         let all = all_said (λ l low high. absurd (omega arith)) in
-        let ended : ends_context (x.refusal x.id (LineRange (line_count x.file))) ≡ true = ap (λ k. ends_context (x.refusal x.id (LineRange k))) (sym here) ∙ ends in
-        let no_probe : probe x.config x.file (x.refusal x.id) x.label ≡ [] =
+        let ended : ends_context (x.failure x.id (LineRange (line_count x.file))) ≡ true = ap (λ k. ends_context (x.failure x.id (LineRange k))) (sym here) ∙ ends in
+        let no_probe : lookup_past_end x.config x.file (x.failure x.id) x.label ≡ [] =
         ap (λ (b : Bool). if nat_le (line_count x.file) (last_line x.file x.label + x.config.after_label_lines) && not b then LineRange (line_count x.file) ∷ [] else []) ended
         ∙ neither (nat_le (line_count x.file) (last_line x.file x.label + x.config.after_label_lines)) in
         gathered-up all.0 all.1 all.2 no_probe
@@ -231,13 +232,13 @@ module _ {Id : Type 0} {x : AskedLabel Id} where
         neither false = refl
 
     -- the end of all indices
-    gathered-whole : n ≡ 2 ^ 64 → IsLawful x.file → RefusesPastEnd x.file n (x.refusal x.id (LineRange n))
+    gathered-whole : n ≡ 2 ^ 64 → IsLawful x.file → FailsPastEnd x.file n (x.failure x.id (LineRange n))
         → GathersLabel x xs ys
     gathered-whole all law past_end =
         let past : line_count x.file ≤ n = omega (arith, all, lines_have_indices x.file law) in
-        gathered-context past (too_large (x.refusal x.id (LineRange n)) ((past_end (is_there x.file.there refl)).1 past))
+        gathered-context past (too_large (x.failure x.id (LineRange n)) ((past_end (is_there x.file.there refl)).1 past))
       where
-        too_large : (o : Option Error) → TellsPastEnd o → ends_context o ≡ true
+        too_large : (o : Option Error) → IsPastEndError o → ends_context o ≡ true
         too_large (Some (LineTooLarge given last)) h = refl
         too_large None h = absurd h
         too_large (Some FileMissing) h = absurd h
@@ -257,58 +258,58 @@ module _ {Id : Type 0} {x : AskedLabel Id} where
 
     -- the end of the context, or of all indices
     pub gathered-reach : first_line x.file x.label < n → min (last_line x.file x.label + x.config.after_label_lines + 1) (2 ^ 64) ≤ n → n ≤ 2 ^ 64
-        → IsLawful x.file → RefusesPastEnd x.file n (x.refusal x.id (LineRange n)) → GathersLabel x xs ys
+        → IsLawful x.file → FailsPastEnd x.file n (x.failure x.id (LineRange n)) → GathersLabel x xs ys
     gathered-reach first far below law past_end =
         ⊎_elim (λ (h : last_line x.file x.label + x.config.after_label_lines < n). gathered-end first h)
         (λ (h : n ≤ last_line x.file x.label + x.config.after_label_lines). gathered-whole (omega (arith, h, far, below)) law past_end)
         (cases_lt (last_line x.file x.label + x.config.after_label_lines) n)
 
-    -- a line whose lookups are refused
-    pub gathered-refused : {e : Error} → HasEnds x → AsksFor x n
-        → line_refusal x.file (x.refusal x.id) (last_line x.file x.label) n ≡ Some e → lines_refusal x ≡ Some e
-    gathered-refused {e} there asked told =
+    -- a line whose lookups fail
+    pub gathered-failed : {e : Error} → HasEnds x → AsksFor x n
+        → line_failure x.file (x.failure x.id) (last_line x.file x.label) n ≡ Some e → lines_failure x ≡ Some e
+    gathered-failed {e} there asked told =
         ⊎_elim (λ (h : n < line_count x.file). before_end h) (λ (h : line_count x.file ≤ n). at_end (omega (arith, g.within))) (cases_lt n (line_count x.file))
       where
-        -- the lookups of the line, from what the line is refused with
-        by_line : (ends : Bool) (o p : Option Error) → (if ends then None else or_refusal o p) ≡ Some e → or_refusal o (or_refusal p None) ≡ Some e
+        -- the lookups of the line, from what the line fails with
+        by_line : (ends : Bool) (o p : Option Error) → (if ends then None else or_failure o p) ≡ Some e → or_failure o (or_failure p None) ≡ Some e
         by_line true o p h = cc
         by_line false None None h = h
         by_line false None (Some y) h = h
         by_line false (Some y) p h = h
 
-        line_told : nat_lt n (line_count x.file) ≡ true → refused x (of_line n) ≡ Some e
+        line_told : nat_lt n (line_count x.file) ≡ true → failed x (of_line n) ≡ Some e
         line_told inside =
-            by_line (nat_lt (last_line x.file x.label) n && ends_context (x.refusal x.id (LineRange n))) (x.refusal x.id (LineRange n)) (x.refusal x.id (LineNumber n))
-            (ap (λ (b : Bool). if nat_lt (last_line x.file x.label) n && ends_context (x.refusal x.id (LineRange n)) then None else or_refusal (x.refusal x.id (LineRange n)) (if b then x.refusal x.id (LineNumber n) else None)) (sym inside) ∙ told)
+            by_line (nat_lt (last_line x.file x.label) n && ends_context (x.failure x.id (LineRange n))) (x.failure x.id (LineRange n)) (x.failure x.id (LineNumber n))
+            (ap (λ (b : Bool). if nat_lt (last_line x.file x.label) n && ends_context (x.failure x.id (LineRange n)) then None else or_failure (x.failure x.id (LineRange n)) (if b then x.failure x.id (LineNumber n) else None)) (sym inside) ∙ told)
 
-        before_end : n < line_count x.file → lines_refusal x ≡ Some e
+        before_end : n < line_count x.file → lines_failure x ≡ Some e
         before_end h =
-            let upto : refused x (lookups_below x (n + 1)) ≡ Some e =
-            ap (refused x) (gives_more (lookups_on x.config x.file x.label) n) ∙ answered_then x (lookups_below x n) (lookups_on x.config x.file x.label n) g.answered
-            ∙ ap (refused x) (some_lookups x n asked) ∙ line_told (lt-ltb n (line_count x.file) h) in
+            let upto : failed x (lookups_below x (n + 1)) ≡ Some e =
+            ap (failed x) (gives_more (lookups_on x.config x.file x.label) n) ∙ answered_then x (lookups_below x n) (lookups_on x.config x.file x.label n) g.answered
+            ∙ ap (failed x) (some_lookups x n asked) ∙ line_told (lt-ltb n (line_count x.file) h) in
             let whole : flat_map of_line (asked_lines x.config x.file x.label) ≡ lookups_below x (n + 1) ++ flat_map (lookups_on x.config x.file x.label) (range_with_len (n + 1) (line_count x.file - (n + 1))) =
             gives_filtered of_line (is_asked x.config x.file x.label) (range_with_len 0 (line_count x.file)) ∙ gives_split (lookups_on x.config x.file x.label) (n + 1) (line_count x.file) (omega arith) in
-            refused_then x (flat_map of_line (asked_lines x.config x.file x.label)) (probe x.config x.file (x.refusal x.id) x.label) e (ap (refused x) whole ∙ refused_then x (lookups_below x (n + 1)) _ e upto)
+            failed_then x (flat_map of_line (asked_lines x.config x.file x.label)) (lookup_past_end x.config x.file (x.failure x.id) x.label) e (ap (failed x) whole ∙ failed_then x (lookups_below x (n + 1)) _ e upto)
 
         -- the range alone, where the line is past the last one
-        by_range : (after ends inside : Bool) (o p : Option Error) → after ≡ true → inside ≡ false → (if after && ends then None else or_refusal o (if inside then p else None)) ≡ Some e
-            → (ends ≡ false) × (or_refusal o None ≡ Some e)
+        by_range : (after ends inside : Bool) (o p : Option Error) → after ≡ true → inside ≡ false → (if after && ends then None else or_failure o (if inside then p else None)) ≡ Some e
+            → (ends ≡ false) × (or_failure o None ≡ Some e)
         by_range true true inside o p t u h = cc
         by_range true false true o p t u h = cc
         by_range true false false o p t u h = (refl, h)
         by_range false ends inside o p t u h = cc
 
-        at_end : n ≡ line_count x.file → lines_refusal x ≡ Some e
+        at_end : n ≡ line_count x.file → lines_failure x ≡ Some e
         at_end here =
             let all = all_said (λ l low high. absurd (omega (arith, here))) in
             let reach : n ≤ last_line x.file x.label + x.config.after_label_lines =
             near_after (first_line x.file x.label) (last_line x.file x.label) x.config.before_label_lines x.config.after_label_lines n (omega (arith, here)) (omega (arith, here)) asked in
-            let parts = by_range (nat_lt (last_line x.file x.label) n) (ends_context (x.refusal x.id (LineRange n))) (nat_lt n (line_count x.file)) (x.refusal x.id (LineRange n)) (x.refusal x.id (LineNumber n))
+            let parts = by_range (nat_lt (last_line x.file x.label) n) (ends_context (x.failure x.id (LineRange n))) (nat_lt n (line_count x.file)) (x.failure x.id (LineRange n)) (x.failure x.id (LineNumber n))
             (lt-ltb (last_line x.file x.label) n (omega (arith, here))) (le-ltb n (line_count x.file) (omega (arith, here))) told in
-            let probed : probe x.config x.file (x.refusal x.id) x.label ≡ LineRange n ∷ [] =
-            ap (λ (b : Bool). if b && not (ends_context (x.refusal x.id (LineRange (line_count x.file)))) then LineRange (line_count x.file) ∷ [] else [])
+            let probed : lookup_past_end x.config x.file (x.failure x.id) x.label ≡ LineRange n ∷ [] =
+            ap (λ (b : Bool). if b && not (ends_context (x.failure x.id (LineRange (line_count x.file)))) then LineRange (line_count x.file) ∷ [] else [])
             (le-leb (line_count x.file) (last_line x.file x.label + x.config.after_label_lines) (omega (arith, reach, here)))
-            ∙ ap (λ k. if not (ends_context (x.refusal x.id (LineRange k))) then LineRange k ∷ [] else []) (sym here)
+            ∙ ap (λ k. if not (ends_context (x.failure x.id (LineRange k))) then LineRange k ∷ [] else []) (sym here)
             ∙ ap (λ (b : Bool). if not b then LineRange n ∷ [] else []) parts.0 in
-            answered_then x (flat_map of_line (asked_lines x.config x.file x.label)) (probe x.config x.file (x.refusal x.id) x.label) (ap (refused x) all.1 ∙ g.answered)
-            ∙ ap (refused x) probed ∙ parts.1
+            answered_then x (flat_map of_line (asked_lines x.config x.file x.label)) (lookup_past_end x.config x.file (x.failure x.id) x.label) (ap (failed x) all.1 ∙ g.answered)
+            ∙ ap (failed x) probed ∙ parts.1

@@ -3,9 +3,9 @@ use Rattle.std.proofs.Common.{◌≡◌, ℕ, zero, suc, ◌+◌, ◌<◌, ◌�
 use Rattle.std.specs.List.{prefix_len, range_with_len, AllByRecursion}
 use Rattle.std.proofs.lemmas.Bool.{cases_Bool, eqb-true, eqb-false, eq-eqb, ltb-true, ltb-false, lt-ltb, le-ltb}
 use Rattle.codespan_picture.specs.Snippets.{has_any}
-use Rattle.codespan_reporting.specs.Inner.Entries.{Entry, is_on_line}
-use Rattle.codespan_picture.specs.Sequences.{in_sequence}
-use Rattle.codespan_reporting.specs.Inner.Steps.{Step, Draw, Group, group_of, join_group, groups, without_shown, steps_between, steps_to, walk, steps_of}
+use Rattle.codespan_reporting.specs.Inner.Entries.{Entry, is_on_line, shows_line}
+use Rattle.codespan_picture.specs.Sequences.{before_line, break_between, gap_between, in_sequence}
+use Rattle.codespan_reporting.specs.Inner.Steps.{Step, Draw, Fill, Break, Group, are_shown, group_of, join_group, groups, steps_between, steps_to, walk, steps_of}
 use Rattle.codespan_laws.proofs.SortedLists.{all-weaker, all-filter, filter-whole, filter-nothing}
 
 -- ---- groups
@@ -148,39 +148,68 @@ groups-by_line (suc n) a xs h low high =
 
 -- ---- the walk over groups of lines
 
--- the steps of these shown lines, where each has these entries and `was` is shown before them
+-- the steps of these shown lines, where each line has these entries and `was` is shown before them
 abbrev pub steps_after : (ℕ → List Entry) → Option ℕ → List ℕ → List Step
-steps_after m = in_sequence (λ l. l) steps_between (λ l. Draw l (m l) ∷ [])
+steps_after m = in_sequence (λ l. l) (gap_between (λ l. Fill l (m l) ∷ []) (λ d. Break (m d) ∷ [])) (λ l. Draw l (m l) ∷ [])
 
-module _ (given : ℕ → List Entry) where
-  -- a line's entries of labels
-  abbrev own : ℕ → List Entry
-  own l = without_shown (given l)
+-- these are the entries of the line before line `a`, where that is not shown, and `was` is shown before it
+abbrev IsHidden : (ℕ → List Entry) → Option ℕ → ℕ → List Entry → Type 0
+IsHidden m None a hidden = Unit {0}
+IsHidden m (Some c) a hidden = (c < a) × (c + 1 ≡ a → hidden ≡ []) × (c + 2 ≡ a → hidden ≡ m (c + 1))
 
-  -- whether it has entries
-  abbrev is_given : ℕ → Bool
-  is_given l = has_any (given l)
+-- what stands before a shown line
+before-shown : (m : ℕ → List Entry) (was : Option ℕ) (a : ℕ) (hidden : List Entry) → IsHidden m was a hidden
+    → before_line (steps_between hidden (m a)) was a ≡ before_line (gap_between (λ l. Fill l (m l) ∷ []) (λ d. Break (m d) ∷ [])) was a
+before-shown m None a hidden h = refl
+before-shown m (Some c) a hidden h = by_test (a == c + 2) (λ t. h.2 (sym (eqb-true a (c + 2) t)))
+  where
+    by_test : (b : Bool) → (b ≡ true → hidden ≡ m (c + 1))
+        → cond b (Fill (c + 1) hidden ∷ []) (break_between (λ d. Break (m a) ∷ []) c a) ≡ cond b (Fill (c + 1) (m (c + 1)) ∷ []) (break_between (λ d. Break (m d) ∷ []) c a)
+    by_test true same = ap (λ (es : List Entry). Fill (c + 1) es ∷ []) (same refl)
+    by_test false same = refl
 
-  -- the walk takes the lines that have entries
-  walk-lines : (was : Option ℕ) (ls : List ℕ) → walk was (groups_on given ls) ≡ steps_after own was (filter is_given ls)
-  walk-lines was [] = refl
-  walk-lines was (l ∷ ls) = by_test (λ w. walk-lines w ls) (is_given l)
+-- the next line's are these, where they are its own if the one before has none
+hidden-next : (m : ℕ → List Entry) (was : Option ℕ) (a : ℕ) (hidden next : List Entry) → IsHidden m was a hidden → (hidden ≡ [] → next ≡ m a) → IsHidden m was (a + 1) next
+hidden-next m None a hidden next h own = tt
+hidden-next m (Some c) a hidden next h own =
+    let low : c < a = h.0 in (
+      omega arith,
+      λ q. absurd (omega (arith, q)),
+      λ q. let e : c + 1 ≡ a = omega (arith, q) in own (h.1 e) ∙ ap m (sym e),
+    )
+
+-- nothing is hidden after a shown line
+hidden-none : (m : ℕ → List Entry) (a : ℕ) → IsHidden m (Some a) (a + 1) []
+hidden-none m a = (omega arith, λ q. refl, λ q. absurd (omega (arith, q)))
+
+module _ (m : ℕ → List Entry) where
+  -- the walk takes the lines that are shown
+  walk-lines : (n a : ℕ) (was : Option ℕ) (hidden : List Entry) → IsHidden m was a hidden
+      → walk was hidden (groups_on m (range_with_len a n)) ≡ steps_after m was (filter (λ l. are_shown (m l)) (range_with_len a n))
+  walk-lines zero a was hidden h = refl
+  walk-lines (suc n) a was hidden h =
+      by_entries (λ w es. walk-lines n (a + 1) w es) (m a) refl
     where
       gs : List Group
-      gs = groups_on given ls
+      gs = groups_on m (range_with_len (a + 1) n)
 
       ds : List ℕ
-      ds = filter is_given ls
+      ds = filter (λ l. are_shown (m l)) (range_with_len (a + 1) n)
 
-      by_test : ((w : Option ℕ) → walk w gs ≡ steps_after own w ds) → (b : Bool)
-          → walk was (cond b (group_at l (given l) ∷ gs) gs) ≡ steps_after own was (cond b (l ∷ ds) ds)
-      by_test rest true = ap (λ (r : List Step). steps_to was l (own l) ++ r) (rest (Some l))
-      by_test rest false = rest was
+      by_entries : ((w : Option ℕ) (es : List Entry) → IsHidden m w (a + 1) es → walk w es gs ≡ steps_after m w ds) → (es : List Entry) → m a ≡ es → walk was hidden (some_group a es gs) ≡ steps_after m was (cond (are_shown es) (a ∷ ds) ds)
+      by_entries rest [] e = rest was hidden (hidden-next m was a hidden hidden h (λ none. none ∙ sym e))
+      by_entries rest (x ∷ xs) e = by_test (shows_line x)
+        where
+          by_test : (b : Bool) → cond b (steps_to was hidden a (x ∷ xs) ++ walk (Some a) [] gs) (walk was (x ∷ xs) gs) ≡ steps_after m was (cond b (a ∷ ds) ds)
+          by_test true =
+              ap (λ (es : List Entry). steps_to was hidden a es ++ walk (Some a) [] gs) (sym e)
+              ∙ (λ i. (before-shown m was a hidden h i ++ Draw a (m a) ∷ []) ++ rest (Some a) [] (hidden-none m a) i)
+          by_test false = rest was (x ∷ xs) (hidden-next m was a hidden (x ∷ xs) h (λ none. sym e))
 
--- the steps of entries whose lines do not fall, and are all below n, are those of the lines that have entries
+-- the steps of entries whose lines do not fall, and are all below n, are those of the lines that are shown
 pub steps-by_line : (n : ℕ) (xs : List Entry) → IsRising (λ e. e.line) xs → AllByRecursion (λ e. e.line < n) xs
-    → steps_of xs ≡ steps_after (λ l. without_shown (filter (is_on_line l) xs)) None (filter (λ l. has_any (filter (is_on_line l) xs)) (range_with_len 0 n))
+    → steps_of xs ≡ steps_after (λ l. filter (is_on_line l) xs) None (filter (λ l. are_shown (filter (is_on_line l) xs)) (range_with_len 0 n))
 steps-by_line n xs h high =
-    ap (walk None) (groups-by_line n 0 xs h (all-weaker (λ e. e.line < n) (λ e. 0 ≤ e.line) (λ e _. omega arith) xs high)
+    ap (walk None []) (groups-by_line n 0 xs h (all-weaker (λ e. e.line < n) (λ e. 0 ≤ e.line) (λ e _. omega arith) xs high)
     (all-weaker (λ e. e.line < n) (λ e. e.line < 0 + n) (λ e q. omega arith) xs high))
-    ∙ walk-lines (λ l. filter (is_on_line l) xs) None (range_with_len 0 n)
+    ∙ walk-lines (λ l. filter (is_on_line l) xs) n 0 None [] tt

@@ -1,6 +1,7 @@
 -- What the entries of all labels say of one line of one file.
-use Rattle.std.proofs.Common.{◌≡◌, ℕ, ◌+◌, ◌<◌, ◌≤◌, Bool, true, false, cond, ◌==◌, nat_lt, ◌&&◌, ◌||◌, List, [], ◌∷◌, ◌++◌, length, map, filter, Option, Some, None, ⊎_elim, refl, sym, ◌∙◌, ap, subst, arith, length-append}
-use Rattle.std.specs.List.{list_any, AllByRecursion}
+use Rattle.std.proofs.Common.{◌≡◌, ℕ, ◌+◌, ◌<◌, ◌≤◌, Bool, true, false, not, cond, if◌then◌else◌, ◌==◌, nat_lt, ◌&&◌, ◌||◌, List, [], ◌∷◌, ◌++◌, length, map, filter, Option, Some, None, ⊎_elim, refl, sym, ◌∙◌, ap, subst, arith, length-append}
+use Rattle.std.specs.Option.{option_map}
+use Rattle.std.specs.List.{cons_option, list_any, AllByRecursion}
 use Rattle.std.proofs.lemmas.Bool.{cases_Bool, eqb-true, eq-eqb, ltb-false}
 use Rattle.std.proofs.lemmas.Bool.Decides.{nat_tests}
 use Rattle.std.proofs.lemmas.List.Elements.{filter-append}
@@ -8,15 +9,18 @@ use Rattle.std.proofs.lemmas.List.Folds.{list_any-append}
 use Rattle.std.proofs.Math.Bool.{and-false}
 use Rattle.codespan_base.specs.declared.term.config.Config.{Config}
 use Rattle.codespan_base.specs.FileModel.{FileModel, line_count}
-use Rattle.codespan_base.specs.Labels.{Labelled, first_line, last_line, is_single, drawn_label}
-use Rattle.codespan_reporting.specs.declared.term.views.gather.LabelPlace.{LabelPlace}
-use Rattle.codespan_reporting.specs.Inner.Entries.{Entry, Single, is_below, is_on_line, is_of_file, line_entries, entries_of}
+use Rattle.codespan_base.specs.Labels.{LaneMark, Labelled, first_line, last_line, is_single, drawn_label, mark_of, multi_labels, part_on}
+use Rattle.codespan_reporting.specs.declared.term.views.label_entries.LabelPlace.{LabelPlace}
+use Rattle.codespan_reporting.specs.Inner.Entries.{Entry, Single, Multi, is_below, is_on_line, is_of_file, line_entries, entries_of, said, shows_line}
 use Rattle.codespan_picture.specs.Lines.{shows}
 use Rattle.codespan_reporting.specs.Inner.PlacedLabels.{file_place, place_after, entries_after}
 use Rattle.codespan_picture.specs.Snippets.{InFile}
+use Rattle.codespan_reporting.specs.Inner.LabelledFiles.{lanes_in}
 use Rattle.codespan_reporting.specs.Inner.Steps.{single_of, singles_in}
-use Rattle.codespan_reporting.proofs.EntryOrder.{place_below}
-use Rattle.codespan_reporting.proofs.LabelEntries.{is_kind, all-of_file, all-below, entries-of_line, singles-of_line, any-of_line}
+use Rattle.codespan_reporting.proofs.EntryOrder.{mark_entry, place_below}
+use Rattle.codespan_reporting.proofs.LabelEntries.{is_kind, all-of_file, all-below, entries-of_line, marks-of_line, singles-of_line, any-of_line}
+use Rattle.codespan_reporting.proofs.LabelPlaces.{lanes_in-more, label_lanes}
+use Rattle.codespan_reporting.proofs.LaneMarks.{marks_from}
 use Rattle.codespan_laws.proofs.OrderSorts.{has_range}
 use Rattle.codespan_laws.proofs.RangeLemmas.{line_of-below}
 use Rattle.codespan_laws.proofs.SortedLists.{Falls, all-append, all-weaker, filter-whole, filter-nothing}
@@ -34,10 +38,12 @@ is_of_range start end e = says_range start end (single_of e.says)
 
 -- ---- the labels of a file among those of a diagnostic
 
--- a file has its place among those of a diagnostic: its id is equal to those that have the place, they name it, and it has a line
+-- a file has its place among those of a diagnostic: its id is equal to those that have the place, they name it with its lanes, and it has
+-- a line
 pub record HasPlace {Id : Type 0} (same : Id → Id → Bool) (file : Id → FileModel) (ids : List Id) (f : ℕ) (id : Id) : Type 0 where
   pub place : (i : Id) → (file_place same ids i == f) ≡ same id i
   pub one_file : (i : Id) → same id i ≡ true → file i ≡ file id
+  pub lanes : (before : List (InFile Id)) (i : Id) → same id i ≡ true → lanes_in same file before i ≡ lanes_in same file before id
   pub some_line : 0 < line_count (file id)
 
 module _ {Id : Type 0} {same : Id → Id → Bool} {file : Id → FileModel} {ids : List Id} {f : ℕ} {id : Id} (here : HasPlace same file ids f id) (config : Config) where
@@ -64,16 +70,16 @@ module _ {Id : Type 0} {same : Id → Id → Bool} {file : Id → FileModel} {id
   entries-below [] before = tt
   entries-below (x ∷ xs) before =
       all-append (λ e. is_of_file f e ≡ true → e.line < line_count own_file)
-      (entries_of config (file x.id) (place_after same ids before x) x.label) (entries_after same file config ids (before ++ x ∷ []) xs)
+      (entries_of config (file x.id) (place_after same file ids before x) x.label) (entries_after same file config ids (before ++ x ∷ []) xs)
       (⊎_elim
       (λ (t : same id x.id ≡ true). all-weaker (λ e. e.line < line_count (file x.id)) (λ e. is_of_file f e ≡ true → e.line < line_count own_file)
       (λ e h _. subst (λ m. e.line < line_count m) (here.one_file x.id t) h)
-      (entries_of config (file x.id) (place_after same ids before x) x.label)
-      (all-below config (file x.id) (place_after same ids before x) x.label))
+      (entries_of config (file x.id) (place_after same file ids before x) x.label)
+      (all-below config (file x.id) (place_after same file ids before x) x.label))
       (λ (t : same id x.id ≡ false). all-weaker (λ e. e.file ≡ file_place same ids x.id) (λ e. is_of_file f e ≡ true → e.line < line_count own_file)
       (λ e h k. absurd (other x t e h k))
-      (entries_of config (file x.id) (place_after same ids before x) x.label)
-      (all-of_file config (file x.id) (place_after same ids before x) x.label))
+      (entries_of config (file x.id) (place_after same file ids before x) x.label)
+      (all-of_file config (file x.id) (place_after same file ids before x) x.label))
       (cases_Bool (same id x.id)))
       (entries-below xs (before ++ x ∷ []))
     where
@@ -83,7 +89,7 @@ module _ {Id : Type 0} {same : Id → Id → Bool} {file : Id → FileModel} {id
   module _ (l : ℕ) where
     -- where a label of the file is after these
     abbrev place_at : List (InFile Id) → LabelPlace
-    place_at before = record { file = f; place = length before }
+    place_at before = record { file = f; place = length before; lane = lanes_in same file before id }
 
     -- what a label says of the line
     abbrev said_by : List (InFile Id) → InFile Id → List Entry
@@ -96,13 +102,13 @@ module _ {Id : Type 0} {same : Id → Id → Bool} {file : Id → FileModel} {id
 
     -- a label's entries of the line of the file
     one-said : (before : List (InFile Id)) (x : InFile Id)
-        → filter (is_on_line l) (filter (is_of_file f) (entries_of config (file x.id) (place_after same ids before x) x.label)) ≡ said_by before x
+        → filter (is_on_line l) (filter (is_of_file f) (entries_of config (file x.id) (place_after same file ids before x) x.label)) ≡ said_by before x
     one-said before x =
         ⊎_elim
         (λ (t : same id x.id ≡ true).
         let at : file_place same ids x.id ≡ f = eqb-true (file_place same ids x.id) f (here.place x.id ∙ t) in
         ap (filter (is_on_line l)) (filter-whole (is_of_file f) es (all-weaker (λ e. e.file ≡ file_place same ids x.id) (λ e. is_of_file f e ≡ true) (λ e h. eq-eqb e.file f (h ∙ at)) es of))
-        ∙ (λ i. filter (is_on_line l) (entries_of config (here.one_file x.id t i) (record { file = at i; place = length before }) x.label))
+        ∙ (λ i. filter (is_on_line l) (entries_of config (here.one_file x.id t i) (record { file = at i; place = length before; lane = here.lanes before x.id t i }) x.label))
         ∙ entries-of_line config own_file (place_at before) x.label l
         ∙ sym (ap (λ b. cond (b && nat_lt l (line_count own_file)) (line_entries config own_file (place_at before) x.label l) []) t))
         (λ (t : same id x.id ≡ false).
@@ -111,16 +117,16 @@ module _ {Id : Type 0} {same : Id → Id → Bool} {file : Id → FileModel} {id
         (cases_Bool (same id x.id))
       where
         es : List Entry
-        es = entries_of config (file x.id) (place_after same ids before x) x.label
+        es = entries_of config (file x.id) (place_after same file ids before x) x.label
 
         of : AllByRecursion (λ e. e.file ≡ file_place same ids x.id) es
-        of = all-of_file config (file x.id) (place_after same ids before x) x.label
+        of = all-of_file config (file x.id) (place_after same file ids before x) x.label
 
     -- all entries of the line of the file
     pub all-said : (xs before : List (InFile Id)) → filter (is_on_line l) (filter (is_of_file f) (entries_after same file config ids before xs)) ≡ said_after before xs
     all-said [] before = refl
     all-said (x ∷ xs) before =
-        let es = entries_of config (file x.id) (place_after same ids before x) x.label in
+        let es = entries_of config (file x.id) (place_after same file ids before x) x.label in
         let rest = entries_after same file config ids (before ++ x ∷ []) xs in
         ap (filter (is_on_line l)) (filter-append (is_of_file f) es rest)
         ∙ filter-append (is_on_line l) (filter (is_of_file f) es) (filter (is_of_file f) rest)
@@ -226,22 +232,84 @@ module _ {Id : Type 0} {same : Id → Id → Bool} {file : Id → FileModel} {id
         by_test true rest = by_range (has_range start end (drawn_label own_file x.label)) refl rest
         by_test false rest = rest
 
-    -- ---- lines of which something is said
+    -- ---- marks
 
-    -- something is said of the lines that the file has and that some label shows
-    pub any-said : (xs before : List (InFile Id)) → list_any (λ _. true) (said_after before xs)
+    -- the label has no mark on a line past the last
+    part-outside : (x : Labelled) → nat_lt l (line_count own_file) ≡ false → part_on own_file l x ≡ None
+    part-outside x h =
+        let e = ends-below x in
+        let low : first_line own_file x < line_count own_file = e.0 in
+        let end : last_line own_file x < line_count own_file = e.1 in
+        let high : line_count own_file ≤ l = ltb-false l (line_count own_file) h in
+        let a : (first_line own_file x == l) ≡ false = grind (arith, nat_tests) in
+        let b : (last_line own_file x == l) ≡ false = grind (arith, nat_tests) in
+        let c : (nat_lt (first_line own_file x) l && nat_lt l (last_line own_file x)) ≡ false = grind (arith, nat_tests) in
+        rw (a, b, c) refl
+
+    -- the mark of a label in a lane, where it is over several lines and has one
+    abbrev marked : Bool → Option LaneMark → List Entry
+    marked a o = said f l (cond a None (option_map Multi o))
+
+    -- the mark of a label that comes after these
+    one-mark : (before : List (InFile Id)) (x : InFile Id)
+        → filter (is_kind 2) (said_by before x) ≡ cond (same id x.id) (marked (is_single own_file x.label) (mark_of (lanes_in same file before id) x.label (part_on own_file l x.label))) []
+    one-mark before x = by_tests (same id x.id) (nat_lt l (line_count own_file)) refl
+      where
+        lane : ℕ
+        lane = lanes_in same file before id
+
+        none : (a : Bool) → [] ≡ marked a (mark_of lane x.label None)
+        none true = refl
+        none false = refl
+
+        by_tests : (s t : Bool) → nat_lt l (line_count own_file) ≡ t
+            → filter (is_kind 2) (cond (s && t) (line_entries config own_file (place_at before) x.label l) []) ≡ cond s (marked (is_single own_file x.label) (mark_of lane x.label (part_on own_file l x.label))) []
+        by_tests false t h = refl
+        by_tests true true h = marks-of_line config own_file (place_at before) x.label l
+        by_tests true false h = none (is_single own_file x.label) ∙ ap (λ o. marked (is_single own_file x.label) (mark_of lane x.label o)) (sym (part-outside x.label h))
+
+    -- the marks of labels that come after these, in their lanes
+    pub all-marks : (xs before : List (InFile Id)) (n : ℕ) → lanes_in same file before id ≡ n
+        → filter (is_kind 2) (said_after before xs) ≡ map (mark_entry f l) (marks_from own_file l n (multi_labels own_file (labels_in xs)))
+    all-marks [] before n e = refl
+    all-marks (x ∷ xs) before n e =
+        filter-append (is_kind 2) (said_by before x) (said_after (before ++ x ∷ []) xs)
+        ∙ (λ i. (one-mark before x ∙ ap (λ k. cond (same id x.id) (marked (is_single own_file x.label) (mark_of k x.label (part_on own_file l x.label))) []) e) i
+        ++ all-marks xs (before ++ x ∷ []) (n + (if same id x.id then label_lanes own_file x.label else 0)) (lanes_in-more same file before x id ∙ ap (λ k. k + (if same id x.id then label_lanes own_file x.label else 0)) e) i)
+        ∙ by_tests (same id x.id) (is_single own_file x.label) refl
+      where
+        later : ℕ → List Entry
+        later k = map (mark_entry f l) (marks_from own_file l k (multi_labels own_file (labels_in xs)))
+
+        by_mark : (o : Option LaneMark) → marked false o ++ later (n + 1) ≡ map (mark_entry f l) (cons_option o (marks_from own_file l (n + 1) (multi_labels own_file (labels_in xs))))
+        by_mark None = refl
+        by_mark (Some m) = refl
+
+        by_tests : (s t : Bool) → is_single own_file x.label ≡ t
+            → cond s (marked t (mark_of n x.label (part_on own_file l x.label))) [] ++ later (n + (if s then (if t then 0 else 1) else 0))
+            ≡ map (mark_entry f l) (marks_from own_file l n (multi_labels own_file (map (λ (y : InFile Id). y.label) (cond s (x ∷ own xs) (own xs)))))
+        by_tests false t h = let e : n + 0 ≡ n = omega arith in ap later e
+        by_tests true true h = (let e : n + 0 ≡ n = omega arith in ap later e)
+            ∙ ap (λ b. map (mark_entry f l) (marks_from own_file l n (cond (not b) (x.label ∷ multi_labels own_file (labels_in xs)) (multi_labels own_file (labels_in xs))))) (sym h)
+        by_tests true false h = by_mark (mark_of n x.label (part_on own_file l x.label))
+            ∙ ap (λ b. map (mark_entry f l) (marks_from own_file l n (cond (not b) (x.label ∷ multi_labels own_file (labels_in xs)) (multi_labels own_file (labels_in xs))))) (sym h)
+
+    -- ---- lines that are shown
+
+    -- an entry shows the lines that the file has and that some label shows
+    pub any-said : (xs before : List (InFile Id)) → list_any shows_line (said_after before xs)
         ≡ (nat_lt l (line_count own_file) && list_any (λ x. shows config (first_line own_file x) (last_line own_file x) l) (labels_in xs))
     any-said [] before = sym (and-false (nat_lt l (line_count own_file)))
     any-said (x ∷ xs) before =
-        list_any-append (λ _. true) (said_by before x) (said_after (before ++ x ∷ []) xs)
-        ∙ ap (λ b. list_any (λ _. true) (said_by before x) || b) (any-said xs (before ++ x ∷ []))
+        list_any-append shows_line (said_by before x) (said_after (before ++ x ∷ []) xs)
+        ∙ ap (λ b. list_any shows_line (said_by before x) || b) (any-said xs (before ++ x ∷ []))
         ∙ by_tests (same id x.id) (nat_lt l (line_count own_file))
       where
-        shows_line : Labelled → Bool
-        shows_line y = shows config (first_line own_file y) (last_line own_file y) l
+        shows_it : Labelled → Bool
+        shows_it y = shows config (first_line own_file y) (last_line own_file y) l
 
-        by_tests : (s t : Bool) → (list_any (λ _. true) (cond (s && t) (line_entries config own_file (place_at before) x.label l) []) || (t && list_any shows_line (labels_in xs)))
-            ≡ (t && list_any shows_line (map (λ (y : InFile Id). y.label) (cond s (x ∷ own xs) (own xs))))
+        by_tests : (s t : Bool) → (list_any shows_line (cond (s && t) (line_entries config own_file (place_at before) x.label l) []) || (t && list_any shows_it (labels_in xs)))
+            ≡ (t && list_any shows_it (map (λ (y : InFile Id). y.label) (cond s (x ∷ own xs) (own xs))))
         by_tests false t = refl
         by_tests true false = refl
-        by_tests true true = ap (λ b. b || list_any shows_line (labels_in xs)) (any-of_line config own_file (place_at before) x.label l)
+        by_tests true true = ap (λ b. b || list_any shows_it (labels_in xs)) (any-of_line config own_file (place_at before) x.label l)

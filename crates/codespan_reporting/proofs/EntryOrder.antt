@@ -8,8 +8,8 @@ use Rattle.std.proofs.lemmas.Bool.{cases_lt, cases_eq, eq-eqb, lt-ltb, le-ltb}
 use Rattle.std.proofs.lemmas.Bool.Decides.{nat_tests}
 use Rattle.std.proofs.lemmas.Cmp.{nat_cmp_total, on_total, then_total, back_total}
 use Rattle.std.proofs.lemmas.List.Sorted.{ranks_by}
-use Rattle.codespan_base.specs.Labels.{Labelled, stands_before}
-use Rattle.codespan_reporting.specs.Inner.Entries.{Entry, Says, Shown, Single, kind_of, first_of, second_of, place_in_list, is_below}
+use Rattle.codespan_base.specs.Labels.{LaneMark, Labelled, stands_before}
+use Rattle.codespan_reporting.specs.Inner.Entries.{Entry, Says, Shown, Single, Multi, kind_of, first_of, second_of, place_in_list, is_below}
 use Rattle.codespan_reporting.specs.Inner.Steps.{single_of, singles_in}
 use Rattle.codespan_laws.proofs.OrderSorts.{Ascends}
 use Rattle.codespan_laws.proofs.SortedLists.{Rises}
@@ -53,6 +53,10 @@ file_rises x y h = not_less y.file x.file _ h
 pub line_rises : (x y : Entry) → x.file ≡ y.file → is_below y x ≡ false → x.line ≤ y.line
 line_rises x y e h = not_less y.line x.line _ (sym (then_same y.file x.file _ (sym e)) ∙ h)
 
+-- the kinds of a line's entries do not fall
+pub kind_rises : (x y : Entry) → x.file ≡ y.file → x.line ≡ y.line → is_below y x ≡ false → kind_of x.says ≤ kind_of y.says
+kind_rises x y e f h = not_less (kind_of y.says) (kind_of x.says) _ (sym (then_same y.line x.line _ (sym f)) ∙ sym (then_same y.file x.file _ (sym e)) ∙ h)
+
 -- the ranges of a line's labels do not fall
 range_rises : (x y : Entry) {p q : ℕ} {a b : Labelled} → x.says ≡ Single p a → y.says ≡ Single q b → x.file ≡ y.file → x.line ≡ y.line
     → is_below y x ≡ false → stands_before b a ≡ false
@@ -92,10 +96,12 @@ singles-ascend f l (x ∷ xs) on up = by_says x.says refl (singles-ascend f l xs
         by_other : (s : Says) → y.says ≡ s → AllByRecursion (λ b. stands_before b a ≡ false) (singles_in ys)
             → AllByRecursion (λ b. stands_before b a ≡ false) (cons_option (single_of s) (singles_in ys))
         by_other Shown d rest = rest
+        by_other (Multi m) d rest = rest
         by_other (Single q b) d rest = (range_rises x y e d (on.0.0 ∙ sym k.0.0) (on.0.1 ∙ sym k.0.1) h.0, rest)
 
     by_says : (s : Says) → x.says ≡ s → Ascends (singles_in xs) → Ascends (cons_option (single_of s) (singles_in xs))
     by_says Shown e rest = rest
+    by_says (Multi m) e rest = rest
     by_says (Single p a) e rest = (later p a e xs on.1 up.0, rest)
 
 -- ---- entries of one line
@@ -105,3 +111,11 @@ pub place_below : (f l : ℕ) {p q : ℕ} (x y : Labelled) → x.start ≡ y.sta
     → is_below (record { file = f; line = l; says = Single q y }) (record { file = f; line = l; says = Single p x }) ≡ true
 place_below f l {p} {q} x y s e h =
     then_same f f _ refl ∙ then_same l l _ refl ∙ then_same y.start x.start _ (sym s) ∙ then_same y.end x.end _ (sym e) ∙ ap is_lt (cmp_less p q h)
+
+-- an entry of a mark
+abbrev pub mark_entry : ℕ → ℕ → LaneMark → Entry
+mark_entry f l m = record { file = f; line = l; says = Multi m }
+
+-- of two marks the one in the lesser lane is below
+pub lane_below : (f l : ℕ) (x y : LaneMark) → x.lane < y.lane → is_below (mark_entry f l x) (mark_entry f l y) ≡ true
+lane_below f l x y h = then_same f f _ refl ∙ then_same l l _ refl ∙ ap (λ q. is_lt (ordering_then q (ordering_then (nat_cmp 0 0) (nat_cmp 0 0)))) (cmp_less x.lane y.lane h)

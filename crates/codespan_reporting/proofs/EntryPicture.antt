@@ -1,53 +1,41 @@
 -- From all entries of a diagnostic in order the walk makes, for each file, the rows of its snippet.
-use Rattle.std.proofs.Common.{◌≡◌, ℕ, suc, ◌+◌, ◌<◌, ◌≤◌, Bool, true, false, cond, ◌==◌, ◌&&◌, List, [], ◌∷◌, ◌++◌, drop, map, filter, reverse, Option, Some, None, refl, sym, ◌∙◌, ap, subst, arith, true≢false}
-use Rattle.std.specs.List.{prefix_len, list_any, cons_option, range_with_len, AllByRecursion}
-use Rattle.std.proofs.lemmas.Bool.{eqb-true}
+use Rattle.std.proofs.Common.{◌≡◌, ℕ, ◌<◌, ◌≤◌, Bool, true, false, cond, ◌==◌, ◌&&◌, ◌||◌, List, [], ◌∷◌, ◌++◌, map, filter, reverse, Option, Some, None, refl, sym, ◌∙◌, ap, subst, arith}
+use Rattle.std.specs.List.{list_any, cons_option, range_with_len, AllByRecursion}
+use Rattle.std.proofs.lemmas.Bool.{eqb-true, le-ltb, ltb-false}
 use Rattle.std.proofs.lemmas.List.{append-nil}
 use Rattle.std.proofs.lemmas.List.Elements.{filter_map-append, filter_agree, recursion_from_All, All-from_recursion}
 use Rattle.std.proofs.lemmas.List.Sorted.{All-permutation, list_any-IsPermutation}
 use Rattle.codespan_base.specs.declared.term.config.Config.{Config}
 use Rattle.codespan_base.specs.FileModel.{FileDatabase, FileModel, line_count}
-use Rattle.codespan_base.specs.Labels.{Labelled, is_single, first_line, drawn_label, single_labels, sorted}
+use Rattle.codespan_base.specs.Labels.{LaneMark, Labelled, is_single, first_line, drawn_label, marks_on, single_labels, sorted}
+use Rattle.codespan_picture.specs.Given.{ascend_from}
 use Rattle.codespan_reporting.specs.declared.term.views.gather.Gathered.{Gathered}
-use Rattle.codespan_reporting.specs.Inner.Entries.{Entry, Says, Shown, Single, kind_of, is_below, tells_shown, is_on_line, is_of_file}
+use Rattle.codespan_reporting.specs.Inner.Entries.{Entry, Says, Shown, Single, Multi, kind_of, is_below, is_on_line, is_of_file, shows_line}
 use Rattle.codespan_reporting.specs.Inner.GivenEntries.{entry_of}
 use Rattle.codespan_reporting.specs.Inner.GivenSheets.{IsGathered}
-use Rattle.codespan_reporting.specs.Inner.Lanes.{file_lanes}
 use Rattle.codespan_picture.specs.Lines as lines
 use Rattle.codespan_picture.specs.Lines.{drawn_lines}
 use Rattle.codespan_picture.specs.Lookups.{filled_lines}
 use Rattle.codespan_picture.specs.Sequences.{break_between, in_sequence}
 use Rattle.codespan_reporting.specs.Inner.PlacedLabels.{IsIdAt, all_entries}
-use Rattle.codespan_picture.specs.Snippets.{InFile, LabelledFile, labelled_file, line_at, line_rows, break_rows, rows_after, has_any, file_ids}
-use Rattle.codespan_reporting.specs.Inner.Steps.{without_shown, steps_of, single_of, singles_in, line_of_group, rows_of_steps, fills_of, does_step_fit}
+use Rattle.codespan_picture.specs.Snippets.{InFile, LabelledFile, labelled_file, lane_count, line_at, line_rows, break_rows, rows_after, file_ids}
+use Rattle.codespan_reporting.specs.Inner.Steps.{are_shown, mark_in, marks_in, steps_of, single_of, singles_in, line_of_group, rows_of_steps, fills_of, do_marks_fit, does_step_fit}
 use Rattle.codespan_reporting.proofs.EntryGroups.{IsRising, steps_after, steps-by_line, all-on_line}
 use Rattle.codespan_reporting.proofs.EntryLines as entry_lines
 use Rattle.codespan_reporting.proofs.EntryLines.{HasPlace, says_range, is_of_range}
-use Rattle.codespan_reporting.proofs.EntryOrder.{below_order, line_rises, IsOn, singles-ascend}
+use Rattle.codespan_reporting.proofs.EntryOrder.{below_order, kind_rises, line_rises, mark_entry, IsOn, singles-ascend}
 use Rattle.codespan_reporting.proofs.FilePlaces.{file_place-at}
-use Rattle.codespan_reporting.proofs.LaneMarks.{lane_marks-on, file_lanes-count}
+use Rattle.codespan_reporting.proofs.LaneMarks.{ascend-climbs, marks-ascend}
 use Rattle.codespan_laws.proofs.FillLemmas.{none_past}
 use Rattle.codespan_reporting.proofs.LabelEntries.{is_kind}
-use Rattle.codespan_reporting.proofs.LabelPlaces.{AreFiles}
+use Rattle.codespan_reporting.proofs.LabelPlaces.{AreFiles, lanes_in-alike}
 use Rattle.codespan_laws.proofs.OrderSorts.{has_range, ascending-same, sorted-ascends, sorted-keeps}
-use Rattle.codespan_laws.proofs.SortedLists.{Rises, Falls, all-weaker, all-filter, all-both, all-pass, filter-filter, filter-reverse, any-filtered, reverse-cons, rises-filter, rises-from_sorted, filter-sorted_falls}
+use Rattle.codespan_laws.proofs.SortedLists.{Rises, Climbs, Falls, all-weaker, all-filter, all-both, all-pass, any-nothing, filter-filter, filter-reverse, any-filtered, reverse-cons, rises-filter, rises-from_sorted, filter-sorted_climbs, filter-sorted_falls}
 use Rattle.codespan_renderer.specs.Inner.Sweeps.{starts_in_order}
 use Rattle.codespan_reporting.proofs.MarkOrder.{ascends-starts}
 use Rattle.codespan_reporting.proofs.StepLines.{lines_of_steps, steps-rows, steps-fit, steps-lines, steps-fills}
 
 -- ---- what a group says
-
--- what is shown says nothing of labels
-singles-said : (g : List Entry) → singles_in (without_shown g) ≡ singles_in g
-singles-said [] = refl
-singles-said (x ∷ xs) = by_says x.says (singles-said xs)
-  where
-    by_says : (s : Says) → singles_in (without_shown xs) ≡ singles_in xs
-        → singles_in (without_shown (record x { says = s } ∷ xs)) ≡ cons_option (single_of s) (singles_in xs)
-    by_says Shown rest =
-        let more : 1 + prefix_len tells_shown xs ≡ suc (prefix_len tells_shown xs) = omega arith in
-        ap (λ i. singles_in (drop i (record x { says = Shown } ∷ xs))) more ∙ rest
-    by_says (Single p y) rest = refl
 
 -- the labels of a range are those of its entries
 singles-of_range : (start end : ℕ) (es : List Entry) → filter (has_range start end) (singles_in es) ≡ singles_in (filter (is_of_range start end) es)
@@ -65,6 +53,7 @@ singles-of_range start end (x ∷ xs) = by_says x.says (singles-of_range start e
         ≡ singles_in (cond (says_range start end (single_of s)) (record x { says = s } ∷ filter (is_of_range start end) xs) (filter (is_of_range start end) xs))
     by_says Shown rest = rest
     by_says (Single p y) rest = by_test p y (has_range start end y) rest
+    by_says (Multi m) rest = rest
 
 -- they are entries of labels inside the line
 range-kind : (start end : ℕ) (es : List Entry) → filter (is_of_range start end) (filter (is_kind 1) es) ≡ filter (is_of_range start end) es
@@ -73,6 +62,23 @@ range-kind start end es = filter-filter (is_of_range start end) (is_kind 1) es �
     by_says : (s : Says) → ((kind_of s == 1) && says_range start end (single_of s)) ≡ says_range start end (single_of s)
     by_says Shown = refl
     by_says (Single p y) = refl
+    by_says (Multi m) = refl
+
+-- the marks are the entries of their kind
+marks-kind : (es : List Entry) → marks_in es ≡ marks_in (filter (is_kind 2) es)
+marks-kind [] = refl
+marks-kind (x ∷ xs) = by_says x.says (marks-kind xs)
+  where
+    by_says : (s : Says) → marks_in xs ≡ marks_in (filter (is_kind 2) xs)
+        → cons_option (mark_in s) (marks_in xs) ≡ marks_in (cond (kind_of s == 2) (record x { says = s } ∷ filter (is_kind 2) xs) (filter (is_kind 2) xs))
+    by_says Shown rest = rest
+    by_says (Single p y) rest = rest
+    by_says (Multi m) rest = ap (λ (ms : List LaneMark). m ∷ ms) rest
+
+-- those of entries of marks
+marks-of_entries : (f l : ℕ) (ms : List LaneMark) → marks_in (map (mark_entry f l) ms) ≡ ms
+marks-of_entries f l [] = refl
+marks-of_entries f l (m ∷ ms) = ap (λ (ks : List LaneMark). m ∷ ks) (marks-of_entries f l ms)
 
 -- the labels of entries from the end
 singles-reverse : (es : List Entry) → singles_in (reverse es) ≡ reverse (singles_in es)
@@ -85,15 +91,21 @@ singles-reverse (x ∷ xs) =
     by_option None = append-nil (reverse (singles_in xs))
     by_option (Some y) = sym (reverse-cons y (singles_in xs))
 
--- a list has an element where one passes a test that all pass
-has_any-any : (es : List Entry) → has_any es ≡ list_any (λ _. true) es
-has_any-any [] = refl
-has_any-any (x ∷ xs) = refl
+-- the first entry of a line tells whether any shows the line
+first-shows : (f l : ℕ) (g : List Entry) → AllByRecursion (IsOn f l) g → Rises is_below g → are_shown g ≡ list_any shows_line g
+first-shows f l [] on up = refl
+first-shows f l (x ∷ xs) on up = by_test (shows_line x) refl
+  where
+    later : shows_line x ≡ false → (y : Entry) → IsOn f l y × (is_below y x ≡ false) → shows_line y ≡ false
+    later t y h =
+        let kinds = kind_rises x y (on.0.0 ∙ sym h.0.0) (on.0.1 ∙ sym h.0.1) h.1 in
+        let high : 2 ≤ kind_of x.says = ltb-false (kind_of x.says) 2 t in
+        le-ltb (kind_of y.says) 2 (omega (arith, kinds, high))
 
--- a list that has no element is empty
-nothing-left : (g : List Entry) → has_any g ≡ false → without_shown g ≡ []
-nothing-left [] h = refl
-nothing-left (x ∷ g) h = absurd (true≢false h)
+    by_test : (b : Bool) → shows_line x ≡ b → b ≡ (b || list_any shows_line xs)
+    by_test true t = refl
+    by_test false t =
+        sym (any-nothing shows_line xs (all-weaker (λ y. IsOn f l y × (is_below y x ≡ false)) (λ y. shows_line y ≡ false) (later t) xs (all-both (IsOn f l) (λ y. is_below y x ≡ false) xs on.1 up.0)))
 
 -- ---- entries in order
 
@@ -138,15 +150,12 @@ module _ {Id : Type 0} {table : FileDatabase Id} (lawful : AreFiles table)
   abbrev bucket : ℕ → List Entry
   bucket l = filter (is_on_line l) part
 
-  -- and those of labels among them
-  abbrev own : ℕ → List Entry
-  own l = without_shown (bucket l)
-
   -- the file has this place among those of the labels
   here : HasPlace same file (file_ids same xs) f id
   here = record {
     place = file_place-at same lawful.equivalence xs f id at;
     one_file = λ i t. sym (lawful.one_file id i t);
+    lanes = λ before i t. sym (lanes_in-alike lawful before id i t);
     some_line = lawful.some_line id;
   }
 
@@ -198,10 +207,9 @@ module _ {Id : Type 0} {table : FileDatabase Id} (lawful : AreFiles table)
   -- ---- the labels of a line
 
   -- the labels inside the line
-  singles-are : (l : ℕ) → singles_in (own l) ≡ single_labels (file id) s.labels l
+  singles-are : (l : ℕ) → singles_in (bucket l) ≡ single_labels (file id) s.labels l
   singles-are l =
-      singles-said (bucket l)
-      ∙ ascending-same (singles_in (bucket l)) (sorted turned) (singles-ascend f l (bucket l) (bucket-on l) (bucket-rises l)) (sorted-ascends turned)
+      ascending-same (singles_in (bucket l)) (sorted turned) (singles-ascend f l (bucket l) (bucket-on l) (bucket-rises l)) (sorted-ascends turned)
       (λ start end. ranges start end ∙ sym (sorted-keeps start end turned))
     where
       drawn : List Labelled
@@ -234,9 +242,29 @@ module _ {Id : Type 0} {table : FileDatabase Id} (lawful : AreFiles table)
           ∙ ap (filter (has_range start end)) (entry_lines.singles-labels here config l 0 xs))
           ∙ sym (filter-reverse (has_range start end) drawn)
 
+  -- ---- the marks of a line
+
+  -- those of the labels of the file
+  abbrev marks : ℕ → List LaneMark
+  marks l = marks_on (file id) s.labels l
+
+  -- their entries as they were given
+  marks-given : (l : ℕ) → filter (pick l (is_kind 2)) all ≡ map (mark_entry f l) (marks l)
+  marks-given l = sym (picked l (is_kind 2) all) ∙ ap (filter (is_kind 2)) (given-said l) ∙ entry_lines.all-marks here config l xs [] 0 refl
+
+  -- the marks of the entries of a line
+  marks-are : (l : ℕ) → marks_in (bucket l) ≡ marks l
+  marks-are l =
+      marks-kind (bucket l)
+      ∙ ap marks_in (picked l (is_kind 2) entries
+      ∙ filter-sorted_climbs is_below below_order all entries told.permutation told.sorted (pick l (is_kind 2))
+      (subst (Climbs is_below) (sym (marks-given l)) (ascend-climbs f l (lane_count s) 0 (marks l) (marks-ascend s l)))
+      ∙ marks-given l)
+      ∙ marks-of_entries f l (marks l)
+
   -- a line is drawn with what its labels do on it
-  line-is : (l : ℕ) → line_of_group (file id) (file_lanes s) l (own l) ≡ line_at s l
-  line-is l = λ i. record (line_at s l) { labels = singles-are l i; lanes = record { count = file_lanes-count s i; marks = lane_marks-on s l i } }
+  line-is : (l : ℕ) → line_of_group (file id) (lane_count s) l (bucket l) ≡ line_at s l
+  line-is l = λ i. record (line_at s l) { labels = singles-are l i; lanes = record { count = lane_count s; marks = marks-are l i } }
 
   -- ---- shown lines
 
@@ -244,50 +272,51 @@ module _ {Id : Type 0} {table : FileDatabase Id} (lawful : AreFiles table)
   abbrev is_shown : ℕ → Bool
   is_shown l = lines.is_shown config (file id) s.labels l
 
-  -- a line has entries just where it is shown
-  shown-is : (l : ℕ) → has_any (bucket l) ≡ is_shown l
+  -- the entries of a line tell whether it is shown
+  shown-is : (l : ℕ) → are_shown (bucket l) ≡ is_shown l
   shown-is l =
-      has_any-any (bucket l)
-      ∙ any-picked l (λ _. true) entries ∙ sym (list_any-IsPermutation (pick l (λ _. true)) all entries told.permutation) ∙ sym (any-picked l (λ _. true) all)
-      ∙ ap (list_any (λ _. true)) (given-said l)
+      first-shows f l (bucket l) (bucket-on l) (bucket-rises l)
+      ∙ any-picked l shows_line entries ∙ sym (list_any-IsPermutation (pick l shows_line) all entries told.permutation) ∙ sym (any-picked l shows_line all)
+      ∙ ap (list_any shows_line) (given-said l)
       ∙ entry_lines.any-said here config l xs []
-
-  -- no label is inside a line that is not shown
-  hidden-bare : (l : ℕ) → is_shown l ≡ false → own l ≡ []
-  hidden-bare l h = nothing-left (bucket l) (shown-is l ∙ h)
 
   -- the shown lines
   abbrev shown : List ℕ
   shown = filter is_shown (range_with_len 0 (line_count (file id)))
 
   -- the steps are those of the shown lines
-  steps-are : steps_of part ≡ steps_after own None shown
+  steps-are : steps_of part ≡ steps_after bucket None shown
   steps-are =
       steps-by_line (line_count (file id)) part (lines-rise f part part-file part-rises) part-below
-      ∙ (λ i. steps_after own None (filter (λ l. shown-is l i) (range_with_len 0 (line_count (file id)))))
+      ∙ (λ i. steps_after bucket None (filter (λ l. shown-is l i) (range_with_len 0 (line_count (file id)))))
 
   -- ---- the snippet
 
   -- the steps make the rows of the snippet
-  pub snippet-rows : rows_of_steps s.file (file_lanes s) (steps_of part) ≡ rows_after s None (drawn_lines config s.file s.labels)
+  pub snippet-rows : rows_of_steps s.file (lane_count s) (steps_of part) ≡ rows_after s None (drawn_lines config s.file s.labels)
   snippet-rows =
-      ap (rows_of_steps (file id) (file_lanes s)) steps-are
-      ∙ steps-rows (file id) (file_lanes s) own is_shown hidden-bare (line_count (file id)) (none_past config s)
+      ap (rows_of_steps (file id) (lane_count s)) steps-are
+      ∙ steps-rows (file id) (lane_count s) bucket is_shown (line_count (file id)) (none_past config s)
       ∙ (λ i. in_sequence (λ l. l) (break_between (break_rows (λ l. line-is l i))) (line_rows (λ l. line-is l i)) None (drawn_lines config s.file s.labels))
 
   -- they fill in the lines that are drawn and not shown
   pub snippet-fills : fills_of (steps_of part) ≡ filled_lines config s
-  snippet-fills = ap fills_of steps-are ∙ steps-fills own is_shown (line_count (file id)) (none_past config s)
+  snippet-fills = ap fills_of steps-are ∙ steps-fills bucket is_shown (line_count (file id)) (none_past config s)
 
   -- they draw the drawn lines
   pub snippet-lines : lines_of_steps (steps_of part) ≡ drawn_lines config s.file s.labels
-  snippet-lines = ap lines_of_steps steps-are ∙ steps-lines own is_shown (line_count (file id)) (none_past config s)
+  snippet-lines = ap lines_of_steps steps-are ∙ steps-lines bucket is_shown (line_count (file id)) (none_past config s)
 
   -- a line's labels stand in the order of their starts
-  starts-ascend : (l : ℕ) → starts_in_order (singles_in (own l)) ≡ true
-  starts-ascend l =
-      ap starts_in_order (singles-said (bucket l)) ∙ ascends-starts (singles_in (bucket l)) (singles-ascend f l (bucket l) (bucket-on l) (bucket-rises l))
+  starts-ascend : (l : ℕ) → starts_in_order (singles_in (bucket l)) ≡ true
+  starts-ascend l = ascends-starts (singles_in (bucket l)) (singles-ascend f l (bucket l) (bucket-on l) (bucket-rises l))
+
+  -- its marks ascend in the lanes of the file
+  marks-fit : (l : ℕ) → do_marks_fit (lane_count s) (bucket l) ≡ true
+  marks-fit l = ap (ascend_from (lane_count s) 0) (marks-are l) ∙ marks-ascend s l
 
   -- so do those of each step
-  pub snippet-fits : AllByRecursion (λ step. does_step_fit step ≡ true) (steps_of part)
-  snippet-fits = subst (AllByRecursion (λ step. does_step_fit step ≡ true)) (sym steps-are) (steps-fit own starts-ascend None shown)
+  pub snippet-fits : AllByRecursion (λ step. does_step_fit (lane_count s) step ≡ true) (steps_of part)
+  snippet-fits =
+      subst (AllByRecursion (λ step. does_step_fit (lane_count s) step ≡ true)) (sym steps-are)
+      (steps-fit (lane_count s) bucket (λ l i. starts-ascend l i && marks-fit l i) marks-fit None shown)

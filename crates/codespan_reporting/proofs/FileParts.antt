@@ -63,7 +63,7 @@ prefix-append p [] [] h k = refl
 prefix-append p [] (y ∷ b) h k = ap (λ t. cond t (1 + prefix_len p b) 0) k.0
 prefix-append p (x ∷ a) b h k = ap (λ t. cond t (1 + prefix_len p (a ++ b)) 0) h.0 ∙ (let r = prefix-append p a b h.1 k in omega (arith, r))
 
--- so many entries in front are of the file
+-- a number of entries at the start are of the file
 own-len : (xs : List Entry) (f : ℕ) → prefix_len (is_of_file f) (filter (is_of_file f) xs ++ from_file (f + 1) xs) ≡ length (filter (is_of_file f) xs)
 own-len xs f =
     prefix-append (is_of_file f) (filter (is_of_file f) xs) (from_file (f + 1) xs) (all-pass (is_of_file f) xs)
@@ -83,7 +83,7 @@ prefix-map f p (x ∷ xs) = ap (λ n. cond (p (f x)) (1 + n) 0) (prefix-map f p 
 abbrev pub next_part : {X : Type 0} → List X → ℕ → ℕ → List X
 next_part xs at n = take (at + n - at) (drop at xs)
 
--- the next n entries are those of the file, and later files are left
+-- the next n entries are those of the file, and later files remain
 pub record IsFilePart {Id : Type 0} (xs : List (GivenEntry Id)) (at n f : ℕ) : Type 0 where
   pub len : length (next_part xs at n) ≡ n
   pub within : at + length (next_part xs at n) ≤ length xs

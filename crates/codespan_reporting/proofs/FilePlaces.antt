@@ -1,4 +1,4 @@
--- The place of a label's file among those of a diagnostic.
+-- The index of a label's file among those of a diagnostic.
 use Rattle.std.proofs.Common.{◌≡◌, ℕ, zero, suc, ◌+◌, ◌<◌, Bool, true, false, not, ◌==◌, ◌||◌, ◌++◌, cond, List, [], ◌∷◌, length, get_or, map, filter, refl, sym, ◌∙◌, ap, subst, arith, true≢false, ⊎_elim}
 use Rattle.std.specs.Prelude.{if◌then◌else◌}
 use Rattle.std.specs.Cmp.{IsEquivalence, both_ways}
@@ -38,7 +38,7 @@ module _ {Id : Type 0} (same : Id → Id → Bool) (o : IsEquivalence same) wher
     differ-filter (λ k. not (same j k)) (first_seen same js) (first_seen-differ js),
   )
 
-  -- an id has the place of the first one
+  -- an id has the index of the first one
   pub place-here : (j : Id) (js : List Id) (i : Id) → same j i ≡ true → file_place same (j ∷ js) i ≡ 0
   place-here j js i t = ap (λ b. cond (not b) (1 + file_place same js i) 0) t
 
@@ -46,18 +46,18 @@ module _ {Id : Type 0} (same : Id → Id → Bool) (o : IsEquivalence same) wher
   pub place-later : (j : Id) (js : List Id) (i : Id) → same j i ≡ false → file_place same (j ∷ js) i ≡ suc (file_place same js i)
   place-later j js i f = ap (λ b. cond (not b) (1 + file_place same js i) 0) f ∙ omega arith
 
-  -- what holds of each id holds of that at a place
+  -- what holds of each id holds of that at an index
   at-all : (P : Id → Type 0) (ids : List Id) (f : ℕ) (id : Id) → AllByRecursion P ids → IsIdAt ids f id → P id
   at-all P [] f id h a = absurd a
   at-all P (j ∷ js) zero id h a = subst P a h.0
   at-all P (j ∷ js) (suc f) id h a = at-all P js f id h.1 a
 
-  -- places after the first compare as those of the others
+  -- indices after the first compare as those of the others
   both-later : (a b c : ℕ) → c ≡ suc a → (c == suc b) ≡ (a == b)
   both-later a b c e =
       both_ways _ _ (λ t. let k : c ≡ suc b = eqb-true c (suc b) t in eq-eqb a b (omega arith)) (λ t. let k : a ≡ b = eqb-true a b t in eq-eqb c (suc b) (omega arith))
 
-  -- of ids that differ the one at a place is equal to those that have the place
+  -- of ids that differ the one at an index is equal to those that have the index
   place-is : (ids : List Id) (f : ℕ) (id : Id) → Differ ids → IsIdAt ids f id → (i : Id) → (file_place same ids i == f) ≡ same id i
   place-is [] f id d a i = absurd a
   place-is (j ∷ js) zero id d a i =
@@ -72,43 +72,43 @@ module _ {Id : Type 0} (same : Id → Id → Bool) (o : IsEquivalence same) wher
       (λ (v : same j i ≡ false). both-later (file_place same js i) f (file_place same (j ∷ js) i) (place-later j js i v) ∙ place-is js f id d.1 a i)
       (cases_Bool (same j i))
 
-  -- the id at a place of a diagnostic's files is equal to those of the labels there
+  -- the id at an index of a diagnostic's files is equal to those of the labels there
   pub file_place-at : (xs : List (InFile Id)) (f : ℕ) (id : Id) → IsIdAt (file_ids same xs) f id → (i : Id) → (file_place same (file_ids same xs) i == f) ≡ same id i
   file_place-at xs f id a i = place-is (file_ids same xs) f id (first_seen-differ (map (λ (x : InFile Id). x.id) xs)) a i
 
--- the id at a place
+-- the id at an index
 pub at-get : {Id : Type 0} (ids : List Id) (f : ℕ) (d : Id) → f < length ids → IsIdAt ids f (get_or ids f d)
 at-get [] f d h = absurd (omega arith)
 at-get (j ∷ js) zero d h = refl
 at-get (j ∷ js) (suc f) d h = at-get js f d (omega arith)
 
--- those after these are at none of their places
+-- those after these are at none of their indices
 at-before : {Id : Type 0} (ids more : List Id) (f : ℕ) (id : Id) → f < length ids → IsIdAt (ids ++ more) f id → IsIdAt ids f id
 at-before [] more f id h a = absurd (omega (arith, h))
 at-before (j ∷ js) more zero id h a = a
 at-before (j ∷ js) more (suc f) id h a = at-before js more f id (omega (arith, h)) a
 
--- ---- places as labels are gone over
+-- ---- indices, one label after another
 
--- an id that is the same as the one at a place has that place
+-- an id that is equal to the one at an index has that index
 pub guessed-place : {Id : Type 0} {same : Id → Id → Bool} (o : IsEquivalence same) (ids : List Id) {k : ℕ} (j i : Id) → AreApart same ids → IsIdAt ids k j → same j i ≡ true
     → k ≡ file_place same ids i
 guessed-place {same = same} o ids {k} j i apart at t = sym (eqb-true (file_place same ids i) k (place-is same o ids k j apart at i ∙ t))
 
 module _ {Id : Type 0} (same : Id → Id → Bool) (o : IsEquivalence same) where
-  -- an id that is none of these has the place after them
+  -- an id that is none of these has the index after them
   pub no-place : (ids : List Id) (i : Id) → has same o ids i ≡ false → file_place same ids i ≡ length ids
   no-place [] i none = refl
   no-place (j ∷ js) i none =
       let parts = or_parts (same j i) (has same o js i) none in
       omega (arith, place-later same o j js i parts.0, no-place js i parts.1)
 
-  -- an id that is none of those in front has its place after them
+  -- an id that is none of those in front has its index after them
   pub place-past : (before rest : List Id) (i : Id) → AllByRecursion (λ j. same j i ≡ false) before → file_place same (before ++ rest) i ≡ length before + file_place same rest i
   place-past [] rest i none = omega arith
   place-past (j ∷ js) rest i none = let later = place-later same o j (js ++ rest) i none.0 in let past = place-past js rest i none.1 in omega (arith, later, past)
 
-  -- one more id after these changes no place of one of them
+  -- one more id after these changes no index of one of them
   place-kept : (ids : List Id) (j i : Id) → has same o ids i ≡ true → file_place same (ids ++ j ∷ []) i ≡ file_place same ids i
   place-kept [] j i there = absurd (true≢false (sym there))
   place-kept (k ∷ ks) j i there =
@@ -125,7 +125,7 @@ module _ {Id : Type 0} (same : Id → Id → Bool) (o : IsEquivalence same) wher
       by true = refl
       by false = place-kept ids j i there
 
-  -- it is at none of their places
+  -- it is at none of their indices
   pub at-stays : (ids : List Id) (j : Id) (f : ℕ) (id : Id) → f < length ids → IsIdAt (with_file same ids j ids j) f id → IsIdAt ids f id
   at-stays ids j f id inside = by (has same o ids j)
     where

@@ -13,8 +13,8 @@ use Rattle.codespan_reporting.specs.declared.term.views.entry.Entry.{Entry as Gi
 use Rattle.codespan_reporting.specs.declared.term.views.entry.SourceLine.{SourceLine}
 use Rattle.codespan_reporting.specs.Inner.AskedLabels.{AskedLabel}
 use Rattle.codespan_reporting.specs.Inner.Entries.{Entry, Says, Single, line_entries, said, says_on}
-use Rattle.codespan_reporting.specs.Inner.GivenEntries.{Adds, IsLineOf, entry_of, says_at}
-use Rattle.codespan_laws.proofs.SortedLists.{all-append}
+use Rattle.codespan_reporting.specs.Inner.GivenEntries.{Adds, IsLineOf, entry_of, multi_at, says_at}
+use Rattle.codespan_laws.proofs.SortedLists.{all-append, all-weaker}
 
 module _ {Id : Type 0} {P : GivenEntry Id → Type 0} where
   -- nothing was added
@@ -33,6 +33,10 @@ module _ {Id : Type 0} {P : GivenEntry Id → Type 0} where
   -- the same entries in other words
   pub Adds-as : {xs ys : List (GivenEntry Id)} {es fs : List Entry} → fs ≡ es → Adds P xs ys es → Adds P xs ys fs
   Adds-as same a = record { more = a.more; whole = a.whole; say = a.say ∙ sym same; each = a.each }
+
+-- what holds of what was added is weaker
+pub Adds-weaker : {Id : Type 0} {P Q : GivenEntry Id → Type 0} {xs ys : List (GivenEntry Id)} {es : List Entry} → ((e : GivenEntry Id) → P e → Q e) → Adds P xs ys es → Adds Q xs ys es
+Adds-weaker {P = P} {Q = Q} weaker a = record { more = a.more; whole = a.whole; say = a.say; each = all-weaker P Q weaker a.more a.each }
 
 -- what was gathered says this
 pub gathered-says : {Id : Type 0} (P : GivenEntry Id → Type 0) (gathered : List (GivenEntry Id)) (es : List Entry) → Adds P [] gathered es → map entry_of gathered ≡ es
@@ -58,9 +62,13 @@ module _ {Id : Type 0} (x : AskedLabel Id) where
       (λ t. ap (λ k. from_line_start (line_start x.file k) x.label) (eqb-true (first_line x.file x.label) line.index t))
       ∙ ap (λ start. says_at x.config x.at (first_line x.file x.label) (last_line x.file x.label) line.index start x.label) (sym is.range_is.start_is)
 
-  -- what a label says of a line
-  pub said-line : {line : SourceLine} {first last : ℕ} {says : Option Says} → first_line x.file x.label ≡ first → last_line x.file x.label ≡ last → IsLineOf x.file line
-      → says ≡ says_at x.config x.at first last line.index line.start x.label → line_entries x.config x.file x.at x.label line.index ≡ said x.at.file line.index says
-  said-line {line} is_first is_last is is_says =
-      ap (said x.at.file line.index) (says_on-is line is
-      ∙ (λ i. says_at x.config x.at (is_first i) (is_last i) line.index line.start x.label) ∙ sym is_says)
+  -- what a label says of a line, and its mark on it
+  pub said-line : {line : SourceLine} {first last : ℕ} {says mark : Option Says} → first_line x.file x.label ≡ first → last_line x.file x.label ≡ last → IsLineOf x.file line
+      → says ≡ says_at x.config x.at first last line.index line.start x.label → mark ≡ multi_at x.at first last line.index line.start x.label
+      → line_entries x.config x.file x.at x.label line.index ≡ said x.at.file line.index says ++ said x.at.file line.index mark
+  said-line {line} is_first is_last is is_says is_mark =
+      let l = line.index in
+      let f = x.at.file in
+      let by_says = says_on-is line is ∙ (λ i. says_at x.config x.at (is_first i) (is_last i) l line.start x.label) ∙ sym is_says in
+      let by_mark = (λ i. multi_at x.at (is_first i) (is_last i) l (sym is.range_is.start_is i) x.label) ∙ sym is_mark in
+      λ i. said f l (by_says i) ++ said f l (by_mark i)

@@ -1,12 +1,12 @@
 -- The walk over entries in order, group by group.
-use Rattle.std.proofs.Common.{◌≡◌, ℕ, suc, ◌+◌, ◌-◌, ◌<◌, ◌≤◌, true, List, [], ◌∷◌, ◌++◌, length, take, drop, get_or, Option, Some, refl, sym, ◌∙◌, ap, subst, arith, length-drop}
+use Rattle.std.proofs.Common.{◌≡◌, ℕ, zero, suc, ◌+◌, ◌-◌, ◌<◌, ◌≤◌, true, false, cond, List, [], ◌∷◌, ◌++◌, length, take, drop, get_or, Option, Some, refl, sym, ◌∙◌, ap, subst, arith, length-drop}
 use Rattle.std.specs.List.{prefix_len}
 use Rattle.std.proofs.Math.Nat.{add-sub_cancel_left}
 use Rattle.std.proofs.Math.Seq.{take-length}
 use Rattle.std.proofs.lemmas.List.{get_or-drop, length-take-le, drop-drop}
 use Rattle.std.proofs.lemmas.Bool.{eq-eqb}
-use Rattle.codespan_reporting.specs.Inner.Entries.{Entry, tells_shown, is_on_line}
-use Rattle.codespan_reporting.specs.Inner.Steps.{groups, without_shown, steps_to, walk}
+use Rattle.codespan_reporting.specs.Inner.Entries.{Entry, is_on_line, shows_line}
+use Rattle.codespan_reporting.specs.Inner.Steps.{Step, are_shown, groups, steps_to, walk}
 use Rattle.codespan_reporting.proofs.EntryGroups.{group_at, groups-cons}
 
 -- ---- groups
@@ -32,25 +32,24 @@ prefix_len-some : (xs : List Entry) (d : Entry) (l : ℕ) → 0 < length xs → 
 prefix_len-some [] d l some is = absurd (omega arith)
 prefix_len-some (x ∷ xs) d l some is = subst (λ n. 0 < prefix_len (is_on_line n) (x ∷ xs)) is (omega (arith, prefix_len-first x xs))
 
--- ---- the walk by places
+-- the first entry tells whether a line is shown
+shown-first : (n : ℕ) (xs : List Entry) (d : Entry) → 0 < n → 0 < length xs → are_shown (take n xs) ≡ shows_line (get_or xs 0 d)
+shown-first zero xs d some more = absurd (omega arith)
+shown-first (suc n) [] d some more = absurd (omega arith)
+shown-first (suc n) (x ∷ xs) d some more = refl
 
--- the entries from a place on, without the first ones
-abbrev pub without : ℕ → List Entry → List Entry
-without m xs = take (length xs - m) (drop m xs)
+-- ---- the walk by places
 
 -- so many entries from a place on
 abbrev pub part : List Entry → ℕ → ℕ → List Entry
 part xs at n = take (at + n - at) (drop at xs)
 
--- all from a place on
-without-drop : (m : ℕ) (xs : List Entry) → without m xs ≡ drop m xs
-without-drop m xs = ap (λ i. take i (drop m xs)) (sym (length-drop m xs)) ∙ take-length (drop m xs)
-
 -- so many entries from a place on are the next group
 pub record IsGroup (xs : List Entry) (at n : ℕ) (d : Entry) : Type 0 where
   pub len : length (part xs at n) ≡ n
   pub some : 0 < n
-  pub first : groups (drop at xs) ≡ group_at (get_or xs at d).line (part xs at n) ∷ groups (drop (at + length (part xs at n)) xs)
+  pub shown : are_shown (part xs at n) ≡ shows_line (get_or xs at d)
+  pub first : groups (drop at xs) ≡ group_at (get_or xs at d).line (part xs at n) ∷ groups (drop (at + n) xs)
 
 -- those of the line of the entry at a place are
 pub next_group : (xs : List Entry) (at n : ℕ) (d : Entry) → at < length xs
@@ -65,23 +64,33 @@ next_group xs at n d inside is' le' =
     let more : 0 < length (drop at xs) = omega (arith, length-drop at xs) in
     let line_is : (get_or (drop at xs) 0 d).line ≡ l = ap (λ (e : Entry). e.line) at_first in
     let some : 0 < n = rw is (prefix_len-some (drop at xs) d l more line_is) in
-    let long : length (part xs at n) ≡ n = rw cancelled (length-take-le n (drop at xs) le) in
     let front : part xs at n ≡ take n (drop at xs) = ap (λ i. take i (drop at xs)) cancelled in
-    let rest : drop (at + length (part xs at n)) xs ≡ drop n (drop at xs) = ap (λ i. drop (at + i) xs) long ∙ sym (drop-drop n at xs) in
     record {
-      len = long;
+      len = rw cancelled (length-take-le n (drop at xs) le);
       some = some;
+      shown = ap are_shown front ∙ shown-first n (drop at xs) d some more ∙ ap shows_line at_first;
       first = subst (λ i. groups (drop at xs) ≡ group_at l (take i (drop at xs)) ∷ groups (drop i (drop at xs))) (sym is) (groups-first (drop at xs) d l more line_is)
-          ∙ (λ i. group_at l (sym front i) ∷ groups (sym rest i));
+          ∙ (λ i. group_at l (sym front i) ∷ groups (drop-drop n at xs i));
     }
 
--- a line is next: the steps up to it, and then the others
-pub steps-next : (xs : List Entry) (at n m : ℕ) (d : Entry) (was : Option ℕ) → IsGroup xs at n d → m ≡ prefix_len tells_shown (part xs at n)
-    → walk was (groups (drop at xs))
-    ≡ steps_to was (get_or xs at d).line (without m (part xs at n)) ++ walk (Some (get_or xs at d).line) (groups (drop (at + length (part xs at n)) xs))
-steps-next xs at n m d was next is =
-    let l = (get_or xs at d).line in
-    let rest = groups (drop (at + length (part xs at n)) xs) in
-    let own : without_shown (part xs at n) ≡ without m (part xs at n) = ap (λ i. drop i (part xs at n)) (sym is) ∙ sym (without-drop m (part xs at n)) in
-    ap (walk was) next.first
-    ∙ ap (λ (es : List Entry). steps_to was l es ++ walk (Some l) rest) own
+module _ (xs : List Entry) (at n : ℕ) (d : Entry) (was : Option ℕ) (hidden : List Entry) (next : IsGroup xs at n d) where
+  -- the steps where the next line is shown
+  abbrev where_shown : List Step
+  where_shown = steps_to was hidden (get_or xs at d).line (part xs at n) ++ walk (Some (get_or xs at d).line) [] (groups (drop (at + n) xs))
+
+  -- and where it is hidden
+  abbrev where_hidden : List Step
+  where_hidden = walk was (part xs at n) (groups (drop (at + n) xs))
+
+  -- what the walk does with the next group
+  by_group : walk was hidden (groups (drop at xs)) ≡ cond (shows_line (get_or xs at d)) where_shown where_hidden
+  by_group = ap (walk was hidden) next.first ∙ ap (λ b. cond b where_shown where_hidden) next.shown
+
+  -- a shown line is next: the steps up to it, and then the others
+  pub steps-next : shows_line (get_or xs at d) ≡ true → walk was hidden (groups (drop at xs))
+      ≡ steps_to was hidden (get_or xs at d).line (part xs at n) ++ walk (Some (get_or xs at d).line) [] (groups (drop (at + n) xs))
+  steps-next t = by_group ∙ ap (λ b. cond b where_shown where_hidden) t
+
+  -- a hidden line is next: the others
+  pub steps-skip : shows_line (get_or xs at d) ≡ false → walk was hidden (groups (drop at xs)) ≡ walk was (part xs at n) (groups (drop (at + n) xs))
+  steps-skip f = by_group ∙ ap (λ b. cond b where_shown where_hidden) f

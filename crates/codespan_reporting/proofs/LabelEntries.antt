@@ -1,16 +1,19 @@
 -- What the entries of one label say of one line.
 use Rattle.std.proofs.Common.{◌≡◌, ◌≢◌, ℕ, zero, suc, ◌+◌, ◌<◌, Bool, true, false, cond, ◌==◌, nat_lt, nat_le, ◌&&◌, ◌||◌, List, [], ◌∷◌, ◌++◌, filter, flat_map, Some, None, ⊎_elim, refl, sym, ◌∙◌, ap, arith}
+use Rattle.std.specs.Prelude.{Option}
+use Rattle.std.specs.Option.{option_map}
 use Rattle.std.specs.List.{list_any, range_with_len, AllByRecursion}
 use Rattle.std.proofs.lemmas.Bool.{cases_Bool, cases_eq, cond_both, eq-eqb, ne_eqb}
 use Rattle.std.proofs.lemmas.Bool.Decides.{nat_tests}
 use Rattle.std.proofs.Math.Bool.{and-false}
 use Rattle.std.proofs.lemmas.List.{append-nil}
 use Rattle.std.proofs.lemmas.List.Elements.{filter-append}
+use Rattle.std.proofs.lemmas.List.Folds.{list_any-append}
 use Rattle.codespan_base.specs.declared.term.config.Config.{Config}
-use Rattle.codespan_base.specs.FileModel.{FileModel, line_count}
-use Rattle.codespan_base.specs.Labels.{Labelled, first_line, last_line, is_single, drawn_label}
-use Rattle.codespan_reporting.specs.declared.term.views.gather.LabelPlace.{LabelPlace}
-use Rattle.codespan_reporting.specs.Inner.Entries.{Entry, Says, Shown, Single, kind_of, is_on_line, line_entries, entries_of, said}
+use Rattle.codespan_base.specs.FileModel.{FileModel, line_count, line_start}
+use Rattle.codespan_base.specs.Labels.{LaneMark, Labelled, first_line, last_line, is_single, drawn_label, mark_of, part_at, part_on}
+use Rattle.codespan_reporting.specs.declared.term.views.label_entries.LabelPlace.{LabelPlace}
+use Rattle.codespan_reporting.specs.Inner.Entries.{Entry, Says, Shown, Single, Multi, kind_of, is_on_line, line_entries, entries_of, said, shows_line}
 use Rattle.codespan_picture.specs.Lines.{shows}
 use Rattle.codespan_picture.specs.Lookups.{is_around, is_asked}
 use Rattle.codespan_laws.proofs.SortedLists.{all-append, filter-whole, filter-nothing, all-weaker}
@@ -110,6 +113,14 @@ module _ (config : Config) where
   not_first : (s e l : ℕ) → asks s e l ≡ false → (s == l) ≡ false
   not_first s e l h = grind (arith, nat_tests)
 
+  -- it has no mark on another one
+  not_marked : (s e l start : ℕ) (x : Labelled) → asks s e l ≡ false → part_at s e l start x ≡ None
+  not_marked s e l start x h =
+      let a : (s == l) ≡ false = grind (arith, nat_tests) in
+      let b : (e == l) ≡ false = grind (arith, nat_tests) in
+      let c : (nat_lt s l && nat_lt l e) ≡ false = grind (arith, nat_tests) in
+      rw (a, b, c) refl
+
   -- it shows the line that it begins on
   own_shown : (s e l : ℕ) → (s == l) ≡ true → shows config s e l ≡ true
   own_shown s e l h = grind (arith, nat_tests)
@@ -129,10 +140,29 @@ module _ (config : Config) (f : FileModel) (at : LabelPlace) (x : Labelled) wher
   abbrev said_where : ℕ → Bool → Bool → List Entry
   said_where l a b = said at.file l (cond a (Some (Single at.place (drawn_label f x))) (cond b (Some Shown) None))
 
+  -- its mark on a line, where it is over several lines and has one
+  abbrev pub marked_where : ℕ → Bool → Option LaneMark → List Entry
+  marked_where l a o = said at.file l (cond a None (option_map Multi o))
+
+  -- its mark on a line
+  abbrev pub marked_on : ℕ → List Entry
+  marked_on l = marked_where l (is_single f x) (mark_of at.lane x (part_on f l x))
+
+  -- what it says of a line itself
+  abbrev said_on : ℕ → List Entry
+  said_on l = said_where l (is_single f x && (first_line f x == l)) (shows config (first_line f x) (last_line f x) l)
+
   -- what holds of each entry that it can give of a line
   each-of_line : (P : Entry → Type 0) (l : ℕ) → ((s : Says) → P (entry_on l s)) → AllByRecursion P (line_entries config f at x l)
-  each-of_line P l h = by_tests (is_single f x && (first_line f x == l)) (shows config (first_line f x) (last_line f x) l)
+  each-of_line P l h =
+      all-append P (said_on l) (marked_on l) (by_tests (is_single f x && (first_line f x == l)) (shows config (first_line f x) (last_line f x) l))
+      (by_mark (is_single f x) (mark_of at.lane x (part_on f l x)))
     where
+      by_mark : (a : Bool) (o : Option LaneMark) → AllByRecursion P (marked_where l a o)
+      by_mark true o = tt
+      by_mark false None = tt
+      by_mark false (Some m) = (h (Multi m), tt)
+
       by_tests : (a b : Bool) → AllByRecursion P (said_where l a b)
       by_tests true b = (h (Single at.place (drawn_label f x)), tt)
       by_tests false true = (h Shown, tt)
@@ -153,7 +183,13 @@ module _ (config : Config) (f : FileModel) (at : LabelPlace) (x : Labelled) wher
   not_asked l h =
       let a : shows config (first_line f x) (last_line f x) l ≡ false = not_shown config (first_line f x) (last_line f x) l h in
       let b : (first_line f x == l) ≡ false = not_first config (first_line f x) (last_line f x) l h in
-      (λ i. said_where l (is_single f x && b i) (a i)) ∙ ap (λ t. said_where l t false) (and-false (is_single f x))
+      let c : part_on f l x ≡ None = not_marked config (first_line f x) (last_line f x) l (line_start f l) x h in
+      (λ i. said_where l (is_single f x && b i) (a i) ++ marked_where l (is_single f x) (mark_of at.lane x (c i)))
+      ∙ ap (λ t. said_where l t false ++ marked_where l (is_single f x) None) (and-false (is_single f x)) ∙ unmarked (is_single f x)
+    where
+      unmarked : (a : Bool) → said_where l false false ++ marked_where l a None ≡ []
+      unmarked true = refl
+      unmarked false = refl
 
   -- of a line that the file has its entries are what it says of the line
   pub entries-of_line : (l : ℕ) → filter (is_on_line l) (entries_of config f at x) ≡ cond (nat_lt l (line_count f)) (line_entries config f at x l) []
@@ -178,18 +214,55 @@ module _ (config : Config) (f : FileModel) (at : LabelPlace) (x : Labelled) wher
 
   -- those of a label inside the line
   pub singles-of_line : (l : ℕ) → filter (is_kind 1) (line_entries config f at x l) ≡ cond (is_single f x && (first_line f x == l)) (carets l ∷ []) []
-  singles-of_line l = by_tests (is_single f x && (first_line f x == l)) (shows config (first_line f x) (last_line f x) l)
+  singles-of_line l =
+      filter-append (is_kind 1) (said_on l) (marked_on l)
+      ∙ (λ i. by_tests (is_single f x && (first_line f x == l)) (shows config (first_line f x) (last_line f x) l) i ++ by_mark (is_single f x) (mark_of at.lane x (part_on f l x)) i)
+      ∙ append-nil (cond (is_single f x && (first_line f x == l)) (carets l ∷ []) [])
     where
+      by_mark : (a : Bool) (o : Option LaneMark) → filter (is_kind 1) (marked_where l a o) ≡ []
+      by_mark true o = refl
+      by_mark false None = refl
+      by_mark false (Some m) = refl
+
       by_tests : (a b : Bool) → filter (is_kind 1) (said_where l a b) ≡ cond a (carets l ∷ []) []
       by_tests true b = refl
       by_tests false true = refl
       by_tests false false = refl
 
-  -- it says something of the lines that it shows: a label inside a line shows that line
-  pub any-of_line : (l : ℕ) → list_any (λ _. true) (line_entries config f at x l) ≡ shows config (first_line f x) (last_line f x) l
-  any-of_line l = by_tests (is_single f x) (first_line f x == l) (shows config (first_line f x) (last_line f x) l) (own_shown config (first_line f x) (last_line f x) l)
+  -- its mark
+  pub marks-of_line : (l : ℕ) → filter (is_kind 2) (line_entries config f at x l) ≡ marked_on l
+  marks-of_line l =
+      filter-append (is_kind 2) (said_on l) (marked_on l)
+      ∙ (λ i. by_tests (is_single f x && (first_line f x == l)) (shows config (first_line f x) (last_line f x) l) i ++ by_mark (is_single f x) (mark_of at.lane x (part_on f l x)) i)
     where
-      by_tests : (a b c : Bool) → (b ≡ true → c ≡ true) → list_any (λ _. true) (said_where l (a && b) c) ≡ c
+      by_mark : (a : Bool) (o : Option LaneMark) → filter (is_kind 2) (marked_where l a o) ≡ marked_where l a o
+      by_mark true o = refl
+      by_mark false None = refl
+      by_mark false (Some m) = refl
+
+      by_tests : (a b : Bool) → filter (is_kind 2) (said_where l a b) ≡ []
+      by_tests true b = refl
+      by_tests false true = refl
+      by_tests false false = refl
+
+  -- it says of the lines that it shows that they are shown: a label inside a line shows that line
+  pub any-of_line : (l : ℕ) → list_any shows_line (line_entries config f at x l) ≡ shows config (first_line f x) (last_line f x) l
+  any-of_line l =
+      list_any-append shows_line (said_on l) (marked_on l)
+      ∙ (λ i. by_tests (is_single f x) (first_line f x == l) (shows config (first_line f x) (last_line f x) l) (own_shown config (first_line f x) (last_line f x) l) i
+      || by_mark (is_single f x) (mark_of at.lane x (part_on f l x)) i)
+      ∙ or-none (shows config (first_line f x) (last_line f x) l)
+    where
+      or-none : (b : Bool) → (b || false) ≡ b
+      or-none true = refl
+      or-none false = refl
+
+      by_mark : (a : Bool) (o : Option LaneMark) → list_any shows_line (marked_where l a o) ≡ false
+      by_mark true o = refl
+      by_mark false None = refl
+      by_mark false (Some m) = refl
+
+      by_tests : (a b c : Bool) → (b ≡ true → c ≡ true) → list_any shows_line (said_where l (a && b) c) ≡ c
       by_tests true true c own = sym (own refl)
       by_tests true false true own = refl
       by_tests true false false own = refl

@@ -12,7 +12,7 @@ use Rattle.codespan_reporting.specs.declared.term.views.entry.Entry.{Entry as Gi
 use Rattle.codespan_reporting.specs.declared.term.views.file_order.LabelledFile.{LabelledFile as GivenFile}
 use Rattle.codespan_reporting.specs.Inner.Entries.{Entry, entries_of}
 use Rattle.codespan_reporting.specs.Inner.GivenEntries.{Adds, IsOfFiles, entry_of}
-use Rattle.codespan_reporting.specs.Inner.LabelledFiles.{ids_given, with_file}
+use Rattle.codespan_reporting.specs.Inner.LabelledFiles.{ids_given, lanes_in, with_file}
 use Rattle.codespan_reporting.specs.Inner.PlacedLabels.{IsIdAt, entries_after, file_place, place_after}
 use Rattle.codespan_reporting.proofs.FileOrder.{file_ids-has, file_ids-more, has, none-of_file}
 use Rattle.codespan_reporting.proofs.FilePlaces.{at-stays, no-place, place-here, place-past, place-stays}
@@ -56,7 +56,7 @@ module _ {Id : Type 0} {same : Id → Id → Bool} (o : IsEquivalence same) (xs 
         → entries_after same file config are before ys ≡ entries_after same file config were before ys
     entries-stay before [] there = refl
     entries-stay before (y ∷ ys) there = λ i.
-        entries_of config (file y.id) (record { file = stays y.id there.0 i; place = length before }) y.label ++ entries-stay (before ++ y ∷ []) ys there.1 i
+        entries_of config (file y.id) (record { file = stays y.id there.0 i; place = length before; lane = lanes_in same file before y.id }) y.label ++ entries-stay (before ++ y ∷ []) ys there.1 i
 
     -- it is said of these files
     entries-inside : (before ys : List (InFile Id)) → AllByRecursion (λ (y : InFile Id). has same o were y.id ≡ true) ys
@@ -65,7 +65,7 @@ module _ {Id : Type 0} {same : Id → Id → Bool} (o : IsEquivalence same) (xs 
     entries-inside before (y ∷ ys) there =
         all-append (λ (e : Entry). e.file < length were) _ _
         (all-weaker (λ (e : Entry). e.file ≡ file_place same were y.id) (λ e. e.file < length were) (λ e is. omega (arith, is, has-place same o were y.id there.0)) _
-        (all-of_file config (file y.id) (place_after same were before y) y.label))
+        (all-of_file config (file y.id) (place_after same file were before y) y.label))
         (entries-inside (before ++ y ∷ []) ys there.1)
 
     -- what the labels say was added, and their lines are those of their files

@@ -1,21 +1,21 @@
 -- Elements at their places, the files of ids, and the places and lanes of labels, one label after another.
-use Rattle.std.proofs.Common.{◌≡◌, ℕ, ◌+◌, ◌<◌, Bool, true, false, not, ◌||◌, cond, List, [], ◌∷◌, ◌++◌, length, take, get_or, set, map, refl, sym, ap, subst, ◌∙◌, arith, ⊎_elim, true≢false}
+use Rattle.std.proofs.Common.{◌≡◌, ℕ, ◌+◌, ◌<◌, ◌≤◌, Bool, true, false, not, ◌||◌, cond, List, [], ◌∷◌, ◌++◌, length, take, get_or, set, map, refl, sym, ap, subst, ◌∙◌, arith, ⊎_elim, true≢false}
 use Rattle.std.specs.Prelude.{filter, if◌then◌else◌}
 use Rattle.std.specs.Cmp.{IsEquivalence}
 use Rattle.std.specs.List.{AllByRecursion}
 use Rattle.std.proofs.lemmas.Bool.{cases_Bool}
-use Rattle.std.proofs.lemmas.List.{append-nil, append_assoc, get_or-map, map-append, map-set, take_more}
+use Rattle.std.proofs.lemmas.List.{append-nil, append_assoc, get_or-map, length-append, length-map, map-append, map-set, take_more}
 use Rattle.std.proofs.lemmas.List.Elements.{filter-append}
+use Rattle.std.proofs.lemmas.List.Filters.{length-filter_both}
 use Rattle.codespan_base.specs.declared.term.config.Config.{Config}
 use Rattle.codespan_base.specs.FileModel.{FileDatabase, FileModel, line_count}
 use Rattle.codespan_base.specs.LawfulFiles.{IsLawful}
 use Rattle.codespan_base.specs.Labels.{Labelled, first_line, is_single, last_line, multi_labels}
 use Rattle.codespan_reporting.specs.declared.term.views.label_lines.LabelLines.{LabelLines}
 use Rattle.codespan_reporting.specs.Inner.Entries.{Entry, entries_of}
-use Rattle.codespan_reporting.specs.Inner.LabelledFiles.{lanes_by}
-use Rattle.codespan_reporting.specs.Inner.Lanes.{Lane, file_lanes, lane_of, lanes_in}
+use Rattle.codespan_reporting.specs.Inner.LabelledFiles.{lanes_by, lanes_in}
 use Rattle.codespan_reporting.specs.Inner.PlacedLabels.{file_place, place_after, entries_after}
-use Rattle.codespan_picture.specs.Snippets.{InFile}
+use Rattle.codespan_picture.specs.Snippets.{InFile, lane_count}
 use Rattle.codespan_laws.proofs.SortedLists.{filter-nothing}
 use Rattle.codespan_reporting.proofs.FileOrder.{has}
 use Rattle.codespan_reporting.proofs.FilePlaces.{Differ, place-here, place-later}
@@ -50,7 +50,7 @@ pub record AreFiles {Id : Type 0} (table : FileDatabase Id) : Type 0 where
 
 -- a lawful database, whose equality of ids is this one, has such files
 pub are-files : {Id : Type 0} {table : FileDatabase Id} {same : Id → Id → Bool} → table.same ≡ same → IsEquivalence same
-    → ((i j : Id) → table.same i j ≡ true → (table.file i ≡ table.file j) × (table.refusal i ≡ table.refusal j))
+    → ((i j : Id) → table.same i j ≡ true → (table.file i ≡ table.file j) × (table.failure i ≡ table.failure j))
     → ((id : Id) → IsLawful (table.file id)) → AreFiles table
 are-files is equivalence same_file lawful = record {
   equivalence = subst IsEquivalence (sym is) equivalence;
@@ -63,17 +63,13 @@ pub record IsChanged {Id A : Type 0} (same : Id → Id → Bool) (i : Id) (h mor
   pub own : (j : Id) → same j i ≡ true → more j ≡ v
   pub others : (j : Id) → same j i ≡ false → more j ≡ h j
 
--- the lane that a label takes, where it is over several lines
-abbrev pub label_lanes : FileModel → Labelled → List Lane
-label_lanes f x = map (lane_of f) (multi_labels f (x ∷ []))
+-- how many lanes a label takes: one, where it is over several lines
+abbrev pub label_lanes : FileModel → Labelled → ℕ
+label_lanes f x = if is_single f x then 0 else 1
 
--- that is the one by the lines that it starts and ends on
-pub lanes_by-are : (f : FileModel) (x : Labelled) (lines : LabelLines) → lines.first ≡ first_line f x → lines.last ≡ last_line f x → lanes_by lines x ≡ label_lanes f x
-lanes_by-are f x lines first last = (λ i. lanes_by (record { first = first i; last = last i }) x) ∙ by (is_single f x)
-  where
-    by : (b : Bool) → (if b then [] else lane_of f x ∷ []) ≡ map (lane_of f) (cond (not b) (x ∷ []) [])
-    by true = refl
-    by false = refl
+-- that is known by the lines that it starts and ends on
+pub lanes_by-are : (f : FileModel) (x : Labelled) (lines : LabelLines) → lines.first ≡ first_line f x → lines.last ≡ last_line f x → lanes_by lines ≡ label_lanes f x
+lanes_by-are f x lines first last = λ i. lanes_by (record { first = first i; last = last i })
 
 module _ {Id : Type 0} (same : Id → Id → Bool) (o : IsEquivalence same) where
   -- an id that is the same as that of one of these has a place among them
@@ -114,25 +110,33 @@ module _ {Id : Type 0} {same : Id → Id → Bool} (o : IsEquivalence same) wher
         ∙ (λ n. sym (changed.others j f) n ∷ set-at js differ.1 (sym (ap (λ b. b || has same o js i) f) ∙ there) n))
         (cases_Bool (same j i))
 
--- equal ids have the same lanes
+-- equal ids have as many lanes
 pub lanes_in-alike : {Id : Type 0} {table : FileDatabase Id} (lawful : AreFiles table) (before : List (InFile Id)) (i j : Id) → table.same i j ≡ true
     → lanes_in table.same table.file before i ≡ lanes_in table.same table.file before j
-lanes_in-alike {Id} lawful before i j t = λ k. file_lanes (record {
+lanes_in-alike {Id} lawful before i j t = λ k. lane_count (record {
   file = lawful.one_file i j t k;
   labels = map (λ (x : InFile Id). x.label) (filter (λ (x : InFile Id). lawful.equivalence.congr i j x.id t k) before);
 })
 
 module _ {Id : Type 0} (same : Id → Id → Bool) (file : Id → FileModel) where
   -- labels of other files have no lane in a file
-  pub lanes_in-none : (xs : List (InFile Id)) (id : Id) → AllByRecursion (λ (x : InFile Id). same id x.id ≡ false) xs → lanes_in same file xs id ≡ []
+  pub lanes_in-none : (xs : List (InFile Id)) (id : Id) → AllByRecursion (λ (x : InFile Id). same id x.id ≡ false) xs → lanes_in same file xs id ≡ 0
   lanes_in-none xs id none =
-      ap (λ (own : List (InFile Id)). file_lanes (record { file = file id; labels = map (λ (x : InFile Id). x.label) own })) (filter-nothing (λ (x : InFile Id). same id x.id) xs none)
+      ap (λ (own : List (InFile Id)). lane_count (record { file = file id; labels = map (λ (x : InFile Id). x.label) own })) (filter-nothing (λ (x : InFile Id). same id x.id) xs none)
+
+  -- a file has a lane for each label at most
+  pub lanes-within : (id : Id) (xs : List (InFile Id)) → lanes_in same file xs id ≤ length xs
+  lanes-within id xs =
+      let a = length-filter_both (λ (x : InFile Id). same id x.id) (λ (x : InFile Id). not (same id x.id)) (λ x. refl) xs in
+      let own = filter (λ (x : InFile Id). same id x.id) xs in
+      let b = length-filter_both (λ y. not (is_single (file id) y)) (λ y. not (not (is_single (file id) y))) (λ y. refl) (map (λ (x : InFile Id). x.label) own) in
+      omega (arith, a, b, length-map own (λ (x : InFile Id). x.label))
 
   -- the lanes with one more label
   pub lanes_in-more : (before : List (InFile Id)) (x : InFile Id) (id : Id)
-      → lanes_in same file (before ++ x ∷ []) id ≡ lanes_in same file before id ++ (if same id x.id then label_lanes (file id) x.label else [])
+      → lanes_in same file (before ++ x ∷ []) id ≡ lanes_in same file before id + (if same id x.id then label_lanes (file id) x.label else 0)
   lanes_in-more before x id =
-      ap (λ (xs : List (InFile Id)). file_lanes (record { file = file id; labels = map (λ (y : InFile Id). y.label) xs })) (filter-append (λ (y : InFile Id). same id y.id) before (x ∷ []))
+      ap (λ (xs : List (InFile Id)). lane_count (record { file = file id; labels = map (λ (y : InFile Id). y.label) xs })) (filter-append (λ (y : InFile Id). same id y.id) before (x ∷ []))
       ∙ by_same (same id x.id)
     where
       own : List (InFile Id)
@@ -141,21 +145,27 @@ module _ {Id : Type 0} (same : Id → Id → Bool) (file : Id → FileModel) whe
       labels : List Labelled
       labels = map (λ (y : InFile Id). y.label) own
 
-      by_same : (b : Bool) → file_lanes (record { file = file id; labels = map (λ (y : InFile Id). y.label) (own ++ (cond b (x ∷ []) [])) })
-          ≡ lanes_in same file before id ++ (if b then label_lanes (file id) x.label else [])
+      one : (b : Bool) → length (cond (not b) (x.label ∷ []) []) ≡ (if b then 0 else 1)
+      one true = refl
+      one false = refl
+
+      by_same : (b : Bool) → lane_count (record { file = file id; labels = map (λ (y : InFile Id). y.label) (own ++ (cond b (x ∷ []) [])) })
+          ≡ lanes_in same file before id + (if b then label_lanes (file id) x.label else 0)
       by_same true =
-          ap (λ (ls : List Labelled). file_lanes (record { file = file id; labels = ls })) (map-append (λ (y : InFile Id). y.label) own (x ∷ []))
-          ∙ ap (map (lane_of (file id))) (filter-append (λ y. not (is_single (file id) y)) labels (x.label ∷ []))
-          ∙ map-append (lane_of (file id)) (multi_labels (file id) labels) (multi_labels (file id) (x.label ∷ []))
+          ap (λ (ls : List Labelled). lane_count (record { file = file id; labels = ls })) (map-append (λ (y : InFile Id). y.label) own (x ∷ []))
+          ∙ ap (λ (ls : List Labelled). length ls) (filter-append (λ y. not (is_single (file id) y)) labels (x.label ∷ []))
+          ∙ length-append (multi_labels (file id) labels) (multi_labels (file id) (x.label ∷ []))
+          ∙ ap (λ n. lanes_in same file before id + n) (one (is_single (file id) x.label))
       by_same false =
-          ap (λ (xs : List (InFile Id)). file_lanes (record { file = file id; labels = map (λ (y : InFile Id). y.label) xs })) (append-nil own) ∙ sym (append-nil _)
+          ap (λ (xs : List (InFile Id)). lane_count (record { file = file id; labels = map (λ (y : InFile Id). y.label) xs })) (append-nil own)
+          ∙ (let e : lanes_in same file before id ≡ lanes_in same file before id + 0 = omega arith in e)
 
   -- what the labels say, with one more
   pub entries_after-more : (config : Config) (ids : List Id) (before xs : List (InFile Id)) (x : InFile Id)
-      → entries_after same file config ids before (xs ++ x ∷ []) ≡ entries_after same file config ids before xs ++ entries_of config (file x.id) (place_after same ids (before ++ xs) x) x.label
+      → entries_after same file config ids before (xs ++ x ∷ []) ≡ entries_after same file config ids before xs ++ entries_of config (file x.id) (place_after same file ids (before ++ xs) x) x.label
   entries_after-more config ids before [] x =
-      append-nil _ ∙ ap (λ (ys : List (InFile Id)). entries_of config (file x.id) (place_after same ids ys x) x.label) (sym (append-nil before))
+      append-nil _ ∙ ap (λ (ys : List (InFile Id)). entries_of config (file x.id) (place_after same file ids ys x) x.label) (sym (append-nil before))
   entries_after-more config ids before (y ∷ ys) x =
-      ap (λ (es : List Entry). entries_of config (file y.id) (place_after same ids before y) y.label ++ es) (entries_after-more config ids (before ++ y ∷ []) ys x)
-      ∙ sym (append_assoc (entries_of config (file y.id) (place_after same ids before y) y.label) (entries_after same file config ids (before ++ y ∷ []) ys) (entries_of config (file x.id) (place_after same ids ((before ++ y ∷ []) ++ ys) x) x.label))
-      ∙ ap (λ (zs : List (InFile Id)). entries_after same file config ids before (y ∷ ys) ++ entries_of config (file x.id) (place_after same ids zs x) x.label) (append_assoc before (y ∷ []) ys)
+      ap (λ (es : List Entry). entries_of config (file y.id) (place_after same file ids before y) y.label ++ es) (entries_after-more config ids (before ++ y ∷ []) ys x)
+      ∙ sym (append_assoc (entries_of config (file y.id) (place_after same file ids before y) y.label) (entries_after same file config ids (before ++ y ∷ []) ys) (entries_of config (file x.id) (place_after same file ids ((before ++ y ∷ []) ++ ys) x) x.label))
+      ∙ ap (λ (zs : List (InFile Id)). entries_after same file config ids before (y ∷ ys) ++ entries_of config (file x.id) (place_after same file ids zs x) x.label) (append_assoc before (y ∷ []) ys)

@@ -10,12 +10,12 @@ use Rattle.codespan_reporting.proofs.FileOrder.{file_ids-has, has}
 use Rattle.codespan_reporting.proofs.FilePlaces.{Differ, first_seen-differ}
 use Rattle.codespan_reporting.proofs.LabelPlaces.{StandsAt, has-place, take-at}
 
--- the labels before a place
+-- the labels before an index
 abbrev pub before : {Id : Type 0} → List (Label Id) → ℕ → List (InFile Id)
 before labels place = map label_of (take place labels)
 
 module _ {Id : Type 0} {labels : List (Label Id)} {place : ℕ} {label : Label Id} (turn : StandsAt labels place label) where
-  -- the labels before the next place
+  -- the labels before the next index
   pub before-more : before labels (place + 1) ≡ before labels place ++ label_of label ∷ []
   before-more = ap (map label_of) (take-at turn) ∙ map-append label_of (take place labels) (label ∷ [])
 
@@ -35,7 +35,7 @@ module _ {Id : Type 0} {labels : List (Label Id)} {place : ℕ} {label : Label I
         ap (λ (x : InFile Id). has same o ids x.id) (sym last)
         ∙ file_ids-has same o (before labels (place + 1)) place (label_of label) (omega (arith, long, length-map (take (place + 1) labels) label_of))
 
-    -- its place is below their number
+    -- its index is below their number
     pub file-inside : file_place same ids label.file_id < length ids
     file-inside = has-place same o ids label.file_id has-file
 

@@ -1,5 +1,5 @@
 -- What the labels of a diagnostic say, gathered one label after another.
-use Rattle.std.proofs.Common.{◌≡◌, ℕ, ◌+◌, ◌<◌, ◌≤◌, Bool, true, List, [], ◌∷◌, ◌++◌, length, take, drop, get_or, set, map, Some, None, refl, sym, ap, ◌∙◌, subst, arith}
+use Rattle.std.proofs.Common.{◌≡◌, ℕ, ◌+◌, ◌<◌, ◌≤◌, Bool, true, List, [], ◌∷◌, ◌++◌, length, take, drop, get_or, set, map, Some, None, refl, sym, ap, ◌∙◌, subst, subst₂, ◌^◌, arith}
 use Rattle.std.specs.Prelude.{flat_map, fold, max, if◌then◌else◌}
 use Rattle.std.specs.Cmp.{IsEquivalence}
 use Rattle.std.specs.List.{AllByRecursion}
@@ -12,16 +12,15 @@ use Rattle.codespan_base.specs.declared.files.Error.{Error}
 use Rattle.codespan_base.specs.FileModel.{FileDatabase, FileModel}
 use Rattle.codespan_reporting.specs.declared.term.views.entry.Entry.{Entry as GivenEntry}
 use Rattle.codespan_reporting.specs.declared.term.views.file_order.LabelledFile.{LabelledFile as GivenFile}
-use Rattle.codespan_reporting.specs.declared.term.views.gather.FoundLines.{FoundLines}
+use Rattle.codespan_reporting.specs.declared.term.views.label_entries.FoundLines.{FoundLines}
 use Rattle.codespan_reporting.specs.declared.term.views.loci.FileStart.{FileStart}
-use Rattle.codespan_reporting.specs.declared.term.views.gather.LabelPlace.{LabelPlace}
-use Rattle.codespan_reporting.specs.Inner.AskedLabels.{FindsLines, MakesRoom, asked_label, label_refusal, labels_refusal}
+use Rattle.codespan_reporting.specs.declared.term.views.label_entries.LabelPlace.{LabelPlace}
+use Rattle.codespan_reporting.specs.Inner.AskedLabels.{FindsLines, MakesRoom, asked_label, label_failure, labels_failure, label_asked}
 use Rattle.codespan_reporting.specs.Inner.Entries.{Entry, entries_of}
 use Rattle.codespan_reporting.specs.Inner.GivenEntries.{Adds, AddsOf, IsLineOf, IsOfFiles, entry_of}
-use Rattle.codespan_reporting.specs.Inner.LabelledFiles.{IsTold, all_lanes_given, ids_given, lanes_told, start_told, starts_given, with_file}
-use Rattle.codespan_reporting.specs.Inner.Lanes.{Lane, lanes_in}
+use Rattle.codespan_reporting.specs.Inner.LabelledFiles.{IsTold, ids_given, lanes_given, lanes_in, lanes_told, start_told, starts_given, with_file}
 use Rattle.codespan_reporting.specs.Inner.Loci.{file_start, no_start}
-use Rattle.codespan_picture.specs.Lookups.{asked_of, first_error, label_asked, label_lookups, of_label}
+use Rattle.codespan_picture.specs.Lookups.{asked_of, first_error, label_lookups, of_label}
 use Rattle.codespan_picture.specs.Picture.{label_of}
 use Rattle.codespan_reporting.specs.Inner.PlacedLabels.{IsIdAt, entries_after, file_place, place_after}
 use Rattle.codespan_reporting.specs.Inner.SpannedDigits.{all_digits, label_digits}
@@ -32,38 +31,38 @@ use Rattle.codespan_reporting.proofs.FileOrder.{file_ids-more}
 use Rattle.codespan_reporting.proofs.FilePlaces.{file_place-at}
 use Rattle.codespan_reporting.proofs.Gathering.{Adds-as, Adds-both}
 use Rattle.codespan_reporting.proofs.LabelEntries.{all-of_file}
-use Rattle.codespan_reporting.proofs.LabelPlaces.{AreFiles, StandsAt, IsChanged, entries_after-more, kept-at, label_lanes, lanes_in-alike, lanes_in-more, lanes_in-none, set-at}
+use Rattle.codespan_reporting.proofs.LabelPlaces.{AreFiles, StandsAt, IsChanged, entries_after-more, kept-at, label_lanes, lanes_in-alike, lanes_in-more, lanes_in-none, lanes-within, set-at}
 use Rattle.codespan_reporting.proofs.LabelFiles.{added-with_file, known-more}
 use Rattle.codespan_reporting.proofs.LocusStarts.{start-unknown, starts-set}
 use Rattle.codespan_reporting.proofs.LabelTurns.{before, before-more, file-inside, has-file, ids-differ}
-use Rattle.codespan_reporting.proofs.Refusals.{first_error-none, first_error-some}
+use Rattle.codespan_reporting.proofs.Failures.{first_error-none, first_error-some}
 
--- these labels are done with: each file has what they tell, what they say is there, the lines that they span have room, and no lookup was refused
+-- these labels are done with: each file has what they tell, what they say is there, the lines that they span have room, and no lookup failed
 pub record AreGathered {Id : Type 0} (table : FileDatabase Id) (config : Config) (ids : List Id) (done : List (InFile Id)) (files : List (GivenFile Id)) (found : FoundLines Id) : Type 0 where
   pub ids_are : ids_given files ≡ ids
   pub starts_are : starts_given files ≡ map (file_start table.same done) ids
-  pub lanes_are : all_lanes_given files ≡ map (lanes_in table.same table.file done) ids
+  pub lanes_are : lanes_given files ≡ map (lanes_in table.same table.file done) ids
   pub added : Adds (IsOfFiles table.file ids) [] found.entries.items (entries_after table.same table.file config ids [] done)
   pub counted : found.padding ≡ fold max 0 (all_digits table.file done)
-  pub answered : labels_refusal config table done ≡ None
+  pub answered : labels_failure config table done ≡ None
 
--- what a label says was added, the lines that it spans have room, and no lookup of it was refused
+-- what a label says was added, the lines that it spans have room, and no lookup of it failed
 pub record IsGatheredLabel {Id : Type 0} (table : FileDatabase Id) (config : Config) (at : LabelPlace) (label : Label Id) (found more : FoundLines Id) : Type 0 where
   pub added : FindsLines (asked_label table config at label) found more
   pub counted : MakesRoom (asked_label table config at label) found more
-  pub answered : label_refusal (asked_label table config at label) ≡ None
+  pub answered : label_failure (asked_label table config at label) ≡ None
 
 -- the file at this place was told of a label
 pub record IsToldLabel {Id : Type 0} (file : Id → FileModel) (at : ℕ) (label : Label Id) (files next : List (GivenFile Id)) : Type 0 where
   pub ids : ids_given next ≡ ids_given files
   pub starts : starts_given next ≡ start_told (starts_given files) at (label_of label).label
-  pub lanes : all_lanes_given next ≡ lanes_told (all_lanes_given files) at (label_lanes (file label.file_id) (label_of label).label)
+  pub lanes : lanes_given next ≡ lanes_told (lanes_given files) at (label_lanes (file label.file_id) (label_of label).label)
 
 -- a file of this id was placed: it is one of the files, or comes after them
 pub record IsPlacedFile {Id : Type 0} (same : Id → Id → Bool) (id : Id) (files now : List (GivenFile Id)) : Type 0 where
   pub ids : ids_given now ≡ with_file same (ids_given files) id (ids_given files) id
   pub starts : starts_given now ≡ with_file same (ids_given files) id (starts_given files) no_start
-  pub lanes : all_lanes_given now ≡ with_file same (ids_given files) id (all_lanes_given files) []
+  pub lanes : lanes_given now ≡ with_file same (ids_given files) id (lanes_given files) 0
 
 module _ {Id : Type 0} {table : FileDatabase Id} (lawful : AreFiles table) {labels : List (Label Id)} {place : ℕ} {label : Label Id} (turn : StandsAt labels place label) where
   -- which ids name one file, and the file that an id names
@@ -94,34 +93,37 @@ module _ {Id : Type 0} {table : FileDatabase Id} (lawful : AreFiles table) {labe
 
   -- where the label is
   abbrev here : LabelPlace
-  here = record { file = file_place same ids label.file_id; place = place }
+  here = record { file = file_place same ids label.file_id; place = place; lane = lanes_in same file (before labels place) label.file_id }
 
   -- that is what comes after the labels before it
-  here-is : here ≡ place_after same ids (before labels place) (label_of label)
-  here-is = λ i. record { file = file_place same ids label.file_id; place = sym before-length i }
+  here-is : here ≡ place_after same file ids (before labels place) (label_of label)
+  here-is = λ i. record { file = file_place same ids label.file_id; place = sym before-length i; lane = lanes_in same file (before labels place) label.file_id }
 
   -- the label's lane is one of its file's, and of no other file's
   lanes-changed : IsChanged same label.file_id (lanes_in same file (before labels place)) (lanes_in same file (before labels (place + 1)))
-      (lanes_in same file (before labels place) label.file_id ++ label_lanes (file label.file_id) (label_of label).label)
+      (lanes_in same file (before labels place) label.file_id + label_lanes (file label.file_id) (label_of label).label)
   lanes-changed = record {
     own = λ j t. more j
-        ∙ ap (λ (b : Bool). lanes_in same file (before labels place) j ++ (if b then label_lanes (file j) (label_of label).label else [])) t
-        ∙ (λ i. lanes_in-alike lawful (before labels place) j label.file_id t i ++ label_lanes (lawful.one_file j label.file_id t i) (label_of label).label);
+        ∙ ap (λ (b : Bool). lanes_in same file (before labels place) j + (if b then label_lanes (file j) (label_of label).label else 0)) t
+        ∙ (λ i. lanes_in-alike lawful (before labels place) j label.file_id t i + label_lanes (lawful.one_file j label.file_id t i) (label_of label).label);
     others = λ j f. more j
-        ∙ ap (λ (b : Bool). lanes_in same file (before labels place) j ++ (if b then label_lanes (file j) (label_of label).label else [])) f ∙ append-nil _;
+        ∙ ap (λ (b : Bool). lanes_in same file (before labels place) j + (if b then label_lanes (file j) (label_of label).label else 0)) f ∙ nothing-more (lanes_in same file (before labels place) j);
   }
     where
-      more : (j : Id) → lanes_in same file (before labels (place + 1)) j ≡ lanes_in same file (before labels place) j ++ (if same j label.file_id then label_lanes (file j) (label_of label).label else [])
+      nothing-more : (n : ℕ) → n + 0 ≡ n
+      nothing-more n = omega arith
+
+      more : (j : Id) → lanes_in same file (before labels (place + 1)) j ≡ lanes_in same file (before labels place) j + (if same j label.file_id then label_lanes (file j) (label_of label).label else 0)
       more j = ap (λ xs. lanes_in same file xs j) (before-more turn) ∙ lanes_in-more same file (before labels place) (label_of label) j
 
   -- ---- the labels before it are done with, and its file is there too
 
   module _ {config : Config} {files : List (GivenFile Id)} {found : FoundLines Id} (g : AreGathered table config (file_ids same (before labels (place + 1))) (before labels place) files found) where
     -- the lanes that are kept at its file's place are those of its file
-    lanes-kept : get_or (all_lanes_given files) (file_place same ids label.file_id) [] ≡ lanes_in same file (before labels place) label.file_id
+    lanes-kept : get_or (lanes_given files) (file_place same ids label.file_id) 0 ≡ lanes_in same file (before labels place) label.file_id
     lanes-kept =
-        ap (λ (all : List (List Lane)). get_or all (file_place same ids label.file_id) []) g.lanes_are
-        ∙ kept-at o (lanes_in same file (before labels place)) (lanes_in-alike lawful (before labels place)) ids label.file_id [] (has-file turn o)
+        ap (λ (all : List ℕ). get_or all (file_place same ids label.file_id) 0) g.lanes_are
+        ∙ kept-at o (lanes_in same file (before labels place)) (lanes_in-alike lawful (before labels place)) ids label.file_id 0 (has-file turn o)
 
     -- what the label says was added
     added-more : (more : FoundLines Id) → AddsOf (file label.file_id) found.entries.items more.entries.items (entries_of config (file label.file_id) here (label_of label).label)
@@ -157,16 +159,27 @@ module _ {Id : Type 0} {table : FileDatabase Id} (lawful : AreFiles table) {labe
         ∙ ap (λ xs. fold max 0 (all_digits file xs)) (sym (before-more turn))
 
     -- the label's file has its lane too, and no other file's lanes change
-    lanes-next : (next : List (GivenFile Id)) → all_lanes_given next ≡ lanes_told (all_lanes_given files) (file_place same ids label.file_id) (label_lanes (file label.file_id) (label_of label).label)
-        → all_lanes_given next ≡ map (lanes_in same file (before labels (place + 1))) ids
+    lanes-next : (next : List (GivenFile Id)) → lanes_given next ≡ lanes_told (lanes_given files) (file_place same ids label.file_id) (label_lanes (file label.file_id) (label_of label).label)
+        → lanes_given next ≡ map (lanes_in same file (before labels (place + 1))) ids
     lanes-next next changed =
-        changed ∙ (λ i. set (g.lanes_are i) (file_place same ids label.file_id) (lanes-kept i ++ label_lanes (file label.file_id) (label_of label).label))
+        changed ∙ (λ i. set (g.lanes_are i) (file_place same ids label.file_id) (lanes-kept i + label_lanes (file label.file_id) (label_of label).label))
         ∙ set-at o lanes-changed ids (ids-differ turn o) (has-file turn o)
 
     module _ {at : ℕ} (there : at ≡ file_place same (ids_given files) label.file_id) where
       -- its file's place among the files is that among their ids
       place-found : at ≡ file_place same ids label.file_id
       place-found = there ∙ ap (λ (js : List Id). file_place same js label.file_id) g.ids_are
+
+      -- as many lanes are counted for the file as labels over several lines come before
+      pub lane-found : get_or (lanes_given files) at 0 ≡ lanes_in same file (before labels place) label.file_id
+      lane-found = ap (λ k. get_or (lanes_given files) k 0) place-found ∙ lanes-kept
+
+      -- one more can be counted
+      pub lane-room : length labels < 2 ^ 64 → get_or (lanes_given files) at 0 + 1 < 2 ^ 64
+      lane-room small =
+          let inside = turn.inside in
+          let low = lanes-within same file label.file_id (before labels place) in
+          omega (arith, lane-found, low, before-length, inside, small)
 
       -- it is below their number
       pub place-inside : at < length files
@@ -176,20 +189,20 @@ module _ {Id : Type 0} {table : FileDatabase Id} (lawful : AreFiles table) {labe
           omega (arith, low, place-found, long)
 
       -- one more label, whose file is at this place
-      pub gathered-more : {next : List (GivenFile Id)} {more : FoundLines Id} → IsGatheredLabel table config (record { file = at; place = place }) label found more → IsToldLabel file at label files next
+      pub gathered-more : {next : List (GivenFile Id)} {more : FoundLines Id} → IsGatheredLabel table config (record { file = at; place = place; lane = get_or (lanes_given files) at 0 }) label found more → IsToldLabel file at label files next
           → AreGathered table config (file_ids same (before labels (place + 1))) (before labels (place + 1)) next more
       gathered-more {next} {more} own told = record {
         ids_are = told.ids ∙ g.ids_are;
         starts_are = starts-set turn o g.starts_are (told.starts ∙ ap (λ k. start_told (starts_given files) k (label_of label).label) place-found);
-        lanes_are = lanes-next next (told.lanes ∙ ap (λ k. lanes_told (all_lanes_given files) k (label_lanes (file label.file_id) (label_of label).label)) place-found);
+        lanes_are = lanes-next next (told.lanes ∙ ap (λ k. lanes_told (lanes_given files) k (label_lanes (file label.file_id) (label_of label).label)) place-found);
         added = added-more more
-            (subst (λ k. AddsOf (file label.file_id) found.entries.items more.entries.items (entries_of config (file label.file_id) (record { file = k; place = place }) (label_of label).label)) place-found own.added);
+            (subst₂ (λ k n. AddsOf (file label.file_id) found.entries.items more.entries.items (entries_of config (file label.file_id) (record { file = k; place = place; lane = n }) (label_of label).label)) place-found lane-found own.added);
         counted = counted-more more own.counted;
         answered =
-            ap (λ xs. first_error table.refusal (label_lookups config table xs)) (before-more turn)
-            ∙ ap (first_error table.refusal) (flat_map-append (label_asked config table) (before labels place) (label_of label ∷ []))
-            ∙ first_error-none table.refusal (label_lookups config table (before labels place)) _ g.answered
-            ∙ ap (first_error table.refusal) (append-nil (label_asked config table (label_of label))) ∙ own.answered;
+            ap (λ xs. first_error table.failure (label_lookups config table xs)) (before-more turn)
+            ∙ ap (first_error table.failure) (flat_map-append (label_asked config table) (before labels place) (label_of label ∷ []))
+            ∙ first_error-none table.failure (label_lookups config table (before labels place)) _ g.answered
+            ∙ ap (first_error table.failure) (append-nil (label_asked config table (label_of label))) ∙ own.answered;
       }
 
   -- ---- the labels before it are done with
@@ -205,27 +218,27 @@ module _ {Id : Type 0} {table : FileDatabase Id} (lawful : AreFiles table) {labe
           starts_are = known-more o xs x (file_start same xs) (start-unknown same xs label.file_id) g.starts_are
               (placed.starts ∙ ap (λ (js : List Id). with_file same js label.file_id (starts_given files) no_start) g.ids_are);
           lanes_are = known-more o xs x (lanes_in same file xs) (lanes_in-none same file xs label.file_id) g.lanes_are
-              (placed.lanes ∙ ap (λ (js : List Id). with_file same js label.file_id (all_lanes_given files) []) g.ids_are);
+              (placed.lanes ∙ ap (λ (js : List Id). with_file same js label.file_id (lanes_given files) 0) g.ids_are);
           added = added-with_file o xs x file config g.added;
           counted = g.counted;
           answered = g.answered;
         })
 
-    -- its lookups are refused
-    pub gathered-refused : (e : Error) → first_error table.refusal (asked_of label.file_id (of_label config (file label.file_id) (table.refusal label.file_id) (label_of label).label)) ≡ Some e
-        → first_error table.refusal (label_lookups config table (map label_of labels)) ≡ Some e
-    gathered-refused e some =
+    -- its lookups fail
+    pub gathered-failed : (e : Error) → first_error table.failure (asked_of label.file_id (of_label config (file label.file_id) (table.failure label.file_id) (label_of label).label)) ≡ Some e
+        → first_error table.failure (label_lookups config table (map label_of labels)) ≡ Some e
+    gathered-failed e some =
         let rest = map label_of (drop (place + 1) labels) in
         let whole : map label_of labels ≡ (before labels place ++ label_of label ∷ []) ++ rest =
         ap (map label_of) (sym (take-append-drop (place + 1) labels)) ∙ map-append label_of (take (place + 1) labels) (drop (place + 1) labels)
         ∙ ap (λ (xs : List (InFile Id)). xs ++ rest) (before-more turn) in
         let asked = label_asked config table in
-        ap (λ xs. first_error table.refusal (flat_map asked xs)) whole
-        ∙ ap (first_error table.refusal) (flat_map-append asked (before labels place ++ label_of label ∷ []) rest)
-        ∙ first_error-some table.refusal (flat_map asked (before labels place ++ label_of label ∷ [])) (flat_map asked rest) e
-        (ap (first_error table.refusal) (flat_map-append asked (before labels place) (label_of label ∷ []))
-        ∙ first_error-none table.refusal (label_lookups config table (before labels place)) _ g.answered
-        ∙ ap (first_error table.refusal) (append-nil (label_asked config table (label_of label))) ∙ some)
+        ap (λ xs. first_error table.failure (flat_map asked xs)) whole
+        ∙ ap (first_error table.failure) (flat_map-append asked (before labels place ++ label_of label ∷ []) rest)
+        ∙ first_error-some table.failure (flat_map asked (before labels place ++ label_of label ∷ [])) (flat_map asked rest) e
+        (ap (first_error table.failure) (flat_map-append asked (before labels place) (label_of label ∷ []))
+        ∙ first_error-none table.failure (label_lookups config table (before labels place)) _ g.answered
+        ∙ ap (first_error table.failure) (append-nil (label_asked config table (label_of label))) ∙ some)
 
 -- all labels are done with after the last one
 pub gathered-all : {Id : Type 0} {table : FileDatabase Id} {config : Config} {files : List (GivenFile Id)} {found : FoundLines Id} (labels : List (Label Id)) (place : ℕ)
@@ -236,9 +249,9 @@ gathered-all {Id} {table} {config} {files} {found} labels place past g =
 
 -- each file has what the labels tell of it
 pub each-told : {Id : Type 0} (same : Id → Id → Bool) (file : Id → FileModel) (xs : List (InFile Id)) (files : List (GivenFile Id))
-    → starts_given files ≡ map (file_start same xs) (ids_given files) → all_lanes_given files ≡ map (lanes_in same file xs) (ids_given files) → AllByRecursion (IsTold same file xs) files
+    → starts_given files ≡ map (file_start same xs) (ids_given files) → lanes_given files ≡ map (lanes_in same file xs) (ids_given files) → AllByRecursion (IsTold same file xs) files
 each-told same file xs [] starts lanes = tt
 each-told same file xs (f ∷ fs) starts lanes = (
-  record { start_is = ap (λ (ss : List FileStart). get_or ss 0 f.start) starts; lanes_are = ap (λ (ls : List (List Lane)). get_or ls 0 []) lanes },
+  record { start_is = ap (λ (ss : List FileStart). get_or ss 0 f.start) starts; lanes_are = ap (λ (ls : List ℕ). get_or ls 0 f.lane_count) lanes },
   each-told same file xs fs (ap (drop 1) starts) (ap (drop 1) lanes),
 )

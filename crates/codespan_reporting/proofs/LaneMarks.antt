@@ -1,48 +1,66 @@
--- The marks of lanes on a line.
-use Rattle.std.proofs.Common.{◌≡◌, ℕ, ◌+◌, ◌≤◌, true, List, [], ◌∷◌, length, map, Option, Some, None, refl, ap, ◌∙◌, arith, nat_le, nat_lt}
-use Rattle.std.specs.List.{enumerate_from, filter_map, cons_option}
+-- The order of the marks on a line.
+use Rattle.std.proofs.Common.{◌≡◌, ℕ, ◌+◌, ◌≤◌, Bool, true, false, ◌&&◌, List, [], ◌∷◌, length, map, Option, Some, None, refl, sym, ap, ◌∙◌, arith, nat_le, nat_lt, true≢false}
+use Rattle.std.specs.List.{AllByRecursion, enumerate_from, filter_map, cons_option}
+use Rattle.std.proofs.lemmas.Bool.{leb-true}
 use Rattle.std.proofs.lemmas.Bool.Decides.{nat_tests}
-use Rattle.std.proofs.lemmas.List.{length-map}
-use Rattle.codespan_base.specs.FileModel.{FileModel, line_start}
-use Rattle.codespan_base.specs.Labels.{Labelled, LaneMark, MultiLabel, mark_of, marks_on, multi_labels, part_at, part_on}
+use Rattle.codespan_base.specs.FileModel.{FileModel}
+use Rattle.codespan_base.specs.Labels.{Labelled, LaneMark, MultiLabel, mark_of, marks_on, multi_labels, part_on}
 use Rattle.codespan_picture.specs.Given.{GivenMark, mark_view, lanes_in_order, ascend_from}
 use Rattle.codespan_picture.specs.Snippets.{LabelledFile, lane_count}
-use Rattle.codespan_reporting.specs.declared.term.views.lanes.Lane.{Lane as GivenLane}
-use Rattle.codespan_reporting.specs.Inner.Lanes.{Lane, file_lanes, lane_given, lane_marks, lane_of, lanes_given, mark_on}
+use Rattle.codespan_reporting.specs.Inner.Entries.{Entry, is_below}
+use Rattle.codespan_reporting.specs.Inner.Steps.{do_marks_fit, marks_in}
+use Rattle.codespan_reporting.proofs.EntryOrder.{lane_below, mark_entry}
+use Rattle.codespan_laws.proofs.SortedLists.{Climbs, all-weaker}
 
--- ---- the lanes of a file
+-- ---- the marks of a file's labels
 
--- their marks from a lane on
-marks-from : (f : FileModel) (l n : ℕ) (xs : List Labelled) → filter_map (mark_on l (line_start f l)) (enumerate_from n (map (lane_of f) xs))
-    ≡ filter_map (λ (entry : ℕ × Labelled). mark_of entry.0 entry.1 (part_on f l entry.1)) (enumerate_from n xs)
-marks-from f l n [] = refl
-marks-from f l n (x ∷ xs) = ap (λ (rest : List LaneMark). cons_option (mark_of n x (part_on f l x)) rest) (marks-from f l (n + 1) xs)
+-- the marks on a line of these labels, whose lanes begin here
+abbrev pub marks_from : FileModel → ℕ → ℕ → List Labelled → List LaneMark
+marks_from f l n ys = filter_map (λ (entry : ℕ × Labelled). mark_of entry.0 entry.1 (part_on f l entry.1)) (enumerate_from n ys)
 
--- their marks on a line are those of its labels
-pub lane_marks-on : (s : LabelledFile) (l : ℕ) → lane_marks (file_lanes s) l (line_start s.file l) ≡ marks_on s.file s.labels l
-lane_marks-on s l = marks-from s.file l 0 (multi_labels s.file s.labels)
-
--- they are as many as its labels over several lines
-pub file_lanes-count : (s : LabelledFile) → length (file_lanes s) ≡ lane_count s
-file_lanes-count s = length-map (multi_labels s.file s.labels) (lane_of s.file)
-
--- ---- the order of lanes
-
--- marks ascend from a lane on
-ascend-from : (l start count n least : ℕ) (ys : List Lane) → least ≤ n → n + length ys ≡ count → ascend_from count least (filter_map (mark_on l start) (enumerate_from n ys)) ≡ true
-ascend-from l start count n least [] low total = refl
-ascend-from l start count n least (y ∷ ys) low total = by_part (part_at y.first y.last l start y.label) (λ k h. ascend-from l start count (n + 1) k ys h (omega arith))
+-- they ascend from a lane on
+ascend-from : (f : FileModel) (l count n least : ℕ) (ys : List Labelled) → least ≤ n → n + length ys ≡ count → ascend_from count least (marks_from f l n ys) ≡ true
+ascend-from f l count n least [] low total = refl
+ascend-from f l count n least (y ∷ ys) low total = by_part (part_on f l y) (λ k h. ascend-from f l count (n + 1) k ys h (omega arith))
   where
-    by_part : (o : Option MultiLabel) → ((k : ℕ) → k ≤ n + 1 → ascend_from count k (filter_map (mark_on l start) (enumerate_from (n + 1) ys)) ≡ true)
-        → ascend_from count least (cons_option (mark_of n y.label o) (filter_map (mark_on l start) (enumerate_from (n + 1) ys))) ≡ true
+    by_part : (o : Option MultiLabel) → ((k : ℕ) → k ≤ n + 1 → ascend_from count k (marks_from f l (n + 1) ys) ≡ true)
+        → ascend_from count least (cons_option (mark_of n y o) (marks_from f l (n + 1) ys)) ≡ true
     by_part None rest = rest least (omega arith)
     by_part (Some part) rest =
         let a : nat_le least n ≡ true = grind (arith, nat_tests) in
         let b : nat_lt n count ≡ true = grind (arith, nat_tests) in
         rw (a, b) (rest (n + 1) (omega arith))
 
--- a renderer may be given the marks of lanes
-pub lanes_fit : (lanes : List GivenLane) (l start : ℕ) (ms : List GivenMark) → map mark_view ms ≡ lane_marks (lanes_given lanes) l start → lanes_in_order (length lanes) ms ≡ true
-lanes_fit lanes l start ms same =
-    let n : length (lanes_given lanes) ≡ length lanes = length-map lanes lane_given in
-    ap (ascend_from (length lanes) 0) same ∙ ascend-from l start (length lanes) 0 0 (lanes_given lanes) (omega arith) (omega (arith, n))
+-- the marks of a line ascend in the lanes of its file
+pub marks-ascend : (s : LabelledFile) (l : ℕ) → ascend_from (lane_count s) 0 (marks_on s.file s.labels l) ≡ true
+marks-ascend s l = ascend-from s.file l (lane_count s) 0 0 (multi_labels s.file s.labels) (omega arith) (omega arith)
+
+-- ---- marks that ascend
+
+-- both of two are true
+pub both-true : (a b : Bool) → (a && b) ≡ true → (a ≡ true) × (b ≡ true)
+both-true true b h = (refl, h)
+both-true false b h = absurd (true≢false (sym h))
+
+-- they are in no lesser lane
+ascend-above : (count least : ℕ) (ms : List LaneMark) → ascend_from count least ms ≡ true → AllByRecursion (λ (m : LaneMark). least ≤ m.lane) ms
+ascend-above count least [] up = tt
+ascend-above count least (m ∷ ms) up =
+    let parts = both-true (nat_le least m.lane && nat_lt m.lane count) (ascend_from count (m.lane + 1) ms) up in
+    let low : least ≤ m.lane = leb-true least m.lane (both-true (nat_le least m.lane) (nat_lt m.lane count) parts.0).0 in
+    (low, all-weaker (λ (k : LaneMark). m.lane + 1 ≤ k.lane) (λ k. least ≤ k.lane) (λ k h. omega arith) ms (ascend-above count (m.lane + 1) ms parts.1))
+
+-- their entries climb
+pub ascend-climbs : (f l count least : ℕ) (ms : List LaneMark) → ascend_from count least ms ≡ true → Climbs is_below (map (mark_entry f l) ms)
+ascend-climbs f l count least [] up = tt
+ascend-climbs f l count least (m ∷ ms) up =
+    let parts = both-true (nat_le least m.lane && nat_lt m.lane count) (ascend_from count (m.lane + 1) ms) up in
+    (later ms (ascend-above count (m.lane + 1) ms parts.1), ascend-climbs f l count (m.lane + 1) ms parts.1)
+  where
+    later : (ks : List LaneMark) → AllByRecursion (λ (k : LaneMark). m.lane + 1 ≤ k.lane) ks → AllByRecursion (λ e. is_below (mark_entry f l m) e ≡ true) (map (mark_entry f l) ks)
+    later [] h = tt
+    later (k ∷ ks) h = (lane_below f l m k (let low = h.0 in omega arith), later ks h.1)
+
+-- a renderer may be given marks that ascend
+pub lanes_fit : (count : ℕ) (es : List Entry) (ms : List GivenMark) → map mark_view ms ≡ marks_in es → do_marks_fit count es ≡ true → lanes_in_order count ms ≡ true
+lanes_fit count es ms same fits = ap (ascend_from count 0) same ∙ fits

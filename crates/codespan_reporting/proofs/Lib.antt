@@ -1,5 +1,5 @@
 pub mod Chains
-pub mod Refusals
+pub mod Failures
 pub mod OutputLoci
 pub mod Drawing
 pub mod Emitting

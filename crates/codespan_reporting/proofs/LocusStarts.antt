@@ -1,4 +1,4 @@
--- The least start of a file's labels, and the places at which snippets start.
+-- The least start of a file's labels, and the loci at which snippets start.
 use Rattle.std.proofs.Common.{◌≡◌, ℕ, ◌+◌, Bool, true, false, cond, not, ◌&&◌, ◌||◌, List, [], ◌∷◌, ◌++◌, get_or, set, map, filter, Option, Some, None, refl, sym, ap, ◌∙◌, append-nil}
 use Rattle.std.specs.Prelude.{IfSome, string_bytes, min, unwrap_or, if◌then◌else◌}
 use Rattle.std.specs.Cmp.{IsEquivalence}
@@ -91,7 +91,7 @@ module _ {Id : Type 0} (same : Id → Id → Bool) (file : Id → FileModel) (id
       by [] h = refl
       by (l ∷ ls) h = cc
 
-  -- what the labels tell is where the snippet starts
+  -- the start by the labels is where the snippet starts
   pub start-is : (xs : List (InFile Id)) → start_byte (file_start same xs id) ≡ locus_start (labelled_file same file xs id).labels
   start-is xs = by (least_if_any (label_starts same id true xs)) refl
     where
@@ -107,7 +107,7 @@ least-more [] n = refl
 least-more (m ∷ ns) n = ap Some (fold-append min m ns (n ∷ []))
 
 module _ {Id : Type 0} (same : Id → Id → Bool) (xs : List (InFile Id)) (x : InFile Id) (id : Id) where
-  -- the start of the label, where it is asked for
+  -- the start of the label, where it is wanted
   abbrev own_start : Bool → List ℕ
   own_start b = if b then x.label.start ∷ [] else []
 
@@ -125,14 +125,14 @@ module _ {Id : Type 0} (same : Id → Id → Bool) (xs : List (InFile Id)) (x : 
       by true = refl
       by false = refl
 
-  -- a label of another file tells nothing
+  -- a label of another file changes nothing
   start-others : same id x.id ≡ false → file_start same (xs ++ x ∷ []) id ≡ file_start same xs id
   start-others f = λ i. record { primary = least_if_any (none true i); any = least_if_any (none false i) }
     where
       none : (only : Bool) → label_starts same id only (xs ++ x ∷ []) ≡ label_starts same id only xs
       none only = starts-more only ∙ ap (λ (b : Bool). label_starts same id only xs ++ own_start (b && (not only || is_primary x.label))) f ∙ append-nil (label_starts same id only xs)
 
-  -- one of the file tells its start
+  -- one of the file adds its start
   start-own : same id x.id ≡ true → file_start same (xs ++ x ∷ []) id ≡ start_with (file_start same xs id) x.label
   start-own t = λ i. record { primary = by (is_primary x.label) refl i; any = (ap least_if_any (asked false) ∙ least-more (label_starts same id false xs) x.label.start) i }
     where
@@ -146,7 +146,7 @@ module _ {Id : Type 0} (same : Id → Id → Bool) (xs : List (InFile Id)) (x : 
       by true is = ap least_if_any (asked true ∙ ap (λ (c : Bool). primary ++ own_start c) is) ∙ least-more primary x.label.start
       by false is = ap least_if_any (asked true ∙ ap (λ (c : Bool). primary ++ own_start c) is ∙ append-nil primary)
 
--- labels of other files tell nothing
+-- labels of other files change nothing
 pub start-unknown : {Id : Type 0} (same : Id → Id → Bool) (xs : List (InFile Id)) (id : Id) → AllByRecursion (λ (x : InFile Id). same id x.id ≡ false) xs → file_start same xs id ≡ no_start
 start-unknown {Id} same xs id none = λ i. record { primary = least_if_any (starts true i); any = least_if_any (starts false i) }
   where
@@ -166,11 +166,11 @@ module _ {Id : Type 0} {labels : List (Label Id)} {place : ℕ} {label : Label I
   abbrev ids : List Id
   ids = file_ids same (before labels (place + 1))
 
-  -- the labels of a file up to the next place are those before this one, and this one
+  -- the labels of a file up to the next index are those before this one, and this one
   with_label : (j : Id) → file_start same (before labels (place + 1)) j ≡ file_start same (before labels place ++ label_of label ∷ []) j
   with_label j = ap (λ (ys : List (InFile Id)). file_start same ys j) (before-more turn)
 
-  -- the label tells the start of its file, and of no other one
+  -- the label changes the start of its file, and of no other one
   start-changed : IsChanged same label.file_id (file_start same (before labels place)) (file_start same (before labels (place + 1))) (start_with (file_start same (before labels place) label.file_id) (label_of label).label)
   start-changed = record {
     own = λ j t. with_label j ∙ start-own same (before labels place) (label_of label) j t
@@ -189,9 +189,9 @@ module _ {Id : Type 0} {labels : List (Label Id)} {place : ℕ} {label : Label I
           ap (λ (ss : List FileStart). get_or ss (file_place same ids label.file_id) no_start) are
           ∙ kept-at o (file_start same (before labels place)) (start-alike same o (before labels place)) ids label.file_id no_start (has-file turn o)
 
--- ---- the places of files
+-- ---- the loci of files
 
--- a locus of a file's name and of a byte's location is the place of that byte
+-- a locus of a file's name and of a byte's location is the locus of that byte
 pub located_place : (f : FileModel) (byte : ℕ) (locus : rust_locus.Locus) → IfSome f.name (λ bytes. string_bytes locus.name ≡ bytes) → locus.location ≡ f.location byte
     → IsTextLocus (f, byte) (locus_view locus)
 located_place f byte locus text at = record { is_locus = record { location = at; name = text }; is_text = IsUtf8-string_bytes locus.name }

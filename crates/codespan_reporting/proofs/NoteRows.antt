@@ -24,7 +24,7 @@ module _ (look : Look) where
   note-rows [] = refl
   note-rows (p ∷ ps) = ap (λ (s : Stream). (first_note_row look.chars look.padding p ++ newline) ++ s) (later-rows ps)
 
--- all that comes of these notes
+-- all that is written of these notes
 abbrev pub whole_of_notes : Look → List (List ℕ) → Stream
 whole_of_notes look notes = stream_of_rows look (note_rows notes ++ BlankRow ∷ [])
 
@@ -48,7 +48,7 @@ module _ {N : Type 0} (text : N → List ℕ) (look : Look) where
       ∙ notes-both (take i notes) (note ∷ [])
       ∙ ap (λ (s : Stream). stream_of_notes (take i notes) ++ s) (ap (stream_of_rows look) (append-nil (piece_rows (lines (text note)))) ∙ note-rows look (lines (text note)))
 
-  -- the notes before a place, and those from there on
+  -- the notes before an index, and those from there on
   pub notes-cut : (notes : List N) (i : ℕ) → stream_of_notes notes ≡ stream_of_notes (take i notes) ++ stream_of_notes (drop i notes)
   notes-cut notes i = ap (λ (ns : List N). stream_of_notes ns) (sym (take-append-drop i notes)) ∙ notes-both (take i notes) (drop i notes)
 

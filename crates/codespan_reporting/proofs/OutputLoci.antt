@@ -1,4 +1,4 @@
--- Loci of an output whose names are texts.
+-- Loci of an output whose names are UTF-8.
 use Rattle.std.proofs.Common.{List}
 use Rattle.std.specs.List.{AllZip}
 use Rattle.codespan_base.specs.declared.term.config.DisplayStyle.TheVariants.{Rich, Short}
@@ -25,7 +25,7 @@ module _ {Id : Type 0} (files : FileDatabase Id) (d : Diagnostic Id) (loci : Lis
       zip_map IsLocus snippet_start own loci
       (zip_weaker IsLocusOfFile (λ s p. IsLocus (snippet_start s) p) (λ s p h. h.is_locus) own loci are)
 
-  -- and their names are texts
+  -- and their names are UTF-8
   pub file_texts : AllZip IsLocusOfFile own loci → NamesAreTexts loci
   file_texts are = zip_texts IsLocusOfFile (λ s p h. h.is_text) own loci are
 
@@ -35,6 +35,6 @@ module _ {Id : Type 0} (files : FileDatabase Id) (d : Diagnostic Id) (loci : Lis
       zip_map IsLocus (label_start files.file) causes loci
       (zip_weaker (IsLocusOfLabel files.file) (λ x p. IsLocus (label_start files.file x) p) (λ x p h. h.is_locus) causes loci are)
 
-  -- and their names are texts
+  -- and their names are UTF-8
   pub label_texts : AllZip (IsLocusOfLabel files.file) causes loci → NamesAreTexts loci
   label_texts are = zip_texts (IsLocusOfLabel files.file) (λ x p h. h.is_text) causes loci are

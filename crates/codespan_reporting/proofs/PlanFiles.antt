@@ -15,22 +15,21 @@ use Rattle.codespan_picture.specs.Lines.{drawn_lines}
 use Rattle.codespan_picture.specs.Lookups.{asked_of, filled_lines, first_error, locus_lookups, numbers_for_padding, of_filled}
 use Rattle.codespan_picture.specs.Padding.{digit_count, digits_of, numbered_lines, padding_of}
 use Rattle.codespan_reporting.specs.Inner.TextLoci.{IsTextLocus}
-use Rattle.codespan_picture.specs.Snippets.{InFile, LabelledFile, labelled_file, labelled_files, locus_start, rows_after, file_ids}
+use Rattle.codespan_picture.specs.Snippets.{InFile, LabelledFile, labelled_file, labelled_files, lane_count, locus_start, rows_after, file_ids}
 use Rattle.codespan_reporting.specs.declared.term.views.gather.Gathered.{Gathered}
 use Rattle.codespan_reporting.specs.declared.term.views.file_order.LabelledFile.{LabelledFile as GivenFile}
 use Rattle.codespan_reporting.specs.declared.term.views.sheet.SheetFile.{SheetFile}
 use Rattle.codespan_reporting.specs.declared.term.views.steps.Step.{Step as GivenStep}
 use Rattle.codespan_reporting.specs.declared.term.views.steps.Step.TheVariants as given
 use Rattle.codespan_reporting.specs.Inner.Entries.{Entry}
-use Rattle.codespan_reporting.specs.Inner.GivenSheets.{AreSheetFiles, IsGathered, IsPrepared, IsSheetFile, ids_of, sheet_numbers, sheet_places, sheet_refusal}
+use Rattle.codespan_reporting.specs.Inner.GivenSheets.{AreSheetFiles, IsGathered, IsPrepared, IsSheetFile, ids_of, sheet_numbers, sheet_places, sheet_failure}
 use Rattle.codespan_reporting.specs.Inner.GivenEntries.{entry_of}
 use Rattle.codespan_reporting.specs.Inner.LabelledFiles.{IsTold, ids_given}
-use Rattle.codespan_reporting.specs.Inner.Lanes.{file_lanes, lanes_given}
 use Rattle.codespan_reporting.specs.declared.term.views.sheet.Sheet.{Sheet}
 use Rattle.codespan_reporting.specs.Inner.GivenSteps.{IsStepIn, IsStepOf, asked_by, asked_by_all, asked_with, numbers_asked, step_of}
 use Rattle.codespan_reporting.specs.Inner.Loci.{place_lookups, start_byte}
 use Rattle.codespan_reporting.specs.Inner.PlacedLabels.{IsIdAt}
-use Rattle.codespan_reporting.specs.Inner.Plans.{ArePlans, ArePlansOf, IsPlan, number_lookups, plans_refusal, step_digits, steps_at}
+use Rattle.codespan_reporting.specs.Inner.Plans.{ArePlans, ArePlansOf, IsPlan, number_lookups, plans_failure, step_digits, steps_at}
 use Rattle.codespan_reporting.specs.Inner.StepDrawing.{DoFit}
 use Rattle.codespan_reporting.specs.Inner.Steps.{Step, fill_of, fills_of, rows_of_steps}
 use Rattle.codespan_reporting.proofs.PlansFound.{by_place-same}
@@ -44,22 +43,22 @@ use Rattle.codespan_reporting.proofs.StepLines.{line_of_step, lines_of_steps}
 
 -- a step in a layout is one of the file
 step_of-file : {Id : Type 0} (layout : Layout) (f : FileModel) (g : GivenStep Id) → IsStepIn layout f g → IsStepOf f g
-step_of-file layout f (given.Shown line singles) is = is
-step_of-file Classic f (given.Filled index number) is = subst (λ (o : Option ℕ). IfSome o (λ known. known ≡ f.number index)) (sym is) tt
-step_of-file Unbroken f (given.Filled index number) is = subst (λ (o : Option ℕ). IfSome o (λ known. known ≡ f.number index)) (sym is) refl
+step_of-file layout f (given.Shown line entries) is = is
+step_of-file Classic f (given.Filled index number entries) is = subst (λ (o : Option ℕ). IfSome o (λ known. known ≡ f.number index)) (sym is) tt
+step_of-file Unbroken f (given.Filled index number entries) is = subst (λ (o : Option ℕ). IfSome o (λ known. known ≡ f.number index)) (sym is) refl
 step_of-file layout f (given.Break next) is = is
 
 -- it asks for what the layout asks for of the line that it fills in
 step-asks : {Id : Type 0} (layout : Layout) (f : FileModel) (g : GivenStep Id) → IsStepIn layout f g → asked_by g ≡ flat_map (of_filled layout) (fill_of (step_of g))
-step-asks layout f (given.Shown line singles) is = refl
-step-asks Classic f (given.Filled index number) is = ap (λ (o : Option ℕ). asked_with o index) is
-step-asks Unbroken f (given.Filled index number) is = ap (λ (o : Option ℕ). asked_with o index) is
+step-asks layout f (given.Shown line entries) is = refl
+step-asks Classic f (given.Filled index number entries) is = ap (λ (o : Option ℕ). asked_with o index) is
+step-asks Unbroken f (given.Filled index number entries) is = ap (λ (o : Option ℕ). asked_with o index) is
 step-asks layout f (given.Break next) is = refl
 
 -- in the unbroken layout the digits of its number are those of its line's
 step-digits : {Id : Type 0} (f : FileModel) (g : GivenStep Id) → IsStepIn Unbroken f g → step_digits g ≡ map (λ l. digit_count (f.number l)) (line_of_step (step_of g))
-step-digits f (given.Shown line singles) is = ap (λ n. digit_count n ∷ []) is.number_is
-step-digits {Id} f (given.Filled index number) is = ap (λ (o : Option ℕ). step_digits {Id = Id} (given.Filled index o)) is
+step-digits f (given.Shown line entries) is = ap (λ n. digit_count n ∷ []) is.number_is
+step-digits {Id} f (given.Filled index number entries) is = ap (λ (o : Option ℕ). step_digits {Id = Id} (given.Filled index o entries)) is
 step-digits f (given.Break next) is = refl
 
 -- ---- steps
@@ -89,8 +88,8 @@ steps-digits f (g ∷ gs) h =
 record DrawSnippet (config : Config) (s : LabelledFile) (steps : List Step) : Type 0 where
   fills : fills_of steps ≡ filled_lines config s
   lines : lines_of_steps steps ≡ drawn_lines config s.file s.labels
-  rows : rows_of_steps s.file (file_lanes s) steps ≡ rows_after s None (drawn_lines config s.file s.labels)
-  fits : DoFit steps
+  rows : rows_of_steps s.file (lane_count s) steps ≡ rows_after s None (drawn_lines config s.file s.labels)
+  fits : DoFit (lane_count s) steps
 
 -- in the unbroken layout the numbers of drawn lines count
 numbered : (config : Config) → config.layout ≡ Unbroken → (s : LabelledFile) → numbered_lines config s ≡ drawn_lines config s.file s.labels
@@ -153,12 +152,12 @@ module _ {Id : Type 0} {table : FileDatabase Id} (lawful : AreFiles table) {conf
     -- it is a file of the picture
     file-plan : IsSheetFile config (labelled f.id) plan own
     file-plan = record {
-      lanes_are = ap (λ (g : GivenFile Id). lanes_given g.lanes.items) is.file_is ∙ told.lanes_are;
+      lanes_are = ap (λ (g : GivenFile Id). g.lane_count) is.file_is ∙ told.lanes_are;
       place = subst (λ n. IsTextLocus (file f.id, n) (locus_view plan.locus)) (file_start-is told) is.place;
       count_is = is.count_is;
       each = steps_of-file config.layout (file f.id) own is.each;
-      fits = subst DoFit (sym is.are) (snippet k f.id at).fits;
-      rows = ap (rows_of_steps (file f.id) (file_lanes (labelled f.id))) is.are ∙ (snippet k f.id at).rows;
+      fits = subst (DoFit (lane_count (labelled f.id))) (sym is.are) (snippet k f.id at).fits;
+      rows = ap (rows_of_steps (file f.id) (lane_count (labelled f.id))) is.are ∙ (snippet k f.id at).rows;
       asked = steps-ask config.layout (file f.id) own is.each ∙ ap (λ (steps : List Step). flat_map (of_filled config.layout) (fills_of steps)) is.are
           ∙ ap (λ (ls : List ℕ). flat_map (of_filled config.layout) ls) (snippet k f.id at).fills;
     }
@@ -244,9 +243,9 @@ module _ {Id : Type 0} {table : FileDatabase Id} (lawful : AreFiles table) {conf
 -- ---- what was gathered, with its plans
 
 module _ {Id : Type 0} {table : FileDatabase Id} (lawful : AreFiles table) {config : Config} {xs : List (InFile Id)} {gathered : Gathered Id} (all : IsGathered table config xs gathered) where
-  -- plans are refused with what the sheet is refused with
-  pub refusal-is : plans_refusal config.layout table.refusal gathered ≡ sheet_refusal config table xs
-  refusal-is = λ i. first_error table.refusal (numbers-are lawful all i ++ places-are lawful all i)
+  -- plans fail with what the sheet fails with
+  pub failure-is : plans_failure config.layout table.failure gathered ≡ sheet_failure config table xs
+  failure-is = λ i. first_error table.failure (numbers-are lawful all i ++ places-are lawful all i)
 
   -- plans, and the room for their numbers, are the sheet of the labels
   pub sheet-prepared : {sheet : Sheet Id} → ArePlansOf config.layout table.file gathered sheet.files.items sheet.steps.items → sheet.padding ≡ padding_of config (labelled_files table.same table.file xs)

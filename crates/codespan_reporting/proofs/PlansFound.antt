@@ -12,9 +12,9 @@ use Rattle.std.proofs.lemmas.Result.{IfOk-weaker}
 use Rattle.codespan_base.specs.declared.files.Error.{Error}
 use Rattle.codespan_base.specs.declared.files.Error.TheVariants.{FormatError, OutOfMemory}
 use Rattle.codespan_base.specs.declared.term.config.Layout.{Layout}
-use Rattle.codespan_base.specs.FileModel.{FileModel, Lookup, or_refusal}
-use Rattle.codespan_picture.specs.Lookups.{Refusals, asked_of, first_error}
-use Rattle.codespan_reporting.specs.Inner.FileLookups.{TellsNaming}
+use Rattle.codespan_base.specs.FileModel.{FileModel, Lookup, or_failure}
+use Rattle.codespan_picture.specs.Lookups.{Failures, asked_of, first_error}
+use Rattle.codespan_reporting.specs.Inner.FileLookups.{FailsByOrFormat}
 use Rattle.codespan_reporting.specs.declared.term.views.entry.Entry.{Entry as GivenEntry}
 use Rattle.codespan_reporting.specs.declared.term.views.file_order.LabelledFile.{LabelledFile as GivenFile}
 use Rattle.codespan_reporting.specs.declared.term.views.sheet.SheetFile.{SheetFile}
@@ -27,16 +27,16 @@ use Rattle.codespan_reporting.specs.Inner.Loci.{place_asked, place_lookups}
 use Rattle.codespan_reporting.specs.Inner.PlacedLabels.{IsIdAt}
 use Rattle.codespan_reporting.specs.Inner.Plans.{ArePlans, IsPlan, by_place, number_lookups, steps_at}
 use Rattle.codespan_reporting.specs.Inner.Steps.{Step, fills_of, steps_of}
-use Rattle.codespan_reporting.proofs.Askings.{first_error-append, or_refusal-answered, or_refusal-none, or_refusal-some}
+use Rattle.codespan_reporting.proofs.Askings.{first_error-append, or_failure-answered, or_failure-none, or_failure-some}
 use Rattle.codespan_reporting.proofs.FileParts.{IsFilePart, from_file, next-file, next_part}
 use Rattle.codespan_reporting.proofs.FilePlaces.{at-get}
 use Rattle.codespan_reporting.proofs.LabelPlaces.{StandsAt, take-at}
-use Rattle.codespan_reporting.proofs.Refusals.{first_error-none, first_error-some}
+use Rattle.codespan_reporting.proofs.Failures.{first_error-none, first_error-some}
 use Rattle.codespan_laws.proofs.SortedLists.{all-both, all-mapped, all-part, all-pass, all-weaker}
 
--- ---- ids at their places
+-- ---- ids at their indices
 
--- ids give one after the other
+-- what ids have, one after the other
 by_place-append : {Id A : Type 0} (give : ℕ → Id → List A) (k : ℕ) (xs ys : List Id) → by_place give k (xs ++ ys) ≡ by_place give k xs ++ by_place give (k + length xs) ys
 by_place-append give k [] ys = let e : k ≡ k + 0 = omega arith in ap (λ n. by_place give n ys) e
 by_place-append {Id} {A} give k (x ∷ xs) ys =
@@ -52,7 +52,7 @@ by_place-more {Id} {A} give f ids more id len is =
     ap (by_place give 0) is ∙ by_place-append give 0 ids (id ∷ [])
     ∙ ap (λ (r : List A). by_place give 0 ids ++ r) (append-nil (give (0 + length ids) id) ∙ ap (λ n. give n id) e)
 
--- ids that give the same at their places
+-- ids that have the same at their indices
 pub by_place-same : {Id A : Type 0} (give : ℕ → Id → List A) (each : Id → List A) (k : ℕ) (js : List Id) → ((i : ℕ) (id : Id) → IsIdAt js i id → give (k + i) id ≡ each id)
     → by_place give k js ≡ flat_map each js
 by_place-same give each k [] same = refl
@@ -75,7 +75,7 @@ module _ {Id : Type 0} (file : Id → FileModel) where
 
 -- ---- the turn of a file
 
--- a loop over the files is at one of them: the entries from a place on are those of it and of later files, and so many are counted as its own
+-- a loop over the files is at one of them: the entries from an index on are those of it and of later files, and its own are counted
 pub record IsTurn {Id : Type 0} (files : List (GivenFile Id)) (xs : List (GivenEntry Id)) (at n k : ℕ) (f : GivenFile Id) : Type 0 where
   pub up : IsSortedBy is_below (map entry_of xs)
   pub inside : at ≤ length xs
@@ -108,22 +108,22 @@ module _ {Id : Type 0} {files : List (GivenFile Id)} {xs : List (GivenEntry Id)}
     pub own_steps : steps_of (map entry_of (next_part zs at n)) ≡ steps_at (map entry_of xs) k
     own_steps = ap steps_of own_entries
 
-    -- and what they ask for
-    pub own_asked : (layout : Layout) (refusal : Refusals Id) → first_error refusal (asked_of f.id (numbers_asked layout (fills_of (steps_of (map entry_of (next_part zs at n))))))
-        ≡ first_error refusal (asked_of f.id (numbers_asked layout (fills_of (steps_at (map entry_of xs) k))))
-    own_asked layout refusal = ap (λ steps. first_error refusal (asked_of f.id (numbers_asked layout (fills_of steps)))) own_steps
+    -- and what they look up
+    pub own_asked : (layout : Layout) (failure : Failures Id) → first_error failure (asked_of f.id (numbers_asked layout (fills_of (steps_of (map entry_of (next_part zs at n))))))
+        ≡ first_error failure (asked_of f.id (numbers_asked layout (fills_of (steps_at (map entry_of xs) k))))
+    own_asked layout failure = ap (λ steps. first_error failure (asked_of f.id (numbers_asked layout (fills_of steps)))) own_steps
 
   -- the next file's turn is after it
   pub next_inside : at + n ≤ length xs
   next_inside = omega (arith, own_part.within, own_part.len)
 
-  -- later files are left there
+  -- later files remain there
   pub next_left : drop (at + n) (map entry_of xs) ≡ from_file (k + 1) (map entry_of xs)
   next_left = ap (λ i. drop (at + i) (map entry_of xs)) (sym own_part.len) ∙ own_part.rest
 
 -- ---- plans
 
--- so many steps were added
+-- a number of steps were added
 pub added-count : {Id : Type 0} {layout : Layout} {f : FileModel} {old new : List (GivenStep Id)} {steps : List Step} {now before : ℕ} → now ≡ length new → before ≡ length old
     → (added : AddsSteps layout f old new steps) → now - before ≡ length added.more
 added-count {old = old} is was added = let whole = ap length added.whole in omega (arith, is, was, whole, length-append old added.more)
@@ -140,7 +140,7 @@ module _ {Id : Type 0} {layout : Layout} {file : Id → FileModel} {es : List En
       let count = is.count_is in
       (subst (IsPlan layout file es k f plan) (sym (take_all plan.step_count own (omega (arith, count)))) is, drop_all plan.step_count own (omega (arith, count)))
 
-  -- plans from a place on, and then one more
+  -- plans from an index on, and then one more
   plans-more : (k : ℕ) (fs : List (GivenFile Id)) (ps : List (SheetFile Id)) (steps : List (GivenStep Id)) → ArePlans layout file es k fs ps steps
       → IsPlan layout file es (k + length fs) f plan own → ArePlans layout file es k (fs ++ f ∷ []) (ps ++ plan ∷ []) (steps ++ own)
   plans-more k [] [] steps h is =
@@ -156,33 +156,33 @@ module _ {Id : Type 0} {layout : Layout} {file : Id → FileModel} {es : List En
             (plans-more (k + 1) fs ps (drop p.step_count steps) h.1 (subst (λ n. IsPlan layout file es n f plan own) e is)),
       )
 
--- of two refusals the first is kept
-first-kept : (o p : Option Error) (placed : Result (Unit {0}) Error) (e : Error) → TellsNaming o placed → (e ≢ OutOfMemory → e ≢ FormatError → p ≡ Some e)
-    → TellsNaming {T = Unit {0}} (or_refusal o p) (result_and placed (Err e))
-first-kept o p (Ok x) e none told = λ memory display. or_refusal-answered o p none ∙ told memory display
-first-kept o p (Err x) e kept told = λ memory display. or_refusal-some o p x (kept memory display)
+-- of two errors the first is kept
+first-kept : (o p : Option Error) (placed : Result (Unit {0}) Error) (e : Error) → FailsByOrFormat o placed → (e ≢ OutOfMemory → e ≢ FormatError → p ≡ Some e)
+    → FailsByOrFormat {T = Unit {0}} (or_failure o p) (result_and placed (Err e))
+first-kept o p (Ok x) e none told = λ memory display. or_failure-answered o p none ∙ told memory display
+first-kept o p (Err x) e kept told = λ memory display. or_failure-some o p x (kept memory display)
 
--- a refusal is kept
+-- an error is kept
 some-kept : (placed : Result (Unit {0}) Error) (e : Error) (P : Unit {0} → Type 0) → IfOk (result_and placed (Err e)) P
 some-kept (Ok x) e P = tt
 some-kept (Err x) e P = tt
 
-module _ {Id : Type 0} (layout : Layout) (file : Id → FileModel) (es : List Entry) (refusal : Refusals Id) where
-  -- the numbers of these files are answered, the first refusal of their places is kept, and where no place is refused these are their plans
+module _ {Id : Type 0} (layout : Layout) (file : Id → FileModel) (es : List Entry) (failure : Failures Id) where
+  -- the numbers of these files have been looked up, the first error of their loci is kept, and where no locus fails these are their plans
   pub record ArePlanned (files : List (GivenFile Id)) (now : List (SheetFile Id)) (steps : List (GivenStep Id)) (placed : Result (Unit {0}) Error) : Type 0 where
-    pub answered : first_error refusal (number_lookups layout es (ids_given files)) ≡ None
-    pub kept : TellsNaming (first_error refusal (place_lookups files)) placed
+    pub answered : first_error failure (number_lookups layout es (ids_given files)) ≡ None
+    pub kept : FailsByOrFormat (first_error failure (place_lookups files)) placed
     pub plans : IfOk placed (λ _. ArePlans layout file es 0 files now steps)
 
-module _ {Id : Type 0} {layout : Layout} {file : Id → FileModel} {es : List Entry} {refusal : Refusals Id} {now : List (SheetFile Id)} {steps : List (GivenStep Id)}
+module _ {Id : Type 0} {layout : Layout} {file : Id → FileModel} {es : List Entry} {failure : Failures Id} {now : List (SheetFile Id)} {steps : List (GivenStep Id)}
     {placed : Result (Unit {0}) Error} where
-  -- past the last file the lookups of all are refused with what is kept
-  pub plans-tell : (files : List (GivenFile Id)) (k : ℕ) → length files ≤ k → ArePlanned layout file es refusal (take k files) now steps placed
-      → TellsNaming (first_error refusal (number_lookups layout es (ids_given files) ++ place_lookups files)) placed
+  -- past the last file the lookups of all fail with what is kept
+  pub plans-tell : (files : List (GivenFile Id)) (k : ℕ) → length files ≤ k → ArePlanned layout file es failure (take k files) now steps placed
+      → FailsByOrFormat (first_error failure (number_lookups layout es (ids_given files) ++ place_lookups files)) placed
   plans-tell files k past found =
-      let all = subst (λ (fs : List (GivenFile Id)). ArePlanned layout file es refusal fs now steps placed) (take_all k files past) found in
+      let all = subst (λ (fs : List (GivenFile Id)). ArePlanned layout file es failure fs now steps placed) (take_all k files past) found in
       let numbers = number_lookups layout es (ids_given files) in
-      subst (λ o. TellsNaming o placed) (sym (first_error-none refusal numbers (place_lookups files) all.answered)) all.kept
+      subst (λ o. FailsByOrFormat o placed) (sym (first_error-none failure numbers (place_lookups files) all.answered)) all.kept
 
 module _ {Id : Type 0} {files : List (GivenFile Id)} {k : ℕ} {f : GivenFile Id} (here : StandsAt files k f) where
   -- how many files are before this one
@@ -193,28 +193,28 @@ module _ {Id : Type 0} {files : List (GivenFile Id)} {k : ℕ} {f : GivenFile Id
   ids-more : ids_given (take (k + 1) files) ≡ ids_given (take k files) ++ f.id ∷ []
   ids-more = ap ids_given (take-at here) ∙ map-append (λ (g : GivenFile Id). g.id) (take k files) (f ∷ [])
 
-  -- the places of these, and its own
+  -- the loci of these, and its own
   places-more : place_lookups (take (k + 1) files) ≡ place_lookups (take k files) ++ place_asked f
   places-more =
       ap (λ (fs : List (GivenFile Id)). place_lookups fs) (take-at here) ∙ flat_map-append place_asked (take k files) (f ∷ [])
       ∙ ap (λ (ls : List (Id × Lookup)). place_lookups (take k files) ++ ls) (append-nil (place_asked f))
 
-  -- they are refused with what those of these are, or its own
-  place-refuses : (refusal : Refusals Id)
-      → first_error refusal (place_lookups (take (k + 1) files)) ≡ or_refusal (first_error refusal (place_lookups (take k files))) (first_error refusal (place_asked f))
-  place-refuses refusal = ap (first_error refusal) places-more ∙ first_error-append refusal (place_lookups (take k files)) (place_asked f)
+  -- they fail with what those of these are, or its own
+  place-fails : (failure : Failures Id)
+      → first_error failure (place_lookups (take (k + 1) files)) ≡ or_failure (first_error failure (place_lookups (take k files))) (first_error failure (place_asked f))
+  place-fails failure = ap (first_error failure) places-more ∙ first_error-append failure (place_lookups (take k files)) (place_asked f)
 
-  module _ {layout : Layout} {file : Id → FileModel} {es : List Entry} {refusal : Refusals Id} {now : List (SheetFile Id)} {steps : List (GivenStep Id)}
-      {placed : Result (Unit {0}) Error} (before : ArePlanned layout file es refusal (take k files) now steps placed) where
+  module _ {layout : Layout} {file : Id → FileModel} {es : List Entry} {failure : Failures Id} {now : List (SheetFile Id)} {steps : List (GivenStep Id)}
+      {placed : Result (Unit {0}) Error} (before : ArePlanned layout file es failure (take k files) now steps placed) where
     -- the lookups of the numbers of a file's lines
     abbrev asked_at : ℕ → Id → List (Id × Lookup)
     asked_at i id = asked_of id (numbers_asked layout (fills_of (steps_at es i)))
 
     -- the lookups with this one's
-    asked-more : first_error refusal (number_lookups layout es (ids_given (take (k + 1) files))) ≡ first_error refusal (asked_at k f.id)
+    asked-more : first_error failure (number_lookups layout es (ids_given (take (k + 1) files))) ≡ first_error failure (asked_at k f.id)
     asked-more =
-        ap (first_error refusal) (by_place-more asked_at k (ids_given (take k files)) (ids_given (take (k + 1) files)) f.id (length-map (take k files) _ ∙ files_before) ids-more)
-        ∙ first_error-none refusal (number_lookups layout es (ids_given (take k files))) (asked_at k f.id) before.answered
+        ap (first_error failure) (by_place-more asked_at k (ids_given (take k files)) (ids_given (take (k + 1) files)) f.id (length-map (take k files) _ ∙ files_before) ids-more)
+        ∙ first_error-none failure (number_lookups layout es (ids_given (take k files))) (asked_at k f.id) before.answered
 
     -- the plans with this one
     plans-with : {new : List (SheetFile Id)} {plan : SheetFile Id} {all own : List (GivenStep Id)} → new ≡ now ++ plan ∷ [] → all ≡ steps ++ own → IsPlan layout file es k f plan own
@@ -227,35 +227,35 @@ module _ {Id : Type 0} {files : List (GivenFile Id)} {k : ℕ} {f : GivenFile Id
 
     -- it is planned too
     pub planned-more : {new : List (SheetFile Id)} {plan : SheetFile Id} {all own : List (GivenStep Id)} → new ≡ now ++ plan ∷ [] → all ≡ steps ++ own → IsPlan layout file es k f plan own
-        → first_error refusal (asked_at k f.id) ≡ None → first_error refusal (place_asked f) ≡ None
-        → ArePlanned layout file es refusal (take (k + 1) files) new all placed
+        → first_error failure (asked_at k f.id) ≡ None → first_error failure (place_asked f) ≡ None
+        → ArePlanned layout file es failure (take (k + 1) files) new all placed
     planned-more {new} {all = all} whole whole_steps is answered there = record {
       answered = asked-more ∙ answered;
       kept =
-          let others = first_error refusal (place_lookups (take k files)) in
-          subst (λ o. TellsNaming o placed) (sym (place-refuses refusal ∙ ap (or_refusal others) there ∙ or_refusal-none others)) before.kept;
+          let others = first_error failure (place_lookups (take k files)) in
+          subst (λ o. FailsByOrFormat o placed) (sym (place-fails failure ∙ ap (or_failure others) there ∙ or_failure-none others)) before.kept;
       plans =
           IfOk-weaker placed (λ _. ArePlans layout file es 0 (take k files) now steps) (λ _. ArePlans layout file es 0 (take (k + 1) files) new all)
           (λ _ found. plans-with whole whole_steps is found) before.plans;
     }
 
-    -- its numbers are answered, and its place is refused
-    pub planned-unplaced : {all : List (GivenStep Id)} {e : Error} → first_error refusal (asked_at k f.id) ≡ None
-        → (e ≢ OutOfMemory → e ≢ FormatError → first_error refusal (place_asked f) ≡ Some e)
-        → ArePlanned layout file es refusal (take (k + 1) files) now all (result_and placed (Err e))
+    -- its numbers have been looked up, and the lookups of its locus fail
+    pub planned-unplaced : {all : List (GivenStep Id)} {e : Error} → first_error failure (asked_at k f.id) ≡ None
+        → (e ≢ OutOfMemory → e ≢ FormatError → first_error failure (place_asked f) ≡ Some e)
+        → ArePlanned layout file es failure (take (k + 1) files) now all (result_and placed (Err e))
     planned-unplaced {all} {e} answered told = record {
       answered = asked-more ∙ answered;
-      kept = subst (λ o. TellsNaming {T = Unit {0}} o (result_and placed (Err e))) (sym (place-refuses refusal)) (first-kept _ _ placed e before.kept told);
+      kept = subst (λ o. FailsByOrFormat {T = Unit {0}} o (result_and placed (Err e))) (sym (place-fails failure)) (first-kept _ _ placed e before.kept told);
       plans = some-kept placed e (λ _. ArePlans layout file es 0 (take (k + 1) files) now all);
     }
 
-    -- what its numbers are refused with refuses all
-    pub planned-refuses : {e : Error} → first_error refusal (asked_at k f.id) ≡ Some e
-        → first_error refusal (number_lookups layout es (ids_given files) ++ place_lookups files) ≡ Some e
-    planned-refuses {e} told =
+    -- what its numbers fail with fails all
+    pub planned-fails : {e : Error} → first_error failure (asked_at k f.id) ≡ Some e
+        → first_error failure (number_lookups layout es (ids_given files) ++ place_lookups files) ≡ Some e
+    planned-fails {e} told =
         let rest = drop (k + 1) files in
         let whole = ap ids_given (sym (take-append-drop (k + 1) files)) ∙ map-append (λ (g : GivenFile Id). g.id) (take (k + 1) files) rest in
-        first_error-some refusal (number_lookups layout es (ids_given files)) (place_lookups files) e
-        (ap (λ ids. first_error refusal (number_lookups layout es ids)) whole
-        ∙ ap (first_error refusal) (by_place-append asked_at 0 (ids_given (take (k + 1) files)) (ids_given rest))
-        ∙ first_error-some refusal (number_lookups layout es (ids_given (take (k + 1) files))) _ e (asked-more ∙ told))
+        first_error-some failure (number_lookups layout es (ids_given files)) (place_lookups files) e
+        (ap (λ ids. first_error failure (number_lookups layout es ids)) whole
+        ∙ ap (first_error failure) (by_place-append asked_at 0 (ids_given (take (k + 1) files)) (ids_given rest))
+        ∙ first_error-some failure (number_lookups layout es (ids_given (take (k + 1) files))) _ e (asked-more ∙ told))

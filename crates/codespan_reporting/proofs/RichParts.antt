@@ -1,4 +1,4 @@
--- A rich picture, drawn part by part: its header, its snippets, and its notes.
+-- A rich output, rendered part by part: its header, its snippets, and its notes.
 use Rattle.std.proofs.Common.{◌≡◌, ◌≢◌, ◌<◌, true, List, [], ◌∷◌, ◌++◌, length, drop, map, None, Some, Result, Ok, Err, ⊎_elim, refl, sym, subst, ap, ◌∙◌, arith}
 use Rattle.std.specs.Prelude.{IfErr}
 use Rattle.std.specs.List.{AllZip}
@@ -13,15 +13,15 @@ use Rattle.codespan_base.specs.declared.files.Error.TheVariants.{FormatError, Ou
 use Rattle.codespan_base.specs.Errors.{IsIo}
 use Rattle.codespan_base.specs.FileModel.{FileDatabase}
 use Rattle.codespan_base.specs.Streams.{Stream, newline}
-use Rattle.codespan_base.specs.WriterLaw.{Sink, Sends, Began, is_told, sent}
-use Rattle.codespan_base.proofs.Sends.{Began-first, Began-last, sent-nil}
+use Rattle.codespan_base.specs.WriterLaw.{Sink, Sends, PrefixWritten, is_known, with_written}
+use Rattle.codespan_base.proofs.Sends.{PrefixWritten-first, PrefixWritten-last, with_written-nil}
 use Rattle.codespan_reporting.specs.declared.term.views.sheet.Sheet.{Sheet}
 use Rattle.codespan_reporting.specs.declared.term.views.sheet.SheetFile.{SheetFile}
 use Rattle.codespan_reporting.specs.declared.term.views.steps.Step.{Step as GivenStep}
-use Rattle.codespan_reporting.specs.Inner.AskedLabels.{labels_refusal}
-use Rattle.codespan_reporting.specs.Inner.Asking.{Came, Stopped, EndedAsking, SendsAsking}
-use Rattle.codespan_reporting.specs.Inner.GivenSheets.{AreSheetFiles, IsPrepared, ids_of, places_of, sheet_refusal}
-use Rattle.codespan_reporting.specs.Output.{WritesOutput}
+use Rattle.codespan_reporting.specs.Inner.AskedLabels.{labels_failure}
+use Rattle.codespan_reporting.specs.Inner.Asking.{WroteStream, WrotePrefix, EndedAsking, SendsAsking}
+use Rattle.codespan_reporting.specs.Inner.GivenSheets.{AreSheetFiles, IsPrepared, ids_of, places_of, sheet_failure}
+use Rattle.codespan_reporting.specs.WriteCalls.{WritesOutput}
 use Rattle.codespan_picture.specs.Lookups.{early_lookups, first_error, late_lookups}
 use Rattle.codespan_picture.specs.Picture.{heading_of, label_of, labels_of, look_of, notes_of}
 use Rattle.codespan_picture.specs.Padding.{padding_of}
@@ -31,10 +31,10 @@ use Rattle.codespan_picture.specs.Rows.{BlankRow, HeaderRow, Row}
 use Rattle.codespan_picture.specs.RowStreams.{header_row, stream_of, stream_of_rows}
 use Rattle.codespan_picture.specs.Snippets.{InFile, has_any, labelled_file, labelled_files, note_rows}
 use Rattle.codespan_base.proofs.Chains.{came-then, stopped-before, stopped-then, told-after}
-use Rattle.codespan_reporting.proofs.Chains.{Began-as}
-use Rattle.codespan_reporting.proofs.Drawing.{after_header, before_header, early_refusal, finished, late_refusal, ByPlaces, refused_by_writer, refused_early, refused_late}
+use Rattle.codespan_reporting.proofs.Chains.{PrefixWritten-as}
+use Rattle.codespan_reporting.proofs.Drawing.{after_header, before_header, early_failure, finished, late_failure, ByPlaces, failed_by_writer, failed_early, failed_late}
 use Rattle.codespan_reporting.proofs.NoteRows.{whole_of_notes}
-use Rattle.codespan_reporting.proofs.SheetPrepared.{labels-answered, labels-refused}
+use Rattle.codespan_reporting.proofs.SheetPrepared.{labels-answered, labels-failed}
 
 module _ {Id : Type 0} (view : Config) (files : FileDatabase Id) (d : Diagnostic Id) (some : 0 < length d.labels.items) where
   -- its labels with their files are as many
@@ -57,7 +57,7 @@ module _ {Id : Type 0} (view : Config) (files : FileDatabase Id) (d : Diagnostic
       from [] none = absurd (omega arith)
       from (x ∷ xs) none = omega arith
 
--- without labels the picture is its header and its notes
+-- without labels the output is its header and its notes
 pub bare-whole : {Id : Type 0} {renderer view : Config} {files : FileDatabase Id} {d : Diagnostic Id} {old new : Sink} (r : Result (Unit {0}) Error)
     → length d.labels.items ≡ 0
     → Sends old (header_row d.severity None (heading_of d) ++ newline ++ whole_of_notes (look_of renderer d.severity 0) (notes_of d)) r new → IfErr r IsIo
@@ -65,8 +65,8 @@ pub bare-whole : {Id : Type 0} {renderer view : Config} {files : FileDatabase Id
 bare-whole {renderer = renderer} {view = view} {files = files} {d = d} {old = old} r no_labels sends io =
     let none : labels_of d ≡ [] = ap (map label_of) (nil_from_length d.labels.items no_labels) in
     finished [] (header_row d.severity None (heading_of d) ++ newline ++ whole_of_notes (look_of renderer d.severity 0) (notes_of d)) r
-    (ap (λ (xs : List (InFile _)). first_error files.refusal (early_lookups files xs view)) none)
-    (ap (λ (xs : List (InFile _)). first_error files.refusal (late_lookups files xs view)) none, (refl, λ told. sym (sent-nil old)))
+    (ap (λ (xs : List (InFile _)). first_error files.failure (early_lookups files xs view)) none)
+    (ap (λ (xs : List (InFile _)). first_error files.failure (late_lookups files xs view)) none, (refl, λ told. sym (with_written-nil old)))
     sends io
     (record {
       places = [];
@@ -77,14 +77,14 @@ bare-whole {renderer = renderer} {view = view} {files = files} {d = d} {old = ol
 
 -- ---- before the header
 
--- where the labels' lookups are answered, those of the sheet tell what those before the header are refused with
+-- where the labels' lookups succeed, those of the sheet decide what those before the header fail with
 early-is_sheet : {Id : Type 0} (view : Config) (table : FileDatabase Id) {given gathered items : List (Label Id)} → given ≡ items → gathered ≡ given
-    → labels_refusal view table (map label_of given) ≡ None
-    → first_error table.refusal (early_lookups table (map label_of items) view) ≡ sheet_refusal view table (map label_of gathered)
+    → labels_failure view table (map label_of given) ≡ None
+    → first_error table.failure (early_lookups table (map label_of items) view) ≡ sheet_failure view table (map label_of gathered)
 early-is_sheet view table {given} given_are gathered_are answered =
-    ap (λ ls. first_error table.refusal (early_lookups table (map label_of ls) view)) (sym given_are)
+    ap (λ ls. first_error table.failure (early_lookups table (map label_of ls) view)) (sym given_are)
     ∙ labels-answered table view (map label_of given) answered
-    ∙ ap (λ ls. sheet_refusal view table (map label_of ls)) (sym gathered_are)
+    ∙ ap (λ ls. sheet_failure view table (map label_of ls)) (sym gathered_are)
 
 -- a sheet that is prepared of the labels that were gathered is that of the diagnostic's
 pub prepared-of_all : {Id : Type 0} {view : Config} {table : FileDatabase Id} {given gathered items : List (Label Id)} {sheet : Sheet Id} → given ≡ items → gathered ≡ given
@@ -92,30 +92,30 @@ pub prepared-of_all : {Id : Type 0} {view : Config} {table : FileDatabase Id} {g
 prepared-of_all {view = view} {table = table} {sheet = sheet} given_are gathered_are prepared =
     subst (λ ls. IsPrepared table view (map label_of ls) sheet) (gathered_are ∙ given_are) prepared
 
--- a view is ready to draw: its sheet is prepared, and the lookups before the header are answered
+-- a view is ready to render: its sheet is prepared, and the lookups before the header have succeeded
 pub record IsReady {Id : Type 0} (view : Config) (table : FileDatabase Id) (d : Diagnostic Id) (sheet : Sheet Id) : Type 0 where
   pub prepared : IsPrepared table view (labels_of d) sheet
-  pub early : early_refusal view table d ≡ None
+  pub early : early_failure view table d ≡ None
 
 module _ {Id : Type 0} {view : Config} {table : FileDatabase Id} {d : Diagnostic Id} {given : List (Label Id)} (given_are : given ≡ d.labels.items) where
-  -- a label's lookup refused
+  -- a label's lookup failed
   pub stopped-gathering : {renderer : Config} {s : Sink} {e : Error} → 0 < length d.labels.items
-      → (e ≢ OutOfMemory → labels_refusal view table (map label_of given) ≡ Some e) → WritesOutput Rich renderer view table d s (Err e) s
+      → (e ≢ OutOfMemory → labels_failure view table (map label_of given) ≡ Some e) → WritesOutput Rich renderer view table d s (Err e) s
   stopped-gathering {e = e} some told =
-      refused_early refl (some_early view table d some)
-      (λ memory display. ap (λ ls. first_error table.refusal (early_lookups table (map label_of ls) view)) (sym given_are)
-      ∙ labels-refused table view (map label_of given) e (told memory))
+      failed_early refl (some_early view table d some)
+      (λ memory display. ap (λ ls. first_error table.failure (early_lookups table (map label_of ls) view)) (sym given_are)
+      ∙ labels-failed table view (map label_of given) e (told memory))
 
-  module _ {gathered : List (Label Id)} (gathered_are : gathered ≡ given) (answered : labels_refusal view table (map label_of given) ≡ None) where
-    -- a lookup of the sheet refused
+  module _ {gathered : List (Label Id)} (gathered_are : gathered ≡ given) (answered : labels_failure view table (map label_of given) ≡ None) where
+    -- a lookup of the sheet failed
     pub stopped-preparing : {renderer : Config} {s : Sink} {e : Error} → 0 < length d.labels.items
-        → (e ≢ OutOfMemory → e ≢ FormatError → sheet_refusal view table (map label_of gathered) ≡ Some e) → WritesOutput Rich renderer view table d s (Err e) s
+        → (e ≢ OutOfMemory → e ≢ FormatError → sheet_failure view table (map label_of gathered) ≡ Some e) → WritesOutput Rich renderer view table d s (Err e) s
     stopped-preparing some told =
-        refused_early refl (some_early view table d some)
+        failed_early refl (some_early view table d some)
         (λ memory display. early-is_sheet view table given_are gathered_are answered ∙ told memory display)
 
-    -- all of these lookups are answered
-    pub ready : {sheet : Sheet Id} → IsPrepared table view (map label_of gathered) sheet → sheet_refusal view table (map label_of gathered) ≡ None
+    -- all of these lookups succeed
+    pub ready : {sheet : Sheet Id} → IsPrepared table view (map label_of gathered) sheet → sheet_failure view table (map label_of gathered) ≡ None
         → IsReady view table d sheet
     ready prepared told = record {
       prepared = prepared-of_all given_are gathered_are prepared;
@@ -129,7 +129,7 @@ module _ {Id : Type 0} {view : Config} {table : FileDatabase Id} {d : Diagnostic
   abbrev header : Stream
   header = header_row d.severity None (heading_of d) ++ newline
 
-  -- the snippets, as a configuration draws them
+  -- the snippets, as a configuration renders them
   abbrev middle : Config → Stream
   middle k = stream_of_rows (look_of k d.severity sheet.padding) (snippets view (has_any (notes_of d)) (places_of sheet.files.items) (labelled_files table.same table.file (labels_of d)))
 
@@ -141,11 +141,11 @@ module _ {Id : Type 0} {view : Config} {table : FileDatabase Id} {d : Diagnostic
   abbrev whole : Config → Stream
   whole k = (header ++ middle k) ++ end k
 
-  -- the call draws the snippets so, and makes their lookups
+  -- the call renders the snippets so, and makes their lookups
   abbrev DrawsMiddle : Config → Sink → Result (Unit {0}) Error → Sink → Type 0
-  DrawsMiddle k old r new = SendsAsking (late_refusal view table d) old (middle k) r new
+  DrawsMiddle k old r new = SendsAsking (late_failure view table d) old (middle k) r new
 
-  -- where the snippets start are places of the files
+  -- the snippets start at loci of the files
   places-are : AllZip IsLocusOfFile (labelled_files table.same table.file (labels_of d)) (places_of sheet.files.items)
   places-are =
       subst (λ (ids : List Id). AllZip IsLocusOfFile (map (labelled_file table.same table.file (labels_of d)) ids) (places_of sheet.files.items)) ready.prepared.ids_are (from sheet.files.items sheet.steps.items ready.prepared.files_are)
@@ -155,7 +155,7 @@ module _ {Id : Type 0} {view : Config} {table : FileDatabase Id} {d : Diagnostic
       from [] steps are = tt
       from (f ∷ fs) steps are = (are.0.place, from fs (drop f.step_count steps) are.1)
 
-  -- the picture with these places is all of these
+  -- the output with these loci is all of these
   placed-is : (renderer : Config) → ByPlaces renderer view table d (λ s. s ≡ whole renderer)
   placed-is renderer =
       let rows = snippets view (has_any (notes_of d)) (places_of sheet.files.items) (labelled_files table.same table.file (labels_of d)) in
@@ -169,35 +169,35 @@ module _ {Id : Type 0} {view : Config} {table : FileDatabase Id} {d : Diagnostic
             ∙ flat_map-append ended (HeaderRow None (heading_of d) ∷ rows) (note_rows (notes_of d) ++ (BlankRow ∷ []));
       }
 
-  -- a beginning of that is one of the output
-  begun-as : (renderer : Config) {old new : Sink} → (is_told old ≡ true → Began old (whole renderer) new) → ByPlaces renderer view table d (λ s. is_told old ≡ true → Began old s new)
+  -- a prefix of that is one of the output
+  begun-as : (renderer : Config) {old new : Sink} → (is_known old ≡ true → PrefixWritten old (whole renderer) new) → ByPlaces renderer view table d (λ s. is_known old ≡ true → PrefixWritten old s new)
   begun-as renderer {old} {new} begun =
       let names = placed-is renderer in
-      record { places = names.places; are = names.are; holds = λ told. Began-as old new (whole renderer) _ names.holds (begun told) }
+      record { places = names.places; are = names.are; holds = λ told. PrefixWritten-as old new (whole renderer) _ names.holds (begun told) }
 
   module _ {renderer : Config} where
     -- the header was cut short
     pub stopped-in_header : {old new : Sink} {e : Error} → Sends old header (Err e) new → IsIo e → WritesOutput Rich renderer view table d old (Err e) new
-    stopped-in_header sends io = refused_by_writer ready.early sends.0 io (begun-as renderer (stopped-before (end renderer) (stopped-before (middle renderer) sends)).1)
+    stopped-in_header sends io = failed_by_writer ready.early sends.0 io (begun-as renderer (stopped-before (end renderer) (stopped-before (middle renderer) sends)).1)
 
-    -- the snippets were cut short, drawn by an equal configuration
-    pub stopped-in_snippets : {now : Config} {old mid new : Sink} {e : Error} → 0 < length d.labels.items → Came old header mid → now ≡ renderer
+    -- the snippets were cut short, rendered by an equal configuration
+    pub stopped-in_snippets : {now : Config} {old mid new : Sink} {e : Error} → 0 < length d.labels.items → WroteStream old header mid → now ≡ renderer
         → DrawsMiddle now mid (Err e) new → WritesOutput Rich renderer view table d old (Err e) new
     stopped-in_snippets {now} {old} {mid} {new} {e} some came alike part =
         ⊎_elim
-        (λ (w : IsIo e × Stopped mid (middle renderer) new). let stopped = stopped-before (end renderer) (stopped-then header came w.1) in refused_by_writer ready.early stopped.0 w.0 (begun-as renderer stopped.1))
-        (λ (w : EndedAsking (late_refusal view table d) mid (middle renderer) e new).
-        refused_late ready.early (w.frame ∙ came.0) (some_late view table d some) w.told
+        (λ (w : IsIo e × WrotePrefix mid (middle renderer) new). let stopped = stopped-before (end renderer) (stopped-then header came w.1) in failed_by_writer ready.early stopped.0 w.0 (begun-as renderer stopped.1))
+        (λ (w : EndedAsking (late_failure view table d) mid (middle renderer) e new).
+        failed_late ready.early (w.frame ∙ came.0) (some_late view table d some) w.told
         (begun-as renderer (λ told. cut told (came.1 told) w.begun)))
         (subst (λ (k : Config). DrawsMiddle k mid (Err e) new) alike part)
       where
-        cut : is_told old ≡ true → mid ≡ sent old header → (is_told mid ≡ true → Began mid (middle renderer) new) → Began old (whole renderer) new
+        cut : is_known old ≡ true → mid ≡ with_written old header → (is_known mid ≡ true → PrefixWritten mid (middle renderer) new) → PrefixWritten old (whole renderer) new
         cut told is begun =
-            Began-first old (header ++ middle renderer) new (end renderer)
-            (Began-last old header (middle renderer) new (subst (λ (x : Sink). Began x (middle renderer) new) is (begun (told-after old mid header told is))))
+            PrefixWritten-first old (header ++ middle renderer) new (end renderer)
+            (PrefixWritten-last old header (middle renderer) new (subst (λ (x : Sink). PrefixWritten x (middle renderer) new) is (begun (told-after old mid header told is))))
 
-    -- header and snippets came, and then the notes were sent
-    pub drawn-whole : {second third : Config} {old mid last new : Sink} (r : Result (Unit {0}) Error) → Came old header mid
+    -- header and snippets have been written, and then the notes were written
+    pub drawn-whole : {second third : Config} {old mid last new : Sink} (r : Result (Unit {0}) Error) → WroteStream old header mid
         → second ≡ renderer → DrawsMiddle second mid (Ok tt) last
         → third ≡ renderer → Sends last (end third) r new → IfErr r IsIo → WritesOutput Rich renderer view table d old r new
     drawn-whole {old = old} {mid = mid} {last = last} {new = new} r came alike part alike_end sends io =

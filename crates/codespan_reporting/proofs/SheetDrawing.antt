@@ -7,33 +7,31 @@ use Rattle.std.proofs.lemmas.Grind.{common_steps}
 use Rattle.std.proofs.lemmas.List.{append-nil, append_assoc, drop-drop, get_or-map, length-drop, length-map, length-take}
 use Rattle.codespan_base.specs.declared.term.config.Config.{Config}
 use Rattle.codespan_base.specs.declared.files.Error.{Error}
-use Rattle.codespan_base.specs.FileModel.{FileDatabase, Lookup, or_refusal}
+use Rattle.codespan_base.specs.FileModel.{FileDatabase, Lookup, or_failure}
 use Rattle.codespan_base.specs.Streams.{Stream}
 use Rattle.codespan_base.specs.WriterLaw.{Sends, Sink}
 use Rattle.codespan_base.specs.Errors.{IsIo}
-use Rattle.codespan_reporting.specs.Inner.Asking.{Came, SendsAsking}
+use Rattle.codespan_reporting.specs.Inner.Asking.{WroteStream, SendsAsking}
 use Rattle.codespan_picture.specs.Snippets.{row_after, snippet, snippets}
 use Rattle.codespan_picture.specs.Lookups.{asked_of, first_error, late_lookups, snippet_lookups}
 use Rattle.codespan_picture.specs.Picture.{labels_of, look_of, notes_of}
 use Rattle.codespan_picture.specs.Rows.{EmptyRow, Look, Locus, Row, StartRow}
 use Rattle.codespan_picture.specs.RowStreams.{stream_of_rows}
-use Rattle.codespan_picture.specs.Snippets.{InFile, LabelledFile, bare_lanes, has_any, is_followed, labelled_file, labelled_files, lane_count}
+use Rattle.codespan_picture.specs.Snippets.{InFile, LabelledFile, bare_lanes, has_any, labelled_file, labelled_files}
 use Rattle.codespan_base.specs.FileModel.Lookup.{Source}
 use Rattle.codespan_picture.specs.Given.{locus_view}
 use Rattle.codespan_reporting.specs.Inner.GivenSheets.{AreSheetFiles, IsPrepared, IsSheetFile, ids_of, places_of}
 use Rattle.codespan_reporting.specs.Inner.GivenSnippets.{end_rows, lookups_with, rows_in}
 use Rattle.codespan_reporting.specs.Inner.GivenSteps.{step_of}
-use Rattle.codespan_reporting.specs.Inner.Lanes.{lane_given}
 use Rattle.codespan_reporting.specs.Inner.Steps.{rows_of_steps}
 use Rattle.codespan_reporting.specs.Views.{diagnostic_of, view_config_of}
 use Rattle.codespan_reporting.specs.declared.term.views.rich.RichDiagnostic.{RichDiagnostic}
 use Rattle.codespan_reporting.specs.declared.term.views.sheet.Sheet.{Sheet}
 use Rattle.codespan_reporting.specs.declared.term.views.sheet.SheetFile.{SheetFile}
 use Rattle.codespan_reporting.specs.declared.term.views.steps.Step.{Step as GivenStep}
-use Rattle.codespan_reporting.proofs.Askings.{IsAsking, asking_as, asking_cut, asking_nothing, asking_of_sends, asking_then, first_error-append, or_refusal-none}
+use Rattle.codespan_reporting.proofs.Askings.{IsAsking, asking_as, asking_cut, asking_nothing, asking_of_sends, asking_then, first_error-append, or_failure-none}
 use Rattle.codespan_reporting.proofs.FileParts.{next_part}
 use Rattle.codespan_reporting.proofs.LabelPlaces.{StandsAt}
-use Rattle.codespan_reporting.proofs.LaneMarks.{file_lanes-count}
 use Rattle.codespan_reporting.proofs.SnippetParts.{rows-two, sends_at}
 
 -- the elements from one on: that one, and those after it
@@ -51,7 +49,7 @@ drop-end (x ∷ xs) (suc k) past = drop-end xs k (omega arith)
 -- ---- what follows a snippet
 
 -- a snippet is followed by another one, or by notes
-followed-is : {X : Type 0} (has_notes : Bool) (ys : List X) → is_followed has_notes ys ≡ (has_notes || nat_lt 0 (length ys))
+followed-is : {X : Type 0} (has_notes : Bool) (ys : List X) → (has_any ys || has_notes) ≡ (has_notes || nat_lt 0 (length ys))
 followed-is true [] = refl
 followed-is false [] = refl
 followed-is true (y ∷ ys) = refl
@@ -62,7 +60,7 @@ left-over : (a b : ℕ) → nat_lt 0 (b - a) ≡ nat_lt a b
 left-over a b = grind (arith, common_steps)
 
 -- something follows where there are notes or another file
-followed-at : {X : Type 0} (b : Bool) (xs : List X) (k : ℕ) → is_followed b (drop (k + 1) xs) ≡ (b || nat_lt (k + 1) (length xs))
+followed-at : {X : Type 0} (b : Bool) (xs : List X) (k : ℕ) → (has_any (drop (k + 1) xs) || b) ≡ (b || nat_lt (k + 1) (length xs))
 followed-at has_notes xs k =
     followed-is has_notes (drop (k + 1) xs)
     ∙ ap (λ n. has_notes || nat_lt 0 n) (length-drop (k + 1) xs)
@@ -126,15 +124,11 @@ module _ {Id : Type 0} {table : FileDatabase Id} {config : Config} {xs : List (I
   }
 
 module _ {Id : Type 0} {config : Config} {own : LabelledFile} {f : SheetFile Id} {steps : List (GivenStep Id)} (is : IsSheetFile config own f steps) where
-  -- it has as many lanes as its labels need
-  lanes-count : length f.file.now.lanes.items ≡ lane_count own
-  lanes-count = sym (length-map f.file.now.lanes.items lane_given) ∙ ap length is.lanes_are ∙ file_lanes-count own
-
   -- its rows
   rows-are : (followed : Bool) → rows_in f own.file steps ++ end_rows f followed ≡ snippet config (locus_view f.locus) own ++ row_after followed own
   rows-are followed =
-      (λ i. (StartRow (locus_view f.locus) ∷ EmptyRow (record { count = lanes-count i; marks = [] }) ∷ []) ++ rows_of_steps own.file (is.lanes_are i) (map step_of steps)
-      ++ (if followed then EmptyRow (record { count = lanes-count i; marks = [] }) ∷ [] else []))
+      (λ i. (StartRow (locus_view f.locus) ∷ EmptyRow (record { count = is.lanes_are i; marks = [] }) ∷ []) ++ rows_of_steps own.file (is.lanes_are i) (map step_of steps)
+      ++ (if followed then EmptyRow (record { count = is.lanes_are i; marks = [] }) ∷ [] else []))
       ∙ ap (λ (r : List Row). (StartRow (locus_view f.locus) ∷ EmptyRow (bare_lanes own) ∷ []) ++ r ++ (if followed then EmptyRow (bare_lanes own) ∷ [] else [])) is.rows
 
 -- ---- the files from a place on
@@ -163,7 +157,7 @@ module _ {Id : Type 0} (table : FileDatabase Id) (view : RichDiagnostic Id) wher
       pub drawn : IsAsking None old (stream_of_rows (look_of renderer (diagnostic_of view).severity sheet.padding) rows) (Ok tt) now
       pub rows_whole : rows ++ rows_left k ≡ rows_left 0
       pub asked : List (Id × Lookup)
-      pub answered : first_error table.refusal asked ≡ None
+      pub answered : first_error table.failure asked ≡ None
       pub asked_whole : asked ++ asked_left k ≡ asked_left 0
 
 -- no file is drawn
@@ -207,24 +201,24 @@ module _ {Id : Type 0} {table : FileDatabase Id} {view : RichDiagnostic Id} {ren
   abbrev all_rows : List Row
   all_rows = snippets (view_config_of view) has_notes places (labelled_files table.same table.file (labels_of (diagnostic_of view)))
 
-  -- what all their lookups are refused with
-  abbrev all_refusal : Option Error
-  all_refusal = first_error table.refusal (late_lookups table (labels_of (diagnostic_of view)) (view_config_of view))
+  -- what all their lookups fail with
+  abbrev all_failure : Option Error
+  all_failure = first_error table.failure (late_lookups table (labels_of (diagnostic_of view)) (view_config_of view))
 
   -- from the first place on these are all of them
   rows-all : rest 0 ≡ all_rows
   rows-all = ap (drawn_at places) prepared.ids_are
 
-  refusal-all : first_error table.refusal (asks 0) ≡ all_refusal
-  refusal-all = ap (λ js. first_error table.refusal (flat_map (snippet_asked table view) js)) prepared.ids_are
+  failure-all : first_error table.failure (asks 0) ≡ all_failure
+  failure-all = ap (λ js. first_error table.failure (flat_map (snippet_asked table view) js)) prepared.ids_are
 
   -- all files are drawn
-  pub left-end : {gs : List (SheetFile Id)} → gs ≡ sheet.files.items → length gs ≤ k → SendsAsking all_refusal old (stream_of_rows look all_rows) (Ok tt) mid
+  pub left-end : {gs : List (SheetFile Id)} → gs ≡ sheet.files.items → length gs ≤ k → SendsAsking all_failure old (stream_of_rows look all_rows) (Ok tt) mid
   left-end alike past =
       let none : drop k ids ≡ [] =
       drop-end ids k (omega (arith, ids-count sheet.files.items, subst (λ (hs : List (SheetFile Id)). length hs ≤ k) alike past)) in
       subst₂ (λ (o : Option Error) (s : Stream). SendsAsking o old s (Ok tt) mid)
-      (sym left.answered ∙ ap (first_error table.refusal) (sym (append-nil left.asked) ∙ ap (λ js. left.asked ++ flat_map (snippet_asked table view) js) (sym none) ∙ left.asked_whole) ∙ refusal-all)
+      (sym left.answered ∙ ap (first_error table.failure) (sym (append-nil left.asked) ∙ ap (λ js. left.asked ++ flat_map (snippet_asked table view) js) (sym none) ∙ left.asked_whole) ∙ failure-all)
       (ap (stream_of_rows look) (sym (append-nil left.rows) ∙ ap (λ r. left.rows ++ r) (sym (no-rows (drop k places)) ∙ ap (drawn_at (drop k places)) (sym none))
       ∙ left.rows_whole ∙ rows-all))
       left.drawn.draws
@@ -241,7 +235,7 @@ module _ {Id : Type 0} {table : FileDatabase Id} {view : RichDiagnostic Id} {ren
 
     -- the rows of the file at the place
     abbrev rows_here : List Row
-    rows_here = snippet (view_config_of view) (locus_view f.locus) own ++ row_after (is_followed has_notes (drop (k + 1) ids)) own
+    rows_here = snippet (view_config_of view) (locus_view f.locus) own ++ row_after (has_any (drop (k + 1) ids) || has_notes) own
 
     -- its lookups
     abbrev asked_here : List (Id × Lookup)
@@ -253,7 +247,7 @@ module _ {Id : Type 0} {table : FileDatabase Id} {view : RichDiagnostic Id} {ren
         ∙ ap (drawn_at (locus_view f.locus ∷ drop (k + 1) places)) (drop-one ids k f.file.now.id (id-inside at) (id-at at))
         ∙ ap (λ (b : Bool). (snippet (view_config_of view) (locus_view f.locus) own ++ row_after b own) ++ rest (k + 1)) (followed-mapped (drop (k + 1) ids))
       where
-        followed-mapped : (js : List Id) → is_followed has_notes (map (labelled table view) js) ≡ is_followed has_notes js
+        followed-mapped : (js : List Id) → (has_any (map (labelled table view) js) || has_notes) ≡ (has_any js || has_notes)
         followed-mapped [] = refl
         followed-mapped (j ∷ js) = refl
 
@@ -273,70 +267,70 @@ module _ {Id : Type 0} {table : FileDatabase Id} {view : RichDiagnostic Id} {ren
     end_stream = stream_of_rows look (end_rows f follows)
 
     -- its lookups, as its steps make them
-    abbrev steps_refusal : Option Error
-    steps_refusal = first_error table.refusal (asked_of f.file.now.id (lookups_with steps))
+    abbrev steps_failure : Option Error
+    steps_failure = first_error table.failure (asked_of f.file.now.id (lookups_with steps))
 
     -- the snippet is drawn, by an equal configuration
-    snippet-here : {r : Result (Unit {0}) Error} {new : Sink} → SendsAsking steps_refusal mid (stream_of_rows (look_by now) (rows_in f (table.file f.file.now.id) steps)) r new
-        → IsAsking steps_refusal mid snippet_stream r new
+    snippet-here : {r : Result (Unit {0}) Error} {new : Sink} → SendsAsking steps_failure mid (stream_of_rows (look_by now) (rows_in f (table.file f.file.now.id) steps)) r new
+        → IsAsking steps_failure mid snippet_stream r new
     snippet-here draws = asking_as refl (λ i. stream_of_rows (look_by (alike i)) (rows_in f (table.file f.file.now.id) steps)) (record { draws = draws })
 
     -- both are the rows and the lookups at the place
-    drawn-here : {r : Result (Unit {0}) Error} {new : Sink} → IsAsking (or_refusal steps_refusal None) mid (snippet_stream ++ end_stream) r new
-        → IsAsking (first_error table.refusal asked_here) mid (stream_of_rows look rows_here) r new
+    drawn-here : {r : Result (Unit {0}) Error} {new : Sink} → IsAsking (or_failure steps_failure None) mid (snippet_stream ++ end_stream) r new
+        → IsAsking (first_error table.failure asked_here) mid (stream_of_rows look rows_here) r new
     drawn-here both =
-        let followed : follows ≡ is_followed has_notes (drop (k + 1) ids) =
+        let followed : follows ≡ (has_any (drop (k + 1) ids) || has_notes) =
         (λ i. notes_are i || nat_lt (k + 1) ((count_is ∙ sym (ids-count sheet.files.items)) i)) ∙ sym (followed-at has_notes ids k) in
-        asking_as (or_refusal-none steps_refusal ∙ ap (λ (ls : List Lookup). first_error table.refusal (asked_of f.file.now.id (Source ∷ ls))) is.asked)
+        asking_as (or_failure-none steps_failure ∙ ap (λ (ls : List Lookup). first_error table.failure (asked_of f.file.now.id (Source ∷ ls))) is.asked)
         (sym (rows-two look (rows_in f (table.file f.file.now.id) steps) (end_rows f follows))
         ∙ ap (stream_of_rows look) (rows-are is follows)
         ∙ ap (λ (b : Bool). stream_of_rows look (snippet (view_config_of view) (locus_view f.locus) own ++ row_after b own)) followed)
         both
 
     -- the file is drawn
-    left-next : {new : Sink} → IsAsking (first_error table.refusal asked_here) mid (stream_of_rows look rows_here) (Ok tt) new → SnippetsLeft table view sheet renderer (k + 1) old new
+    left-next : {new : Sink} → IsAsking (first_error table.failure asked_here) mid (stream_of_rows look rows_here) (Ok tt) new → SnippetsLeft table view sheet renderer (k + 1) old new
     left-next drawn =
         record {
           rows = left.rows ++ rows_here;
           drawn = asking_as drawn.draws.0 (sym (rows-two look left.rows rows_here)) (asking_then left.drawn drawn);
           rows_whole = append_assoc left.rows rows_here (rest (k + 1)) ∙ ap (λ (r : List Row). left.rows ++ r) (sym rows-next) ∙ left.rows_whole;
           asked = left.asked ++ asked_here;
-          answered = first_error-append table.refusal left.asked asked_here ∙ ap (λ (o : Option Error). or_refusal o (first_error table.refusal asked_here)) left.answered ∙ drawn.draws.0;
+          answered = first_error-append table.failure left.asked asked_here ∙ ap (λ (o : Option Error). or_failure o (first_error table.failure asked_here)) left.answered ∙ drawn.draws.0;
           asked_whole = append_assoc left.asked asked_here (asks (k + 1)) ∙ ap (λ (ls : List (Id × Lookup)). left.asked ++ ls) (sym asked-next) ∙ left.asked_whole;
         }
 
     -- the file was cut short
-    left-cut : {new : Sink} {e : Error} → IsAsking (first_error table.refusal asked_here) mid (stream_of_rows look rows_here) (Err e) new
-        → SendsAsking all_refusal old (stream_of_rows look all_rows) (Err e) new
+    left-cut : {new : Sink} {e : Error} → IsAsking (first_error table.failure asked_here) mid (stream_of_rows look rows_here) (Err e) new
+        → SendsAsking all_failure old (stream_of_rows look all_rows) (Err e) new
     left-cut drawn =
-        let here = first_error table.refusal asked_here in
-        let after = first_error table.refusal (asks (k + 1)) in
+        let here = first_error table.failure asked_here in
+        let after = first_error table.failure (asks (k + 1)) in
         (asking_as
-        (sym (ap (λ (o : Option Error). or_refusal o (or_refusal here after)) left.answered)
-        ∙ ap (or_refusal (first_error table.refusal left.asked)) (sym (first_error-append table.refusal asked_here (asks (k + 1))) ∙ ap (first_error table.refusal) (sym asked-next))
-        ∙ sym (first_error-append table.refusal left.asked (asks k)) ∙ ap (first_error table.refusal) left.asked_whole ∙ refusal-all)
+        (sym (ap (λ (o : Option Error). or_failure o (or_failure here after)) left.answered)
+        ∙ ap (or_failure (first_error table.failure left.asked)) (sym (first_error-append table.failure asked_here (asks (k + 1))) ∙ ap (first_error table.failure) (sym asked-next))
+        ∙ sym (first_error-append table.failure left.asked (asks k)) ∙ ap (first_error table.failure) left.asked_whole ∙ failure-all)
         (ap (λ (s : Stream). stream_of_rows look left.rows ++ s) (sym (rows-two look rows_here (rest (k + 1))) ∙ ap (stream_of_rows look) (sym rows-next))
         ∙ sym (rows-two look left.rows (rest k)) ∙ ap (stream_of_rows look) (left.rows_whole ∙ rows-all))
         (asking_then left.drawn (asking_cut after (stream_of_rows look (rest (k + 1))) drawn))).draws
 
     -- the snippet was cut short
-    pub cut-in_snippet : {new : Sink} {e : Error} → SendsAsking steps_refusal mid (stream_of_rows (look_by now) (rows_in f (table.file f.file.now.id) steps)) (Err e) new
-        → SendsAsking all_refusal old (stream_of_rows look all_rows) (Err e) new
+    pub cut-in_snippet : {new : Sink} {e : Error} → SendsAsking steps_failure mid (stream_of_rows (look_by now) (rows_in f (table.file f.file.now.id) steps)) (Err e) new
+        → SendsAsking all_failure old (stream_of_rows look all_rows) (Err e) new
     cut-in_snippet draws = left-cut (drawn-here (asking_cut None end_stream (snippet-here draws)))
 
-    module _ {inner : Sink} (draws : SendsAsking steps_refusal mid (stream_of_rows (look_by now) (rows_in f (table.file f.file.now.id) steps)) (Ok tt) inner)
+    module _ {inner : Sink} (draws : SendsAsking steps_failure mid (stream_of_rows (look_by now) (rows_in f (table.file f.file.now.id) steps)) (Ok tt) inner)
         {after : Config} (alike_after : after ≡ now) where
       -- then the row after it was drawn, by an equal configuration, however that ends
       end-here : {r : Result (Unit {0}) Error} {new : Sink} → Sends inner (stream_of_rows (look_by after) (end_rows f follows)) r new → IfErr r IsIo
-          → IsAsking (first_error table.refusal asked_here) mid (stream_of_rows look rows_here) r new
+          → IsAsking (first_error table.failure asked_here) mid (stream_of_rows look rows_here) r new
       end-here {r} {new} sends io =
           drawn-here (asking_then (snippet-here draws) (asking_of_sends r (sends_at (λ (c : Config). stream_of_rows (look_by c) (end_rows f follows)) (alike_after ∙ alike) inner new r sends) io))
 
       -- it came
-      pub next-file : {new : Sink} → Came inner (stream_of_rows (look_by after) (end_rows f follows)) new → SnippetsLeft table view sheet renderer (k + 1) old new
+      pub next-file : {new : Sink} → WroteStream inner (stream_of_rows (look_by after) (end_rows f follows)) new → SnippetsLeft table view sheet renderer (k + 1) old new
       next-file came = left-next (end-here came tt)
 
       -- it was cut short
       pub cut-after_snippet : {new : Sink} {e : Error} → Sends inner (stream_of_rows (look_by after) (end_rows f follows)) (Err e) new → IsIo e
-          → SendsAsking all_refusal old (stream_of_rows look all_rows) (Err e) new
+          → SendsAsking all_failure old (stream_of_rows look all_rows) (Err e) new
       cut-after_snippet sends io = left-cut (end-here sends io)

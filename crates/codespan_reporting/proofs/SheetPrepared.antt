@@ -1,17 +1,17 @@
--- What was gathered and prepared is that of the labels, and what refuses it.
+-- What was gathered and prepared is that of the labels, and what fails it.
 use Rattle.std.proofs.Common.{◌≡◌, List, map, Option, Some, None, Vec, Global, ◌∙◌, ap, append_assoc}
 use Rattle.std.specs.List.Sorted.{IsPermutation, IsSortedBy}
 use Rattle.codespan_base.specs.declared.files.Error.{Error}
 use Rattle.codespan_base.specs.declared.term.config.Config.{Config}
-use Rattle.codespan_base.specs.FileModel.{FileDatabase, Lookup, or_refusal}
+use Rattle.codespan_base.specs.FileModel.{FileDatabase, Lookup, or_failure}
 use Rattle.codespan_picture.specs.Lookups.{early_lookups, first_error, label_lookups}
 use Rattle.codespan_picture.specs.Snippets.{InFile}
 use Rattle.codespan_reporting.specs.declared.term.views.entry.Entry.{Entry as GivenEntry}
 use Rattle.codespan_reporting.specs.declared.term.views.gather.Gathered.{Gathered}
-use Rattle.codespan_reporting.specs.Inner.AskedLabels.{labels_refusal}
+use Rattle.codespan_reporting.specs.Inner.AskedLabels.{labels_failure}
 use Rattle.codespan_reporting.specs.Inner.Entries.{is_below}
 use Rattle.codespan_reporting.specs.Inner.GivenEntries.{IsOfFiles, entry_of}
-use Rattle.codespan_reporting.specs.Inner.GivenSheets.{IsGathered, IsGatheredInTurn, sheet_lookups, sheet_numbers, sheet_places, sheet_refusal}
+use Rattle.codespan_reporting.specs.Inner.GivenSheets.{IsGathered, IsGatheredInTurn, sheet_lookups, sheet_numbers, sheet_places, sheet_failure}
 use Rattle.codespan_reporting.specs.Inner.LabelledFiles.{ids_given}
 use Rattle.codespan_reporting.specs.Inner.PlacedLabels.{all_entries}
 use Rattle.codespan_reporting.proofs.Askings.{first_error-append}
@@ -32,24 +32,24 @@ gathered-in_order {Id} {table} {config} {xs} {was} entries g perm up =
     }
 
 module _ {Id : Type 0} (table : FileDatabase Id) (config : Config) (xs : List (InFile Id)) where
-  -- what these lookups are refused with
-  abbrev refused : List (Id × Lookup) → Option Error
-  refused = first_error table.refusal
+  -- what these lookups fail with
+  abbrev failed : List (Id × Lookup) → Option Error
+  failed = first_error table.failure
 
   -- all lookups before the header
   abbrev early : List (Id × Lookup)
   early = early_lookups table xs config
 
   -- the lookups of the labels come first, and then those of the files
-  early-is : refused early ≡ or_refusal (labels_refusal config table xs) (sheet_refusal config table xs)
+  early-is : failed early ≡ or_failure (labels_failure config table xs) (sheet_failure config table xs)
   early-is =
       let of_labels = label_lookups config table xs in
-      ap refused (append_assoc of_labels (sheet_numbers config table xs) (sheet_places table xs)) ∙ first_error-append table.refusal of_labels (sheet_lookups config table xs)
+      ap failed (append_assoc of_labels (sheet_numbers config table xs) (sheet_places table xs)) ∙ first_error-append table.failure of_labels (sheet_lookups config table xs)
 
-  -- a lookup of a label refuses
-  pub labels-refused : (e : Error) → labels_refusal config table xs ≡ Some e → refused early ≡ Some e
-  labels-refused e told = early-is ∙ ap (λ (o : Option Error). or_refusal o (sheet_refusal config table xs)) told
+  -- a lookup of a label fails
+  pub labels-failed : (e : Error) → labels_failure config table xs ≡ Some e → failed early ≡ Some e
+  labels-failed e told = early-is ∙ ap (λ (o : Option Error). or_failure o (sheet_failure config table xs)) told
 
-  -- the labels' are answered, and the files' tell the rest
-  pub labels-answered : labels_refusal config table xs ≡ None → refused early ≡ sheet_refusal config table xs
-  labels-answered answered = early-is ∙ ap (λ (o : Option Error). or_refusal o (sheet_refusal config table xs)) answered
+  -- the labels' lookups succeed, and the files' decide the rest
+  pub labels-answered : labels_failure config table xs ≡ None → failed early ≡ sheet_failure config table xs
+  labels-answered answered = early-is ∙ ap (λ (o : Option Error). or_failure o (sheet_failure config table xs)) answered

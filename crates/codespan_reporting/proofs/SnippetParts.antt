@@ -1,21 +1,19 @@
--- A snippet, drawn part by part: the lookup of its source, its first rows, and its lines.
+-- A snippet, rendered part by part: the lookup of its source, its first rows, and its lines.
 use Rattle.std.proofs.Common.{◌≡◌, List, ◌++◌, map, Option, None, Result, Ok, Err, refl, sym, subst}
 use Rattle.std.proofs.lemmas.Grind.{flat_map-append}
 use Rattle.codespan_base.specs.declared.files.Error.{Error}
 use Rattle.codespan_base.specs.declared.term.config.Config.{Config}
 use Rattle.codespan_base.specs.Errors.{IsIo}
-use Rattle.codespan_base.specs.FileModel.{FileDatabase, or_refusal}
+use Rattle.codespan_base.specs.FileModel.{FileDatabase, or_failure}
 use Rattle.codespan_base.specs.FileModel.Lookup.{Source}
 use Rattle.codespan_base.specs.Streams.{Stream, newline}
 use Rattle.codespan_base.specs.WriterLaw.{Sink, Sends}
-use Rattle.codespan_reporting.specs.declared.term.views.lanes.Lane.{Lane as GivenLane}
 use Rattle.codespan_reporting.specs.declared.term.views.lines.Page.{Page}
 use Rattle.codespan_reporting.specs.declared.term.views.sheet.SheetFile.{SheetFile}
 use Rattle.codespan_reporting.specs.declared.term.views.steps.Step.{Step}
-use Rattle.codespan_reporting.specs.Inner.Asking.{Came, SendsAsking}
+use Rattle.codespan_reporting.specs.Inner.Asking.{WroteStream, SendsAsking}
 use Rattle.codespan_reporting.specs.Inner.GivenSnippets.{start_rows}
 use Rattle.codespan_reporting.specs.Inner.GivenSteps.{asked_by_all, step_of}
-use Rattle.codespan_reporting.specs.Inner.Lanes.{lanes_given}
 use Rattle.codespan_reporting.specs.Inner.Steps.{rows_of_steps}
 use Rattle.codespan_picture.specs.Lookups.{asked_of, first_error}
 use Rattle.codespan_picture.specs.Picture.{look_of}
@@ -28,25 +26,25 @@ use Rattle.codespan_reporting.proofs.Askings.{IsAsking, asking_after, asking_as,
 pub rows-two : (look : Look) (a b : List Row) → stream_of_rows look (a ++ b) ≡ stream_of_rows look a ++ stream_of_rows look b
 rows-two look a b = flat_map-append (λ r. stream_of look r ++ newline) a b
 
--- a call that sends what a configuration decides sends it by an equal one
+-- a call that writes what a configuration decides writes it by an equal one
 pub sends_at : {K : Type 0} (f : K → Stream) {k m : K} → m ≡ k → (s t : Sink) (r : Result (Unit {0}) Error) → Sends s (f m) r t → Sends s (f k) r t
 sends_at f same s t r sends = subst (λ (x : _). Sends s (f x) r t) same sends
 
--- a stream came, and then a call sent another one
-pub sends_after : (s t u : Sink) (a b : Stream) (r : Result (Unit {0}) Error) → Came s a t → Sends t b r u → Sends s (a ++ b) r u
+-- a stream has been written, and then a call wrote another one
+pub sends_after : (s t u : Sink) (a b : Stream) (r : Result (Unit {0}) Error) → WroteStream s a t → Sends t b r u → Sends s (a ++ b) r u
 sends_after s t u a b (Ok x) came sends = came-then s a b came sends
 sends_after s t u a b (Err e) came sends = stopped-then a came sends
 
 -- ---- the snippet of a file
 
 module _ {F Id : Type 0} (table : F → FileDatabase Id) (page : Page F) (snippet : SheetFile Id) (own : List (Step Id)) (config : Config) where
-  -- the source of its file was asked for and is there, and so it is drawn
+  -- the source of its file was looked up, and so it is rendered
   pub record IsOpen : Type 0 where
-    pub answered : (table page.files.now).refusal snippet.file.now.id Source ≡ None
+    pub answered : (table page.files.now).failure snippet.file.now.id Source ≡ None
 
 module _ {F Id : Type 0} {table : F → FileDatabase Id} {page : Page F} {snippet : SheetFile Id} {own : List (Step Id)} {config : Config}
     (opened : IsOpen table page snippet own config) where
-  -- what rows share, as a configuration draws them
+  -- what rows share, as a configuration renders them
   abbrev look_by : Config → Look
   look_by by = look_of by page.severity page.padding
 
@@ -54,17 +52,13 @@ module _ {F Id : Type 0} {table : F → FileDatabase Id} {page : Page F} {snippe
   abbrev stream : List Row → Stream
   stream = stream_of_rows (look_by config)
 
-  -- the rows of lines, with these lanes and steps
-  abbrev rows_with : List GivenLane → List (Step Id) → List Row
-  rows_with lanes steps = rows_of_steps ((table page.files.now).file snippet.file.now.id) (lanes_given lanes) (map step_of steps)
-
   -- the rows of its lines
   abbrev line_rows : List Row
-  line_rows = rows_with snippet.file.now.lanes.items own
+  line_rows = rows_of_steps ((table page.files.now).file snippet.file.now.id) snippet.file.now.lane_count (map step_of own)
 
-  -- what the lookups of these steps are refused with
+  -- the error of the lookups of these steps
   abbrev asked : List (Step Id) → Option Error
-  asked steps = first_error (table page.files.now).refusal (asked_of snippet.file.now.id (asked_by_all steps))
+  asked steps = first_error (table page.files.now).failure (asked_of snippet.file.now.id (asked_by_all steps))
 
   -- the streams of its first rows, and of its lines
   abbrev at_start : Stream
@@ -73,12 +67,12 @@ module _ {F Id : Type 0} {table : F → FileDatabase Id} {page : Page F} {snippe
   abbrev in_lines : Stream
   in_lines = stream line_rows
 
-  -- a call draws all of it, and makes all its lookups
+  -- a call renders all of it, and makes all its lookups
   abbrev DrawsWhole : Sink → Result (Unit {0}) Error → Sink → Type 0
   DrawsWhole s r t =
-      SendsAsking (or_refusal ((table page.files.now).refusal snippet.file.now.id Source) (asked own)) s (stream (start_rows snippet ++ line_rows)) r t
+      SendsAsking (or_failure ((table page.files.now).failure snippet.file.now.id Source) (asked own)) s (stream (start_rows snippet ++ line_rows)) r t
 
-  -- a call draws its lines, and makes their lookups
+  -- a call renders its lines, and makes their lookups
   abbrev DrawsLines : Sink → Result (Unit {0}) Error → Sink → Type 0
   DrawsLines s r t = IsAsking (asked own) s in_lines r t
 
@@ -86,10 +80,10 @@ module _ {F Id : Type 0} {table : F → FileDatabase Id} {page : Page F} {snippe
   whole-drawn : {s t : Sink} {r : Result (Unit {0}) Error} → IsAsking (asked own) s (at_start ++ in_lines) r t → DrawsWhole s r t
   whole-drawn parts = (asking_after opened.answered (asking_as refl (sym (rows-two (look_by config) (start_rows snippet) line_rows)) parts)).draws
 
-  -- the lines were drawn, by an equal configuration, with lanes that are those of the file
-  pub lines-drawn : {lanes : List GivenLane} {by : Config} {s t : Sink} {r : Result (Unit {0}) Error} → lanes ≡ snippet.file.now.lanes.items → by ≡ config
-      → SendsAsking (asked own) s (stream_of_rows (look_by by) (rows_with lanes own)) r t → DrawsLines s r t
-  lines-drawn all alike drawn = asking_as refl (λ i. stream_of_rows (look_by (alike i)) (rows_with (all i) own)) (record { draws = drawn })
+  -- the lines were rendered, by an equal configuration
+  pub lines-drawn : {by : Config} {s t : Sink} {r : Result (Unit {0}) Error} → by ≡ config
+      → SendsAsking (asked own) s (stream_of_rows (look_by by) line_rows) r t → DrawsLines s r t
+  lines-drawn alike drawn = asking_as refl (λ i. stream_of_rows (look_by (alike i)) line_rows) (record { draws = drawn })
 
   -- the first rows were cut short
   pub snippet-at_start : {s t : Sink} {e : Error} → Sends s at_start (Err e) t → IsIo e → DrawsWhole s (Err e) t
@@ -97,6 +91,6 @@ module _ {F Id : Type 0} {table : F → FileDatabase Id} {page : Page F} {snippe
       let start : IsAsking None s at_start (Err e) t = asking_of_sends (Err e) sends io in
       whole-drawn (asking_cut (asked own) in_lines start)
 
-  -- the first rows came, and then the lines were drawn, however that ends
-  pub snippet-drawn : (s : Sink) {t u : Sink} (r : Result (Unit {0}) Error) → Came s at_start t → DrawsLines t r u → DrawsWhole s r u
+  -- the first rows have been written, and then the lines were rendered, however that ended
+  pub snippet-drawn : (s : Sink) {t u : Sink} (r : Result (Unit {0}) Error) → WroteStream s at_start t → DrawsLines t r u → DrawsWhole s r u
   snippet-drawn s r came lines = whole-drawn (asking_then (asking_of_sends (Ok tt) came tt) lines)

@@ -1,4 +1,4 @@
--- The room for the numbers of the lines that labels span is that of the picture in the classic layout.
+-- The padding width for the numbers of the lines that labels span is that of the output in the classic layout.
 use Rattle.std.proofs.Common.{◌≡◌, ℕ, zero, suc, ◌+◌, ◌<◌, ◌≤◌, Bool, true, false, ◌&&◌, ◌||◌, max, List, [], ◌∷◌, ◌++◌, length, get_or, map, filter, flat_map, ⊎_elim, refl, sym, ◌∙◌, ap, subst, arith}
 use Rattle.std.specs.Prelude.{Contains, fold, if◌then◌else◌}
 use Rattle.std.specs.Cmp.{IsEquivalence}
@@ -24,18 +24,18 @@ use Rattle.codespan_reporting.proofs.LabelPlaces.{has-place}
 
 -- ---- ids and lines
 
--- the id at a place is one of them, whatever it stands for
+-- the id at an index is one of them
 place-contained : {Id X : Type 0} (h : Id → X) (ids : List Id) (f : ℕ) (id : Id) → IsIdAt ids f id → Contains (map h ids) (h id)
 place-contained h [] f id at = absurd at
 place-contained h (j ∷ js) zero id at = (0, omega arith, ap h at)
 place-contained h (j ∷ js) (suc f) id at = let c = place-contained h js f id at in let low : c.0 < length (map h js) = c.1 in (suc c.0, omega (arith, low), c.2)
 
--- what holds of all that each id gives
+-- what holds of all that each id contributes
 all-places : {Id A : Type 0} (P : A → Type 0) (each : Id → List A) (js : List Id) → ((i : ℕ) (id : Id) → IsIdAt js i id → AllByRecursion P (each id)) → AllByRecursion P (flat_map each js)
 all-places P each [] h = tt
 all-places P each (j ∷ js) h = all-append P (each j) (flat_map each js) (h 0 j refl) (all-places P each js (λ i id at. h (suc i) id at))
 
--- what holds of all that the lines of a range give which pass a test
+-- what holds of all that those lines of a range contribute which pass a test
 all-lines : (P : ℕ → Type 0) (give : ℕ → ℕ) (p : ℕ → Bool) (n a : ℕ) → ((l : ℕ) → l < a + n → p l ≡ true → P (give l)) → AllByRecursion P (map give (filter p (range_with_len a n)))
 all-lines P give p zero a h = tt
 all-lines P give p (suc n) a h =
@@ -45,7 +45,7 @@ all-lines P give p (suc n) a h =
     (λ (t : p a ≡ false). rw t rest)
     (cases_Bool (p a))
 
--- what holds of all that each element gives
+-- what holds of all that each element contributes
 all-given : {X A : Type 0} (P : A → Type 0) (give : X → List A) (xs : List X) → AllByRecursion (λ x. AllByRecursion P (give x)) xs → AllByRecursion P (flat_map give xs)
 all-given P give [] h = tt
 all-given P give (x ∷ xs) h = all-append P (give x) (flat_map give xs) h.0 (all-given P give xs h.1)
@@ -63,7 +63,7 @@ in-second n a b h = omega (arith, h, greatest-append 0 a b, greatest-any (fold m
 -- ---- the lines of one label
 
 module _ (f : FileModel) (x : Labelled) where
-  -- where each number has room, all have
+  -- where each number fits the padding, all do
   digits-fit : (m n a : ℕ) → ((l : ℕ) → l < a + n → spans f x l ≡ true → digit_count (f.number l) ≤ m) → AllByRecursion (λ d. d ≤ m) (flat_map (digits_on f x) (range_with_len a n))
   digits-fit m zero a h = tt
   digits-fit m (suc n) a h =
@@ -99,7 +99,7 @@ module _ {Id : Type 0} (same : Id → Id → Bool) (file : Id → FileModel) (o 
   abbrev labelled : Id → LabelledFile
   labelled = labelled_file same file xs
 
-  -- the room of the picture
+  -- the padding of the output
   abbrev room : ℕ
   room = padding_of config (labelled_files same file xs)
 
@@ -113,7 +113,7 @@ module _ {Id : Type 0} (same : Id → Id → Bool) (file : Id → FileModel) (o 
       any-map (λ x. spans (file id) x l) (λ (x : InFile Id). x.label) (filter (λ (x : InFile Id). same id x.id) xs)
       ∙ any-filtered (λ (x : InFile Id). spans (file id) x.label l) (λ (x : InFile Id). same id x.id) xs
 
-  -- the number of a line that a label spans has room
+  -- the number of a line that a label spans fits the padding
   line-fits : (k : ℕ) (d : InFile Id) → k < length xs → (l : ℕ) → l < line_count (file (get_or xs k d).id) → spans (file (get_or xs k d).id) (get_or xs k d).label l ≡ true
       → digit_count ((file (get_or xs k d).id).number l) ≤ room
   line-fits k d inside l low t =
@@ -157,7 +157,7 @@ module _ {Id : Type 0} (same : Id → Id → Bool) (file : Id → FileModel) (o 
       (some-counted id l low ys (sym (ap (λ b. b || list_any (λ (x : InFile Id). same id x.id && spans (file id) x.label l) ys) t) ∙ any)))
       (cases_Bool (same id y.id && spans (file id) y.label l))
 
-  -- so is that of each spanned line of the picture
+  -- so is that of each spanned line of the output
   lines-counted : AllByRecursion (λ n. n ≤ fold max 0 (all_digits file xs)) (flat_map (λ (s : LabelledFile). digits_of s (numbered_lines config s)) (labelled_files same file xs))
   lines-counted =
       subst (AllByRecursion (λ n. n ≤ fold max 0 (all_digits file xs))) (sym (flat_map-map (λ (s : LabelledFile). digits_of s (numbered_lines config s)) labelled ids))

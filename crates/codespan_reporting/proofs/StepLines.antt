@@ -3,22 +3,20 @@ use Rattle.std.proofs.Common.{◌≡◌, ℕ, ◌≤◌, Bool, true, false, not,
 use Rattle.std.specs.List.{range_with_len, AllByRecursion}
 use Rattle.std.proofs.lemmas.List.{append-nil}
 use Rattle.codespan_base.specs.FileModel.{FileModel}
-use Rattle.codespan_picture.specs.Rows.{Line, rows_of}
+use Rattle.codespan_picture.specs.Rows.{Line}
 use Rattle.codespan_picture.specs.Sequences.{break_between, gap_between, in_sequence}
 use Rattle.codespan_picture.specs.Snippets.{break_rows, line_rows}
 use Rattle.codespan_laws.proofs.Filling.{given, is_filled, lines-shown}
 use Rattle.codespan_laws.proofs.Sequences.{all-gap, all-sequence, flat_map-gap, flat_map-sequence, sequence-flat}
-use Rattle.codespan_renderer.specs.Inner.Sweeps.{starts_in_order}
 use Rattle.codespan_reporting.specs.Inner.Entries.{Entry}
-use Rattle.codespan_reporting.specs.Inner.Lanes.{Lane}
-use Rattle.codespan_reporting.specs.Inner.Steps.{Step, Draw, Fill, Break, steps_between, singles_in, line_of_group, rows_of_step, rows_of_steps, fill_of, fills_of, does_step_fit}
+use Rattle.codespan_reporting.specs.Inner.Steps.{Step, Draw, Fill, Break, line_of_group, rows_of_step, rows_of_steps, fill_of, fills_of, do_entries_fit, do_marks_fit, does_step_fit}
 use Rattle.codespan_reporting.proofs.EntryGroups.{steps_after}
 
 -- the line of a step that draws one
 abbrev pub line_of_step : Step → List ℕ
 line_of_step (Draw l es) = l ∷ []
-line_of_step (Fill l) = l ∷ []
-line_of_step (Break l) = []
+line_of_step (Fill l es) = l ∷ []
+line_of_step (Break es) = []
 
 -- the lines that are drawn
 abbrev pub lines_of_steps : List Step → List ℕ
@@ -29,22 +27,22 @@ lines_of_steps steps = flat_map line_of_step steps
 -- the steps of shown lines give what the lines give with what stands between them
 steps-give : {A : Type 0} (give : Step → List A) (m : ℕ → List Entry) (was : Option ℕ) (ds : List ℕ)
     → flat_map give (steps_after m was ds)
-    ≡ in_sequence (λ l. l) (gap_between (λ l. give (Fill l)) (λ d. give (Break d))) (λ l. give (Draw l (m l))) was ds
+    ≡ in_sequence (λ l. l) (gap_between (λ l. give (Fill l (m l))) (λ d. give (Break (m d)))) (λ l. give (Draw l (m l))) was ds
 steps-give {A} give m was ds =
-    flat_map-sequence give (λ l. l) steps_between (λ l. Draw l (m l) ∷ []) was ds
-    ∙ (λ i. in_sequence (λ l. l) (λ c d. flat_map-gap give (λ l. Fill l ∷ []) (λ d. Break d ∷ []) c d i) (λ l. append-nil (give (Draw l (m l))) i) was ds)
-    ∙ (λ i. in_sequence (λ l. l) (gap_between (λ l. append-nil (give (Fill l)) i) (λ d. append-nil (give (Break d)) i)) (λ l. give (Draw l (m l))) was ds)
+    flat_map-sequence give (λ l. l) (gap_between (λ l. Fill l (m l) ∷ []) (λ d. Break (m d) ∷ [])) (λ l. Draw l (m l) ∷ []) was ds
+    ∙ (λ i. in_sequence (λ l. l) (λ c d. flat_map-gap give (λ l. Fill l (m l) ∷ []) (λ d. Break (m d) ∷ []) c d i) (λ l. append-nil (give (Draw l (m l))) i) was ds)
+    ∙ (λ i. in_sequence (λ l. l) (gap_between (λ l. append-nil (give (Fill l (m l))) i) (λ d. append-nil (give (Break (m d))) i)) (λ l. give (Draw l (m l))) was ds)
 
 -- so they give what the drawn lines give with the breaks between them, where a line that is not shown gives what it does as one that is
 -- filled in
 steps-drawn : {A : Type 0} (give : Step → List A) (m : ℕ → List Entry) (shown : ℕ → Bool) (own : ℕ → List A)
-    → ((l : ℕ) → own l ≡ given (λ l. give (Draw l (m l))) (λ l. give (Fill l)) (λ d. give (Break d)) shown l)
+    → ((l : ℕ) → own l ≡ given (λ l. give (Draw l (m l))) (λ l. give (Fill l (m l))) (λ d. give (Break (m d))) shown l)
     → (n : ℕ) → ((l : ℕ) → n ≤ l → shown l ≡ false)
     → flat_map give (steps_after m None (filter shown (range_with_len 0 n)))
-    ≡ in_sequence (λ l. l) (break_between (λ d. give (Break d))) own None (filter (is_filled shown) (range_with_len 0 n))
+    ≡ in_sequence (λ l. l) (break_between (λ d. give (Break (m d)))) own None (filter (is_filled shown) (range_with_len 0 n))
 steps-drawn give m shown own are n none =
     steps-give give m None (filter shown (range_with_len 0 n))
-    ∙ sym (lines-shown (λ l. give (Draw l (m l))) (λ l. give (Fill l)) (λ d. give (Break d)) shown own are n none)
+    ∙ sym (lines-shown (λ l. give (Draw l (m l))) (λ l. give (Fill l (m l))) (λ d. give (Break (m d))) shown own are n none)
 
 -- what one test chooses, where the other way gives the same
 chosen : {X : Type 0} (b : Bool) (x y : X) → (b ≡ false → x ≡ y) → x ≡ cond b x y
@@ -53,25 +51,24 @@ chosen false x y same = same refl
 
 -- ---- rows
 
-module _ (f : FileModel) (lanes : List Lane) (m : ℕ → List Entry) where
-  -- a line with the labels inside it
+module _ (f : FileModel) (count : ℕ) (m : ℕ → List Entry) where
+  -- a line with what its entries say of it
   abbrev line : ℕ → Line
-  line l = line_of_group f lanes l (m l)
+  line l = line_of_group f count l (m l)
 
-  -- the steps of shown lines make the rows of the drawn lines, where no label is inside a line that is not shown
-  pub steps-rows : (shown : ℕ → Bool) → ((l : ℕ) → shown l ≡ false → m l ≡ []) → (n : ℕ) → ((l : ℕ) → n ≤ l → shown l ≡ false)
-      → rows_of_steps f lanes (steps_after m None (filter shown (range_with_len 0 n)))
+  -- the steps of shown lines make the rows of the drawn lines
+  pub steps-rows : (shown : ℕ → Bool) (n : ℕ) → ((l : ℕ) → n ≤ l → shown l ≡ false)
+      → rows_of_steps f count (steps_after m None (filter shown (range_with_len 0 n)))
       ≡ in_sequence (λ l. l) (break_between (break_rows line)) (line_rows line) None (filter (is_filled shown) (range_with_len 0 n))
-  steps-rows shown bare = steps-drawn (rows_of_step f lanes) m shown (line_rows line)
-      (λ l. chosen (shown l) (line_rows line l) (rows_of (line_of_group f lanes l [])) (λ h. ap (λ (es : List Entry). rows_of (line_of_group f lanes l es)) (bare l h)))
+  steps-rows shown = steps-drawn (rows_of_step f count) m shown (line_rows line) (λ l. chosen (shown l) (line_rows line l) (line_rows line l) (λ h. refl))
 
 -- ---- labels in order
 
--- the labels of all steps are in the order of their starts
-pub steps-fit : (m : ℕ → List Entry) → ((l : ℕ) → starts_in_order (singles_in (m l)) ≡ true)
-    → (was : Option ℕ) (ds : List ℕ) → AllByRecursion (λ step. does_step_fit step ≡ true) (steps_after m was ds)
-steps-fit m fit = all-sequence (λ step. does_step_fit step ≡ true) (λ l. l) steps_between (λ l. Draw l (m l) ∷ [])
-    (all-gap (λ step. does_step_fit step ≡ true) (λ l. Fill l ∷ []) (λ d. Break d ∷ []) (λ l. (refl, tt)) (λ d. (refl, tt))) (λ l. (fit l, tt))
+-- the labels of all steps are in order, and their marks in so many lanes
+pub steps-fit : (count : ℕ) (m : ℕ → List Entry) → ((l : ℕ) → do_entries_fit count (m l) ≡ true) → ((l : ℕ) → do_marks_fit count (m l) ≡ true)
+    → (was : Option ℕ) (ds : List ℕ) → AllByRecursion (λ step. does_step_fit count step ≡ true) (steps_after m was ds)
+steps-fit count m fit marks_fit = all-sequence (λ step. does_step_fit count step ≡ true) (λ l. l) (gap_between (λ l. Fill l (m l) ∷ []) (λ d. Break (m d) ∷ [])) (λ l. Draw l (m l) ∷ [])
+    (all-gap (λ step. does_step_fit count step ≡ true) (λ l. Fill l (m l) ∷ []) (λ d. Break (m d) ∷ []) (λ l. (fit l, tt)) (λ d. (marks_fit d, tt))) (λ l. (fit l, tt))
 
 -- ---- the lines of steps
 

@@ -4,7 +4,7 @@ use Rattle.std.proofs.lemmas.List.{map-append, take-append-drop}
 use Rattle.std.proofs.lemmas.Grind.{flat_map-append}
 use Rattle.codespan_base.specs.declared.files.Error.{Error}
 use Rattle.codespan_base.specs.declared.term.config.Config.{Config}
-use Rattle.codespan_base.specs.FileModel.{FileDatabase, FileModel, Lookup, or_refusal}
+use Rattle.codespan_base.specs.FileModel.{FileDatabase, FileModel, Lookup, or_failure}
 use Rattle.codespan_base.specs.Streams.{Stream, newline}
 use Rattle.codespan_base.specs.WriterLaw.{Sink}
 use Rattle.codespan_picture.specs.Picture.{look_of}
@@ -13,9 +13,8 @@ use Rattle.codespan_picture.specs.RowStreams.{stream_of, stream_of_rows}
 use Rattle.codespan_reporting.specs.declared.term.views.lines.FileLines.{FileLines}
 use Rattle.codespan_reporting.specs.declared.term.views.steps.Step.{Step as GivenStep}
 use Rattle.codespan_reporting.specs.Inner.Asking.{SendsAsking}
-use Rattle.codespan_reporting.specs.Inner.FileLookups.{refusal_in}
+use Rattle.codespan_reporting.specs.Inner.FileLookups.{failure_in}
 use Rattle.codespan_reporting.specs.Inner.GivenSteps.{asked_by, asked_by_all, step_of}
-use Rattle.codespan_reporting.specs.Inner.Lanes.{lanes_given}
 use Rattle.codespan_reporting.specs.Inner.Steps.{Step, rows_of_step, rows_of_steps}
 use Rattle.codespan_reporting.proofs.Askings.{IsAsking, asking_as, asking_cut, asking_nothing, asking_then, first_error-asked}
 use Rattle.codespan_reporting.proofs.LabelPlaces.{StandsAt, take-at}
@@ -25,9 +24,9 @@ module _ {F Id Name Source : Type 0} (table : F → FileDatabase Id) (lines : Fi
   abbrev f : FileModel
   f = (table lines.page.now.files.now).file lines.id
 
-  -- what its lookups are refused with
+  -- what its lookups fail with
   abbrev asked : List Lookup → Option Error
-  asked = refusal_in (table lines.page.now.files.now).refusal lines.id
+  asked = failure_in (table lines.page.now.files.now).failure lines.id
 
   -- what its rows share
   abbrev look : Look
@@ -35,15 +34,15 @@ module _ {F Id Name Source : Type 0} (table : F → FileDatabase Id) (lines : Fi
 
   -- the rows of these steps
   abbrev rows : List (GivenStep Id) → Stream
-  rows steps = stream_of_rows look (rows_of_steps f (lanes_given lines.lanes.now) (map step_of steps))
+  rows steps = stream_of_rows look (rows_of_steps f lines.lane_count (map step_of steps))
 
-  -- what their lookups are refused with
+  -- what their lookups fail with
   abbrev asked_all : List (GivenStep Id) → Option Error
   asked_all steps = asked (asked_by_all steps)
 
   -- the call draws a step, with what it asks for
   abbrev DrawsOne : GivenStep Id → Sink → Result (Unit {0}) Error → Sink → Type 0
-  DrawsOne step old r new = SendsAsking (asked (asked_by step)) old (stream_of_rows look (rows_of_step f (lanes_given lines.lanes.now) (step_of step))) r new
+  DrawsOne step old r new = SendsAsking (asked (asked_by step)) old (stream_of_rows look (rows_of_step f lines.lane_count (step_of step))) r new
 
   -- these steps are drawn, with what they ask for
   pub record DrawsAll (steps : List (GivenStep Id)) (old : Sink) (r : Result (Unit {0}) Error) (new : Sink) : Type 0 where
@@ -52,14 +51,14 @@ module _ {F Id Name Source : Type 0} (table : F → FileDatabase Id) (lines : Fi
   -- the rows of steps, one after another
   rows-append : (xs ys : List (GivenStep Id)) → rows (xs ++ ys) ≡ rows xs ++ rows ys
   rows-append xs ys =
-      ap (λ (steps : List Step). stream_of_rows look (rows_of_steps f (lanes_given lines.lanes.now) steps)) (map-append step_of xs ys)
-      ∙ ap (stream_of_rows look) (flat_map-append (rows_of_step f (lanes_given lines.lanes.now)) (map step_of xs) (map step_of ys))
-      ∙ flat_map-append (λ (row : Row). stream_of look row ++ newline) (rows_of_steps f (lanes_given lines.lanes.now) (map step_of xs)) (rows_of_steps f (lanes_given lines.lanes.now) (map step_of ys))
+      ap (λ (steps : List Step). stream_of_rows look (rows_of_steps f lines.lane_count steps)) (map-append step_of xs ys)
+      ∙ ap (stream_of_rows look) (flat_map-append (rows_of_step f lines.lane_count) (map step_of xs) (map step_of ys))
+      ∙ flat_map-append (λ (row : Row). stream_of look row ++ newline) (rows_of_steps f lines.lane_count (map step_of xs)) (rows_of_steps f lines.lane_count (map step_of ys))
 
   -- the lookups of steps, one after another
-  asked-append : (xs ys : List (GivenStep Id)) → asked_all (xs ++ ys) ≡ or_refusal (asked_all xs) (asked_all ys)
+  asked-append : (xs ys : List (GivenStep Id)) → asked_all (xs ++ ys) ≡ or_failure (asked_all xs) (asked_all ys)
   asked-append xs ys =
-      ap asked (flat_map-append asked_by xs ys) ∙ first_error-asked (table lines.page.now.files.now).refusal lines.id (asked_by_all xs) (asked_by_all ys)
+      ap asked (flat_map-append asked_by xs ys) ∙ first_error-asked (table lines.page.now.files.now).failure lines.id (asked_by_all xs) (asked_by_all ys)
 
 module _ {F Id Name Source : Type 0} {table : F → FileDatabase Id} {lines : FileLines F Id Name Source} {config : Config} where
   -- nothing is drawn
@@ -71,7 +70,7 @@ module _ {F Id Name Source : Type 0} {table : F → FileDatabase Id} {lines : Fi
   drawn-one {step} draws = record {
     drawn = asking_as
         (ap (asked table lines config) (sym (append-nil (asked_by step))))
-        (ap (stream_of_rows (look table lines config)) (sym (append-nil (rows_of_step (f table lines config) (lanes_given lines.lanes.now) (step_of step)))))
+        (ap (stream_of_rows (look table lines config)) (sym (append-nil (rows_of_step (f table lines config) lines.lane_count (step_of step)))))
         (record { draws = draws });
   }
 
@@ -90,7 +89,7 @@ module _ {F Id Name Source : Type 0} {table : F → FileDatabase Id} {lines : Fi
       let here = subst (λ (k : Config). DrawsOne table lines k step t r u) alike next in
       subst (λ (steps : List (GivenStep Id)). DrawsAll table lines config steps s r u) (sym (take-at at)) (drawn-then before (drawn-one {step = step} here))
 
-  -- the first steps were refused, and so all are
+  -- the first steps failed, and so all are
   pub drawn-cut : (whole : List (GivenStep Id)) (i : ℕ) {s t : Sink} {e : Error} → DrawsAll table lines config (take i whole) s (Err e) t → DrawsAll table lines config whole s (Err e) t
   drawn-cut whole i {s} {t} {e} cut =
       let first = take i whole in

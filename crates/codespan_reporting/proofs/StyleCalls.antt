@@ -1,4 +1,4 @@
--- What a view draws, as the call draws it that was asked for the view's style.
+-- What a view renders is what the call renders whose style is the view's.
 use mathlib.Core.Path.{transport}
 use Rattle.std.proofs.Common.{◌≡◌, Result}
 use Rattle.codespan_base.specs.declared.diagnostic.Diagnostic.{Diagnostic}
@@ -6,7 +6,7 @@ use Rattle.codespan_base.specs.declared.files.Error.{Error}
 use Rattle.codespan_base.specs.declared.term.config.Config.{Config}
 use Rattle.codespan_base.specs.declared.term.config.DisplayStyle.{DisplayStyle}
 use Rattle.codespan_base.specs.WriterLaw.{Sink}
-use Rattle.codespan_reporting.specs.Output.{WritesStyled}
+use Rattle.codespan_reporting.specs.WriteCalls.{WritesStyled}
 use Rattle.codespan_base.specs.FileModel.{FileDatabase}
 
 module _ {Id : Type 0} {config k : Config} {d e : Diagnostic Id} (configs : k ≡ config) (diagnostics : e ≡ d) {files : FileDatabase Id} {style : DisplayStyle}

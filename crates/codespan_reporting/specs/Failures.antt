@@ -15,7 +15,7 @@ pub record FailsWith {Id : Type 0} (files : FileDatabase Id) (lookups : List (Id
   pub id : Id
   pub lookup : Lookup
   pub is_made : Contains lookups (id, lookup)
-  pub fails : files.refusal id lookup ≡ Some error
+  pub fails : files.failure id lookup ≡ Some error
 
 -- some of these lookups fails
 abbrev pub SomeFails : {Id : Type 0} → FileDatabase Id → List (Id × Lookup) → Type 0
@@ -33,7 +33,7 @@ module _ {Id : Type 0} (view : Config) (files : FileDatabase Id) (d : Diagnostic
     pub here : InFile Id
     pub after : List (InFile Id)
     pub whole : before ++ here ∷ after ≡ primary_of (labels_of d)
-    pub succeed : AllSucceed files.refusal (flat_map header_lookups_of before)
+    pub succeed : AllSucceed files.failure (flat_map header_lookups_of before)
     pub fails : IsLookupError files (header_lookups_of here) e
     pub wrote : Wrote (take (length before) loci)
 
@@ -43,7 +43,7 @@ module _ {Id : Type 0} (view : Config) (files : FileDatabase Id) (d : Diagnostic
   WrittenBefore Rich =
       e ≡ FormatError
       → unchanged
-      ⊎ (first_error files.refusal (late_lookups files (labels_of d) view) ≡ Some e)
+      ⊎ (first_error files.failure (late_lookups files (labels_of d) view) ≡ Some e)
   WrittenBefore Medium = FailsAtLabel
   WrittenBefore Short = FailsAtLabel
 

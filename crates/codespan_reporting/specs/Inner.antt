@@ -8,7 +8,6 @@ pub mod LabelLines
 pub mod LabelledFiles
 pub mod Rendering
 pub mod Entries
-pub mod Lanes
 pub mod SpannedDigits
 pub mod GivenEntries
 pub mod AskedLabels

@@ -13,7 +13,6 @@ pub use Rattle.codespan_base.specs.Defaults
 pub use Rattle.codespan_base.specs.StyleTables
 pub use Rattle.codespan_base.specs.Ansi
 -- the picture
-pub use Rattle.codespan_picture.specs.Widths
 pub use Rattle.codespan_picture.specs.Cells
 pub use Rattle.codespan_picture.specs.Carets
 pub use Rattle.codespan_picture.specs.Lanes
@@ -25,6 +24,7 @@ pub use Rattle.codespan_picture.specs.Sequences
 pub use Rattle.codespan_picture.specs.Snippets
 pub use Rattle.codespan_picture.specs.Padding
 pub use Rattle.codespan_picture.specs.Picture
+pub use Rattle.codespan_picture.specs.StatedPicture
 pub use Rattle.codespan_picture.specs.Lookups
 pub use Rattle.codespan_picture.specs.Given
 -- what a picture means
@@ -34,7 +34,6 @@ pub use Rattle.codespan_laws.specs.LaneLaws
 pub use Rattle.codespan_laws.specs.LineLaws
 pub use Rattle.codespan_laws.specs.MessageLaws
 pub use Rattle.codespan_laws.specs.OrderLaws
-pub use Rattle.codespan_laws.specs.PaddingLaws
 pub use Rattle.codespan_laws.specs.RowLaws
 pub use Rattle.codespan_laws.specs.SortLaws
 pub use Rattle.codespan_laws.specs.TextLaws
@@ -45,6 +44,7 @@ pub use Rattle.codespan_renderer.specs.Renderers
 -- the calls that draw a diagnostic
 pub mod Failures
 pub mod Output
+pub mod WriteCalls
 pub mod Views
 -- words that private calls and proofs use
 pub mod Inner

@@ -1,6 +1,7 @@
-//! Pictures of diagnostics, drawn over the source text that they speak of.
+//! Renders diagnostics over the source text that their labels refer to: a port of the Rust crate codespan-reporting.
 //!
-//! [`diagnostic`] has diagnostics as data, [`files`] the texts, and [`term`] the calls that draw.
+//! [`diagnostic`] has diagnostics as data, [`files`] the file databases, [`term`] the calls that emit, their configuration and writers,
+//! and [`laws`] what is proved of every output. [`term::emit_into_string`] is the call to start with.
 #![tactic(auto)]
 
 pub mod term;

@@ -12,7 +12,7 @@ use Rattle.std.proofs.lemmas.Str.Ascii.{IsAscii-from_all}
 use Rattle.codespan_base.specs.declared.files.Error.{Error}
 use Rattle.codespan_base.specs.declared.files.Error.TheVariants.{FileMissing, LineTooLarge}
 use Rattle.codespan_base.specs.FileModel.{FileModel, Lookup, line_of}
-use Rattle.codespan_base.specs.LawfulFiles.{IsLawful, RefusesPastEnd}
+use Rattle.codespan_base.specs.LawfulFiles.{IsLawful, FailsPastEnd}
 use Rattle.codespan_base.specs.FileModel.Lookup.{Source, LineRange}
 use Rattle.codespan_base.specs.Lemmas.Lines.{count_split}
 use Rattle.codespan_base.specs.Lemmas.Simple.{past_end_is}
@@ -42,12 +42,12 @@ longest_file name = record {
   location = λ byte. record { line_number = byte; column_number = 1 };
 }
 
--- the source refuses, and lines past all indices
-abbrev pub longest_refusal : Lookup → Option Error
-longest_refusal Source = Some FileMissing
-longest_refusal (LineRange i) =
+-- the source fails, and lines past all indices
+abbrev pub longest_failure : Lookup → Option Error
+longest_failure Source = Some FileMissing
+longest_failure (LineRange i) =
     if nat_lt i (2 ^ 64) then None else Some (LineTooLarge i (2 ^ 64 - 1))
-longest_refusal _ = None
+longest_failure _ = None
 
 greatest_is : greatest ≡ 2 ^ 64 - 1
 unfolding greatest
@@ -131,7 +131,7 @@ longest_lawful name = record {
 }
 
 pub longest_past_end : (name : List ℕ) (i : ℕ)
-    → RefusesPastEnd (longest_file name) i (longest_refusal (LineRange i))
+    → FailsPastEnd (longest_file name) i (longest_failure (LineRange i))
 longest_past_end name i there = rw starts_len (past_end_is (2 ^ 64) i)
 
 pub ruleset longest_lines = (line_at, start_at, starts_len)

@@ -2,10 +2,10 @@
 
 mod drawing;
 mod endless;
+mod failures;
 mod flushing;
 mod label_orders;
 mod listing;
 mod longest_file;
 mod other_files;
-mod refusals;
 mod styles;

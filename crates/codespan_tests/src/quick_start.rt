@@ -6,14 +6,14 @@ use codespan_reporting::term::{Config, PlainWriter, Renderer, emit_into_string};
 use std::alloc::Global;
 use std::test::Fail;
 
-/// The picture of a fault in a file of settings.
-fn picture(alloc: Global) -> Result<String, Error> {
+/// Renders the diagnostic of an error in a settings file.
+fn render(alloc: Global) -> Result<String, Error> {
     let mut files = SimpleFiles::new(alloc);
-    let id = files.add("settings.toml", "retries = many\n")?;
+    let id = files.add("settings.conf", "retries = many\n")?;
     let label = Label::primary(alloc, id, 10..14).with_message("expected a number")?;
     let diagnostic = Diagnostic::error(alloc)
         .with_code("E0001")?
-        .with_message("a value of the wrong type")?
+        .with_message("invalid value for `retries`")?
         .with_label(label)?;
 
     emit_into_string(&Config::default(), &files, &diagnostic)
@@ -33,12 +33,12 @@ fn rows(alloc: Global) -> Result<Vec<u8>, Error> {
         (
             LabelStyle::Secondary,
             4..5,
-            "first borrow later used by call",
+            "first mutable borrow occurs here",
         ),
         (
             LabelStyle::Secondary,
             6..10,
-            "first mutable borrow occurs here",
+            "first borrow later used by call",
         ),
     ];
     let line = "    v.push(v.pop().unwrap());";
@@ -48,20 +48,20 @@ fn rows(alloc: Global) -> Result<Vec<u8>, Error> {
 
 #[test]
 fn quick_start(rt: HostRuntime) -> Result<(), Fail> {
-    let picture = picture(rt.alloc())?;
-    let want = "error[E0001]: a value of the wrong type\n  \
-                ┌─ settings.toml:1:11\n  \
+    let text = render(rt.alloc())?;
+    let want = "error[E0001]: invalid value for `retries`\n  \
+                ┌─ settings.conf:1:11\n  \
                 │\n\
                 1 │ retries = many\n  \
                 │           ^^^^ expected a number\n\n";
-    assert_eq!(rt; picture.as_str(), want);
+    assert_eq!(rt; text.as_str(), want);
 
     let rows = rows(rt.alloc())?;
     let want = "3 │     v.push(v.pop().unwrap());\n\
                 \x20 │     - ---- ^ second mutable borrow occurs here\n\
                 \x20 │     │ │     \n\
-                \x20 │     │ first mutable borrow occurs here\n\
-                \x20 │     first borrow later used by call\n";
+                \x20 │     │ first borrow later used by call\n\
+                \x20 │     first mutable borrow occurs here\n";
     assert_eq!(rt; rows.as_slice(), want.as_bytes());
     Ok(())
 }

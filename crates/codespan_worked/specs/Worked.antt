@@ -17,7 +17,8 @@ use Rattle.codespan_picture.specs.Given.{GivenMark}
 use Rattle.codespan_picture.specs.Rows.{Line}
 use Rattle.codespan_picture.specs.RowWords.{row_words}
 use Rattle.codespan_picture.specs.Snippets.{InFile, labelled_files}
-use Rattle.codespan_picture.specs.Picture.{rendered, starts, stated_locus}
+use Rattle.codespan_picture.specs.Picture.{rendered, starts}
+use Rattle.codespan_picture.specs.StatedPicture.{stated_locus}
 
 -- opens all words of an output, so that it computes
 unfoldable pub worked_words : Unit {0}

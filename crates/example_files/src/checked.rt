@@ -43,7 +43,7 @@ impl<'text> Checked<'text> {
     pub fn new(alloc: Global, schema: &'text str, document: &'text str) -> Result<Self, Error>
         ensures schema { IfOk result (λ c. (source_of c.schema).now ≡ schema.now) }
         ensures document { IfOk result (λ c. (source_of c.document).now ≡ document.now) }
-        ensures refused { OnErr result (IsErrOf result Error.OutOfMemory) }
+        ensures failed { OnErr result (IsErrOf result Error.OutOfMemory) }
     {
         Ok(Checked {
             schema: SimpleFile::new(alloc, Part::Schema, schema)?,
@@ -63,7 +63,7 @@ impl<'text> Checked<'text> {
 }
 
 impl<'a, 'text: 'a> Files<'a> for Checked<'text> {
-    ghost use Rattle.codespan_base.specs.SimpleModel.{simple_file, simple_refusal};
+    ghost use Rattle.codespan_base.specs.SimpleModel.{simple_file, simple_failure};
     ghost use Rattle.codespan_base.specs.Lemmas.Simple.{simple_lawful, simple_past_end, text_fits, text_is_utf8};
     ghost use Rattle.example_files.specs.Parts.{one_part};
 
@@ -77,7 +77,7 @@ impl<'a, 'text: 'a> Files<'a> for Checked<'text> {
     ghost database = { λ s. record {
       same = ⟦<Part as PartialEq>⟧.eq;
       file = λ id. simple_file (part_name id) (source_of (of_part s.schema s.document id)).now;
-      refusal = λ id. simple_refusal (source_of (of_part s.schema s.document id)).now;
+      failure = λ id. simple_failure (source_of (of_part s.schema s.document id)).now;
     } };
 
     fn name(&'a self, id: Part) -> Result<Part, Error> {
@@ -120,7 +120,7 @@ impl<'a, 'text: 'a> Files<'a> for Checked<'text> {
 
     ghost same_is = { λ s. refl };
 
-    // A line past the last is refused as there.
+    // A line past the last fails as there.
     ghost past_end = { λ s id i.
         simple_past_end (part_name id) (source_of (of_part s.schema s.document id)).now i };
 }

@@ -7,7 +7,7 @@ use Rattle.gallery.specs.declared.case.File.{File}
 use Rattle.gallery.specs.declared.fault.Mistake.{Mistake}
 use Rattle.gallery.specs.declared.fault.Mistake.TheVariants.{NoFile, OutOfMemory}
 use Rattle.gallery.specs.declared.statement.Statement.{Statement}
-use Rattle.gallery.specs.Cases.{Takes, LastTakes, LastRefuses, IsSource, GoesOn, file_view}
+use Rattle.gallery.specs.Cases.{Takes, LastTakes, LastFails, IsSource, GoesOn, file_view}
 
 -- several are those before the last one, and that one; the last one can be set
 pub record IsLast {X : Type 0} (xs : List X) (k : ℕ) (old new : X) : Type 0 where
@@ -33,13 +33,13 @@ last_taken cases n statement old new (Ok done) count some at takes =
 last_taken cases n statement old new (Err mistake) count some at takes = tt
 
 -- the last case has not
-pub last_refused : (cases : List Case) (n : ℕ) (statement : Statement) (old : Case) (r : Result (Unit {0}) Mistake) → n ≡ length cases → 0 < n → old ≡ slice_index_or cases (n - 1) old
-    → IfErr r (λ mistake. (mistake ≡ OutOfMemory) ⊎ ((mistake ≡ NoFile) × IsSource statement × (old.files.items ≡ []))) → IfErr r (LastRefuses statement cases)
-last_refused cases n statement old (Ok done) count some at refused = tt
-last_refused cases n statement old (Err mistake) count some at (inl memory) = subst (LastRefuses statement cases) (sym memory) tt
-last_refused cases n statement old (Err mistake) count some at (inr no_file) =
+pub last_failed : (cases : List Case) (n : ℕ) (statement : Statement) (old : Case) (r : Result (Unit {0}) Mistake) → n ≡ length cases → 0 < n → old ≡ slice_index_or cases (n - 1) old
+    → IfErr r (λ mistake. (mistake ≡ OutOfMemory) ⊎ ((mistake ≡ NoFile) × IsSource statement × (old.files.items ≡ []))) → IfErr r (LastFails statement cases)
+last_failed cases n statement old (Ok done) count some at failed = tt
+last_failed cases n statement old (Err mistake) count some at (inl memory) = subst (LastFails statement cases) (sym memory) tt
+last_failed cases n statement old (Err mistake) count some at (inr no_file) =
     let last : IsLast cases (n - 1) old old = last_one cases (n - 1) old old (omega arith) at in
-    subst (LastRefuses statement cases) (sym no_file.0) (no_file.1, (last.front, old, last.was, no_file.2))
+    subst (LastFails statement cases) (sym no_file.0) (no_file.1, (last.front, old, last.was, no_file.2))
 
 -- the last file has gone on with the text
 pub last_goes_on : (files : List File) (n : ℕ) (text : List ℕ) (old : File) (source : String Global) → n ≡ length files → 0 < n → old ≡ slice_index_or files (n - 1) old

@@ -6,7 +6,7 @@ use Rattle.gallery.specs.declared.case.Case.{Case}
 use Rattle.gallery.specs.declared.fault.Fault.{Fault}
 use Rattle.gallery.specs.declared.fault.Fault.TheVariants.{WrongArguments, CannotReadInput, NotUtf8, Line, UnknownCase, Undrawn, OutOfMemory, CannotWriteOutput}
 use Rattle.gallery.specs.Cases.{TakesLines}
-use Rattle.gallery.specs.Requests.{Answers, AnswersOf, Asked, FaultTells, IsStatusOf, RefusesOf}
+use Rattle.gallery.specs.Requests.{Answers, AnswersOf, Asked, FaultTells, IsStatusOf, FailsOf}
 
 -- the status is one of three
 pub status_at_most : (outcome : Result (Unit {0}) Fault) (status : ℕ) → IsStatusOf outcome status → status ≤ 2
@@ -74,16 +74,16 @@ answered (Some a) (Some input) request text bytes cases (Ok done) Writes wants r
     let same : request ≡ a = cc wants in
     (bytes, (cases, subst (λ t. TakesLines (lines t) [] cases) read taken, subst (λ q. AnswersOf q cases bytes) same answers), written)
 
--- what is asked for of the cases of an input is refused
-pub refused : (wanted : Option Asked) (left : Option (List ℕ)) (request : Asked) (text : List ℕ) (cases : List Case) (fault : Fault)
-    → wanted ≡ Some request → IfSome left (λ input. text ≡ input) → TakesLines (lines text) [] cases → RefusesOf request cases fault → IfSome left (FaultTells wanted fault)
-refused wanted None request text cases fault wants read taken refuses = tt
-refused wanted (Some input) request text cases (UnknownCase name) wants read taken refuses =
-    (wants ∙ ap Some refuses.0, (cases, subst (λ t. TakesLines (lines t) [] cases) read taken, refuses.1))
-refused wanted (Some input) request text cases (Undrawn error) wants read taken refuses = tt
-refused wanted (Some input) request text cases OutOfMemory wants read taken refuses = tt
-refused wanted (Some input) request text cases WrongArguments wants read taken refuses = absurd refuses
-refused wanted (Some input) request text cases CannotReadInput wants read taken refuses = absurd refuses
-refused wanted (Some input) request text cases NotUtf8 wants read taken refuses = absurd refuses
-refused wanted (Some input) request text cases (Line number mistake) wants read taken refuses = absurd refuses
-refused wanted (Some input) request text cases CannotWriteOutput wants read taken refuses = absurd refuses
+-- what is asked for of the cases of an input fails
+pub failed : (wanted : Option Asked) (left : Option (List ℕ)) (request : Asked) (text : List ℕ) (cases : List Case) (fault : Fault)
+    → wanted ≡ Some request → IfSome left (λ input. text ≡ input) → TakesLines (lines text) [] cases → FailsOf request cases fault → IfSome left (FaultTells wanted fault)
+failed wanted None request text cases fault wants read taken fails = tt
+failed wanted (Some input) request text cases (UnknownCase name) wants read taken fails =
+    (wants ∙ ap Some fails.0, (cases, subst (λ t. TakesLines (lines t) [] cases) read taken, fails.1))
+failed wanted (Some input) request text cases (Undrawn error) wants read taken fails = tt
+failed wanted (Some input) request text cases OutOfMemory wants read taken fails = tt
+failed wanted (Some input) request text cases WrongArguments wants read taken fails = absurd fails
+failed wanted (Some input) request text cases CannotReadInput wants read taken fails = absurd fails
+failed wanted (Some input) request text cases NotUtf8 wants read taken fails = absurd fails
+failed wanted (Some input) request text cases (Line number mistake) wants read taken fails = absurd fails
+failed wanted (Some input) request text cases CannotWriteOutput wants read taken fails = absurd fails

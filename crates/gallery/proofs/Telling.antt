@@ -3,8 +3,8 @@ use Rattle.std.proofs.Common.{◌≡◌, ◌-◌, ◌<◌, ℕ, List, [], ◌∷
 use Rattle.std.proofs.lemmas.Grind.{flat_map-append}
 use Rattle.std.proofs.lemmas.List.{map-append}
 use Rattle.std.specs.Prelude.{slice_set, slice_index_or}
-use Rattle.codespan_base.specs.ColorLaw.{Paints}
-use Rattle.codespan_base.specs.WriterLaw.{gained}
+use Rattle.codespan_base.specs.ColorLaw.{AppendsBytes}
+use Rattle.codespan_base.specs.WriterLaw.{extended}
 use Rattle.gallery.specs.declared.inks.Ink.{Ink}
 use Rattle.gallery.specs.declared.inks.Inks.{Inks}
 use Rattle.gallery.specs.declared.inks.Run.{Run}
@@ -19,18 +19,18 @@ all_told-more runs run =
 
 -- a run that begins is told by its ink's number
 pub told-begun : (old new : Inks) (run : Run) (ink : Ink) → new.runs.items ≡ old.runs.items ++ run ∷ [] → run.ink ≡ ink → run.text.items ≡ []
-    → Some (told new) ≡ gained (Some (told old)) (ink_number ink ∷ [])
-unfolding gained
+    → Some (told new) ≡ extended (Some (told old)) (ink_number ink ∷ [])
+unfolding extended
 told-begun old new run ink is of empty =
     ap Some (ap (λ runs. all_told (map run_view runs)) is ∙ all_told-more old.runs.items run
     ∙ ap (λ bytes. told old ++ ink_number run.ink ∷ bytes) empty ∙ ap (λ i. told old ++ ink_number i ∷ []) of)
 
 -- a run that can not begin is not told
-pub told-refused : {E : Type 0} (old new : Inks) (bytes : List ℕ) (r : Result (Unit {0}) E) → IsErr r → new.runs.items ≡ old.runs.items
-    → Paints (Some (told old)) bytes r (Some (told new))
-unfolding gained
-told-refused old new bytes (Ok done) is same = absurd (cc is)
-told-refused old new bytes (Err error) is same = λ tells. record {
+pub told-failed : {E : Type 0} (old new : Inks) (bytes : List ℕ) (r : Result (Unit {0}) E) → IsErr r → new.runs.items ≡ old.runs.items
+    → AppendsBytes (Some (told old)) bytes r (Some (told new))
+unfolding extended
+told-failed old new bytes (Ok done) is same = absurd (cc is)
+told-failed old new bytes (Err error) is same = λ are_known. record {
   begun = [];
   rest = bytes;
   whole = refl;

@@ -128,25 +128,25 @@ TakesLines (line ∷ lines) before after =
     (between : List Case) × TakesLine line before between × TakesLines lines between after
 
 -- why the last case does not take in what is said: there is none, it has no file for a part of a
--- source, or memory was refused
-abbrev pub LastRefuses : Statement → List Case → Mistake → Type 0
-LastRefuses statement before NoCase = before ≡ []
-LastRefuses statement before NoFile = IsSource statement
+-- source, or memory failed
+abbrev pub LastFails : Statement → List Case → Mistake → Type 0
+LastFails statement before NoCase = before ≡ []
+LastFails statement before NoFile = IsSource statement
     × ((front : List Case) × (old : Case) × (before ≡ front ++ old ∷ []) × (old.files.items ≡ []))
-LastRefuses statement before OutOfMemory = Unit {0}
-LastRefuses statement before _ = ⊥
+LastFails statement before OutOfMemory = Unit {0}
+LastFails statement before _ = ⊥
 
--- what is wrong with a line after these cases: memory was refused, or the line is wrong, or they
+-- what is wrong with a line after these cases: memory failed, or the line is wrong, or they
 -- can not take in what it says
 abbrev pub IsMistaken : List ℕ → List Case → Mistake → Type 0
 IsMistaken line before mistake =
     (mistake ≡ OutOfMemory)
     ⊎ (IsWrongLine line mistake
     ⊎ ((statement : Statement) × LineSays line (Said statement)
-    × LastRefuses statement before mistake))
+    × LastFails statement before mistake))
 
 -- the fault tells the first line that has a mistake, by its number from 1, and the mistake; or that
--- memory was refused
+-- memory failed
 abbrev pub IsFirstMistake : List (List ℕ) → faults.Fault → Type 0
 IsFirstMistake lines (fault.Line number mistake) =
     (k : ℕ) × (line : List ℕ) × (before : List Case) × (number ≡ k + 1)

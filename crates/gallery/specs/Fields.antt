@@ -26,6 +26,6 @@ abbrev pub IsNoNumber : List ℕ → Type 0
 IsNoNumber text = ParsesUnsigned {E = Mistake} 64 10 text (Err BadNumber)
 
 -- a line that says nothing: it is empty or begins with `#`
-abbrev pub is_silent : List ℕ → Bool
-is_silent [] = true
-is_silent (b ∷ bs) = b == 35
+abbrev pub is_ignored : List ℕ → Bool
+is_ignored [] = true
+is_ignored (b ∷ bs) = b == 35

@@ -26,13 +26,13 @@ shown_byte b =
 abbrev pub shown : List ℕ → List ℕ
 shown picture = flat_map shown_byte picture
 
--- what is told of a refusal: nothing where there is none, else a line with the error's text
-abbrev pub TellsRefusal : Result (Unit {0}) Error → List ℕ → Type 0
-TellsRefusal (Ok done) told = told ≡ []
-TellsRefusal (Err error) told =
+-- what is told of an error: nothing where there is none, else a line with the error's text
+abbrev pub TellsFailure : Result (Unit {0}) Error → List ℕ → Type 0
+TellsFailure (Ok done) told = told ≡ []
+TellsFailure (Err error) told =
     IfSome (error_text error) (λ text. told ≡ codes "refused: " ++ text ++ 10 ∷ [])
 
--- what stands under a title: what was drawn, as it is shown, and after it, where it was refused, a
+-- what stands under a title: what was drawn, as it is shown, and after it, where it failed, a
 -- line that tells so; in plain text what was
 -- drawn is the picture of the case, and as SVG the document that shows it
 pub record IsPictured (case : Case) (text : List ℕ) : Type 0 where
@@ -40,7 +40,7 @@ pub record IsPictured (case : Case) (text : List ℕ) : Type 0 where
   pub picture : List ℕ
   pub told : List ℕ
   pub is : text ≡ shown picture ++ told
-  pub refusal : TellsRefusal drawn told
+  pub failure : TellsFailure drawn told
   pub plain : case.colours ≡ Plain → OnOk drawn (IsPicture case picture)
   pub document : case.colours ≡ Svg → OnOk drawn (IsSvg case picture)
 

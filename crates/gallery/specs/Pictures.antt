@@ -5,8 +5,8 @@ use Rattle.codespan_base.specs.declared.diagnostic.Diagnostic.{Diagnostic}
 use Rattle.codespan_base.specs.Diagnostics.{DiagnosticView, LabelView, diagnostic_view}
 use Rattle.codespan_base.specs.declared.files.Error.{Error}
 use Rattle.codespan_base.specs.FileModel.{FileDatabase, FileModel, Lookup}
-use Rattle.codespan_base.specs.MappedModel.{mapped_file, mapped_refusal, with_number}
-use Rattle.codespan_base.specs.SimpleModel.{simple_file, simple_refusal, table_file, table_refusal}
+use Rattle.codespan_base.specs.MappedModel.{mapped_file, mapped_failure, with_number}
+use Rattle.codespan_base.specs.SimpleModel.{simple_file, simple_failure, table_file, table_failure}
 use Rattle.codespan_reporting.specs.Output.{IsRendered}
 use Rattle.gallery.specs.declared.case.Case.{Case}
 use Rattle.gallery.specs.declared.case.Table.{Table}
@@ -48,24 +48,24 @@ lent_view file = (file.0.now, file.1.now)
 -- a file alone, with what its lookups fail with
 abbrev pub database_alone : FileModel → (Lookup → Option Error) → FileDatabase (Unit {0})
 database_alone file failures =
-    record { same = λ i j. true; file = λ id. file; refusal = λ id. failures }
+    record { same = λ i j. true; file = λ id. file; failure = λ id. failures }
 
 -- a simple file of this name and this source
 abbrev pub simple_database : List ℕ → List ℕ → FileDatabase (Unit {0})
 simple_database name source =
-    database_alone (simple_file (Some name) source) (simple_refusal source)
+    database_alone (simple_file (Some name) source) (simple_failure source)
 
 -- the same, with these settings of line numbers
 abbrev pub mapped_database : List (ℕ × ℕ) → List ℕ → List ℕ → FileDatabase (Unit {0})
 mapped_database numbers name source =
-    database_alone (mapped_file (Some name) source numbers) (mapped_refusal source numbers)
+    database_alone (mapped_file (Some name) source numbers) (mapped_failure source numbers)
 
 -- several files, whose ids are their indices
 abbrev pub several_database : List LentFile → FileDatabase ℕ
 several_database files = record {
   same = nat_eq;
   file = table_file (λ name. Some name.now) (λ source. source.now) files;
-  refusal = table_refusal (λ source. source.now) files;
+  failure = table_failure (λ source. source.now) files;
 }
 
 -- what may hold of a diagnostic over a file database

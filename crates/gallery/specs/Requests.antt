@@ -45,14 +45,14 @@ abbrev pub Answers : Asked → List ℕ → List ℕ → Type 0
 Answers asked input bytes =
     (cases : List Case) × TakesLines (lines input) [] cases × AnswersOf asked cases bytes
 
--- why what is asked for of cases is refused: no case has the name, the drawing refused, or memory
--- was refused
-abbrev pub RefusesOf : Asked → List Case → Fault → Type 0
-RefusesOf asked cases (UnknownCase name) =
+-- why what is asked for of cases fails: no case has the name, the drawing failed, or memory
+-- failed
+abbrev pub FailsOf : Asked → List Case → Fault → Type 0
+FailsOf asked cases (UnknownCase name) =
     (asked ≡ Svg (string_bytes name)) × (case_named (string_bytes name) cases ≡ None)
-RefusesOf asked cases (Undrawn error) = Unit {0}
-RefusesOf asked cases OutOfMemory = Unit {0}
-RefusesOf asked cases _ = ⊥
+FailsOf asked cases (Undrawn error) = Unit {0}
+FailsOf asked cases OutOfMemory = Unit {0}
+FailsOf asked cases _ = ⊥
 
 -- what a fault tells of the input: its first mistake, or that no case has the name that is asked
 -- for

@@ -13,7 +13,7 @@ use Rattle.gallery.specs.declared.statement.Statement.TheVariants as says
 use Rattle.gallery.specs.declared.words.Word.{Word}
 use Rattle.gallery.specs.declared.words.Word.TheVariants.{Table, File, Source, Number, Style, Layout, Tab, Context, Characters, Colours, Severity, Code, Message, Primary, Secondary, Note}
 use Rattle.gallery.specs.Escapes.{Unescapes}
-use Rattle.gallery.specs.Fields.{field_of, past_blank, IsNumber, IsNoNumber, is_silent}
+use Rattle.gallery.specs.Fields.{field_of, past_blank, IsNumber, IsNoNumber, is_ignored}
 use Rattle.gallery.specs.Words.{word_named, table_named, style_named, layout_named, characters_named, colours_named, severity_named}
 
 -- ---- what a line says
@@ -71,11 +71,11 @@ Says word rest (says.Note note) = (word ≡ Some Note) × Spells rest (string_by
 
 -- what a line says: nothing, that a case of a name begins, or more of the last case
 abbrev pub LineSays : List ℕ → Line → Type 0
-LineSays line Silent = is_silent line ≡ true
+LineSays line Silent = is_ignored line ≡ true
 LineSays line (Title name) =
-    (is_silent line ≡ false) × (field_of line ≡ codes "case") × (name.now ≡ past_blank line)
+    (is_ignored line ≡ false) × (field_of line ≡ codes "case") × (name.now ≡ past_blank line)
 LineSays line (Said statement) =
-    (is_silent line ≡ false) × Says (word_named (field_of line)) (past_blank line) statement
+    (is_ignored line ≡ false) × Says (word_named (field_of line)) (past_blank line) statement
 
 -- ---- what is wrong with a line
 
@@ -127,6 +127,6 @@ IsWrong word rest OutOfMemory = Unit {0}
 
 -- what is wrong with a line that is neither silent nor the beginning of a case
 pub record IsWrongLine (line : List ℕ) (mistake : Mistake) : Type 0 where
-  pub says_something : is_silent line ≡ false
+  pub says_something : is_ignored line ≡ false
   pub goes_on : field_of line ≢ codes "case"
   pub wrong : IsWrong (word_named (field_of line)) (past_blank line) mistake

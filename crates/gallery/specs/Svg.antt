@@ -6,7 +6,7 @@ use Rattle.codespan_base.specs.declared.term.config.Config.{Config}
 use Rattle.codespan_base.specs.declared.diagnostic.Diagnostic.{Diagnostic}
 use Rattle.codespan_base.specs.Streams.{spelled}
 use Rattle.codespan_picture.specs.Lookups.{AllSucceed, lookups_in}
-use Rattle.codespan_picture.specs.Picture.{picture}
+use Rattle.codespan_picture.specs.StatedPicture.{picture}
 use Rattle.codespan_base.specs.FileModel.{FileDatabase}
 use Rattle.gallery.specs.declared.case.Case.{Case}
 use Rattle.gallery.specs.declared.glyphs.Glyph.{Glyph}
@@ -134,10 +134,10 @@ svg_document glyphs =
 -- ---- the document of a case
 
 -- the runs are those of a picture: told, its stream begins in the ink of plain text; no lookup is
--- refused
+-- failed
 pub record IsPaintedOver {Id : Type 0} (config : Config) (files : FileDatabase Id)
     (d : Diagnostic Id) (runs : List InkedText) : Type 0 where
-  pub answered : AllSucceed files.refusal
+  pub answered : AllSucceed files.failure
       (lookups_in config.display_style config files d)
   pub is : all_told runs
       ≡ ink_number plain_ink

@@ -101,10 +101,10 @@ impl<'input> Case<'input> {
 
     /// Takes in what a line says. A later line that says what an earlier one said already is the one that counts.
     ///
-    /// Refuses with `NoFile` a part of a source where there is no file.
+    /// Fails with `NoFile` a part of a source where there is no file.
     pub fn take(&mut self, statement: Statement) -> Result<(), Mistake>
         ensures takes { OnOk result (Takes statement self.old self.new) }
-        ensures refused { IfErr result (λ mistake. (mistake ≡ OutOfMemory)
+        ensures failed { IfErr result (λ mistake. (mistake ≡ OutOfMemory)
             ⊎ ((mistake ≡ NoFile) × IsSource statement × (self.old.files.items ≡ []))) }
     {
         match statement {
@@ -132,7 +132,7 @@ impl<'input> Case<'input> {
         ensures others { self.new ≡ record self.old { files = self.new.files } }
         ensures files { OnOk result (map file_view self.new.files.items
             ≡ map file_view self.old.files.items ++ (string_bytes name, []) ∷ []) }
-        ensures refused { IfErr result (λ mistake. mistake ≡ OutOfMemory) }
+        ensures failed { IfErr result (λ mistake. mistake ≡ OutOfMemory) }
     {
         let source = String::new(*self.files.allocator());
         self.files.push(File { name, source })?;
@@ -145,7 +145,7 @@ impl<'input> Case<'input> {
         ensures files { OnOk result
             (GoesOn text.now (map file_view self.old.files.items)
             (map file_view self.new.files.items)) }
-        ensures refused { IfErr result (λ mistake. (mistake ≡ OutOfMemory)
+        ensures failed { IfErr result (λ mistake. (mistake ≡ OutOfMemory)
             ⊎ ((mistake ≡ NoFile) × (self.old.files.items ≡ []))) }
     {
         let Some(file) = self.files.last_mut() else {

@@ -9,7 +9,7 @@
 
 ghost use Rattle.std.specs.Prelude.{[], map, OnOk, IfOk, IfErr};
 ghost use Rattle.std.specs.Str.Lines.{lines};
-ghost use Rattle.gallery.specs.Cases.{TakesLine, TakesLines, IsMistaken, IsFirstMistake, LastTakes, LastRefuses};
+ghost use Rattle.gallery.specs.Cases.{TakesLine, TakesLines, IsMistaken, IsFirstMistake, LastTakes, LastFails};
 
 use crate::case::Case;
 use crate::fault::{Fault, Mistake};
@@ -18,7 +18,7 @@ use std::alloc::Global;
 
 /// The cases of an input, or the mistake of the first line that has one, with the line's number.
 ///
-/// Refuses with `OutOfMemory` besides.
+/// Fails with `OutOfMemory` besides.
 pub fn parse_cases(alloc: Global, input: &str) -> Result<Vec<Case<'_>>, Fault>
     ensures cases { IfOk result (λ cases. TakesLines (lines input.now) [] cases.items) }
     ensures mistake { IfErr result (IsFirstMistake (lines input.now)) }
@@ -62,7 +62,7 @@ fn take_line<'input>(
 /// Takes in what a line says of the last case.
 fn take_in_last(cases: &mut Vec<Case<'_>>, statement: Statement) -> Result<(), Mistake>
     ensures takes { OnOk result (LastTakes statement cases.old.items cases.new.items) }
-    ensures refused { IfErr result (LastRefuses statement cases.old.items) }
+    ensures failed { IfErr result (LastFails statement cases.old.items) }
 {
     match cases.last_mut() {
         Some(case) => case.take(statement),

@@ -18,7 +18,7 @@ use std::alloc::Global;
 
 /// Draws a case over its files as text: plain, or in colours by escape sequences.
 ///
-/// Refuses with `FileMissing` besides where a table of one file has another number of files, or a label in another file.
+/// Fails with `FileMissing` besides where a table of one file has another number of files, or a label in another file.
 pub fn draw(alloc: Global, case: &Case<'_>, picture: &mut Vec<u8>) -> Result<(), Error>
     ensures { case.now.colours ≡ Plain
         → OnOk result (AddsPicture case.now picture.old.items picture.new.items) }
@@ -55,7 +55,7 @@ fn draw_over<'files, F: Files<'files>>(
 
 /// Draws a case over its files in the default styles, whatever colours it asks for: its runs of text, each in one ink.
 ///
-/// Refuses as [`draw`] does.
+/// Fails as [`draw`] does.
 pub fn paint(alloc: Global, case: &Case<'_>) -> Result<Vec<Run>, Error>
     ensures { IfOk result (λ runs. IsPainted case.now (map run_view runs.items)) }
 {

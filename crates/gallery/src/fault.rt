@@ -24,7 +24,7 @@ pub enum Mistake {
     NoCase,
     /// It is a part of a source, and its case has no file yet.
     NoFile,
-    /// The memory that it needs was refused.
+    /// The memory that it needs failed.
     OutOfMemory,
 }
 
@@ -33,7 +33,7 @@ pub enum Mistake {
 pub enum Fault {
     /// The arguments ask for nothing that is known.
     WrongArguments,
-    /// A read was refused, or the memory that the input needs.
+    /// A read failed, or the memory that the input needs.
     CannotReadInput,
     /// The input is not UTF-8.
     NotUtf8,
@@ -41,11 +41,11 @@ pub enum Fault {
     Line(usize, Mistake),
     /// No case has this name.
     UnknownCase(String),
-    /// The picture of the case was refused.
+    /// The picture of the case failed.
     Undrawn(Error),
-    /// The memory that the pictures need was refused.
+    /// The memory that the pictures need failed.
     OutOfMemory,
-    /// A write or the flush of the output was refused.
+    /// A write or the flush of the output failed.
     CannotWriteOutput,
 }
 
@@ -56,7 +56,7 @@ impl Fault {
     }
 }
 
-/// Memory was refused.
+/// Memory failed.
 impl From<AllocError> for Mistake {
     ghost from_gives = { λ _ mistake. mistake ≡ mistakes.OutOfMemory };
 
@@ -65,7 +65,7 @@ impl From<AllocError> for Mistake {
     }
 }
 
-/// Memory was refused.
+/// Memory failed.
 impl<T: Drop> From<AllocFailed<T>> for Mistake {
     ghost from_gives = { λ _ mistake. mistake ≡ mistakes.OutOfMemory };
 
@@ -74,7 +74,7 @@ impl<T: Drop> From<AllocFailed<T>> for Mistake {
     }
 }
 
-/// Memory was refused.
+/// Memory failed.
 impl From<AllocError> for Fault {
     ghost from_gives = { λ _ fault. fault ≡ faults.OutOfMemory };
 

@@ -2,7 +2,7 @@
 
 ghost use Rattle.std.specs.Prelude.{◌≡◌, IfOk, IfErr};
 ghost use Rattle.std.specs.Str.Parse.{ParsesUnsigned};
-ghost use Rattle.gallery.specs.Fields.{field_of, past_blank, IsNumber, IsNoNumber, is_silent};
+ghost use Rattle.gallery.specs.Fields.{field_of, past_blank, IsNumber, IsNoNumber, is_ignored};
 ghost use Rattle.gallery.specs.declared.fault.Mistake.TheVariants.{BadNumber};
 
 use crate::fault::Mistake;
@@ -21,7 +21,7 @@ pub fn cut(text: &str) -> (&str, &str)
 /// The number that a text writes in decimal digits, before which a plus may stand.
 pub fn parse_number(text: &str) -> Result<usize, Mistake>
     ensures value { ParsesUnsigned 64 10 text.now result }
-    ensures refused { IfErr result (λ mistake. mistake ≡ BadNumber) }
+    ensures failed { IfErr result (λ mistake. mistake ≡ BadNumber) }
 {
     match text.parse() {
         Ok(number) => Ok(number),
@@ -33,7 +33,7 @@ pub fn parse_number(text: &str) -> Result<usize, Mistake>
 pub fn cut_number(text: &str) -> Result<(usize, &str), Mistake>
     ensures number { IfOk result (λ read. IsNumber (field_of text.now) read.0) }
     ensures left { IfOk result (λ read. read.1.now ≡ past_blank text.now) }
-    ensures refused { IfErr result (λ mistake. (mistake ≡ BadNumber)
+    ensures failed { IfErr result (λ mistake. (mistake ≡ BadNumber)
         × IsNoNumber (field_of text.now)) }
 {
     let (number, left) = cut(text);
@@ -41,8 +41,8 @@ pub fn cut_number(text: &str) -> Result<(usize, &str), Mistake>
 }
 
 /// Whether a line says nothing: it is empty or begins with `#`.
-pub fn is_silent(line: &str) -> bool
-    ensures { result ≡ is_silent line.now }
+pub fn is_ignored(line: &str) -> bool
+    ensures { result ≡ is_ignored line.now }
 {
     match line.as_bytes() {
         [] => true,

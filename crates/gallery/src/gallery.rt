@@ -4,7 +4,7 @@ ghost use Rattle.std.specs.Prelude.{◌≡◌, ℕ, List, ◌++◌, IfOk, OnOk};
 ghost use Rattle.gallery.specs.declared.case.Colours.TheVariants.{Plain, Svg};
 ghost use Rattle.gallery.specs.Pictures.{AddsPicture};
 ghost use Rattle.gallery.specs.Svg.{AddsSvg};
-ghost use Rattle.gallery.specs.Galleries.{title, shown, IsPictured, IsGallery, TellsRefusal};
+ghost use Rattle.gallery.specs.Galleries.{title, shown, IsPictured, IsGallery, TellsFailure};
 
 use crate::case::{Case, Colours};
 use crate::drawing::draw;
@@ -34,7 +34,7 @@ fn add_title(gallery: &mut Vec<u8>, name: &str) -> Result<(), AllocError>
     Ok(())
 }
 
-/// Adds the picture of a case, and after it a line with the refusal, if it was refused.
+/// Adds the picture of a case, and after it a line with the error, if it failed.
 fn add_picture(alloc: Global, gallery: &mut Vec<u8>, case: &Case<'_>) -> Result<(), AllocError>
     ensures { OnOk result ((pictured : List ℕ) × (gallery.new.items ≡ gallery.old.items ++ pictured)
         × IsPictured case.now pictured) }
@@ -42,12 +42,12 @@ fn add_picture(alloc: Global, gallery: &mut Vec<u8>, case: &Case<'_>) -> Result<
     let mut picture = Vec::new(alloc);
     let drawn = draw_as_asked(alloc, case, &mut picture);
     add_shown(gallery, picture.as_slice())?;
-    add_refusal(alloc, gallery, drawn)
+    add_failure(alloc, gallery, drawn)
 }
 
 /// Draws a case as it asks: as text, or as an SVG document.
 ///
-/// Refuses as [`draw`] does.
+/// Fails as [`draw`] does.
 fn draw_as_asked(alloc: Global, case: &Case<'_>, picture: &mut Vec<u8>) -> Result<(), Error>
     ensures plain { case.now.colours ≡ Plain
         → OnOk result (AddsPicture case.now picture.old.items picture.new.items) }
@@ -64,14 +64,14 @@ fn draw_as_asked(alloc: Global, case: &Case<'_>, picture: &mut Vec<u8>) -> Resul
     }
 }
 
-/// Adds a line with the refusal of a picture, if it was refused.
-fn add_refusal(
+/// Adds a line with the error of a picture, if it failed.
+fn add_failure(
     alloc: Global,
     gallery: &mut Vec<u8>,
     drawn: Result<(), Error>,
 ) -> Result<(), AllocError>
     ensures { OnOk result ((told : List ℕ) × (gallery.new.items ≡ gallery.old.items ++ told)
-        × TellsRefusal drawn told) }
+        × TellsFailure drawn told) }
 {
     match drawn {
         Ok(()) => Ok(()),

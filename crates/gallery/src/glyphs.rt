@@ -88,7 +88,7 @@ pub fn joined_cells(before: Glyph, others: &[Glyph]) -> u128
     cells
 }
 
-/// The characters of runs of text. Refuses with `FormatError` a text that is not UTF-8.
+/// The characters of runs of text. Fails with `FormatError` a text that is not UTF-8.
 pub fn glyphs(alloc: Global, runs: &[Run]) -> Result<Vec<Glyph>, Error>
     ensures texts { IfOk result (λ glyphs. AreTexts (map run_view runs.now)) }
     ensures glyphs { IfOk result (λ glyphs. glyphs.items ≡ glyphs_of (map run_view runs.now)) }

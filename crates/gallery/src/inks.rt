@@ -1,7 +1,7 @@
 //! What text is drawn in, and a writer of colours that keeps the text of each apart.
 
 ghost use Rattle.std.specs.Prelude.{◌≡◌, ◌∷◌, [], IfOk, map, Some};
-ghost use Rattle.codespan_base.specs.ColorLaw.{Paints};
+ghost use Rattle.codespan_base.specs.ColorLaw.{AppendsBytes};
 ghost use Rattle.gallery.specs.Inks.{ink_number, ink_of, plain_ink, run_view};
 
 use codespan_reporting::term::{Color, ColorSpec, WriteColor};
@@ -79,7 +79,7 @@ impl Inks {
 
     /// Begins a run.
     fn begin(&mut self, ink: Ink) -> io::Result<()>
-        ensures { Paints (Some (told self.old)) (ink_number ink ∷ []) result
+        ensures { AppendsBytes (Some (told self.old)) (ink_number ink ∷ []) result
             (Some (told self.new)) }
     {
         let text = Vec::new(*self.runs.allocator());
@@ -93,7 +93,7 @@ impl Write for Inks {
 
     ghost contents = { λ inks. Some (told inks) };
 
-    /// Adds to the text of the last run. Refuses where there is none; [`Inks::new`] begins one.
+    /// Adds to the text of the last run. Fails where there is none; [`Inks::new`] begins one.
     fn write(&mut self, buf: &[u8]) -> io::Result<usize> {
         let Some(run) = self.runs.last_mut() else {
             return Err(io::Error::from(ErrorKind::Other));

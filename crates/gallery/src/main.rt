@@ -6,7 +6,7 @@
 //! | status | what was done | standard error |
 //! |---|---|---|
 //! | 0 | all cases, or the case of the name, were drawn to standard output | nothing |
-//! | 1 | nothing, or a beginning of the output was written where it was refused | one line: why; what is wrong in the input by its line |
+//! | 1 | nothing, or a beginning of the output was written where it failed | one line: why; what is wrong in the input by its line |
 //! | 2 | nothing: the arguments are wrong | one line: how it is called |
 #![tactic(auto)]
 

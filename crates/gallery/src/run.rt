@@ -3,7 +3,7 @@
 ghost use Rattle.std.specs.Prelude.{◌≡◌, ◌≢◌, ◌≤◌, ◌↔◌, ℕ, List, None, OnOk, IfErr, IfOk, IfSome, IsErrOf, map, string_bytes};
 ghost use Rattle.std.specs.Io.KnownBytes.{Appends};
 ghost use Rattle.std.specs.Option.{option_copied};
-ghost use Rattle.gallery.specs.Requests.{Answers, AnswersOf, FaultTells, IsStatusOf, RefusesOf, asked_of, case_named, request_view};
+ghost use Rattle.gallery.specs.Requests.{Answers, AnswersOf, FaultTells, IsStatusOf, FailsOf, asked_of, case_named, request_view};
 
 use crate::case::Case;
 use crate::cases::parse_cases;
@@ -18,7 +18,7 @@ use std::io::{Read, Write};
 /// Draws what the arguments ask for of the cases of the input to the output, and answers the program's status: 0, or where `faults` is told
 /// in one line why not 2 for wrong arguments, and 1 for all else.
 ///
-/// Nothing is written to the output before all is drawn. A refusal of `faults` is ignored.
+/// Nothing is written to the output before all is drawn. An error of `faults` is ignored.
 pub fn run<R: Read, W: Write, E: Write>(
     alloc: Global,
     args: &[String],
@@ -39,7 +39,7 @@ pub fn run<R: Read, W: Write, E: Write>(
     conclude(show(alloc, args, input, output), faults)
 }
 
-/// Tells the fault, if there is one, in one line, and answers the program's status. A refusal of `faults` is ignored.
+/// Tells the fault, if there is one, in one line, and answers the program's status. An error of `faults` is ignored.
 pub fn conclude<E: Write>(outcome: Result<(), Fault>, faults: &mut E) -> u8
     ensures status { IsStatusOf outcome result }
     ensures silent { OnOk outcome (faults.new ≡ faults.old) }
@@ -86,7 +86,7 @@ fn show<R: Read, W: Write>(
 fn answer(alloc: Global, request: Request<'_>, cases: &[Case<'_>]) -> Result<Vec<u8>, Fault>
     ensures answers { IfOk result (λ bytes.
         AnswersOf (request_view request.entry) cases.now bytes.items) }
-    ensures refuses { IfErr result (RefusesOf (request_view request.entry) cases.now) }
+    ensures fails { IfErr result (FailsOf (request_view request.entry) cases.now) }
 {
     match request {
         Request::All => Ok(draw_cases(alloc, cases)?),

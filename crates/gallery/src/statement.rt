@@ -9,7 +9,7 @@ ghost use Rattle.gallery.specs.declared.words.Word.TheVariants as words;
 use crate::case::{CharacterSet, Colours, Table};
 use crate::escape::unescape;
 use crate::fault::Mistake;
-use crate::fields::{cut, cut_number, is_silent, parse_number};
+use crate::fields::{cut, cut_number, is_ignored, parse_number};
 use crate::words::{
     Word, parse_characters, parse_colours, parse_layout, parse_severity, parse_style, parse_table,
     parse_word,
@@ -82,7 +82,7 @@ pub fn parse_line<'input>(alloc: Global, line: &'input str) -> Result<Line<'inpu
     ensures says { IfOk result (LineSays line.now) }
     ensures wrong { IfErr result (IsWrongLine line.now) }
 {
-    if is_silent(line) {
+    if is_ignored(line) {
         return Ok(Line::Silent);
     }
     let (word, rest) = cut(line);

@@ -12,7 +12,7 @@ use std::io::{Read, Write};
 pub fn read_input<R: Read>(alloc: Global, input: &mut R) -> Result<String, Fault>
     ensures text { IfOk result (λ text.
         IfSome (R.remaining input.old) (λ bytes. string_bytes text ≡ bytes)) }
-    ensures refused { IfErr result (λ fault. (fault ≡ Fault.CannotReadInput)
+    ensures failed { IfErr result (λ fault. (fault ≡ Fault.CannotReadInput)
         ⊎ (fault ≡ Fault.NotUtf8)) }
 {
     let mut bytes = Vec::new(alloc);
@@ -29,7 +29,7 @@ pub fn read_input<R: Read>(alloc: Global, input: &mut R) -> Result<String, Fault
 pub fn write_bytes<W: Write>(output: &mut W, bytes: &[u8]) -> Result<(), Fault>
     ensures written { OnOk result (Appends (W.contents output.old)
         (W.contents output.new) bytes.now) }
-    ensures refused { IfErr result (λ fault. fault ≡ Fault.CannotWriteOutput) }
+    ensures failed { IfErr result (λ fault. fault ≡ Fault.CannotWriteOutput) }
 {
     match write_and_flush(output, bytes) {
         Ok(()) => Ok(()),
@@ -37,7 +37,7 @@ pub fn write_bytes<W: Write>(output: &mut W, bytes: &[u8]) -> Result<(), Fault>
     }
 }
 
-/// The same, with the cause of a refusal.
+/// The same, with the cause of an error.
 fn write_and_flush<W: Write>(output: &mut W, bytes: &[u8]) -> io::Result<()>
     ensures { OnOk result (Appends (W.contents output.old) (W.contents output.new) bytes.now) }
 {

@@ -32,7 +32,7 @@ const GROUND: &str =
 
 /// The SVG document of the picture of a case, in colours.
 ///
-/// Refuses as the drawing does.
+/// Fails as the drawing does.
 pub fn svg(alloc: Global, case: &Case<'_>) -> Result<String, Error>
     ensures { IfOk result (λ document. IsSvg case.now (string_bytes document)) }
 {

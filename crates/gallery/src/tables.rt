@@ -25,7 +25,7 @@ pub enum Tables<'case> {
 
 /// The files of a case, in the table that it asks for.
 ///
-/// Refuses with `FileMissing` besides where a table of one file has another number of files, or a label in another file.
+/// Fails with `FileMissing` besides where a table of one file has another number of files, or a label in another file.
 pub fn tables_of<'case>(alloc: Global, case: &'case Case<'_>) -> Result<Tables<'case>, Error>
     ensures { IfOk result (AreTables case.now) }
 {

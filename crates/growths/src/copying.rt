@@ -14,7 +14,7 @@ pub struct Copying<'text> {
 }
 
 impl<'text> Copying<'text> {
-    /// The file of this name and text. Refuses with `OutOfMemory`.
+    /// The file of this name and text. Fails with `OutOfMemory`.
     pub fn new(alloc: Global, name: &'text str, text: &'text str) -> Result<Self, Error> {
         Ok(Copying {
             file: SimpleFile::new(alloc, name, text)?,
@@ -25,7 +25,7 @@ impl<'text> Copying<'text> {
 
 impl<'a, 'text: 'a> Files<'a> for Copying<'text> {
     ghost use Rattle.codespan_base.specs.FileTables.{name_of, source_of};
-    ghost use Rattle.codespan_base.specs.SimpleModel.{simple_file, simple_refusal};
+    ghost use Rattle.codespan_base.specs.SimpleModel.{simple_file, simple_failure};
     ghost use Rattle.codespan_base.specs.Lemmas.Simple.{simple_lawful, simple_past_end, text_fits, text_is_utf8};
 
     type FileId = ();
@@ -37,7 +37,7 @@ impl<'a, 'text: 'a> Files<'a> for Copying<'text> {
     ghost database = { λ s. record {
       same = ⟦<() as PartialEq>⟧.eq;
       file = λ _. simple_file (Some (name_of s.file).now) (source_of s.file).now;
-      refusal = λ _. simple_refusal (source_of s.file).now;
+      failure = λ _. simple_failure (source_of s.file).now;
     } };
 
     fn name(&'a self, _id: ()) -> Result<&'text str, Error> {

@@ -5,7 +5,7 @@ ghost use Rattle.codespan_base.specs.Errors.{IsIo};
 
 use crate::copying::Copying;
 use crate::held::Held;
-use crate::outcome::{Outcome, Wrong, judge_made, judge_refusal};
+use crate::outcome::{Outcome, Wrong, judge_failure, judge_made};
 use crate::rows::{Drawing, Row, diagnostic_of};
 use codespan_reporting::diagnostic::Diagnostic;
 use codespan_reporting::files::{Error, Files, MappedFile, SimpleFiles};
@@ -73,7 +73,7 @@ fn judge_copying(alloc: Global, call: DrawCall, drawing: &Drawing<'_>) -> Result
     judge_call(alloc, call, drawing, &file, &diagnostic)
 }
 
-/// What a call draws. Refuses where the string that it appends to is refused.
+/// What a call draws. Fails where the string that it appends to fails.
 fn judge_call<'files, F: Files<'files>>(
     alloc: Global,
     call: DrawCall,
@@ -147,28 +147,28 @@ fn draw_styled<'files, F: Files<'files>, W: WriteStyle>(
     }
 }
 
-/// A string is the picture, or was refused for want of memory.
+/// A string is the picture, or failed for want of memory.
 fn judge_string(answer: &Result<String, Error>, picture: &str) -> Outcome
     ensures done { result ≡ Outcome.Done
         → IfOk answer.now (λ text. string_bytes text ≡ picture.now) }
-    ensures refused { result ≡ Outcome.Refused → IsErrOf answer.now Error.OutOfMemory }
+    ensures failed { result ≡ Outcome.Failed → IsErrOf answer.now Error.OutOfMemory }
 {
     match answer {
         Ok(text) => judge_made(text.as_str() == picture),
-        Err(error) => judge_refusal(error, true),
+        Err(error) => judge_failure(error, true),
     }
 }
 
-/// A string has gained the picture; or that was refused for want of memory, and the string is as it was.
+/// A string has gained the picture; or that failed for want of memory, and the string is as it was.
 fn judge_appended(answer: &Result<(), Error>, string: &str, picture: &str) -> Outcome
     ensures done { result ≡ Outcome.Done → (IsOk answer.now)
         × (string.now ≡ codes "kept" ++ picture.now) }
-    ensures refused { result ≡ Outcome.Refused → (IsErrOf answer.now Error.OutOfMemory)
+    ensures failed { result ≡ Outcome.Failed → (IsErrOf answer.now Error.OutOfMemory)
         × (string.now ≡ codes "kept") }
 {
     match answer {
         Ok(()) => judge_made(string.strip_prefix(KEPT) == Some(picture)),
-        Err(error) => judge_refusal(error, string == KEPT),
+        Err(error) => judge_failure(error, string == KEPT),
     }
 }
 
@@ -179,24 +179,24 @@ fn is_beginning(bytes: &[u8], text: &str) -> bool
     text.as_bytes().starts_with(bytes)
 }
 
-/// A vector holds the picture; or the call was refused, and it holds a beginning: with `Io` where a growth of the vector was refused, and
+/// A vector holds the picture; or the call failed, and it holds a beginning: with `Io` where a growth of the vector failed, and
 /// else for want of memory.
 fn judge_held(answer: &Result<(), Error>, held: &Held, picture: &str) -> Outcome
-    ensures done { result ≡ Outcome.Done → (IsOk answer.now) × (held.now.has_refused ≡ false)
+    ensures done { result ≡ Outcome.Done → (IsOk answer.now) × (held.now.has_failed ≡ false)
         × (held.now.bytes.items ≡ picture.now) }
-    ensures refused { result ≡ Outcome.Refused → held.now.has_refused ≡ false
+    ensures failed { result ≡ Outcome.Failed → held.now.has_failed ≡ false
         → IsErrOf answer.now Error.OutOfMemory }
-    ensures writer { result ≡ Outcome.Refused → held.now.has_refused ≡ true
+    ensures writer { result ≡ Outcome.Failed → held.now.has_failed ≡ true
         → IsErrAnd answer.now IsIo }
-    ensures beginning { result ≡ Outcome.Refused → (rest : List ℕ)
+    ensures beginning { result ≡ Outcome.Failed → (rest : List ℕ)
         × (picture.now ≡ held.now.bytes.items ++ rest) }
 {
     let bytes = held.bytes.as_slice();
     let is_beginning = is_beginning(bytes, picture);
     match answer {
-        Ok(()) => judge_made(!held.has_refused && bytes == picture.as_bytes()),
-        Err(Error::Io(_)) if held.has_refused && is_beginning => Outcome::Refused,
-        Err(_) if held.has_refused => Outcome::Wrong(Wrong::Refusal),
-        Err(error) => judge_refusal(error, is_beginning),
+        Ok(()) => judge_made(!held.has_failed && bytes == picture.as_bytes()),
+        Err(Error::Io(_)) if held.has_failed && is_beginning => Outcome::Failed,
+        Err(_) if held.has_failed => Outcome::Wrong(Wrong::Failure),
+        Err(error) => judge_failure(error, is_beginning),
     }
 }

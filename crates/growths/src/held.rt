@@ -4,13 +4,13 @@ use std::alloc::Global;
 use std::io;
 use std::io::Write;
 
-/// A vector that is written to, and whether a growth of it was refused.
+/// A vector that is written to, and whether a growth of it failed.
 #[derive(Drop)]
 pub struct Held {
     /// What was written.
     pub bytes: Vec<u8>,
-    /// Whether a write was refused.
-    pub has_refused: bool,
+    /// Whether a write failed.
+    pub has_failed: bool,
 }
 
 impl Held {
@@ -18,7 +18,7 @@ impl Held {
     pub fn new(alloc: Global) -> Held {
         Held {
             bytes: Vec::new(alloc),
-            has_refused: false,
+            has_failed: false,
         }
     }
 }
@@ -27,7 +27,7 @@ impl Held {
 impl Write for Held {
     fn write(&mut self, buf: &[u8]) -> io::Result<usize> {
         let answer = self.bytes.write(buf);
-        self.has_refused = self.has_refused || answer.is_err();
+        self.has_failed = self.has_failed || answer.is_err();
         answer
     }
 

@@ -1,6 +1,6 @@
 //! The clones of a configuration, and of what is in it, where that has a text of its own.
 
-use crate::outcome::{Outcome, judge_made, judge_refusal};
+use crate::outcome::{Outcome, judge_failure, judge_made};
 use codespan_reporting::files::Error;
 use codespan_reporting::term::{Chars, Config, SnippetStart};
 use std::alloc::Global;
@@ -45,15 +45,15 @@ pub fn judge_look(alloc: Global, look: Look) -> Result<Outcome, Error> {
     Ok(match look {
         Look::SnippetStart => match config.chars.snippet_start.clone() {
             Ok(start) => judge_made(is_start(&start)),
-            Err(error) => judge_refusal(&error, true),
+            Err(error) => judge_failure(&error, true),
         },
         Look::Chars => match config.chars.clone() {
             Ok(chars) => judge_made(are_chars(&chars)),
-            Err(error) => judge_refusal(&error, true),
+            Err(error) => judge_failure(&error, true),
         },
         Look::Config => match config.clone() {
             Ok(config) => judge_made(are_chars(&config.chars) && config.tab_width == 7),
-            Err(error) => judge_refusal(&error, true),
+            Err(error) => judge_failure(&error, true),
         },
     })
 }

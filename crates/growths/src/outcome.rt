@@ -11,12 +11,12 @@ use std::fmt::Write;
 pub enum Outcome {
     /// No subject has this name.
     Unknown,
-    /// A growth was refused before the call.
+    /// A growth failed before the call.
     Unprepared,
     /// The call answered `Ok`, with exactly what is expected.
     Done,
-    /// The call was refused as it may be, and what must stay as it was stayed.
-    Refused,
+    /// The call failed as it may be, and what must stay as it was stayed.
+    Failed,
     /// Something else.
     Wrong(Wrong),
 }
@@ -28,9 +28,9 @@ pub enum Wrong {
     Preparation,
     /// The call answered `Ok` with something else.
     Answer,
-    /// The call was refused with an error that it may not be refused with.
-    Refusal,
-    /// The call was refused, and something did not stay as it was.
+    /// The call failed with an error that it may not fail with.
+    Failure,
+    /// The call failed, and something did not stay as it was.
     Kept,
 }
 
@@ -39,10 +39,10 @@ impl Outcome {
     pub fn status(self) -> u8
         ensures most { result ≤ 2 }
         ensures right { result ≡ 0 → (self ≡ Outcome.Unprepared) ⊎ (self ≡ Outcome.Done)
-            ⊎ (self ≡ Outcome.Refused) }
+            ⊎ (self ≡ Outcome.Failed) }
     {
         match self {
-            Outcome::Unprepared | Outcome::Done | Outcome::Refused => 0,
+            Outcome::Unprepared | Outcome::Done | Outcome::Failed => 0,
             Outcome::Wrong(_) => 1,
             Outcome::Unknown => 2,
         }
@@ -56,7 +56,7 @@ impl fmt::Display for Outcome {
             Outcome::Unknown => write!(f, "no subject has this name"),
             Outcome::Unprepared => write!(f, "unprepared"),
             Outcome::Done => write!(f, "done"),
-            Outcome::Refused => write!(f, "refused"),
+            Outcome::Failed => write!(f, "failed"),
             Outcome::Wrong(wrong) => write!(f, "wrong: {wrong}"),
         }
     }
@@ -68,13 +68,13 @@ impl fmt::Display for Wrong {
         match self {
             Wrong::Preparation => write!(f, "not prepared, and memory is not why"),
             Wrong::Answer => write!(f, "another answer than is expected"),
-            Wrong::Refusal => write!(f, "another error than may come"),
-            Wrong::Kept => write!(f, "refused, and something did not stay as it was"),
+            Wrong::Failure => write!(f, "another error than may come"),
+            Wrong::Kept => write!(f, "failed, and something did not stay unchanged"),
         }
     }
 }
 
-/// What came of a subject whose preparation may be refused.
+/// What came of a subject whose preparation may fail.
 pub fn prepared(judged: Result<Outcome, Error>) -> Outcome {
     match judged {
         Ok(outcome) => outcome,
@@ -86,7 +86,7 @@ pub fn prepared(judged: Result<Outcome, Error>) -> Outcome {
 /// `Done` where what was made is what is expected.
 pub fn judge_made(is_expected: bool) -> Outcome
     ensures done { result ≡ Outcome.Done → IsTrue is_expected }
-    ensures answered { result ≢ Outcome.Refused }
+    ensures answered { result ≢ Outcome.Failed }
 {
     if is_expected {
         Outcome::Done
@@ -95,26 +95,26 @@ pub fn judge_made(is_expected: bool) -> Outcome
     }
 }
 
-/// `Refused` where a growth is told as refused, and what must stay as it was did.
-pub fn judge_refusal(error: &Error, is_kept: bool) -> Outcome
-    ensures error { result ≡ Outcome.Refused → error.now ≡ Error.OutOfMemory }
-    ensures kept { result ≡ Outcome.Refused → IsTrue is_kept }
+/// `Failed` where a growth is told as failed, and what must stay as it was did.
+pub fn judge_failure(error: &Error, is_kept: bool) -> Outcome
+    ensures error { result ≡ Outcome.Failed → error.now ≡ Error.OutOfMemory }
+    ensures kept { result ≡ Outcome.Failed → IsTrue is_kept }
     ensures told { result ≢ Outcome.Done }
 {
     match error {
-        Error::OutOfMemory if is_kept => Outcome::Refused,
+        Error::OutOfMemory if is_kept => Outcome::Failed,
         Error::OutOfMemory => Outcome::Wrong(Wrong::Kept),
-        _ => Outcome::Wrong(Wrong::Refusal),
+        _ => Outcome::Wrong(Wrong::Failure),
     }
 }
 
-/// What came of a call that makes a value: `Done` where it is the one that is expected, `Refused` where a growth was refused.
+/// What came of a call that makes a value: `Done` where it is the one that is expected, `Failed` where a growth failed.
 pub fn judge_value<T: PartialEq + Drop>(answer: &Result<T, Error>, want: &T) -> Outcome
     ensures done { result ≡ Outcome.Done → IfOk answer.now (λ made. IsTrue (T.eq made want.now)) }
-    ensures refused { result ≡ Outcome.Refused → IsErrOf answer.now Error.OutOfMemory }
+    ensures failed { result ≡ Outcome.Failed → IsErrOf answer.now Error.OutOfMemory }
 {
     match answer {
         Ok(made) => judge_made(*made == *want),
-        Err(error) => judge_refusal(error, true),
+        Err(error) => judge_failure(error, true),
     }
 }

@@ -83,7 +83,7 @@ fn locus_of(
     })
 }
 
-/// Makes each call, and answers whether all gave what they should. A call that is refused is told as the preparation would be.
+/// Makes each call, and answers whether all gave what they should. A call that fails is told as the preparation would be.
 fn are_right(alloc: Global, needs: Needs<'_>) -> Result<bool, Error> {
     let Needs {
         mut rows,

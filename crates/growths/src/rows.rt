@@ -84,7 +84,7 @@ impl Row {
     }
 }
 
-/// The diagnostic of a drawing, over files of these ids. Refuses with `OutOfMemory`.
+/// The diagnostic of a drawing, over files of these ids. Fails with `OutOfMemory`.
 pub fn diagnostic_of<FileId: Copy + Drop>(
     alloc: Global,
     drawing: &Drawing<'_>,

@@ -1,6 +1,6 @@
 //! The calls that make tables of files or add to them.
 
-use crate::outcome::{Outcome, judge_made, judge_refusal};
+use crate::outcome::{Outcome, judge_failure, judge_made};
 use codespan_reporting::files::{Error, Files, MappedFile, SimpleFile, SimpleFiles};
 use std::alloc::Global;
 use std::convert::AsStr;
@@ -26,11 +26,11 @@ pub fn judge_table(alloc: Global, call: TableCall) -> Result<Outcome, Error> {
     match call {
         TableCall::SimpleFileNew => Ok(match SimpleFile::new(alloc, "f", TEXT) {
             Ok(file) => judge_made(is_file(&file, (), [1, 2, 3, 4])),
-            Err(error) => judge_refusal(&error, true),
+            Err(error) => judge_failure(&error, true),
         }),
         TableCall::MappedFileNew => Ok(match MappedFile::new(alloc, "f", TEXT) {
             Ok(file) => judge_made(is_file(&file, (), [1, 2, 3, 4])),
-            Err(error) => judge_refusal(&error, true),
+            Err(error) => judge_failure(&error, true),
         }),
         TableCall::Add => judge_add(alloc),
         TableCall::SetLine => judge_set_line(alloc),
@@ -87,7 +87,7 @@ fn judge_add(alloc: Global) -> Result<Outcome, Error> {
     }
     Ok(match files.add("j", TEXT) {
         Ok(id) => judge_made(id == 4 && has_files(&files, 5)),
-        Err(error) => judge_refusal(&error, has_files(&files, 4)),
+        Err(error) => judge_failure(&error, has_files(&files, 4)),
     })
 }
 
@@ -96,6 +96,6 @@ fn judge_set_line(alloc: Global) -> Result<Outcome, Error> {
     let mut file = MappedFile::new(alloc, "f", TEXT)?;
     Ok(match file.set_line(2, 100) {
         Ok(()) => judge_made(is_file(&file, (), [1, 2, 100, 101])),
-        Err(error) => judge_refusal(&error, is_file(&file, (), [1, 2, 3, 4])),
+        Err(error) => judge_failure(&error, is_file(&file, (), [1, 2, 3, 4])),
     })
 }

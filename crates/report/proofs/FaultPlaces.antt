@@ -18,7 +18,7 @@ use Rattle.report.specs.declared.script.words.Word.TheVariants.{Severity, Code, 
 use Rattle.report.specs.Requests.{number_of}
 use Rattle.report.specs.ScriptFaults.{fault_at, fault_from, given_line, line_fault, number_fault, or_fault, repetition, severity_fault, word_fault}
 use Rattle.report.specs.ScriptLaws.{FaultLiesIn, FaultsLieInside, LiesIn}
-use Rattle.report.specs.ScriptLines.{ScriptLine, body, field_of, is_blank, is_end, is_newline, is_silent, lines_from, lines_of, past_blank, range_at, rest_of, source_of, word_of, word_range}
+use Rattle.report.specs.ScriptLines.{ScriptLine, body, field_of, is_blank, is_end, is_newline, is_ignored, lines_from, lines_of, past_blank, range_at, rest_of, source_of, word_of, word_range}
 use Rattle.report.specs.ScriptWords.{severity_named, word_named}
 use Rattle.report.specs.Scripts.{read_lines, read_script}
 
@@ -265,7 +265,7 @@ module _ (input : List ℕ) (utf8 : IsUtf8 input) where
   fault_lies before [] earlier later = tt
   fault_lies before (line ∷ lines) earlier later =
       either_fault (FaultLiesIn input) (line_fault before line) (fault_from (before ++ line ∷ []) lines)
-      (some_if (FaultLiesIn input) (is_silent line) None (word_fault before line (word_named (word_of line))) tt (word_fault_lies before line earlier later.0 (word_named (word_of line))))
+      (some_if (FaultLiesIn input) (is_ignored line) None (word_fault before line (word_named (word_of line))) tt (word_fault_lies before line earlier later.0 (word_named (word_of line))))
       (fault_lies (before ++ line ∷ []) lines (each_push Stands before line earlier later.0) later.1)
 
   -- what was read of lines

@@ -4,7 +4,7 @@ use Rattle.std.specs.Str.{IsUtf8}
 use Rattle.report.specs.declared.fault.Fault.{Fault}
 use Rattle.report.specs.declared.fault.Fault.TheVariants.{WrongArguments, CannotReadInput, NotUtf8, Drawing, BadScript, CannotWriteOutput}
 use Rattle.report.specs.Drawings.{drawing_of}
-use Rattle.report.specs.Faults.{AppendsPrefix, FaultTells, IfBadScript, IsStatusOf, StaysUnlessDrawn, refused_output_line}
+use Rattle.report.specs.Faults.{AppendsPrefix, FaultTells, IfBadScript, IsStatusOf, StaysUnlessDrawn, failed_output_line}
 use Rattle.report.specs.Requests.{AskedView, WhereKnown, asked_of}
 
 -- the status is one of four
@@ -77,7 +77,7 @@ kept_at_not_utf8 words bytes X (Ok done) utf8 told kept =
     (λ asked source is other. absurd (other is)) utf8
 kept_at_not_utf8 words bytes X (Err fault) utf8 told kept =
     known_weaker (asked_of words) bytes (FaultTells fault) (λ _ source. ¬ (IsUtf8 source) → X)
-    (λ asked source tells other. kept (λ output. let wrote : FaultTells CannotWriteOutput asked source = subst (λ (f : Fault). FaultTells f asked source) output tells in other wrote.0)) told
+    (λ asked source are_known other. kept (λ output. let wrote : FaultTells CannotWriteOutput asked source = subst (λ (f : Fault). FaultTells f asked source) output are_known in other wrote.0)) told
 
 -- a script's fault that was told is the one of what was asked for
 pub told_at_faulty : (words : List (List ℕ)) (bytes : Option (List ℕ)) (outcome : Result (Unit {0}) Fault) (status : ℕ) (Told : List ℕ → Type 0)
@@ -85,15 +85,15 @@ pub told_at_faulty : (words : List (List ℕ)) (bytes : Option (List ℕ)) (outc
     → IfErr outcome (λ fault. WhereKnown words bytes (FaultTells fault))
     → IfErr outcome (λ fault. IfBadScript fault (λ picture. Told (string_bytes picture)))
     → WhereKnown words bytes (λ asked source. (picture : List ℕ) × (drawing_of asked source ≡ Err picture) × Told picture)
-told_at_faulty words bytes (Ok done) status Told is three tells told = absurd (omega arith)
-told_at_faulty words bytes (Err WrongArguments) status Told is three tells told = absurd (omega arith)
-told_at_faulty words bytes (Err CannotReadInput) status Told is three tells told = absurd (omega arith)
-told_at_faulty words bytes (Err NotUtf8) status Told is three tells told = absurd (omega arith)
-told_at_faulty words bytes (Err (Drawing error)) status Told is three tells told = absurd (omega arith)
-told_at_faulty words bytes (Err (BadScript picture)) status Told is three tells told =
+told_at_faulty words bytes (Ok done) status Told is three are_known told = absurd (omega arith)
+told_at_faulty words bytes (Err WrongArguments) status Told is three are_known told = absurd (omega arith)
+told_at_faulty words bytes (Err CannotReadInput) status Told is three are_known told = absurd (omega arith)
+told_at_faulty words bytes (Err NotUtf8) status Told is three are_known told = absurd (omega arith)
+told_at_faulty words bytes (Err (Drawing error)) status Told is three are_known told = absurd (omega arith)
+told_at_faulty words bytes (Err (BadScript picture)) status Told is three are_known told =
     known_weaker (asked_of words) bytes (FaultTells (BadScript picture)) (λ asked source. (p : List ℕ) × (drawing_of asked source ≡ Err p) × Told p)
-    (λ asked source same. (string_bytes picture, same, told)) tells
-told_at_faulty words bytes (Err CannotWriteOutput) status Told is three tells told = absurd (omega arith)
+    (λ asked source same. (string_bytes picture, same, told)) are_known
+told_at_faulty words bytes (Err CannotWriteOutput) status Told is three are_known told = absurd (omega arith)
 
 -- no drawing is both
 not_both : (drawing : Result (List ℕ) (List ℕ)) (good bad : List ℕ) → drawing ≡ Ok good → drawing ≡ Err bad → ⊥
@@ -102,12 +102,12 @@ not_both drawing good bad is other = cc (is, other)
 -- the same of a fault
 faulty_fault : (fault : Fault) (status : ℕ) (X : Type 0) (asked : AskedView) (source picture : List ℕ) → IsStatusOf (Err fault) status → FaultTells fault asked source
     → (fault ≢ CannotWriteOutput → X) → drawing_of asked source ≡ Err picture → ((status ≡ 3) ⊎ (status ≡ 1)) × X
-faulty_fault WrongArguments status X asked source picture is tells kept bad = absurd tells
-faulty_fault CannotReadInput status X asked source picture is tells kept bad = (inr is, kept (λ output. cc output))
-faulty_fault NotUtf8 status X asked source picture is tells kept bad = (inr is, kept (λ output. cc output))
-faulty_fault (Drawing error) status X asked source picture is tells kept bad = (inr is, kept (λ output. cc output))
-faulty_fault (BadScript told) status X asked source picture is tells kept bad = (is, kept (λ output. cc output))
-faulty_fault CannotWriteOutput status X asked source picture is tells kept bad = absurd (not_both (drawing_of asked source) tells.1.0 picture tells.1.1 bad)
+faulty_fault WrongArguments status X asked source picture is are_known kept bad = absurd are_known
+faulty_fault CannotReadInput status X asked source picture is are_known kept bad = (inr is, kept (λ output. cc output))
+faulty_fault NotUtf8 status X asked source picture is are_known kept bad = (inr is, kept (λ output. cc output))
+faulty_fault (Drawing error) status X asked source picture is are_known kept bad = (inr is, kept (λ output. cc output))
+faulty_fault (BadScript told) status X asked source picture is are_known kept bad = (is, kept (λ output. cc output))
+faulty_fault CannotWriteOutput status X asked source picture is are_known kept bad = absurd (not_both (drawing_of asked source) are_known.1.0 picture are_known.1.1 bad)
 
 -- where the script has a fault, that is told or not, and the output stays
 pub faulty_status : (words : List (List ℕ)) (bytes : Option (List ℕ)) (outcome : Result (Unit {0}) Fault) (status : ℕ) (X : Type 0) (Wrote : List ℕ → Type 0)
@@ -116,19 +116,19 @@ pub faulty_status : (words : List (List ℕ)) (bytes : Option (List ℕ)) (outco
     → IfErr outcome (λ fault. WhereKnown words bytes (FaultTells fault))
     → IfErr outcome (λ fault. fault ≢ CannotWriteOutput → X)
     → WhereKnown words bytes (λ asked source. (picture : List ℕ) → drawing_of asked source ≡ Err picture → ((status ≡ 3) ⊎ (status ≡ 1)) × X)
-faulty_status words bytes (Ok done) status X Wrote is drawn tells kept =
+faulty_status words bytes (Ok done) status X Wrote is drawn are_known kept =
     known_weaker (asked_of words) bytes (λ asked source. (picture : List ℕ) × (drawing_of asked source ≡ Ok picture) × Wrote picture)
     (λ asked source. (picture : List ℕ) → drawing_of asked source ≡ Err picture → ((status ≡ 3) ⊎ (status ≡ 1)) × X)
     (λ asked source good picture bad. absurd (not_both (drawing_of asked source) good.0 picture good.1 bad)) drawn
-faulty_status words bytes (Err fault) status X Wrote is drawn tells kept =
+faulty_status words bytes (Err fault) status X Wrote is drawn are_known kept =
     known_weaker (asked_of words) bytes (FaultTells fault)
     (λ asked source. (picture : List ℕ) → drawing_of asked source ≡ Err picture → ((status ≡ 3) ⊎ (status ≡ 1)) × X)
-    (λ asked source told picture bad. faulty_fault fault status X asked source picture is told kept bad) tells
+    (λ asked source told picture bad. faulty_fault fault status X asked source picture is told kept bad) are_known
 
 -- the output stays, or its whole picture was drawn
 pub stays_unless_drawn : (outcome : Result (Unit {0}) Fault) (status : ℕ) (X : Type 0) (old new : Option (List ℕ))
     → IsStatusOf outcome status
-    → (IsErrOf outcome CannotWriteOutput → AppendsPrefix old new refused_output_line)
+    → (IsErrOf outcome CannotWriteOutput → AppendsPrefix old new failed_output_line)
     → IfErr outcome (λ fault. fault ≢ CannotWriteOutput → X)
     → StaysUnlessDrawn X status old new
 stays_unless_drawn (Ok done) status X old new is line kept = inr (inl is)

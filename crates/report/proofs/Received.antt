@@ -7,7 +7,7 @@ use Rattle.std.specs.Fmt.{with_newline}
 use Rattle.std.specs.Io.KnownBytes.{Appends, Keeps}
 use Rattle.report.specs.declared.fault.Fault.{Fault}
 use Rattle.report.specs.declared.fault.Fault.TheVariants.{CannotWriteOutput}
-use Rattle.report.specs.Faults.{AppendsPrefix, fault_text, refused_output_line}
+use Rattle.report.specs.Faults.{AppendsPrefix, fault_text, failed_output_line}
 
 -- the first of the bytes came
 pub front_came : (old new : Option (List ℕ)) (bs done rest : List ℕ) → bs ≡ done ++ rest → Appends old new done → AppendsPrefix old new bs
@@ -25,9 +25,9 @@ moved_range bs done rest n e = moved bs done rest n e ∙ ap (λ (l : List ℕ).
 pub prefix_kept : (old mid new : Option (List ℕ)) (bs : List ℕ) → AppendsPrefix old mid bs → Keeps mid new → AppendsPrefix old new bs
 prefix_kept old mid new bs came kept = (came.0, came.1, Appends-kept old mid new came.0 came.2 kept)
 
--- the line of a refused output, as that of a fault
+-- the line of a failed output, as that of a fault
 pub line_of_fault : {E : Type 0} (fault : Fault) (old new : Option (List ℕ)) (r : Result (Unit {0}) E) → fault ≡ CannotWriteOutput
-    → OnOk r (Appends old new refused_output_line) → OnOk r (IfSome (with_newline (fault_text fault)) (Appends old new))
+    → OnOk r (Appends old new failed_output_line) → OnOk r (IfSome (with_newline (fault_text fault)) (Appends old new))
 line_of_fault fault old new r is came =
     subst (λ (f : Fault). OnOk r (IfSome (with_newline (fault_text f)) (Appends old new))) (sym is) came
 

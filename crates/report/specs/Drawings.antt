@@ -11,7 +11,8 @@ use Rattle.codespan_base.specs.FileModel.{FileModel}
 use Rattle.codespan_base.specs.SimpleModel.{simple_file}
 use Rattle.codespan_base.specs.Streams.{bytes, text_of}
 use Rattle.codespan_reporting.specs.Rows.{Heading}
-use Rattle.codespan_reporting.specs.Picture.{rendered, starts, stated_locus}
+use Rattle.codespan_reporting.specs.Picture.{rendered, starts}
+use Rattle.codespan_reporting.specs.StatedPicture.{stated_locus}
 use Rattle.codespan_reporting.specs.Snippets.{InFile, labelled_files}
 use Rattle.report.specs.declared.fault.Fault as faults
 use Rattle.report.specs.declared.fault.Fault.TheVariants as fault
@@ -139,8 +140,8 @@ drawing_of (OneLabel request) input =
     Ok (picture_text request.style request.name input (said_of_request request))
 drawing_of (OfScript style name) input = drawing_of_script style name input (read_script input)
 
--- why nothing is drawn: a drawing was refused, or the script has the fault of this picture
-abbrev pub IsDrawRefusal : Result (List ℕ) (List ℕ) → faults.Fault → Type 0
-IsDrawRefusal drawing (fault.Drawing error) = Unit {0}
-IsDrawRefusal drawing (fault.BadScript picture) = drawing ≡ Err (string_bytes picture)
-IsDrawRefusal drawing _ = ⊥
+-- why nothing is drawn: a drawing failed, or the script has the fault of this picture
+abbrev pub IsDrawFailure : Result (List ℕ) (List ℕ) → faults.Fault → Type 0
+IsDrawFailure drawing (fault.Drawing error) = Unit {0}
+IsDrawFailure drawing (fault.BadScript picture) = drawing ≡ Err (string_bytes picture)
+IsDrawFailure drawing _ = ⊥

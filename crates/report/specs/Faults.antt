@@ -49,16 +49,16 @@ abbrev pub IfBadScript : Fault → (String Global → Type 0) → Type 0
 IfBadScript (BadScript picture) P = P picture
 IfBadScript _ P = Unit {0}
 
--- the line that tells that the output was refused, with its end
-abbrev pub refused_output_line : List ℕ
-refused_output_line = codes "report: cannot write output\n"
+-- the line that tells that the output failed, with its end
+abbrev pub failed_output_line : List ℕ
+failed_output_line = codes "report: cannot write output\n"
 
 -- known bytes grow by a prefix of bs: by some of its first bytes, by none or by all
 abbrev pub AppendsPrefix : Option (List ℕ) → Option (List ℕ) → List ℕ → Type 0
 AppendsPrefix old new bs = (front : List ℕ) × StartsWith bs front × Appends old new front
 
 -- the output stays, or a whole picture was drawn for it: the status is 0, or it is 1 and what
--- `faults` has received is a prefix of the line of a refused output
+-- `faults` has received is a prefix of the line of a failed output
 abbrev pub StaysUnlessDrawn : Type 0 → ℕ → Option (List ℕ) → Option (List ℕ) → Type 0
 StaysUnlessDrawn stays status old new =
-    stays ⊎ ((status ≡ 0) ⊎ ((status ≡ 1) × AppendsPrefix old new refused_output_line))
+    stays ⊎ ((status ≡ 0) ⊎ ((status ≡ 1) × AppendsPrefix old new failed_output_line))

@@ -11,7 +11,7 @@ use Rattle.report.specs.declared.script.ScriptError.TheVariants as errors
 use Rattle.report.specs.declared.script.words.Word.{Word}
 use Rattle.report.specs.declared.script.words.Word.TheVariants.{Severity, Code, Message, Primary, Secondary, Note}
 use Rattle.report.specs.Requests.{number_of}
-use Rattle.report.specs.ScriptLines.{ScriptLine, is_silent, word_of, rest_of, field_of, past_blank, range_at, word_range}
+use Rattle.report.specs.ScriptLines.{ScriptLine, is_ignored, word_of, rest_of, field_of, past_blank, range_at, word_range}
 use Rattle.report.specs.ScriptWords.{word_named, severity_named}
 
 -- a fault that has no earlier place
@@ -72,7 +72,7 @@ word_fault before line (Some Note) = None
 -- the first fault of a line, by the lines before it; a silent one has none
 abbrev pub line_fault : List ScriptLine → ScriptLine → Option Fault
 line_fault before line =
-    if is_silent line then None else word_fault before line (word_named (word_of line))
+    if is_ignored line then None else word_fault before line (word_named (word_of line))
 
 -- the first fault of lines that stand after these
 abbrev pub fault_from : List ScriptLine → List ScriptLine → Option Fault

@@ -59,13 +59,13 @@ lines_left size None = []
 lines_left size (Some text) = lines_from (size - length text) (slice_split is_newline text)
 
 -- a text that is empty or begins with `#`
-abbrev pub is_silent_text : List ℕ → Bool
-is_silent_text [] = true
-is_silent_text (b ∷ bs) = b == 35
+abbrev pub is_ignored_text : List ℕ → Bool
+is_ignored_text [] = true
+is_ignored_text (b ∷ bs) = b == 35
 
 -- the line says nothing
-abbrev pub is_silent : ScriptLine → Bool
-is_silent line = is_silent_text line.text
+abbrev pub is_ignored : ScriptLine → Bool
+is_ignored line = is_ignored_text line.text
 
 -- the first field of a text: what stands before its first blank, or all of it
 abbrev pub field_of : List ℕ → List ℕ

@@ -2,7 +2,7 @@
 
 ghost use Rattle.std.specs.Prelude.{◌≡◌, IfOk, IfErr, Ok, string_bytes};
 ghost use Rattle.codespan_base.specs.Diagnostics.{diagnostic_view};
-ghost use Rattle.report.specs.Drawings.{drawing_of, drawing_of_script, picture_text, IsDrawRefusal};
+ghost use Rattle.report.specs.Drawings.{drawing_of, drawing_of_script, picture_text, IsDrawFailure};
 ghost use Rattle.report.specs.Requests.{asked_view};
 ghost use Rattle.report.specs.Scripts.{read_script};
 
@@ -17,11 +17,11 @@ use std::alloc::Global;
 
 /// The text of the picture that is asked for.
 ///
-/// Refuses with the picture of the first fault where a script is asked for and the input is none, and where a drawing was refused.
+/// Fails with the picture of the first fault where a script is asked for and the input is none, and where a drawing failed.
 pub fn draw(alloc: Global, asked: &Asked<'_>, input: &str) -> Result<String, Fault>
     ensures text { IfOk result (λ text. drawing_of (asked_view asked.now) input.now
         ≡ Ok (string_bytes text)) }
-    ensures refused { IfErr result (IsDrawRefusal (drawing_of (asked_view asked.now) input.now)) }
+    ensures failed { IfErr result (IsDrawFailure (drawing_of (asked_view asked.now) input.now)) }
 {
     match asked {
         Asked::OneLabel(request) => draw_request(alloc, request, input),
@@ -33,7 +33,7 @@ pub fn draw(alloc: Global, asked: &Asked<'_>, input: &str) -> Result<String, Fau
 fn draw_request(alloc: Global, request: &Request<'_>, input: &str) -> Result<String, Fault>
     ensures text { IfOk result (λ text.
         drawing_of (asked_view (Asked.OneLabel request.now)) input.now ≡ Ok (string_bytes text)) }
-    ensures refused { IfErr result (IsDrawRefusal
+    ensures failed { IfErr result (IsDrawFailure
         (drawing_of (asked_view (Asked.OneLabel request.now)) input.now)) }
 {
     let diagnostic = of_request(alloc, request)?;
@@ -45,7 +45,7 @@ fn draw_script(alloc: Global, style: DisplayStyle, name: &str, input: &str) -> R
     ensures text { IfOk result (λ text.
         drawing_of_script style name.now input.now (read_script input.now)
         ≡ Ok (string_bytes text)) }
-    ensures refused { IfErr result (IsDrawRefusal
+    ensures failed { IfErr result (IsDrawFailure
         (drawing_of_script style name.now input.now (read_script input.now))) }
 {
     match parse_script(alloc, input) {

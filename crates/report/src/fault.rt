@@ -15,37 +15,37 @@ use std::{fmt, io};
 pub enum Fault {
     /// The number or the form of the arguments is wrong.
     WrongArguments,
-    /// A read was refused, or the memory that the input needs.
+    /// A read failed, or the memory that the input needs.
     CannotReadInput,
     /// The input is not UTF-8.
     NotUtf8,
-    /// The drawing was refused.
+    /// The drawing failed.
     Drawing(Error),
     /// The input is no script: the picture of its first fault.
     BadScript(String),
-    /// A write or the flush of the output was refused.
+    /// A write or the flush of the output failed.
     CannotWriteOutput,
 }
 
 impl Fault {
-    ghost use Rattle.report.specs.Faults.{AppendsPrefix, fault_text, refused_output_line};
+    ghost use Rattle.report.specs.Faults.{AppendsPrefix, fault_text, failed_output_line};
 
-    /// Writes the fault's line, and where it is refused a prefix of it, which is promised of the line of a refused output.
+    /// Writes the fault's line, and where it fails a prefix of it, which is promised of the line of a failed output.
     pub fn write_line<W: Write>(&self, faults: &mut W) -> io::Result<()>
         ensures written { OnOk result (IfSome (with_newline (fault_text self.now))
             (Appends (W.contents faults.old) (W.contents faults.new))) }
         ensures begun { self.now ≡ CannotWriteOutput
-            → AppendsPrefix (W.contents faults.old) (W.contents faults.new) refused_output_line }
+            → AppendsPrefix (W.contents faults.old) (W.contents faults.new) failed_output_line }
     {
         match self {
-            // The contract of `writeln!` leaves open what a refused one has written.
+            // The contract of `writeln!` leaves open what a failed one has written.
             Fault::CannotWriteOutput => write_whole(faults, b"report: cannot write output\n"),
             _ => writeln!(faults, "{self}"),
         }
     }
 }
 
-/// A drawing that was refused.
+/// A drawing that failed.
 impl From<Error> for Fault {
     ghost from_gives = { λ error fault. fault ≡ Drawing error };
 

@@ -7,9 +7,9 @@
 //! | status | what was done | standard error |
 //! |---|---|---|
 //! | 0 | the picture was written to standard output | nothing |
-//! | 1 | the input could not be read or was not UTF-8; the drawing, the output or memory for the arguments was refused | one line: which of them |
+//! | 1 | the input could not be read or was not UTF-8; the drawing, the output or memory for the arguments failed | one line: which of them |
 //! | 2 | nothing: the arguments are wrong | one line: how it is called |
-//! | 3 | nothing: the script has a fault | the picture of the fault, whole; where that is refused the status is 1 |
+//! | 3 | nothing: the script has a fault | the picture of the fault, whole; where that fails the status is 1 |
 //!
 //! Nothing is written to standard output unless the whole picture was drawn. Arguments that are not UTF-8 are wrong.
 #![tactic(auto)]

@@ -4,7 +4,7 @@ ghost use Rattle.std.specs.Prelude.{◌≡◌, ◌≢◌, ◌≤◌, ◌↔◌, 
 ghost use Rattle.std.specs.Io.KnownBytes.{Appends, IsAtEnd};
 ghost use Rattle.std.specs.Str.{IsUtf8};
 ghost use Rattle.report.specs.Drawings.{drawing_of};
-ghost use Rattle.report.specs.Faults.{AppendsPrefix, FaultTells, IfBadScript, IsStatusOf, StaysUnlessDrawn, refused_output_line};
+ghost use Rattle.report.specs.Faults.{AppendsPrefix, FaultTells, IfBadScript, IsStatusOf, StaysUnlessDrawn, failed_output_line};
 ghost use Rattle.report.specs.Requests.{WhereKnown, asked_of};
 
 use crate::drawing::draw;
@@ -16,11 +16,11 @@ use std::io::{Read, Write};
 
 /// Draws what the arguments ask for over the input, and answers the program's status.
 ///
-/// Where nothing is drawn, or the output is refused, it tells why to `faults`: the fault of a script as its picture, and any other in one
-/// line. The status 3 is answered where a script's fault was told whole; any other refusal of `faults` is ignored.
+/// Where nothing is drawn, or the output fails, it tells why to `faults`: the fault of a script as its picture, and any other in one
+/// line. The status 3 is answered where a script's fault was told whole; any other error of `faults` is ignored.
 ///
 /// The output is changed only where the whole picture was drawn: where the status is 0, or it is 1 and `faults` has received nothing but
-/// the line of a refused output or a prefix of it.
+/// the line of a failed output or a prefix of it.
 pub fn run<R: Read, W: Write, E: Write>(
     alloc: Global,
     args: &[String],
@@ -60,7 +60,7 @@ pub fn run<R: Read, W: Write, E: Write>(
 
 /// Tells the fault, if there is one, and answers the program's status: that of a script as its picture, and any other in one line.
 ///
-/// A refusal of `faults` is ignored, but that a script's fault whose picture was refused has the status 1.
+/// An error of `faults` is ignored, but that a script's fault whose picture failed has the status 1.
 pub fn conclude<E: Write>(outcome: Result<(), Fault>, faults: &mut E) -> u8
     ensures status { IsStatusOf outcome result }
     ensures silent { OnOk outcome (faults.new ≡ faults.old) }
@@ -69,7 +69,7 @@ pub fn conclude<E: Write>(outcome: Result<(), Fault>, faults: &mut E) -> u8
         (λ picture. Appends (E.contents faults.old) (E.contents faults.new)
         (string_bytes picture))) }
     ensures begun { IsErrOf outcome Fault.CannotWriteOutput
-        → AppendsPrefix (E.contents faults.old) (E.contents faults.new) refused_output_line }
+        → AppendsPrefix (E.contents faults.old) (E.contents faults.new) failed_output_line }
 {
     match outcome {
         Ok(()) => 0,

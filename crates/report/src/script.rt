@@ -117,11 +117,11 @@ pub struct Fault {
 pub enum ScriptError {
     /// The text is no script.
     Fault(Fault),
-    /// Memory was refused.
+    /// Memory failed.
     OutOfMemory,
 }
 
-/// Memory was refused.
+/// Memory failed.
 impl From<AllocError> for ScriptError {
     ghost from_gives = { λ _ error. error ≡ OutOfMemory };
 
@@ -130,9 +130,9 @@ impl From<AllocError> for ScriptError {
     }
 }
 
-/// What a text says as a script. Where it is none, it is refused with its first fault, by lines, and within a line from left to right.
+/// What a text says as a script. Where it is none, it fails with its first fault, by lines, and within a line from left to right.
 ///
-/// Refuses with `OutOfMemory` where memory was refused.
+/// Fails with `OutOfMemory` where memory failed.
 pub fn parse_script(alloc: Global, input: &str) -> Result<Script<'_>, ScriptError>
     ensures { MatchResult result (λ script. read_script input.now ≡ Ok (script_view script))
         (λ error. IsFaultOf (read_script input.now) error) }

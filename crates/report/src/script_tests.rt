@@ -396,14 +396,14 @@ fn scripts_without_end(rt: HostRuntime) -> Result<(), Fail> {
     Ok(())
 }
 
-/// Where the picture of a script's fault is refused the status is 1, and nothing more is written.
+/// Where the picture of a script's fault fails the status is 1, and nothing more is written.
 #[test]
-fn script_fault_refused(rt: HostRuntime) -> Result<(), Fail> {
+fn script_fault_failed(rt: HostRuntime) -> Result<(), Fail> {
     let args = arguments(rt.alloc(), &["short", "f.txt"])?;
     for write in 0..11 {
         let mut output = Output::new(rt.alloc());
         let mut faults = Output::new(rt.alloc());
-        faults.refused_write = Some(write);
+        faults.failed_write = Some(write);
         let status = run(
             rt.alloc(),
             &args,

@@ -18,7 +18,7 @@ pub fn read_source<R: Read>(alloc: Global, input: &mut R) -> Result<String, Faul
     ensures end { OnOk result (IsAtEnd (R.remaining input.new)) }
     ensures odd { IsErrOf result Fault.NotUtf8
         → IfSome (R.remaining input.old) (λ bytes. ¬ (IsUtf8 bytes)) }
-    ensures refused { IfErr result (λ fault. (fault ≡ Fault.CannotReadInput)
+    ensures failed { IfErr result (λ fault. (fault ≡ Fault.CannotReadInput)
         ⊎ (fault ≡ Fault.NotUtf8)) }
 {
     let mut bytes = Vec::new(alloc);
@@ -36,7 +36,7 @@ pub fn write_text<W: Write>(output: &mut W, text: &str) -> Result<(), Fault>
     ensures written { OnOk result (Appends (W.contents output.old)
         (W.contents output.new) text.now) }
     ensures begun { AppendsPrefix (W.contents output.old) (W.contents output.new) text.now }
-    ensures refused { IfErr result (λ fault. fault ≡ Fault.CannotWriteOutput) }
+    ensures failed { IfErr result (λ fault. fault ≡ Fault.CannotWriteOutput) }
 {
     match write_and_flush(output, text) {
         Ok(()) => Ok(()),
@@ -44,7 +44,7 @@ pub fn write_text<W: Write>(output: &mut W, text: &str) -> Result<(), Fault>
     }
 }
 
-/// The same, with the cause of a refusal.
+/// The same, with the cause of an error.
 fn write_and_flush<W: Write>(output: &mut W, text: &str) -> io::Result<()>
     ensures written { OnOk result (Appends (W.contents output.old)
         (W.contents output.new) text.now) }
@@ -54,9 +54,9 @@ fn write_and_flush<W: Write>(output: &mut W, text: &str) -> io::Result<()>
     output.flush()
 }
 
-/// Writes all the bytes, and where it is refused a prefix of them. An interrupted write is tried again.
+/// Writes all the bytes, and where it fails a prefix of them. An interrupted write is tried again.
 ///
-/// That is what `write_all` does, but its contract leaves open what a refused one has written.
+/// That is what `write_all` does, but its contract leaves open what a failed one has written.
 pub fn write_whole<W: Write>(writer: &mut W, bytes: &[u8]) -> io::Result<()>
     ensures written { OnOk result (Appends (W.contents writer.old)
         (W.contents writer.new) bytes.now) }

@@ -1,4 +1,4 @@
-//! Runs over readers and writers in memory, and over some that refuse.
+//! Runs over readers and writers in memory, and over some that fail.
 
 use crate::run::run;
 use std::alloc::{AllocError, Global};
@@ -18,21 +18,21 @@ const TWO_LINES: &str = "error: bad\n  ┌─ f.txt:1:1\n  │  \n1 │ ╭ abc\
 /// The line of wrong arguments.
 const USAGE: &str = "usage: report STYLE NAME START END MESSAGE\n";
 
-/// An input that counts its reads, and refuses one of them.
+/// An input that counts its reads, and fails one of them.
 #[derive(Drop)]
 pub struct Input<'a> {
     left: &'a [u8],
     reads: usize,
-    refused_read: Option<usize>,
+    failed_read: Option<usize>,
 }
 
 impl<'a> Input<'a> {
-    /// An input that refuses no read.
+    /// An input that fails no read.
     pub fn new(text: &'a [u8]) -> Self {
         Input {
             left: text,
             reads: 0,
-            refused_read: None,
+            failed_read: None,
         }
     }
 }
@@ -41,30 +41,30 @@ impl Read for Input<'_> {
     fn read(&mut self, buf: &mut [u8]) -> io::Result<usize> {
         let read = self.reads;
         self.reads = read.saturating_add(1);
-        if self.refused_read == Some(read) {
+        if self.failed_read == Some(read) {
             return Err(io::Error::from(ErrorKind::PermissionDenied));
         }
         self.left.read(buf)
     }
 }
 
-/// An output that takes four bytes at a write, and refuses one write, or each flush.
+/// An output that takes four bytes at a write, and fails one write, or each flush.
 #[derive(Drop)]
 pub struct Output {
     pub taken: Vec<u8>,
     writes: usize,
-    pub refused_write: Option<usize>,
-    refuses_flush: bool,
+    pub failed_write: Option<usize>,
+    fails_flush: bool,
 }
 
 impl Output {
-    /// An output that refuses nothing.
+    /// An output that fails nothing.
     pub fn new(alloc: Global) -> Self {
         Output {
             taken: Vec::new(alloc),
             writes: 0,
-            refused_write: None,
-            refuses_flush: false,
+            failed_write: None,
+            fails_flush: false,
         }
     }
 
@@ -81,14 +81,14 @@ impl Write for Output {
     fn write(&mut self, buf: &[u8]) -> io::Result<usize> {
         let write = self.writes;
         self.writes = write.saturating_add(1);
-        if self.refused_write == Some(write) {
+        if self.failed_write == Some(write) {
             return Err(io::Error::from(ErrorKind::BrokenPipe));
         }
         self.taken.write(&buf[..buf.len().min(4)])
     }
 
     fn flush(&mut self) -> io::Result<()> {
-        if self.refuses_flush {
+        if self.fails_flush {
             return Err(io::Error::from(ErrorKind::BrokenPipe));
         }
         Ok(())
@@ -111,7 +111,7 @@ pub struct Outcome {
     pub faults: Output,
 }
 
-/// A run over an input and an output that refuse nothing.
+/// A run over an input and an output that fail nothing.
 pub fn ran(alloc: Global, words: &[&str], text: &[u8]) -> Result<Outcome, AllocError> {
     let args = arguments(alloc, words)?;
     let mut output = Output::new(alloc);
@@ -230,11 +230,11 @@ fn input_not_utf8(rt: HostRuntime) -> Result<(), Fail> {
 }
 
 #[test]
-fn refused_input(rt: HostRuntime) -> Result<(), Fail> {
+fn failed_input(rt: HostRuntime) -> Result<(), Fail> {
     let args = arguments(rt.alloc(), &REQUEST)?;
     for read in 0..2 {
         let mut input = Input::new(b"abc\n");
-        input.refused_read = Some(read);
+        input.failed_read = Some(read);
         let mut output = Output::new(rt.alloc());
         let mut faults = Output::new(rt.alloc());
         let status = run(rt.alloc(), &args, &mut input, &mut output, &mut faults);
@@ -249,12 +249,12 @@ fn refused_input(rt: HostRuntime) -> Result<(), Fail> {
 }
 
 #[test]
-fn refused_output(rt: HostRuntime) -> Result<(), Fail> {
+fn failed_output(rt: HostRuntime) -> Result<(), Fail> {
     let args = arguments(rt.alloc(), &REQUEST)?;
     let line = "report: cannot write output\n";
     for write in 0..PICTURE.len().div_ceil(4) {
         let mut output = Output::new(rt.alloc());
-        output.refused_write = Some(write);
+        output.failed_write = Some(write);
         let mut faults = Output::new(rt.alloc());
         let status = run(
             rt.alloc(),
@@ -271,7 +271,7 @@ fn refused_output(rt: HostRuntime) -> Result<(), Fail> {
         );
     }
     let mut output = Output::new(rt.alloc());
-    output.refuses_flush = true;
+    output.fails_flush = true;
     let mut faults = Output::new(rt.alloc());
     let status = run(
         rt.alloc(),
@@ -285,19 +285,19 @@ fn refused_output(rt: HostRuntime) -> Result<(), Fail> {
 }
 
 #[test]
-fn refused_faults(rt: HostRuntime) -> Result<(), Fail> {
+fn failed_faults(rt: HostRuntime) -> Result<(), Fail> {
     let runs: [(&[&str], &[u8], Option<usize>, u8); 3] = [
         (&[], b"abc\n", None, 2),
         (&REQUEST, b"\xff", None, 1),
         (&REQUEST, b"abc\n", Some(0), 1),
     ];
-    for (words, text, refused_read, wanted) in runs {
+    for (words, text, failed_read, wanted) in runs {
         let args = arguments(rt.alloc(), words)?;
         let mut input = Input::new(text);
-        input.refused_read = refused_read;
+        input.failed_read = failed_read;
         let mut output = Output::new(rt.alloc());
         let mut faults = Output::new(rt.alloc());
-        faults.refused_write = Some(1);
+        faults.failed_write = Some(1);
         let status = run(rt.alloc(), &args, &mut input, &mut output, &mut faults);
         assert_eq!(rt; (output.text(), status), ("", wanted), "{words:?}");
         assert_eq!(rt; faults.taken.len(), 4, "{words:?}");

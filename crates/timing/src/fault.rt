@@ -9,9 +9,9 @@ use std::io;
 pub enum Fault {
     /// The input is not as it has to be.
     Input,
-    /// The input or the output was refused.
+    /// The input or the output failed.
     Io(io::Error),
-    /// Memory was refused, or the picture was.
+    /// Memory failed, or the picture was.
     Drawing(Error),
 }
 

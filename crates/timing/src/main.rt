@@ -2,7 +2,7 @@
 //!
 //! On standard error it tells in nanoseconds how long the drawing took, in one line. It is made to be measured beside a program over the
 //! Rust crate that reads the same: tools/bench does that. [`fields`] says what the input is. Where the input is something else, or anything
-//! is refused, the status is 1.
+//! fails, the status is 1.
 #![tactic(auto)]
 
 mod fault;

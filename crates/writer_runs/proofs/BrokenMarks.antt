@@ -1,10 +1,10 @@
 -- A mark that broke off after the first bytes of its spelling.
 use Rattle.std.proofs.Common.{◌≡◌, ℕ, List, ◌++◌, Option, take, drop, sym, ap, ◌∙◌, append_assoc}
 use Rattle.std.proofs.lemmas.List.{take-append-drop}
-use Rattle.codespan_base.specs.WriterLaw.{gained, GainedPartly}
+use Rattle.codespan_base.specs.WriterLaw.{extended, PrefixAppended}
 
 -- the first bytes came
-pub first_came : (o : Option (List ℕ)) (n : ℕ) (bs first : List ℕ) (m : Option (List ℕ)) → first ≡ take n bs → m ≡ gained o first → GainedPartly o bs m
+pub first_came : (o : Option (List ℕ)) (n : ℕ) (bs first : List ℕ) (m : Option (List ℕ)) → first ≡ take n bs → m ≡ extended o first → PrefixAppended o bs m
 first_came o n bs first m e h = record {
   begun = first;
   rest = drop n bs;
@@ -13,7 +13,7 @@ first_came o n bs first m e h = record {
 }
 
 -- the first bytes began
-pub first_began : (o : Option (List ℕ)) (n : ℕ) (bs first : List ℕ) (m : Option (List ℕ)) → first ≡ take n bs → GainedPartly o first m → GainedPartly o bs m
+pub first_began : (o : Option (List ℕ)) (n : ℕ) (bs first : List ℕ) (m : Option (List ℕ)) → first ≡ take n bs → PrefixAppended o first m → PrefixAppended o bs m
 first_began o n bs first m e p = record {
   begun = p.begun;
   rest = p.rest ++ drop n bs;

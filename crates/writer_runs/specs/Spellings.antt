@@ -15,5 +15,5 @@ sequence Reset = 0x1b ∷ codes "[0m"
 
 -- what the law sees of the writer
 abbrev pub spelling_sink : Bool → Option (List ℕ) → Sink
-spelling_sink refused held =
-    record { frame = record { spelling = sequence; refused = refused; through = [] }; held = held }
+spelling_sink failed held =
+    record { frame = record { spelling = sequence; failed = failed; through = [] }; held = held }

@@ -69,7 +69,7 @@ pub struct Direct<'text> {
 }
 
 impl<'text> Direct<'text> {
-    /// The call, with the first place of `f.txt`. Refuses with `OutOfMemory`.
+    /// The call, with the first place of `f.txt`. Fails with `OutOfMemory`.
     pub fn new(alloc: Global, call: RowCall<'text>) -> Result<Self, Error> {
         Ok(Direct {
             call,
@@ -84,7 +84,7 @@ impl<'text> Direct<'text> {
     }
 }
 
-/// Draws a line. Refuses lanes that are not in order.
+/// Draws a line. Fails lanes that are not in order.
 fn draw_line<W: WriteStyle>(
     renderer: &mut Renderer<'_, '_, W>,
     line: Line<'_>,
@@ -103,7 +103,7 @@ fn draw_line<W: WriteStyle>(
     )
 }
 
-/// Draws a break. Refuses lanes that are not in order.
+/// Draws a break. Fails lanes that are not in order.
 fn draw_break<W: WriteStyle>(
     renderer: &mut Renderer<'_, '_, W>,
     padding: usize,

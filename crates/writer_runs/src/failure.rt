@@ -15,15 +15,15 @@ pub enum Ending {
     Slow,
     /// So, at a write.
     AtWrite(Stop),
-    /// It refuses a mark after the first byte of its spelling.
+    /// It fails a mark after the first byte of its spelling.
     AtMark,
 }
 
 /// What is wrong.
 #[derive(Drop)]
 pub enum Failure {
-    /// A call was refused, or memory, where no writer stops.
-    Refused(Error),
+    /// A call failed, or memory, where no writer stops.
+    Failed(Error),
     /// The text is not the one that the row says.
     OtherRow,
     /// A string that the text was appended to is not what it was and then the text.
@@ -50,7 +50,7 @@ pub struct Place {
 
 impl From<Error> for Failure {
     fn from(error: Error) -> Failure {
-        Failure::Refused(error)
+        Failure::Failed(error)
     }
 }
 
@@ -59,7 +59,7 @@ impl fmt::Display for Ending {
     fn fmt<W: Write>(&self, f: &mut fmt::Formatter<W>) -> fmt::Result {
         match self {
             Ending::Slow => write!(f, "takes one byte at a time"),
-            Ending::AtWrite(Stop::Refuses) => write!(f, "refuses a write"),
+            Ending::AtWrite(Stop::Fails) => write!(f, "refuses a write"),
             Ending::AtWrite(Stop::TakesNothing) => write!(f, "takes nothing of a write"),
             Ending::AtWrite(Stop::IsInterrupted) => write!(f, "is interrupted"),
             Ending::AtWrite(Stop::TakesOneByte) => write!(f, "takes one byte and then refuses"),
@@ -72,7 +72,7 @@ impl fmt::Display for Ending {
 impl fmt::Display for Failure {
     fn fmt<W: Write>(&self, f: &mut fmt::Formatter<W>) -> fmt::Result {
         match self {
-            Failure::Refused(error) => write!(f, "refused: {error}"),
+            Failure::Failed(error) => write!(f, "refused: {error}"),
             Failure::OtherRow => write!(f, "another text than the row says"),
             Failure::OtherString => write!(f, "another string"),
             Failure::OtherText(path) => write!(f, "by {path}: another text"),

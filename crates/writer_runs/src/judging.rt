@@ -49,11 +49,11 @@ fn judge_from_zero(alloc: Global, row: &Row<'_>) -> Result<usize, Place> {
     judge_styles(alloc, row, Given::FromZero(&file, &diagnostic))
 }
 
-/// What a row is made of, or that it was refused.
+/// What a row is made of, or that it failed.
 fn prepared<T: Drop>(made: Result<T, Error>) -> Result<T, Place> {
     match made {
         Ok(made) => Ok(made),
-        Err(error) => at(None, None, Err(Failure::Refused(error))),
+        Err(error) => at(None, None, Err(Failure::Failed(error))),
     }
 }
 

@@ -12,7 +12,7 @@
 //! | status | what came |
 //! |---|---|
 //! | 0 | nothing wrong |
-//! | 1 | something wrong, or the output was refused |
+//! | 1 | something wrong, or the output failed |
 #![tactic(auto)]
 
 mod direct;

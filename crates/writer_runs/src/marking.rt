@@ -7,27 +7,26 @@ ghost use Rattle.writer_runs.specs.Spellings.{spelling_sink};
 
 use codespan_reporting::diagnostic::{LabelStyle, Severity};
 use codespan_reporting::term::WriteStyle;
-use codespan_reporting::term::config::pouring::pour;
-use codespan_reporting::term::config::putting::{put_through, send_through};
+use codespan_reporting::term::config::writing::{forward_all, forward_put, write_all};
 use std::io;
 use std::io::{ErrorKind, Write};
 
-/// The count of calls after a refusal, at one more call.
-fn counted(calls_after: usize, refused: bool) -> usize {
-    if refused {
+/// The count of calls after an error, at one more call.
+fn counted(calls_after: usize, failed: bool) -> usize {
+    if failed {
         calls_after.saturating_add(1)
     } else {
         calls_after
     }
 }
 
-/// A writer that spells each mark as an escape sequence, and refuses the mark after so many others, once the first byte of its spelling is sent.
+/// A writer that spells each mark as an escape sequence, and fails the mark after so many others, once the first byte of its spelling is sent.
 #[derive(Drop)]
 pub struct Marking<W> {
     inner: W,
-    refused: bool,
+    failed: bool,
     marks_left: usize,
-    /// How many marks and writes came after the refused one.
+    /// How many marks and writes came after the failed one.
     pub calls_after: usize,
 }
 
@@ -36,15 +35,15 @@ impl<W: Write> Marking<W> {
     pub fn new(writer: W, marks: usize) -> Marking<W> {
         Marking {
             inner: writer,
-            refused: false,
+            failed: false,
             marks_left: marks,
             calls_after: 0,
         }
     }
 
-    /// Whether a mark or a write was refused.
-    pub fn has_refused(&self) -> bool {
-        self.refused
+    /// Whether a mark or a write failed.
+    pub fn has_failed(&self) -> bool {
+        self.failed
     }
 
     /// The writer inside.
@@ -54,28 +53,28 @@ impl<W: Write> Marking<W> {
 
     /// Sends the spelling of a mark, or its first byte and then no more.
     fn send_mark(&mut self, text: &[u8]) -> io::Result<()>
-        ensures { Sends (spelling_sink self.old.refused (W.contents self.old.inner))
+        ensures { Sends (spelling_sink self.old.failed (W.contents self.old.inner))
             (bytes text.now) result
-            (spelling_sink self.new.refused (W.contents self.new.inner)) }
+            (spelling_sink self.new.failed (W.contents self.new.inner)) }
     {
-        self.calls_after = counted(self.calls_after, self.refused);
+        self.calls_after = counted(self.calls_after, self.failed);
         if self.marks_left == 0 {
             self.break_off(text)
         } else {
             self.marks_left -= 1;
-            send_through(&mut self.inner, &mut self.refused, text)
+            forward_all(&mut self.inner, &mut self.failed, text)
         }
     }
 
-    /// Sends the first byte and refuses.
+    /// Sends the first byte and fails.
     fn break_off(&mut self, text: &[u8]) -> io::Result<()>
-        ensures { Sends (spelling_sink self.old.refused (W.contents self.old.inner))
+        ensures { Sends (spelling_sink self.old.failed (W.contents self.old.inner))
             (bytes text.now) result
-            (spelling_sink self.new.refused (W.contents self.new.inner)) }
+            (spelling_sink self.new.failed (W.contents self.new.inner)) }
     {
-        self.refused = true;
+        self.failed = true;
         let (first, _rest) = text.split_at(text.len().min(1));
-        match pour(&mut self.inner, first) {
+        match write_all(&mut self.inner, first) {
             Ok(()) => Err(io::Error::from(ErrorKind::PermissionDenied)),
             Err(error) => Err(error),
         }
@@ -96,7 +95,7 @@ impl<W: Write> Write for Marking<W> {
 
 #[tactic(auto, using(codespan_base::proofs::Marks::marking))]
 impl<W: Write> WriteStyle for Marking<W> {
-    ghost sink = { λ t. spelling_sink t.refused (W.contents t.inner) };
+    ghost sink = { λ t. spelling_sink t.failed (W.contents t.inner) };
 
     fn set_header(&mut self, _severity: Severity) -> io::Result<()> {
         self.send_mark(b"\x1b[1m")
@@ -127,9 +126,9 @@ impl<W: Write> WriteStyle for Marking<W> {
     }
 
     fn put(&mut self, bytes: &[u8]) -> io::Result<usize> {
-        self.calls_after = counted(self.calls_after, self.refused);
-        put_through(&mut self.inner, &mut self.refused, bytes)
+        self.calls_after = counted(self.calls_after, self.failed);
+        forward_put(&mut self.inner, &mut self.failed, bytes)
     }
 
-    ghost tells = { λ _. refl };
+    ghost holds_contents = { λ _. refl };
 }

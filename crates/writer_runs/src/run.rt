@@ -16,7 +16,7 @@ use std::io;
 use std::io::Write;
 
 /// Makes the runs of each row, with a line for each, and answers the program's status. How many runs were made is told to `counts`, where a
-/// refusal changes nothing.
+/// error changes nothing.
 pub fn run<W: Write, E: Write>(alloc: Global, output: &mut W, counts: &mut E) -> u8
     ensures { result ≤ 1 }
 {

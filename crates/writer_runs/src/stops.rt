@@ -5,12 +5,12 @@ use crate::failure::{Ending, Failure};
 use crate::marking::Marking;
 use crate::path::Path;
 use crate::record::Record;
-use codespan_base_tests::writers::stopping::{Stop, Stopping, is_refused};
+use codespan_base_tests::writers::stopping::{Stop, Stopping, is_failed};
 use std::alloc::Global;
 
 /// How a writer stops at a write.
 pub const STOPS: [Stop; 4] = [
-    Stop::Refuses,
+    Stop::Fails,
     Stop::TakesNothing,
     Stop::IsInterrupted,
     Stop::TakesOneByte,
@@ -27,7 +27,7 @@ pub fn judge_stops<D: Draws>(
     record: &Record,
 ) -> Result<usize, Failure> {
     let whole = record.text.as_slice();
-    let slow = Stopping::new(alloc, 1, usize::MAX, Stop::Refuses);
+    let slow = Stopping::new(alloc, 1, usize::MAX, Stop::Fails);
     if !stops_at(path, drawn, slow, whole, whole.len()) {
         return Err(Failure::Stopped(path, Ending::Slow, 0));
     }
@@ -54,7 +54,7 @@ pub fn judge_stops<D: Draws>(
 fn held_length(stop: Stop, start: usize, whole: usize) -> usize {
     match stop {
         Stop::TakesOneByte => start.saturating_add(1).min(whole),
-        Stop::Refuses | Stop::TakesNothing | Stop::IsInterrupted => start,
+        Stop::Fails | Stop::TakesNothing | Stop::IsInterrupted => start,
     }
 }
 
@@ -69,12 +69,12 @@ fn stops_at<D: Draws>(
 ) -> bool {
     let is_whole = length == whole.len();
     let answer = path.draw(drawn, &mut inner);
-    is_refused(&answer) == Some(!is_whole)
+    is_failed(&answer) == Some(!is_whole)
         && inner.is_right(is_whole, whole)
         && inner.text.len() == length
 }
 
-/// Draws to the program's own writer of styles, which refuses each mark in turn after its first byte; answers how many runs these were.
+/// Draws to the program's own writer of styles, which fails each mark in turn after its first byte; answers how many runs these were.
 pub fn judge_marks<D: Draws>(alloc: Global, drawn: &D, whole: &[u8]) -> Result<usize, Failure> {
     let mut marks = 0usize;
     for (place, byte) in whole.iter().enumerate() {
@@ -92,7 +92,7 @@ pub fn judge_marks<D: Draws>(alloc: Global, drawn: &D, whole: &[u8]) -> Result<u
     Ok(marks.saturating_add(1))
 }
 
-/// Draws to a writer that refuses the mark after so many, and answers whether it holds this then: where that is not all, the answer is `Io`,
+/// Draws to a writer that fails the mark after so many, and answers whether it holds this then: where that is not all, the answer is `Io`,
 /// and no mark and no write followed.
 fn stops_at_mark<D: Draws>(
     alloc: Global,
@@ -103,8 +103,8 @@ fn stops_at_mark<D: Draws>(
 ) -> bool {
     let mut writer = Marking::new(Vec::new(alloc), marks);
     let answer = drawn.draw(&mut writer);
-    is_refused(&answer) == Some(is_stopped)
-        && writer.has_refused() == is_stopped
+    is_failed(&answer) == Some(is_stopped)
+        && writer.has_failed() == is_stopped
         && writer.calls_after == 0
         && writer.into_inner().as_slice() == held
 }

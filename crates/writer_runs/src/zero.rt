@@ -13,7 +13,7 @@ pub struct FromZero<'text> {
 }
 
 impl<'text> FromZero<'text> {
-    /// The file of this name and text. Refuses with `OutOfMemory`.
+    /// The file of this name and text. Fails with `OutOfMemory`.
     pub fn new(alloc: Global, name: &'text str, text: &'text str) -> Result<Self, Error> {
         Ok(FromZero {
             file: SimpleFile::new(alloc, name, text)?,
@@ -46,7 +46,7 @@ impl<'a, 'text: 'a> Files<'a> for FromZero<'text> {
                 let i = line_of (line_starts_of text) byte in
                 record { line_number = i; column_number = simple_column text i byte };
           };
-      refusal = λ _. elim [
+      failure = λ _. elim [
         | NameLookup ↦ None
         | SourceLookup ↦ None
         | LineIndex byte ↦ None
@@ -108,7 +108,7 @@ impl<'a, 'text: 'a> Files<'a> for FromZero<'text> {
 
     ghost same_is = { λ s. refl };
 
-    // A line past the last is refused as there.
+    // A line past the last fails as there.
     ghost past_end = { λ s _ i.
         simple_past_end (Some (name_of s.file).now) (source_of s.file).now i };
 }

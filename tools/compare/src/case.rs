@@ -102,6 +102,11 @@ impl Case {
                     _ => return None,
                 }
             }
+            // A word more than the gallery's, for the rows of `compare-rows`.
+            "character" => {
+                let (name, character) = rest.split_once(' ')?;
+                *character_of(&mut self.config.chars, name)? = character.parse().ok()?;
+            }
             "colours" => {
                 self.in_colours = match rest {
                     "none" => false,
@@ -133,6 +138,17 @@ impl Case {
     fn is_whole(&self) -> bool {
         let is_one = self.files.len() == 1 && self.labels.iter().all(|label| label.file == 0);
         self.table == Table::Several || is_one
+    }
+}
+
+/// The character of a name, where a row has another.
+fn character_of<'chars>(chars: &'chars mut Chars, name: &str) -> Option<&'chars mut char> {
+    match name {
+        "multi_top" => Some(&mut chars.multi_top),
+        "multi_bottom" => Some(&mut chars.multi_bottom),
+        "multi_primary_caret_end" => Some(&mut chars.multi_primary_caret_end),
+        "multi_secondary_caret_end" => Some(&mut chars.multi_secondary_caret_end),
+        _ => None,
     }
 }
 

@@ -1,20 +1,21 @@
-//! Columns and locations as most files count them, for tables of files that count so.
+//! Column numbers and locations as most files have them, for file databases that count so. The rules are those of the Rust crate's
+//! default bodies.
 
 ghost use Rattle.std.specs.Prelude.{◌≡◌, ◌+◌, IfOk};
-ghost use Rattle.codespan_files.specs.LawfulFiles.{Tells, column_of, location_of, column_refusal, location_refusal};
+ghost use Rattle.codespan_files.specs.LawfulFiles.{FailsBy, column_of, location_of, column_failure, location_failure};
 
 use crate::files::{Error, Files, Location};
 use std::convert::AsStr;
 
-/// The column number that most files have: [`column_index`] of the source, the line's range and the
-/// byte, plus 1.
+/// Returns the column number of a byte on a line as most files have it, in characters from 1: [`column_index`] of the source, the line's
+/// range and the byte, plus 1. Both indices count from 0.
 ///
-/// The database's own `column_number` can not call this, since that would go in a circle: there
-/// stands [`column_number_by_default!`](crate::column_number_by_default).
+/// A database's own `column_number` can not call this, since that would be a cycle; its body is
+/// [`column_number_by_default!`](codespan_base::column_number_by_default).
 ///
 /// # Errors
 ///
-/// The first error of the database's `source` and then its `line_range`.
+/// The first error of `source` and then `line_range`.
 pub fn default_column_number<'a, F: Files<'a>>(
     files: &'a F,
     id: F::FileId,
@@ -23,36 +24,34 @@ pub fn default_column_number<'a, F: Files<'a>>(
 ) -> Result<usize, Error>
     ensures value { IfOk result (λ n.
         n ≡ column_of ((F.database files.now).file id) line_index byte_index + 1) }
-    ensures refused { Tells (column_refusal ((F.database files.now).refusal id) line_index) result }
+    ensures failed { FailsBy (column_failure ((F.database files.now).failure id) line_index)
+        result }
 {
     crate::column_number_by_default!(files, id, line_index, byte_index)
 }
 
-/// The location that most files have: the number of the byte's line, and the byte's column number
-/// there.
+/// Returns the location of a byte as most files have it: the number of its line, and its column number there. The byte index counts from 0.
 ///
-/// The database's own `location` can not call this, since that would go in a circle: there stands
-/// [`location_by_default!`](crate::location_by_default).
+/// A database's own `location` can not call this, since that would be a cycle; its body is
+/// [`location_by_default!`](codespan_base::location_by_default).
 ///
 /// # Errors
 ///
-/// The first error of the database's `line_index`, then its `line_number` and then its
-/// `column_number`.
+/// The first error of `line_index`, then `line_number` and then `column_number`.
 pub fn default_location<'a, F: Files<'a>>(
     files: &'a F,
     id: F::FileId,
     byte_index: usize,
 ) -> Result<Location, Error>
     ensures value { IfOk result (λ p. p ≡ location_of ((F.database files.now).file id) byte_index) }
-    ensures refused { let database = F.database files.now in
-        Tells (location_refusal (database.file id) (database.refusal id) byte_index) result }
+    ensures failed { let database = F.database files.now in
+        FailsBy (location_failure (database.file id) (database.failure id) byte_index) result }
 {
     crate::location_by_default!(files, id, byte_index)
 }
 
-/// The body of a table's own `column_number`, from its `source` and `line_range`: what [`default_column_number`] gives.
-///
-/// [`default_column_number`]: crate::files::default_column_number
+/// Writes the body of a database's own `column_number`, from its `source` and `line_range`: it returns what
+/// [`default_column_number`](codespan_reporting::files::default_column_number) returns, and fails as it does.
 #[macro_export]
 macro_rules! column_number_by_default {
     ($files:expr, $id:expr, $line_index:expr, $byte_index:expr) => {{
@@ -62,10 +61,8 @@ macro_rules! column_number_by_default {
     }};
 }
 
-/// The body of a table's own `location`, from its `line_index`, `line_number` and `column_number`: what
-/// [`default_location`] gives.
-///
-/// [`default_location`]: crate::files::default_location
+/// Writes the body of a database's own `location`, from its `line_index`, `line_number` and `column_number`: it returns what
+/// [`default_location`](codespan_reporting::files::default_location) returns, and fails as it does.
 #[macro_export]
 macro_rules! location_by_default {
     ($files:expr, $id:expr, $byte_index:expr) => {{

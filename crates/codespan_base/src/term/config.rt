@@ -1,4 +1,4 @@
-//! The configuration of a picture, and the writers that it is sent to.
+//! The configuration of the output, and the writers that it is written to.
 
 ghost use Rattle.std.specs.Prelude.{◌≡◌, Ok, IsTrue, IfOk, OnErr, IsErrOf};
 ghost use Rattle.codespan_base.specs.SnippetStarts.{is_fixed};
@@ -8,44 +8,60 @@ ghost use Rattle.codespan_base.specs.Defaults.{default_config};
 pub mod ansi;
 pub mod chars;
 pub mod color;
-pub mod lent;
 pub mod no_color;
 pub mod plain;
-pub mod pouring;
-pub mod putting;
-pub mod sending;
+pub mod plain_ref;
 pub mod styles;
 pub mod styles_writer;
 pub mod write_style;
+pub mod writing;
 
 use chars::Chars;
 use codespan_files::files::Error;
 
-/// What a picture looks like. `'chars` is the lifetime of the text before a place, where that text is lent.
+/// The configuration of the output. `'chars` is the lifetime of the text before a locus, where that text is borrowed.
+///
+/// The fields and their defaults are the Rust crate's, but for `layout`. All numbers of lines are minima, as there: other labels may show
+/// more.
+///
+/// # Examples
+///
+/// ```rust
+/// for display_style in [DisplayStyle::Medium, DisplayStyle::Short] {
+///     let config = Config {
+///         display_style,
+///         ..Config::default()
+///     };
+///     emit_to_io_write(&mut stdout, &config, &files, &diagnostic)?;
+/// }
+/// ```
 #[derive(Debug, Drop)]
 pub struct Config<'chars> {
-    /// How much of a diagnostic is drawn. By default [`DisplayStyle::Rich`].
+    /// How much of a diagnostic is rendered. By default [`DisplayStyle::Rich`].
     pub display_style: DisplayStyle,
-    /// The cells between tab stops; a tab takes none where it is 0. By default 4.
+    /// The distance of tab stops, in cells of the terminal. Where it is 0, a tab takes no cell. By default 4.
     pub tab_width: usize,
-    /// The characters that a picture is drawn with. By default [`Chars::box_drawing`].
+    /// The characters of the output. By default [`Chars::box_drawing`].
     pub chars: Chars<'chars>,
-    /// How many lines are shown after the first line of a label over several lines, where it has so many.
-    /// By default 3.
+    /// How many lines are shown after the first line of a multi-line label, where it has so many. By default 3.
     pub start_context_lines: usize,
-    /// How many lines are shown before the last line of a label over several lines, where it has so many.
-    /// By default 1.
+    /// How many lines are shown before the last line of a multi-line label, where it has so many. By default 1.
     pub end_context_lines: usize,
     /// How many lines are shown before a label's first line, where the file has so many. By default 0.
     pub before_label_lines: usize,
     /// How many lines are shown after a label's last line, where the file has so many. By default 0.
     pub after_label_lines: usize,
-    /// How numbers and lanes are laid out. By default [`Layout::Classic`], which is that of the Rust crate.
+    /// The padding width and the lanes. By default [`Layout::Classic`], the Rust crate's.
     pub layout: Layout,
 }
 
 impl<'chars> Config<'chars> {
-    /// The same configuration. Refuses with `OutOfMemory` alone, and not where the text before a place is `Fixed`.
+    /// Returns an equal configuration.
+    ///
+    /// # Errors
+    ///
+    /// [`Error::OutOfMemory`] where an allocation fails; never where the text before a locus is
+    /// [`SnippetStart::Fixed`](chars::SnippetStart::Fixed).
     pub fn clone(&self) -> Result<Config<'chars>, Error>
         ensures same { IfOk result (IsConfig self.now) }
         ensures kind { IfOk result (λ c.
@@ -80,7 +96,7 @@ impl<'chars> Default for Config<'chars> {
     }
 }
 
-/// How much of a diagnostic is drawn.
+/// How much of a diagnostic is rendered. The styles are the Rust crate's.
 #[derive(Clone, Copy, Debug, PartialEq, Eq)]
 pub enum DisplayStyle {
     /// The header, the source with its labels, and the notes.
@@ -97,7 +113,7 @@ pub enum DisplayStyle {
     ///
     /// ```
     Rich,
-    /// A header for each primary label, and then the notes.
+    /// A header for each primary label, with its locus, and then the notes. Without primary labels there is one header without a locus.
     ///
     /// ```text
     /// test:2:9: error[E0001]: unexpected type in `+` application
@@ -105,7 +121,7 @@ pub enum DisplayStyle {
     ///       found type `String`
     /// ```
     Medium,
-    /// A header for each primary label.
+    /// The headers of medium style, without notes.
     ///
     /// ```text
     /// test:2:9: error[E0001]: unexpected type in `+` application
@@ -113,12 +129,12 @@ pub enum DisplayStyle {
     Short,
 }
 
-/// How the numbers of lines and the lanes of labels over several lines are laid out.
+/// How wide the padding is, and how the lanes of multi-line labels are rendered.
 #[derive(Clone, Copy, Debug, PartialEq, Eq)]
 pub enum Layout {
-    /// As the Rust crate does it: numbers have the room that the labels' own lines need, and below a corner that
-    /// stands in a source row its lane is left out in the other rows of that line.
+    /// The Rust crate's layout: the padding width fits the numbers of the lines from the start to the end of each label, and below a
+    /// corner that is in a source row its lane is left out in the other rows of that line.
     Classic,
-    /// Numbers have the room that all drawn lines need, and each lane is one line from corner to corner.
+    /// This project's own layout: the padding width fits the numbers of all drawn lines, and each lane is one line from corner to corner.
     Unbroken,
 }

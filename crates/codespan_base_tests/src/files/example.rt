@@ -1,4 +1,4 @@
-//! A table of files as users write their own: one text, whose lines are numbered by their indices, from 0.
+//! A custom file database: one text, whose lines are numbered by their indices, from 0.
 //!
 //! `docs/FILES.md` goes through it step by step.
 
@@ -20,11 +20,11 @@ pub struct Listing<'text> {
 impl<'text> Listing<'text> {
     ghost use Rattle.codespan_base.specs.FileTables.{name_of, source_of};
 
-    /// A listing of this name and text. Refuses with `OutOfMemory`.
+    /// Returns a listing of this name and text; fails with `OutOfMemory` where an allocation fails.
     pub fn new(alloc: Global, name: &'text str, text: &'text str) -> Result<Self, Error>
         ensures name { IfOk result (λ listing. (name_of listing.file).now ≡ name.now) }
         ensures text { IfOk result (λ listing. (source_of listing.file).now ≡ text.now) }
-        ensures refused { OnErr result (IsErrOf result Error.OutOfMemory) }
+        ensures failed { OnErr result (IsErrOf result Error.OutOfMemory) }
     {
         Ok(Listing {
             file: SimpleFile::new(alloc, name, text)?,
@@ -58,7 +58,7 @@ impl<'a, 'text: 'a> Files<'a> for Listing<'text> {
                 let i = line_of (line_starts_of text) byte in
                 record { line_number = i; column_number = simple_column text i byte };
           };
-      refusal = λ _. elim [
+      failure = λ _. elim [
         | NameLookup ↦ None
         | SourceLookup ↦ None
         | LineIndex byte ↦ None
@@ -94,7 +94,7 @@ impl<'a, 'text: 'a> Files<'a> for Listing<'text> {
         self.file.column_number((), line_index, byte_index)
     }
 
-    // The byte's line is a line, so its column is told.
+    // The byte's line exists, so the lookup of its column does not fail.
     #[tactic(auto, using(codespan_base::specs::Lemmas::Lines::line_of_below))]
     fn location(&'a self, id: (), byte_index: usize) -> Result<Location, Error> {
         codespan_base::location_by_default!(self, id, byte_index)
@@ -116,7 +116,7 @@ impl<'a, 'text: 'a> Files<'a> for Listing<'text> {
 
     ghost same_is = { λ s. refl };
 
-    // A line past the last is refused as there.
+    // A line past the last fails as in that file.
     ghost past_end = { λ s _ i.
         simple_past_end (Some (name_of s.file).now) (source_of s.file).now i };
 }

@@ -1,4 +1,4 @@
-//! Writers of one's own, which docs/WRITERS.md explains.
+//! Custom writers, which docs/WRITERS.md explains.
 
 ghost use Rattle.std.specs.Prelude.{◌≡◌, false, codes, refl};
 ghost use Rattle.codespan_base.specs.Streams.{bytes};
@@ -6,36 +6,35 @@ ghost use Rattle.codespan_base_tests.specs.Tags.{tag_sink, color_tag};
 ghost use Rattle.codespan_base.specs.WriterLaw.{Sends};
 
 use codespan_base::diagnostic::{LabelStyle, Severity};
-use codespan_base::term::config::pouring::pour;
-use codespan_base::term::config::putting::{put_through, send_through};
+use codespan_base::term::config::writing::{forward_all, forward_put, write_all};
 use codespan_base::term::{ColorSpec, WriteColor, WriteStyle};
 use std::io;
 use std::io::Write;
 
-/// A writer that spells each mark as a tag in brackets.
+/// A writer that spells each style mark as a tag in brackets.
 #[derive(Drop)]
 pub struct TagWriter<W> {
     inner: W,
-    refused: bool,
+    failed: bool,
 }
 
 impl<W: Write> TagWriter<W> {
     pub fn new(writer: W) -> TagWriter<W>
         ensures inner { result.inner ≡ writer }
-        ensures begins { result.refused ≡ false }
+        ensures begins { result.failed ≡ false }
     {
         TagWriter {
             inner: writer,
-            refused: false,
+            failed: false,
         }
     }
 
-    /// Sends a tag, or a beginning of it.
+    /// Writes a tag, or a prefix of it where it fails.
     fn send_tag(&mut self, tag: &[u8]) -> io::Result<()>
-        ensures { Sends (tag_sink self.old.refused (W.contents self.old.inner)) (bytes tag.now)
-            result (tag_sink self.new.refused (W.contents self.new.inner)) }
+        ensures { Sends (tag_sink self.old.failed (W.contents self.old.inner)) (bytes tag.now)
+            result (tag_sink self.new.failed (W.contents self.new.inner)) }
     {
-        send_through(&mut self.inner, &mut self.refused, tag)
+        forward_all(&mut self.inner, &mut self.failed, tag)
     }
 }
 
@@ -53,7 +52,7 @@ impl<W: Write> Write for TagWriter<W> {
 
 #[tactic(auto, using(codespan_base::proofs::Marks::marking))]
 impl<W: Write> WriteStyle for TagWriter<W> {
-    ghost sink = { λ t. tag_sink t.refused (W.contents t.inner) };
+    ghost sink = { λ t. tag_sink t.failed (W.contents t.inner) };
 
     fn set_header(&mut self, _severity: Severity) -> io::Result<()> {
         self.send_tag(b"[header]")
@@ -87,13 +86,13 @@ impl<W: Write> WriteStyle for TagWriter<W> {
     }
 
     fn put(&mut self, bytes: &[u8]) -> io::Result<usize> {
-        put_through(&mut self.inner, &mut self.refused, bytes)
+        forward_put(&mut self.inner, &mut self.failed, bytes)
     }
 
-    ghost tells = { λ _. refl };
+    ghost holds_contents = { λ _. refl };
 }
 
-/// A writer of colours that spells bold as a tag, and nothing else of a style.
+/// A writer of colors that spells bold as a tag, and nothing else of a style.
 #[derive(Drop)]
 pub struct TagColor<W> {
     inner: W,
@@ -119,7 +118,7 @@ impl<W: Write> Write for TagColor<W> {
     }
 }
 
-#[tactic(auto, using(codespan_base::proofs::Paints::paintings))]
+#[tactic(auto, using(codespan_base::proofs::AppendsBytes::paintings))]
 impl<W: Write> WriteColor for TagColor<W> {
     ghost color_bytes = { color_tag };
 
@@ -127,13 +126,13 @@ impl<W: Write> WriteColor for TagColor<W> {
 
     fn set_color(&mut self, spec: &ColorSpec) -> io::Result<()> {
         if spec.bold {
-            pour(&mut self.inner, b"[bold]")
+            write_all(&mut self.inner, b"[bold]")
         } else {
             Ok(())
         }
     }
 
     fn reset(&mut self) -> io::Result<()> {
-        pour(&mut self.inner, b"[/]")
+        write_all(&mut self.inner, b"[/]")
     }
 }

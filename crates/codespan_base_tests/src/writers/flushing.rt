@@ -2,17 +2,17 @@
 
 use crate::writers::counting::Counting;
 use crate::writers::marks::send_every_mark;
-use codespan_base::term::config::lent::LentWriter;
-use codespan_base::term::config::sending::{send, send_blanks};
+use codespan_base::term::config::plain_ref::PlainWriterRef;
+use codespan_base::term::config::writing::{put_all, put_spaces};
 use codespan_base::term::{Ansi, NoColor, PlainWriter, Styles, StylesWriter, WriteStyle};
 use std::io;
 use std::test::Fail;
 
-/// Every mark, some text by both ways of writing, and then one flush.
+/// Writes every style mark, some text in both ways, and then flushes once.
 fn send_and_flush<W: WriteStyle>(w: &mut W) -> io::Result<()> {
     send_every_mark(w)?;
-    send(w, b"text")?;
-    send_blanks(w, 70)?;
+    put_all(w, b"text")?;
+    put_spaces(w, 70)?;
     w.write_all(b"text")?;
     w.flush()
 }
@@ -24,7 +24,7 @@ fn only_flush_flushes(rt: HostRuntime) -> Result<(), Fail> {
     let mut inner = Counting::default();
     send_and_flush(&mut PlainWriter::new(&mut inner))?;
     assert_eq!(rt; inner.flushes, 1);
-    send_and_flush(&mut LentWriter::new(&mut inner))?;
+    send_and_flush(&mut PlainWriterRef::new(&mut inner))?;
     assert_eq!(rt; inner.flushes, 2);
     send_and_flush(&mut StylesWriter::new(Ansi::new(&mut inner), &styles))?;
     assert_eq!(rt; inner.flushes, 3);

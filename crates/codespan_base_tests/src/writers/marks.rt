@@ -1,10 +1,10 @@
-//! The tables, and every mark of every writer.
+//! The tables of styles and characters, and every style mark of every writer.
 
 use crate::writers::example::{TagColor, TagWriter};
 use codespan_base::diagnostic::{LabelStyle, Severity};
 use codespan_base::term::config::chars::SnippetStart;
-use codespan_base::term::config::sending::{
-    send, send_blanks, send_char, send_number, send_repeated,
+use codespan_base::term::config::writing::{
+    put_all, put_char, put_number, put_repeated, put_spaces,
 };
 use codespan_base::term::{
     Ansi, Chars, Color, ColorSpec, Config, NoColor, PlainWriter, Styles, StylesWriter, WriteColor,
@@ -13,7 +13,7 @@ use codespan_base::term::{
 use std::io;
 use std::test::Fail;
 
-/// Every mark, each before a newline.
+/// Writes every style mark, each before a newline.
 pub fn send_every_mark<W: WriteStyle>(w: &mut W) -> io::Result<()> {
     for severity in [
         Severity::Bug,
@@ -23,20 +23,20 @@ pub fn send_every_mark<W: WriteStyle>(w: &mut W) -> io::Result<()> {
         Severity::Help,
     ] {
         w.set_header(severity)?;
-        send(w, b"\n")?;
+        put_all(w, b"\n")?;
         w.set_label(severity, LabelStyle::Primary)?;
-        send(w, b"\n")?;
+        put_all(w, b"\n")?;
         w.set_label(severity, LabelStyle::Secondary)?;
-        send(w, b"\n")?;
+        put_all(w, b"\n")?;
     }
     w.set_header_message()?;
-    send(w, b"\n")?;
+    put_all(w, b"\n")?;
     w.set_line_number()?;
-    send(w, b"\n")?;
+    put_all(w, b"\n")?;
     w.set_note_bullet()?;
-    send(w, b"\n")?;
+    put_all(w, b"\n")?;
     w.set_source_border()?;
-    send(w, b"\n")?;
+    put_all(w, b"\n")?;
     w.reset()
 }
 
@@ -60,7 +60,7 @@ const TAG_MARKS: &str = "[header]\n[primary]\n[secondary]\n[header]\n[primary]\n
 fn every_mark_of_every_writer(rt: HostRuntime) -> Result<(), Fail> {
     let mut plain = PlainWriter::new(Vec::new(rt.alloc()));
     send_every_mark(&mut plain)?;
-    assert!(rt; !plain.has_refused());
+    assert!(rt; !plain.has_failed());
     assert_eq!(rt; plain.into_inner().as_slice(), NO_MARKS.as_bytes());
 
     let styles = Styles::default();
@@ -94,11 +94,11 @@ fn coloured_header(rt: HostRuntime) -> Result<(), Fail> {
     let mut text = Vec::new(rt.alloc());
     let mut w = StylesWriter::new(Ansi::new(&mut text), &styles);
     w.set_header(Severity::Error)?;
-    send(&mut w, b"error")?;
+    put_all(&mut w, b"error")?;
     w.set_header_message()?;
-    send(&mut w, b": m")?;
+    put_all(&mut w, b": m")?;
     w.reset()?;
-    send(&mut w, b"\n")?;
+    put_all(&mut w, b"\n")?;
     let want =
         b"\x1b\x5b\x30\x6d\x1b\x5b\x31\x6d\x1b\x5b\x33\x38\x3b\x35\x3b\x39\x6d\x65\x72\x72\x6f\x72\
         \x1b\x5b\x30\x6d\x1b\x5b\x31\x6d\x3a\x20\x6d\x1b\x5b\x30\x6d\x0a";
@@ -148,19 +148,19 @@ fn colors_in_both_planes(rt: HostRuntime) -> Result<(), Fail> {
 fn characters_and_numbers(rt: HostRuntime) -> Result<(), Fail> {
     for (c, want) in [('a', "a"), ('é', "é"), ('─', "─"), ('🗻', "🗻")] {
         let mut w = PlainWriter::new(Vec::new(rt.alloc()));
-        send_char(&mut w, c)?;
+        put_char(&mut w, c)?;
         assert_eq!(rt; w.into_inner().as_slice(), want.as_bytes());
 
         for count in [0, 1, 16, 21, 64, 65, 200] {
             let mut w = PlainWriter::new(Vec::new(rt.alloc()));
-            send_repeated(&mut w, c, count)?;
+            put_repeated(&mut w, c, count)?;
             let whole = want.repeat(rt.alloc(), count)?;
             assert_eq!(rt; w.into_inner().as_slice(), whole.as_bytes());
         }
     }
     for count in [0, 1, 63, 64, 65, 128, 1000] {
         let mut w = PlainWriter::new(Vec::new(rt.alloc()));
-        send_blanks(&mut w, count)?;
+        put_spaces(&mut w, count)?;
         let whole = " ".repeat(rt.alloc(), count)?;
         assert_eq!(rt; w.into_inner().as_slice(), whole.as_bytes());
     }
@@ -173,7 +173,7 @@ fn characters_and_numbers(rt: HostRuntime) -> Result<(), Fail> {
     ];
     for (number, want) in table {
         let mut w = PlainWriter::new(Vec::new(rt.alloc()));
-        send_number(&mut w, number)?;
+        put_number(&mut w, number)?;
         assert_eq!(rt; w.into_inner().as_slice(), want.as_bytes());
     }
     Ok(())

@@ -3,8 +3,8 @@
 use crate::writers::example::TagWriter;
 use crate::writers::stopping::{Stop, Stopping};
 use codespan_base::diagnostic::{LabelStyle, Severity};
-use codespan_base::term::config::sending::{
-    send, send_blanks, send_char, send_number, send_repeated,
+use codespan_base::term::config::writing::{
+    put_all, put_char, put_number, put_repeated, put_spaces,
 };
 use codespan_base::term::{PlainWriter, WriteStyle};
 use std::io;
@@ -12,13 +12,13 @@ use std::test::Fail;
 
 /// A row with a part of each kind.
 fn send_row<W: WriteStyle>(w: &mut W) -> io::Result<()> {
-    send_number(w, 1024)?;
-    send(w, "┌─".as_bytes())?;
-    send_char(w, '·')?;
-    send_blanks(w, 3)?;
-    send_repeated(w, '─', 2)?;
-    send(w, b"")?;
-    send_blanks(w, 0)?;
+    put_number(w, 1024)?;
+    put_all(w, "┌─".as_bytes())?;
+    put_char(w, '·')?;
+    put_spaces(w, 3)?;
+    put_repeated(w, '─', 2)?;
+    put_all(w, b"")?;
+    put_spaces(w, 0)?;
     w.set_header(Severity::Bug)?;
     w.set_header_message()?;
     w.set_line_number()?;
@@ -37,7 +37,7 @@ const TAG_ROW: &str =
 #[test]
 fn rows_over_writers_that_stop(rt: HostRuntime) -> Result<(), Fail> {
     for stop in [
-        Stop::Refuses,
+        Stop::Fails,
         Stop::IsInterrupted,
         Stop::TakesNothing,
         Stop::TakesOneByte,
@@ -53,7 +53,7 @@ fn rows_over_writers_that_stop(rt: HostRuntime) -> Result<(), Fail> {
 
                 let mut plain = PlainWriter::new(Stopping::new(rt.alloc(), most, writes, stop));
                 let result = send_row(&mut plain);
-                assert_eq!(rt; plain.has_refused(), result.is_err());
+                assert_eq!(rt; plain.has_failed(), result.is_err());
                 let inner = plain.into_inner();
                 assert!(rt;
                     inner.is_right(result.is_ok(), PLAIN_ROW.as_bytes()),

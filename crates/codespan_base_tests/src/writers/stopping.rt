@@ -10,13 +10,13 @@ use std::io::{ErrorKind, Write};
 /// How a writer stops at a write.
 #[derive(Clone, Copy, Debug)]
 pub enum Stop {
-    /// It refuses.
-    Refuses,
+    /// It fails.
+    Fails,
     /// It is interrupted.
     IsInterrupted,
     /// It takes nothing.
     TakesNothing,
-    /// It takes one byte, and refuses the next write.
+    /// It takes one byte, and fails the next write.
     TakesOneByte,
 }
 
@@ -51,7 +51,7 @@ impl Stopping {
     }
 
     /// Whether it holds what it should of the whole text: all of it, where it has not stopped, and else a beginning, and no write has
-    /// followed the refused one.
+    /// followed the failed one.
     pub fn is_right(&self, succeeded: bool, whole: &[u8]) -> bool {
         let text = self.text.as_slice();
         succeeded != self.has_stopped
@@ -81,10 +81,10 @@ impl Write for Stopping {
         }
         match self.stop {
             Stop::TakesOneByte => {
-                self.stop = Stop::Refuses;
+                self.stop = Stop::Fails;
                 self.take(buf, 1)
             }
-            Stop::Refuses => {
+            Stop::Fails => {
                 self.has_stopped = true;
                 Err(io::Error::from(ErrorKind::PermissionDenied))
             }
@@ -104,8 +104,8 @@ impl Write for Stopping {
     }
 }
 
-/// Whether a drawing was refused with `Io`; `None` where it was refused otherwise.
-pub fn is_refused(answer: &Result<(), Error>) -> Option<bool> {
+/// Whether a drawing failed with `Io`; `None` where it failed otherwise.
+pub fn is_failed(answer: &Result<(), Error>) -> Option<bool> {
     match answer {
         Ok(()) => Some(false),
         Err(Error::Io(_)) => Some(true),

@@ -9,7 +9,7 @@ use Rattle.codespan_files.specs.Lines.{starts_after}
 use Rattle.codespan_files.specs.FileModel.{FileModel, line_count, line_of}
 use Rattle.codespan_files.specs.LawfulFiles.{IsLawful}
 
--- the starts xs after the newlines of bs, of which the first byte stands at `from`
+-- the starts xs after the newlines of bs, whose first byte has the index `from`
 pub record Cuts (from : ℕ) (bs xs : List ℕ) : Type 0 where
   pub above : (k : ℕ) → k < length xs → from < get_or xs k 0
   pub within : (k : ℕ) → k < length xs → get_or xs k 0 ≤ from + length bs

@@ -5,10 +5,10 @@ use Rattle.std.proofs.lemmas.Str.{IsCharBoundary-before_ascii, IsCharBoundary-en
 use Rattle.std.proofs.lemmas.List.{get_or_append_left, get_or_push, get_or-map, length-append, length-map}
 use Rattle.codespan_files.specs.Lines.{line_starts_of, starts_after}
 use Rattle.codespan_files.specs.Lemmas.Lines.{cuts}
-use Rattle.codespan_files.specs.LawfulFiles.{IsLawful, RefusesPastEnd}
+use Rattle.codespan_files.specs.LawfulFiles.{IsLawful, FailsPastEnd}
 use Rattle.codespan_files.specs.FileModel.Lookup.{LineRange}
 use Rattle.codespan_files.specs.Lemmas.Simple.{ascending, last_or_not, simple_lawful, simple_past_end, start_cut}
-use Rattle.codespan_files.specs.MappedModel.{mapped_file, mapped_ends, mapped_refusal}
+use Rattle.codespan_files.specs.MappedModel.{mapped_file, mapped_ends, mapped_failure}
 
 -- a line before the last ends before the newline that the next one starts after
 pub mapped_end_before_last : (text : List ℕ) (i : ℕ) → i + 1 < length (line_starts_of text)
@@ -91,9 +91,9 @@ mapped_lawful name text settings u fits =
       missing_text = law.missing_text;
     }
 
--- and is refused past its last line
+-- and fails past its last line
 pub mapped_past_end : (name : Option (List ℕ)) (text : List ℕ) (settings : List (ℕ × ℕ)) (i : ℕ)
-    → RefusesPastEnd (mapped_file name text settings) i (mapped_refusal text settings (LineRange i))
+    → FailsPastEnd (mapped_file name text settings) i (mapped_failure text settings (LineRange i))
 mapped_past_end name text settings i = simple_past_end name text i
 
 pub ruleset mapped_range = (mapped_end_before_last, mapped_end_of_last, next_above)

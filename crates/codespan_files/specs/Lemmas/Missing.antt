@@ -1,4 +1,4 @@
--- The law of a table of files, of which an id may be missing.
+-- The law of a file database of which an id may name no file.
 use Rattle.std.proofs.Common.{◌≡◌, ℕ, zero, suc, ◌<◌, true, Option, Some, None, refl, ap, arith, eqb}
 use Rattle.std.proofs.lemmas.Bool.{eqb-true}
 use Rattle.std.specs.Option.{option_map_or}
@@ -8,16 +8,16 @@ use Rattle.std.specs.Str.{IsCharBoundary}
 use Rattle.std.proofs.lemmas.Str.{IsUtf8-nil}
 use Rattle.codespan_files.specs.declared.files.error.Error.{Error}
 use Rattle.codespan_files.specs.FileModel.{FileModel, Lookup}
-use Rattle.codespan_files.specs.LawfulFiles.{IsLawful, RefusesPastEnd}
+use Rattle.codespan_files.specs.LawfulFiles.{IsLawful, FailsPastEnd}
 use Rattle.codespan_files.specs.FileModel.Lookup.{LineRange}
-use Rattle.codespan_files.specs.SimpleModel.{missing_file, missing_refusal}
+use Rattle.codespan_files.specs.SimpleModel.{missing_file, missing_failure}
 
 -- the only start and end of an empty text is a boundary
 cut_at_zero : (i : ℕ) → i < 1 → IsCharBoundary [] (get_or (0 ∷ []) i 0)
 cut_at_zero zero h = (omega arith, λ k. absurd (omega arith))
 cut_at_zero (suc i) h = absurd (omega arith)
 
--- the file of an id that is not there is lawful
+-- the file of an id that names none is lawful
 missing_lawful : IsLawful missing_file
 missing_lawful = record {
   is_text = IsUtf8-nil;
@@ -34,8 +34,8 @@ missing_lawful = record {
   missing_text = λ _. refl;
 }
 
--- the files of a table are lawful, seen through a view of what it holds, and so is one that is
--- not there
+-- the files of a database are lawful, seen through a view of what it holds, and so is that of an id
+-- that names none
 pub table_lawful : {X Y : Type 0} (view : X → Y) (file : Y → FileModel) (xs : List X) (id : ℕ)
     → ((x : X) → IsLawful (file (view x)))
     → IsLawful (option_map_or file (slice_get (map view xs) id) missing_file)
@@ -43,13 +43,13 @@ table_lawful view file [] id h = missing_lawful
 table_lawful view file (x ∷ xs) zero h = h x
 table_lawful view file (x ∷ xs) (suc id) h = table_lawful view file xs id h
 
--- their refusals past the last line are as the law has them
-pub past_end_or : {X : Type 0} (file : X → FileModel) (refusal : X → Lookup → Option Error) (i : ℕ)
-    (o : Option X) → ((x : X) → RefusesPastEnd (file x) i (refusal x (LineRange i)))
-    → RefusesPastEnd (option_map_or file o missing_file) i
-    (option_map_or (λ x. refusal x (LineRange i)) o (missing_refusal (LineRange i)))
-past_end_or file refusal i None h = λ there. absurd (cc)
-past_end_or file refusal i (Some x) h = h x
+-- their errors past the last line are as the law has them
+pub past_end_or : {X : Type 0} (file : X → FileModel) (failure : X → Lookup → Option Error) (i : ℕ)
+    (o : Option X) → ((x : X) → FailsPastEnd (file x) i (failure x (LineRange i)))
+    → FailsPastEnd (option_map_or file o missing_file) i
+    (option_map_or (λ x. failure x (LineRange i)) o (missing_failure (LineRange i)))
+past_end_or file failure i None h = λ there. absurd (cc)
+past_end_or file failure i (Some x) h = h x
 
 -- what two equal numbers have
 pub same_at : {A B : Type 0} (f : ℕ → A) (g : ℕ → B) (i j : ℕ) → eqb i j ≡ true

@@ -18,10 +18,10 @@ use Rattle.codespan_files.specs.FileTables.{source_of}
 use Rattle.std.proofs.lemmas.Str.{IsCharBoundary-after_ascii, IsCharBoundary-start, IsCharBoundary-end}
 use Rattle.std.proofs.lemmas.List.{get_or_append_left, get_or_push, length-append}
 use Rattle.codespan_files.specs.Lines.{line_starts_of, starts_after}
-use Rattle.codespan_files.specs.SimpleModel.{simple_file, simple_refusal, line_ends}
+use Rattle.codespan_files.specs.SimpleModel.{simple_file, simple_failure, line_ends}
 use Rattle.codespan_files.specs.declared.files.Location.{Location}
-use Rattle.codespan_files.specs.FileModel.{FileModel, or_refusal}
-use Rattle.codespan_files.specs.LawfulFiles.{IsLawful, RefusesPastEnd, TellsPastEnd}
+use Rattle.codespan_files.specs.FileModel.{FileModel, or_failure}
+use Rattle.codespan_files.specs.LawfulFiles.{IsLawful, FailsPastEnd, IsPastEndError}
 use Rattle.codespan_files.specs.FileModel.Lookup.{LineRange}
 use Rattle.codespan_files.specs.Lemmas.Lines.{cuts, count_split}
 
@@ -100,26 +100,26 @@ simple_lawful name text u fits = record {
   missing_text = λ e. absurd (cc);
 }
 
--- of n lines the refusal past the last is told exactly from n on
+-- of n lines the error past the last is returned exactly from n on
 pub past_end_is : (n i : ℕ)
-    → TellsPastEnd (if nat_lt i n then None else Some (LineTooLarge i (n - 1))) ↔ (n ≤ i)
+    → IsPastEndError (if nat_lt i n then None else Some (LineTooLarge i (n - 1))) ↔ (n ≤ i)
 past_end_is n i =
     elim (leb_tells (suc i) n) [
       | inl p ↦ rw p.0 (absurd, λ h. omega (arith, h, p.1))
       | inr p ↦ rw p.0 (λ _. omega (arith, p.1), λ _. tt)
     ]
 
--- the file of a text is refused past its last line
+-- the file of a text fails past its last line
 pub simple_past_end : (name : Option (List ℕ)) (text : List ℕ) (i : ℕ)
-    → RefusesPastEnd (simple_file name text) i (simple_refusal text (LineRange i))
+    → FailsPastEnd (simple_file name text) i (simple_failure text (LineRange i))
 simple_past_end name text i there = past_end_is (length (line_starts_of text)) i
 
--- a line that is there may be refused besides, otherwise than as one past the last
-pub or_refusal-past_end : (f : FileModel) (i : ℕ) (o p : Option Error) → (TellsPastEnd p → ⊥)
-    → RefusesPastEnd f i o → RefusesPastEnd f i (or_refusal o p)
-or_refusal-past_end f i None p other h =
+-- a line that exists may fail too, with an error other than that of a line past the last
+pub or_failure-past_end : (f : FileModel) (i : ℕ) (o p : Option Error) → (IsPastEndError p → ⊥)
+    → FailsPastEnd f i o → FailsPastEnd f i (or_failure o p)
+or_failure-past_end f i None p other h =
     λ there. (λ past. absurd (other past), λ late. absurd ((h there).1 late))
-or_refusal-past_end f i (Some e) p other h = h
+or_failure-past_end f i (Some e) p other h = h
 
 -- a line d lines further down starts no earlier
 rising_by : (text : List ℕ) (i d : ℕ) → i + d < length (line_starts_of text)
@@ -166,7 +166,7 @@ line_of_inside text xs byte i e found =
     elim (cases_lt 0 i) [ inl p ↦ p | inr p ↦ absurd (omega (arith, f.2 0 p (omega arith))) ] in
     (some, omega arith)
 
--- what a file lends is text
+-- what a file returns as its source is UTF-8
 pub text_is_utf8 : {Name Source : Type 0} {texts : Ghosts Source}
     (file : SimpleFile Name Source texts) → IsUtf8 (texts.text (source_of file))
 text_is_utf8 file = IsUtf8-had _ file.utf8

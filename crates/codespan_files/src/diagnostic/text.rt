@@ -1,18 +1,18 @@
-//! The text that a value's `Display` states, as a `String`.
+//! The text of a value's `Display` as a `String`.
 
 ghost use Rattle.std.specs.Prelude.{◌≡◌, ◌++◌, IfOk, IfSome, IfErr, string_bytes};
-ghost use Rattle.codespan_files.specs.Diagnostics.{IsTextRefusal};
+ghost use Rattle.codespan_files.specs.Diagnostics.{IsTextFailure};
 
 use crate::files::Error;
 use std::alloc::Global;
 use std::fmt;
 use std::fmt::{Display, Write};
 
-/// A text that grows, and remembers whether a growth was refused.
+/// Collects a text, and keeps whether an allocation for it failed.
 #[derive(Drop)]
 struct GrowingText {
     text: String,
-    refused: bool,
+    failed: bool,
 }
 
 impl Write for GrowingText {
@@ -22,27 +22,31 @@ impl Write for GrowingText {
         match self.text.push_str(piece) {
             Ok(()) => Ok(()),
             Err(_) => {
-                self.refused = true;
+                self.failed = true;
                 Err(fmt::Error)
             }
         }
     }
 }
 
-/// The text that a value's `Display` states. Refuses with `OutOfMemory` where a growth was refused, and else with
-/// `FormatError` where the `Display` refused.
+/// Returns the text that `value` displays.
+///
+/// # Errors
+///
+/// - [`Error::OutOfMemory`] where an allocation of the text fails.
+/// - [`Error::FormatError`] where the `Display` fails otherwise.
 pub fn display_text<D: Display + Drop>(alloc: Global, value: D) -> Result<String, Error>
     ensures text { IfOk result (λ text.
         IfSome (D.output value) (λ bytes. string_bytes text ≡ bytes)) }
-    ensures refused { IfErr result IsTextRefusal }
+    ensures failed { IfErr result IsTextFailure }
 {
     let mut growing = GrowingText {
         text: String::new(alloc),
-        refused: false,
+        failed: false,
     };
     match write!(growing, "{value}") {
         Ok(()) => Ok(growing.text),
-        Err(_) if growing.refused => Err(Error::OutOfMemory),
+        Err(_) if growing.failed => Err(Error::OutOfMemory),
         Err(_) => Err(Error::FormatError),
     }
 }

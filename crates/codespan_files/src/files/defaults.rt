@@ -1,16 +1,18 @@
-//! Line numbers as most files count them, for tables of files that count so.
+//! The default line number, for file databases that number their lines from 1.
 
 ghost use Rattle.std.specs.Prelude.{◌≡◌, ◌+◌, IfOk};
-ghost use Rattle.codespan_files.specs.LawfulFiles.{NeedsNoMemory, Tells, line_number_refusal};
+ghost use Rattle.codespan_files.specs.LawfulFiles.{NeedsNoMemory, FailsBy, line_number_failure};
 
 use crate::files::Error;
 
-/// The line number that most files have: the index plus 1.
+/// Returns the number of a line as most files have it: the 0-based index plus 1, as the Rust crate's default does.
 ///
-/// Refuses at `usize::MAX` alone, with `LineTooLarge { given: usize::MAX, max: usize::MAX - 1 }`.
+/// # Errors
+///
+/// [`Error::LineTooLarge`] `{ given: usize::MAX, max: usize::MAX - 1 }` where the index is `usize::MAX`; the Rust crate overflows there.
 pub fn default_line_number(line_index: usize) -> Result<usize, Error>
     ensures value { IfOk result (λ n. n ≡ line_index + 1) }
-    ensures refused { Tells (line_number_refusal line_index) result }
+    ensures failed { FailsBy (line_number_failure line_index) result }
     ensures memory { NeedsNoMemory result }
 {
     if line_index == usize::MAX {

@@ -1,4 +1,4 @@
-//! What a lookup, a builder or a drawing is refused with.
+//! The error of lookups, of the `with_` calls and of rendering.
 
 ghost use Rattle.std.specs.Prelude.{◌≡◌};
 ghost use Rattle.codespan_files.specs.declared.files.error.Error.TheVariants.{Io, FormatError, OutOfMemory};
@@ -6,47 +6,49 @@ ghost use Rattle.codespan_files.specs.declared.files.error.Error.TheVariants.{Io
 use std::alloc::{AllocError, AllocFailed};
 use std::{fmt, io};
 
-/// Why a lookup, a builder or a drawing was refused.
+/// The error of a lookup, of a call that makes a diagnostic, or of rendering.
+///
+/// The variants and texts are the Rust crate's, but for [`Error::OutOfMemory`], which is this project's own.
 #[derive(Debug, Drop)]
 #[non_exhaustive]
 pub enum Error {
-    /// The file is not in the table.
+    /// The file database has no file of this id.
     FileMissing,
-    /// The file is there, but it has no such byte. Given by users' own files alone.
+    /// The file has no such byte. Returned by custom file databases only.
     IndexTooLarge {
-        /// The byte that was asked for, from 0.
+        /// The byte index that was looked up, from 0.
         given: usize,
-        /// The greatest that the file has.
+        /// The greatest byte index of the file.
         max: usize,
     },
-    /// The file is there, but it has no such line, or the line's number does not fit.
+    /// The file has no such line, or the line's number does not fit into a `usize`.
     LineTooLarge {
-        /// The line index that was asked for, from 0.
+        /// The line index that was looked up, from 0.
         given: usize,
-        /// The greatest that is answered.
+        /// The greatest line index with which the lookup succeeds.
         max: usize,
     },
-    /// The line is there, but it has no such column. Given by users' own files alone.
+    /// The line has no such column. Returned by custom file databases only.
     ColumnTooLarge {
-        /// The column that was asked for, from 0.
+        /// The column that was looked up, in characters from 0.
         given: usize,
-        /// The greatest that the line has.
+        /// The greatest column of the line.
         max: usize,
     },
-    /// The byte is inside a character. Given by users' own files alone.
+    /// The byte is inside a character. Returned by custom file databases only.
     InvalidCharBoundary {
-        /// The byte that was asked for, from 0.
+        /// The byte index that was looked up, from 0.
         given: usize,
     },
-    /// A writer refused a write, or took nothing of it; or a table of files was refused its input.
+    /// A write to a writer failed or took none of its bytes, or a file database failed to read.
     Io(io::Error),
-    /// A `Display` refused, and no growth of the text that it writes to was refused.
+    /// A `Display` failed, and no allocation of the text that it writes to did.
     FormatError,
-    /// A growth was refused.
+    /// An allocation failed.
     OutOfMemory,
 }
 
-/// A writer's refusal, kept as the cause.
+/// Keeps a writer's error in [`Error::Io`].
 impl From<io::Error> for Error {
     ghost from_gives = { λ cause e. e ≡ Io cause };
 
@@ -55,7 +57,7 @@ impl From<io::Error> for Error {
     }
 }
 
-/// A `Display` refused.
+/// Converts the failure of a `Display` to [`Error::FormatError`].
 impl From<fmt::Error> for Error {
     ghost from_gives = { λ _ e. e ≡ FormatError };
 
@@ -64,7 +66,7 @@ impl From<fmt::Error> for Error {
     }
 }
 
-/// A growth was refused.
+/// Converts a failed allocation to [`Error::OutOfMemory`].
 impl From<AllocError> for Error {
     ghost from_gives = { λ _ e. e ≡ OutOfMemory };
 
@@ -73,7 +75,7 @@ impl From<AllocError> for Error {
     }
 }
 
-/// A growth was refused; the value that was to be added is dropped.
+/// Converts a failed allocation to [`Error::OutOfMemory`], and drops the value that was to be added.
 impl<T: Drop> From<AllocFailed<T>> for Error {
     ghost from_gives = { λ _ e. e ≡ OutOfMemory };
 
@@ -82,7 +84,7 @@ impl<T: Drop> From<AllocFailed<T>> for Error {
     }
 }
 
-/// One line in lower case. Of `Io` it is the text of the cause.
+/// Displays one line in lower case; of [`Error::Io`] the text of the inner error.
 impl fmt::Display for Error {
     ghost use Rattle.codespan_files.specs.ErrorText.{error_text};
 
@@ -108,5 +110,5 @@ impl fmt::Display for Error {
     }
 }
 
-/// The cause of `Io` is in the variant and in the text, so `source` gives none.
+/// Returns no `source`: the inner error of [`Error::Io`] is in the variant, and its text is displayed.
 impl std::error::Error for Error {}

@@ -1,4 +1,4 @@
-//! One text as a file whose line numbers are set, in the manner of `#line`.
+//! A file database of one text whose line numbers can be set, as `#line` does in C.
 
 ghost use Rattle.std.specs.Prelude.{◌≡◌, ◌^◌, ◌<◌, ◌≤◌, [], length, refl, IfOk, IsOk, IfErr, IfSome, OnOk, OnErr, IsErrOf, None};
 ghost use Rattle.std.specs.Str.{IsUtf8};
@@ -11,17 +11,27 @@ use std::convert::AsStr;
 use std::fmt::Display;
 use std::ops::Range;
 
-/// A table with a single file, whose line numbers can be set as `#line` does in C.
+/// A file database of one file, whose line numbers can be set as `#line` does in C. The id is `()`. It is this project's own.
 ///
-/// A line whose number is set has that number, and the lines after it count on from there, up to the next line whose
-/// number is set. Before the first such line they count from 1. A line starts after each newline, and ends before its
-/// own newline, the last one with the source. Columns count characters from 1.
+/// A line whose number is set has that number, and the lines after it count on from there, up to the next line whose number is set.
+/// Before the first such line they count from 1. A line starts after each newline and ends before its own, the last one with the source.
+/// Column numbers count characters from 1.
+///
+/// # Examples
+///
+/// ```rust
+/// let mut file = MappedFile::new(rt.alloc(), "m", "a\nb\nc\nd")?;
+/// file.set_line(2, 100)?;
+/// for (line, number) in [(0, 1), (1, 2), (2, 100), (3, 101)] {
+///     assert_eq!(rt; file.line_number((), line)?, number, "line {line}");
+/// }
+/// ```
 #[derive(Debug, Drop)]
 pub struct MappedFile<Name, Source: AsStr> {
     name: Name,
     source: Source,
     line_starts: Vec<usize>,
-    // The set line indices with their numbers, the indices ascending.
+    // The line indices whose numbers are set, in ascending order, with these numbers.
     numbers: Vec<(usize, usize)>,
     ghost starts: { line_starts.items ≡ line_starts_of (Source.text source) },
     ghost utf8: { ∥ IsUtf8 (Source.text source) ∥₁ },
@@ -32,12 +42,16 @@ pub struct MappedFile<Name, Source: AsStr> {
 impl<Name: Drop, Source: AsStr + Drop> MappedFile<Name, Source> {
     ghost use Rattle.codespan_files.specs.FileTables.{mapped_name_of, mapped_source_of, settings_of};
 
-    /// A file of this name and source, with no line's number set. Refuses with `OutOfMemory`, and then drops both.
+    /// Returns a database of this name and source, with no line number set.
+    ///
+    /// # Errors
+    ///
+    /// [`Error::OutOfMemory`] where an allocation of the line starts fails. Name and source are then dropped.
     pub fn new(alloc: Global, name: Name, source: Source) -> Result<Self, Error>
         ensures name { IfOk result (λ file. mapped_name_of file ≡ name) }
         ensures source { IfOk result (λ file. mapped_source_of file ≡ source) }
         ensures numbers { IfOk result (λ file. settings_of file ≡ []) }
-        ensures refused { OnErr result (IsErrOf result Error.OutOfMemory) }
+        ensures failed { OnErr result (IsErrOf result Error.OutOfMemory) }
     {
         let line_starts = line_starts(source.as_str()).collect(alloc)?;
         Ok(MappedFile {
@@ -51,22 +65,26 @@ impl<Name: Drop, Source: AsStr + Drop> MappedFile<Name, Source> {
 
 impl<Name, Source: AsStr> MappedFile<Name, Source> {
     ghost use Rattle.codespan_files.specs.FileTables.{mapped_name_of, mapped_source_of, mapped_text_of, settings_of};
-    ghost use Rattle.codespan_files.specs.LawfulFiles.{Tells};
+    ghost use Rattle.codespan_files.specs.LawfulFiles.{FailsBy};
     ghost use Rattle.codespan_files.specs.SimpleModel.{past_end};
     ghost use Rattle.codespan_files.specs.MappedModel.{setting, with_number};
 
-    /// Gives the line at this index, from 0, this number, in place of an earlier number of the same index. What that does
-    /// to the lines around it says [`crate::laws::set_numbers_count_on`].
+    /// Sets the number of the line at this index, from 0, in place of an earlier one. The law
+    /// [`codespan_base::laws::set_numbers_count_on`] states what becomes of the other lines.
     ///
-    /// Refuses with `LineTooLarge` of the index and the last line's index where the file has no such line, or with
-    /// `OutOfMemory`; a refusal changes nothing.
+    /// # Errors
+    ///
+    /// Where the call fails, no number changes.
+    ///
+    /// - [`Error::LineTooLarge`] with `given` the index and `max` that of the last line, where the text has no such line.
+    /// - [`Error::OutOfMemory`] where an allocation fails.
     pub fn set_line(&mut self, line_index: usize, number: usize) -> Result<(), Error>
         ensures name { mapped_name_of self.new ≡ mapped_name_of self.old }
         ensures source { mapped_source_of self.new ≡ mapped_source_of self.old }
         ensures ok { OnOk result
             (settings_of self.new ≡ with_number line_index number (settings_of self.old)) }
         ensures err { OnErr result (settings_of self.new ≡ settings_of self.old) }
-        ensures refused { Tells (past_end (mapped_text_of self.old) line_index) result }
+        ensures failed { FailsBy (past_end (mapped_text_of self.old) line_index) result }
     {
         let lines = self.line_starts.len();
         if line_index >= lines {
@@ -87,7 +105,7 @@ impl<Name, Source: AsStr> MappedFile<Name, Source> {
         }
     }
 
-    // Where the line's number is set, or where it would go.
+    /// Returns the index at which the line's number is set, or as `Err` that at which it would be inserted.
     fn search(&self, line_index: usize) -> Result<usize, usize>
         ensures found { IfOk result (IsAt (settings_of self.now) line_index) }
         ensures absent { IfErr result (IsGapFor (settings_of self.now) line_index) }
@@ -96,7 +114,7 @@ impl<Name, Source: AsStr> MappedFile<Name, Source> {
             .binary_search_by_key(&line_index, |&(index, _)| index)
     }
 
-    // The set index that the line counts from, with its number.
+    /// Returns the set line that this line counts from, with its number; `None` where none is set at it or above it.
     fn nearest(&self, line_index: usize) -> Option<(usize, usize)>
         ensures value { result ≡ setting (settings_of self.now) line_index }
         ensures below { IfSome result (λ s. s.0 ≤ line_index) }
@@ -109,30 +127,30 @@ impl<Name, Source: AsStr> MappedFile<Name, Source> {
     }
 }
 
-/// No call is refused for want of memory. A name is lent, since a copy of it need not print the same.
+/// No call allocates. Names are borrowed, since the clone of a name need not display the same text.
 impl<'a, Name: Display + 'a, Source: AsStr + 'a> Files<'a> for MappedFile<Name, Source> {
     ghost use Rattle.codespan_files.specs.FileTables.{mapped_error_of, mapped_file_of, mapped_name_of, mapped_text_of, settings_of};
     ghost use Rattle.codespan_files.specs.SimpleModel.{past_end};
     ghost use Rattle.codespan_files.specs.MappedModel.{mapped_column, mapped_location, number_from, setting};
     ghost use Rattle.codespan_files.specs.FileModel.{line_of};
-    ghost use Rattle.codespan_files.specs.LawfulFiles.{IsLineRange, NeedsNoMemory, Tells};
+    ghost use Rattle.codespan_files.specs.LawfulFiles.{IsLineRange, NeedsNoMemory, FailsBy};
     ghost use Rattle.codespan_files.specs.FileModel.Lookup.{LineNumber, LocationAt};
     ghost use Rattle.codespan_files.specs.Lemmas.Mapped.{mapped_lawful, mapped_past_end};
     ghost use Rattle.std.proofs.lemmas.Str.{IsUtf8-had};
 
-    /// There is one file.
+    /// The one id.
     type FileId = ();
 
-    /// The name, lent.
+    /// The borrowed name.
     type Name = &'a Name;
 
-    /// The source's text, lent.
+    /// The source's borrowed text.
     type Source = &'a str;
 
     ghost database = { λ s. record {
       same = ⟦<() as PartialEq>⟧.eq;
       file = λ _. mapped_file_of Name.output s;
-      refusal = λ _. mapped_error_of s;
+      failure = λ _. mapped_error_of s;
     } };
 
     ghost lawful = { λ s _.
@@ -146,32 +164,32 @@ impl<'a, Name: Display + 'a, Source: AsStr + 'a> Files<'a> for MappedFile<Name, 
     ghost past_end = { λ s _ i.
         mapped_past_end (Name.output (mapped_name_of s)) (mapped_text_of s) (settings_of s) i };
 
-    /// The file's name, lent. Never refuses.
+    /// Returns the file's name. Never fails.
     fn name(&'a self, _id: ()) -> Result<&'a Name, Error>
         ensures succeeds { IsOk result }
-        ensures lent { IfOk result (λ name. name.now ≡ mapped_name_of self.now) }
+        ensures plain_ref { IfOk result (λ name. name.now ≡ mapped_name_of self.now) }
         ensures value { IfOk result (λ name.
             Name.output name.now ≡ Name.output (mapped_name_of self.now)) }
-        ensures refused { Tells None result }
+        ensures failed { FailsBy None result }
     {
         Ok(&self.name)
     }
 
-    /// The source's text, lent. Never refuses.
+    /// Returns the source's text. Never fails.
     fn source(&'a self, _id: ()) -> Result<&'a str, Error>
         ensures succeeds { IsOk result }
-        ensures lent { IfOk result (λ text. text.now ≡ mapped_text_of self.now) }
-        ensures refused { Tells None result }
+        ensures plain_ref { IfOk result (λ text. text.now ≡ mapped_text_of self.now) }
+        ensures failed { FailsBy None result }
     {
         Ok(self.source.as_str())
     }
 
-    /// The index of the byte's line, by binary search; past the end that of the last line. Never refuses.
+    /// Returns the index of the byte's line, from 0, by binary search; past the end that of the last line. Never fails.
     fn line_index(&'a self, _id: (), byte_index: usize) -> Result<usize, Error>
         ensures succeeds { IsOk result }
         ensures value { IfOk result (λ line.
             line ≡ line_of (line_starts_of (mapped_text_of self.now)) byte_index) }
-        ensures refused { Tells None result }
+        ensures failed { FailsBy None result }
     {
         match self.line_starts.binary_search(&byte_index) {
             Ok(line) => Ok(line),
@@ -179,14 +197,17 @@ impl<'a, Name: Display + 'a, Source: AsStr + 'a> Files<'a> for MappedFile<Name, 
         }
     }
 
-    /// The number set nearest above the line or at it, plus the lines from there on, found by binary search. Where none
-    /// is set there, the index plus 1. Whether there is such a line is not asked.
+    /// Returns the number that is set nearest at or above the line, plus the lines from there on, by binary search; where none is set
+    /// there, the 0-based index plus 1. The line need not exist.
     ///
-    /// Refuses with `LineTooLarge` of the index and the greatest index whose number fits, where the number does not.
+    /// # Errors
+    ///
+    /// [`Error::LineTooLarge`] with `given` the index and `max` the greatest index whose number fits into a `usize`, where this one does
+    /// not.
     fn line_number(&'a self, _id: (), line_index: usize) -> Result<usize, Error>
         ensures value { IfOk result (λ number.
             number ≡ number_from (setting (settings_of self.now) line_index) line_index) }
-        ensures refused { Tells (mapped_error_of self.now (LineNumber line_index)) result }
+        ensures failed { FailsBy (mapped_error_of self.now (LineNumber line_index)) result }
         ensures memory { NeedsNoMemory result }
     {
         match self.nearest(line_index) {
@@ -201,23 +222,31 @@ impl<'a, Name: Display + 'a, Source: AsStr + 'a> Files<'a> for MappedFile<Name, 
         }
     }
 
-    /// The column number of the byte on the line, in characters. Refuses as `line_range` does.
+    /// Returns the column number of the byte on the line, in characters from 1. Both indices count from 0.
+    ///
+    /// # Errors
+    ///
+    /// [`Error::LineTooLarge`] with `given` the index and `max` that of the last line, where the text has no such line.
     fn column_number(&'a self, id: (), line_index: usize, byte_index: usize) -> Result<usize, Error>
         ensures value { IfOk result (λ number.
             number ≡ mapped_column (mapped_text_of self.now) line_index byte_index) }
-        ensures refused { Tells (past_end (mapped_text_of self.now) line_index) result }
+        ensures failed { FailsBy (past_end (mapped_text_of self.now) line_index) result }
         ensures memory { NeedsNoMemory result }
     {
         let range = self.line_range(id, line_index)?;
         Ok(column_index(self.source.as_str(), range, byte_index) + 1)
     }
 
-    /// The number of the byte's line and the byte's column number there. Refuses as `line_number` of that line does.
+    /// Returns the number of the byte's line, and of its column there in characters from 1.
+    ///
+    /// # Errors
+    ///
+    /// Those of `line_number` of the byte's line.
     #[tactic(auto, using(crate::specs::Lemmas::Lines::line_of_below))]
     fn location(&'a self, id: (), byte_index: usize) -> Result<Location, Error>
         ensures value { IfOk result (λ place.
             place ≡ mapped_location (mapped_text_of self.now) (settings_of self.now) byte_index) }
-        ensures refused { Tells (mapped_error_of self.now (LocationAt byte_index)) result }
+        ensures failed { FailsBy (mapped_error_of self.now (LocationAt byte_index)) result }
         ensures memory { NeedsNoMemory result }
     {
         let line_index = self.line_index(id, byte_index)?;
@@ -227,12 +256,15 @@ impl<'a, Name: Display + 'a, Source: AsStr + 'a> Files<'a> for MappedFile<Name, 
         })
     }
 
-    /// The bytes of the line without its newline. Refuses with `LineTooLarge` of the index and the last line's index
-    /// where the file has no such line.
+    /// Returns the bytes of the line without its newline, from 0, with an exclusive end. The line index counts from 0.
+    ///
+    /// # Errors
+    ///
+    /// [`Error::LineTooLarge`] with `given` the index and `max` that of the last line, where the text has no such line.
     #[tactic(auto, using(crate::specs::Lemmas::Mapped::mapped_range))]
     fn line_range(&'a self, _id: (), line_index: usize) -> Result<Range<usize>, Error>
         ensures value { IfOk result (IsLineRange (mapped_file_of Name.output self.now) line_index) }
-        ensures refused { Tells (past_end (mapped_text_of self.now) line_index) result }
+        ensures failed { FailsBy (past_end (mapped_text_of self.now) line_index) result }
         ensures memory { NeedsNoMemory result }
     {
         let count = self.line_starts.len();

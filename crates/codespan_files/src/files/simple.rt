@@ -1,4 +1,4 @@
-//! One text as a file.
+//! A file database of one text.
 
 ghost use Rattle.std.specs.Prelude.{◌≡◌, ◌-◌, ◌+◌, ◌^◌, ◌<◌, length, refl, IfOk, IsOk, OnErr, IsErrOf, None};
 ghost use Rattle.std.specs.Str.{IsUtf8};
@@ -10,10 +10,25 @@ use std::convert::AsStr;
 use std::fmt::Display;
 use std::ops::Range;
 
-/// A table with a single file: a name and a source, with the line starts of the source.
+/// A file database of one file: a name and a source, with the line starts of the source. The id is `()`.
 ///
-/// A line starts after each newline, and ends where the next one starts, the last one with the source. Lines are
-/// numbered from 1, and columns count characters from 1.
+/// A line starts after each newline and ends where the next one starts, the last one with the source, as in the Rust crate. Line numbers
+/// count from 1, and column numbers count characters from 1.
+///
+/// # Examples
+///
+/// ```rust
+/// let text = "foo\nbar\r\n\nbaz";
+/// let starts: Vec<usize> = line_starts(text).collect(rt.alloc())?;
+/// assert_eq!(rt; starts.as_slice(), [0, 4, 9, 10].as_slice());
+/// let file = SimpleFile::new(rt.alloc(), "f", text)?;
+/// for (line, part) in ["foo\n", "bar\r\n", "\n", "baz"].iter().enumerate() {
+///     let range = file.line_range((), line)?;
+///     assert_eq!(rt; text.get(range), Some(*part), "line {line}");
+/// }
+/// assert_eq!(rt; file.line_index((), 5)?, 1);
+/// assert_eq!(rt; file.line_index((), 99)?, 3);
+/// ```
 #[derive(Debug, Drop)]
 pub struct SimpleFile<Name, Source: AsStr> {
     name: Name,
@@ -27,11 +42,15 @@ pub struct SimpleFile<Name, Source: AsStr> {
 impl<Name: Drop, Source: AsStr + Drop> SimpleFile<Name, Source> {
     ghost use Rattle.codespan_files.specs.FileTables.{name_of, source_of};
 
-    /// A file of this name and source. Refuses with `OutOfMemory`, and then drops both.
+    /// Returns a database of this name and source.
+    ///
+    /// # Errors
+    ///
+    /// [`Error::OutOfMemory`] where an allocation of the line starts fails. Name and source are then dropped.
     pub fn new(alloc: Global, name: Name, source: Source) -> Result<Self, Error>
         ensures name { IfOk result (λ file. name_of file ≡ name) }
         ensures source { IfOk result (λ file. source_of file ≡ source) }
-        ensures refused { OnErr result (IsErrOf result Error.OutOfMemory) }
+        ensures failed { OnErr result (IsErrOf result Error.OutOfMemory) }
     {
         let line_starts = line_starts(source.as_str()).collect(alloc)?;
         Ok(SimpleFile {
@@ -45,14 +64,14 @@ impl<Name: Drop, Source: AsStr + Drop> SimpleFile<Name, Source> {
 impl<Name, Source: AsStr> SimpleFile<Name, Source> {
     ghost use Rattle.codespan_files.specs.FileTables.{name_of, source_of};
 
-    /// The name of the file.
+    /// Borrows the name.
     pub fn name(&self) -> &Name
         ensures { result.now ≡ name_of self.now }
     {
         &self.name
     }
 
-    /// The source of the file.
+    /// Borrows the source.
     pub fn source(&self) -> &Source
         ensures { result.now ≡ source_of self.now }
     {
@@ -60,27 +79,27 @@ impl<Name, Source: AsStr> SimpleFile<Name, Source> {
     }
 }
 
-/// No call is refused for want of memory. A name is lent, since a copy of it need not print the same.
+/// No call allocates. Names are borrowed, since the clone of a name need not display the same text.
 impl<'a, Name: Display + 'a, Source: AsStr + 'a> Files<'a> for SimpleFile<Name, Source> {
     ghost use Rattle.codespan_files.specs.FileTables.{file_of, name_of, text_of};
-    ghost use Rattle.codespan_files.specs.SimpleModel.{simple_refusal, simple_column, simple_location, past_end};
+    ghost use Rattle.codespan_files.specs.SimpleModel.{simple_failure, simple_column, simple_location, past_end};
     ghost use Rattle.codespan_files.specs.FileModel.{line_of};
-    ghost use Rattle.codespan_files.specs.LawfulFiles.{IsLineRange, NeedsNoMemory, Tells, line_number_refusal};
+    ghost use Rattle.codespan_files.specs.LawfulFiles.{IsLineRange, NeedsNoMemory, FailsBy, line_number_failure};
     ghost use Rattle.codespan_files.specs.Lemmas.Simple.{simple_lawful, simple_past_end, text_fits, text_is_utf8};
 
-    /// There is one file.
+    /// The one id.
     type FileId = ();
 
-    /// The name, lent.
+    /// The borrowed name.
     type Name = &'a Name;
 
-    /// The source's text, lent.
+    /// The source's borrowed text.
     type Source = &'a str;
 
     ghost database = { λ s. record {
       same = ⟦<() as PartialEq>⟧.eq;
       file = λ _. file_of Name.output s;
-      refusal = λ _. simple_refusal (text_of s);
+      failure = λ _. simple_failure (text_of s);
     } };
 
     ghost lawful = { λ s _.
@@ -92,32 +111,32 @@ impl<'a, Name: Display + 'a, Source: AsStr + 'a> Files<'a> for SimpleFile<Name, 
 
     ghost past_end = { λ s _ i. simple_past_end (Name.output (name_of s)) (text_of s) i };
 
-    /// The file's name, lent. Never refuses.
+    /// Returns the file's name. Never fails.
     fn name(&'a self, _id: ()) -> Result<&'a Name, Error>
         ensures succeeds { IsOk result }
-        ensures lent { IfOk result (λ name. name.now ≡ name_of self.now) }
+        ensures plain_ref { IfOk result (λ name. name.now ≡ name_of self.now) }
         ensures value { IfOk result (λ name.
             Name.output name.now ≡ Name.output (name_of self.now)) }
-        ensures refused { Tells None result }
+        ensures failed { FailsBy None result }
     {
         Ok(&self.name)
     }
 
-    /// The source's text, lent. Never refuses.
+    /// Returns the source's text. Never fails.
     fn source(&'a self, _id: ()) -> Result<&'a str, Error>
         ensures succeeds { IsOk result }
-        ensures lent { IfOk result (λ text. text.now ≡ text_of self.now) }
-        ensures refused { Tells None result }
+        ensures plain_ref { IfOk result (λ text. text.now ≡ text_of self.now) }
+        ensures failed { FailsBy None result }
     {
         Ok(self.source.as_str())
     }
 
-    /// The index of the byte's line, by binary search; past the end that of the last line. Never refuses.
+    /// Returns the index of the byte's line, from 0, by binary search; past the end that of the last line. Never fails.
     fn line_index(&'a self, _id: (), byte_index: usize) -> Result<usize, Error>
         ensures succeeds { IsOk result }
         ensures value { IfOk result (λ line.
             line ≡ line_of (line_starts_of (text_of self.now)) byte_index) }
-        ensures refused { Tells None result }
+        ensures failed { FailsBy None result }
     {
         match self.line_starts.binary_search(&byte_index) {
             Ok(line) => Ok(line),
@@ -125,33 +144,41 @@ impl<'a, Name: Display + 'a, Source: AsStr + 'a> Files<'a> for SimpleFile<Name, 
         }
     }
 
-    /// The index plus 1, as [`default_line_number`] has it. Whether there is such a line is not asked.
+    /// Returns the 0-based index plus 1, as [`default_line_number`] does. The line need not exist.
+    ///
+    /// # Errors
+    ///
+    /// Those of [`default_line_number`].
     fn line_number(&'a self, _id: (), line_index: usize) -> Result<usize, Error>
         ensures value { IfOk result (λ number. number ≡ line_index + 1) }
-        ensures refused { Tells (line_number_refusal line_index) result }
+        ensures failed { FailsBy (line_number_failure line_index) result }
         ensures memory { NeedsNoMemory result }
     {
         default_line_number(line_index)
     }
 
-    /// The column number of the byte on the line, in characters. Refuses as `line_range` does.
+    /// Returns the column number of the byte on the line, in characters from 1. Both indices count from 0.
+    ///
+    /// # Errors
+    ///
+    /// [`Error::LineTooLarge`] with `given` the index and `max` that of the last line, where the text has no such line.
     fn column_number(&'a self, id: (), line_index: usize, byte_index: usize) -> Result<usize, Error>
         ensures value { IfOk result (λ number.
             number ≡ simple_column (text_of self.now) line_index byte_index) }
-        ensures refused { Tells (past_end (text_of self.now) line_index) result }
+        ensures failed { FailsBy (past_end (text_of self.now) line_index) result }
         ensures memory { NeedsNoMemory result }
     {
         let range = self.line_range(id, line_index)?;
         Ok(column_index(self.source.as_str(), range, byte_index) + 1)
     }
 
-    /// The number of the byte's line and the byte's column number there. Never refuses.
+    /// Returns the numbers of the byte's line and of its column there, both from 1. Never fails.
     #[tactic(auto, using(crate::specs::Lemmas::Lines::line_of_below))]
     fn location(&'a self, id: (), byte_index: usize) -> Result<Location, Error>
         ensures succeeds { IsOk result }
         ensures value { IfOk result (λ location.
             location ≡ simple_location (text_of self.now) byte_index) }
-        ensures refused { Tells None result }
+        ensures failed { FailsBy None result }
     {
         let line_index = self.line_index(id, byte_index)?;
         Ok(Location {
@@ -160,11 +187,14 @@ impl<'a, Name: Display + 'a, Source: AsStr + 'a> Files<'a> for SimpleFile<Name, 
         })
     }
 
-    /// The bytes of the line, its newline too. Refuses with `LineTooLarge` of the index and the last line's index
-    /// where the file has no such line.
+    /// Returns the bytes of the line with its newline, from 0, with an exclusive end. The line index counts from 0.
+    ///
+    /// # Errors
+    ///
+    /// [`Error::LineTooLarge`] with `given` the index and `max` that of the last line, where the text has no such line.
     fn line_range(&'a self, _id: (), line_index: usize) -> Result<Range<usize>, Error>
         ensures value { IfOk result (IsLineRange (file_of Name.output self.now) line_index) }
-        ensures refused { Tells (past_end (text_of self.now) line_index) result }
+        ensures failed { FailsBy (past_end (text_of self.now) line_index) result }
         ensures memory { NeedsNoMemory result }
     {
         let count = self.line_starts.len();

@@ -1,15 +1,15 @@
 //! The iterator over the line starts of a text.
 ghost use Rattle.std.specs.Prelude.{◌≤◌, length};
 
-/// The bytes at which the lines of a text start, in ascending order.
+/// The byte indices at which the lines of a text start, from 0, in ascending order.
 ///
-/// Given by [`line_starts`](crate::files::line_starts). It ends: see [`crate::laws::line_starts_end`].
+/// Returned by [`line_starts`](codespan_reporting::files::line_starts). It ends, by the law [`codespan_base::laws::line_starts_end`].
 #[derive(Debug, Drop)]
 pub struct LineStarts<'a> {
     source: &'a str,
-    // Where the search for the next newline goes on.
+    // The byte index from which the next newline is searched.
     at: usize,
-    // Whether the first start was given.
+    // Whether the first start has been returned.
     begun: bool,
     ghost within: { at ≤ length source.now },
 }
@@ -19,7 +19,7 @@ impl<'a> LineStarts<'a> {
     ghost use Rattle.codespan_files.specs.Lines.{line_starts_of};
     ghost use Rattle.codespan_files.specs.LineStarts.{starts_left};
 
-    // All starts of the text.
+    /// Returns an iterator over all line starts of the text.
     pub(super) fn new(source: &'a str) -> Self
         ensures { starts_left result ≡ line_starts_of source.now }
     {
@@ -35,7 +35,7 @@ impl<'a> Iterator for LineStarts<'a> {
     ghost use Rattle.std.specs.Iterator.{YieldsFirst, item_count};
     ghost use Rattle.codespan_files.specs.LineStarts.{starts_left};
 
-    /// A byte.
+    /// The byte index of a line start.
     type Item = usize;
 
     ghost next_gives = { YieldsFirst starts_left };

@@ -1,4 +1,4 @@
--- What the rows of a line are of, as the renderer holds it.
+-- What the rows of a line are rendered from, as the renderer holds it.
 use Rattle.std.specs.Prelude.{ℕ, Option}
 use Rattle.std.specs.Option.{option_map}
 use Rattle.codespan_base.specs.Streams.{Stream}
@@ -12,7 +12,7 @@ use Rattle.codespan_picture.specs.Lanes.{LaneRow, Source, Plain, Below, Underlin
 use Rattle.codespan_picture.specs.Rows.{Look, Lanes, Line}
 use Rattle.codespan_picture.specs.RowParts.{lane_of, row_lanes}
 
--- what all rows of a picture share
+-- what all rows of one call share
 abbrev pub look_view : look.Look → Look
 look_view x = record {
   chars = x.chars.now;
@@ -22,11 +22,11 @@ look_view x = record {
   padding = x.padding;
 }
 
--- the marks in a row's lanes
+-- the multi-line label marks in a row's lanes
 abbrev pub lanes_of_given : lanes.Lanes → Lanes
 lanes_of_given x = lanes_of x.count x.marks.now
 
--- a drawn line
+-- a rendered line
 abbrev pub line_view : line.Line → Line
 line_view x = record {
   number = x.number;

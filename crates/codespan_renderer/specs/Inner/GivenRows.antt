@@ -1,4 +1,4 @@
--- Parts of rows, of what the renderer holds.
+-- Parts of rows, by what the renderer holds.
 use Rattle.std.specs.Prelude.{ℕ, List, ◌++◌, filter, Option}
 use Rattle.std.specs.Option.{option_map}
 use Rattle.std.specs.Borrow.{Bor}
@@ -8,9 +8,9 @@ use Rattle.codespan_base.specs.Streams.{Stream, Header, bytes, newline, one_mark
 use Rattle.codespan_picture.specs.declared.cells.Cell.{Cell}
 use Rattle.codespan_picture.specs.Cells.{cells, cells_to_end}
 use Rattle.codespan_picture.specs.Given.{GivenLabel, GivenMark, single_label_view, single_label_views, mark_view, locus_view, text_now}
-use Rattle.codespan_picture.specs.Lanes.{filling, label_glyph}
+use Rattle.codespan_picture.specs.Lanes.{Source, Underline, filling, label_glyph}
 use Rattle.codespan_picture.specs.Rows.{caret_rows, hanging, hanging_rows}
-use Rattle.codespan_picture.specs.RowParts.{border, carets, cells_before, gutter, label_message, leading_of, numbered_gutter, pointers, severity_name, source_lanes, underline_lanes}
+use Rattle.codespan_picture.specs.RowParts.{border, carets, cells_before, gutter, label_message, leading_of, numbered_gutter, pointers, row_lanes, severity_name}
 use Rattle.codespan_picture.specs.RowStreams.{bracketed, leading_locus, pointer_row, stream_of_rows}
 use Rattle.codespan_picture.specs.declared.given.Locus as rust_locus
 use Rattle.codespan_renderer.specs.declared.term.renderer.line.Look as look
@@ -28,19 +28,20 @@ given_heading locus severity code =
     ++ one_mark (Header severity) ++ bytes (severity_name severity)
     ++ bracketed (option_map text_now code)
 
--- ---- the beginnings of rows
+-- ---- the starts of rows
 
--- the beginning of a source row: up to its text
+-- the start of a source row: up to its text
 abbrev pub given_source_lanes : look.Look → line.Line → Stream
 given_source_lanes x row =
     numbered_gutter x.padding row.number ++ border x.chars.now
-    ++ source_lanes (look_view x) (leading_of (line_view row)) (lanes_of_given row.lanes) ++ space
+    ++ row_lanes (look_view x) (leading_of (line_view row)) Source (lanes_of_given row.lanes)
+    ++ space
 
--- the beginning of a mark's underline row: up to its lanes
+-- the start of a mark's underline row: up to its lanes
 abbrev pub given_underline_lanes : look.Look → line.Line → GivenMark → Stream
 given_underline_lanes x row mark =
     gutter x.padding ++ border x.chars.now
-    ++ underline_lanes (look_view x) (leading_of (line_view row)) (mark_view mark)
+    ++ row_lanes (look_view x) (leading_of (line_view row)) (Underline (mark_view mark))
     (lanes_of_given row.lanes)
 
 -- a lane that is no gap: what fills it, where a line crosses it, and its own character
@@ -49,7 +50,7 @@ given_filled x crossing style own =
     filling x.severity x.chars.now (option_map mark_view crossing) 1
     ++ label_glyph x.severity style own
 
--- ---- what stands under a line
+-- ---- the rows under a line
 
 -- the characters of a line
 abbrev pub given_cells : look.Look → line.Line → List Cell

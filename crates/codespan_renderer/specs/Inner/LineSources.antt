@@ -1,4 +1,4 @@
--- What a source of a line's characters is of.
+-- What a source of a line's characters is made from.
 use Rattle.std.specs.Prelude.{ℕ, List}
 use Rattle.codespan_picture.specs.declared.cells.Cell.{Cell}
 use Rattle.codespan_picture.specs.Cells.{cells, cells_to_end}
@@ -12,7 +12,7 @@ pub record SourcedLine : Type 0 where
   pub text : List ℕ
   pub labels : List GivenLabel
 
--- those of a drawn line
+-- those of a rendered line
 abbrev pub sourced_line : look.Look → line.Line → SourcedLine
 sourced_line x row = record {
   tab_width = x.tab_width;

@@ -1,5 +1,5 @@
 -- The pointers of a line, found once for all its rows.
-use Rattle.std.specs.Prelude.{◌≡◌, ℕ, ◌+◌, ◌-◌, ◌^◌, ◌<◌, ◌≤◌, length, slice_index_or, true, nat_lt, min, List, [], ◌∷◌, ◌++◌, filter, drop, Option}
+use Rattle.std.specs.Prelude.{◌≡◌, ℕ, ◌+◌, ◌-◌, ◌≤◌, true, nat_lt, min, List, [], ◌∷◌, ◌++◌, filter, drop, Option}
 use Rattle.std.specs.Option.{option_map}
 use Rattle.std.specs.List.{filter_map}
 use Rattle.codespan_picture.specs.Types.{LabelStyle}
@@ -14,12 +14,6 @@ use Rattle.codespan_picture.specs.Rows.{Look}
 use Rattle.codespan_picture.specs.RowParts.{starts_in}
 use Rattle.codespan_renderer.specs.Inner.Runs.{best_from, pointer_found}
 use Rattle.codespan_renderer.specs.Inner.Sweeps.{starts_from}
-
--- the columns after these cells can be counted
-abbrev pub AreNarrow : List Cell → Type 0
-AreNarrow cs =
-    (k : ℕ) (d : Cell) → k < length cs
-    → (slice_index_or cs k d).column + (slice_index_or cs k d).width < 2 ^ 128
 
 -- the pointer under a character, of this style
 abbrev pub pointer_under : Cell → LabelStyle → Pointer

@@ -1,4 +1,4 @@
--- The primary labels over several lines, as one line's text sees them.
+-- The primary multi-line labels, as far as they color one line's text.
 use Rattle.std.specs.Prelude.{◌≡◌, ℕ, ◌+◌, ◌≤◌, Bool, false, ◌||◌, ◌&&◌, nat_le, List, Option, Some, None}
 use Rattle.std.specs.List.{list_any}
 use Rattle.codespan_base.specs.Labels.{LaneMark, is_primary_style}
@@ -11,11 +11,11 @@ abbrev pub is_from : Option ℕ → ℕ → Bool
 is_from None place = false
 is_from (Some start) place = nat_le start place
 
--- one of the marks takes in the character
+-- the label of one of the marks covers the character
 abbrev pub is_marked : PrimaryMarks → Cell → Bool
 is_marked m c = is_from m.from c.place || nat_le (c.place + c.bytes) m.to
 
--- the marks take in the characters that the primary ones of these take in
+-- they cover the characters that the labels of the primary ones of these marks cover
 abbrev pub AreMarksOf : List LaneMark → PrimaryMarks → Type 0
 AreMarksOf marks given =
     (c : Cell) → 1 ≤ c.bytes → is_marked given c

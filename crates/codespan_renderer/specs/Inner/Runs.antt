@@ -1,4 +1,4 @@
--- Words of the loops that send rows: runs of one character, and the best style found so far.
+-- Words of the loops that write rows: runs of one character, and the best style found so far.
 use Rattle.std.specs.Prelude.{◌≡◌, ℕ, Bool, List, ◌++◌, map, filter, fold, reverse, slice_get, Option, Some, None, if◌then◌else◌}
 use Rattle.std.specs.List.{list_any}
 use Rattle.std.specs.Option.{option_map}
@@ -13,12 +13,12 @@ use Rattle.codespan_picture.specs.Rows.{Look, Line, HangingRow, hanging}
 use Rattle.codespan_picture.specs.RowParts.{starts_in, pointer_style}
 use Rattle.codespan_picture.specs.RowStreams.{stream_of_rows}
 
--- so many carets of a style, or blanks
+-- a run of carets of a style, or of spaces
 unfoldable pub caret_run : Chars → Option LabelStyle → ℕ → Stream
 caret_run chars None count = blanks count
 caret_run chars (Some style) count = repeated count (caret_for chars (Some style))
 
--- of two styles a primary one goes first
+-- of two styles a primary one takes precedence
 abbrev pub better : Option LabelStyle → LabelStyle → Option LabelStyle
 better (Some Primary) style = Some Primary
 better _ style = Some style
@@ -50,7 +50,7 @@ pub record AreHanging (labels before after : List GivenLabel) : Type 0 where
       filter has_message (single_label_views (before ++ after))
       ≡ hanging (single_label_views labels)
 
--- the two lists are a beginning of the labels and an end of them
+-- the two lists are a prefix of the labels and a suffix of them
 pub record ArePieces (labels before after : List GivenLabel) : Type 0 where
   pub rest : List GivenLabel
   pub begins : before ++ rest ≡ labels

@@ -7,7 +7,7 @@ use Rattle.codespan_renderer.specs.declared.term.renderer.by_cells.sweep.Sweep.{
 use Rattle.codespan_picture.specs.Carets.{covers}
 use Rattle.codespan_picture.specs.Given.{single_label_views}
 
--- the labels start at this place or later, each no earlier than the one before it
+-- the labels start at this byte index or later, each no earlier than the one before it
 abbrev pub starts_from : ℕ → List Labelled → Bool
 starts_from least [] = true
 starts_from least (x ∷ xs) = nat_le least x.start && starts_from x.start xs
@@ -25,7 +25,7 @@ abbrev pub end_with : Bool → ℕ → Labelled → ℕ
 end_with counts end x = if counts && nat_lt x.start x.end then max end x.end else end
 
 -- of a character that ends at this byte index or later: one of the labels that pass has a byte of
--- it where it begins before the end, or where one of those that are left has
+-- it where it begins before the end, or where one of the remaining ones has
 pub record IsReached (passes : Labelled → Bool) (labels left : List Labelled)
     (place end : ℕ) : Type 0 where
   pub is : (c : Cell) → place ≤ c.place + c.bytes → 1 ≤ c.bytes
@@ -35,7 +35,7 @@ pub record IsReached (passes : Labelled → Bool) (labels left : List Labelled)
 abbrev pub labels_left : Sweep → List Labelled
 labels_left s = single_label_views (drop s.next s.labels.now)
 
--- a walk has met the labels that begin before this place
+-- a walk has met the labels that begin before this byte index
 pub record HasMet (place : ℕ) (s : Sweep) : Type 0 where
   pub primary :
       IsReached is_primary (single_label_views s.labels.now) (labels_left s) place s.primary_end

@@ -7,13 +7,13 @@ use Rattle.codespan_picture.specs.declared.cells.Cell.{Cell}
 use Rattle.codespan_picture.specs.Cells.{width_of}
 use Rattle.codespan_picture.specs.RowParts.{cells_before, cells_up_to, end_caret, start_caret, underline_message}
 
--- how many cells the line of a mark runs over
+-- how many cells the underline of a mark has between its corner and its caret
 abbrev pub run_width : List Cell → MultiLabel → ℕ
 run_width cs (Top start) = width_of (cells_up_to start cs)
 run_width cs Left = 0
 run_width cs (Bottom end message) = width_of (cells_before end cs)
 
--- the line over so many cells, the caret, and what the label says
+-- an underline of this width, the caret, and the message
 unfoldable pub run_underline : Chars → LabelStyle → ℕ → MultiLabel → Stream
 run_underline chars style width (Top start) =
     repeated width chars.multi_top ++ glyph (start_caret chars style)

@@ -1,4 +1,4 @@
-//! The rows of a picture.
+//! The rows of a rendered diagnostic: [`Renderer`] has a call for each kind.
 
 ghost use Rattle.std.specs.Prelude.{◌≡◌};
 ghost use Rattle.codespan_picture.specs.Given.{lanes_in_order};
@@ -25,17 +25,20 @@ use codespan_base::diagnostic::{LabelStyle, Severity};
 use codespan_base::files::Error;
 use codespan_base::term::{Config, WriteStyle};
 pub use codespan_picture::given::{Locus, MultiLabel, SingleLabel};
-use header::{send_header, send_start};
-use line::{Lanes, Line, Look, drawn_text, leading_whitespace};
-use notes::{send_break, send_empty, send_note};
+use header::{write_header, write_start};
+use line::Look;
+pub use line::{Lanes, Line};
+use notes::{write_break, write_empty, write_note};
 pub use parts::count_digits;
-use parts::send_newline;
+use parts::write_newline;
 use scanned_line::ScannedLine;
-use source::send_line;
+use source::write_line;
 use std::io;
 use std::io::Write;
 
-/// Whether the lanes ascend strictly and stay below their number: the one condition of the calls that are given lanes.
+/// Returns whether the lanes, which count from 0, ascend strictly and are below their number: what the calls with lanes require.
+///
+/// `lanes_in_order(2, &[(1, Primary, Left), (0, Primary, Left)])` is false.
 pub fn lanes_in_order(
     num_multi_labels: usize,
     multi_labels: &[(usize, LabelStyle, MultiLabel<'_>)],
@@ -52,10 +55,13 @@ pub fn lanes_in_order(
     true
 }
 
-/// Draws the rows of a picture to a writer.
+/// Renders rows to a writer. `codespan_reporting::term::renderer` has a picture that names their parts, and an example.
 ///
-/// Each call sends the stream of its rows, marks of style included. It refuses with [`Error::Io`] alone, where the writer refuses
-/// or takes nothing, and has then sent a beginning of the stream. No call is refused for want of memory.
+/// Each `render_` call writes whole rows, style marks included. It neither flushes nor allocates. `outer_padding` is the padding width in
+/// characters, of any size; a line number with more digits is written in full. As a [`WriteStyle`] a renderer passes on to its writer.
+///
+/// # Errors
+/// Each `render_` call fails with [`Error::Io`] alone: the writer fails or takes no bytes. A prefix of its rows has then been written.
 #[derive(Drop)]
 pub struct Renderer<'writer, 'config, W> {
     writer: &'writer mut W,
@@ -72,7 +78,7 @@ impl<'writer, 'config, W: WriteStyle> Renderer<'writer, 'config, W> {
     ghost use Rattle.codespan_renderer.specs.Renderers.{rendered_break, rendered_note};
     ghost use Rattle.codespan_renderer.specs.Renderers.{rendered_source, source_line};
 
-    /// A renderer to the writer, by the configuration's characters, tab width and layout.
+    /// Makes a renderer that writes to `writer` with the characters, the tab width (in cells) and the layout of `config`.
     pub fn new(
         writer: &'writer mut W,
         config: &'config Config<'config>,
@@ -84,7 +90,7 @@ impl<'writer, 'config, W: WriteStyle> Renderer<'writer, 'config, W> {
         Renderer { writer, config }
     }
 
-    /// What all rows of one call share.
+    /// Returns what all rows of one call share.
     fn look(&self, severity: Severity, padding: usize) -> Look<'config>
         ensures { look_view result ≡ look_of (config_of self.now) severity padding }
     {
@@ -98,11 +104,7 @@ impl<'writer, 'config, W: WriteStyle> Renderer<'writer, 'config, W> {
         }
     }
 
-    /// The header of a diagnostic: where it is, how bad it is, its code and its message. An empty code is not written.
-    ///
-    /// ```text
-    /// error[E0001]: unexpected type in `+` application
-    /// ```
+    /// Writes a header: the locus, the severity, the code in brackets and the message. An empty code is left out.
     pub fn render_header(
         &mut self,
         locus: Option<&Locus>,
@@ -113,45 +115,38 @@ impl<'writer, 'config, W: WriteStyle> Renderer<'writer, 'config, W> {
         ensures { Renders W.sink (rendered_header locus.entry severity code.entry message.now)
             self.old result self.new }
     {
-        send_header(self.writer, locus, severity, code, message)?;
+        write_header(self.writer, locus, severity, code, message)?;
         Ok(())
     }
 
-    /// An empty line.
+    /// Writes an empty line.
     pub fn render_empty(&mut self) -> Result<(), Error>
         ensures { Renders W.sink newline self.old result self.new }
     {
-        send_newline(self.writer)?;
+        write_newline(self.writer)?;
         Ok(())
     }
 
-    /// The start of a file's snippet. `outer_padding` is the room for line numbers, in characters.
-    ///
-    /// ```text
-    /// ┌─ test:2:9
-    /// ```
+    /// Writes the start of a snippet: `snippet_start` of the configuration, and the locus.
     pub fn render_snippet_start(&mut self, outer_padding: usize, locus: &Locus) -> Result<(), Error>
         ensures { Renders W.sink (rendered_start (config_of self.old) outer_padding locus.now)
             self.old result self.new }
     {
         let config = self.config;
-        send_start(self.writer, &config.chars, outer_padding, locus)?;
+        write_start(self.writer, &config.chars, outer_padding, locus)?;
         Ok(())
     }
 
-    /// A line of the source with its carets, its messages and its underlines.
+    /// Writes a line of the source with the carets, messages and underlines of its labels.
     ///
-    /// `outer_padding` is the room for line numbers, in characters, and `num_multi_labels` the number of the file's lanes. Line feeds,
-    /// carriage returns and NULs at the end of `source` are not drawn, and a tab is drawn as the blanks up to its stop. Ranges are in bytes
-    /// of `source`.
+    /// `line_number` is written as it is. Line feeds, carriage returns and NULs at the end of `source` are not rendered, as in the Rust
+    /// crate. A tab is rendered as the spaces up to the next tab stop; any other character has the cells of `unicode_width`.
     ///
-    /// The labels may stand in any order, and their ranges may be reversed, past the end, or off character boundaries. The lanes of
-    /// `multi_labels` have to ascend strictly and stay below `num_multi_labels`; [`lanes_in_order`] tests this.
+    /// Ranges are in bytes of `source`, from 0, the end exclusive. They may be in any order, reversed, past the end, or off character
+    /// boundaries; one without a byte has no caret. `num_multi_labels` is the number of the file's lanes.
     ///
-    /// ```text
-    /// 10 │   │ muffin. Halvah croissant candy canes bonbon candy. Apple pie jelly
-    ///    │ ╭─│─────────^
-    /// ```
+    /// # Requires
+    /// The lanes of `multi_labels` ascend strictly and are below `num_multi_labels`, as [`lanes_in_order`] tests.
     pub fn render_snippet_source<'row, 'd>(
         &mut self,
         outer_padding: usize,
@@ -168,32 +163,25 @@ impl<'writer, 'config, W: WriteStyle> Renderer<'writer, 'config, W> {
             multi_labels.now))
             self.old result self.new }
     {
-        let text = drawn_text(source);
-        let line = Line {
-            number: line_number,
-            text,
-            leading: leading_whitespace(text),
-            labels: single_labels,
-            lanes: Lanes {
-                count: num_multi_labels,
-                marks: multi_labels,
-            },
+        let lanes = Lanes {
+            count: num_multi_labels,
+            marks: multi_labels,
         };
+        let line = Line::new(line_number, source, single_labels, lanes);
         let look = self.look(severity, outer_padding);
         let scanned = ScannedLine {
             tab_width: look.tab_width,
-            text,
+            text: line.text,
             labels: single_labels,
         };
-        send_line(self.writer, look, line, &scanned)?;
+        write_line(self.writer, look, line, &scanned)?;
         Ok(())
     }
 
-    /// A row of a snippet without text.
+    /// Writes a row with the border and the lanes alone.
     ///
-    /// ```text
-    /// │ │ │
-    /// ```
+    /// # Requires
+    /// The lanes of `multi_labels` ascend strictly and are below `num_multi_labels`, as [`lanes_in_order`] tests.
     pub fn render_snippet_empty(
         &mut self,
         outer_padding: usize,
@@ -210,15 +198,14 @@ impl<'writer, 'config, W: WriteStyle> Renderer<'writer, 'config, W> {
             count: num_multi_labels,
             marks: multi_labels,
         };
-        send_empty(self.writer, look, lanes)?;
+        write_empty(self.writer, look, lanes)?;
         Ok(())
     }
 
-    /// The row of a break: lines are left out here. Its marks are those of the next line.
+    /// Writes a break, for lines that are left out. The views pass the multi-line label marks of the next line, as the Rust crate does.
     ///
-    /// ```text
-    /// · │ │
-    /// ```
+    /// # Requires
+    /// The lanes of `multi_labels` ascend strictly and are below `num_multi_labels`, as [`lanes_in_order`] tests.
     pub fn render_snippet_break(
         &mut self,
         outer_padding: usize,
@@ -235,22 +222,17 @@ impl<'writer, 'config, W: WriteStyle> Renderer<'writer, 'config, W> {
             count: num_multi_labels,
             marks: multi_labels,
         };
-        send_break(self.writer, look, lanes)?;
+        write_break(self.writer, look, lanes)?;
         Ok(())
     }
 
-    /// A note: a row for each of its lines, the first one after the bullet. A message without a line draws nothing.
-    ///
-    /// ```text
-    /// = expected type `Int`
-    ///      found type `String`
-    /// ```
+    /// Writes a note: a row for each line of the message, the first one after the note bullet. An empty message writes nothing.
     pub fn render_snippet_note(&mut self, outer_padding: usize, message: &str) -> Result<(), Error>
         ensures { Renders W.sink (rendered_note (config_of self.old) outer_padding message.now)
             self.old result self.new }
     {
         let config = self.config;
-        send_note(self.writer, &config.chars, outer_padding, message)?;
+        write_note(self.writer, &config.chars, outer_padding, message)?;
         Ok(())
     }
 }
@@ -306,5 +288,5 @@ impl<W: WriteStyle> WriteStyle for Renderer<'_, '_, W> {
         self.writer.put(bytes)
     }
 
-    ghost tells = { λ r. W.tells (writer_of r) };
+    ghost holds_contents = { λ r. W.holds_contents (writer_of r) };
 }

@@ -1,29 +1,30 @@
--- Drawing with lookups on the way.
+-- Rendering with lookups on the way.
 use Rattle.std.specs.Prelude.{◌≡◌, ◌≢◌, ◌⊎◌, true, Option, Some, None, MatchResult, Result}
 use Rattle.codespan_picture.specs.Types.{Error, OutOfMemory}
 use Rattle.codespan_base.specs.Errors.{IsIo}
 use Rattle.codespan_base.specs.Streams.{Stream}
-use Rattle.codespan_base.specs.WriterLaw.{Sink, sent, is_told, Began, refusing}
+use Rattle.codespan_base.specs.WriterLaw.{Sink, with_written, is_known, PrefixWritten, failing}
 
--- the stream came, where the writer tells its bytes, and nothing was refused
-abbrev pub Came : Sink → Stream → Sink → Type 0
-Came old items new = (new.frame ≡ old.frame) × (is_told old ≡ true → new ≡ sent old items)
+-- the stream has been written, where the writer's bytes are known, and nothing failed
+abbrev pub WroteStream : Sink → Stream → Sink → Type 0
+WroteStream old items new =
+    (new.frame ≡ old.frame) × (is_known old ≡ true → new ≡ with_written old items)
 
--- the writer refused, and a beginning of the stream came
-abbrev pub Stopped : Sink → Stream → Sink → Type 0
-Stopped old items new =
-    (new.frame ≡ refusing old.frame) × (is_told old ≡ true → Began old items new)
+-- the writer failed, and a prefix of the stream has been written
+abbrev pub WrotePrefix : Sink → Stream → Sink → Type 0
+WrotePrefix old items new =
+    (new.frame ≡ failing old.frame) × (is_known old ≡ true → PrefixWritten old items new)
 
--- a lookup refused, or memory ran out, after a beginning of the stream
-pub record EndedAsking (refused : Option Error) (old : Sink) (items : Stream) (error : Error)
+-- a lookup or an allocation failed after a prefix of the stream
+pub record EndedAsking (failed : Option Error) (old : Sink) (items : Stream) (error : Error)
     (new : Sink) : Type 0 where
   pub frame : new.frame ≡ old.frame
-  pub begun : is_told old ≡ true → Began old items new
-  pub told : error ≢ OutOfMemory → refused ≡ Some error
+  pub begun : is_known old ≡ true → PrefixWritten old items new
+  pub told : error ≢ OutOfMemory → failed ≡ Some error
 
--- the call sends the stream, and makes lookups on the way, the first refusal of which is `refused`
+-- the call writes the stream and makes lookups on the way, the first error of which is `failed`
 abbrev pub SendsAsking : Option Error → Sink → Stream → Result (Unit {0}) Error → Sink → Type 0
-SendsAsking refused old items r new =
+SendsAsking failed old items r new =
     MatchResult r
-    (λ _. (refused ≡ None) × Came old items new)
-    (λ e. (IsIo e × Stopped old items new) ⊎ EndedAsking refused old items e new)
+    (λ _. (failed ≡ None) × WroteStream old items new)
+    (λ e. (IsIo e × WrotePrefix old items new) ⊎ EndedAsking failed old items e new)

@@ -1,26 +1,41 @@
 -- Entries as a view holds them.
-use Rattle.std.specs.Prelude.{◌≡◌, ℕ, ◌==◌, ◌&&◌, List, [], ◌++◌, map, Option, Some, None, if◌then◌else◌}
+use Rattle.std.specs.Prelude.{◌≡◌, ℕ, ◌-◌, ◌==◌, ◌&&◌, nat_lt, List, [], ◌++◌, map, Option, Some, None, if◌then◌else◌}
+use Rattle.std.specs.Option.{option_map}
 use Rattle.std.specs.List.{AllByRecursion}
 use Rattle.codespan_picture.specs.Types.{Config}
 use Rattle.codespan_base.specs.FileModel.{FileModel, Lookup}
 use Rattle.codespan_base.specs.LawfulFiles.{IsLineRange}
-use Rattle.codespan_base.specs.Labels.{Labelled, from_line_start}
+use Rattle.codespan_base.specs.Labels.{Labelled, MultiLabel, Top, Left, Bottom, from_line_start, mark_of, part_at}
 use Rattle.codespan_picture.specs.Picture.{label_of}
 use Rattle.codespan_reporting.specs.declared.term.views.entry.Entry.{Entry as GivenEntry}
+use Rattle.codespan_reporting.specs.declared.term.views.entry.MultiPart.{MultiPart}
+use Rattle.codespan_reporting.specs.declared.term.views.entry.MultiPart.TheVariants as part
 use Rattle.codespan_reporting.specs.declared.term.views.entry.Says.{Says as GivenSays}
 use Rattle.codespan_reporting.specs.declared.term.views.entry.Says.TheVariants as given
 use Rattle.codespan_reporting.specs.declared.term.views.entry.SourceLine.{SourceLine}
-use Rattle.codespan_reporting.specs.declared.term.views.gather.LabelPlace.{LabelPlace}
-use Rattle.codespan_reporting.specs.Inner.Entries.{Entry, Says, Shown, Single, line_entries}
+use Rattle.codespan_reporting.specs.declared.term.views.label_entries.LabelPlace.{LabelPlace}
+use Rattle.codespan_reporting.specs.Inner.Entries.{Entry, Says, Shown, Single, Multi, line_entries}
 use Rattle.codespan_picture.specs.Lines.{shows}
 use Rattle.codespan_picture.specs.Lookups.{is_asked, of_line}
 use Rattle.codespan_reporting.specs.Inner.PlacedLabels.{IsIdAt}
+
+-- what a label over several lines does on a line that starts at this byte: its part of the line
+abbrev pub part_from : ℕ → Labelled → MultiPart → MultiLabel
+part_from start x part.Top = Top (x.start - start)
+part_from start x part.Left = Left
+part_from start x part.Bottom = Bottom (x.end - start) x.message
 
 -- what an entry says of a line that starts at this byte
 abbrev pub says_of : {Id : Type 0} → ℕ → GivenSays Id → Says
 says_of start given.Shown = Shown
 says_of start (given.Single place label) =
     Single place (from_line_start start (label_of label.now).label)
+says_of start (given.Multi lane label part) =
+    Multi (record {
+      lane = lane;
+      style = label.now.style;
+      part = part_from start (label_of label.now).label part;
+    })
 
 -- an entry
 abbrev pub entry_of : {Id : Type 0} → GivenEntry Id → Entry
@@ -57,6 +72,20 @@ abbrev pub says_at : Config → LabelPlace → ℕ → ℕ → ℕ → ℕ → L
 says_at config at s e l start x =
     if (s == e) && (s == l) then Some (Single at.place (from_line_start start x))
     else if shows config s e l then Some Shown else None
+
+-- which part a label over lines `s` to `e` has of line `l`, if any: none where it is inside a line
+abbrev pub part_of : ℕ → ℕ → ℕ → Option MultiPart
+part_of s e l =
+    if s == e then None
+    else if s == l then Some part.Top
+    else if e == l then Some part.Bottom
+    else if nat_lt s l && nat_lt l e then Some part.Left
+    else None
+
+-- the mark that such a label has on the line, which starts at this byte
+abbrev pub multi_at : LabelPlace → ℕ → ℕ → ℕ → ℕ → Labelled → Option Says
+multi_at at s e l start x =
+    if s == e then None else option_map Multi (mark_of at.lane x (part_at s e l start x))
 
 module _ (config : Config) (f : FileModel) (x : Labelled) where
   -- the lookups of a line, where the label asks for it

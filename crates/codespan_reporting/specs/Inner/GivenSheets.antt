@@ -10,7 +10,7 @@ use Rattle.codespan_picture.specs.Lines.{drawn_lines}
 use Rattle.codespan_picture.specs.Lookups.{asked_of, filled_lines, first_error, locus_lookups, numbers_for_padding, of_filled}
 use Rattle.codespan_picture.specs.Padding.{padding_of}
 use Rattle.codespan_picture.specs.Rows.{Locus}
-use Rattle.codespan_picture.specs.Snippets.{InFile, LabelledFile, labelled_file, labelled_files, rows_after, file_ids}
+use Rattle.codespan_picture.specs.Snippets.{InFile, LabelledFile, labelled_file, labelled_files, lane_count, rows_after, file_ids}
 use Rattle.codespan_reporting.specs.declared.term.views.gather.Gathered.{Gathered}
 use Rattle.codespan_reporting.specs.declared.term.views.sheet.Sheet.{Sheet}
 use Rattle.codespan_reporting.specs.declared.term.views.sheet.SheetFile.{SheetFile}
@@ -19,7 +19,6 @@ use Rattle.codespan_reporting.specs.Inner.Entries.{is_below}
 use Rattle.codespan_reporting.specs.Inner.GivenEntries.{Adds, IsOfFiles, entry_of}
 use Rattle.codespan_reporting.specs.Inner.GivenSteps.{IsStepOf, asked_by_all, step_of}
 use Rattle.codespan_reporting.specs.Inner.LabelledFiles.{IsTold, ids_given}
-use Rattle.codespan_reporting.specs.Inner.Lanes.{file_lanes, lanes_given}
 use Rattle.codespan_reporting.specs.Inner.PlacedLabels.{all_entries}
 use Rattle.codespan_reporting.specs.Inner.SpannedDigits.{all_digits}
 use Rattle.codespan_reporting.specs.Inner.StepDrawing.{DoFit}
@@ -39,12 +38,12 @@ ids_of {Id} files = map (λ (f : SheetFile Id). f.file.now.id) files
 -- steps draw, and what they ask for
 pub record IsSheetFile {Id : Type 0} (config : Config) (s : LabelledFile) (f : SheetFile Id)
     (own : List (GivenStep Id)) : Type 0 where
-  pub lanes_are : lanes_given f.file.now.lanes.items ≡ file_lanes s
+  pub lanes_are : f.file.now.lane_count ≡ lane_count s
   pub place : IsLocusOfFile s (locus_view f.locus)
   pub count_is : f.step_count ≡ length own
   pub each : AllByRecursion (IsStepOf s.file) own
-  pub fits : DoFit (map step_of own)
-  pub rows : rows_of_steps s.file (file_lanes s) (map step_of own)
+  pub fits : DoFit (lane_count s) (map step_of own)
+  pub rows : rows_of_steps s.file (lane_count s) (map step_of own)
       ≡ rows_after s None (drawn_lines config s.file s.labels)
   pub asked : asked_by_all own ≡ flat_map (of_filled config.layout) (filled_lines config s)
 
@@ -108,7 +107,7 @@ abbrev pub sheet_lookups : {Id : Type 0} → Config → FileDatabase Id → List
     → List (Id × Lookup)
 sheet_lookups config table xs = sheet_numbers config table xs ++ sheet_places table xs
 
--- what these lookups are refused with
-abbrev pub sheet_refusal : {Id : Type 0} → Config → FileDatabase Id → List (InFile Id)
+-- what these lookups fail with
+abbrev pub sheet_failure : {Id : Type 0} → Config → FileDatabase Id → List (InFile Id)
     → Option Error
-sheet_refusal config table xs = first_error table.refusal (sheet_lookups config table xs)
+sheet_failure config table xs = first_error table.failure (sheet_lookups config table xs)

@@ -1,5 +1,5 @@
 -- Snippets as a view holds them.
-use Rattle.std.specs.Prelude.{Bool, List, [], ◌∷◌, ◌++◌, length, map, if◌then◌else◌, Result}
+use Rattle.std.specs.Prelude.{Bool, List, [], ◌∷◌, ◌++◌, map, if◌then◌else◌, Result}
 use Rattle.codespan_picture.specs.Types.{Error}
 use Rattle.codespan_base.specs.FileModel.{FileDatabase, FileModel, Lookup}
 use Rattle.codespan_base.specs.FileModel.Lookup.{Source}
@@ -10,16 +10,15 @@ use Rattle.codespan_renderer.specs.declared.term.renderer.Renderer.{Renderer}
 use Rattle.codespan_reporting.specs.declared.term.views.lines.Page.{Page}
 use Rattle.codespan_reporting.specs.declared.term.views.sheet.SheetFile.{SheetFile}
 use Rattle.codespan_reporting.specs.declared.term.views.steps.Step.{Step as GivenStep}
-use Rattle.codespan_reporting.specs.Inner.FileLookups.{refusal_in}
+use Rattle.codespan_reporting.specs.Inner.FileLookups.{failure_in}
 use Rattle.codespan_reporting.specs.Inner.GivenSteps.{asked_by_all, step_of}
-use Rattle.codespan_reporting.specs.Inner.Lanes.{lanes_given}
 use Rattle.codespan_reporting.specs.Inner.Rendering.{DrawsRowsAsking}
 use Rattle.codespan_reporting.specs.Inner.Steps.{rows_of_steps}
 
 module _ {Id : Type 0} (file : SheetFile Id) where
   -- a row with its lanes and nothing else
   abbrev pub empty_row : Row
-  empty_row = EmptyRow (record { count = length file.file.now.lanes.items; marks = [] })
+  empty_row = EmptyRow (record { count = file.file.now.lane_count; marks = [] })
 
   -- its first rows
   abbrev pub start_rows : List Row
@@ -32,7 +31,7 @@ module _ {Id : Type 0} (file : SheetFile Id) where
   -- its rows before that one, as these steps draw them
   abbrev pub rows_in : FileModel → List (GivenStep Id) → List Row
   rows_in f steps =
-      start_rows ++ rows_of_steps f (lanes_given file.file.now.lanes.items) (map step_of steps)
+      start_rows ++ rows_of_steps f file.file.now.lane_count (map step_of steps)
 
 -- the lookups of a snippet that these steps draw
 abbrev pub lookups_with : {Id : Type 0} → List (GivenStep Id) → List Lookup
@@ -45,5 +44,5 @@ module _ {W F Id : Type 0} (sink : W → Sink) (table : F → FileDatabase Id) (
   DrawsSnippet f steps =
       let t = table page.files.now in
       let id = f.file.now.id in
-      DrawsRowsAsking sink (refusal_in t.refusal id (lookups_with steps)) page.severity page.padding
+      DrawsRowsAsking sink (failure_in t.failure id (lookups_with steps)) page.severity page.padding
       (rows_in f (t.file id) steps)

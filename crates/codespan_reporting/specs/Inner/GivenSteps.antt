@@ -9,19 +9,26 @@ use Rattle.codespan_reporting.specs.declared.term.views.steps.Gap.TheVariants.{N
 use Rattle.codespan_reporting.specs.declared.term.views.steps.Step.{Step as GivenStep}
 use Rattle.codespan_reporting.specs.declared.term.views.steps.Step.TheVariants as given
 use Rattle.codespan_reporting.specs.Inner.GivenEntries.{IsLineOf, entry_of}
-use Rattle.codespan_reporting.specs.Inner.Steps.{Step, Draw, Fill, Break}
+use Rattle.codespan_reporting.specs.Inner.Entries.{Entry}
+use Rattle.codespan_reporting.specs.Inner.Steps.{Step, Draw, Fill, Break, steps_between}
+use Rattle.codespan_picture.specs.Sequences.{before_line}
 
 -- a step
 abbrev pub step_of : {Id : Type 0} → GivenStep Id → Step
-step_of (given.Shown line singles) = Draw line.index (map entry_of singles.now)
-step_of (given.Filled index number) = Fill index
-step_of (given.Break next) = Break next.index
+step_of (given.Shown line entries) = Draw line.index (map entry_of entries.now)
+step_of (given.Filled index number entries) = Fill index (map entry_of entries.now)
+step_of (given.Break next) = Break (map entry_of next.now)
 
--- what stands in a gap before this line
-abbrev pub gap_steps : Gap → ℕ → List Step
-gap_steps Nothing d = []
-gap_steps (Line l) d = Fill l ∷ []
-gap_steps Lines d = Break d ∷ []
+-- what stands in a gap before a line with these entries, where the line between has those
+abbrev pub gap_steps : List Entry → List Entry → Gap → List Step
+gap_steps hidden next Nothing = []
+gap_steps hidden next (Line l) = Fill l hidden ∷ []
+gap_steps hidden next Lines = Break next ∷ []
+
+-- the gap is that between two shown lines, of which the first may be none
+abbrev pub IsGapBefore : Option ℕ → ℕ → Gap → Type 0
+IsGapBefore was d gap = (hidden next : List Entry)
+    → before_line (steps_between hidden next) was d ≡ gap_steps hidden next gap
 
 -- the number of a line that is filled in is known before the header in the unbroken layout
 abbrev pub known_number : Layout → ℕ → Option ℕ
@@ -44,26 +51,26 @@ asked_with number l = LineRange l ∷ number_asked number l
 
 -- what is asked for when a step is drawn
 abbrev pub asked_by : {Id : Type 0} → GivenStep Id → List Lookup
-asked_by (given.Shown line singles) = []
-asked_by (given.Filled index number) = asked_with number index
+asked_by (given.Shown line entries) = []
+asked_by (given.Filled index number entries) = asked_with number index
 asked_by (given.Break next) = []
 
 -- what is asked for when steps are drawn
 abbrev pub asked_by_all : {Id : Type 0} → List (GivenStep Id) → List Lookup
 asked_by_all steps = flat_map asked_by steps
 
--- the step is one of the file: its line is, or the line after it, and a number that is known is the
--- line's
+-- the step is one of the file: its line is, and a number that is known is the line's
 abbrev pub IsStepOf : {Id : Type 0} → FileModel → GivenStep Id → Type 0
-IsStepOf f (given.Shown line singles) = IsLineOf f line
-IsStepOf f (given.Filled index number) = IfSome number (λ known. known ≡ f.number index)
-IsStepOf f (given.Break next) = IsLineOf f next
+IsStepOf f (given.Shown line entries) = IsLineOf f line
+IsStepOf f (given.Filled index number entries) = IfSome number (λ known. known ≡ f.number index)
+IsStepOf f (given.Break next) = Unit {0}
 
 -- the step is one of the file in a layout, which says what numbers are known
 abbrev pub IsStepIn : {Id : Type 0} → Layout → FileModel → GivenStep Id → Type 0
-IsStepIn layout f (given.Shown line singles) = IsLineOf f line
-IsStepIn layout f (given.Filled index number) = number ≡ known_number layout (f.number index)
-IsStepIn layout f (given.Break next) = IsLineOf f next
+IsStepIn layout f (given.Shown line entries) = IsLineOf f line
+IsStepIn layout f (given.Filled index number entries) =
+    number ≡ known_number layout (f.number index)
+IsStepIn layout f (given.Break next) = Unit {0}
 
 -- steps of the file were added, which are these
 pub record AddsSteps {Id : Type 0} (layout : Layout) (f : FileModel) (old new : List (GivenStep Id))

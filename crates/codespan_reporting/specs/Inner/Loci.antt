@@ -13,7 +13,7 @@ abbrev pub least_if_any : List ℕ → Option ℕ
 least_if_any [] = None
 least_if_any (n ∷ ns) = Some (fold min n ns)
 
--- the label is of the file, and a primary one where only those are asked for
+-- the label is of the file, and primary where only primary ones are wanted
 abbrev pub is_asked_label : {Id : Type 0} → (Id → Id → Bool) → Id → Bool → InFile Id → Bool
 is_asked_label same id only_primary x = same id x.id && (not only_primary || is_primary x.label)
 
@@ -22,19 +22,19 @@ abbrev pub label_starts : {Id : Type 0} → (Id → Id → Bool) → Id → Bool
 label_starts {Id} same id only_primary xs =
     map (λ (x : InFile Id). x.label.start) (filter (is_asked_label same id only_primary) xs)
 
--- where the snippet of a file starts, as these labels tell
+-- where the snippet of a file starts, by these labels
 abbrev pub file_start : {Id : Type 0} → (Id → Id → Bool) → List (InFile Id) → Id → FileStart
 file_start same xs id = record {
   primary = least_if_any (label_starts same id true xs);
   any = least_if_any (label_starts same id false xs);
 }
 
--- the lesser of a number, and of one that may be there
+-- the lesser of a number and an optional one
 abbrev pub least_with : Option ℕ → ℕ → ℕ
 least_with None n = n
 least_with (Some m) n = min m n
 
--- where no label tells it
+-- where there is no label
 abbrev pub no_start : FileStart
 no_start = record { primary = None; any = None }
 
@@ -45,11 +45,11 @@ start_with s x = record {
   any = Some (least_with s.any x.start);
 }
 
--- the byte: the least start of a primary label, or of any where none is primary
+-- the byte index: the least start of a primary label, or of any where none is primary
 abbrev pub start_byte : FileStart → ℕ
 start_byte s = unwrap_or s.primary (unwrap_or s.any 0)
 
--- the lookups of the place at which a file's snippet starts
+-- the lookups of the locus at which a file's snippet starts
 abbrev pub place_asked : {Id : Type 0} → GivenFile Id → List (Id × Lookup)
 place_asked f = asked_of f.id (Name ∷ LocationAt (start_byte f.start) ∷ [])
 

@@ -3,9 +3,9 @@ use Rattle.std.specs.Prelude.{◌≡◌, ℕ, zero, suc, Bool, false, List, [], 
 use Rattle.std.specs.List.{AllByRecursion, position_or_len}
 use Rattle.codespan_picture.specs.Types.{Config}
 use Rattle.codespan_base.specs.FileModel.{FileModel}
-use Rattle.codespan_reporting.specs.declared.term.views.gather.LabelPlace.{LabelPlace}
+use Rattle.codespan_reporting.specs.declared.term.views.label_entries.LabelPlace.{LabelPlace}
 use Rattle.codespan_reporting.specs.Inner.Entries.{Entry, entries_of}
-use Rattle.codespan_picture.specs.Snippets.{InFile, file_ids}
+use Rattle.codespan_picture.specs.Snippets.{InFile, file_ids, labelled_file, lane_count}
 
 -- id is the one at place f
 abbrev pub IsIdAt : {Id : Type 0} → List Id → ℕ → Id → Type 0
@@ -23,11 +23,15 @@ module _ {Id : Type 0} (same : Id → Id → Bool) where
   AreApart [] = Unit {0}
   AreApart (j ∷ js) = AllByRecursion (λ k. same j k ≡ false) js × AreApart js
 
-  -- where a label is that comes after these
-  abbrev pub place_after : List Id → List (InFile Id) → InFile Id → LabelPlace
-  place_after ids before x = record { file = file_place ids x.id; place = length before }
-
   module _ (file : Id → FileModel) where
+    -- where a label is that comes after these
+    abbrev pub place_after : List Id → List (InFile Id) → InFile Id → LabelPlace
+    place_after ids before x = record {
+      file = file_place ids x.id;
+      place = length before;
+      lane = lane_count (labelled_file same file before x.id);
+    }
+
     -- what these labels say, after those before them
     abbrev pub entries_after : Config → List Id → List (InFile Id) → List (InFile Id) → List Entry
     entries_after config ids before [] = []

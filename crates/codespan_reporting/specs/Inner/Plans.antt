@@ -4,7 +4,7 @@ use Rattle.std.specs.List.{AllByRecursion}
 use Rattle.codespan_picture.specs.Types.{Error, Layout}
 use Rattle.codespan_base.specs.FileModel.{FileModel, Lookup}
 use Rattle.codespan_picture.specs.Given.{locus_view}
-use Rattle.codespan_picture.specs.Lookups.{Refusals, asked_of, first_error}
+use Rattle.codespan_picture.specs.Lookups.{Failures, asked_of, first_error}
 use Rattle.codespan_picture.specs.Padding.{digit_count}
 use Rattle.codespan_reporting.specs.declared.term.views.file_order.LabelledFile.{LabelledFile as GivenFile}
 use Rattle.codespan_reporting.specs.declared.term.views.gather.Gathered.{Gathered}
@@ -66,13 +66,13 @@ plan_lookups layout gathered =
     number_lookups layout (map entry_of gathered.entries.items) (ids_given gathered.files.items)
     ++ place_lookups gathered.files.items
 
--- what these lookups are refused with
-abbrev pub plans_refusal : {Id : Type 0} → Layout → Refusals Id → Gathered Id → Option Error
-plans_refusal layout refusal gathered = first_error refusal (plan_lookups layout gathered)
+-- what these lookups fail with
+abbrev pub plans_failure : {Id : Type 0} → Layout → Failures Id → Gathered Id → Option Error
+plans_failure layout failure gathered = first_error failure (plan_lookups layout gathered)
 
 -- the digits of the number of a step's line, where it has one
 abbrev pub step_digits : {Id : Type 0} → GivenStep Id → List ℕ
-step_digits (given.Shown line singles) = digit_count line.number ∷ []
-step_digits (given.Filled index (Some number)) = digit_count number ∷ []
-step_digits (given.Filled index None) = []
+step_digits (given.Shown line entries) = digit_count line.number ∷ []
+step_digits (given.Filled index (Some number) entries) = digit_count number ∷ []
+step_digits (given.Filled index None entries) = []
 step_digits (given.Break next) = []

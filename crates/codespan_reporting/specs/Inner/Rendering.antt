@@ -1,4 +1,4 @@
--- Calls that draw by a renderer: with its configuration, to its writer.
+-- Calls that render by a renderer: with its configuration, to its writer.
 use Rattle.std.specs.Prelude.{ℕ, List, Option, Result}
 use Rattle.codespan_picture.specs.Types.{Severity, Error}
 use Rattle.codespan_base.specs.Streams.{Stream}
@@ -11,20 +11,20 @@ use Rattle.codespan_renderer.specs.Renderers.{config_of, writer_of}
 use Rattle.codespan_reporting.specs.Inner.Asking.{SendsAsking}
 
 module _ {W : Type 0} (sink : W → Sink) where
-  -- the call sends this stream
+  -- the call writes this stream
   abbrev pub SendsStream : Stream → Renderer W → Result (Unit {0}) Error → Renderer W → Type 0
   SendsStream items old r new = Sends (sink (writer_of old)) items r (sink (writer_of new))
 
-  -- the call draws these rows
+  -- the call writes these rows
   abbrev pub DrawsRows : Severity → ℕ → List Row → Renderer W → Result (Unit {0}) Error → Renderer W
       → Type 0
   DrawsRows severity padding rows old =
       SendsStream (stream_of_rows (look_of (config_of old) severity padding) rows) old
 
-  -- the call draws these rows, and makes lookups on the way, the first refusal of which is
-  -- `refused`
+  -- the call writes these rows and makes lookups on the way, the first error of which is
+  -- `failed`
   abbrev pub DrawsRowsAsking : Option Error → Severity → ℕ → List Row → Renderer W
       → Result (Unit {0}) Error → Renderer W → Type 0
-  DrawsRowsAsking refused severity padding rows old r new =
-      SendsAsking refused (sink (writer_of old))
+  DrawsRowsAsking failed severity padding rows old r new =
+      SendsAsking failed (sink (writer_of old))
       (stream_of_rows (look_of (config_of old) severity padding) rows) r (sink (writer_of new))

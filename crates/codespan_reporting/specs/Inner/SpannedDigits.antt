@@ -1,4 +1,4 @@
--- The digits of the numbers of the lines that labels span, for the room that line numbers have in
+-- The digits of the numbers of the lines that labels span, for the padding width in
 -- the classic layout.
 use Rattle.std.specs.Prelude.{ℕ, List, [], ◌∷◌, flat_map, if◌then◌else◌}
 use Rattle.std.specs.List.{range_with_len}

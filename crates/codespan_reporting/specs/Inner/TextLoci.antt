@@ -1,4 +1,4 @@
--- Loci whose names are texts, as the calls that look them up return them.
+-- Loci whose names are UTF-8, as the calls that look them up return them.
 use Rattle.std.specs.Prelude.{ℕ}
 use Rattle.std.specs.Str.{IsUtf8}
 use Rattle.codespan_base.specs.FileModel.{FileModel}
@@ -6,7 +6,7 @@ use Rattle.codespan_picture.specs.Picture.{IsLocus, label_start, snippet_start}
 use Rattle.codespan_picture.specs.Rows.{Locus}
 use Rattle.codespan_picture.specs.Snippets.{InFile, LabelledFile}
 
--- the locus of a byte of a file, whose name is a text
+-- the locus of a byte index of a file, whose name is UTF-8
 pub record IsTextLocus (at : FileModel × ℕ) (locus : Locus) : Type 0 where
   pub is_locus : IsLocus at locus
   pub is_text : IsUtf8 locus.name

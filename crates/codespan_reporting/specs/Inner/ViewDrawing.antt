@@ -1,4 +1,4 @@
--- What the views draw by a renderer.
+-- What the views render by a renderer.
 use Rattle.std.specs.Prelude.{Bool, List, [], ◌∷◌, ◌++◌, Option, None, Result}
 use Rattle.codespan_picture.specs.Types.{Diagnostic, Error, Config, DisplayStyle, Rich}
 use Rattle.codespan_base.specs.Streams.{Stream, newline}
@@ -13,7 +13,7 @@ use Rattle.codespan_renderer.specs.declared.term.renderer.Renderer.{Renderer}
 use Rattle.codespan_renderer.specs.Renderers.{config_of, writer_of}
 use Rattle.codespan_reporting.specs.declared.term.views.rich.RichDiagnostic.{RichDiagnostic}
 use Rattle.codespan_reporting.specs.declared.term.views.sheet.Sheet.{Sheet}
-use Rattle.codespan_reporting.specs.Output.{WritesOutput}
+use Rattle.codespan_reporting.specs.WriteCalls.{WritesOutput}
 use Rattle.codespan_reporting.specs.Views.{diagnostic_of, view_config_of}
 use Rattle.codespan_reporting.specs.Inner.GivenSheets.{places_of}
 use Rattle.codespan_reporting.specs.Inner.Headers.{DrawsHeaders}
@@ -23,15 +23,15 @@ use Rattle.codespan_base.specs.FileModel.{FileDatabase}
 -- ---- parts
 
 module _ {Id : Type 0} (d : Diagnostic Id) where
-  -- the header, after this place where one is given, with the end of its row
+  -- the header, with this locus, if any, and with the end of its row
   abbrev pub header_line : Option Locus → Stream
   header_line place = header_row d.severity place (heading_of d) ++ newline
 
-  -- the last rows of a rich picture: the notes, and an empty one
+  -- the last rows of a rich output: the notes, and an empty one
   abbrev pub closing_rows : List Row
   closing_rows = note_rows (notes_of d) ++ BlankRow ∷ []
 
-  -- a rich picture without labels
+  -- a rich output without labels
   abbrev pub bare_picture : Config → Stream
   bare_picture config =
       header_row d.severity None (heading_of d) ++ newline
@@ -40,15 +40,15 @@ module _ {Id : Type 0} (d : Diagnostic Id) where
 -- ---- calls
 
 module _ {W Id : Type 0} (sink : W → Sink) (table : FileDatabase Id) where
-  -- the call draws the headers of those of these labels that are primary, and answers whether there
-  -- is one
+  -- the call renders the headers of those of these labels that are primary, and returns whether
+  -- there is one
   abbrev pub DrawsHeadersOf : Diagnostic Id → List (InFile Id) → Renderer W → Result Bool Error
       → Renderer W → Type 0
   DrawsHeadersOf d xs old r new =
-      DrawsHeaders (config_of old) table.file table.refusal d (primary_of xs) (sink (writer_of old))
+      DrawsHeaders (config_of old) table.file table.failure d (primary_of xs) (sink (writer_of old))
       r (sink (writer_of new))
 
-  -- the call draws a diagnostic in short or medium style
+  -- the call renders a diagnostic in short or medium style
   abbrev pub DrawsInStyle : DisplayStyle → Diagnostic Id → Renderer W → Result (Unit {0}) Error
       → Renderer W → Type 0
   DrawsInStyle style d old r new =
@@ -56,22 +56,22 @@ module _ {W Id : Type 0} (sink : W → Sink) (table : FileDatabase Id) where
       (sink (writer_of new))
 
   module _ (view : RichDiagnostic Id) where
-    -- the call draws the picture of a rich view
+    -- the call renders a rich view
     abbrev pub DrawsView : Renderer W → Result (Unit {0}) Error → Renderer W → Type 0
     DrawsView old r new =
         WritesOutput Rich (config_of old) (view_config_of view) table (diagnostic_of view)
         (sink (writer_of old)) r (sink (writer_of new))
 
-    -- what the lookups of its snippets are refused with, which come after its header
-    abbrev pub snippets_refusal : Option Error
-    snippets_refusal =
-        first_error table.refusal
+    -- the error of the first of the lookups of its snippets that fails; they are after its header
+    abbrev pub snippets_failure : Option Error
+    snippets_failure =
+        first_error table.failure
         (late_lookups table (labels_of (diagnostic_of view)) (view_config_of view))
 
-    -- the call draws its snippets, which start where a sheet says, and makes their lookups
+    -- the call renders its snippets, which start at the loci of a sheet, and makes their lookups
     abbrev pub DrawsSnippets : Sheet Id → Renderer W → Result (Unit {0}) Error → Renderer W → Type 0
     DrawsSnippets sheet =
         let d = diagnostic_of view in
-        DrawsRowsAsking sink snippets_refusal d.severity sheet.padding
+        DrawsRowsAsking sink snippets_failure d.severity sheet.padding
         (snippets (view_config_of view) (has_any (notes_of d)) (places_of sheet.files.items)
         (labelled_files table.same table.file (labels_of d)))

@@ -1,6 +1,6 @@
-//! What a proof learns of the characters of a configuration by reading them: that they are characters, and texts.
+//! Shows to the prover that the characters of a configuration are Unicode scalar values, and the text before a locus UTF-8.
 //!
-//! These functions do nothing.
+//! These functions do nothing; their contracts follow from the types.
 
 ghost use Rattle.std.specs.Char.{IsScalar};
 ghost use Rattle.std.specs.Str.{IsUtf8};
@@ -9,7 +9,7 @@ ghost use Rattle.codespan_laws.specs.TextLaws.{AreCharacters};
 
 use codespan_base::term::{Chars, SnippetStart};
 
-/// Each character is one, and the text before a locus is a text.
+/// Shows that each character is a Unicode scalar value, and that the text before a locus is UTF-8.
 pub fn are_characters(chars: &Chars<'_>)
     ensures { AreCharacters chars.now }
 {
@@ -31,7 +31,7 @@ pub fn are_characters(chars: &Chars<'_>)
     is_character(chars.pointer_left);
 }
 
-/// The text before a locus is a text.
+/// Shows that the text before a locus is UTF-8.
 fn start_is_text(start: &SnippetStart<'_>)
     ensures { IsUtf8 (start_text start.now) }
 {
@@ -45,7 +45,7 @@ fn start_is_text(start: &SnippetStart<'_>)
     }
 }
 
-/// A character is one.
+/// Shows that a character is a Unicode scalar value.
 fn is_character(c: char)
     ensures { IsScalar c }
 {}

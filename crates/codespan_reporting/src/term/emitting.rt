@@ -1,19 +1,20 @@
-//! The calls that emit a diagnostic.
+//! The five calls that emit a diagnostic.
 
 ghost use Rattle.std.specs.Prelude.{string_bytes};
-ghost use Rattle.codespan_reporting.specs.Output.{Appends, Emits, WritesStyled, Writes};
+ghost use Rattle.codespan_reporting.specs.Output.{Appends, Emits};
+ghost use Rattle.codespan_reporting.specs.WriteCalls.{WritesStyled, Writes};
 
 use crate::term::characters::are_characters;
 use crate::term::renderer::Renderer;
 use crate::term::views::{RichDiagnostic, ShortDiagnostic};
 use codespan_base::diagnostic::Diagnostic;
 use codespan_base::files::{Error, Files};
-use codespan_base::term::config::lent::LentWriter;
+use codespan_base::term::config::plain_ref::PlainWriterRef;
 use codespan_base::term::{Config, DisplayStyle, PlainWriter, WriteStyle};
 use std::io::Write;
 
-/// The bytes for which a string has room before a picture is drawn into it, so that a picture of a few rows grows it no more.
-const ROOM: usize = 1024;
+/// The capacity in bytes of a string before an output is rendered into it: an output of a few rows needs no further allocation.
+const INITIAL_CAPACITY: usize = 1024;
 
 /// Returns the output of a diagnostic as plain text, in the style of the configuration.
 ///
@@ -25,7 +26,35 @@ const ROOM: usize = 1024;
 ///   contract leaves open when, but it is not returned where nothing is looked up.
 /// - Any other error: that of the first lookup that fails.
 ///
-/// Nothing is looked up without labels, and in short and medium style without primary labels.
+/// Nothing is looked up without labels, and in short and medium style without primary labels. The order
+/// of the lookups is this project's own; `docs/DIFFERENCES.md` states it.
+///
+/// # Example
+///
+/// The test `quick_start` of `crates/codespan_tests` has this code.
+///
+/// ```rust
+/// let mut files = SimpleFiles::new(alloc);
+/// let id = files.add("settings.conf", "retries = many\n")?;
+/// let label = Label::primary(alloc, id, 10..14).with_message("expected a number")?;
+/// let diagnostic = Diagnostic::error(alloc)
+///     .with_code("E0001")?
+///     .with_message("invalid value for `retries`")?
+///     .with_label(label)?;
+///
+/// emit_into_string(&Config::default(), &files, &diagnostic)
+/// ```
+///
+/// It returns
+///
+/// ```text
+/// error[E0001]: invalid value for `retries`
+///   ┌─ settings.conf:1:11
+///   │
+/// 1 │ retries = many
+///   │           ^^^^ expected a number
+///
+/// ```
 pub fn emit_into_string<'files, F: Files<'files>>(
     config: &Config<'_>,
     files: &'files F,
@@ -34,14 +63,14 @@ pub fn emit_into_string<'files, F: Files<'files>>(
     ensures { Emits config.now (F.database files.now) diagnostic.now string_bytes result }
 {
     are_characters(&config.chars);
-    let bytes = Vec::with_capacity(*diagnostic.labels.allocator(), ROOM)?;
+    let bytes = Vec::with_capacity(*diagnostic.labels.allocator(), INITIAL_CAPACITY)?;
     let mut plain = PlainWriter::new(bytes);
     let drawn = emit_to_write_style(&mut plain, config, files, diagnostic);
     match drawn {
-        // SAFETY: what a picture writes is UTF-8: its characters are characters, its texts are texts, and a line is cut between
-        // characters alone. The condition of the call is proved from `codespan_reporting::laws::outputs_are_texts`.
+        // SAFETY: an output is UTF-8: its characters are Unicode scalar values, its texts are UTF-8, and a line is cut at character
+        // boundaries only. The condition of the call is proved from `codespan_reporting::laws::outputs_are_texts`.
         Ok(()) => Ok(unsafe { String::from_utf8_unchecked(plain.into_inner()) }),
-        Err(error) => Err(if plain.has_refused() {
+        Err(error) => Err(if plain.has_failed() {
             Error::OutOfMemory
         } else {
             error
@@ -54,6 +83,16 @@ pub fn emit_into_string<'files, F: Files<'files>>(
 /// # Errors
 ///
 /// As [`emit_into_string`]. The string is then unchanged.
+///
+/// # Example
+///
+/// The test `bare_bug` of `crates/codespan_tests` has this code, where `held` is a `&str`, and
+/// `docs/USING.md` a proved caller.
+///
+/// ```rust
+/// let mut string = held.to_string(alloc)?;
+/// emit_to_string(&mut string, &config, &files, &bug)?;
+/// ```
 pub fn emit_to_string<'files, F: Files<'files>>(
     string: &mut String,
     config: &Config<'_>,
@@ -86,6 +125,18 @@ pub fn emit_to_string<'files, F: Files<'files>>(
 /// writer whose bytes are known.
 ///
 /// Nothing is looked up without labels, and in short and medium style without primary labels.
+///
+/// # Example
+///
+/// `crates/example_preview` has this code.
+///
+/// ```rust
+/// let config = Config {
+///     display_style,
+///     ..Config::default()
+/// };
+/// emit_to_io_write(&mut stdout, &config, &files, &diagnostic)?;
+/// ```
 pub fn emit_to_io_write<'files, F: Files<'files>, W: Write>(
     writer: &mut W,
     config: &Config<'_>,
@@ -95,7 +146,7 @@ pub fn emit_to_io_write<'files, F: Files<'files>, W: Write>(
     ensures { Writes config.now (F.database files.now) diagnostic.now
         (W.contents writer.old) result (W.contents writer.new) }
 {
-    let mut plain = LentWriter::new(writer);
+    let mut plain = PlainWriterRef::new(writer);
     emit_to_write_style(&mut plain, config, files, diagnostic)
 }
 
@@ -106,6 +157,16 @@ pub fn emit_to_io_write<'files, F: Files<'files>, W: Write>(
 ///
 /// As [`RichDiagnostic::render`] in rich style, and as [`ShortDiagnostic::render`] in short and medium
 /// style.
+///
+/// # Example
+///
+/// `crates/example_preview` has this code, which writes in color.
+///
+/// ```rust
+/// let styles = Styles::default();
+/// let mut colored = StylesWriter::new(Ansi::new(&mut stdout), &styles);
+/// emit_to_write_style(&mut colored, &rich, &files, &diagnostic)?;
+/// ```
 pub fn emit_to_write_style<'files, F: Files<'files>, W: WriteStyle>(
     writer: &mut W,
     config: &Config<'_>,
@@ -130,7 +191,11 @@ pub fn emit_to_write_style<'files, F: Files<'files>, W: WriteStyle>(
     Ok(())
 }
 
-/// The old name of [`emit_to_io_write`].
+/// Calls [`emit_to_io_write`]: its old name, as in the Rust crate.
+///
+/// # Errors
+///
+/// As [`emit_to_io_write`].
 pub fn emit<'files, F: Files<'files>, W: Write>(
     writer: &mut W,
     config: &Config<'_>,

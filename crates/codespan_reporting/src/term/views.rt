@@ -1,11 +1,11 @@
-//! What a diagnostic's picture shows.
+//! Views of a diagnostic, which render it to a [`Renderer`](crate::term::Renderer): in rich, medium or short style.
 
 mod entry;
 mod file_order;
 mod gather;
 mod groups;
+mod label_entries;
 mod label_lines;
-mod lanes;
 mod lines;
 mod loci;
 mod marks;

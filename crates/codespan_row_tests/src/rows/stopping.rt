@@ -4,14 +4,14 @@ use crate::rows::{COLOURED, Given, Rows, draw_on};
 use codespan_base::diagnostic::{LabelStyle, Severity};
 use codespan_base::files::Error;
 use codespan_base::term::{Ansi, Config, PlainWriter, Styles, StylesWriter};
-use codespan_base_tests::writers::stopping::{Stop, Stopping, is_refused};
+use codespan_base_tests::writers::stopping::{Stop, Stopping, is_failed};
 use codespan_renderer::term::renderer::{MultiLabel, Renderer};
 use std::alloc::Global;
 use std::process::Abort;
 use std::test::Fail;
 
-/// Rows are refused with `Io` wherever their writer stops, plain and by escape sequences; what was written is a beginning, and no write
-/// follows the refused one.
+/// Rows fail with `Io` wherever their writer stops, plain and by escape sequences; what was written is a beginning, and no write
+/// follows the failed one.
 pub fn assert_rows_stop<R: Rows>(
     rt: &impl Abort,
     alloc: Global,
@@ -24,7 +24,7 @@ pub fn assert_rows_stop<R: Rows>(
     rows.draw(rt, &mut Renderer::new(&mut coloured, config))?;
     let coloured = coloured.into_inner().into_inner();
     for stop in [
-        Stop::Refuses,
+        Stop::Fails,
         Stop::IsInterrupted,
         Stop::TakesNothing,
         Stop::TakesOneByte,
@@ -33,7 +33,7 @@ pub fn assert_rows_stop<R: Rows>(
             let mut plain = PlainWriter::new(Stopping::new(alloc, usize::MAX, writes, stop));
             let answer = rows.draw(rt, &mut Renderer::new(&mut plain, config));
             assert!(rt;
-                is_told(&plain.into_inner(), &answer, want.as_bytes()),
+                is_known(&plain.into_inner(), &answer, want.as_bytes()),
                 "{stop:?} {writes}"
             );
             let inner = Stopping::new(alloc, usize::MAX, writes, stop);
@@ -41,7 +41,7 @@ pub fn assert_rows_stop<R: Rows>(
             let answer = rows.draw(rt, &mut Renderer::new(&mut w, config));
             let inner = w.into_inner().into_inner();
             assert!(rt;
-                is_told(&inner, &answer, coloured.as_slice()),
+                is_known(&inner, &answer, coloured.as_slice()),
                 "{stop:?} {writes}"
             );
             if !inner.has_stopped() {
@@ -53,8 +53,8 @@ pub fn assert_rows_stop<R: Rows>(
 }
 
 /// Whether a call told what its writer did, which holds what it should of the whole text.
-fn is_told(inner: &Stopping, answer: &Result<(), Error>, whole: &[u8]) -> bool {
-    is_refused(answer) == Some(inner.has_stopped()) && inner.is_right(answer.is_ok(), whole)
+fn is_known(inner: &Stopping, answer: &Result<(), Error>, whole: &[u8]) -> bool {
+    is_failed(answer) == Some(inner.has_stopped()) && inner.is_right(answer.is_ok(), whole)
 }
 
 /// The rows of `coloured_label` without their colours.
@@ -70,23 +70,18 @@ fn writers_that_stop(rt: HostRuntime) -> Result<(), Fail> {
     let given = Given::labelled("abc", &labels);
     for most in [1, 3, 100] {
         for writes in 0..100 {
-            let mut plain = PlainWriter::new(Stopping::new(
-                rt.alloc(),
-                most,
-                writes,
-                Stop::Refuses,
-            ));
+            let mut plain = PlainWriter::new(Stopping::new(rt.alloc(), most, writes, Stop::Fails));
             let answer = draw_on(&rt, &mut plain, given);
             assert!(rt;
-                is_told(&plain.into_inner(), &answer, PLAIN.as_bytes()),
+                is_known(&plain.into_inner(), &answer, PLAIN.as_bytes()),
                 "{most} {writes}"
             );
 
-            let mut inner = Stopping::new(rt.alloc(), most, writes, Stop::Refuses);
+            let mut inner = Stopping::new(rt.alloc(), most, writes, Stop::Fails);
             let mut w = StylesWriter::new(Ansi::new(&mut inner), &styles);
             let answer = draw_on(&rt, &mut w, given);
             assert!(rt;
-                is_told(&inner, &answer, COLOURED.as_bytes()),
+                is_known(&inner, &answer, COLOURED.as_bytes()),
                 "{most} {writes}"
             );
         }
@@ -99,7 +94,7 @@ fn endless_padding(rt: HostRuntime) -> Result<(), Fail> {
     let config = Config::default();
     let marks: [(usize, LabelStyle, MultiLabel<'_>); 0] = [];
     for (padding, lanes, want) in [(usize::MAX, 0, "          "), (0, usize::MAX, " │      ")] {
-        let mut plain = PlainWriter::new(Stopping::new(rt.alloc(), 1, 10, Stop::Refuses));
+        let mut plain = PlainWriter::new(Stopping::new(rt.alloc(), 1, 10, Stop::Fails));
         let mut renderer = Renderer::new(&mut plain, &config);
         let result = renderer.render_snippet_empty(padding, Severity::Error, lanes, &marks);
         assert!(rt; matches!(result, Err(Error::Io(_))));

@@ -10,7 +10,7 @@ use codespan_reporting::term::{
 };
 use std::test::Fail;
 
-/// A tab that is as wide as can be is drawn blank by blank until the writer refuses.
+/// A tab that is as wide as can be is drawn blank by blank until the writer fails.
 #[test]
 fn endless_tab(rt: HostRuntime) -> Result<(), Fail> {
     let alloc = rt.alloc();
@@ -21,16 +21,16 @@ fn endless_tab(rt: HostRuntime) -> Result<(), Fail> {
         tab_width: usize::MAX,
         ..Config::default()
     };
-    let mut inner = Stopping::new(alloc, 1, 40, Stop::Refuses);
-    let refused = emit_to_io_write(&mut inner, &config, &file, &diagnostic);
-    assert!(rt; matches!(refused, Err(Error::Io(_))));
+    let mut inner = Stopping::new(alloc, 1, 40, Stop::Fails);
+    let failed = emit_to_io_write(&mut inner, &config, &file, &diagnostic);
+    assert!(rt; matches!(failed, Err(Error::Io(_))));
     let held = "error: \n  ┌─ f:1:2\n  │\n1 │      ";
     assert_eq!(rt; inner.text.as_slice(), held.as_bytes());
     let styles = Styles::default();
-    let mut inner = Stopping::new(alloc, 1, 40, Stop::Refuses);
+    let mut inner = Stopping::new(alloc, 1, 40, Stop::Fails);
     let mut colourless = StylesWriter::new(NoColor::new(&mut inner), &styles);
-    let refused = emit_to_write_style(&mut colourless, &config, &file, &diagnostic);
-    assert!(rt; matches!(refused, Err(Error::Io(_))));
+    let failed = emit_to_write_style(&mut colourless, &config, &file, &diagnostic);
+    assert!(rt; matches!(failed, Err(Error::Io(_))));
     assert_eq!(rt; inner.text.as_slice(), held.as_bytes());
     Ok(())
 }

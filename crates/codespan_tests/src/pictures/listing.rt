@@ -1,4 +1,4 @@
-//! A table of files as users write their own: one text, whose lines are numbered by their indices, and some of whose lookups refuse.
+//! A table of files as users write their own: one text, whose lines are numbered by their indices, and some of whose lookups fail.
 
 ghost use Rattle.std.specs.Prelude.{◌≡◌, refl, None, Some};
 ghost use Rattle.codespan_tests.specs.Listings.{is_at, is_from};
@@ -7,9 +7,9 @@ use codespan_reporting::files::{Error, Files, Location, SimpleFile};
 use std::alloc::Global;
 use std::ops::Range;
 
-/// Which lookups refuse. Each refuses with a column of its kind, and with the line or the byte that was asked for.
+/// Which lookups fail. Each fails with a column of its kind, and with the line or the byte that was asked for.
 #[derive(Clone, Copy, Default)]
-pub struct Refused {
+pub struct Failed {
     /// The name: column 1.
     pub name: bool,
     /// The source: column 2.
@@ -20,7 +20,7 @@ pub struct Refused {
     pub line_index: Option<usize>,
     /// The number of this line: column 5.
     pub line_number: Option<usize>,
-    /// The range of this line: column 6. A line past the end is refused as such.
+    /// The range of this line: column 6. A line past the end fails as such.
     pub line_range: Option<usize>,
 }
 
@@ -28,26 +28,26 @@ pub struct Refused {
 #[derive(Drop)]
 pub struct Listing<'text> {
     file: SimpleFile<&'text str, &'text str>,
-    refused: Refused,
+    failed: Failed,
 }
 
 impl<'text> Listing<'text> {
-    /// The text of this name, which refuses these lookups. Refuses with `OutOfMemory`.
+    /// The text of this name, which fails these lookups. Fails with `OutOfMemory`.
     pub fn new(
         alloc: Global,
         name: &'text str,
         text: &'text str,
-        refused: Refused,
+        failed: Failed,
     ) -> Result<Self, Error> {
         Ok(Listing {
             file: SimpleFile::new(alloc, name, text)?,
-            refused,
+            failed,
         })
     }
 }
 
-/// What a lookup of this kind refuses with.
-fn refusal(kind: usize, place: usize) -> Error
+/// What a lookup of this kind fails with.
+fn failure(kind: usize, place: usize) -> Error
     ensures { result ≡ Error.ColumnTooLarge kind place }
 {
     Error::ColumnTooLarge {
@@ -56,34 +56,34 @@ fn refusal(kind: usize, place: usize) -> Error
     }
 }
 
-/// Whether the lookup of this place is the one that refuses.
-fn is_at(refused: Option<usize>, place: usize) -> bool
-    ensures { result ≡ is_at refused place }
+/// Whether the lookup of this place is the one that fails.
+fn is_at(failed: Option<usize>, place: usize) -> bool
+    ensures { result ≡ is_at failed place }
 {
-    match refused {
-        Some(refused) => place == refused,
+    match failed {
+        Some(failed) => place == failed,
         None => false,
     }
 }
 
-/// Whether the lookup of this place is one of those that refuse.
-fn is_from(refused: Option<usize>, place: usize) -> bool
-    ensures { result ≡ is_from refused place }
+/// Whether the lookup of this place is one of those that fail.
+fn is_from(failed: Option<usize>, place: usize) -> bool
+    ensures { result ≡ is_from failed place }
 {
-    match refused {
-        Some(refused) => refused <= place,
+    match failed {
+        Some(failed) => failed <= place,
         None => false,
     }
 }
 
 impl<'a, 'text: 'a> Files<'a> for Listing<'text> {
     ghost use Rattle.codespan_base.specs.FileTables.{name_of, source_of};
-    ghost use Rattle.codespan_base.specs.FileModel.{line_of, or_refusal};
+    ghost use Rattle.codespan_base.specs.FileModel.{line_of, or_failure};
     ghost use Rattle.codespan_base.specs.FileModel.Lookup.{Name as NameLookup, Source as SourceLookup, LineIndex, LineNumber, ColumnNumber, LocationAt, LineRange};
     ghost use Rattle.codespan_base.specs.Lines.{line_starts_of};
     ghost use Rattle.codespan_base.specs.SimpleModel.{simple_file, simple_column, past_end};
-    ghost use Rattle.codespan_base.specs.Lemmas.Simple.{or_refusal-past_end, renumbered_lawful, simple_lawful, simple_past_end, text_fits, text_is_utf8};
-    ghost use Rattle.codespan_tests.specs.Listings.{is_at, is_from, refused_if, refused_if-other};
+    ghost use Rattle.codespan_base.specs.Lemmas.Simple.{or_failure-past_end, renumbered_lawful, simple_lawful, simple_past_end, text_fits, text_is_utf8};
+    ghost use Rattle.codespan_tests.specs.Listings.{is_at, is_from, failed_if, failed_if-other};
 
     type FileId = ();
 
@@ -102,42 +102,42 @@ impl<'a, 'text: 'a> Files<'a> for Listing<'text> {
                 let i = line_of (line_starts_of text) byte in
                 record { line_number = i; column_number = simple_column text i byte };
           };
-      refusal = λ _. elim [
-        | NameLookup ↦ refused_if s.refused.name 1 0
-        | SourceLookup ↦ refused_if s.refused.source 2 0
-        | LineIndex byte ↦ refused_if (is_from s.refused.line_index byte) 4 byte
-        | LineNumber i ↦ refused_if (is_at s.refused.line_number i) 5 i
+      failure = λ _. elim [
+        | NameLookup ↦ failed_if s.failed.name 1 0
+        | SourceLookup ↦ failed_if s.failed.source 2 0
+        | LineIndex byte ↦ failed_if (is_from s.failed.line_index byte) 4 byte
+        | LineNumber i ↦ failed_if (is_at s.failed.line_number i) 5 i
         | ColumnNumber i byte ↦ past_end (source_of s.file).now i
-        | LocationAt byte ↦ refused_if s.refused.location 3 byte
-        | LineRange i ↦ or_refusal (past_end (source_of s.file).now i)
-            (refused_if (is_at s.refused.line_range i) 6 i)
+        | LocationAt byte ↦ failed_if s.failed.location 3 byte
+        | LineRange i ↦ or_failure (past_end (source_of s.file).now i)
+            (failed_if (is_at s.failed.line_range i) 6 i)
       ];
     } };
 
     fn name(&'a self, _id: ()) -> Result<&'text str, Error> {
-        if self.refused.name {
-            return Err(refusal(1, 0));
+        if self.failed.name {
+            return Err(failure(1, 0));
         }
         Ok(*self.file.name())
     }
 
     fn source(&'a self, _id: ()) -> Result<&'text str, Error> {
-        if self.refused.source {
-            return Err(refusal(2, 0));
+        if self.failed.source {
+            return Err(failure(2, 0));
         }
         Ok(*self.file.source())
     }
 
     fn line_index(&'a self, _id: (), byte_index: usize) -> Result<usize, Error> {
-        if is_from(self.refused.line_index, byte_index) {
-            return Err(refusal(4, byte_index));
+        if is_from(self.failed.line_index, byte_index) {
+            return Err(failure(4, byte_index));
         }
         self.file.line_index((), byte_index)
     }
 
     fn line_number(&'a self, _id: (), line_index: usize) -> Result<usize, Error> {
-        if is_at(self.refused.line_number, line_index) {
-            return Err(refusal(5, line_index));
+        if is_at(self.failed.line_number, line_index) {
+            return Err(failure(5, line_index));
         }
         Ok(line_index)
     }
@@ -154,8 +154,8 @@ impl<'a, 'text: 'a> Files<'a> for Listing<'text> {
     // The byte's line is a line, so its column is told.
     #[tactic(auto, using(codespan_base::specs::Lemmas::Lines::line_of_below))]
     fn location(&'a self, _id: (), byte_index: usize) -> Result<Location, Error> {
-        if self.refused.location {
-            return Err(refusal(3, byte_index));
+        if self.failed.location {
+            return Err(failure(3, byte_index));
         }
         let line_index = self.file.line_index((), byte_index)?;
         Ok(Location {
@@ -166,8 +166,8 @@ impl<'a, 'text: 'a> Files<'a> for Listing<'text> {
 
     fn line_range(&'a self, _id: (), line_index: usize) -> Result<Range<usize>, Error> {
         let range = self.file.line_range((), line_index)?;
-        if is_at(self.refused.line_range, line_index) {
-            return Err(refusal(6, line_index));
+        if is_at(self.failed.line_range, line_index) {
+            return Err(failure(6, line_index));
         }
         Ok(range)
     }
@@ -184,10 +184,10 @@ impl<'a, 'text: 'a> Files<'a> for Listing<'text> {
 
     ghost same_is = { λ s. refl };
 
-    // A line past the last is refused as there.
+    // A line past the last fails as there.
     ghost past_end = { λ s _ i.
         let text = (source_of s.file).now in
         let name = Some (name_of s.file).now in
-        or_refusal-past_end (simple_file name text) i (past_end text i) _
-        (refused_if-other (is_at s.refused.line_range i) 6 i) (simple_past_end name text i) };
+        or_failure-past_end (simple_file name text) i (past_end text i) _
+        (failed_if-other (is_at s.failed.line_range i) 6 i) (simple_past_end name text i) };
 }

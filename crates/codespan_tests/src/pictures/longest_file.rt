@@ -10,14 +10,14 @@ use std::ops::Range;
 use std::test::Fail;
 
 /// A text of newlines that is as long as a text can be. Its lines are empty and numbered by their indices, and its
-/// source refuses.
+/// source fails.
 #[derive(Drop)]
 struct LongestFile<'text> {
     name: &'text str,
 }
 
 impl<'a, 'text: 'a> Files<'a> for LongestFile<'text> {
-    ghost use Rattle.codespan_tests.specs.LongestFiles.{longest_file, longest_refusal, longest_lawful, longest_past_end};
+    ghost use Rattle.codespan_tests.specs.LongestFiles.{longest_file, longest_failure, longest_lawful, longest_past_end};
 
     type FileId = ();
 
@@ -28,7 +28,7 @@ impl<'a, 'text: 'a> Files<'a> for LongestFile<'text> {
     ghost database = { λ s. record {
       same = ⟦<() as PartialEq>⟧.eq;
       file = λ _. longest_file s.name.now;
-      refusal = λ _. longest_refusal;
+      failure = λ _. longest_failure;
     } };
 
     fn name(&'a self, _id: ()) -> Result<&'text str, Error> {

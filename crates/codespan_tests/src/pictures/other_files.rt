@@ -1,4 +1,4 @@
-//! A refused number, a missing file, and a view and a renderer of two configurations.
+//! A failed number, a missing file, and a view and a renderer of two configurations.
 
 use crate::pictures::drawing::{assert_view_writes, files_of};
 use codespan_reporting::diagnostic::{Diagnostic, Label};
@@ -10,7 +10,7 @@ use std::alloc::Global;
 use std::process::Abort;
 use std::test::Fail;
 
-/// A line around a label whose number is refused does not end the lines that are shown.
+/// A line around a label whose number fails does not end the lines that are shown.
 #[test]
 fn mapped_overflow(rt: HostRuntime) -> Result<(), Fail> {
     let mut file = MappedFile::new(rt.alloc(), "m", "a\nb\nc\nd")?;
@@ -21,8 +21,8 @@ fn mapped_overflow(rt: HostRuntime) -> Result<(), Fail> {
         after_label_lines: 2,
         ..Config::default()
     };
-    let refused = emit_into_string(&config, &file, &diagnostic);
-    assert!(rt; matches!(refused, Err(Error::LineTooLarge { given: 2, max: 1 })));
+    let failed = emit_into_string(&config, &file, &diagnostic);
+    assert!(rt; matches!(failed, Err(Error::LineTooLarge { given: 2, max: 1 })));
     Ok(())
 }
 
@@ -36,12 +36,12 @@ fn missing_file(rt: HostRuntime) -> Result<(), Fail> {
         .with_label(Label::primary(alloc, 0, 0..1))?
         .with_label(Label::primary(alloc, 7, 0..1))?;
     let config = Config::default();
-    let refused = emit_into_string(&config, &files, &diagnostic);
-    assert!(rt; matches!(refused, Err(Error::FileMissing)));
+    let failed = emit_into_string(&config, &files, &diagnostic);
+    assert!(rt; matches!(failed, Err(Error::FileMissing)));
     let mut plain = PlainWriter::new(Vec::new(alloc));
     let mut renderer = Renderer::new(&mut plain, &config);
-    let refused = RichDiagnostic::new(&diagnostic, &config).render(&files, &mut renderer);
-    assert!(rt; matches!(refused, Err(Error::FileMissing)));
+    let failed = RichDiagnostic::new(&diagnostic, &config).render(&files, &mut renderer);
+    assert!(rt; matches!(failed, Err(Error::FileMissing)));
     assert!(rt; plain.into_inner().is_empty());
     Ok(())
 }

@@ -110,7 +110,7 @@ fn half_missing(alloc: Global) -> Result<Diagnostic<usize>, Error> {
         .with_label(Label::primary(alloc, 7, 0..1))
 }
 
-/// The string stays as it was; a writer has the headers before the refusal, or in rich style nothing.
+/// The string stays as it was; a writer has the headers before the error, or in rich style nothing.
 #[test]
 fn missing_file(rt: HostRuntime) -> Result<(), Fail> {
     let alloc = rt.alloc();
@@ -124,16 +124,16 @@ fn missing_file(rt: HostRuntime) -> Result<(), Fail> {
     for (style, written) in rows {
         let config = in_style(style);
         let mut string = "kept".to_string(alloc)?;
-        let refused = emit_to_string(&mut string, &config, &files, &diagnostic);
-        assert!(rt; matches!(refused, Err(Error::FileMissing)));
+        let failed = emit_to_string(&mut string, &config, &files, &diagnostic);
+        assert!(rt; matches!(failed, Err(Error::FileMissing)));
         assert_eq!(rt; string.as_str(), "kept");
         let mut plain = PlainWriter::new(Vec::new(alloc));
-        let refused = emit_to_write_style(&mut plain, &config, &files, &diagnostic);
-        assert!(rt; matches!(refused, Err(Error::FileMissing)));
+        let failed = emit_to_write_style(&mut plain, &config, &files, &diagnostic);
+        assert!(rt; matches!(failed, Err(Error::FileMissing)));
         assert_eq!(rt; plain.into_inner().as_slice(), written.as_bytes());
         let mut bytes = Vec::new(alloc);
-        let refused = emit_to_io_write(&mut bytes, &config, &files, &diagnostic);
-        assert!(rt; matches!(refused, Err(Error::FileMissing)));
+        let failed = emit_to_io_write(&mut bytes, &config, &files, &diagnostic);
+        assert!(rt; matches!(failed, Err(Error::FileMissing)));
         assert_eq!(rt; bytes.as_slice(), written.as_bytes());
     }
     Ok(())

@@ -28,7 +28,7 @@ pub(super) fn first_fault(lines: &[Line<'_>]) -> Option<Fault>
 fn line_fault(before: &[Line<'_>], line: &Line<'_>) -> Option<Fault>
     ensures { result ≡ line_fault (map line_view before.now) (line_view line.now) }
 {
-    if line.is_silent() {
+    if line.is_ignored() {
         return None;
     }
     match parse_word(line.word()) {

@@ -19,7 +19,7 @@ pub(super) struct Line<'input> {
 
 impl<'input> Line<'input> {
     ghost use Rattle.std.specs.Prelude.{◌≡◌, ◌≤◌};
-    ghost use Rattle.report.specs.ScriptLines.{line_view, range_at, word_of, rest_of, is_silent};
+    ghost use Rattle.report.specs.ScriptLines.{line_view, range_at, word_of, rest_of, is_ignored};
 
     /// What stands before the first blank.
     pub(super) fn word(&self) -> &'input str
@@ -38,8 +38,8 @@ impl<'input> Line<'input> {
     }
 
     /// Whether the line is empty or begins with `#`.
-    pub(super) fn is_silent(&self) -> bool
-        ensures { result ≡ is_silent (line_view self.now) }
+    pub(super) fn is_ignored(&self) -> bool
+        ensures { result ≡ is_ignored (line_view self.now) }
     {
         match self.text.as_bytes() {
             [] => true,

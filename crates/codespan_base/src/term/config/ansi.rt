@@ -1,18 +1,22 @@
-//! Colours as escape sequences.
+//! Styles as escape sequences.
 
 ghost use Rattle.std.specs.Prelude.{◌≡◌, [], ◌∷◌};
 ghost use Rattle.codespan_base.specs.Ansi.{color_number, ansi_bold, ansi_color, ansi_style, ansi_reset};
-ghost use Rattle.codespan_base.specs.ColorLaw.{Paints};
+ghost use Rattle.codespan_base.specs.ColorLaw.{AppendsBytes};
 
 use crate::term::config::color::{Color, ColorSpec, WriteColor};
-use crate::term::config::pouring::pour;
+use crate::term::config::writing::write_all;
 use std::io;
 use std::io::Write;
 
 /// The byte that each escape sequence begins with.
 const ESCAPE: u8 = 0x1b;
 
-/// A writer of colours by escape sequences.
+/// A [`WriteColor`] of escape sequences.
+///
+/// The sequences are this project's own. A style is ESC `[0m`, then ESC `[1m` for bold, then its colors: ESC `[3` for the text and ESC
+/// `[4` for the background, each with the color's number from 0 to 7 or, where it is intense, with `8;5;` and that number plus 8, and
+/// `m`. The reset is ESC `[0m`.
 #[derive(Debug, Drop)]
 pub struct Ansi<W> {
     inner: W,
@@ -21,14 +25,14 @@ pub struct Ansi<W> {
 impl<W: Write> Ansi<W> {
     ghost use Rattle.codespan_base.specs.Writers.{ansi_inner};
 
-    /// Escape sequences, written to `writer`.
+    /// Returns a writer of escape sequences over `writer`.
     pub fn new(writer: W) -> Ansi<W>
         ensures { ansi_inner result ≡ writer }
     {
         Ansi { inner: writer }
     }
 
-    /// The writer that it writes to.
+    /// Returns the inner writer.
     pub fn into_inner(self) -> W
         ensures { result ≡ ansi_inner self }
     {
@@ -67,26 +71,30 @@ impl<W: Write> WriteColor for Ansi<W> {
     }
 }
 
-/// Turns all styles off.
+/// Writes the sequence that turns all styles off.
 #[tactic(auto, unfolding(crate::specs::Ansi::ansi_reset, crate::specs::Ansi::escape))]
 fn send_reset<W: Write>(w: &mut W) -> io::Result<()>
-    ensures { Paints (W.contents w.old) ansi_reset result (W.contents w.new) }
+    ensures { AppendsBytes (W.contents w.old) ansi_reset result (W.contents w.new) }
 {
-    pour(w, b"\x1b[0m")
+    write_all(w, b"\x1b[0m")
 }
 
-/// Turns bold on, where it is wanted.
-#[tactic(auto, using(crate::proofs::Paints::paintings), unfolding(crate::specs::Ansi::ansi_bold, crate::specs::Ansi::escape))]
+/// Writes the sequence that turns bold on, where `bold` is set.
+#[tactic(auto, using(crate::proofs::AppendsBytes::paintings), unfolding(crate::specs::Ansi::ansi_bold, crate::specs::Ansi::escape))]
 fn send_bold<W: Write>(w: &mut W, bold: bool) -> io::Result<()>
-    ensures { Paints (W.contents w.old) (ansi_bold bold) result (W.contents w.new) }
+    ensures { AppendsBytes (W.contents w.old) (ansi_bold bold) result (W.contents w.new) }
 {
-    if bold { pour(w, b"\x1b[1m") } else { Ok(()) }
+    if bold {
+        write_all(w, b"\x1b[1m")
+    } else {
+        Ok(())
+    }
 }
 
-/// Sets a colour, where there is one. The plane is `3` for the text and `4` for what is behind it.
-#[tactic(auto, using(crate::proofs::Paints::paintings, crate::proofs::AnsiLemmas::sequences))]
+/// Writes the sequence that sets a color, where there is one; the plane is `3` for the text and `4` for the background.
+#[tactic(auto, using(crate::proofs::AppendsBytes::paintings, crate::proofs::AnsiLemmas::sequences))]
 fn send_color<W: Write>(w: &mut W, plane: u8, intense: bool, color: Option<Color>) -> io::Result<()>
-    ensures { Paints (W.contents w.old) (ansi_color (plane ∷ []) intense color)
+    ensures { AppendsBytes (W.contents w.old) (ansi_color (plane ∷ []) intense color)
         result (W.contents w.new) }
 {
     let Some(color) = color else {
@@ -94,16 +102,16 @@ fn send_color<W: Write>(w: &mut W, plane: u8, intense: bool, color: Option<Color
     };
     let n = color_number(color);
     if !intense {
-        pour(w, &[ESCAPE, b'[', plane, b'0' + n, b'm'])
+        write_all(w, &[ESCAPE, b'[', plane, b'0' + n, b'm'])
     } else if n < 2 {
         let digit = b'8' + n;
-        pour(
+        write_all(
             w,
             &[ESCAPE, b'[', plane, b'8', b';', b'5', b';', digit, b'm'],
         )
     } else {
         let digit = b'0' + (n - 2);
-        pour(
+        write_all(
             w,
             &[
                 ESCAPE, b'[', plane, b'8', b';', b'5', b';', b'1', digit, b'm',
@@ -112,7 +120,7 @@ fn send_color<W: Write>(w: &mut W, plane: u8, intense: bool, color: Option<Color
     }
 }
 
-/// The number of a colour.
+/// Returns the number of a color, from 0 to 7.
 fn color_number(color: Color) -> u8
     ensures { result ≡ color_number color }
 {

@@ -1,23 +1,27 @@
-//! The characters that a picture is drawn with.
+//! The characters of the output.
 
 ghost use Rattle.std.specs.Prelude.{◌≡◌, Ok, IsTrue, IfOk, OnErr, IsErrOf};
 ghost use Rattle.codespan_base.specs.SnippetStarts.{start_text, is_fixed};
 
 use codespan_files::files::Error;
 
-/// The text that stands before the place of a snippet.
+/// The text before the locus of a snippet.
 ///
-/// `Fixed` takes no memory, so that the tables of characters need none.
+/// `Fixed` needs no allocation, so that [`Chars::box_drawing`] and [`Chars::ascii`] do not fail.
 #[derive(Debug, Drop)]
 pub enum SnippetStart<'chars> {
-    /// Text that is lent. Takes no memory.
+    /// A borrowed text.
     Fixed(&'chars str),
-    /// Text of the user's own.
+    /// An owned text.
     Owned(String),
 }
 
 impl<'chars> SnippetStart<'chars> {
-    /// The same text, of the same kind. Refuses with `OutOfMemory` alone, and not where the text is `Fixed`.
+    /// Returns the same text, in the same variant.
+    ///
+    /// # Errors
+    ///
+    /// [`Error::OutOfMemory`] where an allocation fails; never for [`SnippetStart::Fixed`].
     pub fn clone(&self) -> Result<SnippetStart<'chars>, Error>
         ensures same { IfOk result (λ s. start_text s ≡ start_text self.now) }
         ensures kind { IfOk result (λ s. is_fixed s ≡ is_fixed self.now) }
@@ -31,46 +35,56 @@ impl<'chars> SnippetStart<'chars> {
     }
 }
 
-/// The characters that a picture is drawn with.
+/// The characters of the output. The fields are the Rust crate's.
 ///
 /// [`Chars::ascii`] is for terminals that do not show box drawing.
+///
+/// # Examples
+///
+/// ```rust
+/// let start = SnippetStart::Owned(String::from_str(rt.alloc(), "==>")?);
+/// let chars = Chars {
+///     snippet_start: start.clone()?,
+///     ..Chars::ascii()
+/// };
+/// ```
 #[derive(Debug, Drop)]
 pub struct Chars<'chars> {
-    /// Before the place of a snippet: `"┌─"`, in ASCII `"-->"`.
+    /// Before the locus of a snippet: `"┌─"`, in ASCII `"-->"`.
     pub snippet_start: SnippetStart<'chars>,
     /// Left of the source: `'│'`, in ASCII `'|'`.
     pub source_border_left: char,
-    /// The same where lines are left out: `'·'`, in ASCII `'.'`.
+    /// Left of a break, where lines are left out: `'·'`, in ASCII `'.'`.
     pub source_border_left_break: char,
 
     /// Before a note: `'='`.
     pub note_bullet: char,
 
-    /// Under a primary label of one line: `'^'`.
+    /// Under each cell of a primary single-line label: `'^'`.
     pub single_primary_caret: char,
-    /// Under a secondary label of one line: `'-'`.
+    /// Under each cell of a secondary single-line label: `'-'`.
     pub single_secondary_caret: char,
 
-    /// Under the start of a primary label over several lines: `'^'`.
+    /// Under the start of a primary multi-line label: `'^'`.
     pub multi_primary_caret_start: char,
-    /// Under the end of a primary label over several lines: `'^'`.
+    /// Under the end of a primary multi-line label: `'^'`.
     pub multi_primary_caret_end: char,
-    /// Under the start of a secondary label over several lines: `'\''`.
+    /// Under the start of a secondary multi-line label: `'\''`.
     pub multi_secondary_caret_start: char,
-    /// Under the end of a secondary label over several lines: `'\''`.
+    /// Under the end of a secondary multi-line label: `'\''`.
     pub multi_secondary_caret_end: char,
-    /// The top corner of a label over several lines: `'╭'`, in ASCII `'/'`.
+    /// The top corner of a multi-line label: `'╭'`, in ASCII `'/'`.
     pub multi_top_left: char,
-    /// The line from its top corner to its start: `'─'`, in ASCII `'-'`.
+    /// The underline from the top corner to the label's start: `'─'`, in ASCII `'-'`.
     pub multi_top: char,
-    /// The bottom corner of a label over several lines: `'╰'`, in ASCII `'\'`.
+    /// The bottom corner of a multi-line label: `'╰'`, in ASCII `'\'`.
     pub multi_bottom_left: char,
-    /// The line from its bottom corner to its end: `'─'`, in ASCII `'-'`.
+    /// The underline from the bottom corner to the label's end: `'─'`, in ASCII `'-'`.
     pub multi_bottom: char,
-    /// Its lane between the corners: `'│'`, in ASCII `'|'`.
+    /// The lane of a multi-line label between its corners: `'│'`, in ASCII `'|'`.
     pub multi_left: char,
 
-    /// Between a caret and the message that hangs from it: `'│'`, in ASCII `'|'`.
+    /// The pointer between a caret and a hanging message: `'│'`, in ASCII `'|'`.
     pub pointer_left: char,
 }
 
@@ -92,7 +106,7 @@ impl<'chars> Chars<'chars> {
     ghost use Rattle.codespan_base.specs.Lookalikes.{IsChars};
     ghost use Rattle.codespan_base.specs.Characters.{box_drawing, ascii};
 
-    /// The characters of box drawing. The text before a place is `Fixed`.
+    /// Returns the characters of box drawing, which are the default, with a text before a locus that is `Fixed`.
     pub fn box_drawing() -> Chars<'chars>
         ensures alike { IsChars box_drawing result }
         ensures fixed { IsTrue (is_fixed result.snippet_start) }
@@ -117,7 +131,7 @@ impl<'chars> Chars<'chars> {
         }
     }
 
-    /// Characters of ASCII alone. The text before a place is `Fixed`.
+    /// Returns characters of ASCII alone, with a text before a locus that is `Fixed`.
     pub fn ascii() -> Chars<'chars>
         ensures alike { IsChars ascii result }
         ensures fixed { IsTrue (is_fixed result.snippet_start) }
@@ -142,7 +156,11 @@ impl<'chars> Chars<'chars> {
         }
     }
 
-    /// The same characters. Refuses with `OutOfMemory` alone, and not where the text before a place is `Fixed`.
+    /// Returns equal characters.
+    ///
+    /// # Errors
+    ///
+    /// [`Error::OutOfMemory`] where an allocation fails; never where the text before a locus is [`SnippetStart::Fixed`].
     pub fn clone(&self) -> Result<Chars<'chars>, Error>
         ensures same { IfOk result (IsChars self.now) }
         ensures kind { IfOk result (λ c.

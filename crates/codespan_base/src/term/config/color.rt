@@ -1,12 +1,12 @@
-//! Colours, and the law of writers that send them.
+//! Colors, styles, and the trait of writers that write them.
 
 ghost use Rattle.std.specs.Prelude.{◌≡◌};
-ghost use Rattle.codespan_base.specs.ColorLaw.{Paints};
+ghost use Rattle.codespan_base.specs.ColorLaw.{AppendsBytes};
 
 use std::io;
 use std::io::Write;
 
-/// The colours of a terminal, by their numbers in its escape sequences.
+/// The eight colors of a terminal, by their numbers in escape sequences.
 #[derive(Clone, Copy, Debug, PartialEq, Eq)]
 pub enum Color {
     /// Number 0.
@@ -27,23 +27,23 @@ pub enum Color {
     White,
 }
 
-/// What a style sets.
+/// A style of text: its colors and weight.
 #[derive(Clone, Copy, Debug, PartialEq, Eq)]
 pub struct ColorSpec {
-    /// The colour of the text.
+    /// The color of the text; `None` leaves it.
     pub fg: Option<Color>,
-    /// The colour of what is behind the text.
+    /// The color of the background; `None` leaves it.
     pub bg: Option<Color>,
     /// Whether the text is bold.
     pub bold: bool,
-    /// Whether its colours are the bright ones.
+    /// Whether both colors are the bright ones.
     pub intense: bool,
 }
 
 impl ColorSpec {
     ghost use Rattle.codespan_base.specs.StyleTables.{unset};
 
-    /// A style that sets nothing.
+    /// Returns a style that sets nothing.
     pub fn new() -> ColorSpec
         ensures { result ≡ unset }
     {
@@ -66,7 +66,10 @@ impl Default for ColorSpec {
     }
 }
 
-/// A writer of colours: fixed bytes for each style, and for the reset.
+/// A writer with fixed bytes for each style and for the reset. [`StylesWriter`](codespan_reporting::term::StylesWriter) makes a
+/// [`WriteStyle`](codespan_reporting::term::WriteStyle) of it.
+///
+/// `docs/WRITERS.md` implements one.
 pub trait WriteColor: Write {
     ghost use Rattle.std.specs.Prelude.{ℕ, List};
     ghost use Rattle.codespan_base.specs.declared.term.config.color.ColorSpec.{ColorSpec};
@@ -77,12 +80,21 @@ pub trait WriteColor: Write {
     /// The bytes of the reset.
     ghost reset_bytes: { List ℕ };
 
-    /// Sends the bytes of the style, or a beginning of them where it is refused.
+    /// Writes the bytes of the style.
+    ///
+    /// # Errors
+    ///
+    /// An [`io::Error`] where a write fails or takes none of its bytes; a prefix of the bytes has then been written.
     fn set_color(&mut self, spec: &ColorSpec) -> io::Result<()>
-        ensures { Paints (Self.contents self.old) (color_bytes spec.now)
+        ensures { AppendsBytes (Self.contents self.old) (color_bytes spec.now)
             result (Self.contents self.new) };
 
-    /// Sends the bytes of the reset, or a beginning of them where it is refused.
+    /// Writes the bytes of the reset.
+    ///
+    /// # Errors
+    ///
+    /// An [`io::Error`] where a write fails or takes none of its bytes; a prefix of the bytes has then been written.
     fn reset(&mut self) -> io::Result<()>
-        ensures { Paints (Self.contents self.old) reset_bytes result (Self.contents self.new) };
+        ensures { AppendsBytes (Self.contents self.old) reset_bytes result
+            (Self.contents self.new) };
 }

@@ -1,14 +1,14 @@
-//! No colours.
+//! Text without styles.
 
 ghost use Rattle.std.specs.Prelude.{◌≡◌, []};
-ghost use Rattle.codespan_base.specs.ColorLaw.{Paints};
-ghost use Rattle.codespan_base.specs.Writers.{IsSilent};
+ghost use Rattle.codespan_base.specs.ColorLaw.{AppendsBytes};
+ghost use Rattle.codespan_base.specs.Writers.{WritesNothing};
 
 use crate::term::config::color::{ColorSpec, WriteColor};
 use std::io;
 use std::io::Write;
 
-/// A writer of colours that sends none.
+/// A [`WriteColor`] whose styles and reset have no bytes. Its `set_color` and `reset` succeed.
 #[derive(Debug, Drop)]
 pub struct NoColor<W> {
     inner: W,
@@ -17,14 +17,14 @@ pub struct NoColor<W> {
 impl<W: Write> NoColor<W> {
     ghost use Rattle.codespan_base.specs.Writers.{no_color_inner};
 
-    /// Text without colours, written to `writer`.
+    /// Returns a writer without styles over `writer`.
     pub fn new(writer: W) -> NoColor<W>
         ensures { no_color_inner result ≡ writer }
     {
         NoColor { inner: writer }
     }
 
-    /// The writer that it writes to.
+    /// Returns the inner writer.
     pub fn into_inner(self) -> W
         ensures { result ≡ no_color_inner self }
     {
@@ -46,7 +46,7 @@ impl<W: Write> Write for NoColor<W> {
     }
 }
 
-#[tactic(auto, using(crate::proofs::Paints::paintings))]
+#[tactic(auto, using(crate::proofs::AppendsBytes::paintings))]
 impl<W: Write> WriteColor for NoColor<W> {
     ghost use Rattle.codespan_base.specs.Writers.{no_color_inner};
 
@@ -55,17 +55,17 @@ impl<W: Write> WriteColor for NoColor<W> {
     ghost reset_bytes = { [] };
 
     fn set_color(&mut self, _spec: &ColorSpec) -> io::Result<()>
-        ensures paints { Paints (W.contents (no_color_inner self.old)) []
+        ensures paints { AppendsBytes (W.contents (no_color_inner self.old)) []
             result (W.contents (no_color_inner self.new)) }
-        ensures silent { IsSilent self.old result self.new }
+        ensures silent { WritesNothing self.old result self.new }
     {
         Ok(())
     }
 
     fn reset(&mut self) -> io::Result<()>
-        ensures paints { Paints (W.contents (no_color_inner self.old)) []
+        ensures paints { AppendsBytes (W.contents (no_color_inner self.old)) []
             result (W.contents (no_color_inner self.new)) }
-        ensures silent { IsSilent self.old result self.new }
+        ensures silent { WritesNothing self.old result self.new }
     {
         Ok(())
     }

@@ -3,43 +3,57 @@
 ghost use Rattle.std.specs.Prelude.{◌≡◌, refl};
 ghost use Rattle.codespan_base.specs.Streams.{Header, HeaderMessage, LineNumber, NoteBullet, SourceBorder, LabelMark, Reset, no_marks, one_mark};
 ghost use Rattle.codespan_base.specs.WriterLaw.{Sends};
-ghost use Rattle.codespan_base.specs.Writers.{IsSilent};
+ghost use Rattle.codespan_base.specs.Writers.{WritesNothing};
 
-use crate::term::config::putting::put_through;
 use crate::term::config::write_style::WriteStyle;
+use crate::term::config::writing::forward_put;
 use codespan_files::diagnostic::{LabelStyle, Severity};
 use std::io;
 use std::io::Write;
 
-/// A writer of plain text: every mark is spelled as nothing, and succeeds.
+/// A [`WriteStyle`] of plain text: each style mark has no bytes, and succeeds. It is this project's own.
+///
+/// # Examples
+///
+/// ```rust
+/// let mut plain = PlainWriter::new(Vec::new(alloc));
+/// let mut renderer = Renderer::new(&mut plain, &config);
+/// RichDiagnostic::new(&bug, &config).render(&files, &mut renderer)?;
+/// ShortDiagnostic::new(&bug, true).render(&files, &mut renderer)?;
+/// ShortDiagnostic::new(&bug, false).render(&files, &mut renderer)?;
+/// assert_eq!(rt;
+///     plain.into_inner().as_slice(),
+///     b"bug: \n\nbug: \nbug: \n".as_slice()
+/// );
+/// ```
 #[derive(Debug, Drop)]
 pub struct PlainWriter<W> {
     inner: W,
-    refused: bool,
+    failed: bool,
 }
 
 impl<W: Write> PlainWriter<W> {
     ghost use Rattle.codespan_base.specs.Writers.{fresh_sink, plain_sink, plain_inner};
 
-    /// Plain text, written to `writer`. It has refused nothing yet.
+    /// Returns a writer of plain text over `writer`. Its flag is not set.
     pub fn new(writer: W) -> PlainWriter<W>
         ensures begins { plain_sink W.contents result ≡ fresh_sink no_marks (W.contents writer) }
         ensures inner { plain_inner result ≡ writer }
     {
         PlainWriter {
             inner: writer,
-            refused: false,
+            failed: false,
         }
     }
 
-    /// Whether it has refused a `put`, or taken none of some bytes.
-    pub fn has_refused(&self) -> bool
-        ensures { result ≡ (plain_sink W.contents self.now).frame.refused }
+    /// Returns the flag: whether a `put` has failed, or has taken none of some bytes.
+    pub fn has_failed(&self) -> bool
+        ensures { result ≡ (plain_sink W.contents self.now).frame.failed }
     {
-        self.refused
+        self.failed
     }
 
-    /// The writer that it writes to.
+    /// Returns the inner writer.
     pub fn into_inner(self) -> W
         ensures { result ≡ plain_inner self }
     {
@@ -48,6 +62,7 @@ impl<W: Write> PlainWriter<W> {
     }
 }
 
+/// Passes writes and flushes on to the inner writer; they leave the flag.
 impl<W: Write> Write for PlainWriter<W> {
     ghost use Rattle.codespan_base.specs.Writers.{plain_inner};
 
@@ -71,7 +86,7 @@ impl<W: Write> WriteStyle for PlainWriter<W> {
     fn set_header(&mut self, _severity: Severity) -> io::Result<()>
         ensures sends { Sends (plain_sink W.contents self.old) (one_mark (Header _severity))
             result (plain_sink W.contents self.new) }
-        ensures silent { IsSilent self.old result self.new }
+        ensures silent { WritesNothing self.old result self.new }
     {
         Ok(())
     }
@@ -79,7 +94,7 @@ impl<W: Write> WriteStyle for PlainWriter<W> {
     fn set_header_message(&mut self) -> io::Result<()>
         ensures sends { Sends (plain_sink W.contents self.old) (one_mark HeaderMessage)
             result (plain_sink W.contents self.new) }
-        ensures silent { IsSilent self.old result self.new }
+        ensures silent { WritesNothing self.old result self.new }
     {
         Ok(())
     }
@@ -87,7 +102,7 @@ impl<W: Write> WriteStyle for PlainWriter<W> {
     fn set_line_number(&mut self) -> io::Result<()>
         ensures sends { Sends (plain_sink W.contents self.old) (one_mark LineNumber)
             result (plain_sink W.contents self.new) }
-        ensures silent { IsSilent self.old result self.new }
+        ensures silent { WritesNothing self.old result self.new }
     {
         Ok(())
     }
@@ -95,7 +110,7 @@ impl<W: Write> WriteStyle for PlainWriter<W> {
     fn set_note_bullet(&mut self) -> io::Result<()>
         ensures sends { Sends (plain_sink W.contents self.old) (one_mark NoteBullet)
             result (plain_sink W.contents self.new) }
-        ensures silent { IsSilent self.old result self.new }
+        ensures silent { WritesNothing self.old result self.new }
     {
         Ok(())
     }
@@ -103,7 +118,7 @@ impl<W: Write> WriteStyle for PlainWriter<W> {
     fn set_source_border(&mut self) -> io::Result<()>
         ensures sends { Sends (plain_sink W.contents self.old) (one_mark SourceBorder)
             result (plain_sink W.contents self.new) }
-        ensures silent { IsSilent self.old result self.new }
+        ensures silent { WritesNothing self.old result self.new }
     {
         Ok(())
     }
@@ -111,7 +126,7 @@ impl<W: Write> WriteStyle for PlainWriter<W> {
     fn set_label(&mut self, _severity: Severity, _label_style: LabelStyle) -> io::Result<()>
         ensures sends { Sends (plain_sink W.contents self.old)
             (one_mark (LabelMark _severity _label_style)) result (plain_sink W.contents self.new) }
-        ensures silent { IsSilent self.old result self.new }
+        ensures silent { WritesNothing self.old result self.new }
     {
         Ok(())
     }
@@ -119,14 +134,14 @@ impl<W: Write> WriteStyle for PlainWriter<W> {
     fn reset(&mut self) -> io::Result<()>
         ensures sends { Sends (plain_sink W.contents self.old) (one_mark Reset)
             result (plain_sink W.contents self.new) }
-        ensures silent { IsSilent self.old result self.new }
+        ensures silent { WritesNothing self.old result self.new }
     {
         Ok(())
     }
 
     fn put(&mut self, bytes: &[u8]) -> io::Result<usize> {
-        put_through(&mut self.inner, &mut self.refused, bytes)
+        forward_put(&mut self.inner, &mut self.failed, bytes)
     }
 
-    ghost tells = { λ _. refl };
+    ghost holds_contents = { λ _. refl };
 }

@@ -1,4 +1,4 @@
-//! The styles of a picture's parts.
+//! The styles of the parts of the output.
 
 ghost use Rattle.std.specs.Prelude.{◌≡◌};
 ghost use Rattle.codespan_base.specs.StyleTables.{colored, bright};
@@ -6,22 +6,31 @@ ghost use Rattle.codespan_base.specs.StyleTables.{colored, bright};
 use crate::term::config::color::{Color, ColorSpec};
 use codespan_files::diagnostic::{LabelStyle, Severity};
 
-/// The styles of a picture's parts.
+/// The styles of the parts of the output.
 ///
-/// The default styles are this project's own.
+/// The default styles are this project's own: those that the Rust crate documents, with cyan for secondary labels, line numbers, borders
+/// and bullets, as the crate has it on Windows.
+///
+/// # Examples
+///
+/// ```rust
+/// let styles = Styles::default();
+/// let mut colored = StylesWriter::new(Ansi::new(&mut stdout), &styles);
+/// emit_to_write_style(&mut colored, &rich, &files, &diagnostic)?;
+/// ```
 #[derive(Clone, Copy, Debug, PartialEq, Eq)]
 pub struct Styles {
-    /// The severity in the header of a bug. By default bold and bright red.
+    /// The severity in the header of a bug. By default red, bold and intense.
     pub header_bug: ColorSpec,
-    /// The severity in the header of an error. By default bold and bright red.
+    /// The severity in the header of an error. By default red, bold and intense.
     pub header_error: ColorSpec,
-    /// The severity in the header of a warning. By default bold and bright yellow.
+    /// The severity in the header of a warning. By default yellow, bold and intense.
     pub header_warning: ColorSpec,
-    /// The severity in the header of a note. By default bold and bright green.
+    /// The severity in the header of a note. By default green, bold and intense.
     pub header_note: ColorSpec,
-    /// The severity in the header of a help. By default bold and bright cyan.
+    /// The severity in the header of a help. By default cyan, bold and intense.
     pub header_help: ColorSpec,
-    /// The message in a header. By default bold and intense.
+    /// The message of a header. By default bold and intense.
     pub header_message: ColorSpec,
 
     /// Primary labels of a bug. By default red.
@@ -39,7 +48,7 @@ pub struct Styles {
 
     /// Line numbers. By default cyan.
     pub line_number: ColorSpec,
-    /// The border left of the source. By default cyan.
+    /// The border left of the source, and the start of a snippet. By default cyan.
     pub source_border: ColorSpec,
     /// The bullet of a note. By default cyan.
     pub note_bullet: ColorSpec,
@@ -48,7 +57,7 @@ pub struct Styles {
 impl Styles {
     ghost use Rattle.codespan_base.specs.StyleTables.{no_color_styles, header_style, label_style as style_of_label};
 
-    /// The style of a header's severity.
+    /// Borrows the style of the severity in a header.
     pub fn header(&self, severity: Severity) -> &ColorSpec
         ensures { result.now ≡ header_style self.now severity }
     {
@@ -61,35 +70,35 @@ impl Styles {
         }
     }
 
-    /// The style of a header's message.
+    /// Borrows the style of the message in a header.
     pub fn header_message(&self) -> &ColorSpec
         ensures { result.now ≡ self.now.header_message }
     {
         &self.header_message
     }
 
-    /// The style of line numbers.
+    /// Borrows the style of line numbers.
     pub fn line_number(&self) -> &ColorSpec
         ensures { result.now ≡ self.now.line_number }
     {
         &self.line_number
     }
 
-    /// The style of the bullets of notes.
+    /// Borrows the style of the bullets of notes.
     pub fn note_bullet(&self) -> &ColorSpec
         ensures { result.now ≡ self.now.note_bullet }
     {
         &self.note_bullet
     }
 
-    /// The style of the border left of the source.
+    /// Borrows the style of the border left of the source.
     pub fn source_border(&self) -> &ColorSpec
         ensures { result.now ≡ self.now.source_border }
     {
         &self.source_border
     }
 
-    /// The style of a label in a diagnostic of this severity.
+    /// Borrows the style of a label in a diagnostic of this severity. Secondary labels have one style in all severities.
     pub fn label(&self, severity: Severity, label_style: LabelStyle) -> &ColorSpec
         ensures { result.now ≡ style_of_label self.now severity label_style }
     {
@@ -103,7 +112,7 @@ impl Styles {
         }
     }
 
-    /// Styles that set nothing.
+    /// Returns styles that set nothing.
     pub fn no_color() -> Styles
         ensures { result ≡ no_color_styles }
     {
@@ -155,6 +164,7 @@ impl Default for Styles {
     }
 }
 
+/// Returns the style of a color.
 fn colored(color: Color) -> ColorSpec
     ensures { result ≡ colored color }
 {
@@ -164,6 +174,7 @@ fn colored(color: Color) -> ColorSpec
     }
 }
 
+/// Returns a bold and intense style of a color, or of none.
 fn bright(color: Option<Color>) -> ColorSpec
     ensures { result ≡ bright color }
 {

@@ -5,26 +5,40 @@ ghost use Rattle.codespan_base.specs.Streams.{bytes};
 ghost use Rattle.codespan_base.specs.WriterLaw.{Sends};
 
 use crate::term::config::color::{ColorSpec, WriteColor};
-use crate::term::config::putting::put_through;
 use crate::term::config::styles::Styles;
 use crate::term::config::write_style::WriteStyle;
+use crate::term::config::writing::forward_put;
 use codespan_files::diagnostic::{LabelStyle, Severity};
 use std::io;
 use std::io::Write;
 
-/// A writer that spells each mark as the bytes of its style, and the reset as those of the reset.
+/// A [`WriteStyle`] over a [`WriteColor`]: each style mark has the bytes of its style in [`Styles`], and the reset those of the reset.
+///
+/// # Examples
+///
+/// ```rust
+/// let styles = Styles::default();
+/// let mut text = Vec::new(rt.alloc());
+/// let mut w = StylesWriter::new(Ansi::new(&mut text), &styles);
+/// w.set_header(Severity::Error)?;
+/// put_all(&mut w, b"error")?;
+/// w.set_header_message()?;
+/// put_all(&mut w, b": m")?;
+/// w.reset()?;
+/// put_all(&mut w, b"\n")?;
+/// ```
 #[derive(Debug, Drop)]
 pub struct StylesWriter<'a, W> {
     inner: W,
     styles: &'a Styles,
-    refused: bool,
+    failed: bool,
 }
 
 impl<'a, W: WriteColor> StylesWriter<'a, W> {
     ghost use Rattle.codespan_base.specs.StyleTables.{spelling_by};
     ghost use Rattle.codespan_base.specs.Writers.{fresh_sink, styles_sink, styles_inner};
 
-    /// Text in these styles, written to `writer`. It has refused nothing yet.
+    /// Returns a writer over `writer` that writes these styles. Its flag is not set.
     pub fn new(writer: W, styles: &'a Styles) -> StylesWriter<'a, W>
         ensures begins { styles_sink W.contents W.color_bytes W.reset_bytes result
             ≡ fresh_sink (spelling_by styles.now W.color_bytes W.reset_bytes) (W.contents writer) }
@@ -33,11 +47,11 @@ impl<'a, W: WriteColor> StylesWriter<'a, W> {
         StylesWriter {
             inner: writer,
             styles,
-            refused: false,
+            failed: false,
         }
     }
 
-    /// The writer that it writes to.
+    /// Returns the inner writer.
     pub fn into_inner(self) -> W
         ensures { result ≡ styles_inner self.entry }
     {
@@ -45,6 +59,7 @@ impl<'a, W: WriteColor> StylesWriter<'a, W> {
         inner
     }
 
+    /// Writes the bytes of a style, and sets the flag where that fails.
     fn set_color(&mut self, spec: &ColorSpec) -> io::Result<()>
         ensures { Sends (styles_sink W.contents W.color_bytes W.reset_bytes self.old)
             (bytes (W.color_bytes spec.now)) result
@@ -53,12 +68,13 @@ impl<'a, W: WriteColor> StylesWriter<'a, W> {
         match self.inner.set_color(spec) {
             Ok(()) => Ok(()),
             Err(error) => {
-                self.refused = true;
+                self.failed = true;
                 Err(error)
             }
         }
     }
 
+    /// Writes the bytes of the reset, and sets the flag where that fails.
     fn reset_color(&mut self) -> io::Result<()>
         ensures { Sends (styles_sink W.contents W.color_bytes W.reset_bytes self.old)
             (bytes W.reset_bytes) result
@@ -67,13 +83,14 @@ impl<'a, W: WriteColor> StylesWriter<'a, W> {
         match self.inner.reset() {
             Ok(()) => Ok(()),
             Err(error) => {
-                self.refused = true;
+                self.failed = true;
                 Err(error)
             }
         }
     }
 }
 
+/// Passes writes and flushes on to the inner writer; they leave the flag.
 impl<W: WriteColor> Write for StylesWriter<'_, W> {
     ghost use Rattle.codespan_base.specs.Writers.{styles_inner};
 
@@ -129,8 +146,8 @@ impl<W: WriteColor> WriteStyle for StylesWriter<'_, W> {
     }
 
     fn put(&mut self, bytes: &[u8]) -> io::Result<usize> {
-        put_through(&mut self.inner, &mut self.refused, bytes)
+        forward_put(&mut self.inner, &mut self.failed, bytes)
     }
 
-    ghost tells = { λ _. refl };
+    ghost holds_contents = { λ _. refl };
 }

@@ -1,4 +1,4 @@
-//! Writers that take bytes and marks of style.
+//! Writers of bytes and style marks.
 
 ghost use Rattle.std.specs.Io.{WritesAtMost};
 ghost use Rattle.codespan_base.specs.Streams.{Header, HeaderMessage, LineNumber, NoteBullet, SourceBorder, LabelMark, Reset, one_mark};
@@ -8,54 +8,114 @@ use codespan_files::diagnostic::{LabelStyle, Severity};
 use std::io;
 use std::io::Write;
 
-/// What a write or a mark answers.
+/// The result of a style mark.
 pub type GeneralWriteResult = io::Result<()>;
 
-/// A writer with a spelling: fixed bytes for each mark.
+/// A writer of bytes and style marks. It has a spelling: fixed bytes for each style mark, which no call changes.
 ///
-/// A mark that succeeds appends its spelling, and one that is refused a beginning of it. The writer keeps whether it
-/// has refused: a refused mark or `put`, or a `put` of some bytes that takes none, sets this, and nothing else does.
+/// A style mark that succeeds appends its spelling, and one that fails a prefix of it. The writer keeps a flag of whether it has failed:
+/// a style mark or a `put` that fails, and a `put` of some bytes that takes none, set it, and nothing else does. The rules are this
+/// project's own.
+///
+/// Rendering writes bytes by `put` and never by the calls of `Write`, and it never flushes. `docs/WRITERS.md` goes through the example.
+///
+/// # Examples
+///
+/// A writer of tags in brackets:
+///
+/// ```rust
+/// #[tactic(auto, using(codespan_base::proofs::Marks::marking))]
+/// impl<W: Write> WriteStyle for TagWriter<W> {
+///     ghost sink = { λ t. tag_sink t.failed (W.contents t.inner) };
+///
+///     fn set_header(&mut self, _severity: Severity) -> io::Result<()> {
+///         self.send_tag(b"[header]")
+///     }
+///
+///     fn set_header_message(&mut self) -> io::Result<()> {
+///         self.send_tag(b"[message]")
+///     }
+///
+///     fn set_line_number(&mut self) -> io::Result<()> {
+///         self.send_tag(b"[number]")
+///     }
+///
+///     fn set_note_bullet(&mut self) -> io::Result<()> {
+///         self.send_tag(b"[bullet]")
+///     }
+///
+///     fn set_source_border(&mut self) -> io::Result<()> {
+///         self.send_tag(b"[border]")
+///     }
+///
+///     fn set_label(&mut self, _severity: Severity, label_style: LabelStyle) -> io::Result<()> {
+///         match label_style {
+///             LabelStyle::Primary => self.send_tag(b"[primary]"),
+///             LabelStyle::Secondary => self.send_tag(b"[secondary]"),
+///         }
+///     }
+///
+///     fn reset(&mut self) -> io::Result<()> {
+///         self.send_tag(b"[/]")
+///     }
+///
+///     fn put(&mut self, bytes: &[u8]) -> io::Result<usize> {
+///         forward_put(&mut self.inner, &mut self.failed, bytes)
+///     }
+///
+///     ghost holds_contents = { λ _. refl };
+/// }
+/// ```
 pub trait WriteStyle: Write {
     ghost use Rattle.std.specs.Prelude.{◌≡◌};
     ghost use Rattle.codespan_base.specs.WriterLaw.{Sink};
 
-    /// What a contract sees of the writer.
+    /// The spelling, the flag and the bytes of the writer, as contracts see them.
     ghost sink: { Self → Sink };
 
-    /// Before the severity and the code of a header.
+    /// Writes the style mark before the severity and the code of a header.
+    ///
+    /// # Errors
+    ///
+    /// An [`io::Error`] where a write fails or takes none of its bytes; a prefix of the mark's spelling has then been written.
     fn set_header(&mut self, severity: Severity) -> io::Result<()>
         ensures { Sends (sink self.old) (one_mark (Header severity)) result (sink self.new) };
 
-    /// Before the message of a header.
+    /// Writes the style mark before the message of a header. Fails as [`set_header`](Self::set_header) does.
     fn set_header_message(&mut self) -> io::Result<()>
         ensures { Sends (sink self.old) (one_mark HeaderMessage) result (sink self.new) };
 
-    /// Before the number of a line.
+    /// Writes the style mark before a line number. Fails as [`set_header`](Self::set_header) does.
     fn set_line_number(&mut self) -> io::Result<()>
         ensures { Sends (sink self.old) (one_mark LineNumber) result (sink self.new) };
 
-    /// Before the bullet of a note.
+    /// Writes the style mark before the bullet of a note. Fails as [`set_header`](Self::set_header) does.
     fn set_note_bullet(&mut self) -> io::Result<()>
         ensures { Sends (sink self.old) (one_mark NoteBullet) result (sink self.new) };
 
-    /// Before the border left of the source, and the start of a snippet.
+    /// Writes the style mark before the border left of the source, and before the start of a snippet. Fails as
+    /// [`set_header`](Self::set_header) does.
     fn set_source_border(&mut self) -> io::Result<()>
         ensures { Sends (sink self.old) (one_mark SourceBorder) result (sink self.new) };
 
-    /// Before what belongs to a label.
+    /// Writes the style mark before a label's carets, lanes and message. Fails as [`set_header`](Self::set_header) does.
     fn set_label(&mut self, severity: Severity, label_style: LabelStyle) -> io::Result<()>
         ensures { Sends (sink self.old) (one_mark (LabelMark severity label_style))
             result (sink self.new) };
 
-    /// After the text of each mark: its style ends here.
+    /// Writes the style mark after a part, which ends its style. Fails as [`set_header`](Self::set_header) does.
     fn reset(&mut self) -> io::Result<()>
         ensures { Sends (sink self.old) (one_mark Reset) result (sink self.new) };
 
-    /// One write: takes as many of the first bytes as it answers, and none where it is refused.
+    /// Writes once: takes a number of the first bytes and returns it.
+    ///
+    /// # Errors
+    ///
+    /// An [`io::Error`] where the write fails; none of the bytes has then been taken.
     fn put(&mut self, bytes: &[u8]) -> io::Result<usize>
         ensures bound { WritesAtMost result bytes.now }
         ensures took { Puts (sink self.old) bytes.now result (sink self.new) };
 
-    /// What the law sees of the bytes is what the writer tells.
-    ghost tells: { (w : Self) → (sink w).held ≡ Self.contents w };
+    /// The bytes of the sink are those of the writer's `Write`.
+    ghost holds_contents: { (w : Self) → (sink w).held ≡ Self.contents w };
 }

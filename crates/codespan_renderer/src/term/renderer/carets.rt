@@ -20,21 +20,21 @@ use crate::term::renderer::char_cursor::CharCursor;
 use crate::term::renderer::line::{Line, Look};
 use crate::term::renderer::line_source::LineSource;
 use crate::term::renderer::messages::Messages;
-use crate::term::renderer::parts::{send_change, send_newline, send_opening, send_space};
-use crate::term::renderer::runs::{send_blank_run, send_run};
+use crate::term::renderer::parts::{change_style, write_newline, write_row_start, write_space};
+use crate::term::renderer::runs::{write_repeated, write_spaces};
 use codespan_base::diagnostic::{LabelStyle, Severity};
-use codespan_base::term::config::sending::send;
+use codespan_base::term::config::writing::put_all;
 use codespan_base::term::{Chars, WriteStyle};
 use std::io;
 
-/// Whether the label has a byte from `start` to before `end`.
+/// Returns whether the label has a byte from `start` to before `end`.
 pub fn covers_part(label: &SingleLabel<'_>, start: usize, end: usize) -> bool
     ensures { result ≡ covers_part (single_label_view label.now) start end }
 {
     label.1.start.max(start) < label.1.end.min(end)
 }
 
-/// The greatest end of the labels, 0 where there is none.
+/// Returns the greatest end of the labels, or 0 where there is none.
 pub fn greatest_end(labels: &[SingleLabel<'_>]) -> usize
     ensures { result ≡ greatest_end (single_label_views labels.now) }
 {
@@ -45,7 +45,7 @@ pub fn greatest_end(labels: &[SingleLabel<'_>]) -> usize
     greatest
 }
 
-/// Whether the label has a byte of the character.
+/// Returns whether the label has a byte of the character.
 pub fn covers(label: &SingleLabel<'_>, cell: Cell) -> bool
     ensures { result ≡ covers (single_label_view label.now) cell }
 {
@@ -53,7 +53,7 @@ pub fn covers(label: &SingleLabel<'_>, cell: Cell) -> bool
     first < label.1.end && first - cell.place < cell.bytes
 }
 
-/// Of two styles a primary one goes first.
+/// Returns the better of two styles: a primary one takes precedence.
 pub fn better(found: Option<LabelStyle>, style: LabelStyle) -> Option<LabelStyle>
     ensures { result ≡ better found style }
 {
@@ -63,7 +63,7 @@ pub fn better(found: Option<LabelStyle>, style: LabelStyle) -> Option<LabelStyle
     }
 }
 
-/// The style of the labels over a character: a primary one goes first.
+/// Returns the style of the labels over a character: a primary one takes precedence.
 pub fn style_under(labels: &[SingleLabel<'_>], cell: Cell) -> Option<LabelStyle>
     ensures { result ≡ style_under (single_label_views labels.now) cell }
 {
@@ -76,10 +76,10 @@ pub fn style_under(labels: &[SingleLabel<'_>], cell: Cell) -> Option<LabelStyle>
     found
 }
 
-/// So many carets of a style, or blanks.
+/// Writes `count` carets of a style, or spaces.
 #[tactic(auto, unfolding(crate::specs::Inner::Runs::caret_run))]
 #[inline(always)]
-fn send_caret_run<W: WriteStyle>(
+fn write_caret_run<W: WriteStyle>(
     w: &mut W,
     chars: &Chars<'_>,
     style: Option<LabelStyle>,
@@ -88,14 +88,14 @@ fn send_caret_run<W: WriteStyle>(
     ensures { Sends (W.sink w.old) (caret_run chars.now style count) result (W.sink w.new) }
 {
     match style {
-        None => send_blank_run(w, count)?,
-        Some(LabelStyle::Primary) => send_run(w, chars.single_primary_caret, count)?,
-        Some(LabelStyle::Secondary) => send_run(w, chars.single_secondary_caret, count)?,
+        None => write_spaces(w, count)?,
+        Some(LabelStyle::Primary) => write_repeated(w, chars.single_primary_caret, count)?,
+        Some(LabelStyle::Secondary) => write_repeated(w, chars.single_secondary_caret, count)?,
     }
     Ok(())
 }
 
-/// The end of a run of carets of one style, and the mark of the next.
+/// Writes the end of a run of carets of one style, and the style mark of the next.
 #[inline(always)]
 pub fn end_caret_run<W: WriteStyle>(
     w: &mut W,
@@ -108,12 +108,12 @@ pub fn end_caret_run<W: WriteStyle>(
         (caret_run look.entry.chars.now was count ++ change look.entry.severity was style)
         result (W.sink w.new) }
 {
-    send_caret_run(w, look.chars, was, count)?;
-    send_change(w, look.severity, was, style)
+    write_caret_run(w, look.chars, was, count)?;
+    change_style(w, look.severity, was, style)
 }
 
-/// The carets under the characters of a line, of which the last is the place after the others.
-fn send_carets<W: WriteStyle, C: CharCursor>(
+/// Writes the carets under the characters of a line, the last of which is the position after the text.
+fn write_carets<W: WriteStyle, C: CharCursor>(
     w: &mut W,
     look: Look<'_>,
     line: Line<'_, '_>,
@@ -143,8 +143,8 @@ fn send_carets<W: WriteStyle, C: CharCursor>(
     end_caret_run(w, look, was, run, None)
 }
 
-/// A label's message in its style.
-pub fn send_message<W: WriteStyle>(
+/// Writes a label's message in its style.
+pub fn write_message<W: WriteStyle>(
     w: &mut W,
     severity: Severity,
     label: &SingleLabel<'_>,
@@ -153,14 +153,14 @@ pub fn send_message<W: WriteStyle>(
         result (W.sink w.new) }
 {
     w.set_label(severity, label.0)?;
-    send(w, label.2.as_bytes())?;
+    put_all(w, label.2.as_bytes())?;
     w.reset()
 }
 
-/// One blank and the trailing message, where there is one.
+/// Writes a space and the trailing message, where there is one.
 #[tactic(auto, using(codespan_base::proofs::Sends::sendings), unfolding(codespan_picture::specs::RowParts::trailing_message))]
 #[inline(always)]
-pub fn send_trailing<W: WriteStyle>(
+pub fn write_trailing<W: WriteStyle>(
     w: &mut W,
     severity: Severity,
     trailing: Option<&SingleLabel<'_>>,
@@ -169,14 +169,14 @@ pub fn send_trailing<W: WriteStyle>(
         result (W.sink w.new) }
 {
     if let Some(label) = trailing {
-        send_space(w)?;
-        send_message(w, severity, label)?;
+        write_space(w)?;
+        write_message(w, severity, label)?;
     }
     Ok(())
 }
 
-/// The carets under a line, and the message that trails them.
-pub fn send_caret_row<W: WriteStyle, S: LineSource>(
+/// Writes the carets under a line, and the message that trails them.
+pub fn write_caret_row<W: WriteStyle, S: LineSource>(
     w: &mut W,
     look: Look<'_>,
     line: Line<'_, '_>,
@@ -189,8 +189,8 @@ pub fn send_caret_row<W: WriteStyle, S: LineSource>(
     ensures { Sends (W.sink w.old)
         (caret_row (look_view look.entry) (line_view line.entry) ++ newline) result (W.sink w.new) }
 {
-    send_opening(w, look, line)?;
-    send_carets(w, look, line, source.characters_to_end())?;
-    send_trailing(w, look.severity, messages.trailing)?;
-    send_newline(w)
+    write_row_start(w, look, line)?;
+    write_carets(w, look, line, source.characters_to_end())?;
+    write_trailing(w, look.severity, messages.trailing)?;
+    write_newline(w)
 }

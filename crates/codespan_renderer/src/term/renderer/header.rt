@@ -12,13 +12,13 @@ ghost use Rattle.codespan_renderer.specs.Inner.GivenRows.{given_heading};
 ghost use Rattle.codespan_renderer.specs.Renderers.{rendered_header};
 
 use crate::term::renderer::Locus;
-use crate::term::renderer::parts::{send_gutter, send_locus, send_newline, send_space};
+use crate::term::renderer::parts::{outer_gutter, snippet_locus, write_newline, write_space};
 use codespan_base::diagnostic::Severity;
-use codespan_base::term::config::sending::send;
+use codespan_base::term::config::writing::put_all;
 use codespan_base::term::{Chars, SnippetStart, WriteStyle};
 use std::io;
 
-/// The word for a severity.
+/// Returns the word for a severity.
 fn severity_name(severity: Severity) -> &'static str
     ensures { result.now ≡ severity_name severity }
 {
@@ -31,38 +31,38 @@ fn severity_name(severity: Severity) -> &'static str
     }
 }
 
-/// The place before a header, where there is one.
+/// Writes the locus before a header, where there is one.
 #[tactic(auto, using(codespan_base::proofs::Sends::sendings), unfolding(codespan_picture::specs::RowStreams::leading_locus))]
-fn send_leading_locus<W: WriteStyle>(w: &mut W, locus: Option<&Locus>) -> io::Result<()>
+fn write_leading_locus<W: WriteStyle>(w: &mut W, locus: Option<&Locus>) -> io::Result<()>
     ensures { Sends (W.sink w.old)
         (leading_locus (option_map (λ at. locus_view at.now) locus.entry)) result (W.sink w.new) }
 {
     if let Some(locus) = locus {
-        send_locus(w, locus)?;
-        send(w, b": ")?;
+        snippet_locus(w, locus)?;
+        put_all(w, b": ")?;
     }
     Ok(())
 }
 
-/// The code in brackets, where one is there and not empty.
+/// Writes the code in brackets, where there is one that is not empty.
 #[tactic(auto, using(codespan_base::proofs::Sends::sendings), unfolding(codespan_picture::specs::RowStreams::bracketed))]
-fn send_bracketed<W: WriteStyle>(w: &mut W, code: Option<&str>) -> io::Result<()>
+fn write_code<W: WriteStyle>(w: &mut W, code: Option<&str>) -> io::Result<()>
     ensures { Sends (W.sink w.old) (bracketed (option_map text_now code.entry))
         result (W.sink w.new) }
 {
     match code {
         Some(code) if !code.is_empty() => {
-            send(w, b"[")?;
-            send(w, code.as_bytes())?;
-            send(w, b"]")?;
+            put_all(w, b"[")?;
+            put_all(w, code.as_bytes())?;
+            put_all(w, b"]")?;
         }
         _ => {}
     }
     Ok(())
 }
 
-/// A header up to its message.
-fn send_heading<W: WriteStyle>(
+/// Writes a header up to its message.
+fn write_heading<W: WriteStyle>(
     w: &mut W,
     locus: Option<&Locus>,
     severity: Severity,
@@ -71,14 +71,14 @@ fn send_heading<W: WriteStyle>(
     ensures { Sends (W.sink w.old) (given_heading locus.entry severity code.entry)
         result (W.sink w.new) }
 {
-    send_leading_locus(w, locus)?;
+    write_leading_locus(w, locus)?;
     w.set_header(severity)?;
-    send(w, severity_name(severity).as_bytes())?;
-    send_bracketed(w, code)
+    put_all(w, severity_name(severity).as_bytes())?;
+    write_code(w, code)
 }
 
-/// The header of a diagnostic.
-pub fn send_header<W: WriteStyle>(
+/// Writes the header of a diagnostic.
+pub fn write_header<W: WriteStyle>(
     w: &mut W,
     locus: Option<&Locus>,
     severity: Severity,
@@ -88,15 +88,15 @@ pub fn send_header<W: WriteStyle>(
     ensures { Sends (W.sink w.old) (rendered_header locus.entry severity code.entry message.now)
         result (W.sink w.new) }
 {
-    send_heading(w, locus, severity, code)?;
+    write_heading(w, locus, severity, code)?;
     w.set_header_message()?;
-    send(w, b": ")?;
-    send(w, message.as_bytes())?;
+    put_all(w, b": ")?;
+    put_all(w, message.as_bytes())?;
     w.reset()?;
-    send_newline(w)
+    write_newline(w)
 }
 
-/// The text before a place.
+/// Returns the text before a locus.
 fn start_text<'a>(chars: &'a Chars<'_>) -> &'a str
     ensures { result.now ≡ start_text chars.now.snippet_start }
 {
@@ -106,8 +106,8 @@ fn start_text<'a>(chars: &'a Chars<'_>) -> &'a str
     }
 }
 
-/// The start of a file's snippet.
-pub fn send_start<W: WriteStyle>(
+/// Writes the start of a file's snippet.
+pub fn write_start<W: WriteStyle>(
     w: &mut W,
     chars: &Chars<'_>,
     padding: usize,
@@ -116,11 +116,11 @@ pub fn send_start<W: WriteStyle>(
     ensures { Sends (W.sink w.old) (start_row chars.now padding (locus_view locus.now) ++ newline)
         result (W.sink w.new) }
 {
-    send_gutter(w, padding)?;
+    outer_gutter(w, padding)?;
     w.set_source_border()?;
-    send(w, start_text(chars).as_bytes())?;
+    put_all(w, start_text(chars).as_bytes())?;
     w.reset()?;
-    send_space(w)?;
-    send_locus(w, locus)?;
-    send_newline(w)
+    write_space(w)?;
+    snippet_locus(w, locus)?;
+    write_newline(w)
 }

@@ -11,9 +11,9 @@ ghost use Rattle.codespan_picture.specs.Lanes.{filling, lane_cells, corner_line,
 
 use crate::term::renderer::MultiLabel;
 use crate::term::renderer::line::{Lanes, Look};
-use crate::term::renderer::parts::send_label_glyph;
+use crate::term::renderer::parts::write_label_glyph;
 use codespan_base::diagnostic::LabelStyle;
-use codespan_base::term::config::sending::{send_blanks, send_repeated};
+use codespan_base::term::config::writing::{put_repeated, put_spaces};
 use codespan_base::term::{Chars, Layout, WriteStyle};
 pub use codespan_picture::lanes::Shape;
 use std::io;
@@ -108,7 +108,7 @@ fn corner_line(chars: &Chars<'_>, part: MultiLabel<'_>) -> char
 
 /// A lane's part before its own character: blanks, or the line of a corner that stands to the left.
 #[inline(always)]
-fn send_filling<W: WriteStyle>(
+fn write_filling<W: WriteStyle>(
     w: &mut W,
     look: Look<'_>,
     crossing: Option<(usize, LabelStyle, MultiLabel<'_>)>,
@@ -119,10 +119,10 @@ fn send_filling<W: WriteStyle>(
         count) result (W.sink w.new) }
 {
     match crossing {
-        None => send_blanks(w, count),
+        None => put_spaces(w, count),
         Some((_, style, part)) => {
             w.set_label(look.severity, style)?;
-            send_repeated(w, corner_line(look.chars, part), count)?;
+            put_repeated(w, corner_line(look.chars, part), count)?;
             w.reset()
         }
     }
@@ -130,7 +130,7 @@ fn send_filling<W: WriteStyle>(
 
 /// The two characters of a lane that is no gap: what fills it, and its own character.
 #[inline(always)]
-fn send_filled<W: WriteStyle>(
+fn write_filled<W: WriteStyle>(
     w: &mut W,
     look: Look<'_>,
     crossing: Option<(usize, LabelStyle, MultiLabel<'_>)>,
@@ -140,14 +140,14 @@ fn send_filled<W: WriteStyle>(
     ensures { Sends (W.sink w.old) (given_filled look.entry crossing.entry style own)
         result (W.sink w.new) }
 {
-    send_filling(w, look, crossing, 1)?;
-    send_label_glyph(w, look.severity, style, own)
+    write_filling(w, look, crossing, 1)?;
+    write_label_glyph(w, look.severity, style, own)
 }
 
 /// The two characters of a lane.
 #[tactic(auto, unfolding(codespan_picture::specs::Lanes::lane_cells))]
 #[inline(always)]
-fn send_lane_cells<W: WriteStyle>(
+fn write_lane_cells<W: WriteStyle>(
     w: &mut W,
     look: Look<'_>,
     crossing: Option<(usize, LabelStyle, MultiLabel<'_>)>,
@@ -159,16 +159,16 @@ fn send_lane_cells<W: WriteStyle>(
         style shape) result (W.sink w.new) }
 {
     match shape {
-        Shape::Gap => send_filling(w, look, crossing, 2),
-        Shape::Bar => send_filled(w, look, crossing, style, look.chars.multi_left),
-        Shape::TopCorner => send_filled(w, look, crossing, style, look.chars.multi_top_left),
-        Shape::BottomCorner => send_filled(w, look, crossing, style, look.chars.multi_bottom_left),
+        Shape::Gap => write_filling(w, look, crossing, 2),
+        Shape::Bar => write_filled(w, look, crossing, style, look.chars.multi_left),
+        Shape::TopCorner => write_filled(w, look, crossing, style, look.chars.multi_top_left),
+        Shape::BottomCorner => write_filled(w, look, crossing, style, look.chars.multi_bottom_left),
     }
 }
 
 /// One lane, from the mark in it.
 #[tactic(auto, unfolding(codespan_picture::specs::RowParts::lane_of, crate::specs::Inner::GivenLine::given_lane))]
-fn send_lane<W: WriteStyle>(
+fn inner_gutter_column<W: WriteStyle>(
     w: &mut W,
     look: Look<'_>,
     leading: usize,
@@ -182,10 +182,10 @@ fn send_lane<W: WriteStyle>(
 {
     let crossing = crossing(row, lane);
     match mark {
-        None => send_lane_cells(w, look, crossing, LabelStyle::Primary, Shape::Gap),
+        None => write_lane_cells(w, look, crossing, LabelStyle::Primary, Shape::Gap),
         Some((_, style, part)) => {
             let shape = shape_in(look.layout, leading, row, lane, part);
-            send_lane_cells(w, look, crossing, style, shape)
+            write_lane_cells(w, look, crossing, style, shape)
         }
     }
 }
@@ -223,7 +223,7 @@ fn next_lane(lanes: Lanes<'_, '_>, next: usize) -> usize
 }
 
 /// How many blank lanes are sent at once at most.
-const AT_ONCE: usize = 32;
+const MAX_BLANK_LANES: usize = 32;
 
 /// How many lanes from one on, up to that of the next mark, are blank: no line runs through them from a corner. No more than are sent at
 /// once.
@@ -231,18 +231,18 @@ fn blank_lanes(row: LaneRow<'_>, lane: usize, until: usize) -> usize
     ensures bare { (other : ℕ) → lane ≤ other → other < lane + result
         → row_crossing (lane_row_view row.entry) other ≡ None }
     ensures within { lane + result ≤ max lane until }
-    ensures few { result ≤ AT_ONCE }
+    ensures few { result ≤ MAX_BLANK_LANES }
 {
     let end = match row {
         LaneRow::Underline(turning, _, _) => until.min(turning.saturating_add(1)),
         _ => until,
     };
-    end.saturating_sub(lane).min(AT_ONCE)
+    end.saturating_sub(lane).min(MAX_BLANK_LANES)
 }
 
 /// The lanes of a row, from left to right. Most rows have none, which is found before any call.
 #[inline(always)]
-pub fn send_lanes<W: WriteStyle>(
+pub fn inner_gutter<W: WriteStyle>(
     w: &mut W,
     look: Look<'_>,
     leading: usize,
@@ -256,12 +256,12 @@ pub fn send_lanes<W: WriteStyle>(
     if lanes.count == 0 {
         Ok(())
     } else {
-        send_each_lane(w, look, leading, row, lanes)
+        inner_gutter_columns(w, look, leading, row, lanes)
     }
 }
 
 /// Each lane of a row.
-fn send_each_lane<W: WriteStyle>(
+fn inner_gutter_columns<W: WriteStyle>(
     w: &mut W,
     look: Look<'_>,
     leading: usize,
@@ -277,11 +277,11 @@ fn send_each_lane<W: WriteStyle>(
     while lane < lanes.count {
         let blank = blank_lanes(row, lane, next_lane(lanes, next));
         if blank > 0 {
-            send_blanks(w, blank + blank)?;
+            put_spaces(w, blank + blank)?;
             lane += blank;
         } else {
             let (mark, after) = take_mark(lanes.marks, next, lane);
-            send_lane(w, look, leading, row, lane, mark)?;
+            inner_gutter_column(w, look, leading, row, lane, mark)?;
             next = after;
             lane += 1;
         }

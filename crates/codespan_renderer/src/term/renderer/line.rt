@@ -1,4 +1,4 @@
-//! What the rows of a line are of.
+//! What the rows of a line are rendered from.
 
 ghost use Rattle.std.specs.Prelude.{◌≡◌, IsTrue};
 ghost use Rattle.std.specs.Str.{IsUtf8};
@@ -9,49 +9,77 @@ use crate::term::renderer::{MultiLabel, SingleLabel};
 use codespan_base::diagnostic::{LabelStyle, Severity};
 use codespan_base::term::{Chars, Layout};
 
-/// What all rows of a picture share.
+/// What all rows of one call share.
 #[derive(Clone, Copy)]
 pub struct Look<'config> {
     /// The characters of borders, carets and lanes.
     pub chars: &'config Chars<'config>,
-    /// The cells from one tab stop to the next.
+    /// The number of cells from one tab stop to the next.
     pub tab_width: usize,
-    /// How lanes go on below a corner in a source row.
+    /// How lanes continue below a corner in a source row.
     pub layout: Layout,
-    /// How bad the diagnostic is: the style of what is primary.
+    /// The severity of the diagnostic, which decides the style of primary labels.
     pub severity: Severity,
-    /// The room for line numbers, in characters.
+    /// The padding width, in characters.
     pub padding: usize,
 }
 
-/// The marks in a row's lanes, in the order of the lanes.
+/// The multi-line label marks in a row's lanes, in the order of the lanes.
 #[derive(Clone, Copy)]
 pub struct Lanes<'row, 'd> {
-    /// How many lanes there are.
+    /// The number of lanes.
     pub count: usize,
-    /// The lane of each mark, counted from 0, its style, and what it does.
+    /// The lane of each mark, counted from 0, its style, and what the label does on the line.
     pub marks: &'row [(usize, LabelStyle, MultiLabel<'d>)],
     ghost in_order: { IsTrue (lanes_in_order count marks.now) },
 }
 
-/// A drawn line with what its labels do on it.
+/// A rendered line with what its labels do on it.
 #[derive(Clone, Copy)]
 pub struct Line<'row, 'd> {
-    /// The line's number, as users see it.
+    /// The line number, as users see it.
     pub number: usize,
-    /// The text that is drawn: without the end of the line.
+    /// The text that is rendered: without the end of the line.
     pub text: &'row str,
-    /// The bytes of white space that the text begins with.
+    /// The length in bytes of the white space that the text begins with.
     pub leading: usize,
     /// The labels inside the line, their ranges in bytes of the text.
     pub labels: &'row [SingleLabel<'d>],
-    /// What the labels over several lines do on it.
+    /// What the multi-line labels do on it.
     pub lanes: Lanes<'row, 'd>,
     ghost measured: { leading ≡ leading_whitespace text.now },
     ghost utf8: { ∥ IsUtf8 text.now ∥₁ },
 }
 
-/// The text of a line without the line feeds, carriage returns and NULs at its end.
+impl<'row, 'd> Line<'row, 'd> {
+    ghost use Rattle.codespan_renderer.specs.Inner.GivenLine.{line_view};
+    ghost use Rattle.codespan_renderer.specs.Renderers.{source_line};
+
+    /// Returns a line of this number, whose text is the source without the line feeds, carriage
+    /// returns and NULs at its end.
+    pub fn new(
+        number: usize,
+        source: &'row str,
+        labels: &'row [SingleLabel<'d>],
+        lanes: Lanes<'row, 'd>,
+    ) -> Line<'row, 'd>
+        ensures line { line_view result
+            ≡ source_line number source.now labels.now lanes.entry.count lanes.entry.marks.now }
+        ensures text { result.text.now ≡ drawn_text source.now }
+        ensures labels { result.labels.now ≡ labels.now }
+    {
+        let text = drawn_text(source);
+        Line {
+            number,
+            text,
+            leading: leading_whitespace(text),
+            labels,
+            lanes,
+        }
+    }
+}
+
+/// Returns the text of a line without the line feeds, carriage returns and NULs at its end.
 pub fn drawn_text(source: &str) -> &str
     ensures { result.now ≡ drawn_text source.now }
 {
@@ -63,14 +91,14 @@ pub fn drawn_text(source: &str) -> &str
     &source[..end]
 }
 
-/// Whether a byte is not drawn at a line's end.
+/// Returns whether a byte is not rendered at a line's end.
 fn is_line_end(byte: u8) -> bool
     ensures { result ≡ is_line_end byte }
 {
     matches!(byte, b'\n' | b'\r' | b'\0')
 }
 
-/// The bytes of the white space that the text begins with, of any kind that Unicode knows.
+/// Returns the length in bytes of the white space that the text begins with: characters with the Unicode property `White_Space`.
 pub fn leading_whitespace(text: &str) -> usize
     ensures { result ≡ leading_whitespace text.now }
 {

@@ -52,7 +52,7 @@ pub trait LineSource {
     }
 
     /// Writes all pointers of the line.
-    fn send_pointers<W: WriteStyle>(
+    fn caret_pointers<W: WriteStyle>(
         &self,
         w: &mut W,
         look: Look<'_>,
@@ -67,7 +67,7 @@ pub trait LineSource {
 
     /// Writes the pointers of the characters that begin before this byte index, which is at most the
     /// greatest start of a label.
-    fn send_pointers_before<W: WriteStyle>(
+    fn caret_pointers_before<W: WriteStyle>(
         &self,
         w: &mut W,
         look: Look<'_>,

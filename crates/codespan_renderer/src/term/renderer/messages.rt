@@ -21,8 +21,8 @@ pub struct Messages<'row, 'd> {
 }
 
 impl<'row, 'd> Messages<'row, 'd> {
-    /// The last of the labels with the greatest end trails, where it has a message and overlaps no other; each other one that has
-    /// a message hangs.
+    /// Finds the trailing label: the last of those with the greatest end, where it has a message and overlaps no other label. Each other
+    /// label with a message hangs.
     pub fn of(labels: &'row [SingleLabel<'d>]) -> Messages<'row, 'd>
         ensures trailing { given_label result.trailing ≡ trailing (single_label_views labels.now) }
         ensures hanging { AreHanging labels.now result.before.now result.after.now }
@@ -43,7 +43,7 @@ impl<'row, 'd> Messages<'row, 'd> {
     }
 }
 
-/// The place of the last label that ends there.
+/// Returns the index of the last label with this end.
 fn last_with_end(labels: &[SingleLabel<'_>], end: usize) -> Option<usize>
     ensures value { last_with_end end (single_label_views labels.now)
         ≡ entry_given labels.now result }
@@ -57,7 +57,7 @@ fn last_with_end(labels: &[SingleLabel<'_>], end: usize) -> Option<usize>
     None
 }
 
-/// Whether the message of the label at this place trails: it has one, and overlaps no other label of the line.
+/// Returns whether the message of the label at this index trails: it has one, and overlaps no other label of the line.
 fn does_trail(labels: &[SingleLabel<'_>], place: usize) -> bool
     requires { place < length labels.now }
     ensures { result ≡ option_map_or (does_trail (single_label_views labels.now))
@@ -69,7 +69,7 @@ fn does_trail(labels: &[SingleLabel<'_>], place: usize) -> bool
         && !is_overlapped(label, &labels[place + 1..])
 }
 
-/// Whether one of the others overlaps the label.
+/// Returns whether one of the others overlaps the label.
 fn is_overlapped(label: &SingleLabel<'_>, others: &[SingleLabel<'_>]) -> bool
     ensures { result ≡ is_overlapped (single_label_view label.now) (single_label_views others.now) }
 {

@@ -10,37 +10,37 @@ ghost use Rattle.codespan_picture.specs.RowParts.{gutter, numbered_gutter, borde
 ghost use Rattle.codespan_picture.specs.RowStreams.{opening};
 
 use crate::term::renderer::Locus;
-use crate::term::renderer::lanes::{LaneRow, send_lanes};
+use crate::term::renderer::lanes::{LaneRow, inner_gutter};
 use crate::term::renderer::line::{Line, Look};
-use crate::term::renderer::runs::send_blank_run;
+use crate::term::renderer::runs::write_spaces;
 use codespan_base::diagnostic::{LabelStyle, Severity};
-use codespan_base::term::config::sending::{send, send_blanks, send_char, send_number};
+use codespan_base::term::config::writing::{put_all, put_char, put_number, put_spaces};
 use codespan_base::term::{Chars, WriteStyle};
 use std::io;
 
-/// The end of a row.
-pub fn send_newline<W: WriteStyle>(w: &mut W) -> io::Result<()>
+/// Writes the end of a row: a line feed.
+pub fn write_newline<W: WriteStyle>(w: &mut W) -> io::Result<()>
     ensures { Sends (W.sink w.old) newline result (W.sink w.new) }
 {
-    send(w, b"\n")
+    put_all(w, b"\n")
 }
 
-/// One blank.
-pub fn send_space<W: WriteStyle>(w: &mut W) -> io::Result<()>
+/// Writes a space.
+pub fn write_space<W: WriteStyle>(w: &mut W) -> io::Result<()>
     ensures { Sends (W.sink w.old) space result (W.sink w.new) }
 {
-    send(w, b" ")
+    put_all(w, b" ")
 }
 
-/// Blanks in place of a line number, and one after it.
+/// Writes the outer gutter without a line number: the padding and one space more.
 #[inline(always)]
-pub fn send_gutter<W: WriteStyle>(w: &mut W, padding: usize) -> io::Result<()>
+pub fn outer_gutter<W: WriteStyle>(w: &mut W, padding: usize) -> io::Result<()>
     ensures { Sends (W.sink w.old) (gutter padding) result (W.sink w.new) }
 {
-    send_blank_run(w, padding as u128 + 1)
+    write_spaces(w, padding as u128 + 1)
 }
 
-/// How many digits a number has in decimal; 0 has one.
+/// Returns how many digits a number has in decimal; 0 has one.
 #[tactic(auto, using(crate::proofs::RowWords::counting))]
 pub fn count_digits(number: usize) -> usize
     ensures { result ≡ length (decimal number) }
@@ -54,9 +54,9 @@ pub fn count_digits(number: usize) -> usize
     digits
 }
 
-/// A line number, right in its places, or in full where it is longer.
+/// Writes the outer gutter with a line number: aligned to the right in the padding, or in full where it is wider.
 #[inline(always)]
-pub fn send_numbered_gutter<W: WriteStyle>(
+pub fn outer_gutter_number<W: WriteStyle>(
     w: &mut W,
     padding: usize,
     number: usize,
@@ -64,34 +64,34 @@ pub fn send_numbered_gutter<W: WriteStyle>(
     ensures { Sends (W.sink w.old) (numbered_gutter padding number) result (W.sink w.new) }
 {
     w.set_line_number()?;
-    send_blanks(w, padding.saturating_sub(count_digits(number)))?;
-    send_number(w, number)?;
+    put_spaces(w, padding.saturating_sub(count_digits(number)))?;
+    put_number(w, number)?;
     w.reset()?;
-    send_space(w)
+    write_space(w)
 }
 
-/// The border left of the source.
+/// Writes the left border.
 #[inline(always)]
-pub fn send_border<W: WriteStyle>(w: &mut W, chars: &Chars<'_>) -> io::Result<()>
+pub fn border_left<W: WriteStyle>(w: &mut W, chars: &Chars<'_>) -> io::Result<()>
     ensures { Sends (W.sink w.old) (border chars.now) result (W.sink w.new) }
 {
     w.set_source_border()?;
-    send_char(w, chars.source_border_left)?;
+    put_char(w, chars.source_border_left)?;
     w.reset()
 }
 
-/// The border where lines are left out.
-pub fn send_break_border<W: WriteStyle>(w: &mut W, chars: &Chars<'_>) -> io::Result<()>
+/// Writes the left border of a break row.
+pub fn border_left_break<W: WriteStyle>(w: &mut W, chars: &Chars<'_>) -> io::Result<()>
     ensures { Sends (W.sink w.old) (break_border chars.now) result (W.sink w.new) }
 {
     w.set_source_border()?;
-    send_char(w, chars.source_border_left_break)?;
+    put_char(w, chars.source_border_left_break)?;
     w.reset()
 }
 
-/// One character in a label's style.
+/// Writes one character in a label's style.
 #[inline(always)]
-pub fn send_label_glyph<W: WriteStyle>(
+pub fn write_label_glyph<W: WriteStyle>(
     w: &mut W,
     severity: Severity,
     style: LabelStyle,
@@ -100,13 +100,13 @@ pub fn send_label_glyph<W: WriteStyle>(
     ensures { Sends (W.sink w.old) (label_glyph severity style c) result (W.sink w.new) }
 {
     w.set_label(severity, style)?;
-    send_char(w, c)?;
+    put_char(w, c)?;
     w.reset()
 }
 
-/// The mark where the style changes, and the reset where it ends.
+/// Writes the style mark where the style changes, and the reset where it ends.
 #[tactic(auto, using(codespan_base::proofs::Sends::sendings), unfolding(codespan_picture::specs::RowParts::change))]
-pub fn send_change<W: WriteStyle>(
+pub fn change_style<W: WriteStyle>(
     w: &mut W,
     severity: Severity,
     was: Option<LabelStyle>,
@@ -123,27 +123,31 @@ pub fn send_change<W: WriteStyle>(
     }
 }
 
-/// Where a snippet is: name, line number and column number.
+/// Writes a locus: name, line number and column number.
 #[inline(always)]
-pub fn send_locus<W: WriteStyle>(w: &mut W, at: &Locus) -> io::Result<()>
+pub fn snippet_locus<W: WriteStyle>(w: &mut W, at: &Locus) -> io::Result<()>
     ensures { Sends (W.sink w.old) (locus (locus_view at.now)) result (W.sink w.new) }
 {
-    send(w, at.name.as_bytes())?;
-    send(w, b":")?;
-    send_number(w, at.location.line_number)?;
-    send(w, b":")?;
-    send_number(w, at.location.column_number)?;
+    put_all(w, at.name.as_bytes())?;
+    put_all(w, b":")?;
+    put_number(w, at.location.line_number)?;
+    put_all(w, b":")?;
+    put_number(w, at.location.column_number)?;
     Ok(())
 }
 
-/// The beginning of each row under a line.
+/// Writes the start of each row under a line: outer gutter, left border, inner gutter and a space.
 #[inline(always)]
-pub fn send_opening<W: WriteStyle>(w: &mut W, look: Look<'_>, line: Line<'_, '_>) -> io::Result<()>
+pub fn write_row_start<W: WriteStyle>(
+    w: &mut W,
+    look: Look<'_>,
+    line: Line<'_, '_>,
+) -> io::Result<()>
     ensures { Sends (W.sink w.old) (opening (look_view look.entry) (line_view line.entry))
         result (W.sink w.new) }
 {
-    send_gutter(w, look.padding)?;
-    send_border(w, look.chars)?;
-    send_lanes(w, look, line.leading, LaneRow::Below, line.lanes)?;
-    send_space(w)
+    outer_gutter(w, look.padding)?;
+    border_left(w, look.chars)?;
+    inner_gutter(w, look, line.leading, LaneRow::Below, line.lanes)?;
+    write_space(w)
 }

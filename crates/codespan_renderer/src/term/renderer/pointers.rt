@@ -17,18 +17,18 @@ ghost use Rattle.codespan_renderer.specs.Inner.Runs.{best_from, pointer_found, A
 ghost use Rattle.codespan_renderer.specs.Inner.LineSources.{sourced_line};
 
 use crate::term::renderer::SingleLabel;
-use crate::term::renderer::carets::{better, send_message};
+use crate::term::renderer::carets::{better, write_message};
 use crate::term::renderer::cells::{Cell, Cells};
 use crate::term::renderer::line::{Line, Look};
 use crate::term::renderer::line_source::LineSource;
 use crate::term::renderer::messages::Messages;
-use crate::term::renderer::parts::{send_label_glyph, send_newline, send_opening};
-use crate::term::renderer::runs::send_blank_run;
+use crate::term::renderer::parts::{write_label_glyph, write_newline, write_row_start};
+use crate::term::renderer::runs::write_spaces;
 use codespan_base::diagnostic::LabelStyle;
 use codespan_base::term::WriteStyle;
 use std::io;
 
-/// The greatest start of the labels, 0 where there is none.
+/// Returns the greatest start of the labels, or 0 where there is none.
 pub fn greatest_start(labels: &[SingleLabel<'_>]) -> usize
     ensures { result ≡ greatest_start (single_label_views labels.now) }
 {
@@ -39,7 +39,7 @@ pub fn greatest_start(labels: &[SingleLabel<'_>]) -> usize
     greatest
 }
 
-/// Whether the label starts in the character.
+/// Returns whether the label starts in the character.
 fn starts_in(cell: Cell, label: &SingleLabel<'_>) -> bool
     ensures { result ≡ starts_in cell (single_label_view label.now) }
 {
@@ -49,7 +49,7 @@ fn starts_in(cell: Cell, label: &SingleLabel<'_>) -> bool
     }
 }
 
-/// The best style of what was found and of the labels with a message that start in the character.
+/// Returns the best style of the one found so far and those of the labels with a message that start in the character.
 fn best_start(
     found: Option<LabelStyle>,
     labels: &[SingleLabel<'_>],
@@ -67,7 +67,7 @@ fn best_start(
     best
 }
 
-/// The style of the pointer under a character, where a label hangs from it: a primary one goes first.
+/// Returns the style of the pointer under a character, where a label hangs from it: a primary one takes precedence.
 fn pointer_in(
     labels: &[SingleLabel<'_>],
     messages: Messages<'_, '_>,
@@ -83,9 +83,9 @@ fn pointer_in(
     )
 }
 
-/// The blanks before a pointer, and the pointer.
+/// Writes the spaces before a pointer, and the pointer.
 #[inline(always)]
-pub fn send_pointer<W: WriteStyle>(
+pub fn caret_pointer<W: WriteStyle>(
     w: &mut W,
     look: Look<'_>,
     blank: u128,
@@ -95,12 +95,12 @@ pub fn send_pointer<W: WriteStyle>(
         (blanks blank ++ label_glyph look.entry.severity style look.entry.chars.now.pointer_left)
         result (W.sink w.new) }
 {
-    send_blank_run(w, blank)?;
-    send_label_glyph(w, look.severity, style, look.chars.pointer_left)
+    write_spaces(w, blank)?;
+    write_label_glyph(w, look.severity, style, look.chars.pointer_left)
 }
 
-/// The pointers of the characters of a line that begin before a place, by a walk that asks each label at each of them.
-pub fn send_scanned_pointers<W: WriteStyle>(
+/// Writes the pointers of the characters of a line that begin before a byte index. It tests each label at each of them.
+pub fn scanned_caret_pointers<W: WriteStyle>(
     w: &mut W,
     look: Look<'_>,
     line: Line<'_, '_>,
@@ -119,7 +119,7 @@ pub fn send_scanned_pointers<W: WriteStyle>(
         }
         let mut width = cell.width;
         if let Some(style) = pointer_in(line.labels, messages, cell) {
-            send_pointer(w, look, blank, style)?;
+            caret_pointer(w, look, blank, style)?;
             blank = 0;
             width = width.saturating_sub(1);
         }
@@ -127,11 +127,11 @@ pub fn send_scanned_pointers<W: WriteStyle>(
             blank += width as u128;
         }
     }
-    send_blank_run(w, blank)
+    write_spaces(w, blank)
 }
 
-/// The pointers under a line.
-fn send_pointer_row<W: WriteStyle, S: LineSource>(
+/// Writes the row of the pointers under a line.
+fn write_pointer_row<W: WriteStyle, S: LineSource>(
     w: &mut W,
     look: Look<'_>,
     line: Line<'_, '_>,
@@ -144,13 +144,13 @@ fn send_pointer_row<W: WriteStyle, S: LineSource>(
         (pointer_row (look_view look.entry) (line_view line.entry) ++ newline)
         result (W.sink w.new) }
 {
-    send_opening(w, look, line)?;
-    source.send_pointers(w, look, line, messages)?;
-    send_newline(w)
+    write_row_start(w, look, line)?;
+    source.caret_pointers(w, look, line, messages)?;
+    write_newline(w)
 }
 
-/// A message under its pointer.
-fn send_hanging_row<W: WriteStyle, S: LineSource>(
+/// Writes a hanging message under its pointer.
+fn write_hanging_row<W: WriteStyle, S: LineSource>(
     w: &mut W,
     look: Look<'_>,
     line: Line<'_, '_>,
@@ -166,14 +166,14 @@ fn send_hanging_row<W: WriteStyle, S: LineSource>(
         (hanging_row (look_view look.entry) (line_view line.entry) (single_label_view label.now)
         ++ newline) result (W.sink w.new) }
 {
-    send_opening(w, look, line)?;
-    source.send_pointers_before(w, look, line, messages, label.1.start)?;
-    send_message(w, look.severity, label)?;
-    send_newline(w)
+    write_row_start(w, look, line)?;
+    source.caret_pointers_before(w, look, line, messages, label.1.start)?;
+    write_message(w, look.severity, label)?;
+    write_newline(w)
 }
 
-/// The rows of the messages that hang among these labels, the last one first.
-fn send_hanging_rows<W: WriteStyle, S: LineSource>(
+/// Writes the rows of the hanging messages of these labels, the last one first.
+fn write_hanging_rows<W: WriteStyle, S: LineSource>(
     w: &mut W,
     look: Look<'_>,
     line: Line<'_, '_>,
@@ -192,13 +192,13 @@ fn send_hanging_rows<W: WriteStyle, S: LineSource>(
         if label.2.is_empty() {
             continue;
         }
-        send_hanging_row(w, look, line, source, messages, label)?;
+        write_hanging_row(w, look, line, source, messages, label)?;
     }
     Ok(())
 }
 
-/// The pointers, and a row for each message that hangs.
-fn send_pointers_and_messages<W: WriteStyle, S: LineSource>(
+/// Writes the pointers, and a row for each hanging message.
+fn write_pointers_and_messages<W: WriteStyle, S: LineSource>(
     w: &mut W,
     look: Look<'_>,
     line: Line<'_, '_>,
@@ -211,12 +211,12 @@ fn send_pointers_and_messages<W: WriteStyle, S: LineSource>(
     ensures { Sends (W.sink w.old) (given_messages look.entry line.entry messages.entry)
         result (W.sink w.new) }
 {
-    send_pointer_row(w, look, line, source, messages)?;
-    send_hanging_rows(w, look, line, source, messages, messages.after)?;
-    send_hanging_rows(w, look, line, source, messages, messages.before)
+    write_pointer_row(w, look, line, source, messages)?;
+    write_hanging_rows(w, look, line, source, messages, messages.after)?;
+    write_hanging_rows(w, look, line, source, messages, messages.before)
 }
 
-/// Whether one of the labels has a message.
+/// Returns whether one of the labels has a message.
 pub fn has_any_message(labels: &[SingleLabel<'_>]) -> bool
     ensures { result ≡ list_any has_message (single_label_views labels.now) }
 {
@@ -228,8 +228,8 @@ pub fn has_any_message(labels: &[SingleLabel<'_>]) -> bool
     false
 }
 
-/// The pointers, and a row for each message that hangs, where one does.
-pub fn send_all_hanging<W: WriteStyle, S: LineSource>(
+/// Writes the pointers and a row for each hanging message, where there is one.
+pub fn write_hanging<W: WriteStyle, S: LineSource>(
     w: &mut W,
     look: Look<'_>,
     line: Line<'_, '_>,
@@ -245,5 +245,5 @@ pub fn send_all_hanging<W: WriteStyle, S: LineSource>(
     if !has_any_message(messages.before) && !has_any_message(messages.after) {
         return Ok(());
     }
-    send_pointers_and_messages(w, look, line, source, messages)
+    write_pointers_and_messages(w, look, line, source, messages)
 }

@@ -1,4 +1,4 @@
-//! What primary labels over several lines take in of one line.
+//! What primary multi-line labels cover of one line.
 
 ghost use Rattle.std.specs.Prelude.{◌≡◌, ◌||◌, ◌≤◌, ℕ, map, nat_le};
 ghost use Rattle.codespan_picture.specs.declared.cells.Cell as cell;
@@ -10,17 +10,17 @@ use crate::term::renderer::MultiLabel;
 use crate::term::renderer::cells::Cell;
 use codespan_base::diagnostic::LabelStyle;
 
-/// What the primary labels over several lines take in of a line: all from a place on, and all before another.
+/// What the primary multi-line labels cover of a line: all from one byte index on, and all before another.
 #[derive(Clone, Copy)]
 pub struct PrimaryMarks {
-    /// The least start of those that start on the line; 0 where one goes through it.
+    /// The least start of those that start on the line; 0 where one covers the whole line.
     from: Option<usize>,
-    /// The greatest end of those that end on it, 0 where there is none.
+    /// The greatest end of those that end on it, exclusive; 0 where there is none.
     to: usize,
 }
 
 impl PrimaryMarks {
-    /// What these marks take in.
+    /// Returns what the labels of these marks cover.
     pub fn of(marks: &[(usize, LabelStyle, MultiLabel<'_>)]) -> PrimaryMarks
         ensures { AreMarksOf (map mark_view marks.now) result }
     {
@@ -33,7 +33,7 @@ impl PrimaryMarks {
         found
     }
 
-    /// The same, and what one more mark takes in.
+    /// Adds what the label of one more mark covers.
     fn with(self, part: MultiLabel<'_>) -> PrimaryMarks
         ensures { (c : cell.Cell) → 1 ≤ c.bytes → is_marked result c
             ≡ (is_marked self c || takes_in c (multi_label_view part.entry)) }
@@ -54,7 +54,7 @@ impl PrimaryMarks {
         }
     }
 
-    /// Whether one of them takes in the character.
+    /// Returns whether one of them covers the character.
     pub fn take_in(self, cell: Cell) -> bool
         requires { 1 ≤ cell.bytes }
         ensures { result ≡ is_marked self cell }
@@ -70,7 +70,7 @@ impl PrimaryMarks {
     }
 }
 
-/// The lesser of two starts.
+/// Returns the lesser of two starts.
 fn least(from: Option<usize>, start: usize) -> usize
     ensures { (place : ℕ) → nat_le result place ≡ (is_from from place || nat_le start place) }
 {

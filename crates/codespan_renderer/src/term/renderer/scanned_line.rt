@@ -10,9 +10,8 @@ use crate::term::renderer::char_cursor::CharCursor;
 use crate::term::renderer::line::{Line, Look};
 use crate::term::renderer::line_source::LineSource;
 use crate::term::renderer::messages::Messages;
-use crate::term::renderer::pointers::send_scanned_pointers;
+use crate::term::renderer::pointers::scanned_caret_pointers;
 use crate::term::renderer::source::has_primary_label;
-use crate::term::renderer::underlines::scanned_width_up_to;
 use codespan_base::diagnostic::LabelStyle;
 use codespan_base::term::WriteStyle;
 use std::io;
@@ -86,22 +85,22 @@ impl<'row, 'd> LineSource for ScannedLine<'row, 'd> {
 
     #[inline(always)]
     fn width_up_to(&self, place: usize) -> u128 {
-        scanned_width_up_to(self.text, self.tab_width, place)
+        Cells::new(self.text, self.tab_width).column_past(place)
     }
 
     #[inline(always)]
-    fn send_pointers<W: WriteStyle>(
+    fn caret_pointers<W: WriteStyle>(
         &self,
         w: &mut W,
         look: Look<'_>,
         line: Line<'_, '_>,
         messages: Messages<'_, '_>,
     ) -> io::Result<()> {
-        send_scanned_pointers(w, look, line, messages, usize::MAX)
+        scanned_caret_pointers(w, look, line, messages, usize::MAX)
     }
 
     #[inline(always)]
-    fn send_pointers_before<W: WriteStyle>(
+    fn caret_pointers_before<W: WriteStyle>(
         &self,
         w: &mut W,
         look: Look<'_>,
@@ -109,6 +108,6 @@ impl<'row, 'd> LineSource for ScannedLine<'row, 'd> {
         messages: Messages<'_, '_>,
         before: usize,
     ) -> io::Result<()> {
-        send_scanned_pointers(w, look, line, messages, before)
+        scanned_caret_pointers(w, look, line, messages, before)
     }
 }

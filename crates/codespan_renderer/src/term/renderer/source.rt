@@ -1,4 +1,4 @@
-//! The row of a line's source, and all rows of a line.
+//! The source row of a line, and all rows of a line.
 
 ghost use Rattle.std.specs.Prelude.{◌≡◌, ◌≤◌, ◌++◌, ◌==◌, map, true};
 ghost use Rattle.std.specs.List.{list_any};
@@ -17,26 +17,26 @@ ghost use Rattle.codespan_picture.specs.Rows.{Look as LookWord, rows_of, trailin
 ghost use Rattle.codespan_picture.specs.RowParts.{border, change, coloured_text, source_style};
 ghost use Rattle.codespan_picture.specs.RowStreams.{source_row, stream_of_rows};
 
-use crate::term::renderer::carets::{covers, send_caret_row};
+use crate::term::renderer::carets::{covers, write_caret_row};
 use crate::term::renderer::cells::Cell;
 use crate::term::renderer::char_cursor::CharCursor;
-use crate::term::renderer::lanes::{LaneRow, send_lanes};
+use crate::term::renderer::lanes::{LaneRow, inner_gutter};
 use crate::term::renderer::line::{Line, Look};
 use crate::term::renderer::line_source::LineSource;
 use crate::term::renderer::messages::Messages;
 use crate::term::renderer::parts::{
-    send_border, send_change, send_newline, send_numbered_gutter, send_space,
+    border_left, change_style, outer_gutter_number, write_newline, write_space,
 };
-use crate::term::renderer::pointers::send_all_hanging;
+use crate::term::renderer::pointers::write_hanging;
 use crate::term::renderer::primary_marks::PrimaryMarks;
-use crate::term::renderer::underlines::send_underlines;
+use crate::term::renderer::underlines::write_underlines;
 use crate::term::renderer::{MultiLabel, SingleLabel};
 use codespan_base::diagnostic::LabelStyle;
 use codespan_base::term::WriteStyle;
-use codespan_base::term::config::sending::{send, send_blanks};
+use codespan_base::term::config::writing::{put_all, put_spaces};
 use std::io;
 
-/// Whether a primary label has a byte of the character.
+/// Returns whether a primary label has a byte of the character.
 pub fn has_primary_label(labels: &[SingleLabel<'_>], cell: Cell) -> bool
     ensures { result ≡ is_covered is_primary (single_label_views labels.now) cell }
 {
@@ -48,7 +48,7 @@ pub fn has_primary_label(labels: &[SingleLabel<'_>], cell: Cell) -> bool
     false
 }
 
-/// The style of a character of the source: primary where a primary label takes it in, of those over several lines by these marks.
+/// Returns the style of a character of the source: primary where a primary label covers it, inside the line or by these marks.
 fn text_style<C: CharCursor>(
     characters: &mut C,
     marks: PrimaryMarks,
@@ -70,7 +70,7 @@ fn text_style<C: CharCursor>(
     }
 }
 
-/// Whether one of these labels is primary.
+/// Returns whether one of these labels is primary.
 fn has_primary(labels: &[SingleLabel<'_>]) -> bool
     ensures { result ≡ list_any is_primary (single_label_views labels.now) }
 {
@@ -82,7 +82,7 @@ fn has_primary(labels: &[SingleLabel<'_>]) -> bool
     false
 }
 
-/// Whether one of these marks is primary.
+/// Returns whether one of these marks is primary.
 fn has_primary_mark(marks: &[(usize, LabelStyle, MultiLabel<'_>)]) -> bool
     ensures { result
         ≡ list_any (λ (m : LaneMark). is_primary_style m.style) (map mark_view marks.now) }
@@ -95,14 +95,14 @@ fn has_primary_mark(marks: &[(usize, LabelStyle, MultiLabel<'_>)]) -> bool
     false
 }
 
-/// Whether the text has a tab.
+/// Returns whether the text has a tab.
 fn has_tab(text: &str) -> bool
     ensures { result ≡ list_any (λ b. b == 9) text.now }
 {
     text.as_bytes().contains(&b'\t')
 }
 
-/// Whether the text of a line is seen to be drawn as it stands: it has no tab, and no label of the line is primary.
+/// Returns whether the text of a line is plainly rendered as it is: it has no tab, and no label of the line is primary.
 #[inline(always)]
 pub fn is_plain(line: Line<'_, '_>) -> bool
     ensures { result ≡ true → (look : LookWord)
@@ -111,8 +111,8 @@ pub fn is_plain(line: Line<'_, '_>) -> bool
     !has_primary(line.labels) && !has_primary_mark(line.lanes.marks) && !has_tab(line.text)
 }
 
-/// The text of a line, of which these are the characters, with a tab as blanks, and with marks where its style changes.
-fn send_coloured_text<W: WriteStyle, C: CharCursor>(
+/// Writes the text of a line, which has these characters, with tabs as spaces, and with style marks where its style changes.
+fn write_colored_text<W: WriteStyle, C: CharCursor>(
     w: &mut W,
     look: Look<'_>,
     line: Line<'_, '_>,
@@ -132,7 +132,7 @@ fn send_coloured_text<W: WriteStyle, C: CharCursor>(
         let style = text_style(&mut characters, marks, line, cell);
         let next = end + cell.bytes;
         if cell.code == '\t' {
-            send_tab(w, look, &text[start..end], was, style, cell.width)?;
+            write_tab(w, look, &text[start..end], was, style, cell.width)?;
             start = next;
             was = style;
         } else if style != was {
@@ -145,8 +145,8 @@ fn send_coloured_text<W: WriteStyle, C: CharCursor>(
     end_text_run(w, look, &text[start..end], was, None)
 }
 
-/// The text of a line: at once where it is plain.
-fn send_text<W: WriteStyle, S: LineSource>(
+/// Writes the text of a line: at once where it is plain.
+fn write_text<W: WriteStyle, S: LineSource>(
     w: &mut W,
     look: Look<'_>,
     line: Line<'_, '_>,
@@ -157,14 +157,14 @@ fn send_text<W: WriteStyle, S: LineSource>(
         result (W.sink w.new) }
 {
     if is_plain(line) {
-        send(w, line.text.as_bytes())?;
+        put_all(w, line.text.as_bytes())?;
     } else {
-        send_coloured_text(w, look, line, source.characters())?;
+        write_colored_text(w, look, line, source.characters())?;
     }
     Ok(())
 }
 
-/// The end of a run of text of one style, and the mark of the next.
+/// Writes the end of a run of text of one style, and the style mark of the next.
 pub fn end_text_run<W: WriteStyle>(
     w: &mut W,
     look: Look<'_>,
@@ -175,12 +175,12 @@ pub fn end_text_run<W: WriteStyle>(
     ensures { Sends (W.sink w.old) (bytes text.now ++ change look.entry.severity was style)
         result (W.sink w.new) }
 {
-    send(w, text)?;
-    send_change(w, look.severity, was, style)
+    put_all(w, text)?;
+    change_style(w, look.severity, was, style)
 }
 
-/// The end of a run of text before a tab, and the tab's blanks.
-pub fn send_tab<W: WriteStyle>(
+/// Writes the end of a run of text before a tab, and the tab's spaces.
+pub fn write_tab<W: WriteStyle>(
     w: &mut W,
     look: Look<'_>,
     text: &[u8],
@@ -193,12 +193,12 @@ pub fn send_tab<W: WriteStyle>(
         result (W.sink w.new) }
 {
     end_text_run(w, look, text, was, style)?;
-    send_blanks(w, width)
+    put_spaces(w, width)
 }
 
-/// The number of a line, its border, its lanes, and one blank.
+/// Writes a line number, the left border, the lanes and a space.
 #[inline(always)]
-pub fn send_source_lanes<W: WriteStyle>(
+pub fn write_source_lanes<W: WriteStyle>(
     w: &mut W,
     look: Look<'_>,
     line: Line<'_, '_>,
@@ -206,14 +206,14 @@ pub fn send_source_lanes<W: WriteStyle>(
     ensures { Sends (W.sink w.old) (given_source_lanes look.entry line.entry)
         result (W.sink w.new) }
 {
-    send_numbered_gutter(w, look.padding, line.number)?;
-    send_border(w, look.chars)?;
-    send_lanes(w, look, line.leading, LaneRow::Source, line.lanes)?;
-    send_space(w)
+    outer_gutter_number(w, look.padding, line.number)?;
+    border_left(w, look.chars)?;
+    inner_gutter(w, look, line.leading, LaneRow::Source, line.lanes)?;
+    write_space(w)
 }
 
-/// A line of the source.
-fn send_source_row<W: WriteStyle, S: LineSource>(
+/// Writes the source row of a line.
+fn write_source_row<W: WriteStyle, S: LineSource>(
     w: &mut W,
     look: Look<'_>,
     line: Line<'_, '_>,
@@ -224,13 +224,13 @@ fn send_source_row<W: WriteStyle, S: LineSource>(
         (source_row (look_view look.entry) (line_view line.entry) ++ newline)
         result (W.sink w.new) }
 {
-    send_source_lanes(w, look, line)?;
-    send_text(w, look, line, source)?;
-    send_newline(w)
+    write_source_lanes(w, look, line)?;
+    write_text(w, look, line, source)?;
+    write_newline(w)
 }
 
-/// The carets under a line that has labels.
-fn send_caret_rows<W: WriteStyle, S: LineSource>(
+/// Writes the caret row of a line, where it has labels.
+fn write_caret_rows<W: WriteStyle, S: LineSource>(
     w: &mut W,
     look: Look<'_>,
     line: Line<'_, '_>,
@@ -243,13 +243,13 @@ fn send_caret_rows<W: WriteStyle, S: LineSource>(
     ensures { Sends (W.sink w.old) (given_caret_rows look.entry line.entry) result (W.sink w.new) }
 {
     if !line.labels.is_empty() {
-        send_caret_row(w, look, line, source, messages)?;
+        write_caret_row(w, look, line, source, messages)?;
     }
     Ok(())
 }
 
-/// All rows of a line: its source, its carets, what hangs from them, and its underlines.
-pub fn send_line<W: WriteStyle, S: LineSource>(
+/// Writes all rows of a line: its source, its carets, pointers and hanging messages, and its underlines.
+pub fn write_line<W: WriteStyle, S: LineSource>(
     w: &mut W,
     look: Look<'_>,
     line: Line<'_, '_>,
@@ -261,8 +261,8 @@ pub fn send_line<W: WriteStyle, S: LineSource>(
         result (W.sink w.new) }
 {
     let messages = Messages::of(line.labels);
-    send_source_row(w, look, line, source)?;
-    send_caret_rows(w, look, line, source, messages)?;
-    send_all_hanging(w, look, line, source, messages)?;
-    send_underlines(w, look, line, source)
+    write_source_row(w, look, line, source)?;
+    write_caret_rows(w, look, line, source, messages)?;
+    write_hanging(w, look, line, source, messages)?;
+    write_underlines(w, look, line, source)
 }

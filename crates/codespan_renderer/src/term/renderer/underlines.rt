@@ -1,9 +1,9 @@
-//! The underlines of labels over several lines.
+//! The underlines of multi-line labels.
 
 ghost use Rattle.std.specs.Prelude.{◌≡◌, ◌++◌};
 ghost use Rattle.codespan_base.specs.Streams.{newline, bytes};
 ghost use Rattle.codespan_base.specs.WriterLaw.{Sends};
-ghost use Rattle.codespan_picture.specs.Cells.{cells, width_of};
+ghost use Rattle.codespan_picture.specs.Cells.{cells};
 ghost use Rattle.codespan_picture.specs.Given.{mark_view, multi_label_view};
 ghost use Rattle.codespan_renderer.specs.Inner.GivenLine.{look_view, line_view};
 ghost use Rattle.codespan_renderer.specs.Inner.GivenRows.{given_underline_lanes};
@@ -14,29 +14,15 @@ ghost use Rattle.codespan_picture.specs.RowParts.{underline_message, start_caret
 ghost use Rattle.codespan_picture.specs.RowStreams.{underline_row, stream_of_rows};
 
 use crate::term::renderer::MultiLabel;
-use crate::term::renderer::cells::Cells;
-use crate::term::renderer::lanes::{LaneRow, send_lanes};
+use crate::term::renderer::lanes::{LaneRow, inner_gutter};
 use crate::term::renderer::line::{Line, Look};
 use crate::term::renderer::line_source::LineSource;
-use crate::term::renderer::parts::{send_border, send_gutter, send_newline, send_space};
-use crate::term::renderer::runs::send_run;
+use crate::term::renderer::parts::{border_left, outer_gutter, write_newline, write_space};
+use crate::term::renderer::runs::write_repeated;
 use codespan_base::diagnostic::LabelStyle;
-use codespan_base::term::config::sending::{send, send_char};
+use codespan_base::term::config::writing::{put_all, put_char};
 use codespan_base::term::{Chars, WriteStyle};
 use std::io;
-
-/// How many cells the characters take that begin at a place or before it, by a walk over them.
-pub fn scanned_width_up_to(text: &str, tab_width: usize, place: usize) -> u128
-    ensures { result ≡ width_of (cells_up_to place (cells tab_width text.now)) }
-{
-    let mut width = 0u128;
-    for cell in Cells::new(text, tab_width) {
-        if cell.place <= place {
-            width += cell.width as u128;
-        }
-    }
-    width
-}
 
 /// The caret under the start of a label.
 fn start_caret(chars: &Chars<'_>, style: LabelStyle) -> char
@@ -48,7 +34,7 @@ fn start_caret(chars: &Chars<'_>, style: LabelStyle) -> char
     }
 }
 
-/// The caret under the end of a label.
+/// Returns the caret under the end of a label.
 fn end_caret(chars: &Chars<'_>, style: LabelStyle) -> char
     ensures { result ≡ end_caret chars.now style }
 {
@@ -58,19 +44,19 @@ fn end_caret(chars: &Chars<'_>, style: LabelStyle) -> char
     }
 }
 
-/// One blank and the message, where there is one.
+/// Writes a space and the message, where there is one.
 #[tactic(auto, using(codespan_base::proofs::Sends::sendings, crate::proofs::Underlines::underline_messages))]
-fn send_underline_message<W: WriteStyle>(w: &mut W, message: &str) -> io::Result<()>
+fn write_underline_message<W: WriteStyle>(w: &mut W, message: &str) -> io::Result<()>
     ensures { Sends (W.sink w.old) (underline_message (bytes message.now)) result (W.sink w.new) }
 {
     if message.is_empty() {
         return Ok(());
     }
-    send_space(w)?;
-    send(w, message.as_bytes())
+    write_space(w)?;
+    put_all(w, message.as_bytes())
 }
 
-/// How many cells the line of a mark runs over, from its corner to its caret.
+/// Returns how many cells the underline of a mark has between its corner and its caret.
 fn run_width<S: LineSource>(source: &S, part: MultiLabel<'_>) -> u128
     ensures { result ≡ run_width (characters_of (S.of source.now)) (multi_label_view part.entry) }
 {
@@ -81,9 +67,9 @@ fn run_width<S: LineSource>(source: &S, part: MultiLabel<'_>) -> u128
     }
 }
 
-/// The line from the corner of a mark to its caret, over so many cells, the caret, and what the label says.
+/// Writes the underline of a mark from its corner on: `width` cells, the caret, and the message.
 #[tactic(auto, using(codespan_base::proofs::Sends::sendings), unfolding(crate::specs::Inner::Underlines::run_underline))]
-fn send_underline<W: WriteStyle>(
+fn label_multi_caret<W: WriteStyle>(
     w: &mut W,
     chars: &Chars<'_>,
     style: LabelStyle,
@@ -95,20 +81,20 @@ fn send_underline<W: WriteStyle>(
 {
     match part {
         MultiLabel::Top(_) => {
-            send_run(w, chars.multi_top, width)?;
-            send_char(w, start_caret(chars, style))
+            write_repeated(w, chars.multi_top, width)?;
+            put_char(w, start_caret(chars, style))
         }
         MultiLabel::Left => Ok(()),
         MultiLabel::Bottom(_, message) => {
-            send_run(w, chars.multi_bottom, width)?;
-            send_char(w, end_caret(chars, style))?;
-            send_underline_message(w, message)
+            write_repeated(w, chars.multi_bottom, width)?;
+            put_char(w, end_caret(chars, style))?;
+            write_underline_message(w, message)
         }
     }
 }
 
-/// The beginning of an underline row: up to its lanes.
-fn send_underline_lanes<W: WriteStyle>(
+/// Writes the start of an underline row: up to its lanes.
+fn write_underline_lanes<W: WriteStyle>(
     w: &mut W,
     look: Look<'_>,
     line: Line<'_, '_>,
@@ -118,9 +104,9 @@ fn send_underline_lanes<W: WriteStyle>(
         result (W.sink w.new) }
 {
     let (lane, style, part) = mark;
-    send_gutter(w, look.padding)?;
-    send_border(w, look.chars)?;
-    send_lanes(
+    outer_gutter(w, look.padding)?;
+    border_left(w, look.chars)?;
+    inner_gutter(
         w,
         look,
         line.leading,
@@ -129,8 +115,8 @@ fn send_underline_lanes<W: WriteStyle>(
     )
 }
 
-/// The underline of a mark, whose line runs over so many cells.
-fn send_underline_row<W: WriteStyle>(
+/// Writes the underline row of a mark, with `width` cells between its corner and its caret.
+fn write_underline_row<W: WriteStyle>(
     w: &mut W,
     look: Look<'_>,
     line: Line<'_, '_>,
@@ -143,14 +129,14 @@ fn send_underline_row<W: WriteStyle>(
         ++ newline) result (W.sink w.new) }
 {
     let (_, style, part) = mark;
-    send_underline_lanes(w, look, line, mark)?;
+    write_underline_lanes(w, look, line, mark)?;
     w.set_label(look.severity, style)?;
-    send_underline(w, look.chars, style, part, width)?;
+    label_multi_caret(w, look.chars, style, part, width)?;
     w.reset()?;
-    send_newline(w)
+    write_newline(w)
 }
 
-/// Whether a mark has an underline row: a top corner that the source row draws has none.
+/// Returns whether a mark has an underline row: one whose corner is in the source row has none.
 fn has_underline(leading: usize, part: MultiLabel<'_>) -> bool
     ensures { result ≡ has_underline leading (multi_label_view part.entry) }
 {
@@ -161,8 +147,8 @@ fn has_underline(leading: usize, part: MultiLabel<'_>) -> bool
     }
 }
 
-/// The underline rows of a line, in the order of the lanes.
-pub fn send_underlines<W: WriteStyle, S: LineSource>(
+/// Writes the underline rows of a line, in the order of the lanes.
+pub fn write_underlines<W: WriteStyle, S: LineSource>(
     w: &mut W,
     look: Look<'_>,
     line: Line<'_, '_>,
@@ -176,7 +162,7 @@ pub fn send_underlines<W: WriteStyle, S: LineSource>(
     for mark in line.lanes.marks {
         if has_underline(line.leading, mark.2) {
             let width = run_width(source, mark.2);
-            send_underline_row(w, look, line, *mark, width)?;
+            write_underline_row(w, look, line, *mark, width)?;
         }
     }
     Ok(())

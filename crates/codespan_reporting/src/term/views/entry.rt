@@ -2,8 +2,11 @@
 
 ghost use Rattle.std.specs.Prelude.{◌≡◌};
 ghost use Rattle.codespan_base.specs.Labels.{from_line_start};
+ghost use Rattle.codespan_picture.specs.Given.{multi_label_view};
 ghost use Rattle.codespan_picture.specs.Picture.{label_of};
+ghost use Rattle.codespan_reporting.specs.Inner.GivenEntries.{part_from};
 
+use crate::term::renderer::MultiLabel;
 use codespan_base::diagnostic::Label;
 use std::ops::Range;
 
@@ -20,6 +23,17 @@ pub struct SourceLine {
     pub end: usize,
 }
 
+/// What a label over several lines does on one of them.
+#[derive(Clone, Copy)]
+pub enum MultiPart {
+    /// It starts there.
+    Top,
+    /// It goes through.
+    Left,
+    /// It ends there.
+    Bottom,
+}
+
 /// What a label says of a line.
 #[derive(Clone, Copy)]
 pub enum Says<'d, FileId> {
@@ -32,6 +46,15 @@ pub enum Says<'d, FileId> {
         /// The label.
         label: &'d Label<FileId>,
     },
+    /// The label is over several lines, and this is one of them, from its start to its end. It may be hidden.
+    Multi {
+        /// The label's lane: the number of the file's labels over several lines that come before it.
+        lane: usize,
+        /// The label.
+        label: &'d Label<FileId>,
+        /// What it does on the line.
+        part: MultiPart,
+    },
 }
 
 /// What a label says of a line of a file.
@@ -43,6 +66,24 @@ pub struct Entry<'d, FileId> {
     pub line: SourceLine,
     /// What is said of it.
     pub says: Says<'d, FileId>,
+}
+
+/// What a label over several lines does on a line that starts at this byte, as a renderer takes it.
+pub fn multi_label<FileId>(
+    label: &Label<FileId>,
+    part: MultiPart,
+    line_start: usize,
+) -> MultiLabel<'_>
+    ensures { multi_label_view result ≡ part_from line_start (label_of label.now).label part }
+{
+    match part {
+        MultiPart::Top => MultiLabel::Top(label.range.start.saturating_sub(line_start)),
+        MultiPart::Left => MultiLabel::Left,
+        MultiPart::Bottom => MultiLabel::Bottom(
+            label.range.end.saturating_sub(line_start),
+            label.message.as_str(),
+        ),
+    }
 }
 
 /// The range of a label inside a line that starts at this byte: in bytes from there, and at least one byte long.

@@ -1,74 +1,66 @@
 //! The files of labels, in the order of their first label.
 
-ghost use Rattle.std.specs.Prelude.{◌≡◌, ◌<◌, ◌≤◌, ◌+◌, false, [], ◌∷◌, ◌++◌, IfOk, OnOk, OnErr, IsErrOf, length, take};
+ghost use Rattle.std.specs.Prelude.{◌≡◌, ◌<◌, ◌≤◌, ◌+◌, ◌^◌, false, [], ◌∷◌, ◌++◌, IfOk, OnOk, OnErr, IsErrOf, length, slice_index_or, take};
 ghost use Rattle.std.specs.List.{AllByRecursion};
 ghost use Rattle.codespan_picture.specs.Picture.{label_of};
-ghost use Rattle.codespan_reporting.specs.Inner.LabelledFiles.{all_lanes_given, ids_given, lanes_by, lanes_told, start_told, starts_given, with_file};
-ghost use Rattle.codespan_reporting.specs.Inner.Lanes.{lanes_given};
+ghost use Rattle.codespan_reporting.specs.Inner.LabelledFiles.{ids_given, lanes_by, lanes_given, lanes_told, start_told, starts_given, with_file};
 ghost use Rattle.codespan_reporting.specs.Inner.Loci.{no_start, start_with};
 ghost use Rattle.codespan_reporting.specs.Inner.PlacedLabels.{AreApart, file_place};
 
 use crate::term::views::label_lines::LabelLines;
-use crate::term::views::lanes::Lane;
 use crate::term::views::loci::FileStart;
 use codespan_base::diagnostic::Label;
 use codespan_base::files::Error;
-use std::alloc::Global;
 
-/// A file of a picture, as its labels tell it.
+/// A file with labels, and what is known of it from them.
 #[derive(Drop)]
-pub struct LabelledFile<'d, FileId> {
+pub struct LabelledFile<FileId> {
     /// What names the file.
     pub id: FileId,
     /// Where its snippet starts.
     pub start: FileStart,
-    /// Its labels over several lines, in the order of their lanes.
-    pub lanes: Vec<Lane<'d>>,
+    /// How many of its labels are over several lines: each has a lane.
+    pub lane_count: usize,
 }
 
-impl<'d, FileId> LabelledFile<'d, FileId> {
-    /// Adds what a label of the file tells, which starts and ends on these lines. Refuses with `OutOfMemory`.
-    fn tell(&mut self, label: &'d Label<FileId>, lines: LabelLines) -> Result<(), Error>
-        ensures id { OnOk result (self.new.id ≡ self.old.id) }
-        ensures start { OnOk result (self.new.start
-            ≡ start_with self.old.start (label_of label.now).label) }
-        ensures lanes { OnOk result (lanes_given self.new.lanes.items
-            ≡ lanes_given self.old.lanes.items ++ lanes_by lines (label_of label.now).label) }
-        ensures refused { OnErr result (IsErrOf result Error.OutOfMemory) }
+impl<FileId> LabelledFile<FileId> {
+    /// Adds what a label of the file tells, which starts and ends on these lines.
+    fn tell(&mut self, label: &Label<FileId>, lines: LabelLines)
+        requires { self.old.lane_count + 1 < 2 ^ 64 }
+        ensures id { self.new.id ≡ self.old.id }
+        ensures start { self.new.start ≡ start_with self.old.start (label_of label.now).label }
+        ensures lanes { self.new.lane_count ≡ self.old.lane_count + lanes_by lines }
     {
         self.start = self.start.with(label);
         if !lines.is_single() {
-            self.lanes.push(Lane::of(label, lines))?;
+            self.lane_count += 1;
         }
-        Ok(())
     }
 }
 
-/// Adds what a label tells of the file at a place, which is its own. Refuses with `OutOfMemory`.
-pub fn tell_file<'d, FileId>(
-    files: &mut Vec<LabelledFile<'d, FileId>>,
+/// Adds what a label tells of the file at a place, which is its own. The file has a lane for each label at most, so that one more can be
+/// counted.
+pub fn tell_file<FileId>(
+    files: &mut Vec<LabelledFile<FileId>>,
     place: usize,
-    label: &'d Label<FileId>,
+    label: &Label<FileId>,
     lines: LabelLines,
-) -> Result<(), Error>
+)
     requires place { place < length files.old.items }
-    ensures ids { OnOk result (ids_given files.new.items ≡ ids_given files.old.items) }
-    ensures starts { OnOk result (starts_given files.new.items
-        ≡ start_told (starts_given files.old.items) place (label_of label.now).label) }
-    ensures lanes { OnOk result (all_lanes_given files.new.items
-        ≡ lanes_told (all_lanes_given files.old.items) place
-        (lanes_by lines (label_of label.now).label)) }
-    ensures refused { OnErr result (IsErrOf result Error.OutOfMemory) }
+    requires room { slice_index_or (lanes_given files.old.items) place 0 + 1 < 2 ^ 64 }
+    ensures ids { ids_given files.new.items ≡ ids_given files.old.items }
+    ensures starts { starts_given files.new.items
+        ≡ start_told (starts_given files.old.items) place (label_of label.now).label }
+    ensures lanes { lanes_given files.new.items
+        ≡ lanes_told (lanes_given files.old.items) place (lanes_by lines) }
 {
-    files[place].tell(label, lines)?;
-    Ok(())
+    files[place].tell(label, lines);
 }
 
 /// The place of a file of this id, which is added after the others where it is none of them. Of such a file no label tells anything
-/// yet. The place that is guessed, that of the file found before, is looked at first. Refuses with `OutOfMemory`.
-pub fn place_file<'d, FileId: Copy + Eq>(
-    files: &mut Vec<LabelledFile<'d, FileId>>,
-    alloc: Global,
+/// yet. The place that is guessed, that of the file found before, is looked at first. Fails with `OutOfMemory`.
+pub fn place_file<FileId: Copy + Eq>(
+    files: &mut Vec<LabelledFile<FileId>>,
     guess: usize,
     id: FileId,
 ) -> Result<usize, Error>
@@ -80,45 +72,37 @@ pub fn place_file<'d, FileId: Copy + Eq>(
     ensures starts { OnOk result (starts_given files.new.items
         ≡ with_file FileId.eq (ids_given files.old.items) id (starts_given files.old.items)
         no_start) }
-    ensures lanes { OnOk result (all_lanes_given files.new.items
-        ≡ with_file FileId.eq (ids_given files.old.items) id (all_lanes_given files.old.items) []) }
-    ensures refused { OnErr result (IsErrOf result Error.OutOfMemory) }
+    ensures lanes { OnOk result (lanes_given files.new.items
+        ≡ with_file FileId.eq (ids_given files.old.items) id (lanes_given files.old.items) 0) }
+    ensures failed { OnErr result (IsErrOf result Error.OutOfMemory) }
 {
     let place = find_place(files, guess, id);
     if place == files.len() {
-        push_file(files, alloc, id)?;
+        push_file(files, id)?;
     }
     Ok(place)
 }
 
-/// Adds a file of which no label tells anything yet. Refuses with `OutOfMemory`.
-fn push_file<'d, FileId: Copy>(
-    files: &mut Vec<LabelledFile<'d, FileId>>,
-    alloc: Global,
-    id: FileId,
-) -> Result<(), Error>
+/// Adds a file of which no label tells anything yet. Fails with `OutOfMemory`.
+fn push_file<FileId: Copy>(files: &mut Vec<LabelledFile<FileId>>, id: FileId) -> Result<(), Error>
     ensures ids { OnOk result (ids_given files.new.items ≡ ids_given files.old.items ++ id ∷ []) }
     ensures starts { OnOk result (starts_given files.new.items ≡ starts_given files.old.items
         ++ no_start ∷ []) }
-    ensures lanes { OnOk result (all_lanes_given files.new.items ≡ all_lanes_given files.old.items
-        ++ [] ∷ []) }
-    ensures refused { OnErr result (IsErrOf result Error.OutOfMemory) }
+    ensures lanes { OnOk result (lanes_given files.new.items ≡ lanes_given files.old.items
+        ++ 0 ∷ []) }
+    ensures failed { OnErr result (IsErrOf result Error.OutOfMemory) }
 {
     files.push(LabelledFile {
         id,
         start: FileStart::unknown(),
-        lanes: Vec::new(alloc),
+        lane_count: 0,
     })?;
     Ok(())
 }
 
 /// The place of a file of this id, and the number of the files where it is none of them. The place that is guessed, that of the file
 /// found before, is looked at first.
-fn find_place<FileId: Copy + Eq>(
-    files: &[LabelledFile<'_, FileId>],
-    guess: usize,
-    id: FileId,
-) -> usize
+fn find_place<FileId: Copy + Eq>(files: &[LabelledFile<FileId>], guess: usize, id: FileId) -> usize
     requires { AreApart FileId.eq (ids_given files.now) }
     ensures { result ≡ file_place FileId.eq (ids_given files.now) id }
 {
@@ -129,7 +113,7 @@ fn find_place<FileId: Copy + Eq>(
 }
 
 /// The place of the first file of this id, and the number of the files where it is none of them. Each step looks at two files.
-fn first_place<FileId: Copy + Eq>(files: &[LabelledFile<'_, FileId>], id: FileId) -> usize
+fn first_place<FileId: Copy + Eq>(files: &[LabelledFile<FileId>], id: FileId) -> usize
     ensures { result ≡ file_place FileId.eq (ids_given files.now) id }
 {
     let last = files.len().saturating_sub(1);
@@ -148,13 +132,13 @@ fn first_place<FileId: Copy + Eq>(files: &[LabelledFile<'_, FileId>], id: FileId
     last_place(files, place, id)
 }
 
-/// This place, if there is a file of this id, and the number of the files otherwise. No file before it is of the id, and none comes after it.
+/// Returns this index, if a file of this id is there, or else the number of files.
+///
+/// # Requires
+///
+/// No file before this index has the id, and there is none after it.
 #[inline(always)]
-fn last_place<FileId: Copy + Eq>(
-    files: &[LabelledFile<'_, FileId>],
-    place: usize,
-    id: FileId,
-) -> usize
+fn last_place<FileId: Copy + Eq>(files: &[LabelledFile<FileId>], place: usize, id: FileId) -> usize
     requires last { length files.now ≤ place + 1 }
     requires none { AllByRecursion (λ other. FileId.eq other id ≡ false)
         (ids_given (take place files.now)) }

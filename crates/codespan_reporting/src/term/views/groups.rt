@@ -1,20 +1,26 @@
-//! Runs of entries in front.
+//! Lengths of groups of entries at the start of a list.
 
 ghost use Rattle.std.specs.Prelude.{◌≡◌, ◌≤◌, length};
 ghost use Rattle.std.specs.List.{prefix_len};
-ghost use Rattle.codespan_reporting.specs.Inner.Entries.{is_of_file, is_on_line, tells_shown};
+ghost use Rattle.codespan_reporting.specs.Inner.Entries.{is_of_file, is_on_line, shows_line};
 ghost use Rattle.codespan_reporting.specs.Inner.GivenEntries.{entry_of};
 
 use crate::term::views::entry::{Entry, Says};
 
-/// Whether an entry says that its line is shown.
-pub fn is_shown<FileId>(entry: &Entry<'_, FileId>) -> bool
-    ensures { result ≡ tells_shown (entry_of entry.now) }
+/// Whether the line of an entry is shown: it is, unless the entry is a mark. A mark that is the first entry of its line tells that the
+/// line is hidden.
+pub fn shows_line<FileId>(entry: &Entry<'_, FileId>) -> bool
+    ensures { result ≡ shows_line (entry_of entry.now) }
 {
-    matches!(entry.says, Says::Shown)
+    !matches!(entry.says, Says::Multi { .. })
 }
 
-/// How many entries in front are of the line.
+/// Returns how many entries are not multi-line label marks: at least as many as there are shown lines.
+pub fn shown_count<FileId>(entries: &[Entry<'_, FileId>]) -> usize {
+    entries.iter().filter(|entry| shows_line(*entry)).count()
+}
+
+/// Returns how many entries at the start are of the line.
 pub fn line_len<FileId>(entries: &[Entry<'_, FileId>], line: usize) -> usize
     ensures value { result ≡ prefix_len (λ e. is_on_line line (entry_of e)) entries.now }
     ensures within { result ≤ length entries.now }
@@ -23,14 +29,6 @@ pub fn line_len<FileId>(entries: &[Entry<'_, FileId>], line: usize) -> usize
         .iter()
         .take_while(|entry| entry.line.index == line)
         .count()
-}
-
-/// How many entries in front say that their line is shown.
-pub fn shown_len<FileId>(entries: &[Entry<'_, FileId>]) -> usize
-    ensures value { result ≡ prefix_len (λ e. tells_shown (entry_of e)) entries.now }
-    ensures within { result ≤ length entries.now }
-{
-    entries.iter().take_while(|entry| is_shown(*entry)).count()
 }
 
 /// How many entries in front are of the file.

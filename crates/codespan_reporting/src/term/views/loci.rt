@@ -5,7 +5,7 @@ ghost use Rattle.codespan_base.specs.FileModel.Lookup.{Name as NameLookup, Locat
 ghost use Rattle.codespan_base.specs.Labels.{is_primary};
 ghost use Rattle.codespan_picture.specs.Given.{locus_view};
 ghost use Rattle.codespan_picture.specs.Lookups.{asked_of, first_error};
-ghost use Rattle.codespan_reporting.specs.Inner.FileLookups.{TellsNaming};
+ghost use Rattle.codespan_reporting.specs.Inner.FileLookups.{FailsByOrFormat};
 ghost use Rattle.codespan_picture.specs.Picture.{label_of};
 ghost use Rattle.codespan_reporting.specs.Inner.TextLoci.{IsTextLocus};
 ghost use Rattle.codespan_reporting.specs.Inner.Loci.{least_with, no_start, start_byte, start_with};
@@ -16,14 +16,14 @@ use codespan_base::diagnostic::{Label, LabelStyle};
 use codespan_base::files::{Error, Files};
 use std::alloc::Global;
 
-/// Whether a label is a cause.
+/// Returns whether a label is primary.
 pub fn is_primary<FileId>(label: &Label<FileId>) -> bool
     ensures { result ≡ is_primary (label_of label.now).label }
 {
     matches!(label.style, LabelStyle::Primary)
 }
 
-/// The lesser of a byte, and of one that may be known.
+/// Returns the lesser of a byte index and a known one, if there is one.
 fn least(known: Option<usize>, start: usize) -> usize
     ensures { result ≡ least_with known start }
 {
@@ -33,17 +33,17 @@ fn least(known: Option<usize>, start: usize) -> usize
     }
 }
 
-/// Where the snippet of a file starts, as some of its labels tell. Bytes are counted from 0.
+/// Where the snippet of a file starts, by some of its labels. Byte indices are from 0.
 #[derive(Clone, Copy)]
 pub struct FileStart {
-    /// The least byte at which a primary label starts; `None` where none is primary.
+    /// The least byte index at which a primary label starts; `None` where none is primary.
     pub primary: Option<usize>,
-    /// The least byte at which any label starts; `None` where there is none.
+    /// The least byte index at which any label starts; `None` where there is none.
     pub any: Option<usize>,
 }
 
 impl FileStart {
-    /// What no label tells.
+    /// Returns the start without any label.
     pub fn unknown() -> FileStart
         ensures { result ≡ no_start }
     {
@@ -53,7 +53,7 @@ impl FileStart {
         }
     }
 
-    /// What one label more tells.
+    /// Returns the start with one label more.
     pub fn with<FileId>(self, label: &Label<FileId>) -> FileStart
         ensures { result ≡ start_with self (label_of label.now).label }
     {
@@ -69,7 +69,7 @@ impl FileStart {
         }
     }
 
-    /// The byte at which the snippet starts: the least start of a primary label, or of any label where none is primary.
+    /// Returns the byte index at which the snippet starts: the least start of a primary label, or of any label where none is primary.
     pub fn byte(self) -> usize
         ensures { result ≡ start_byte self }
     {
@@ -80,10 +80,13 @@ impl FileStart {
     }
 }
 
-/// The name of a file, and the location of a byte of it.
+/// Looks up the name of a file, and the location of a byte index in it.
 ///
-/// Refuses as the first of these lookups that refuses does, with `FormatError` where the `Display` of the name refuses, and with
-/// `OutOfMemory`.
+/// # Errors
+///
+/// - `FormatError`: the `Display` of the name fails, or a lookup fails with it.
+/// - `OutOfMemory`: an allocation fails, or a lookup fails with it.
+/// - Any other error: that of the first lookup that fails, the name before the location.
 #[inline(always)]
 pub fn locus_at<'files, F: Files<'files>>(
     alloc: Global,
@@ -93,7 +96,7 @@ pub fn locus_at<'files, F: Files<'files>>(
 ) -> Result<Locus, Error>
     ensures locus { IfOk result
         (λ locus. IsTextLocus ((F.database files.now).file id, byte_index) (locus_view locus)) }
-    ensures refused { TellsNaming (first_error (F.database files.now).refusal
+    ensures failed { FailsByOrFormat (first_error (F.database files.now).failure
         (asked_of id (NameLookup ∷ LocationAt byte_index ∷ []))) result }
 {
     let named = files.name(id)?;

@@ -5,12 +5,10 @@ ghost use Rattle.codespan_base.specs.Labels.{from_line_start};
 ghost use Rattle.codespan_picture.specs.Given.{single_label_views, single_label_view, mark_view};
 ghost use Rattle.codespan_picture.specs.Picture.{label_of};
 ghost use Rattle.codespan_reporting.specs.Inner.GivenEntries.{entry_of};
-ghost use Rattle.codespan_reporting.specs.Inner.Lanes.{lane_marks, lanes_given};
-ghost use Rattle.codespan_reporting.specs.Inner.Steps.{singles_in};
+ghost use Rattle.codespan_reporting.specs.Inner.Steps.{marks_in, singles_in};
 
 use crate::term::renderer::{MultiLabel, SingleLabel};
-use crate::term::views::entry::{Entry, Says, SourceLine, range_in_line};
-use crate::term::views::lanes::Lane;
+use crate::term::views::entry::{Entry, Says, multi_label, range_in_line};
 use codespan_base::diagnostic::{Label, LabelStyle};
 use codespan_base::files::Error;
 use codespan_renderer::term::renderer::by_cells::LineCells;
@@ -25,7 +23,7 @@ pub struct LineMarks<'d> {
     pub singles: Vec<SingleLabel<'d>>,
     /// The lane, the style and the mark of each of the others.
     pub multis: Vec<(usize, LabelStyle, MultiLabel<'d>)>,
-    /// The characters of the line, where it has labels inside it.
+    /// The characters of the line and the pointers under them, as far as its rows reach.
     pub cells: LineCells,
 }
 
@@ -42,64 +40,52 @@ impl<'d> LineMarks<'d> {
         }
     }
 
-    /// Takes what labels do on a line in place of what was there: the marks of these lanes, and the labels of these entries, in their order.
-    /// Refuses with `OutOfMemory`.
+    /// Takes what labels do on a line in place of what was there: the labels and the marks of these entries, in their order. Fails with
+    /// `OutOfMemory`.
     #[inline(always)]
-    pub fn refill<FileId>(
-        &mut self,
-        lanes: &[Lane<'d>],
-        line: SourceLine,
-        entries: &[Entry<'d, FileId>],
-    ) -> Result<(), Error>
+    pub fn refill<FileId>(&mut self, entries: &[Entry<'d, FileId>]) -> Result<(), Error>
         ensures singles { IfOk result (λ _. single_label_views self.new.singles.items
             ≡ singles_in (map entry_of entries.now)) }
         ensures multis { IfOk result (λ _. map mark_view self.new.multis.items
-            ≡ lane_marks (lanes_given lanes.now) line.index line.start) }
-        ensures refused { OnErr result (IsErrOf result Error.OutOfMemory) }
+            ≡ marks_in (map entry_of entries.now)) }
+        ensures failed { OnErr result (IsErrOf result Error.OutOfMemory) }
     {
-        fill_multis(&mut self.multis, lanes, line)?;
+        fill_multis(&mut self.multis, entries)?;
         fill_singles(&mut self.singles, entries)
-    }
-
-    /// Whether several of them have places inside the line: carets, or the caret at the end of an underline.
-    pub fn have_several_places(&self) -> bool {
-        let ends = self
-            .multis
-            .iter()
-            .filter(|multi| !matches!(multi.2, MultiLabel::Left))
-            .count();
-        self.singles.len().saturating_add(ends) > 1
     }
 }
 
-/// Takes the marks of these lanes on a line in place of those before. Refuses with `OutOfMemory`.
-#[inline(always)]
-pub fn fill_multis<'d>(
+/// Takes the marks among these entries, in their order, in place of those before. Fails with `OutOfMemory`.
+pub fn fill_multis<'d, FileId>(
     multis: &mut Vec<(usize, LabelStyle, MultiLabel<'d>)>,
-    lanes: &[Lane<'d>],
-    line: SourceLine,
+    entries: &[Entry<'d, FileId>],
 ) -> Result<(), Error>
     ensures multis { IfOk result (λ _. map mark_view multis.new.items
-        ≡ lane_marks (lanes_given lanes.now) line.index line.start) }
-    ensures refused { OnErr result (IsErrOf result Error.OutOfMemory) }
+        ≡ marks_in (map entry_of entries.now)) }
+    ensures failed { OnErr result (IsErrOf result Error.OutOfMemory) }
 {
     multis.clear();
-    for (place, lane) in lanes.iter().enumerate() {
-        if let Some(mark) = lane.mark(line) {
-            multis.push((place, lane.style, mark))?;
+    for entry in entries {
+        match entry.says {
+            Says::Shown => {}
+            Says::Single { .. } => {}
+            Says::Multi { lane, label, part } => {
+                let mark = multi_label(label, part, entry.line.start);
+                multis.push((lane, label.style, mark))?;
+            }
         }
     }
     Ok(())
 }
 
-/// Takes the labels of these entries, in their order, in place of those before. Refuses with `OutOfMemory`.
+/// Takes the labels of these entries, in their order, in place of those before. Fails with `OutOfMemory`.
 fn fill_singles<'d, FileId>(
     singles: &mut Vec<SingleLabel<'d>>,
     entries: &[Entry<'d, FileId>],
 ) -> Result<(), Error>
     ensures singles { IfOk result (λ _. single_label_views singles.new.items
         ≡ singles_in (map entry_of entries.now)) }
-    ensures refused { OnErr result (IsErrOf result Error.OutOfMemory) }
+    ensures failed { OnErr result (IsErrOf result Error.OutOfMemory) }
 {
     singles.clear();
     for entry in entries {
@@ -108,6 +94,7 @@ fn fill_singles<'d, FileId>(
             Says::Single { place: _, label } => {
                 singles.push(single_label(label, entry.line.start))?;
             }
+            Says::Multi { .. } => {}
         }
     }
     Ok(())

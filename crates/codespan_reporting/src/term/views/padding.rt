@@ -1,4 +1,4 @@
-//! The room for line numbers.
+//! The padding width of the unbroken layout.
 
 ghost use Rattle.std.specs.Prelude.{◌≡◌, flat_map, fold, max};
 ghost use Rattle.codespan_reporting.specs.Inner.Plans.{step_digits};
@@ -6,7 +6,7 @@ ghost use Rattle.codespan_reporting.specs.Inner.Plans.{step_digits};
 use crate::term::views::steps::Step;
 use codespan_renderer::term::renderer::count_digits;
 
-/// How many digits the longest number has of the lines that these steps draw; 0 where none is drawn.
+/// Returns how many digits the longest number has of the lines that these steps render; 0 where they render none.
 pub fn drawn_padding<FileId>(steps: &[Step<'_, '_, FileId>]) -> usize
     ensures { result ≡ fold max 0 (flat_map step_digits steps.now) }
 {
@@ -17,7 +17,7 @@ pub fn drawn_padding<FileId>(steps: &[Step<'_, '_, FileId>]) -> usize
     padding
 }
 
-/// How many digits the number of a step's line has; 0 where it has none.
+/// Returns how many digits the number of a step's line has; 0 where it has no known number.
 fn digits_in<FileId>(step: &Step<'_, '_, FileId>) -> usize
     ensures { result ≡ fold max 0 (step_digits step.now) }
 {

@@ -1,4 +1,4 @@
-//! What both views draw: a header, and notes.
+//! What both views render: a header, and notes.
 
 ghost use Rattle.std.specs.Prelude.{IfErr};
 ghost use Rattle.std.specs.Option.{option_map};
@@ -15,7 +15,11 @@ use codespan_base::diagnostic::Diagnostic;
 use codespan_base::files::Error;
 use codespan_base::term::WriteStyle;
 
-/// The header, after this place where one is given. Refuses with `Io` alone, where the writer refuses.
+/// Renders the header, with this locus, if any.
+///
+/// # Errors
+///
+/// `Io` alone: the writer fails or takes no bytes.
 pub fn draw_header<FileId, W: WriteStyle>(
     diagnostic: &Diagnostic<FileId>,
     renderer: &mut Renderer<'_, '_, W>,
@@ -36,7 +40,11 @@ pub fn draw_header<FileId, W: WriteStyle>(
     Ok(())
 }
 
-/// The notes, with this room for line numbers before them, in characters. Refuses with `Io` alone, where the writer refuses.
+/// Renders the notes, with this padding width, in characters.
+///
+/// # Errors
+///
+/// `Io` alone: the writer fails or takes no bytes.
 pub fn draw_notes<FileId, W: WriteStyle>(
     diagnostic: &Diagnostic<FileId>,
     renderer: &mut Renderer<'_, '_, W>,

@@ -1,13 +1,13 @@
-//! What is drawn of each file of a picture, and where its snippet starts.
+//! What is rendered of each file of an output, and where its snippet starts.
 
 ghost use Rattle.std.specs.Prelude.{◌≡◌, [], IfOk, map};
 ghost use Rattle.std.specs.List.{AllByRecursion};
 ghost use Rattle.std.specs.List.Sorted.{IsSortedBy};
-ghost use Rattle.codespan_reporting.specs.Inner.FileLookups.{TellsNaming};
+ghost use Rattle.codespan_reporting.specs.Inner.FileLookups.{FailsByOrFormat};
 ghost use Rattle.codespan_reporting.specs.Inner.Entries.{is_below};
 ghost use Rattle.codespan_reporting.specs.Inner.GivenEntries.{IsOfFiles, entry_of};
 ghost use Rattle.codespan_reporting.specs.Inner.LabelledFiles.{ids_given};
-ghost use Rattle.codespan_reporting.specs.Inner.Plans.{ArePlansOf, plans_refusal};
+ghost use Rattle.codespan_reporting.specs.Inner.Plans.{ArePlansOf, plans_failure};
 
 use crate::term::views::gather::Gathered;
 use crate::term::views::groups::file_len;
@@ -18,29 +18,36 @@ use codespan_base::files::{Error, Files};
 use codespan_base::term::Layout;
 use std::alloc::Global;
 
-/// The files of a picture, in the order of their first labels: where the snippet of each starts, and how many steps draw it. The steps
-/// are added to the vector that is handed in, which is empty.
+/// Plans the files of an output, in the order of their first labels: where the snippet of each starts, and how many steps it has. The
+/// steps are appended to `steps`.
 ///
-/// In the unbroken layout this asks for the numbers of the lines that are filled in, and in both layouts for the name and the place of each
-/// file.
+/// In the unbroken layout the numbers of the filled lines are looked up, and in both layouts the name and the location of each file.
 ///
-/// Refuses as the first of these lookups that refuses does, the numbers of all files before the names and places: what refuses a place is
-/// kept until all numbers are asked for. Refuses with `FormatError` where the `Display` of a name refuses, and with `OutOfMemory`.
+/// # Errors
+///
+/// - `FormatError`: the `Display` of a name fails, or a lookup fails with it.
+/// - `OutOfMemory`: an allocation fails, or a lookup fails with it.
+/// - Any other error: that of the first lookup that fails. Numbers come before names and locations: the first error of a name or a
+///   location is kept until the numbers of all files have been looked up.
+///
+/// # Requires
+///
+/// `steps` is empty, the entries are in order, and their lines are lines of their files.
 pub fn plan_files<'files, 'e, 'd, F: Files<'files>>(
     alloc: Global,
     files: &'files F,
     layout: Layout,
     gathered: &'e Gathered<'d, F::FileId>,
     steps: &mut Vec<Step<'e, 'd, F::FileId>>,
-) -> Result<Vec<SheetFile<'e, 'd, F::FileId>>, Error>
+) -> Result<Vec<SheetFile<'e, F::FileId>>, Error>
     requires empty { steps.now.items ≡ [] }
     requires sorted { IsSortedBy is_below (map entry_of gathered.now.entries.items) }
     requires lines { AllByRecursion (IsOfFiles (F.database files.now).file
         (ids_given gathered.now.files.items)) gathered.now.entries.items }
     ensures plans { IfOk result (λ plans. ArePlansOf layout (F.database files.now).file gathered.now
         plans.items steps.new.items) }
-    ensures refused { TellsNaming (plans_refusal layout (F.database files.now).refusal gathered.now)
-        result }
+    ensures failed { FailsByOrFormat
+        (plans_failure layout (F.database files.now).failure gathered.now) result }
 {
     let mut plans = Vec::with_capacity(alloc, gathered.files.len())?;
     let mut placed = Ok(());
@@ -62,7 +69,7 @@ pub fn plan_files<'files, 'e, 'd, F: Files<'files>>(
                 locus,
                 step_count,
             })?,
-            Err(refused) => placed = placed.and(Err(refused)),
+            Err(failed) => placed = placed.and(Err(failed)),
         }
     }
     placed?;

@@ -1,4 +1,4 @@
-//! Rich style: a diagnostic over the lines that its labels speak of.
+//! Rich style: a diagnostic over the lines that its labels show.
 
 ghost use Rattle.std.specs.Prelude.{◌≡◌, ◌<◌, IfErr, length};
 ghost use Rattle.codespan_base.specs.declared.term.config.DisplayStyle.TheVariants.{Rich};
@@ -6,7 +6,7 @@ ghost use Rattle.codespan_base.specs.Errors.{IsIo};
 ghost use Rattle.codespan_picture.specs.Picture.{labels_of, notes_of};
 ghost use Rattle.codespan_picture.specs.Snippets.{has_any};
 ghost use Rattle.codespan_renderer.specs.Renderers.{writer_of, config_of, SameRenderer};
-ghost use Rattle.codespan_reporting.specs.Output.{WritesStyled};
+ghost use Rattle.codespan_reporting.specs.WriteCalls.{WritesStyled};
 ghost use Rattle.codespan_reporting.specs.Inner.GivenSheets.{IsPrepared};
 ghost use Rattle.codespan_reporting.specs.Inner.Rendering.{DrawsRows, SendsStream};
 ghost use Rattle.codespan_reporting.specs.Inner.ViewDrawing.{DrawsSnippets, DrawsView, bare_picture, closing_rows};
@@ -22,7 +22,22 @@ use codespan_base::diagnostic::Diagnostic;
 use codespan_base::files::{Error, Files};
 use codespan_base::term::{Config, WriteStyle};
 
-/// Draws a diagnostic over the lines of the source that its labels speak of.
+/// Renders a diagnostic in rich style: a header, a snippet for each file with a label, and the notes.
+///
+/// Files are in the order of their first labels. Which lines a snippet has is by the context lines of
+/// the configuration, and a single line between two of them is filled in; both as in the Rust crate.
+///
+/// # Example
+///
+/// The test `bare_views` of `crates/codespan_tests` has this code. It writes `bug: ` and an empty line.
+///
+/// ```rust
+/// let bug = Diagnostic::bug(alloc);
+/// let config = Config::default();
+/// let mut plain = PlainWriter::new(Vec::new(alloc));
+/// let mut renderer = Renderer::new(&mut plain, &config);
+/// RichDiagnostic::new(&bug, &config).render(&files, &mut renderer)?;
+/// ```
 #[derive(Clone, Copy)]
 pub struct RichDiagnostic<'diagnostic, 'config, FileId> {
     diagnostic: &'diagnostic Diagnostic<FileId>,
@@ -32,8 +47,8 @@ pub struct RichDiagnostic<'diagnostic, 'config, FileId> {
 impl<'diagnostic, 'config, FileId: Copy + Eq> RichDiagnostic<'diagnostic, 'config, FileId> {
     ghost use Rattle.codespan_reporting.specs.Views.{diagnostic_of, view_config_of};
 
-    /// A view of the diagnostic. The configuration says which lines are shown and, by its layout, how many characters of room line
-    /// numbers have.
+    /// Makes a view of the diagnostic. The configuration decides which lines are shown and, by its layout, the padding width. Its other
+    /// fields are not used.
     pub fn new(
         diagnostic: &'diagnostic Diagnostic<FileId>,
         config: &'config Config<'config>,
@@ -46,12 +61,11 @@ impl<'diagnostic, 'config, FileId: Copy + Eq> RichDiagnostic<'diagnostic, 'confi
 
     /// Writes the output.
     ///
-    /// The renderer's own configuration determines the characters, the width of tabs, and how lanes
-    /// look.
+    /// The renderer's own configuration decides the characters, the tab width and the layout of lanes.
     ///
     /// # Errors
     ///
-    /// - [`Error::Io`]: the writer fails, or a lookup fails with it.
+    /// - [`Error::Io`]: the writer fails or takes no bytes, or a lookup fails with it.
     /// - [`Error::OutOfMemory`]: an allocation fails, or a lookup fails with it. The contract leaves
     ///   open when, but it is not returned without labels.
     /// - [`Error::FormatError`]: the `Display` of a file's name fails, or a lookup fails with it. The
@@ -86,7 +100,7 @@ impl<'diagnostic, 'config, FileId: Copy + Eq> RichDiagnostic<'diagnostic, 'confi
         Ok(())
     }
 
-    /// The picture of a diagnostic with labels.
+    /// Renders a diagnostic with labels.
     fn draw_labels<'files, F, W>(
         &self,
         files: &'files F,
@@ -111,7 +125,7 @@ impl<'diagnostic, 'config, FileId: Copy + Eq> RichDiagnostic<'diagnostic, 'confi
         draw_closing(diagnostic, renderer, sheet.padding)
     }
 
-    /// The snippets of all files, with an empty row after each, but after the last one only where notes follow.
+    /// Renders the snippets of all files, with an empty row after each, but after the last one only where notes follow.
     fn draw_snippets<'files, F, W>(
         &self,
         files: &'files F,
@@ -148,14 +162,14 @@ impl<'diagnostic, 'config, FileId: Copy + Eq> RichDiagnostic<'diagnostic, 'confi
     }
 }
 
-/// Whether the diagnostic has a note.
+/// Returns whether the diagnostic has a note.
 fn has_notes<FileId>(diagnostic: &Diagnostic<FileId>) -> bool
     ensures { result ≡ has_any (notes_of diagnostic.now) }
 {
     !diagnostic.notes.is_empty()
 }
 
-/// The notes, and the empty line at the end.
+/// Renders the notes, and the empty line at the end.
 #[inline(always)]
 fn draw_closing<FileId, W: WriteStyle>(
     diagnostic: &Diagnostic<FileId>,
@@ -172,7 +186,7 @@ fn draw_closing<FileId, W: WriteStyle>(
     Ok(())
 }
 
-/// A diagnostic without labels: its header and its notes. It asks for nothing.
+/// Renders a diagnostic without labels: its header and its notes. Nothing is looked up.
 fn draw_bare<FileId, W: WriteStyle>(
     diagnostic: &Diagnostic<FileId>,
     renderer: &mut Renderer<'_, '_, W>,

@@ -1,10 +1,10 @@
-//! Short and medium style: a header for each cause, and in medium style the notes.
+//! Short and medium style: a header for each primary label, and in medium style the notes.
 
 ghost use Rattle.std.specs.Prelude.{◌≡◌, ◌∷◌, []};
 ghost use Rattle.codespan_base.specs.declared.term.config.DisplayStyle.TheVariants.{Short, Medium};
 ghost use Rattle.codespan_picture.specs.Picture.{label_of, labels_of};
 ghost use Rattle.codespan_renderer.specs.Renderers.{writer_of, config_of, SameRenderer};
-ghost use Rattle.codespan_reporting.specs.Output.{WritesStyled};
+ghost use Rattle.codespan_reporting.specs.WriteCalls.{WritesStyled};
 ghost use Rattle.codespan_reporting.specs.Inner.ViewDrawing.{DrawsHeadersOf, DrawsInStyle};
 
 use crate::term::renderer::Renderer;
@@ -14,8 +14,20 @@ use codespan_base::diagnostic::{Diagnostic, Label};
 use codespan_base::files::{Error, Files};
 use codespan_base::term::WriteStyle;
 
-/// Draws a header for each primary label of a diagnostic, at the place where the label starts, or one header without a place
-/// where no label is primary.
+/// Renders a header for each primary label of a diagnostic, with the locus of the label's start, or one header without a locus where no
+/// label is primary; in medium style the notes follow. This is as in the Rust crate.
+///
+/// # Example
+///
+/// The test `bare_views` of `crates/codespan_tests` has this code. It writes `bug: `.
+///
+/// ```rust
+/// let bug = Diagnostic::bug(alloc);
+/// let config = Config::default();
+/// let mut plain = PlainWriter::new(Vec::new(alloc));
+/// let mut renderer = Renderer::new(&mut plain, &config);
+/// ShortDiagnostic::new(&bug, true).render(&files, &mut renderer)?;
+/// ```
 #[derive(Clone, Copy)]
 pub struct ShortDiagnostic<'diagnostic, FileId> {
     diagnostic: &'diagnostic Diagnostic<FileId>,
@@ -25,7 +37,7 @@ pub struct ShortDiagnostic<'diagnostic, FileId> {
 impl<'diagnostic, FileId: Copy + Eq> ShortDiagnostic<'diagnostic, FileId> {
     ghost use Rattle.codespan_reporting.specs.Views.{short_diagnostic_of, short_style_of, style_with_notes};
 
-    /// A view of the diagnostic: in medium style, with its notes after the headers, or in short style, without them.
+    /// Makes a view of the diagnostic: with `show_notes` in medium style, without in short style.
     pub fn new(
         diagnostic: &'diagnostic Diagnostic<FileId>,
         show_notes: bool,
@@ -46,7 +58,7 @@ impl<'diagnostic, FileId: Copy + Eq> ShortDiagnostic<'diagnostic, FileId> {
     ///
     /// # Errors
     ///
-    /// - [`Error::Io`]: the writer fails, or a lookup fails with it.
+    /// - [`Error::Io`]: the writer fails or takes no bytes, or a lookup fails with it.
     /// - [`Error::OutOfMemory`]: an allocation fails, or a lookup fails with it. The contract leaves
     ///   open when, but it is not returned without primary labels.
     /// - [`Error::FormatError`]: the `Display` of a file's name fails, or a lookup fails with it. The
@@ -79,7 +91,7 @@ impl<'diagnostic, FileId: Copy + Eq> ShortDiagnostic<'diagnostic, FileId> {
     }
 }
 
-/// The headers, and then the notes.
+/// Renders the headers, and then the notes.
 fn draw_medium<'files, F: Files<'files>, W: WriteStyle>(
     files: &'files F,
     diagnostic: &Diagnostic<F::FileId>,
@@ -93,7 +105,7 @@ fn draw_medium<'files, F: Files<'files>, W: WriteStyle>(
     draw_notes(diagnostic, renderer, 0)
 }
 
-/// A header for each primary label, or one without a place.
+/// Renders a header for each primary label, or one without a locus.
 fn draw_headers<'files, F: Files<'files>, W: WriteStyle>(
     files: &'files F,
     diagnostic: &Diagnostic<F::FileId>,
@@ -110,7 +122,7 @@ fn draw_headers<'files, F: Files<'files>, W: WriteStyle>(
     }
 }
 
-/// A header for each primary label, in their order; whether there is one.
+/// Renders a header for each primary label, in their order, and returns whether there is one.
 fn draw_located<'files, F: Files<'files>, W: WriteStyle>(
     files: &'files F,
     diagnostic: &Diagnostic<F::FileId>,
@@ -127,7 +139,7 @@ fn draw_located<'files, F: Files<'files>, W: WriteStyle>(
     Ok(is_located)
 }
 
-/// The header of a label, where it is a primary one; whether it is.
+/// Renders the header of a label, where it is a primary one, and returns whether it is.
 fn draw_if_primary<'files, F: Files<'files>, W: WriteStyle>(
     files: &'files F,
     diagnostic: &Diagnostic<F::FileId>,

@@ -1,4 +1,4 @@
-//! The snippets of a picture, one for each file.
+//! The snippets of an output, one for each file.
 
 ghost use Rattle.std.specs.Prelude.{IfErr, map};
 ghost use Rattle.std.specs.List.{AllByRecursion};
@@ -18,12 +18,12 @@ use codespan_base::files::{Error, Files};
 use codespan_base::term::WriteStyle;
 use std::convert::AsStr;
 
-/// The first rows of a snippet: where it starts, and an empty one.
+/// Renders the first rows of a snippet: its locus, and a row without source.
 #[tactic(auto, using(codespan_base::proofs::Sends::sendings))]
 fn draw_start<F, FileId, W: WriteStyle>(
     page: &Page<'_, F>,
     renderer: &mut Renderer<'_, '_, W>,
-    snippet: &SheetFile<'_, '_, FileId>,
+    snippet: &SheetFile<'_, FileId>,
 ) -> Result<(), Error>
     ensures same { SameRenderer renderer.old renderer.new }
     ensures sends { DrawsRows W.sink page.now.severity page.now.padding (start_rows snippet.now)
@@ -31,24 +31,33 @@ fn draw_start<F, FileId, W: WriteStyle>(
     ensures io { IfErr result IsIo }
 {
     renderer.render_snippet_start(page.padding, &snippet.locus)?;
-    renderer.render_snippet_empty(page.padding, page.severity, snippet.file.lanes.len(), &[])?;
+    renderer.render_snippet_empty(page.padding, page.severity, snippet.file.lane_count, &[])?;
     Ok(())
 }
 
-/// Asks for the source of a file and draws its snippet by these steps.
+/// Looks up the source of a file and renders its snippet by these steps.
 ///
-/// Refuses as the first lookup that refuses does, with `OutOfMemory` where a growth is refused, and with `Io` where the writer
-/// refuses. What is written then is a beginning.
+/// # Errors
+///
+/// - `Io`: the writer fails or takes no bytes, or a lookup fails with it.
+/// - `OutOfMemory`: an allocation fails, or a lookup fails with it.
+/// - Any other error: that of the first lookup that fails.
+///
+/// A prefix of the rows has then been written.
+///
+/// # Requires
+///
+/// The steps are of lines of the file, and the labels of each are in the order of their starts.
 pub fn draw_snippet<'files, 'd, F: Files<'files>, W: WriteStyle>(
     page: &Page<'files, F>,
     renderer: &mut Renderer<'_, '_, W>,
     marks: &mut LineMarks<'d>,
-    snippet: &SheetFile<'_, 'd, F::FileId>,
+    snippet: &SheetFile<'_, F::FileId>,
     steps: &[Step<'_, 'd, F::FileId>],
 ) -> Result<(), Error>
     requires steps { AllByRecursion (IsStepOf
         ((F.database page.now.files.now).file snippet.now.file.now.id)) steps.now }
-    requires fits { DoFit (map step_of steps.now) }
+    requires fits { DoFit snippet.now.file.now.lane_count (map step_of steps.now) }
     ensures same { SameRenderer renderer.old renderer.new }
     ensures draws { DrawsSnippet W.sink F.database page.now snippet.now steps.now renderer.old
         result renderer.new }
@@ -59,17 +68,17 @@ pub fn draw_snippet<'files, 'd, F: Files<'files>, W: WriteStyle>(
         page,
         id: snippet.file.id,
         text: source.as_str(),
-        lanes: snippet.file.lanes.as_slice(),
+        lane_count: snippet.file.lane_count,
     };
     lines.draw_steps(renderer, marks, steps)?;
     Ok(())
 }
 
-/// The row after a snippet, where something follows.
+/// Renders the row after a snippet, where something follows.
 pub fn draw_end<F, FileId, W: WriteStyle>(
     page: &Page<'_, F>,
     renderer: &mut Renderer<'_, '_, W>,
-    snippet: &SheetFile<'_, '_, FileId>,
+    snippet: &SheetFile<'_, FileId>,
     is_followed: bool,
 ) -> Result<(), Error>
     ensures same { SameRenderer renderer.old renderer.new }
@@ -78,7 +87,7 @@ pub fn draw_end<F, FileId, W: WriteStyle>(
     ensures io { IfErr result IsIo }
 {
     if is_followed {
-        renderer.render_snippet_empty(page.padding, page.severity, snippet.file.lanes.len(), &[])?;
+        renderer.render_snippet_empty(page.padding, page.severity, snippet.file.lane_count, &[])?;
     }
     Ok(())
 }

@@ -1,4 +1,4 @@
-//! Entries in order.
+//! The order of entries.
 
 ghost use Rattle.std.specs.Prelude.{◌≡◌, map};
 ghost use Rattle.std.specs.List.Sorted.{IsPermutation, IsSortedBy};
@@ -8,7 +8,7 @@ ghost use Rattle.codespan_reporting.specs.Inner.GivenEntries.{entry_of};
 use crate::term::views::entry::{Entry, Says, range_in_line};
 use std::cmp::Ordering;
 
-/// The order of entries: by file, by line, and by what is said. Only equal entries tie.
+/// Compares two entries: by file, by line, and by kind. Only equal entries tie.
 fn compare<FileId>(left: &Entry<'_, FileId>, right: &Entry<'_, FileId>) -> Ordering
     ensures { result ≡ entry_cmp (entry_of left.now) (entry_of right.now) }
 {
@@ -22,8 +22,8 @@ fn compare<FileId>(left: &Entry<'_, FileId>, right: &Entry<'_, FileId>) -> Order
     }
 }
 
-/// The order of what is said of a line: that it is shown, then labels inside it by their ranges, and of equal ranges the one given last
-/// first.
+/// Compares two entries of one line: that it is shown comes first, then labels inside it by their ranges, and of equal ranges the one given last
+/// first, then marks by their lanes.
 fn compare_says<FileId>(left: &Entry<'_, FileId>, right: &Entry<'_, FileId>) -> Ordering
     ensures { result ≡ says_cmp (entry_of left.now).says (entry_of right.now).says }
 {
@@ -43,21 +43,29 @@ fn compare_says<FileId>(left: &Entry<'_, FileId>, right: &Entry<'_, FileId>) -> 
                 _ => starts,
             }
         }
+        (
+            Says::Multi { lane, .. },
+            Says::Multi {
+                lane: other_lane,
+                ..
+            },
+        ) => lane.cmp(other_lane),
         _ => kind(left).cmp(&kind(right)),
     }
 }
 
-/// 0 where the entry says that its line is shown, 1 for a label inside it.
+/// Returns 0 where the entry marks its line as shown, 1 for a label inside it, 2 for a multi-line label mark.
 fn kind<FileId>(entry: &Entry<'_, FileId>) -> usize
     ensures { result ≡ kind_of (entry_of entry.now).says }
 {
     match &entry.says {
         Says::Shown => 0,
         Says::Single { .. } => 1,
+        Says::Multi { .. } => 2,
     }
 }
 
-/// Puts the entries in order.
+/// Sorts the entries.
 pub fn sort<FileId>(entries: &mut Vec<Entry<'_, FileId>>)
     ensures permutation { IsPermutation entries.old.items entries.new.items }
     ensures sorted { IsSortedBy is_below (map entry_of entries.new.items) }

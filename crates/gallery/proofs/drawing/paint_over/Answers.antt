@@ -2,7 +2,7 @@ use Rattle.std.proofs.Common.{◌∷◌, [], ◌++◌, ◌∙◌, ap, refl}
 use Rattle.codespan_base.specs.declared.term.config.styles.Styles.{Styles}
 use Rattle.codespan_base.specs.Streams.{Spelling, spelled}
 use Rattle.codespan_base.specs.StyleTables.{spelling_by}
-use Rattle.codespan_picture.specs.Picture.{picture}
+use Rattle.codespan_picture.specs.StatedPicture.{picture}
 use Rattle.gallery.specs.Inks.{all_told, ink_number, ink_of, plain_ink, told}
 use Rattle.gallery.proofs.Painting.{drawn_stream, told_after, fresh_told}
 use Rattle.gallery.proofs.drawing.paint_over.Goals as goal

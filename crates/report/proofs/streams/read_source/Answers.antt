@@ -11,7 +11,7 @@ no_text held (Err e) old new done all empty odd = absurd (cc done)
 no_text None (Ok n) old new done all empty odd = tt
 no_text (Some bytes) (Ok n) old new done all empty odd = λ text. odd (subst IsUtf8 (sym (all ∙ ap (λ front. front ++ bytes) empty)) text)
 
--- a refusal is no success
+-- an error is no success
 not_both : {T E : Type 0} (r : Result T E) (e : E) → r ≡ Err e → IsOk r → ⊥
 not_both (Ok x) e is ok = cc is
 not_both (Err d) e is ok = cc ok

@@ -1,24 +1,30 @@
 //! A line whose characters and pointers are cached, and whose labels are in the order of their
 //! starts.
 
-ghost use Rattle.std.specs.Prelude.{◌≡◌, IsTrue};
-ghost use Rattle.codespan_picture.specs.Cells.{cells, cells_to_end};
-ghost use Rattle.codespan_picture.specs.Given.{single_label_views};
+ghost use Rattle.std.specs.Prelude.{◌≡◌, IsTrue, map};
+ghost use Rattle.std.specs.Str.{chars};
+ghost use Rattle.codespan_picture.specs.Cells.{cells, cells_then};
+ghost use Rattle.codespan_picture.specs.Given.{mark_view, single_label_views};
 ghost use Rattle.codespan_picture.specs.Rows.{hanging};
-ghost use Rattle.codespan_renderer.specs.Inner.PointerLists.{AreNarrow, pointers_in};
-ghost use Rattle.codespan_renderer.specs.Inner.Sweeps.{starts_in_order};
+ghost use Rattle.codespan_renderer.specs.Inner.CellsLeft.{after_last};
 ghost use Rattle.codespan_renderer.specs.Inner.CursorStates.{IsBefore, HasReturned};
+ghost use Rattle.codespan_renderer.specs.Inner.KeptCells.{AreKept, ReachesPast, kept_left, reach_of};
+ghost use Rattle.codespan_renderer.specs.Inner.PointerLists.{pointers_in};
+ghost use Rattle.codespan_renderer.specs.Inner.Sweeps.{starts_in_order};
 
-use crate::term::renderer::SingleLabel;
-use crate::term::renderer::by_cells::pointers::{Pointer, send_spaced, width_up_to};
+use crate::term::renderer::Renderer;
+use crate::term::renderer::by_cells::kept_cells::KeptCells;
+use crate::term::renderer::by_cells::pointers::{Pointer, write_spaced};
 use crate::term::renderer::by_cells::sweep::Sweep;
-use crate::term::renderer::cells::Cell;
+use crate::term::renderer::cells::{Cell, Cells};
 use crate::term::renderer::char_cursor::CharCursor;
 use crate::term::renderer::line::{Line, Look};
 use crate::term::renderer::line_source::LineSource;
 use crate::term::renderer::messages::Messages;
 use crate::term::renderer::pointers::greatest_start;
-use codespan_base::diagnostic::LabelStyle;
+use crate::term::renderer::source::write_line;
+use codespan_base::diagnostic::{LabelStyle, Severity};
+use codespan_base::files::Error;
 use codespan_base::term::WriteStyle;
 use std::io;
 
@@ -26,27 +32,21 @@ use std::io;
 /// of them once.
 #[derive(Drop)]
 pub struct CachedCursor<'cells, 'row, 'd> {
-    cells: &'cells [Cell],
+    characters: KeptCells<'cells, 'row>,
     sweep: Sweep<'row, 'd>,
-    ghost state: { ∥ IsBefore sweep cells.now ∥₁ },
+    ghost state: { ∥ IsBefore sweep (kept_left characters) ∥₁ },
 }
 
 impl<'cells, 'row, 'd> CharCursor for CachedCursor<'cells, 'row, 'd> {
-    ghost left = { λ s. s.cells.now };
+    ghost left = { λ s. kept_left s.characters };
 
     ghost labels = { λ s. s.sweep.labels.now };
 
-    ghost has_returned = { λ c s. ∥ HasReturned c s.sweep s.cells.now ∥₁ };
+    ghost has_returned = { λ c s. ∥ HasReturned c s.sweep (kept_left s.characters) ∥₁ };
 
     #[inline(always)]
     fn next_cell(&mut self) -> Option<Cell> {
-        match self.cells.split_first() {
-            Some((cell, rest)) => {
-                self.cells = rest;
-                Some(*cell)
-            }
-            None => None,
-        }
+        self.characters.next()
     }
 
     #[inline(always)]
@@ -61,87 +61,110 @@ impl<'cells, 'row, 'd> CharCursor for CachedCursor<'cells, 'row, 'd> {
 }
 
 /// A line with a cache of its characters and pointers.
-#[derive(Clone, Copy)]
+#[derive(Drop)]
 pub struct CachedLine<'cells, 'row, 'd> {
     /// The number of cells from one tab stop to the next.
     pub tab_width: usize,
-    /// The text of the line.
-    pub text: &'row str,
-    /// The labels inside the line, in the order of their starts.
-    pub labels: &'row [SingleLabel<'d>],
-    /// Its characters, and the position after the last one.
-    pub all: &'cells [Cell],
-    /// The pointers under them.
+    /// The line, whose labels are in the order of their starts.
+    pub line: Line<'row, 'd>,
+    /// Its first characters, up to the first one past the reach of the rows under it.
+    pub kept: &'cells [Cell],
+    /// The scan of those after them.
+    pub rest: Cells<'row>,
+    /// The pointers under its characters.
     pub pointers: &'cells [Pointer],
-    ghost cells_are: { all.now ≡ cells_to_end tab_width text.now },
-    ghost narrow: { AreNarrow all.now },
-    ghost ordered: { IsTrue (starts_in_order (single_label_views labels.now)) },
-    ghost found: { pointers.now
-        ≡ pointers_in (hanging (single_label_views labels.now)) (cells tab_width text.now) },
+    ghost cells_are: { AreKept tab_width line.text.now kept.now rest },
+    ghost enough: { ReachesPast (reach_of (single_label_views line.labels.now)
+        (map mark_view line.lanes.marks.now)) rest },
+    ghost ordered: { IsTrue (starts_in_order (single_label_views line.labels.now)) },
+    ghost found: { pointers.now ≡ pointers_in (hanging (single_label_views line.labels.now))
+        (cells tab_width line.text.now) },
 }
 
 impl<'cells, 'row, 'd> CachedLine<'cells, 'row, 'd> {
-    /// Returns the characters without the position after the last one.
-    #[inline(always)]
-    fn alone(&self) -> &'cells [Cell]
-        ensures characters { result.now ≡ cells self.now.tab_width self.now.text.now }
-        ensures narrow { AreNarrow result.now }
-    {
-        without_end(self.all, self.text, self.tab_width)
-    }
-}
+    ghost use Rattle.codespan_renderer.specs.Inner.GivenLine.{line_view};
+    ghost use Rattle.codespan_renderer.specs.Renderers.{config_of, rendered_source, Renders};
 
-/// Returns the characters of a line, given these and the position after the last one.
-pub fn without_end<'row>(all: &'row [Cell], text: &str, tab_width: usize) -> &'row [Cell]
-    requires all { all.now ≡ cells_to_end tab_width text.now }
-    requires narrow { AreNarrow all.now }
-    ensures characters { result.now ≡ cells tab_width text.now }
-    ensures narrow { AreNarrow result.now }
-{
-    &all[..all.len() - 1]
+    /// Draws the line with its carets, its messages and its underlines. `outer_padding` is the padding
+    /// width of line numbers, in characters.
+    ///
+    /// # Errors
+    ///
+    /// `Io` alone, where the writer fails. A prefix of the rows is written then.
+    pub fn render<W: WriteStyle>(
+        &self,
+        renderer: &mut Renderer<'_, '_, W>,
+        outer_padding: usize,
+        severity: Severity,
+    ) -> Result<(), Error>
+        requires { self.now.tab_width ≡ (config_of renderer.old).tab_width }
+        ensures { Renders W.sink (rendered_source (config_of renderer.old) severity outer_padding
+            (line_view self.now.line)) renderer.old result renderer.new }
+    {
+        let look = renderer.look(severity, outer_padding);
+        write_line(renderer.writer, look, self.line, self)?;
+        Ok(())
+    }
+
+    /// Returns a cursor over its characters, and the position after the last one where `to_end` is set.
+    #[inline(always)]
+    fn cursor(&self, to_end: bool) -> CachedCursor<'cells, 'row, 'd>
+        ensures left { kept_left result.characters
+            ≡ cells_then (after_last to_end) self.now.tab_width 0 0 (chars self.now.line.text.now) }
+        ensures labels { result.sweep.labels.now ≡ self.now.line.labels.now }
+    {
+        CachedCursor {
+            characters: KeptCells {
+                kept: self.kept,
+                rest: self.rest.fork(to_end),
+            },
+            sweep: Sweep::new(self.line.labels),
+        }
+    }
 }
 
 impl<'cells, 'row, 'd> LineSource for CachedLine<'cells, 'row, 'd> {
     type Cursor = CachedCursor<'cells, 'row, 'd>;
 
-    ghost of = { λ s.
-        record { tab_width = s.tab_width; text = s.text.now; labels = s.labels.now } };
+    ghost of = { λ s. record {
+      tab_width = s.tab_width;
+      text = s.line.text.now;
+      labels = s.line.labels.now;
+    } };
 
     #[inline(always)]
     fn characters(&self) -> CachedCursor<'cells, 'row, 'd> {
-        CachedCursor {
-            cells: self.alone(),
-            sweep: Sweep::new(self.labels),
-        }
+        self.cursor(false)
     }
 
     #[inline(always)]
     fn characters_to_end(&self) -> CachedCursor<'cells, 'row, 'd> {
-        CachedCursor {
-            cells: self.all,
-            sweep: Sweep::new(self.labels),
-        }
+        self.cursor(true)
     }
 
     #[inline(always)]
     fn width_up_to(&self, place: usize) -> u128 {
-        width_up_to(self.alone(), self.text, self.tab_width, place)
+        let count = self.kept.partition_point(|cell| cell.place <= place);
+        match self.kept.get(count) {
+            Some(next) => next.column,
+            None => self.rest.column_past(place),
+        }
     }
 
     #[inline(always)]
-    fn send_pointers<W: WriteStyle>(
+    fn caret_pointers<W: WriteStyle>(
         &self,
         w: &mut W,
         look: Look<'_>,
         _line: Line<'_, '_>,
         _messages: Messages<'_, '_>,
     ) -> io::Result<()> {
-        let edge = self.width_up_to(greatest_start(self.labels));
-        send_spaced(w, look, self.pointers, usize::MAX, edge)
+        let edge = self.width_up_to(greatest_start(self.line.labels));
+        write_spaced(w, look, self.pointers, usize::MAX, edge)
     }
 
     #[inline(always)]
-    fn send_pointers_before<W: WriteStyle>(
+    fn caret_pointers_before<W: WriteStyle>(
         &self,
         w: &mut W,
         look: Look<'_>,
@@ -150,6 +173,6 @@ impl<'cells, 'row, 'd> LineSource for CachedLine<'cells, 'row, 'd> {
         before: usize,
     ) -> io::Result<()> {
         let edge = self.width_before(before);
-        send_spaced(w, look, self.pointers, before, edge)
+        write_spaced(w, look, self.pointers, before, edge)
     }
 }

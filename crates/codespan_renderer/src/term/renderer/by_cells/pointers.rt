@@ -7,7 +7,8 @@ ghost use Rattle.codespan_picture.specs.Cells.{cells, width_of};
 ghost use Rattle.codespan_picture.specs.Given.{single_label_view, single_label_views};
 ghost use Rattle.codespan_renderer.specs.Inner.GivenLine.{look_view, line_view};
 ghost use Rattle.codespan_renderer.specs.Inner.GivenRows.{given_cells, given_hanging, given_hanging_rows, given_messages, given_pointers};
-ghost use Rattle.codespan_renderer.specs.Inner.PointerLists.{AreNarrow, pointer_under, pointers_in, pointers_before, spaced};
+ghost use Rattle.codespan_renderer.specs.Inner.KeptCells.{kept_left};
+ghost use Rattle.codespan_renderer.specs.Inner.PointerLists.{pointer_under, pointers_in, pointers_before, spaced};
 ghost use Rattle.codespan_picture.specs.Rows.{hanging};
 ghost use Rattle.codespan_picture.specs.RowParts.{cells_before, cells_up_to, greatest_start, pointers};
 ghost use Rattle.codespan_picture.specs.RowStreams.{pointer_row, hanging_row};
@@ -15,14 +16,15 @@ ghost use Rattle.codespan_renderer.specs.Inner.Runs.{AreHanging, ArePieces};
 ghost use Rattle.codespan_renderer.specs.Inner.Sweeps.{starts_in_order};
 
 use crate::term::renderer::SingleLabel;
+use crate::term::renderer::by_cells::kept_cells::KeptCells;
 use crate::term::renderer::by_cells::sweep::Starts;
-use crate::term::renderer::carets::send_message;
+use crate::term::renderer::carets::write_message;
 use crate::term::renderer::cells::Cell;
 use crate::term::renderer::line::{Line, Look};
 use crate::term::renderer::messages::Messages;
-use crate::term::renderer::parts::{send_newline, send_opening};
-use crate::term::renderer::pointers::{greatest_start, has_any_message, send_pointer};
-use crate::term::renderer::runs::send_blank_run;
+use crate::term::renderer::parts::{write_newline, write_row_start};
+use crate::term::renderer::pointers::{caret_pointer, greatest_start, has_any_message};
+use crate::term::renderer::runs::write_spaces;
 use codespan_base::diagnostic::LabelStyle;
 use codespan_base::files::Error;
 use codespan_base::term::WriteStyle;
@@ -43,7 +45,7 @@ pub struct Pointer {
 
 /// The pointers of the characters that begin before a place, with blanks between them and up to a column.
 #[inline(always)]
-pub fn send_spaced<W: WriteStyle>(
+pub fn write_spaced<W: WriteStyle>(
     w: &mut W,
     look: Look<'_>,
     found: &[Pointer],
@@ -58,45 +60,31 @@ pub fn send_spaced<W: WriteStyle>(
     for pointer in found {
         if pointer.place < before {
             let blank = pointer.column.saturating_sub(column);
-            send_pointer(w, look, blank, pointer.style)?;
+            caret_pointer(w, look, blank, pointer.style)?;
             column = pointer.after;
         }
     }
-    send_blank_run(w, edge.saturating_sub(column))
+    write_spaces(w, edge.saturating_sub(column))
 }
 
-/// How many cells the characters take that begin at a place or before it.
-pub fn width_up_to(characters: &[Cell], text: &str, tab_width: usize, place: usize) -> u128
-    requires characters { characters.now ≡ cells tab_width text.now }
-    requires narrow { AreNarrow characters.now }
-    ensures { result ≡ width_of (cells_up_to place (cells tab_width text.now)) }
-{
-    let count = characters.partition_point(|cell| cell.place <= place);
-    match count.checked_sub(1) {
-        Some(last) => characters[last].column + characters[last].width as u128,
-        None => 0,
-    }
-}
-
-/// Takes the pointers of the labels of a line that hang in place of those before. Where none hangs no character is looked at. Refuses with
+/// Takes the pointers of the labels of a line that hang in place of those before. Where none hangs no character is looked at. Fails with
 /// `OutOfMemory`.
 #[inline(always)]
 pub fn find_pointers(
     pointers: &mut Vec<Pointer>,
-    labels: &[SingleLabel<'_>],
-    messages: Messages<'_, '_>,
-    text: &str,
     tab_width: usize,
-    characters: &[Cell],
+    line: Line<'_, '_>,
+    messages: Messages<'_, '_>,
+    characters: KeptCells<'_, '_>,
 ) -> Result<(), Error>
-    requires hanging { AreHanging labels.now messages.before.now messages.after.now }
+    requires hanging { AreHanging line.labels.now messages.before.now messages.after.now }
     requires before { IsTrue (starts_in_order (single_label_views messages.before.now)) }
     requires after { IsTrue (starts_in_order (single_label_views messages.after.now)) }
-    requires characters { characters.now ≡ cells tab_width text.now }
-    requires narrow { AreNarrow characters.now }
+    requires characters { kept_left characters ≡ cells tab_width line.text.now }
     ensures found { IfOk result (λ _. pointers.new.items
-        ≡ pointers_in (hanging (single_label_views labels.now)) (cells tab_width text.now)) }
-    ensures refused { OnErr result (IsErrOf result Error.OutOfMemory) }
+        ≡ pointers_in (hanging (single_label_views line.entry.labels.now))
+        (cells tab_width line.entry.text.now)) }
+    ensures failed { OnErr result (IsErrOf result Error.OutOfMemory) }
 {
     pointers.clear();
     if !has_any_message(messages.before) && !has_any_message(messages.after) {
@@ -104,14 +92,14 @@ pub fn find_pointers(
     }
     let mut before = Starts::new(messages.before);
     let mut after = Starts::new(messages.after);
-    let last = greatest_start(labels);
+    let last = greatest_start(line.labels);
     for cell in characters {
         if cell.place > last {
             return Ok(());
         }
-        let early = before.best_start(None, *cell);
-        if let Some(style) = after.best_start(early, *cell) {
-            pointers.push(pointer_under(*cell, style))?;
+        let early = before.best_start(None, cell);
+        if let Some(style) = after.best_start(early, cell) {
+            pointers.push(pointer_under(cell, style))?;
         }
     }
     Ok(())

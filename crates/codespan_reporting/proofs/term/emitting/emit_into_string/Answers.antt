@@ -4,14 +4,14 @@ use Rattle.codespan_base.specs.Streams.{no_marks}
 use Rattle.codespan_base.specs.WriterLaw.{Sink}
 use Rattle.codespan_base.specs.Writers.{fresh_sink}
 use Rattle.codespan_reporting.proofs.Emitting.{string_drawn, text_held, told_of_string}
-use Rattle.codespan_reporting.proofs.term.emitting.emit_into_string.Goals.{then-has_refused, else-has_refused}
+use Rattle.codespan_reporting.proofs.term.emitting.emit_into_string.Goals.{then-has_failed, else-has_failed}
 use Rattle.codespan_reporting.proofs.term.emitting.emit_into_string.Goals as goal
 
--- a writer of plain text that begins with what an empty buffer holds begins with nothing
+-- a writer of plain text over an empty buffer begins with nothing
 begins-empty : {s : Sink} {xs : List ℕ} → s ≡ fresh_sink no_marks (Some xs) → xs ≡ [] → s ≡ fresh_sink no_marks (Some [])
 begins-empty begins empty = begins ∙ ap (λ ys. fresh_sink no_marks (Some ys)) empty
 
--- what was written is a text
+-- what was written is UTF-8
 pub from_utf8_unchecked-requires : goal.from_utf8_unchecked-requires
 from_utf8_unchecked-requires g c =
     let file = ((g.F.Files.database c.args.files.now).file) in
@@ -23,11 +23,11 @@ pub returns-in-Ok : goal.returns-in-Ok
 returns-in-Ok g c =
     string_drawn c.in-Ok.ensures (begins-empty c.new-plain.ensures.begins c.in_ok-bytes.ensures.items) (search rules)
 
--- a growth was refused, or the writer has refused nothing
-pub returns-after-has_refused : goal.returns-after-has_refused
-returns-after-has_refused g c =
+-- an allocation failed, or the writer has not failed
+pub returns-after-has_failed : goal.returns-after-has_failed
+returns-after-has_failed g c =
     let drawn = c.in-Err.ensures in
-    elim c.if-has_refused.branch [
-      | then-has_refused w ↦ rw w.result-is (inl refl)
-      | else-has_refused w ↦ rw w.result-is (told_of_string drawn (sym c.has_refused.ensures ∙ w.if-has_refused.false))
+    elim c.if-has_failed.branch [
+      | then-has_failed w ↦ rw w.result-is (inl refl)
+      | else-has_failed w ↦ rw w.result-is (told_of_string drawn (sym c.has_failed.ensures ∙ w.if-has_failed.false))
     ]

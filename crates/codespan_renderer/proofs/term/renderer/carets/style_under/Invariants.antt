@@ -5,7 +5,7 @@ use Rattle.codespan_picture.specs.Given.{single_label_views}
 use Rattle.codespan_renderer.specs.Inner.Runs.{best_from}
 use Rattle.codespan_renderer.proofs.term.renderer.carets.style_under.Given as goal
 
--- the labels that are left decide
+-- the remaining labels decide
 abbrev pub invariant-loop-label : goal.invariant-loop-label
 invariant-loop-label l = record {
   best : best_from (λ (x : Labelled). covers x l.cell) l.found (single_label_views (drop l.label-index l.labels))

@@ -3,7 +3,7 @@ use Rattle.codespan_picture.specs.Given.{single_label_view, single_label_views}
 use Rattle.codespan_picture.specs.Rows.{is_overlapped}
 use Rattle.codespan_renderer.proofs.term.renderer.messages.is_overlapped.Given as goal
 
--- the others that are left decide
+-- the remaining others decide
 abbrev pub invariant-loop-other : goal.invariant-loop-other
 invariant-loop-other l =
     is_overlapped (single_label_view l.label) (single_label_views (drop l.other-index l.others)) ≡ is_overlapped (single_label_view l.label) (single_label_views l.others)

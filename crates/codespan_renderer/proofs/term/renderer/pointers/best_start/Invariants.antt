@@ -5,7 +5,7 @@ use Rattle.codespan_picture.specs.RowParts.{starts_in}
 use Rattle.codespan_renderer.specs.Inner.Runs.{best_from}
 use Rattle.codespan_renderer.proofs.term.renderer.pointers.best_start.Given as goal
 
--- the labels that are left better what was found
+-- the remaining labels improve on what was found
 abbrev pub invariant-loop-label : goal.invariant-loop-label
 invariant-loop-label l =
     best_from (starts_in l.cell) l.best (filter has_message (single_label_views (drop l.label-index l.labels)))

@@ -4,7 +4,7 @@ use Rattle.codespan_picture.specs.Given.{single_label_views}
 use Rattle.codespan_picture.specs.RowParts.{greatest_start}
 use Rattle.codespan_renderer.proofs.term.renderer.pointers.greatest_start.Given as goal
 
--- the labels that are left raise it
+-- the remaining labels raise it
 abbrev pub invariant-loop-label : goal.invariant-loop-label
 invariant-loop-label l =
     fold (λ m (x : Labelled). max m x.start) l.greatest (single_label_views (drop l.label-index l.labels)) ≡ greatest_start (single_label_views l.labels)

@@ -4,6 +4,6 @@ use Rattle.codespan_base.specs.Labels.{has_message}
 use Rattle.codespan_picture.specs.Given.{single_label_views}
 use Rattle.codespan_renderer.proofs.term.renderer.pointers.has_any_message.Given as goal
 
--- the labels that are left decide
+-- the remaining labels decide
 abbrev pub invariant-loop-label : goal.invariant-loop-label
 invariant-loop-label l = list_any has_message (single_label_views (drop l.label-index l.labels)) ≡ list_any has_message (single_label_views l.labels)

@@ -4,6 +4,6 @@ use Rattle.codespan_base.specs.Labels.{is_primary}
 use Rattle.codespan_picture.specs.Given.{single_label_views}
 use Rattle.codespan_renderer.proofs.term.renderer.source.has_primary.Given as goal
 
--- the labels that are left decide
+-- the remaining labels decide
 abbrev pub invariant-loop-label : goal.invariant-loop-label
 invariant-loop-label l = list_any is_primary (single_label_views (drop l.label-index l.labels)) ≡ list_any is_primary (single_label_views l.labels)

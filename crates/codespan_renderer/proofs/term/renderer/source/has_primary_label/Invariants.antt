@@ -6,7 +6,7 @@ use Rattle.codespan_picture.specs.Carets.{covers}
 use Rattle.codespan_picture.specs.Given.{single_label_views}
 use Rattle.codespan_renderer.proofs.term.renderer.source.has_primary_label.Given as goal
 
--- the labels that are left decide
+-- the remaining labels decide
 abbrev pub invariant-loop-label : goal.invariant-loop-label
 invariant-loop-label l =
     list_any (λ (x : Labelled). is_primary x && covers x l.cell) (single_label_views (drop l.label-index l.labels))

@@ -8,11 +8,11 @@ use Rattle.codespan_reporting.proofs.term.views.file_order.first_place.Given.{Ov
 use Rattle.codespan_reporting.proofs.term.views.file_order.first_place.Goals.{After-index-files-place, After-index-files-next, Else-eq}
 use Rattle.codespan_reporting.proofs.term.views.file_order.first_place.Goals as goal
 
--- there is a file after the one at the place
+-- there is a file after the one at the index
 more : (g : Over) (c : After-index-files-place g) → c.loop-place.place + 1 < length c.args.files.now
 more g c = omega (arith, c.loop-place-test.true, c.saturating_sub-last.ensures)
 
--- the file at the place
+-- the file at the index
 here : (g : Over) (c : After-index-files-place g) → StandsAt c.args.files.now c.loop-place.place c.index-files-place.result
 here g c = record { inside = omega (arith, more g c); is = c.index-files-place.is }
 

@@ -7,7 +7,7 @@ use Rattle.codespan_reporting.proofs.term.views.file_order.last_place.Given.{Ove
 use Rattle.codespan_reporting.proofs.term.views.file_order.last_place.Goals.{In-Some}
 use Rattle.codespan_reporting.proofs.term.views.file_order.last_place.Goals as goal
 
--- there is a file at the place
+-- there is a file at the index
 here : (g : Over) (c : In-Some g) → StandsAt c.args.files.now c.args.place c.in-Some.file.now
 here g c = let found = c.in-Some.ensures.lookup in record { inside = ltb-true _ _ (sym found.0); is = found.1 }
 

@@ -1,5 +1,5 @@
 use Rattle.std.proofs.Common.{◌≡◌, List, [], ◌∷◌, ◌++◌, sym, ap, ◌∙◌}
-use Rattle.codespan_reporting.specs.Inner.LabelledFiles.{all_lanes_given, ids_given, starts_given, with_file}
+use Rattle.codespan_reporting.specs.Inner.LabelledFiles.{ids_given, lanes_given, starts_given, with_file}
 use Rattle.codespan_reporting.specs.Inner.Loci.{no_start}
 use Rattle.codespan_reporting.specs.Inner.PlacedLabels.{file_place}
 use Rattle.codespan_reporting.proofs.LabelFiles.{file-added, file-kept}
@@ -29,7 +29,7 @@ pub returns-in_ok-push_file-clause-starts : goal.returns-in_ok-push_file-clause-
 returns-in_ok-push_file-clause-starts g c = c.in_ok-push_file.ensures.starts ∙ added g c (starts_given c.args.files.now.items) no_start
 
 pub returns-in_ok-push_file-clause-lanes : goal.returns-in_ok-push_file-clause-lanes
-returns-in_ok-push_file-clause-lanes g c = c.in_ok-push_file.ensures.lanes ∙ added g c (all_lanes_given c.args.files.now.items) []
+returns-in_ok-push_file-clause-lanes g c = c.in_ok-push_file.ensures.lanes ∙ added g c (lanes_given c.args.files.now.items) 0
 
 pub returns-else-place-len-clause-ids : goal.returns-else-place-len-clause-ids
 returns-else-place-len-clause-ids g c = kept g c (ids_given c.args.files.now.items) c.args.id
@@ -38,4 +38,4 @@ pub returns-else-place-len-clause-starts : goal.returns-else-place-len-clause-st
 returns-else-place-len-clause-starts g c = kept g c (starts_given c.args.files.now.items) no_start
 
 pub returns-else-place-len-clause-lanes : goal.returns-else-place-len-clause-lanes
-returns-else-place-len-clause-lanes g c = kept g c (all_lanes_given c.args.files.now.items) []
+returns-else-place-len-clause-lanes g c = kept g c (lanes_given c.args.files.now.items) 0

@@ -1,9 +1,11 @@
 use contract.Lifetimes.{Lfts}
-use Rattle.std.proofs.Common.{◌≡◌, rules, ◌+◌, [], Err, map, sym, ap, ◌∙◌, subst}
+use Rattle.std.proofs.Common.{◌≡◌, ℕ, ◌<◌, rules, ◌+◌, [], Err, length, get_or, map, sym, ap, ◌∙◌, subst, arith}
+use Rattle.std.proofs.lemmas.List.{get_or-map}
 use Rattle.std.proofs.lemmas.Result.{err_from_is_err_and}
+use Rattle.codespan_reporting.specs.declared.term.views.file_order.LabelledFile.{LabelledFile as GivenFile}
+use Rattle.codespan_reporting.specs.Inner.AskedLabels.{FindsLines, asked_label}
 use Rattle.codespan_reporting.specs.Inner.GivenEntries.{Adds, IsOfFiles}
-use Rattle.codespan_reporting.specs.Inner.LabelledFiles.{all_lanes_given, ids_given, lanes_told}
-use Rattle.codespan_reporting.specs.Inner.Lanes.{lanes_in}
+use Rattle.codespan_reporting.specs.Inner.LabelledFiles.{ids_given, lanes_given, lanes_in, lanes_told}
 use Rattle.codespan_reporting.specs.Inner.Loci.{file_start}
 use Rattle.codespan_picture.specs.Picture.{label_of}
 use Rattle.codespan_picture.specs.Snippets.{file_ids}
@@ -11,9 +13,9 @@ use Rattle.codespan_reporting.specs.Inner.PlacedLabels.{AreApart, entries_after,
 use Rattle.codespan_reporting.proofs.FilePlaces.{first_seen-differ}
 use Rattle.codespan_reporting.proofs.LabelPlaces.{AreFiles, StandsAt, are-files, lanes_by-are}
 use Rattle.codespan_reporting.proofs.LabelTurns.{before}
-use Rattle.codespan_reporting.proofs.LabelsGathered.{AreGathered, IsPlacedFile, each-told, file-placed, gathered-all, gathered-more, gathered-refused, place-inside}
+use Rattle.codespan_reporting.proofs.LabelsGathered.{AreGathered, IsPlacedFile, each-told, file-placed, gathered-all, gathered-more, gathered-failed, lane-room, place-inside}
 use Rattle.codespan_reporting.proofs.term.views.gather.gather_in_turn.Given.{Over}
-use Rattle.codespan_reporting.proofs.term.views.gather.gather_in_turn.Goals.{After-index-labels-place, In_ok-file}
+use Rattle.codespan_reporting.proofs.term.views.gather.gather_in_turn.Goals.{After-index, After-index-labels-place, In_ok-file}
 use Rattle.codespan_reporting.proofs.term.views.gather.gather_in_turn.Goals as goal
 
 -- the files are lawful, and equal ids name one file
@@ -50,7 +52,7 @@ placed g c at =
     (subst (λ same. IsPlacedFile same c.index-labels-place.result.file_id c.loop-place.labelled.items c.place_file.new.files.items)
     (sym (equal_ids g c.lifetimes (search rules) c.args.files.now)) (record { ids = now.ids; starts = now.starts; lanes = now.lanes }))
 
--- and its place is the one that was found
+-- and its index is the one that was found
 found_there : (g : Over) (c : In_ok-file g)
     → c.in_ok-file.file ≡ file_place (g.F.Files.database c.args.files.now).same (ids_given c.place_file.new.files.items) c.index-labels-place.result.file_id
 found_there g c =
@@ -58,19 +60,41 @@ found_there g c =
     ∙ ap (λ same. file_place same (ids_given c.place_file.new.files.items) c.index-labels-place.result.file_id)
     (sym (equal_ids g c.lifetimes (search rules) c.args.files.now))
 
-pub returns-in_err-lines-clause-refused : goal.returns-in_err-lines-clause-refused
-returns-in_err-lines-clause-refused g c =
+pub returns-in_err-lines-clause-failed : goal.returns-in_err-lines-clause-failed
+returns-in_err-lines-clause-failed g c =
     let lawful = are_files g c.lifetimes (search rules) c.args.files.now in
-    let at = turn g (goal.at.returns-in_err-lines-clause-refused g c).After-index-labels-place in
+    let at = turn g (goal.at.returns-in_err-lines-clause-failed g c).After-index-labels-place in
     let p = err_from_is_err_and c.from_residual-in_err-lines.result c.from_residual-in_err-lines.ensures.1 in
-    rw (p.1 ∙ ap Err p.2) (λ told. gathered-refused lawful at c.loop-place.invariant _ (c.in_err-lines.ensures.refused told))
+    rw (p.1 ∙ ap Err p.2) (λ told. gathered-failed lawful at c.loop-place.invariant _ (c.in_err-lines.ensures.failed told))
+
+-- its place is one of the files'
+place_inside : (g : Over) (c : In_ok-file g) → StandsAt c.args.labels.now c.loop-place.place c.index-labels-place.result → c.in_ok-file.file < length c.place_file.new.files.items
+place_inside g c at =
+    let lawful = are_files g c.lifetimes (search rules) c.args.files.now in
+    place-inside lawful at (placed g c at) (found_there g c)
+
+pub index-requires : goal.index-requires
+index-requires g c =
+    let here = (goal.at.index-requires g c).In_ok-file in
+    let at = turn g (goal.at.index-requires g c).After-index-labels-place in
+    omega (arith, place_inside g here at, c.place_file.new.files.ok.0)
+
+-- the lane that the label is given is the number of those of its file
+lane_there : (g : Over) (c : After-index g) → c.in_ok-file.file < length c.place_file.new.files.items → c.index.result.now.lane_count ≡ get_or (lanes_given c.place_file.new.files.items) c.in_ok-file.file 0
+lane_there g c inside =
+    let lanes : GivenFile g.row.F-FileId.Denot → ℕ = λ f. f.lane_count in
+    ap lanes c.index.ensures ∙ sym (get_or-map lanes c.place_file.new.files.items c.in_ok-file.file c.index.result.now 0 inside)
 
 pub tell_file-requires : goal.tell_file-requires
 tell_file-requires g c =
     let lawful = are_files g c.lifetimes (search rules) c.args.files.now in
+    let here = (goal.at.tell_file-requires g c).In_ok-file in
     let at = turn g (goal.at.tell_file-requires g c).After-index-labels-place in
-    let there = placed g (goal.at.tell_file-requires g c).In_ok-file at in
-    record { place = place-inside lawful at there (found_there g (goal.at.tell_file-requires g c).In_ok-file) }
+    let there = placed g here at in
+    record {
+      place = place_inside g here at;
+      room = lane-room lawful at there (found_there g here) (omega (arith, c.loop-place.auto.place-end));
+    }
 
 pub loop-place-preserved : goal.loop-place-preserved
 loop-place-preserved g c =
@@ -79,12 +103,18 @@ loop-place-preserved g c =
     let there = placed g (goal.at.loop-place-preserved g c).In_ok-file at in
     let label = c.index-labels-place.result in
     let found = c.in_ok-lines.ensures in
-    let told = c.in_ok-tell_file.ensures in
+    let told = c.tell_file.ensures in
     let own = lanes_by-are (((g.F.Files.database c.args.files.now).file) label.file_id) (label_of label).label c.in_ok-lines.lines found.first found.last in
-    gathered-more lawful at there (found_there g (goal.at.loop-place-preserved g c).In_ok-file) (record { added = found.added; counted = found.padding; answered = found.refused }) (record {
+    let lane = lane_there g (goal.at.loop-place-preserved g c).After-index (place_inside g (goal.at.loop-place-preserved g c).In_ok-file at) in
+    let table = g.F.Files.database c.args.files.now in
+    gathered-more lawful at there (found_there g (goal.at.loop-place-preserved g c).In_ok-file) (record {
+      added = subst (λ n. FindsLines (asked_label table c.args.config.now (record { file = c.in_ok-file.file; place = c.loop-place.place; lane = n }) label) c.loop-place.found c.gather_label.new.found) lane found.added;
+      counted = found.padding;
+      answered = found.failed;
+    }) (record {
       ids = told.ids;
       starts = told.starts;
-      lanes = told.lanes ∙ ap (lanes_told (all_lanes_given c.place_file.new.files.items) c.in_ok-file.file) own;
+      lanes = told.lanes ∙ ap (lanes_told (lanes_given c.place_file.new.files.items) c.in_ok-file.file) own;
     })
 
 pub returns-clause-gathered : goal.returns-clause-gathered

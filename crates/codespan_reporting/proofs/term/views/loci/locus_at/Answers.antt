@@ -2,25 +2,25 @@ use Rattle.std.proofs.Common.{◌≡◌, Option, None, Err, sym, ap, ◌∙◌}
 use Rattle.std.specs.Prelude.{IfSome, string_bytes}
 use Rattle.std.proofs.lemmas.Result.{err_from_is_err_and}
 use Rattle.codespan_base.specs.declared.files.Error.{Error}
-use Rattle.codespan_base.specs.FileModel.{or_refusal}
+use Rattle.codespan_base.specs.FileModel.{or_failure}
 use Rattle.codespan_base.specs.FileModel.Lookup.{LocationAt, Name}
 use Rattle.codespan_reporting.proofs.LocusStarts.{located_place}
 use Rattle.codespan_reporting.proofs.term.views.loci.locus_at.Given.{Over}
 use Rattle.codespan_reporting.proofs.term.views.loci.locus_at.Goals.{In_ok-named}
 use Rattle.codespan_reporting.proofs.term.views.loci.locus_at.Goals as goal
 
--- the name is told, and the location tells the rest
-location-tells : (g : Over) (c : In_ok-named g) {o : Option Error}
-    → let refusal = ((g.F.Files.database c.args.files.now).refusal) c.args.id in
-    refusal (LocationAt c.args.byte_index) ≡ o → or_refusal (refusal Name) (or_refusal (refusal (LocationAt c.args.byte_index)) None) ≡ or_refusal o None
-location-tells g c is =
-    let refusal = ((g.F.Files.database c.args.files.now).refusal) c.args.id in
-    ap (λ o. or_refusal o (or_refusal (refusal (LocationAt c.args.byte_index)) None)) c.in_ok-named.ensures.refused ∙ ap (λ o. or_refusal o None) is
+-- the name has been looked up, and the location decides the rest
+location-are_known : (g : Over) (c : In_ok-named g) {o : Option Error}
+    → let failure = ((g.F.Files.database c.args.files.now).failure) c.args.id in
+    failure (LocationAt c.args.byte_index) ≡ o → or_failure (failure Name) (or_failure (failure (LocationAt c.args.byte_index)) None) ≡ or_failure o None
+location-are_known g c is =
+    let failure = ((g.F.Files.database c.args.files.now).failure) c.args.id in
+    ap (λ o. or_failure o (or_failure (failure (LocationAt c.args.byte_index)) None)) c.in_ok-named.ensures.failed ∙ ap (λ o. or_failure o None) is
 
-pub returns-in_err-location-clause-refused : goal.returns-in_err-location-clause-refused
-returns-in_err-location-clause-refused g c =
+pub returns-in_err-location-clause-failed : goal.returns-in_err-location-clause-failed
+returns-in_err-location-clause-failed g c =
     let p = err_from_is_err_and c.from_residual-in_err-location.result c.from_residual-in_err-location.ensures.1 in
-    rw (p.1 ∙ ap Err p.2) (λ told _. location-tells g (goal.at.returns-in_err-location-clause-refused g c).In_ok-named (c.in_err-location.ensures.refused told))
+    rw (p.1 ∙ ap Err p.2) (λ told _. location-are_known g (goal.at.returns-in_err-location-clause-failed g c).In_ok-named (c.in_err-location.ensures.failed told))
 
 pub returns-clause-locus : goal.returns-clause-locus
 returns-clause-locus g c =
@@ -28,5 +28,5 @@ returns-clause-locus g c =
     let text : IfSome (file c.args.id).name (λ bytes. string_bytes c.in_ok-name.name ≡ bytes) = rw (sym c.in_ok-named.ensures.value) c.in_ok-name.ensures.text in
     located_place (file c.args.id) c.args.byte_index (record { name = c.in_ok-name.name; location = c.in_ok-location.location }) text c.in_ok-location.ensures.value
 
-pub returns-clause-refused : goal.returns-clause-refused
-returns-clause-refused g c = location-tells g (goal.at.returns-clause-refused g c).In_ok-named c.in_ok-location.ensures.refused
+pub returns-clause-failed : goal.returns-clause-failed
+returns-clause-failed g c = location-are_known g (goal.at.returns-clause-failed g c).In_ok-named c.in_ok-location.ensures.failed

@@ -9,5 +9,5 @@ abbrev pub invariant-loop-place : goal.invariant-loop-place
 invariant-loop-place g l = record {
   inside : l.start ≤ length l.gathered.entries.items;
   left : drop l.start (map entry_of l.gathered.entries.items) ≡ from_file l.place (map entry_of l.gathered.entries.items);
-  planned : ArePlanned l.layout (((g.F.Files.database l.files).file)) (map entry_of l.gathered.entries.items) (((g.F.Files.database l.files).refusal)) (take l.place l.gathered.files.items) l.plans.items l.steps.items l.placed;
+  planned : ArePlanned l.layout (((g.F.Files.database l.files).file)) (map entry_of l.gathered.entries.items) (((g.F.Files.database l.files).failure)) (take l.place l.gathered.files.items) l.plans.items l.steps.items l.placed;
 }

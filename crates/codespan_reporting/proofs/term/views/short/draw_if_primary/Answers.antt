@@ -2,7 +2,7 @@ use Rattle.std.proofs.Common.{Err, sym, ap, ◌∙◌}
 use Rattle.std.proofs.lemmas.Result.{err_from_is_err_and}
 use Rattle.codespan_picture.specs.Given.{locus_view}
 use Rattle.codespan_picture.specs.Picture.{label_of}
-use Rattle.codespan_reporting.proofs.HeaderRuns.{came_one, refused_one, secondary_one, stopped_one}
+use Rattle.codespan_reporting.proofs.HeaderRuns.{came_one, failed_one, secondary_one, stopped_one}
 use Rattle.codespan_reporting.proofs.term.views.short.draw_if_primary.Goals as goal
 
 pub returns-then-not-is_primary-clause-draws : goal.returns-then-not-is_primary-clause-draws
@@ -12,7 +12,7 @@ pub returns-in_err-locus-clause-draws : goal.returns-in_err-locus-clause-draws
 returns-in_err-locus-clause-draws g c =
     let p = err_from_is_err_and c.from_residual.result c.from_residual.ensures.1 in
     rw (p.1 ∙ ap Err p.2)
-    (refused_one (label_of c.args.label.now) (sym c.is_primary.ensures ∙ c.if-not-is_primary.false) c.in_err-locus.ensures.refused)
+    (failed_one (label_of c.args.label.now) (sym c.is_primary.ensures ∙ c.if-not-is_primary.false) c.in_err-locus.ensures.failed)
 
 pub returns-in_err-draw_header-clause-draws : goal.returns-in_err-draw_header-clause-draws
 returns-in_err-draw_header-clause-draws g c =
@@ -24,4 +24,4 @@ returns-in_err-draw_header-clause-draws g c =
 pub returns-clause-draws : goal.returns-clause-draws
 returns-clause-draws g c =
     came_one (label_of c.args.label.now) (locus_view c.in_ok-locus.locus) (sym c.is_primary.ensures ∙ c.if-not-is_primary.false) c.in_ok-locus.ensures.locus
-    c.in_ok-locus.ensures.refused c.in_ok-draw_header.ensures.sends
+    c.in_ok-locus.ensures.failed c.in_ok-draw_header.ensures.sends

@@ -6,10 +6,10 @@ use Rattle.codespan_reporting.specs.Inner.Headers.{HeadersCame}
 use Rattle.codespan_picture.specs.Snippets.{primary_of}
 use Rattle.codespan_reporting.proofs.term.views.short.draw_located.Given as goal
 
--- the headers of the labels before this one came
+-- the headers of the labels before this one have been written
 abbrev pub invariant-loop-label : goal.invariant-loop-label
 invariant-loop-label g l = record {
   same : SameRenderer l.initial.renderer l.renderer;
-  came : HeadersCame (config_of l.initial.renderer) (((g.F.Files.database l.files).file)) (((g.F.Files.database l.files).refusal)) l.diagnostic (g.W.WriteStyle.sink (writer_of l.initial.renderer)) (primary_of (map label_of (take l.label-index l.diagnostic.labels.items))) (g.W.WriteStyle.sink (writer_of l.renderer));
+  came : HeadersCame (config_of l.initial.renderer) (((g.F.Files.database l.files).file)) (((g.F.Files.database l.files).failure)) l.diagnostic (g.W.WriteStyle.sink (writer_of l.initial.renderer)) (primary_of (map label_of (take l.label-index l.diagnostic.labels.items))) (g.W.WriteStyle.sink (writer_of l.renderer));
   some : l.is_located ≡ has_any (primary_of (map label_of (take l.label-index l.diagnostic.labels.items)));
 }

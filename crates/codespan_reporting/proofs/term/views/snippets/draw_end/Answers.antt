@@ -1,7 +1,7 @@
-use Rattle.std.proofs.Common.{Bool, [], ◌∷◌, refl, sym, ap, ◌∙◌, length}
+use Rattle.std.proofs.Common.{Bool, [], ◌∷◌, refl, sym, ap, ◌∙◌}
 use Rattle.std.specs.Prelude.{if◌then◌else◌}
-use Rattle.codespan_base.specs.WriterLaw.{sent}
-use Rattle.codespan_base.proofs.Sends.{sent-nil}
+use Rattle.codespan_base.specs.WriterLaw.{with_written}
+use Rattle.codespan_base.proofs.Sends.{with_written-nil}
 use Rattle.codespan_picture.specs.Picture.{look_of}
 use Rattle.codespan_renderer.specs.Renderers.{writer_of, config_of}
 use Rattle.codespan_picture.specs.Rows.{EmptyRow}
@@ -13,4 +13,4 @@ returns-else-is_followed-clause-sends g c =
     let s = g.W.WriteStyle.sink (writer_of c.args.renderer.now) in
     let page = c.args.page.now in
     let look = look_of (config_of c.args.renderer.now) page.severity page.padding in
-    (refl, λ told. sym (ap (λ (b : Bool). sent s (stream_of_rows look (if b then EmptyRow (record { count = length c.args.snippet.now.file.now.lanes.items; marks = [] }) ∷ [] else []))) c.if-is_followed.false ∙ sent-nil s))
+    (refl, λ told. sym (ap (λ (b : Bool). with_written s (stream_of_rows look (if b then EmptyRow (record { count = c.args.snippet.now.file.now.lane_count; marks = [] }) ∷ [] else []))) c.if-is_followed.false ∙ with_written-nil s))

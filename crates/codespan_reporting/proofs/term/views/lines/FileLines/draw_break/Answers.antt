@@ -1,6 +1,7 @@
 use Rattle.std.proofs.Common.{map, ap, ◌∙◌}
 use Rattle.std.proofs.lemmas.Result.{err_from_is_err_and}
 use Rattle.codespan_picture.specs.Given.{mark_view}
+use Rattle.codespan_reporting.specs.Inner.GivenEntries.{entry_of}
 use Rattle.codespan_reporting.proofs.Askings.{asking_no_memory, out_of_memory}
 use Rattle.codespan_reporting.proofs.LaneMarks.{lanes_fit}
 use Rattle.codespan_reporting.proofs.term.views.lines.FileLines.draw_break.Goals as goal
@@ -8,7 +9,7 @@ use Rattle.codespan_reporting.proofs.term.views.lines.FileLines.draw_break.Goals
 pub returns-in_err-fill_multis-clause-draws : goal.returns-in_err-fill_multis-clause-draws
 returns-in_err-fill_multis-clause-draws g c =
     let p = err_from_is_err_and c.from_residual.result c.from_residual.ensures.1 in
-    rw p.1 (asking_no_memory (out_of_memory p.2 c.in_err-fill_multis.ensures.refused))
+    rw p.1 (asking_no_memory (out_of_memory p.2 c.in_err-fill_multis.ensures.failed))
 
 pub render_snippet_break-requires : goal.render_snippet_break-requires
-render_snippet_break-requires g c = lanes_fit c.args.self.now.lanes.now c.args.next.index c.args.next.start _ (ap (map mark_view) c.as_slice.ensures.value ∙ c.in_ok-fill_multis.ensures.multis)
+render_snippet_break-requires g c = lanes_fit c.args.self.now.lane_count (map entry_of c.args.next.now) _ (ap (map mark_view) c.as_slice.ensures.value ∙ c.in_ok-fill_multis.ensures.multis) c.requires.fits

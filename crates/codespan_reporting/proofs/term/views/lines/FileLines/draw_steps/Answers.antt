@@ -26,14 +26,14 @@ draw_step-requires g c κs =
     let steps = c.args.steps.now in
     let f = ((g.F.Files.database lines.page.now.files.now).file) lines.id in
     let i = c.loop-step.step-index in (
-      (refl, (refl, (refl, tt))),
+      (refl, (refl, tt)),
       (
         c.requires.text,
         (
           subst (IsStepOf f) (sym c.step-item.is) (All-from_recursion (IsStepOf f) steps c.requires.steps i _ c.loop-step-test.true),
-          ap (λ step. does_step_fit (step_of step)) c.step-item.is
-              ∙ All-from_recursion (λ step. does_step_fit (step_of step) ≡ true) steps
-              (all-mapped step_of (λ step. does_step_fit step ≡ true) steps c.requires.fits) i _ c.loop-step-test.true,
+          ap (λ step. does_step_fit lines.lane_count (step_of step)) c.step-item.is
+              ∙ All-from_recursion (λ step. does_step_fit lines.lane_count (step_of step) ≡ true) steps
+              (all-mapped step_of (λ step. does_step_fit lines.lane_count step ≡ true) steps c.requires.fits) i _ c.loop-step-test.true,
         ),
       ),
     )

@@ -41,31 +41,31 @@ returns-clause-same g c =
 pub returns-in_err-gathered-clause-draws : goal.returns-in_err-gathered-clause-draws
 returns-in_err-gathered-clause-draws g c =
     let p = err_from_is_err_and c.from_residual.result c.from_residual.ensures.1 in
-    rw (p.1 ∙ ap Err p.2) (stopped-gathering c.as_slice-labels.ensures.value c.requires c.in_err-gathered.ensures.refused)
+    rw (p.1 ∙ ap Err p.2) (stopped-gathering c.as_slice-labels.ensures.value c.requires c.in_err-gathered.ensures.failed)
 
 pub returns-in_err-sheet-clause-draws : goal.returns-in_err-sheet-clause-draws
 returns-in_err-sheet-clause-draws g c =
     let p = err_from_is_err_and c.from_residual-in_err-sheet.result c.from_residual-in_err-sheet.ensures.1 in
     rw (p.1 ∙ ap Err p.2)
-    (stopped-preparing c.as_slice-labels.ensures.value c.in_ok-gathered.ensures.labels c.in_ok-gathered.ensures.refused c.requires c.in_err-sheet.ensures.refused)
+    (stopped-preparing c.as_slice-labels.ensures.value c.in_ok-gathered.ensures.labels c.in_ok-gathered.ensures.failed c.requires c.in_err-sheet.ensures.failed)
 
 pub returns-in_err-draw_header-clause-draws : goal.returns-in_err-draw_header-clause-draws
 returns-in_err-draw_header-clause-draws g c =
     let p = err_from_is_err_and c.from_residual-in_err-draw_header.result c.from_residual-in_err-draw_header.ensures.1 in
     rw (p.1 ∙ ap Err p.2)
-    (stopped-in_header (ready c.as_slice-labels.ensures.value c.in_ok-gathered.ensures.labels c.in_ok-gathered.ensures.refused c.in_ok-sheet.ensures.prepared c.in_ok-sheet.ensures.refused)
+    (stopped-in_header (ready c.as_slice-labels.ensures.value c.in_ok-gathered.ensures.labels c.in_ok-gathered.ensures.failed c.in_ok-sheet.ensures.prepared c.in_ok-sheet.ensures.failed)
     c.in_err-draw_header.ensures.sends c.in_err-draw_header.ensures.io)
 
 pub returns-in_err-draw_snippets-clause-draws : goal.returns-in_err-draw_snippets-clause-draws
 returns-in_err-draw_snippets-clause-draws g c =
     let p = err_from_is_err_and c.from_residual-in_err-draw_snippets.result c.from_residual-in_err-draw_snippets.ensures.1 in
     rw (p.1 ∙ ap Err p.2)
-    (stopped-in_snippets (ready c.as_slice-labels.ensures.value c.in_ok-gathered.ensures.labels c.in_ok-gathered.ensures.refused c.in_ok-sheet.ensures.prepared c.in_ok-sheet.ensures.refused)
+    (stopped-in_snippets (ready c.as_slice-labels.ensures.value c.in_ok-gathered.ensures.labels c.in_ok-gathered.ensures.failed c.in_ok-sheet.ensures.prepared c.in_ok-sheet.ensures.failed)
     c.requires c.in_ok-draw_header.ensures.sends c.in_ok-draw_header.ensures.same.config c.in_err-draw_snippets.ensures.draws)
 
 pub returns-clause-draws : goal.returns-clause-draws
 returns-clause-draws g c =
     let first = c.in_ok-draw_header.ensures.same.config in
     let second = c.in_ok-draw_snippets.ensures.same.config in
-    drawn-whole (ready c.as_slice-labels.ensures.value c.in_ok-gathered.ensures.labels c.in_ok-gathered.ensures.refused c.in_ok-sheet.ensures.prepared c.in_ok-sheet.ensures.refused)
+    drawn-whole (ready c.as_slice-labels.ensures.value c.in_ok-gathered.ensures.labels c.in_ok-gathered.ensures.failed c.in_ok-sheet.ensures.prepared c.in_ok-sheet.ensures.failed)
     c.draw_closing.result c.in_ok-draw_header.ensures.sends first c.in_ok-draw_snippets.ensures.draws (second ∙ first) c.draw_closing.ensures.sends c.draw_closing.ensures.io

@@ -11,7 +11,7 @@ pub draw_snippet-requires : goal.draw_snippet-requires
 draw_snippet-requires g c κs =
     let at = stands-alike c.deref-file-items.ensures.value c.loop-place-test.true c.file-item.is in
     let own = own-steps at c.loop-place.invariant.files c.deref.ensures.value in
-    ((refl, tt), (own.each, own.fits))
+    ((refl, tt), (own.each, rw own.lanes_are own.fits))
 
 pub returns-in_err-draw_snippet-clause-draws : goal.returns-in_err-draw_snippet-clause-draws
 returns-in_err-draw_snippet-clause-draws g c =

@@ -4,7 +4,7 @@ use Rattle.codespan_reporting.specs.Views.{diagnostic_of, view_config_of}
 use Rattle.codespan_reporting.proofs.SheetDrawing.{AreFilesFrom, SnippetsLeft}
 use Rattle.codespan_reporting.proofs.term.views.rich.RichDiagnostic.draw_snippets.Given as goal
 
--- the files before this one are drawn, and these steps are those of it and of later ones
+-- the files before this one have been rendered, and these steps are those of it and of later ones
 abbrev pub invariant-loop-place : goal.invariant-loop-place
 invariant-loop-place g l = record {
   same : SameRenderer l.initial.renderer l.renderer;

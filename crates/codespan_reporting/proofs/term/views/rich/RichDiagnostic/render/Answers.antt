@@ -9,7 +9,7 @@ use Rattle.codespan_base.specs.FileModel.{FileDatabase}
 use Rattle.codespan_base.specs.LawfulFiles.{IsLawful}
 use Rattle.codespan_base.specs.WriterLaw.{Sink}
 use Rattle.codespan_laws.proofs.MeaningLemmas.{output_means_labels}
-use Rattle.codespan_reporting.specs.Output.{WritesOutput, WritesStyled}
+use Rattle.codespan_reporting.specs.WriteCalls.{WritesOutput, WritesStyled}
 use Rattle.codespan_reporting.proofs.RichParts.{bare-whole}
 use Rattle.codespan_reporting.proofs.term.views.rich.RichDiagnostic.render.Goals as goal
 

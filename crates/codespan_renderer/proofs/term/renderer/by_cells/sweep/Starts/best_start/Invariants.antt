@@ -9,7 +9,7 @@ use Rattle.codespan_renderer.specs.Inner.Runs.{best_from}
 use Rattle.codespan_renderer.specs.Inner.Sweeps.{starts_from}
 use Rattle.codespan_renderer.proofs.term.renderer.by_cells.sweep.Starts.best_start.Given as goal
 
--- the labels that are left better what was found; those behind start in no later character
+-- the remaining labels improve on what was found; those behind start in no later character
 abbrev pub invariant-loop-self : goal.invariant-loop-self
 invariant-loop-self l = record {
   here : best_from (starts_in l.cell) l.best (filter has_message (starts_left l.self)) ≡ best_from (starts_in l.cell) l.fn.found (filter has_message (single_label_views l.fn.self.labels.now));

@@ -1,9 +1,0 @@
-use Rattle.codespan_base.specs.Streams.{blanks}
-use Rattle.codespan_base.proofs.Loops.{StillToCome}
-use Rattle.codespan_base.proofs.term.config.sending.send_blanks.Given as goal
-
-abbrev pub invariant-loop-left : goal.invariant-loop-left
-invariant-loop-left g l = StillToCome (g.W.WriteStyle.sink l.fn.w) (blanks l.count) (blanks l.left) (g.W.WriteStyle.sink l.w)
-
-abbrev pub decreases-loop-left : goal.decreases-loop-left
-decreases-loop-left g l = l.left

@@ -1,0 +1,224 @@
+//! Writing whole texts, characters, spaces and numbers, to a [`WriteStyle`] or to the inner writer of one.
+//!
+//! These functions are this project's own. They do not allocate.
+
+ghost use Rattle.std.specs.Prelude.{◌≡◌, ◌≤◌, ◌*◌, [], length, take, drop, decimal};
+ghost use Rattle.std.specs.List.{repeat};
+ghost use Rattle.std.specs.Io.{WritesAtMost};
+ghost use Rattle.codespan_base.specs.ColorLaw.{AppendsBytes};
+ghost use Rattle.codespan_base.specs.Streams.{bytes, glyph, blanks, repeated};
+ghost use Rattle.codespan_base.specs.WriterLaw.{Frame, Puts, Sends, with_flag};
+ghost use Rattle.codespan_base.specs.Writers.{WritesNothing};
+
+use crate::term::config::plain_ref::PlainWriterRef;
+use crate::term::config::write_style::WriteStyle;
+use std::io;
+use std::io::{ErrorKind, Write};
+
+/// The number of bytes that are written at once of many spaces, or of many copies of a character.
+const CHUNK_LEN: usize = 64;
+
+/// The spaces that are written at once.
+static BLANKS: [u8; CHUNK_LEN] = [b' '; CHUNK_LEN];
+
+/// The greatest number of copies of a character that are written one by one.
+const INLINE_COPIES: usize = 2;
+
+/// The number of digits of `usize::MAX`.
+const DIGITS: usize = 20;
+
+/// Writes all the bytes.
+///
+/// # Errors
+///
+/// That of a `put` that fails, and [`ErrorKind::WriteZero`] where a `put` takes none of some bytes. A prefix has then been written.
+pub fn put_all<W: WriteStyle>(w: &mut W, text: &[u8]) -> io::Result<()>
+    ensures { Sends (W.sink w.old) (bytes text.now) result (W.sink w.new) }
+{
+    let mut rest = text;
+    while !rest.is_empty() {
+        let n = w.put(rest)?;
+        if n == 0 {
+            return Err(io::Error::from(ErrorKind::WriteZero));
+        }
+        rest = &rest[n..];
+    }
+    Ok(())
+}
+
+/// Writes one character in UTF-8.
+///
+/// # Errors
+///
+/// Those of [`put_all`].
+#[inline(always)]
+pub fn put_char<W: WriteStyle>(w: &mut W, c: char) -> io::Result<()>
+    ensures { Sends (W.sink w.old) (glyph c) result (W.sink w.new) }
+{
+    let mut buffer = [0u8; 4];
+    let text = c.encode_utf8(&mut buffer);
+    put_all(w, text.as_bytes())
+}
+
+/// Writes `count` spaces.
+///
+/// # Errors
+///
+/// Those of [`put_all`].
+pub fn put_spaces<W: WriteStyle>(w: &mut W, count: usize) -> io::Result<()>
+    ensures { Sends (W.sink w.old) (blanks count) result (W.sink w.new) }
+{
+    let mut left = count;
+    while left > CHUNK_LEN {
+        put_all(w, &BLANKS)?;
+        left -= CHUNK_LEN;
+    }
+    put_all(w, &BLANKS[..left])
+}
+
+/// Writes `count` copies of a character in UTF-8.
+///
+/// # Errors
+///
+/// Those of [`put_all`].
+#[inline(always)]
+pub fn put_repeated<W: WriteStyle>(w: &mut W, c: char, count: usize) -> io::Result<()>
+    ensures { Sends (W.sink w.old) (repeated count c) result (W.sink w.new) }
+{
+    if count <= INLINE_COPIES {
+        let mut buffer = [0u8; 4];
+        put_copies(w, c.encode_utf8(&mut buffer).as_bytes(), count)?;
+    } else {
+        put_runs(w, c, count)?;
+    }
+    Ok(())
+}
+
+/// Writes `count` copies of a character, as many at once as fit into a chunk.
+fn put_runs<W: WriteStyle>(w: &mut W, c: char, count: usize) -> io::Result<()>
+    ensures { Sends (W.sink w.old) (repeated count c) result (W.sink w.new) }
+{
+    let mut buffer = [0u8; 4];
+    let glyph = c.encode_utf8(&mut buffer).as_bytes();
+    let copies = count.min(CHUNK_LEN / glyph.len());
+    let mut run = [0u8; CHUNK_LEN];
+    fill(&mut run, glyph, copies);
+    let mut left = count;
+    while left > copies {
+        put_all(w, &run[..copies * glyph.len()])?;
+        left -= copies;
+    }
+    put_all(w, &run[..left * glyph.len()])
+}
+
+/// Writes `count` copies of the bytes, one after another.
+#[inline(always)]
+fn put_copies<W: WriteStyle>(w: &mut W, text: &[u8], count: usize) -> io::Result<()>
+    ensures { Sends (W.sink w.old) (repeat count (bytes text.now)) result (W.sink w.new) }
+{
+    for _ in 0..count {
+        put_all(w, text)?;
+    }
+    Ok(())
+}
+
+/// Fills the front of `run` with copies of the bytes. Requires that they fit.
+fn fill(run: &mut [u8], bytes: &[u8], copies: usize)
+    requires { copies * length bytes.now ≤ length run.old }
+    ensures { take (copies * length bytes.now) run.new ≡ repeat copies bytes.now }
+{
+    let mut end = 0;
+    for _i in 0..copies {
+        run[end..end + bytes.len()].copy_from_slice(bytes);
+        end += bytes.len();
+    }
+}
+
+/// Writes a number in decimal.
+///
+/// # Errors
+///
+/// Those of [`put_all`].
+pub fn put_number<W: WriteStyle>(w: &mut W, number: usize) -> io::Result<()>
+    ensures { Sends (W.sink w.old) (bytes (decimal number)) result (W.sink w.new) }
+{
+    let mut digits = [0u8; DIGITS];
+    let start = write_digits(&mut digits, number);
+    put_all(w, &digits[start..])
+}
+
+/// Writes the digits of a number to the end of the array, and returns the index of the first.
+fn write_digits(digits: &mut [u8; DIGITS], number: usize) -> usize
+    ensures start { result ≤ DIGITS }
+    ensures value { drop result digits.new ≡ decimal number }
+{
+    let mut start = DIGITS;
+    let mut rest = number;
+    while rest >= 10 {
+        start -= 1;
+        digits[start] = b'0' + (rest % 10) as u8;
+        rest /= 10;
+    }
+    start -= 1;
+    digits[start] = b'0' + rest as u8;
+    start
+}
+
+/// Writes all the bytes to an [`io::Write`](Write). Without bytes it makes no call.
+///
+/// # Errors
+///
+/// That of a write that fails, and [`ErrorKind::WriteZero`] where a write takes none of some bytes. A prefix has then been written.
+pub fn write_all<W: Write>(w: &mut W, bytes: &[u8]) -> io::Result<()>
+    ensures paints { AppendsBytes (W.contents w.old) bytes.now result (W.contents w.new) }
+    ensures nothing { bytes.now ≡ [] → WritesNothing w.old result w.new }
+{
+    if bytes.is_empty() {
+        return Ok(());
+    }
+    put_all(&mut PlainWriterRef::new(w), bytes)
+}
+
+/// Writes once to the inner writer and returns how many bytes it took: the body of the `put` of a writer that keeps its flag in `failed`.
+///
+/// A failed write sets the flag, and so does a write of some bytes that takes none.
+///
+/// # Errors
+///
+/// That of the write.
+pub fn forward_put<W: Write>(writer: &mut W, failed: &mut bool, bytes: &[u8]) -> io::Result<usize>
+    ensures bound { WritesAtMost result bytes.now }
+    ensures took { (f : Frame) → Puts (with_flag f failed.old (W.contents writer.old)) bytes.now
+        result (with_flag f failed.new (W.contents writer.new)) }
+{
+    match writer.write(bytes) {
+        Ok(count) => {
+            if count == 0 && !bytes.is_empty() {
+                *failed = true;
+            }
+            Ok(count)
+        }
+        Err(error) => {
+            *failed = true;
+            Err(error)
+        }
+    }
+}
+
+/// Writes all the bytes to the inner writer: the body of a style mark of a writer that keeps its flag in `failed`.
+///
+/// # Errors
+///
+/// Those of [`write_all`]; each sets the flag.
+pub fn forward_all<W: Write>(writer: &mut W, failed: &mut bool, text: &[u8]) -> io::Result<()>
+    ensures { (f : Frame) → Sends (with_flag f failed.old (W.contents writer.old)) (bytes text.now)
+        result (with_flag f failed.new (W.contents writer.new)) }
+{
+    match write_all(writer, text) {
+        Ok(()) => Ok(()),
+        Err(error) => {
+            *failed = true;
+            Err(error)
+        }
+    }
+}

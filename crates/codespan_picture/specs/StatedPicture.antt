@@ -1,0 +1,33 @@
+-- The output with the names that the files state, and headers alone.
+use Rattle.std.specs.Prelude.{ℕ, List, map, Some}
+use Rattle.codespan_picture.specs.Types.{Config, DisplayStyle, Diagnostic}
+use Rattle.codespan_base.specs.FileModel.{FileDatabase, FileModel, name_text}
+use Rattle.codespan_base.specs.Streams.{Stream}
+use Rattle.codespan_picture.specs.Rows.{Heading, HeaderRow, Locus, Row}
+use Rattle.codespan_picture.specs.RowStreams.{stream_of_rows}
+use Rattle.codespan_picture.specs.Picture.{heading_of, labels_of, look_of, output, starts}
+
+-- the locus of a byte of a file with the name that the file states, and with an empty name where it
+-- states none
+abbrev pub stated_locus : FileModel × ℕ → Locus
+stated_locus at = record { name = name_text at.0; location = at.0.location at.1 }
+
+module _ {Id : Type 0} (files : FileDatabase Id) (d : Diagnostic Id) (style : DisplayStyle) where
+  -- the loci of an output with the names that the files state
+  abbrev pub stated_loci : List Locus
+  stated_loci = map stated_locus (starts files.same files.file (labels_of d) style)
+
+module _ {Id : Type 0} (style : DisplayStyle) (renderer view : Config)
+    (files : FileDatabase Id) (d : Diagnostic Id) where
+  -- the picture of a diagnostic: its output with the names that the files state
+  abbrev pub picture : Stream
+  picture = output style renderer view files d (stated_loci files d style)
+
+-- headers with these loci
+abbrev pub headers : Heading → List Locus → List Row
+headers heading loci = map (λ (locus : Locus). HeaderRow (Some locus) heading) loci
+
+-- they alone
+abbrev pub headers_at : {Id : Type 0} → Config → Diagnostic Id → List Locus → Stream
+headers_at renderer d loci =
+    stream_of_rows (look_of renderer d.severity 0) (headers (heading_of d) loci)

@@ -1,0 +1,86 @@
+use Rattle.std.proofs.Common.{rules, ◌≡◌, ◌+◌, ◌-◌, sym, subst, ◌∙◌, arith}
+use Rattle.std.specs.Char.{encode_utf8}
+use Rattle.std.proofs.lemmas.Result.{err_from_is_err_and}
+use Rattle.std.proofs.lemmas.Str.{IsUtf8-had, length-encode, len_utf8_bounds}
+use Rattle.codespan_base.specs.Streams.{Stream}
+use Rattle.codespan_base.proofs.Loops.{StillToCome, StillToCome-start, StillToCome-more, StillToCome-failed, StillToCome-last}
+use Rattle.codespan_renderer.specs.Inner.GivenLine.{look_view, line_view}
+use Rattle.codespan_picture.specs.RowParts.{coloured_text}
+use Rattle.codespan_renderer.proofs.TextRuns.{over-start, over-next, piece, piece-grows, text-start, text-turn, text-same, text-tab, text-end}
+use Rattle.codespan_renderer.proofs.term.renderer.source.write_colored_text.Goals as goal
+
+pub loop-cell-init : goal.loop-cell-init
+loop-cell-init g c = rw c.requires.left record {
+  coming = StillToCome-start _ _ _ (text-start _ _);
+  over = over-start _ _ (IsUtf8-had _ c.args.line.utf8);
+  same = c.requires.labels;
+  ordered = omega arith;
+  within = omega arith;
+}
+
+pub text_style-style-requires-clause-some : goal.text_style-style-requires-clause-some
+text_style-style-requires-clause-some g c =
+    let n = over-next c.args.look.tab_width c.args.line.text.now c.loop-cell.end c.in-Some.cell _ (g.C.CharCursor.left c.next_cell.new.self) c.in-Some.ensures.next c.loop-cell.invariant.over in
+    omega (arith, n.bytes, (len_utf8_bounds c.in-Some.cell.code).0)
+
+pub overflow_add-next : goal.overflow_add-next
+overflow_add-next g c =
+    let n = over-next c.args.look.tab_width c.args.line.text.now c.loop-cell.end c.in-Some.cell _ (g.C.CharCursor.left c.next_cell.new.self) c.in-Some.ensures.next c.loop-cell.invariant.over in
+    omega (arith, n.over.within)
+
+pub returns-in_err-write_tab : goal.returns-in_err-write_tab
+returns-in_err-write_tab g c = let p = err_from_is_err_and c.from_residual.result c.from_residual.ensures.1 in
+    rw p.1 (StillToCome-failed _ _ _ _ _ _ _ c.loop-cell.invariant.coming c.in_err-write_tab.ensures
+    (text-tab (look_view c.args.look) (line_view c.args.line) _ _ _ c.in-Some.cell _ (g.C.CharCursor.left c.next_cell.new.self) c.in-Some.ensures.next c.text_style-style.ensures.style c.if-cell-eq9.true))
+
+pub returns-in_err-end_text_run : goal.returns-in_err-end_text_run
+returns-in_err-end_text_run g c = let p = err_from_is_err_and c.from_residual-in_err-end_text_run.result c.from_residual-in_err-end_text_run.ensures.1 in
+    rw p.1 (StillToCome-failed _ _ _ _ _ _ _ c.loop-cell.invariant.coming c.in_err-end_text_run.ensures
+    (text-turn (look_view c.args.look) (line_view c.args.line) _ _ _ c.in-Some.cell _ (g.C.CharCursor.left c.next_cell.new.self) c.in-Some.ensures.next c.text_style-style.ensures.style c.if-cell-eq9.false))
+
+pub loop-cell-preserved-in_ok-write_tab : goal.loop-cell-preserved-in_ok-write_tab
+loop-cell-preserved-in_ok-write_tab g c =
+    let n = over-next c.args.look.tab_width c.args.line.text.now c.loop-cell.end c.in-Some.cell _ (g.C.CharCursor.left c.next_cell.new.self) c.in-Some.ensures.next c.loop-cell.invariant.over in
+    let none : c.loop-cell.end + c.in-Some.cell.bytes - (c.loop-cell.end + c.in-Some.cell.bytes) ≡ 0 = omega arith in
+    rw c.text_style-style.ensures.left record {
+      coming = rw none (StillToCome-more _ _ _ _ _ _ _ c.loop-cell.invariant.coming c.in_ok-write_tab.ensures
+          (text-tab (look_view c.args.look) (line_view c.args.line) _ _ _ c.in-Some.cell _ (g.C.CharCursor.left c.next_cell.new.self) c.in-Some.ensures.next c.text_style-style.ensures.style c.if-cell-eq9.true));
+      over = n.over;
+      same = c.text_style-style.ensures.labels ∙ c.in-Some.ensures.labels ∙ c.loop-cell.invariant.same;
+      ordered = omega arith;
+      within = n.over.within;
+    }
+
+pub loop-cell-preserved-in_ok-end_text_run : goal.loop-cell-preserved-in_ok-end_text_run
+loop-cell-preserved-in_ok-end_text_run g c =
+    let n = over-next c.args.look.tab_width c.args.line.text.now c.loop-cell.end c.in-Some.cell _ (g.C.CharCursor.left c.next_cell.new.self) c.in-Some.ensures.next c.loop-cell.invariant.over in
+    let grows = piece-grows c.as_bytes-text.result.now c.loop-cell.end c.loop-cell.end (encode_utf8 c.in-Some.cell.code) c.in-Some.cell.bytes (omega arith) (rw c.as_bytes-text.ensures.value n.text_left) (n.bytes ∙ sym (length-encode c.in-Some.cell.code)) in
+    let none : c.loop-cell.end - c.loop-cell.end ≡ 0 = omega arith in
+    rw c.text_style-style.ensures.left record {
+      coming = rw (grows, none) (StillToCome-more _ _ _ _ _ _ _ c.loop-cell.invariant.coming c.in_ok-end_text_run.ensures
+          (text-turn (look_view c.args.look) (line_view c.args.line) _ _ _ c.in-Some.cell _ (g.C.CharCursor.left c.next_cell.new.self) c.in-Some.ensures.next c.text_style-style.ensures.style c.if-cell-eq9.false));
+      over = n.over;
+      same = c.text_style-style.ensures.labels ∙ c.in-Some.ensures.labels ∙ c.loop-cell.invariant.same;
+      ordered = omega arith;
+      within = n.over.within;
+    }
+
+pub loop-cell-preserved : goal.loop-cell-preserved
+loop-cell-preserved g c =
+    let n = over-next c.args.look.tab_width c.args.line.text.now c.loop-cell.end c.in-Some.cell _ (g.C.CharCursor.left c.next_cell.new.self) c.in-Some.ensures.next c.loop-cell.invariant.over in
+    let same : c.loop-cell.was ≡ c.text_style-style.result = search rules in
+    let grows = piece-grows c.as_bytes-text.result.now c.loop-cell.start c.loop-cell.end (encode_utf8 c.in-Some.cell.code) c.in-Some.cell.bytes c.loop-cell.invariant.ordered (rw c.as_bytes-text.ensures.value n.text_left) (n.bytes ∙ sym (length-encode c.in-Some.cell.code)) in
+    let rest = text-same (look_view c.args.look) (line_view c.args.line) c.loop-cell.was c.text_style-style.result (piece c.as_bytes-text.result.now c.loop-cell.start c.loop-cell.end) c.in-Some.cell _ (g.C.CharCursor.left c.next_cell.new.self) c.in-Some.ensures.next c.text_style-style.ensures.style c.if-cell-eq9.false same in
+    rw c.text_style-style.ensures.left record {
+      coming = rw (same, grows) (rw rest at c.loop-cell.invariant.coming);
+      over = n.over;
+      same = c.text_style-style.ensures.labels ∙ c.in-Some.ensures.labels ∙ c.loop-cell.invariant.same;
+      ordered = omega (arith, c.loop-cell.invariant.ordered);
+      within = n.over.within;
+    }
+
+pub returns : goal.returns
+returns g c =
+    let none = text-end (look_view c.args.look) (line_view c.args.line) c.loop-cell.was (piece c.as_bytes-text.result.now c.loop-cell.start c.loop-cell.end) _ c.in_default.ensures.next.0 in
+    let coming = subst (λ (l : Stream). StillToCome (g.W.WriteStyle.sink c.args.w.now) (coloured_text (look_view c.args.look) (line_view c.args.line)) l (g.W.WriteStyle.sink c.loop-cell.w)) (sym none) c.loop-cell.invariant.coming in
+    StillToCome-last _ _ _ _ _ _ coming c.end_text_run-2.ensures

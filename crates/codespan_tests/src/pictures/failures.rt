@@ -1,0 +1,293 @@
+//! Pictures that fail.
+
+use crate::pictures::drawing::assert_view_writes;
+use crate::pictures::listing::{Failed, Listing};
+use codespan_reporting::diagnostic::{Diagnostic, Label};
+use codespan_reporting::files::{Error, Files, SimpleFile};
+use codespan_reporting::term::{
+    Config, Layout, PlainWriter, Renderer, RichDiagnostic, emit_into_string,
+};
+use std::alloc::Global;
+use std::fmt::Display;
+use std::io::{ErrorKind, Write};
+use std::process::Abort;
+use std::test::Fail;
+use std::{fmt, io};
+
+/// A lookup of the table.
+#[derive(Clone, Copy)]
+enum Asked {
+    Name,
+    Source,
+    Location(usize),
+    LineIndex(usize),
+    LineNumber(usize),
+    LineRange(usize),
+}
+
+impl Asked {
+    /// These errors, and that of this lookup. With the line of a byte those of later bytes fail too.
+    fn failed_beside(self, failed: Failed) -> Failed {
+        match self {
+            Asked::Name => Failed {
+                name: true,
+                ..failed
+            },
+            Asked::Source => Failed {
+                source: true,
+                ..failed
+            },
+            Asked::Location(_) => Failed {
+                location: true,
+                ..failed
+            },
+            Asked::LineIndex(byte) => Failed {
+                line_index: Some(byte),
+                ..failed
+            },
+            Asked::LineNumber(line) => Failed {
+                line_number: Some(line),
+                ..failed
+            },
+            Asked::LineRange(line) => Failed {
+                line_range: Some(line),
+                ..failed
+            },
+        }
+    }
+
+    /// Whether the error that was told is that of this lookup.
+    fn is_known(self, answer: &Result<(), Error>) -> bool {
+        let told = match self {
+            Asked::Name => (1, 0),
+            Asked::Source => (2, 0),
+            Asked::Location(byte) => (3, byte),
+            Asked::LineIndex(byte) => (4, byte),
+            Asked::LineNumber(line) => (5, line),
+            Asked::LineRange(line) => (6, line),
+        };
+        match answer {
+            Err(Error::ColumnTooLarge { given, max }) => (*given, *max) == told,
+            _ => false,
+        }
+    }
+}
+
+/// A failed lookup is told, and comes before anything is written; that of the source comes after the header.
+#[test]
+fn failed_lookups(rt: HostRuntime) -> Result<(), Fail> {
+    let alloc = rt.alloc();
+    let cases = [
+        (Asked::LineIndex(0), ""),
+        (Asked::LineIndex(1), ""),
+        (Asked::LineRange(0), ""),
+        (Asked::LineNumber(0), ""),
+        (Asked::Name, ""),
+        (Asked::Location(0), ""),
+        (Asked::Source, "error: \n"),
+    ];
+    let config = Config::default();
+    let diagnostic = Diagnostic::error(alloc).with_label(Label::primary(alloc, (), 0..1))?;
+    for (asked, held) in cases {
+        let failed = asked.failed_beside(Failed::default());
+        let files = Listing::new(alloc, "f", "ab", failed)?;
+        let view = RichDiagnostic::new(&diagnostic, &config);
+        let answer = assert_view_writes(&rt, alloc, &config, view, &files, held)?;
+        assert!(rt; asked.is_known(&answer));
+        let answer = emit_into_string(&config, &files, &diagnostic).map(|_| ());
+        assert!(rt; asked.is_known(&answer));
+    }
+    Ok(())
+}
+
+/// The lookups of a label over the lines 1 to 3, of one inside line 7, and of the line 5, which is filled in between those around
+/// them, in their order.
+fn lookups_in_order(alloc: Global, layout: Layout) -> Result<Vec<Asked>, Error> {
+    let mut order = Vec::new(alloc);
+    for (start, end, lines) in [(2, 7, 0..5), (14, 15, 6..9)] {
+        order.push(Asked::LineIndex(start))?;
+        order.push(Asked::LineIndex(end))?;
+        for line in lines {
+            order.push(Asked::LineRange(line))?;
+            order.push(Asked::LineNumber(line))?;
+        }
+    }
+    if matches!(layout, Layout::Unbroken) {
+        order.push(Asked::LineNumber(5))?;
+    }
+    order.push(Asked::Name)?;
+    order.push(Asked::Location(2))?;
+    order.push(Asked::Source)?;
+    order.push(Asked::LineRange(5))?;
+    if matches!(layout, Layout::Classic) {
+        order.push(Asked::LineNumber(5))?;
+    }
+    Ok(order)
+}
+
+/// What is written before this lookup of those two labels and of the line between them.
+fn written_before(asked: Asked, layout: Layout) -> &'static str {
+    let lines_before = "error: \n\
+                        \x20 ┌─ f:1:1\n\
+                        \x20 │  \n\
+                        0 │   a\n\
+                        1 │ ╭ b\n\
+                        2 │ │ c\n\
+                        3 │ │ d\n\
+                        \x20 │ ╰─^\n\
+                        4 │   e\n";
+    match asked {
+        Asked::Source => "error: \n",
+        Asked::LineRange(5) => lines_before,
+        Asked::LineNumber(5) if matches!(layout, Layout::Classic) => lines_before,
+        _ => "",
+    }
+}
+
+/// Of two lookups that fail the first is told. Each lookup of a picture fails in turn, and the next one with it.
+#[test]
+fn first_error(rt: HostRuntime) -> Result<(), Fail> {
+    let alloc = rt.alloc();
+    let diagnostic = Diagnostic::error(alloc)
+        .with_label(Label::primary(alloc, (), 2..7))?
+        .with_label(Label::primary(alloc, (), 14..15))?;
+    for layout in [Layout::Classic, Layout::Unbroken] {
+        let config = Config {
+            before_label_lines: 1,
+            after_label_lines: 1,
+            layout,
+            ..Config::default()
+        };
+        let order = lookups_in_order(alloc, layout)?;
+        for (place, first) in order.iter().enumerate() {
+            let next = order.get(place + 1).unwrap_or(first);
+            let failed = first.failed_beside(next.failed_beside(Failed::default()));
+            let files = Listing::new(alloc, "f", "a\nb\nc\nd\ne\nf\ng\nh\ni", failed)?;
+            let view = RichDiagnostic::new(&diagnostic, &config);
+            let held = written_before(*first, layout);
+            let answer = assert_view_writes(&rt, alloc, &config, view, &files, held)?;
+            assert!(rt; first.is_known(&answer), "{place}");
+        }
+    }
+    Ok(())
+}
+
+/// In the classic layout the number of a line that is filled in is asked for with the line, in the unbroken one before the header.
+#[test]
+fn failed_number_of_filled_line(rt: HostRuntime) -> Result<(), Fail> {
+    let alloc = rt.alloc();
+    let asked = Asked::LineNumber(1);
+    let failed = asked.failed_beside(Failed::default());
+    let files = Listing::new(alloc, "f", "a\nb\nc", failed)?;
+    let diagnostic = Diagnostic::error(alloc)
+        .with_label(Label::primary(alloc, (), 0..1))?
+        .with_label(Label::primary(alloc, (), 4..5))?;
+    let cases = [
+        (Layout::Classic, "error: \n  ┌─ f:0:1\n  │\n0 │ a\n  │ ^\n"),
+        (Layout::Unbroken, ""),
+    ];
+    for (layout, held) in cases {
+        let config = Config {
+            layout,
+            ..Config::default()
+        };
+        let view = RichDiagnostic::new(&diagnostic, &config);
+        let answer = assert_view_writes(&rt, alloc, &config, view, &files, held)?;
+        assert!(rt; asked.is_known(&answer));
+    }
+    Ok(())
+}
+
+/// A name whose `Display` fails.
+#[derive(Clone, Copy, Drop)]
+struct Unprintable;
+
+impl Display for Unprintable {
+    fn fmt<W: fmt::Write>(&self, f: &mut fmt::Formatter<W>) -> fmt::Result {
+        f.write_str("ab")?;
+        Err(fmt::Error)
+    }
+}
+
+/// A name that can not be printed is told, and nothing is written.
+#[test]
+fn unprintable_name(rt: HostRuntime) -> Result<(), Fail> {
+    let files = SimpleFile::new(rt.alloc(), Unprintable, "ab")?;
+    let diagnostic = Diagnostic::error(rt.alloc()).with_label(Label::primary(
+        rt.alloc(),
+        (),
+        0..1,
+    ))?;
+    let config = Config::default();
+    let view = RichDiagnostic::new(&diagnostic, &config);
+    let answer = assert_view_writes(&rt, rt.alloc(), &config, view, &files, "")?;
+    assert!(rt; matches!(answer, Err(Error::FormatError)));
+    let answer = emit_into_string(&config, &files, &diagnostic);
+    assert!(rt; matches!(answer, Err(Error::FormatError)));
+    Ok(())
+}
+
+/// A writer that takes three bytes at most at a time, and fails after so many writes.
+#[derive(Drop)]
+struct Stopping {
+    text: Vec<u8>,
+    writes_left: usize,
+}
+
+impl Write for Stopping {
+    fn write(&mut self, buf: &[u8]) -> io::Result<usize> {
+        if self.writes_left == 0 {
+            return Err(io::Error::from(ErrorKind::Interrupted));
+        }
+        self.writes_left -= 1;
+        let count = buf.len().min(3);
+        self.text.extend_from_slice(&buf[..count])?;
+        Ok(count)
+    }
+
+    fn flush(&mut self) -> io::Result<()> {
+        Ok(())
+    }
+}
+
+/// Draws to a writer that fails after so many writes, and answers whether the whole picture came. Where it did not, the
+/// answer is `Io`, and the writer holds a beginning.
+fn is_whole_after(
+    rt: &impl Abort,
+    alloc: Global,
+    config: &Config<'_>,
+    diagnostic: &Diagnostic<()>,
+    writes: usize,
+) -> Result<bool, Error> {
+    let files = SimpleFile::new(alloc, "f", "ab")?;
+    let mut plain = PlainWriter::new(Stopping {
+        text: Vec::new(alloc),
+        writes_left: writes,
+    });
+    let mut renderer = Renderer::new(&mut plain, config);
+    let answer = RichDiagnostic::new(diagnostic, config).render(&files, &mut renderer);
+    let text = plain.into_inner().text;
+    let whole = "error: m\n  ┌─ f:1:1\n  │\n1 │ ab\n  │ ^ x\n\n".as_bytes();
+    assert!(rt; whole.starts_with(text.as_slice()));
+    let is_whole = text.len() == whole.len();
+    match answer {
+        Ok(()) => assert!(rt; is_whole),
+        Err(error) => assert!(rt; !is_whole && matches!(error, Error::Io(_))),
+    }
+    Ok(is_whole)
+}
+
+#[test]
+fn writer_that_stops(rt: HostRuntime) -> Result<(), Fail> {
+    let alloc = rt.alloc();
+    let config = Config::default();
+    let diagnostic = Diagnostic::error(alloc)
+        .with_message("m")?
+        .with_label(Label::primary(alloc, (), 0..1).with_message("x")?)?;
+    for writes in 0..100 {
+        is_whole_after(&rt, alloc, &config, &diagnostic, writes)?;
+    }
+    assert!(rt; !is_whole_after(&rt, alloc, &config, &diagnostic, 20)?);
+    assert!(rt; is_whole_after(&rt, alloc, &config, &diagnostic, 100)?);
+    Ok(())
+}

@@ -1,0 +1,2 @@
+-- where tokens and problems are in a text
+pub mod Spans
