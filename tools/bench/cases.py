@@ -1,4 +1,4 @@
-"""The diagnostics that are drawn, by name and size, each with what it is, and the input of both programs for them."""
+"""The diagnostics that are rendered, by name and size, each with what it is, and the input of both programs for them."""
 
 
 def text(said):

@@ -27,7 +27,7 @@ termcolor = { version = "1.0", optional = true }
 
 
 def settings(out):
-    """What cargo is told of a copy of the crate, and of a folder of crates, where the environment names them."""
+    """The settings of cargo for a copy of the crate, and of a folder of crates, where the environment names them."""
     source, crates = os.environ.get('CODESPAN_REPORTING'), os.environ.get('CRATES')
     if source:
         copy = out / 'copy'
@@ -41,9 +41,9 @@ def settings(out):
 def built(folder):
     """Builds the program of a folder, and answers where it is."""
     out = folder / 'out'
-    told = [word for setting in settings(out) for word in ('--config', setting)]
+    options = [word for setting in settings(out) for word in ('--config', setting)]
     build = ['cargo', 'build', '--quiet', '--release', '--manifest-path', str(folder / 'Cargo.toml'), '--target-dir', str(out)]
-    if subprocess.run(build + told).returncode != 0:
+    if subprocess.run(build + options).returncode != 0:
         sys.exit('cargo did not build the program; tools/compare/README.md says how it is built without a network')
     return out / 'release' / folder.name
 

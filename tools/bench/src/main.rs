@@ -1,5 +1,5 @@
-//! The program `timing` of this repository, over the Rust crate: it reads the same input, which crates/timing/src/fields.rt describes, draws the
-//! diagnostic as often as that says, writes the last picture, and tells on standard error how many nanoseconds the drawing took.
+//! The program `timing` of this repository, over the Rust crate: it reads the same input, which crates/timing/src/fields.rt describes, renders the
+//! diagnostic as often as that says, writes the last output, and reports on standard error how many nanoseconds the rendering took.
 
 use codespan_reporting::diagnostic::{Diagnostic, Label, LabelStyle};
 use codespan_reporting::files::SimpleFiles;
