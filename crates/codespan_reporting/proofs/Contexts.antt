@@ -13,18 +13,19 @@ use Rattle.codespan_base.specs.LawfulFiles.{IsLawful, FailsPastEnd, IsPastEndErr
 use Rattle.codespan_base.specs.FileModel.Lookup.{LineRange, LineNumber}
 use Rattle.codespan_base.specs.Labels.{first_line, last_line}
 use Rattle.codespan_base.specs.Lemmas.Lines.{lines_have_indices, lines_within_text}
-use Rattle.codespan_reporting.specs.Inner.AskedLabels.{AskedLabel, AsksFor, FindsLine, FindsLines, HasAskedLine, MakesRoom, MakesRoomForLine, lines_failure, failure_on, line_failure}
-use Rattle.codespan_reporting.specs.Inner.Entries.{Entry, entries_of, line_entries}
-use Rattle.codespan_reporting.specs.declared.term.views.label_entries.FoundLines.{FoundLines}
+use Rattle.codespan_reporting.specs.Inner.CollectedLabels.{CollectedLabel, LooksUp, FindsLine, FindsLines, HasLookedUpLine, MakesRoom, MakesRoomForLine, lines_failure, failure_on}
+use Rattle.codespan_reporting.specs.Inner.SourceFiles.{line_failure}
+use Rattle.codespan_reporting.specs.Inner.Annotations.{Annotation, annotations_of, line_annotations}
+use Rattle.codespan_reporting.specs.declared.term.views.collect.label_annotations.FoundAnnotations.{FoundAnnotations}
 use Rattle.codespan_reporting.specs.Inner.FileLookups.{failure_in}
-use Rattle.codespan_reporting.specs.Inner.GivenEntries.{AddsOf, entries_on, lookups_on}
+use Rattle.codespan_reporting.specs.Inner.AnnotationViews.{AddsOf, annotations_on, lookups_on}
 use Rattle.codespan_reporting.specs.Inner.SpannedDigits.{digits_on, label_digits}
 use Rattle.codespan_picture.specs.Lookups.{asked_lines, asked_of, ends_context, first_error, is_around, is_asked, of_line, lookup_past_end}
 use Rattle.codespan_picture.specs.Padding.{digit_count, spans}
-use Rattle.codespan_reporting.specs.Inner.LabelLines.{spans_line}
+use Rattle.codespan_reporting.specs.Inner.LabelSpans.{spans_line}
 use Rattle.codespan_laws.proofs.CaretLemmas.{range_with_len-append}
 use Rattle.codespan_laws.proofs.Greatest.{greatest-append}
-use Rattle.codespan_reporting.proofs.Gathering.{Adds-as, Adds-both, Adds-none}
+use Rattle.codespan_reporting.proofs.Collecting.{Adds-as, Adds-both, Adds-none}
 use Rattle.codespan_reporting.proofs.Failures.{first_error-none, first_error-some}
 
 module _ {X : Type 0} (g : ℕ → List X) where
@@ -87,14 +88,14 @@ below_both s e b a l low high = grind (arith, common_steps)
 near_after : (s e b a l : ℕ) → s < l → e < l → is_near s e b a l ≡ true → l ≤ e + a
 near_after s e b a l low high near = grind (arith, common_steps)
 
-module _ {Id : Type 0} (x : AskedLabel Id) where
+module _ {Id : Type 0} (x : CollectedLabel Id) where
   -- what some lookups of the file fail with
   abbrev failed : List Lookup → Option Error
   failed = failure_in x.failure x.id
 
   -- what is said of the lines below this one
-  abbrev entries_below : ℕ → List Entry
-  entries_below n = flat_map (entries_on x.config x.file x.label x.at) (range_with_len 0 n)
+  abbrev entries_below : ℕ → List Annotation
+  entries_below n = flat_map (annotations_on x.config x.file x.label x.at) (range_with_len 0 n)
 
   -- what is asked of them
   abbrev lookups_below : ℕ → List Lookup
@@ -105,8 +106,8 @@ module _ {Id : Type 0} (x : AskedLabel Id) where
   digits_below n = flat_map (digits_on x.file x.label) (range_with_len 0 n)
 
   -- nothing is said of a line that is not asked for
-  no_entries : (l : ℕ) → is_asked x.config x.file x.label l ≡ false → entries_on x.config x.file x.label x.at l ≡ []
-  no_entries l skipped = ap (λ (b : Bool). if b then line_entries x.config x.file x.at x.label l else []) skipped
+  no_entries : (l : ℕ) → is_asked x.config x.file x.label l ≡ false → annotations_on x.config x.file x.label x.at l ≡ []
+  no_entries l skipped = ap (λ (b : Bool). if b then line_annotations x.config x.file x.at x.label l else []) skipped
 
   -- nor has it lookups
   no_lookups : (l : ℕ) → is_asked x.config x.file x.label l ≡ false → lookups_on x.config x.file x.label l ≡ []
@@ -139,25 +140,25 @@ module _ {Id : Type 0} (x : AskedLabel Id) where
 
   -- the lines below this one are done with: the file has them, what the label says of them is there, those that it spans have room, and
   -- no lookup failed
-  pub record GathersLines (old new : FoundLines Id) (n : ℕ) : Type 0 where
+  pub record GathersLines (old new : FoundAnnotations Id) (n : ℕ) : Type 0 where
     pub within : n ≤ line_count x.file
-    pub added : AddsOf x.file old.entries.items new.entries.items (entries_below n)
+    pub added : AddsOf x.file old.annotations.items new.annotations.items (entries_below n)
     pub counted : new.padding ≡ fold max old.padding (digits_below n)
     pub answered : failed (lookups_below n) ≡ None
 
   -- all lines are done with
-  pub record GathersLabel (old new : FoundLines Id) : Type 0 where
+  pub record GathersLabel (old new : FoundAnnotations Id) : Type 0 where
     pub added : FindsLines x old new
     pub counted : MakesRoom x old new
     pub answered : lines_failure x ≡ None
 
-module _ {Id : Type 0} {x : AskedLabel Id} where
+module _ {Id : Type 0} {x : CollectedLabel Id} where
   -- no line below the first one that is near enough
-  pub gathered-start : {xs : FoundLines Id} {n : ℕ} → HasEnds x → n ≤ last_line x.file x.label → n ≤ first_line x.file x.label - x.config.before_label_lines
+  pub collected-start : {xs : FoundAnnotations Id} {n : ℕ} → HasEnds x → n ≤ last_line x.file x.label → n ≤ first_line x.file x.label - x.config.before_label_lines
       → GathersLines x xs xs n
-  gathered-start {xs} {n} there low far = record {
+  collected-start {xs} {n} there low far = record {
     within = omega (arith, there.last);
-    added = Adds-as (gives_none (entries_on x.config x.file x.label x.at) 0 n (λ l _ high. no_entries x l (too_far l (omega arith)))) Adds-none;
+    added = Adds-as (gives_none (annotations_on x.config x.file x.label x.at) 0 n (λ l _ high. no_entries x l (too_far l (omega arith)))) Adds-none;
     counted = sym (ap (fold max xs.padding) (gives_none (digits_on x.file x.label) 0 n (λ l _ high. no_digits x l (too_far l (omega arith)))));
     answered = ap (failed x) (gives_none (lookups_on x.config x.file x.label) 0 n (λ l _ high. no_lookups x l (too_far l (omega arith))));
   }
@@ -165,15 +166,15 @@ module _ {Id : Type 0} {x : AskedLabel Id} where
       too_far : (l : ℕ) → l < n → is_asked x.config x.file x.label l ≡ false
       too_far l below = below_both (first_line x.file x.label) (last_line x.file x.label) x.config.before_label_lines x.config.after_label_lines l (omega arith) (omega arith)
 
-  module _ {xs ys : FoundLines Id} {n : ℕ} (g : GathersLines x xs ys n) where
+  module _ {xs ys : FoundAnnotations Id} {n : ℕ} (g : GathersLines x xs ys n) where
     -- one more line
-    pub gathered-step : {zs : FoundLines Id} → HasEnds x
+    pub collected-snippet_line : {zs : FoundAnnotations Id} → HasEnds x
         → n ≤ max (last_line x.file x.label + x.config.after_label_lines) (first_line x.file x.label)
-        → HasAskedLine x n → FindsLine x ys zs n → MakesRoomForLine x ys zs n → failure_on x n ≡ None
+        → HasLookedUpLine x n → FindsLine x ys zs n → MakesRoomForLine x ys zs n → failure_on x n ≡ None
         → GathersLines x xs zs (n + 1)
-    gathered-step there near inside adds counts none = record {
+    collected-snippet_line there near inside adds counts none = record {
       within = ⊎_elim (λ asked. let k = inside asked in omega arith) (λ skipped. further skipped) (cases_Bool (is_asked x.config x.file x.label n));
-      added = Adds-as (gives_more (entries_on x.config x.file x.label x.at) n) (Adds-both g.added adds);
+      added = Adds-as (gives_more (annotations_on x.config x.file x.label x.at) n) (Adds-both g.added adds);
       counted = counts ∙ ap (λ k. fold max k (digits_on x.file x.label n)) g.counted ∙ sym (greatest-append xs.padding (digits_below x n) (digits_on x.file x.label n)) ∙ sym (ap (fold max xs.padding) (gives_more (digits_on x.file x.label) n));
       answered = ap (failed x) (gives_more (lookups_on x.config x.file x.label) n) ∙ answered_then x (lookups_below x n) (lookups_on x.config x.file x.label n) g.answered ∙ none;
     }
@@ -187,56 +188,56 @@ module _ {Id : Type 0} {x : AskedLabel Id} where
 
     -- all that the label says
     all_said : ((l : ℕ) → n ≤ l → l < line_count x.file → is_asked x.config x.file x.label l ≡ false)
-        → (entries_of x.config x.file x.at x.label ≡ entries_below x n) × (flat_map of_line (asked_lines x.config x.file x.label) ≡ lookups_below x n) × (label_digits x.file x.label ≡ digits_below x n)
+        → (annotations_of x.config x.file x.at x.label ≡ entries_below x n) × (flat_map of_line (asked_lines x.config x.file x.label) ≡ lookups_below x n) × (label_digits x.file x.label ≡ digits_below x n)
     all_said skipped = (
-      gives_filtered (line_entries x.config x.file x.at x.label) (is_asked x.config x.file x.label) (range_with_len 0 (line_count x.file))
-          ∙ gives_same (entries_on x.config x.file x.label x.at) n (line_count x.file) g.within (λ l low high. no_entries x l (skipped l low high)),
+      gives_filtered (line_annotations x.config x.file x.at x.label) (is_asked x.config x.file x.label) (range_with_len 0 (line_count x.file))
+          ∙ gives_same (annotations_on x.config x.file x.label x.at) n (line_count x.file) g.within (λ l low high. no_entries x l (skipped l low high)),
       gives_filtered of_line (is_asked x.config x.file x.label) (range_with_len 0 (line_count x.file))
           ∙ gives_same (lookups_on x.config x.file x.label) n (line_count x.file) g.within (λ l low high. no_lookups x l (skipped l low high)),
       gives_same (digits_on x.file x.label) n (line_count x.file) g.within (λ l low high. no_digits x l (skipped l low high)),
     )
 
     -- the lines that are done with are all
-    gathered-up : entries_of x.config x.file x.at x.label ≡ entries_below x n → flat_map of_line (asked_lines x.config x.file x.label) ≡ lookups_below x n
+    collected-up : annotations_of x.config x.file x.at x.label ≡ entries_below x n → flat_map of_line (asked_lines x.config x.file x.label) ≡ lookups_below x n
         → label_digits x.file x.label ≡ digits_below x n → lookup_past_end x.config x.file (x.failure x.id) x.label ≡ [] → GathersLabel x xs ys
-    gathered-up said asked digits no_probe = record {
-      added = Adds-as said g.added;
+    collected-up annotation_if_any asked digits no_probe = record {
+      added = Adds-as annotation_if_any g.added;
       counted = g.counted ∙ sym (ap (fold max xs.padding) digits);
       answered = ap (failed x) (ap (λ (ls : List Lookup). flat_map of_line (asked_lines x.config x.file x.label) ++ ls) no_probe ∙ append-nil _ ∙ asked) ∙ g.answered;
     }
 
     -- the end of the lines that are near enough
-    gathered-end : first_line x.file x.label < n → last_line x.file x.label + x.config.after_label_lines < n
+    collected-end : first_line x.file x.label < n → last_line x.file x.label + x.config.after_label_lines < n
         → GathersLabel x xs ys
-    gathered-end first far =
+    collected-end first far =
         let all = all_said (λ l low high. above_both (first_line x.file x.label) (last_line x.file x.label) x.config.before_label_lines x.config.after_label_lines l (omega arith) (omega arith)) in
         let unreached : nat_le (line_count x.file) (last_line x.file x.label + x.config.after_label_lines) ≡ false = lt-leb _ _ (omega (arith, g.within)) in
         let no_probe : lookup_past_end x.config x.file (x.failure x.id) x.label ≡ [] =
         ap (λ (b : Bool). if b && not (ends_context (x.failure x.id (LineRange (line_count x.file)))) then LineRange (line_count x.file) ∷ [] else []) unreached in
-        gathered-up all.0 all.1 all.2 no_probe
+        collected-up all.0 all.1 all.2 no_probe
 
     -- the end of the file
-    pub gathered-context : line_count x.file ≤ n → ends_context (x.failure x.id (LineRange n)) ≡ true
+    pub collected-context : line_count x.file ≤ n → ends_context (x.failure x.id (LineRange n)) ≡ true
         → GathersLabel x xs ys
-    gathered-context past ends =
+    collected-context past ends =
         let here : n ≡ line_count x.file = omega (arith, g.within) in
         let all = all_said (λ l low high. absurd (omega arith)) in
         let ended : ends_context (x.failure x.id (LineRange (line_count x.file))) ≡ true = ap (λ k. ends_context (x.failure x.id (LineRange k))) (sym here) ∙ ends in
         let no_probe : lookup_past_end x.config x.file (x.failure x.id) x.label ≡ [] =
         ap (λ (b : Bool). if nat_le (line_count x.file) (last_line x.file x.label + x.config.after_label_lines) && not b then LineRange (line_count x.file) ∷ [] else []) ended
         ∙ neither (nat_le (line_count x.file) (last_line x.file x.label + x.config.after_label_lines)) in
-        gathered-up all.0 all.1 all.2 no_probe
+        collected-up all.0 all.1 all.2 no_probe
       where
         neither : (b : Bool) → (if b && false then LineRange (line_count x.file) ∷ [] else []) ≡ []
         neither true = refl
         neither false = refl
 
     -- the end of all indices
-    gathered-whole : n ≡ 2 ^ 64 → IsLawful x.file → FailsPastEnd x.file n (x.failure x.id (LineRange n))
+    collected-whole : n ≡ 2 ^ 64 → IsLawful x.file → FailsPastEnd x.file n (x.failure x.id (LineRange n))
         → GathersLabel x xs ys
-    gathered-whole all law past_end =
+    collected-whole all law past_end =
         let past : line_count x.file ≤ n = omega (arith, all, lines_have_indices x.file law) in
-        gathered-context past (too_large (x.failure x.id (LineRange n)) ((past_end (is_there x.file.there refl)).1 past))
+        collected-context past (too_large (x.failure x.id (LineRange n)) ((past_end (is_there x.file.there refl)).1 past))
       where
         too_large : (o : Option Error) → IsPastEndError o → ends_context o ≡ true
         too_large (Some (LineTooLarge given last)) h = refl
@@ -257,17 +258,17 @@ module _ {Id : Type 0} {x : AskedLabel Id} where
             absurd (omega (arith, none, all, g.within, lines_within_text x.file law))
 
     -- the end of the context, or of all indices
-    pub gathered-reach : first_line x.file x.label < n → min (last_line x.file x.label + x.config.after_label_lines + 1) (2 ^ 64) ≤ n → n ≤ 2 ^ 64
+    pub collected-reach : first_line x.file x.label < n → min (last_line x.file x.label + x.config.after_label_lines + 1) (2 ^ 64) ≤ n → n ≤ 2 ^ 64
         → IsLawful x.file → FailsPastEnd x.file n (x.failure x.id (LineRange n)) → GathersLabel x xs ys
-    gathered-reach first far below law past_end =
-        ⊎_elim (λ (h : last_line x.file x.label + x.config.after_label_lines < n). gathered-end first h)
-        (λ (h : n ≤ last_line x.file x.label + x.config.after_label_lines). gathered-whole (omega (arith, h, far, below)) law past_end)
+    collected-reach first far below law past_end =
+        ⊎_elim (λ (h : last_line x.file x.label + x.config.after_label_lines < n). collected-end first h)
+        (λ (h : n ≤ last_line x.file x.label + x.config.after_label_lines). collected-whole (omega (arith, h, far, below)) law past_end)
         (cases_lt (last_line x.file x.label + x.config.after_label_lines) n)
 
     -- a line whose lookups fail
-    pub gathered-failed : {e : Error} → HasEnds x → AsksFor x n
+    pub collected-failed : {e : Error} → HasEnds x → LooksUp x n
         → line_failure x.file (x.failure x.id) (last_line x.file x.label) n ≡ Some e → lines_failure x ≡ Some e
-    gathered-failed {e} there asked told =
+    collected-failed {e} there asked told =
         ⊎_elim (λ (h : n < line_count x.file). before_end h) (λ (h : line_count x.file ≤ n). at_end (omega (arith, g.within))) (cases_lt n (line_count x.file))
       where
         -- the lookups of the line, from what the line fails with

@@ -30,8 +30,8 @@ use Rattle.codespan_reporting.proofs.OutputLoci.{label_loci, label_texts}
 use Rattle.std.proofs.Math.Seq.{take-append_seam}
 use Rattle.codespan_reporting.specs.Inner.Headers.{HeaderFailed, HeadersCame, HeadersEnded, HeaderStopped}
 use Rattle.codespan_laws.proofs.Loci.{locus_there, zip_append, zip_each, zip_length, zip_map, zip_weaker}
-use Rattle.codespan_reporting.proofs.LabelPlaces.{StandsAt}
-use Rattle.codespan_reporting.proofs.Drawing.{PrefixWritten-none}
+use Rattle.codespan_reporting.proofs.LabelIndexing.{StandsAt}
+use Rattle.codespan_reporting.proofs.Renderings.{PrefixWritten-none}
 use Rattle.codespan_reporting.proofs.Failures.{all_answered, first_error-none, first_error-some}
 use Rattle.codespan_reporting.proofs.SnippetParts.{sends_at}
 
@@ -126,7 +126,7 @@ module _ {Id : Type 0} (config : Config) (d : Diagnostic Id) where
 
   -- the header with a locus
   abbrev header : Option Locus → Stream
-  header place = header_row d.severity place (heading_of d) ++ newline
+  header index = header_row d.severity index (heading_of d) ++ newline
 
   -- a short output with these loci
   abbrev short : List Locus → Stream
@@ -231,9 +231,9 @@ module _ {Id : Type 0} {config : Config} {file : Id → FileModel} {failure : Fa
     ended = inr (record { same = refl; told = told });
   })
 
-  module _ (place : Locus) {s t : Sink} (primary : is_primary x.label ≡ true) (there : IsLocusOfLabel file x place) where
+  module _ (index : Locus) {s t : Sink} (primary : is_primary x.label ≡ true) (there : IsLocusOfLabel file x index) where
     -- the writer failed within it
-    pub stopped_one : {e : Error} → IsIo e → Sends s (header config d (Some place)) (Err e) t → HeadersEnded config file failure d s (primary_of (x ∷ [])) e t
+    pub stopped_one : {e : Error} → IsIo e → Sends s (header config d (Some index)) (Err e) t → HeadersEnded config file failure d s (primary_of (x ∷ [])) e t
     stopped_one io sends = rw primary (record {
       before = [];
       here = x;
@@ -244,19 +244,19 @@ module _ {Id : Type 0} {config : Config} {file : Id → FileModel} {failure : Fa
       ended = inl (record {
         io = io;
         frame = sends.0;
-        place = place;
+        index = index;
         at = there;
         begun = λ told. subst (λ (l : Stream). PrefixWritten s l t) (sym (append-nil _)) (sends.1 told);
       });
     })
 
     -- it has been written
-    pub came_one : first_error failure (header_lookups_of x) ≡ None → Sends {E = Error} s (header config d (Some place)) (Ok tt) t
+    pub came_one : first_error failure (header_lookups_of x) ≡ None → Sends {E = Error} s (header config d (Some index)) (Ok tt) t
         → HeadersCame config file failure d s (primary_of (x ∷ [])) t × (true ≡ has_any (primary_of (x ∷ [])))
     came_one answered sends = rw primary (
       record {
         frame = sends.0;
-        places = place ∷ [];
+        places = index ∷ [];
         are = (there, tt);
         came = λ told. sends.1 told ∙ ap (with_written s) (sym (append-nil _));
         answered = ap (first_error failure) (append-nil (header_lookups_of x)) ∙ answered;
@@ -314,11 +314,11 @@ module _ {Id : Type 0} {config : Config} (files : FileDatabase Id) {d : Diagnost
   -- the writer failed within a header
   stopped_there : HeaderStopped config files.file files.failure d w.mid w.here e new → EndsShort
   stopped_there stop = record {
-    loci = loci_with stop.place;
-    are_loci = loci_with-are stop.place stop.at.is_locus;
-    gains = λ told. begun_whole stop.place told (λ there.
-        subst (λ (s : Stream). PrefixWritten w.mid s new) (sym (placed-append config d (stop.place ∷ []) others))
-        (PrefixWritten-first w.mid (placed config d (stop.place ∷ [])) new (placed config d others) (stop.begun there)));
+    loci = loci_with stop.index;
+    are_loci = loci_with-are stop.index stop.at.is_locus;
+    gains = λ told. begun_whole stop.index told (λ there.
+        subst (λ (s : Stream). PrefixWritten w.mid s new) (sym (placed-append config d (stop.index ∷ []) others))
+        (PrefixWritten-first w.mid (placed config d (stop.index ∷ [])) new (placed config d others) (stop.begun there)));
     on_end = record { cause = inl (stop.io, stop.frame ∙ ap failing w.came.frame); early = λ rich. cc };
   }
 

@@ -7,16 +7,16 @@ use Rattle.codespan_base.specs.FileModel.{FileModel}
 use Rattle.codespan_base.specs.Labels.{Labelled, LaneMark, MultiLabel, mark_of, marks_on, multi_labels, part_on}
 use Rattle.codespan_picture.specs.Given.{GivenMark, mark_view, lanes_in_order, ascend_from}
 use Rattle.codespan_picture.specs.Snippets.{LabelledFile, lane_count}
-use Rattle.codespan_reporting.specs.Inner.Entries.{Entry, is_below}
-use Rattle.codespan_reporting.specs.Inner.Steps.{do_marks_fit, marks_in}
-use Rattle.codespan_reporting.proofs.EntryOrder.{lane_below, mark_entry}
+use Rattle.codespan_reporting.specs.Inner.Annotations.{Annotation, is_below}
+use Rattle.codespan_reporting.specs.Inner.SnippetLines.{do_marks_fit, marks_in}
+use Rattle.codespan_reporting.proofs.AnnotationOrder.{lane_below, mark_entry}
 use Rattle.codespan_laws.proofs.SortedLists.{Climbs, all-weaker}
 
 -- ---- the marks of a file's labels
 
 -- the marks on a line of these labels, whose lanes begin here
 abbrev pub marks_from : FileModel → ℕ → ℕ → List Labelled → List LaneMark
-marks_from f l n ys = filter_map (λ (entry : ℕ × Labelled). mark_of entry.0 entry.1 (part_on f l entry.1)) (enumerate_from n ys)
+marks_from f l n ys = filter_map (λ (annotation : ℕ × Labelled). mark_of annotation.0 annotation.1 (part_on f l annotation.1)) (enumerate_from n ys)
 
 -- they ascend from a lane on
 ascend-from : (f : FileModel) (l count n least : ℕ) (ys : List Labelled) → least ≤ n → n + length ys ≡ count → ascend_from count least (marks_from f l n ys) ≡ true
@@ -50,7 +50,7 @@ ascend-above count least (m ∷ ms) up =
     let low : least ≤ m.lane = leb-true least m.lane (both-true (nat_le least m.lane) (nat_lt m.lane count) parts.0).0 in
     (low, all-weaker (λ (k : LaneMark). m.lane + 1 ≤ k.lane) (λ k. least ≤ k.lane) (λ k h. omega arith) ms (ascend-above count (m.lane + 1) ms parts.1))
 
--- their entries climb
+-- their annotations climb
 pub ascend-climbs : (f l count least : ℕ) (ms : List LaneMark) → ascend_from count least ms ≡ true → Climbs is_below (map (mark_entry f l) ms)
 ascend-climbs f l count least [] up = tt
 ascend-climbs f l count least (m ∷ ms) up =
@@ -62,5 +62,5 @@ ascend-climbs f l count least (m ∷ ms) up =
     later (k ∷ ks) h = (lane_below f l m k (let low = h.0 in omega arith), later ks h.1)
 
 -- a renderer may be given marks that ascend
-pub lanes_fit : (count : ℕ) (es : List Entry) (ms : List GivenMark) → map mark_view ms ≡ marks_in es → do_marks_fit count es ≡ true → lanes_in_order count ms ≡ true
+pub lanes_fit : (count : ℕ) (es : List Annotation) (ms : List GivenMark) → map mark_view ms ≡ marks_in es → do_marks_fit count es ≡ true → lanes_in_order count ms ≡ true
 lanes_fit count es ms same fits = ap (ascend_from count 0) same ∙ fits

@@ -15,12 +15,12 @@ use Rattle.codespan_picture.specs.Given.{locus_view}
 use Rattle.codespan_picture.specs.Picture.{label_of}
 use Rattle.codespan_reporting.specs.Inner.TextLoci.{IsTextLocus}
 use Rattle.codespan_picture.specs.Snippets.{InFile, file_ids, if_any, labelled_file, least, locus_start}
-use Rattle.codespan_reporting.specs.declared.term.views.loci.FileStart.{FileStart}
-use Rattle.codespan_reporting.specs.Inner.LabelledFiles.{start_told}
-use Rattle.codespan_reporting.specs.Inner.Loci.{file_start, is_asked_label, least_if_any, least_with, no_start, start_byte, start_with, label_starts}
-use Rattle.codespan_reporting.specs.Inner.PlacedLabels.{file_place}
+use Rattle.codespan_reporting.specs.declared.term.views.file_start.FileStart.{FileStart}
+use Rattle.codespan_reporting.specs.Inner.LabeledFiles.{starts_with_label}
+use Rattle.codespan_reporting.specs.Inner.Loci.{file_start, is_wanted_label, least_if_any, least_with, no_start, start_byte, start_with, label_starts}
+use Rattle.codespan_reporting.specs.Inner.IndexedLabels.{index_of_file}
 use Rattle.codespan_laws.proofs.SortedLists.{all-weaker, filter-nothing}
-use Rattle.codespan_reporting.proofs.LabelPlaces.{StandsAt, IsChanged, kept-at, set-at}
+use Rattle.codespan_reporting.proofs.LabelIndexing.{StandsAt, IsChanged, kept-at, set-at}
 use Rattle.codespan_reporting.proofs.LabelTurns.{before, before-more, has-file, ids-differ}
 
 -- ---- the least start
@@ -40,7 +40,7 @@ module _ {Id : Type 0} (same : Id → Id → Bool) (file : Id → FileModel) (id
       own = filter (λ (y : InFile Id). same id y.id) xs
 
       asked : List (InFile Id)
-      asked = filter (is_asked_label same id true) xs
+      asked = filter (is_wanted_label same id true) xs
 
       kept : (c : Bool) → label_starts same id true xs ≡ map (λ (y : Labelled). y.start) (filter is_primary (labelled_file same file xs id).labels)
           → map (λ (y : InFile Id). y.label.start) (cond c (x ∷ asked) asked)
@@ -60,7 +60,7 @@ module _ {Id : Type 0} (same : Id → Id → Bool) (file : Id → FileModel) (id
   all-starts (x ∷ xs) = by (same id x.id) (all-starts xs)
     where
       by : (b : Bool) → label_starts same id false xs ≡ map (λ (x : Labelled). x.start) (labelled_file same file xs id).labels
-          → map (λ (x : InFile Id). x.label.start) (cond (b && true) (x ∷ filter (is_asked_label same id false) xs) (filter (is_asked_label same id false) xs))
+          → map (λ (x : InFile Id). x.label.start) (cond (b && true) (x ∷ filter (is_wanted_label same id false) xs) (filter (is_wanted_label same id false) xs))
           ≡ map (λ (x : Labelled). x.start) (map (λ (x : InFile Id). x.label) (cond b (x ∷ filter (λ (x : InFile Id). same id x.id) xs) (filter (λ (x : InFile Id). same id x.id) xs)))
       by true rest = ap (λ (ns : List ℕ). x.label.start ∷ ns) rest
       by false rest = rest
@@ -112,11 +112,11 @@ module _ {Id : Type 0} (same : Id → Id → Bool) (xs : List (InFile Id)) (x : 
   own_start b = if b then x.label.start ∷ [] else []
 
   -- the starts of labels, with one more
-  starts-more : (only : Bool) → label_starts same id only (xs ++ x ∷ []) ≡ label_starts same id only xs ++ own_start (is_asked_label same id only x)
+  starts-more : (only : Bool) → label_starts same id only (xs ++ x ∷ []) ≡ label_starts same id only xs ++ own_start (is_wanted_label same id only x)
   starts-more only =
-      ap (map start) (filter-append (is_asked_label same id only) xs (x ∷ []))
-      ∙ map-append start (filter (is_asked_label same id only) xs) (filter (is_asked_label same id only) (x ∷ []))
-      ∙ ap (λ (ns : List ℕ). label_starts same id only xs ++ ns) (by (is_asked_label same id only x))
+      ap (map start) (filter-append (is_wanted_label same id only) xs (x ∷ []))
+      ∙ map-append start (filter (is_wanted_label same id only) xs) (filter (is_wanted_label same id only) (x ∷ []))
+      ∙ ap (λ (ns : List ℕ). label_starts same id only xs ++ ns) (by (is_wanted_label same id only x))
     where
       start : InFile Id → ℕ
       start y = y.label.start
@@ -151,8 +151,8 @@ pub start-unknown : {Id : Type 0} (same : Id → Id → Bool) (xs : List (InFile
 start-unknown {Id} same xs id none = λ i. record { primary = least_if_any (starts true i); any = least_if_any (starts false i) }
   where
     starts : (only : Bool) → label_starts same id only xs ≡ []
-    starts only = ap (map (λ (x : InFile Id). x.label.start)) (filter-nothing (is_asked_label same id only) xs
-        (all-weaker (λ (x : InFile Id). same id x.id ≡ false) (λ x. is_asked_label same id only x ≡ false) (λ x f. ap (λ (b : Bool). b && (not only || is_primary x.label)) f) xs none))
+    starts only = ap (map (λ (x : InFile Id). x.label.start)) (filter-nothing (is_wanted_label same id only) xs
+        (all-weaker (λ (x : InFile Id). same id x.id ≡ false) (λ x. is_wanted_label same id only x ≡ false) (λ x f. ap (λ (b : Bool). b && (not only || is_primary x.label)) f) xs none))
 
 -- equal ids have one start
 start-alike : {Id : Type 0} (same : Id → Id → Bool) (o : IsEquivalence same) (xs : List (InFile Id)) (i j : Id) → same i j ≡ true → file_start same xs i ≡ file_start same xs j
@@ -161,33 +161,33 @@ start-alike {Id} same o xs i j t = λ k. record { primary = least_if_any (starts
     starts : (only : Bool) → label_starts same i only xs ≡ label_starts same j only xs
     starts only = λ k. map (λ (y : InFile Id). y.label.start) (filter (λ (y : InFile Id). o.congr i j y.id t k && (not only || is_primary y.label)) xs)
 
-module _ {Id : Type 0} {labels : List (Label Id)} {place : ℕ} {label : Label Id} (turn : StandsAt labels place label) {same : Id → Id → Bool} (o : IsEquivalence same) where
+module _ {Id : Type 0} {labels : List (Label Id)} {index : ℕ} {label : Label Id} (turn : StandsAt labels index label) {same : Id → Id → Bool} (o : IsEquivalence same) where
   -- the files of the labels up to this one
   abbrev ids : List Id
-  ids = file_ids same (before labels (place + 1))
+  ids = file_ids same (before labels (index + 1))
 
   -- the labels of a file up to the next index are those before this one, and this one
-  with_label : (j : Id) → file_start same (before labels (place + 1)) j ≡ file_start same (before labels place ++ label_of label ∷ []) j
+  with_label : (j : Id) → file_start same (before labels (index + 1)) j ≡ file_start same (before labels index ++ label_of label ∷ []) j
   with_label j = ap (λ (ys : List (InFile Id)). file_start same ys j) (before-more turn)
 
   -- the label changes the start of its file, and of no other one
-  start-changed : IsChanged same label.file_id (file_start same (before labels place)) (file_start same (before labels (place + 1))) (start_with (file_start same (before labels place) label.file_id) (label_of label).label)
+  start-changed : IsChanged same label.file_id (file_start same (before labels index)) (file_start same (before labels (index + 1))) (start_with (file_start same (before labels index) label.file_id) (label_of label).label)
   start-changed = record {
-    own = λ j t. with_label j ∙ start-own same (before labels place) (label_of label) j t
-        ∙ ap (λ (s : FileStart). start_with s (label_of label).label) (start-alike same o (before labels place) j label.file_id t);
-    others = λ j f. with_label j ∙ start-others same (before labels place) (label_of label) j f;
+    own = λ j t. with_label j ∙ start-own same (before labels index) (label_of label) j t
+        ∙ ap (λ (s : FileStart). start_with s (label_of label).label) (start-alike same o (before labels index) j label.file_id t);
+    others = λ j f. with_label j ∙ start-others same (before labels index) (label_of label) j f;
   }
 
   -- what is known of the label's file, and of all files with the label
-  pub starts-set : {starts now : List FileStart} → starts ≡ map (file_start same (before labels place)) ids → now ≡ start_told starts (file_place same ids label.file_id) (label_of label).label
-      → now ≡ map (file_start same (before labels (place + 1))) ids
+  pub starts-set : {starts now : List FileStart} → starts ≡ map (file_start same (before labels index)) ids → now ≡ starts_with_label starts (index_of_file same ids label.file_id) (label_of label).label
+      → now ≡ map (file_start same (before labels (index + 1))) ids
   starts-set {starts} are is =
-      is ∙ (λ i. set (are i) (file_place same ids label.file_id) (start_with (known i) (label_of label).label)) ∙ set-at o start-changed ids (ids-differ turn o) (has-file turn o)
+      is ∙ (λ i. set (are i) (index_of_file same ids label.file_id) (start_with (known i) (label_of label).label)) ∙ set-at o start-changed ids (ids-differ turn o) (has-file turn o)
     where
-      known : get_or starts (file_place same ids label.file_id) no_start ≡ file_start same (before labels place) label.file_id
+      known : get_or starts (index_of_file same ids label.file_id) no_start ≡ file_start same (before labels index) label.file_id
       known =
-          ap (λ (ss : List FileStart). get_or ss (file_place same ids label.file_id) no_start) are
-          ∙ kept-at o (file_start same (before labels place)) (start-alike same o (before labels place)) ids label.file_id no_start (has-file turn o)
+          ap (λ (ss : List FileStart). get_or ss (index_of_file same ids label.file_id) no_start) are
+          ∙ kept-at o (file_start same (before labels index)) (start-alike same o (before labels index)) ids label.file_id no_start (has-file turn o)
 
 -- ---- the loci of files
 

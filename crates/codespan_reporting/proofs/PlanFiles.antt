@@ -1,4 +1,4 @@
--- The plans of files: what their steps draw and ask for is what the pictures of the files show.
+-- The plans of files: what their snippet lines draw and ask for is what the pictures of the files show.
 use Rattle.std.proofs.Common.{◌≡◌, ℕ, suc, ◌+◌, Bool, List, [], ◌∷◌, ◌++◌, take, drop, map, max, Option, None, refl, sym, subst, ap, ◌∙◌, arith}
 use Rattle.std.specs.Prelude.{IfSome, flat_map, fold}
 use Rattle.std.specs.List.{AllByRecursion}
@@ -16,86 +16,86 @@ use Rattle.codespan_picture.specs.Lookups.{asked_of, filled_lines, first_error, 
 use Rattle.codespan_picture.specs.Padding.{digit_count, digits_of, numbered_lines, padding_of}
 use Rattle.codespan_reporting.specs.Inner.TextLoci.{IsTextLocus}
 use Rattle.codespan_picture.specs.Snippets.{InFile, LabelledFile, labelled_file, labelled_files, lane_count, locus_start, rows_after, file_ids}
-use Rattle.codespan_reporting.specs.declared.term.views.gather.Gathered.{Gathered}
-use Rattle.codespan_reporting.specs.declared.term.views.file_order.LabelledFile.{LabelledFile as GivenFile}
-use Rattle.codespan_reporting.specs.declared.term.views.sheet.SheetFile.{SheetFile}
-use Rattle.codespan_reporting.specs.declared.term.views.steps.Step.{Step as GivenStep}
-use Rattle.codespan_reporting.specs.declared.term.views.steps.Step.TheVariants as given
-use Rattle.codespan_reporting.specs.Inner.Entries.{Entry}
-use Rattle.codespan_reporting.specs.Inner.GivenSheets.{AreSheetFiles, IsGathered, IsPrepared, IsSheetFile, ids_of, sheet_numbers, sheet_places, sheet_failure}
-use Rattle.codespan_reporting.specs.Inner.GivenEntries.{entry_of}
-use Rattle.codespan_reporting.specs.Inner.LabelledFiles.{IsTold, ids_given}
-use Rattle.codespan_reporting.specs.declared.term.views.sheet.Sheet.{Sheet}
-use Rattle.codespan_reporting.specs.Inner.GivenSteps.{IsStepIn, IsStepOf, asked_by, asked_by_all, asked_with, numbers_asked, step_of}
-use Rattle.codespan_reporting.specs.Inner.Loci.{place_lookups, start_byte}
-use Rattle.codespan_reporting.specs.Inner.PlacedLabels.{IsIdAt}
-use Rattle.codespan_reporting.specs.Inner.Plans.{ArePlans, ArePlansOf, IsPlan, number_lookups, plans_failure, step_digits, steps_at}
-use Rattle.codespan_reporting.specs.Inner.StepDrawing.{DoFit}
-use Rattle.codespan_reporting.specs.Inner.Steps.{Step, fill_of, fills_of, rows_of_steps}
-use Rattle.codespan_reporting.proofs.PlansFound.{by_place-same}
+use Rattle.codespan_reporting.specs.declared.term.views.collect.Collected.{Collected}
+use Rattle.codespan_reporting.specs.declared.term.views.collect.labeled_files.LabeledFile.{LabeledFile as RustFile}
+use Rattle.codespan_reporting.specs.declared.term.views.plan.snippet_plans.SnippetPlan.{SnippetPlan}
+use Rattle.codespan_reporting.specs.declared.term.views.plan.snippet_lines.SnippetLine.{SnippetLine as RustLine}
+use Rattle.codespan_reporting.specs.declared.term.views.plan.snippet_lines.SnippetLine.TheVariants as given
+use Rattle.codespan_reporting.specs.Inner.Annotations.{Annotation}
+use Rattle.codespan_reporting.specs.Inner.OutputPlans.{AreSnippetPlans, IsCollected, IsOutputPlan, IsSnippetPlan, ids_of, padding_lookups, file_locus_lookups, output_plan_failure}
+use Rattle.codespan_reporting.specs.Inner.AnnotationViews.{annotation_view}
+use Rattle.codespan_reporting.specs.Inner.LabeledFiles.{HasLabels, ids_view}
+use Rattle.codespan_reporting.specs.declared.term.views.plan.OutputPlan.{OutputPlan}
+use Rattle.codespan_reporting.specs.Inner.SnippetLineViews.{IsSnippetLineIn, IsSnippetLineOf, lookups_of_line, lookups_of_lines, lookups_of_filled, numbers_looked_up, line_view}
+use Rattle.codespan_reporting.specs.Inner.Loci.{loci_lookups, start_byte}
+use Rattle.codespan_reporting.specs.Inner.IndexedLabels.{IsIdAt}
+use Rattle.codespan_reporting.specs.Inner.SnippetPlans.{ArePlans, ArePlansOf, IsPlan, number_lookups, plans_failure, line_digits, lines_at}
+use Rattle.codespan_reporting.specs.Inner.LineRendering.{DoFit}
+use Rattle.codespan_reporting.specs.Inner.SnippetLines.{SnippetLine, fill_of, fills_of, rows_of_lines}
+use Rattle.codespan_reporting.proofs.PlansFound.{by_index-same}
 use Rattle.codespan_reporting.proofs.SpannedRoom.{spanned-room}
-use Rattle.codespan_reporting.proofs.EntryPicture.{snippet-fills, snippet-fits, snippet-lines, snippet-rows}
-use Rattle.codespan_reporting.proofs.LabelPlaces.{AreFiles}
+use Rattle.codespan_reporting.proofs.AnnotationOutput.{snippet-fills, snippet-fits, snippet-lines, snippet-rows}
+use Rattle.codespan_reporting.proofs.LabelIndexing.{AreFiles}
 use Rattle.codespan_reporting.proofs.LocusStarts.{start-is}
-use Rattle.codespan_reporting.proofs.StepLines.{line_of_step, lines_of_steps}
+use Rattle.codespan_reporting.proofs.SnippetLineRows.{line_of_step, lines_of_steps}
 
--- ---- one step
+-- ---- one snippet line
 
--- a step in a layout is one of the file
-step_of-file : {Id : Type 0} (layout : Layout) (f : FileModel) (g : GivenStep Id) → IsStepIn layout f g → IsStepOf f g
-step_of-file layout f (given.Shown line entries) is = is
-step_of-file Classic f (given.Filled index number entries) is = subst (λ (o : Option ℕ). IfSome o (λ known. known ≡ f.number index)) (sym is) tt
-step_of-file Unbroken f (given.Filled index number entries) is = subst (λ (o : Option ℕ). IfSome o (λ known. known ≡ f.number index)) (sym is) refl
-step_of-file layout f (given.Break next) is = is
+-- a snippet line in a layout is one of the file
+line_view-file : {Id : Type 0} (layout : Layout) (f : FileModel) (g : RustLine Id) → IsSnippetLineIn layout f g → IsSnippetLineOf f g
+line_view-file layout f (given.Labeled line annotations) is = is
+line_view-file Classic f (given.Filled index number annotations) is = subst (λ (o : Option ℕ). IfSome o (λ known. known ≡ f.number index)) (sym is) tt
+line_view-file Unbroken f (given.Filled index number annotations) is = subst (λ (o : Option ℕ). IfSome o (λ known. known ≡ f.number index)) (sym is) refl
+line_view-file layout f (given.Break next) is = is
 
 -- it asks for what the layout asks for of the line that it fills in
-step-asks : {Id : Type 0} (layout : Layout) (f : FileModel) (g : GivenStep Id) → IsStepIn layout f g → asked_by g ≡ flat_map (of_filled layout) (fill_of (step_of g))
-step-asks layout f (given.Shown line entries) is = refl
-step-asks Classic f (given.Filled index number entries) is = ap (λ (o : Option ℕ). asked_with o index) is
-step-asks Unbroken f (given.Filled index number entries) is = ap (λ (o : Option ℕ). asked_with o index) is
-step-asks layout f (given.Break next) is = refl
+snippet_line-asks : {Id : Type 0} (layout : Layout) (f : FileModel) (g : RustLine Id) → IsSnippetLineIn layout f g → lookups_of_line g ≡ flat_map (of_filled layout) (fill_of (line_view g))
+snippet_line-asks layout f (given.Labeled line annotations) is = refl
+snippet_line-asks Classic f (given.Filled index number annotations) is = ap (λ (o : Option ℕ). lookups_of_filled o index) is
+snippet_line-asks Unbroken f (given.Filled index number annotations) is = ap (λ (o : Option ℕ). lookups_of_filled o index) is
+snippet_line-asks layout f (given.Break next) is = refl
 
 -- in the unbroken layout the digits of its number are those of its line's
-step-digits : {Id : Type 0} (f : FileModel) (g : GivenStep Id) → IsStepIn Unbroken f g → step_digits g ≡ map (λ l. digit_count (f.number l)) (line_of_step (step_of g))
-step-digits f (given.Shown line entries) is = ap (λ n. digit_count n ∷ []) is.number_is
-step-digits {Id} f (given.Filled index number entries) is = ap (λ (o : Option ℕ). step_digits {Id = Id} (given.Filled index o entries)) is
-step-digits f (given.Break next) is = refl
+snippet_line-digits : {Id : Type 0} (f : FileModel) (g : RustLine Id) → IsSnippetLineIn Unbroken f g → line_digits g ≡ map (λ l. digit_count (f.number l)) (line_of_step (line_view g))
+snippet_line-digits f (given.Labeled line annotations) is = ap (λ n. digit_count n ∷ []) is.number_is
+snippet_line-digits {Id} f (given.Filled index number annotations) is = ap (λ (o : Option ℕ). line_digits {Id = Id} (given.Filled index o annotations)) is
+snippet_line-digits f (given.Break next) is = refl
 
--- ---- steps
+-- ---- snippet lines
 
--- steps in a layout are those of the file
-steps_of-file : {Id : Type 0} (layout : Layout) (f : FileModel) (gs : List (GivenStep Id)) → AllByRecursion (IsStepIn layout f) gs → AllByRecursion (IsStepOf f) gs
-steps_of-file layout f [] h = tt
-steps_of-file layout f (g ∷ gs) h = (step_of-file layout f g h.0, steps_of-file layout f gs h.1)
+-- snippet lines in a layout are those of the file
+lines_of-file : {Id : Type 0} (layout : Layout) (f : FileModel) (gs : List (RustLine Id)) → AllByRecursion (IsSnippetLineIn layout f) gs → AllByRecursion (IsSnippetLineOf f) gs
+lines_of-file layout f [] h = tt
+lines_of-file layout f (g ∷ gs) h = (line_view-file layout f g h.0, lines_of-file layout f gs h.1)
 
 -- they ask for what the layout asks for of the lines that they fill in
-steps-ask : {Id : Type 0} (layout : Layout) (f : FileModel) (gs : List (GivenStep Id)) → AllByRecursion (IsStepIn layout f) gs → asked_by_all gs ≡ flat_map (of_filled layout) (fills_of (map step_of gs))
-steps-ask layout f [] h = refl
-steps-ask layout f (g ∷ gs) h =
-    (λ i. step-asks layout f g h.0 i ++ steps-ask layout f gs h.1 i)
-    ∙ sym (flat_map-append (of_filled layout) (fill_of (step_of g)) (fills_of (map step_of gs)))
+snippet_lines-ask : {Id : Type 0} (layout : Layout) (f : FileModel) (gs : List (RustLine Id)) → AllByRecursion (IsSnippetLineIn layout f) gs → lookups_of_lines gs ≡ flat_map (of_filled layout) (fills_of (map line_view gs))
+snippet_lines-ask layout f [] h = refl
+snippet_lines-ask layout f (g ∷ gs) h =
+    (λ i. snippet_line-asks layout f g h.0 i ++ snippet_lines-ask layout f gs h.1 i)
+    ∙ sym (flat_map-append (of_filled layout) (fill_of (line_view g)) (fills_of (map line_view gs)))
 
 -- in the unbroken layout the digits of their numbers are those of their lines'
-steps-digits : {Id : Type 0} (f : FileModel) (gs : List (GivenStep Id)) → AllByRecursion (IsStepIn Unbroken f) gs → flat_map step_digits gs ≡ map (λ l. digit_count (f.number l)) (lines_of_steps (map step_of gs))
-steps-digits f [] h = refl
-steps-digits f (g ∷ gs) h =
-    (λ i. step-digits f g h.0 i ++ steps-digits f gs h.1 i)
-    ∙ sym (map-append (λ l. digit_count (f.number l)) (line_of_step (step_of g)) (lines_of_steps (map step_of gs)))
+snippet_lines-digits : {Id : Type 0} (f : FileModel) (gs : List (RustLine Id)) → AllByRecursion (IsSnippetLineIn Unbroken f) gs → flat_map line_digits gs ≡ map (λ l. digit_count (f.number l)) (lines_of_steps (map line_view gs))
+snippet_lines-digits f [] h = refl
+snippet_lines-digits f (g ∷ gs) h =
+    (λ i. snippet_line-digits f g h.0 i ++ snippet_lines-digits f gs h.1 i)
+    ∙ sym (map-append (λ l. digit_count (f.number l)) (line_of_step (line_view g)) (lines_of_steps (map line_view gs)))
 
 -- ---- plans
 
--- the steps draw a file's labels: the lines that they fill in, the lines that they draw, and their rows are those of its snippet
-record DrawSnippet (config : Config) (s : LabelledFile) (steps : List Step) : Type 0 where
-  fills : fills_of steps ≡ filled_lines config s
-  lines : lines_of_steps steps ≡ drawn_lines config s.file s.labels
-  rows : rows_of_steps s.file (lane_count s) steps ≡ rows_after s None (drawn_lines config s.file s.labels)
-  fits : DoFit (lane_count s) steps
+-- the snippet lines draw a file's labels: the lines that they fill in, the lines that they draw, and their rows are those of its snippet
+record DrawSnippet (config : Config) (s : LabelledFile) (snippet_lines : List SnippetLine) : Type 0 where
+  fills : fills_of snippet_lines ≡ filled_lines config s
+  lines : lines_of_steps snippet_lines ≡ drawn_lines config s.file s.labels
+  rows : rows_of_lines s.file (lane_count s) snippet_lines ≡ rows_after s None (drawn_lines config s.file s.labels)
+  fits : DoFit (lane_count s) snippet_lines
 
 -- in the unbroken layout the numbers of drawn lines count
 numbered : (config : Config) → config.layout ≡ Unbroken → (s : LabelledFile) → numbered_lines config s ≡ drawn_lines config s.file s.labels
 numbered config unbroken s = ap (λ v. numbered_lines (record config { layout = v }) s) unbroken
 
-module _ {Id : Type 0} {table : FileDatabase Id} (lawful : AreFiles table) {config : Config} {xs : List (InFile Id)} {gathered : Gathered Id} (all : IsGathered table config xs gathered) where
+module _ {Id : Type 0} {table : FileDatabase Id} (lawful : AreFiles table) {config : Config} {xs : List (InFile Id)} {collected : Collected Id} (all : IsCollected table config xs collected) where
   -- which ids name one file, and the file that an id names
   abbrev same : Id → Id → Bool
   same = table.same
@@ -103,16 +103,16 @@ module _ {Id : Type 0} {table : FileDatabase Id} (lawful : AreFiles table) {conf
   abbrev file : Id → FileModel
   file = table.file
 
-  -- its entries
-  abbrev es : List Entry
-  es = map entry_of gathered.entries.items
+  -- its annotations
+  abbrev es : List Annotation
+  es = map annotation_view collected.annotations.items
 
   -- a file with its labels
-  abbrev labelled : Id → LabelledFile
-  labelled = labelled_file same file xs
+  abbrev labeled : Id → LabelledFile
+  labeled = labelled_file same file xs
 
-  -- the steps at a file's place are those of its snippet
-  snippet : (k : ℕ) (id : Id) → IsIdAt (file_ids same xs) k id → DrawSnippet config (labelled id) (steps_at es k)
+  -- the snippet lines at a file's place are those of its snippet
+  snippet : (k : ℕ) (id : Id) → IsIdAt (file_ids same xs) k id → DrawSnippet config (labeled id) (lines_at es k)
   snippet k id at = record {
     fills = snippet-fills lawful all k id at;
     lines = snippet-lines lawful all k id at;
@@ -121,53 +121,53 @@ module _ {Id : Type 0} {table : FileDatabase Id} (lawful : AreFiles table) {conf
   }
 
   -- the numbers that are asked for before the header are those of the padding
-  numbers-are : number_lookups config.layout es (ids_given gathered.files.items) ≡ sheet_numbers config table xs
+  numbers-are : number_lookups config.layout es (ids_view collected.files.items) ≡ padding_lookups config table xs
   numbers-are =
       ap (number_lookups config.layout es) all.files.ids_are
-      ∙ by_place-same (λ k id. asked_of id (numbers_asked config.layout (fills_of (steps_at es k)))) (λ id. asked_of id (numbers_for_padding table xs config config.layout id)) 0 (file_ids same xs)
+      ∙ by_index-same (λ k id. asked_of id (numbers_looked_up config.layout (fills_of (lines_at es k)))) (λ id. asked_of id (numbers_for_padding table xs config config.layout id)) 0 (file_ids same xs)
       (λ i id at. let e : 0 + i ≡ i = omega arith in
-      ap (λ k. asked_of id (numbers_asked config.layout (fills_of (steps_at es k)))) e
-      ∙ ap (λ (ls : List ℕ). asked_of id (numbers_asked config.layout ls)) (snippet i id at).fills
+      ap (λ k. asked_of id (numbers_looked_up config.layout (fills_of (lines_at es k)))) e
+      ∙ ap (λ (ls : List ℕ). asked_of id (numbers_looked_up config.layout ls)) (snippet i id at).fills
       ∙ ap (λ (ls : List Lookup). asked_of id ls) (by_layout config.layout id))
     where
-      by_layout : (layout : Layout) (id : Id) → numbers_asked layout (filled_lines config (labelled id)) ≡ numbers_for_padding table xs config layout id
+      by_layout : (layout : Layout) (id : Id) → numbers_looked_up layout (filled_lines config (labeled id)) ≡ numbers_for_padding table xs config layout id
       by_layout Classic id = refl
       by_layout Unbroken id = refl
 
   -- where a file's snippet starts
-  file_start-is : {f : GivenFile Id} → IsTold same file xs f → start_byte f.start ≡ locus_start (labelled f.id).labels
+  file_start-is : {f : RustFile Id} → HasLabels same file xs f → start_byte f.start ≡ locus_start (labeled f.id).labels
   file_start-is {f} told = ap start_byte told.start_is ∙ start-is same file f.id xs
 
   -- the places of files that are asked for are those of their snippets
-  places-asked : (fs : List (GivenFile Id)) → AllByRecursion (IsTold same file xs) fs → place_lookups fs ≡ flat_map (λ id. asked_of id (locus_lookups table xs id)) (ids_given fs)
+  places-asked : (fs : List (RustFile Id)) → AllByRecursion (HasLabels same file xs) fs → loci_lookups fs ≡ flat_map (λ id. asked_of id (locus_lookups table xs id)) (ids_view fs)
   places-asked [] told = refl
   places-asked (f ∷ fs) told = λ i. asked_of f.id (Name ∷ LocationAt (file_start-is told.0 i) ∷ []) ++ places-asked fs told.1 i
 
   -- so are those of all files
-  places-are : place_lookups gathered.files.items ≡ sheet_places table xs
-  places-are = places-asked gathered.files.items all.files.told ∙ ap (flat_map (λ id. asked_of id (locus_lookups table xs id))) all.files.ids_are
+  places-are : loci_lookups collected.files.items ≡ file_locus_lookups table xs
+  places-are = places-asked collected.files.items all.files.told ∙ ap (flat_map (λ id. asked_of id (locus_lookups table xs id))) all.files.ids_are
 
-  module _ {k : ℕ} {f : GivenFile Id} (at : IsIdAt (file_ids same xs) k f.id) (told : IsTold same file xs f) {plan : SheetFile Id} {own : List (GivenStep Id)}
+  module _ {k : ℕ} {f : RustFile Id} (at : IsIdAt (file_ids same xs) k f.id) (told : HasLabels same file xs f) {plan : SnippetPlan Id} {own : List (RustLine Id)}
       (is : IsPlan config.layout file es k f plan own) where
     -- it is a file of the picture
-    file-plan : IsSheetFile config (labelled f.id) plan own
+    file-plan : IsSnippetPlan config (labeled f.id) plan own
     file-plan = record {
-      lanes_are = ap (λ (g : GivenFile Id). g.lane_count) is.file_is ∙ told.lanes_are;
-      place = subst (λ n. IsTextLocus (file f.id, n) (locus_view plan.locus)) (file_start-is told) is.place;
+      lanes_are = ap (λ (g : RustFile Id). g.lane_count) is.file_is ∙ told.lanes_are;
+      index = subst (λ n. IsTextLocus (file f.id, n) (locus_view plan.locus)) (file_start-is told) is.index;
       count_is = is.count_is;
-      each = steps_of-file config.layout (file f.id) own is.each;
-      fits = subst (DoFit (lane_count (labelled f.id))) (sym is.are) (snippet k f.id at).fits;
-      rows = ap (rows_of_steps (file f.id) (lane_count (labelled f.id))) is.are ∙ (snippet k f.id at).rows;
-      asked = steps-ask config.layout (file f.id) own is.each ∙ ap (λ (steps : List Step). flat_map (of_filled config.layout) (fills_of steps)) is.are
+      each = lines_of-file config.layout (file f.id) own is.each;
+      fits = subst (DoFit (lane_count (labeled f.id))) (sym is.are) (snippet k f.id at).fits;
+      rows = ap (rows_of_lines (file f.id) (lane_count (labeled f.id))) is.are ∙ (snippet k f.id at).rows;
+      asked = snippet_lines-ask config.layout (file f.id) own is.each ∙ ap (λ (snippet_lines : List SnippetLine). flat_map (of_filled config.layout) (fills_of snippet_lines)) is.are
           ∙ ap (λ (ls : List ℕ). flat_map (of_filled config.layout) ls) (snippet k f.id at).fills;
     }
 
     -- in the unbroken layout the digits of its numbers are those that the padding has room for
-    file-digits : config.layout ≡ Unbroken → flat_map step_digits own ≡ digits_of (labelled f.id) (numbered_lines config (labelled f.id))
+    file-digits : config.layout ≡ Unbroken → flat_map line_digits own ≡ digits_of (labeled f.id) (numbered_lines config (labeled f.id))
     file-digits unbroken =
-        steps-digits (file f.id) own (subst (λ (layout : Layout). AllByRecursion (IsStepIn layout (file f.id)) own) unbroken is.each)
-        ∙ ap (λ (steps : List Step). digits_of (labelled f.id) (lines_of_steps steps)) is.are
-        ∙ ap (digits_of (labelled f.id)) ((snippet k f.id at).lines ∙ sym (numbered config unbroken (labelled f.id)))
+        snippet_lines-digits (file f.id) own (subst (λ (layout : Layout). AllByRecursion (IsSnippetLineIn layout (file f.id)) own) unbroken is.each)
+        ∙ ap (λ (snippet_lines : List SnippetLine). digits_of (labeled f.id) (lines_of_steps snippet_lines)) is.are
+        ∙ ap (digits_of (labeled f.id)) ((snippet k f.id at).lines ∙ sym (numbered config unbroken (labeled f.id)))
 
   -- the ids from a place on stand at their places
   abbrev AreAt : ℕ → List Id → Type 0
@@ -186,72 +186,72 @@ module _ {Id : Type 0} {table : FileDatabase Id} (lawful : AreFiles table) {conf
   all_at = λ i id h. let e : i ≡ 0 + i = omega arith in subst (λ n. IsIdAt (file_ids same xs) n id) e h
 
   -- the ids of plans
-  ids-from : (k : ℕ) (fs : List (GivenFile Id)) (plans : List (SheetFile Id)) (steps : List (GivenStep Id)) → ArePlans config.layout file es k fs plans steps → ids_of plans ≡ ids_given fs
-  ids-from k [] [] steps h = refl
-  ids-from k [] (p ∷ ps) steps h = absurd h
-  ids-from k (f ∷ fs) [] steps h = absurd h
-  ids-from k (f ∷ fs) (p ∷ ps) steps h = λ i. (h.0.file_is i).id ∷ ids-from (k + 1) fs ps (drop p.step_count steps) h.1 i
+  ids-from : (k : ℕ) (fs : List (RustFile Id)) (plans : List (SnippetPlan Id)) (snippet_lines : List (RustLine Id)) → ArePlans config.layout file es k fs plans snippet_lines → ids_of plans ≡ ids_view fs
+  ids-from k [] [] snippet_lines h = refl
+  ids-from k [] (p ∷ ps) snippet_lines h = absurd h
+  ids-from k (f ∷ fs) [] snippet_lines h = absurd h
+  ids-from k (f ∷ fs) (p ∷ ps) snippet_lines h = λ i. (h.0.file_is i).id ∷ ids-from (k + 1) fs ps (drop p.line_total snippet_lines) h.1 i
 
   -- plans are those of their files
-  plans-from : (k : ℕ) (fs : List (GivenFile Id)) (plans : List (SheetFile Id)) (steps : List (GivenStep Id)) → AreAt k (ids_given fs) → AllByRecursion (IsTold same file xs) fs
-      → ArePlans config.layout file es k fs plans steps → AreSheetFiles table config xs plans steps
-  plans-from k [] [] steps at told h = tt
-  plans-from k [] (p ∷ ps) steps at told h = absurd h
-  plans-from k (f ∷ fs) [] steps at told h = absurd h
-  plans-from k (f ∷ fs) (p ∷ ps) steps at told h = (
-    subst (λ (g : GivenFile Id). IsSheetFile config (labelled g.id) p (take p.step_count steps)) (sym h.0.file_is) (file-plan (are_at-here k f.id (ids_given fs) at) told.0 h.0),
-    plans-from (k + 1) fs ps (drop p.step_count steps) (are_at-next k f.id (ids_given fs) at) told.1 h.1,
+  plans-from : (k : ℕ) (fs : List (RustFile Id)) (plans : List (SnippetPlan Id)) (snippet_lines : List (RustLine Id)) → AreAt k (ids_view fs) → AllByRecursion (HasLabels same file xs) fs
+      → ArePlans config.layout file es k fs plans snippet_lines → AreSnippetPlans table config xs plans snippet_lines
+  plans-from k [] [] snippet_lines at told h = tt
+  plans-from k [] (p ∷ ps) snippet_lines at told h = absurd h
+  plans-from k (f ∷ fs) [] snippet_lines at told h = absurd h
+  plans-from k (f ∷ fs) (p ∷ ps) snippet_lines at told h = (
+    subst (λ (g : RustFile Id). IsSnippetPlan config (labeled g.id) p (take p.line_total snippet_lines)) (sym h.0.file_is) (file-plan (are_at-here k f.id (ids_view fs) at) told.0 h.0),
+    plans-from (k + 1) fs ps (drop p.line_total snippet_lines) (are_at-next k f.id (ids_view fs) at) told.1 h.1,
   )
 
-  -- in the unbroken layout the digits of their steps are those that the padding has room for
-  digits-from : config.layout ≡ Unbroken → (k : ℕ) (fs : List (GivenFile Id)) (plans : List (SheetFile Id)) (steps : List (GivenStep Id)) → AreAt k (ids_given fs)
-      → AllByRecursion (IsTold same file xs) fs → ArePlans config.layout file es k fs plans steps
-      → flat_map step_digits steps ≡ flat_map (λ id. digits_of (labelled id) (numbered_lines config (labelled id))) (ids_given fs)
-  digits-from unbroken k [] [] steps at told h = ap (flat_map step_digits) h
-  digits-from unbroken k [] (p ∷ ps) steps at told h = absurd h
-  digits-from unbroken k (f ∷ fs) [] steps at told h = absurd h
-  digits-from unbroken k (f ∷ fs) (p ∷ ps) steps at told h =
-      let own = take p.step_count steps in
-      let later = drop p.step_count steps in
-      ap (flat_map step_digits) (sym (take-append-drop p.step_count steps)) ∙ flat_map-append step_digits own later
-      ∙ (λ i. file-digits (are_at-here k f.id (ids_given fs) at) told.0 h.0 unbroken i ++ digits-from unbroken (k + 1) fs ps later (are_at-next k f.id (ids_given fs) at) told.1 h.1 i)
+  -- in the unbroken layout the digits of their snippet lines are those that the padding has room for
+  digits-from : config.layout ≡ Unbroken → (k : ℕ) (fs : List (RustFile Id)) (plans : List (SnippetPlan Id)) (snippet_lines : List (RustLine Id)) → AreAt k (ids_view fs)
+      → AllByRecursion (HasLabels same file xs) fs → ArePlans config.layout file es k fs plans snippet_lines
+      → flat_map line_digits snippet_lines ≡ flat_map (λ id. digits_of (labeled id) (numbered_lines config (labeled id))) (ids_view fs)
+  digits-from unbroken k [] [] snippet_lines at told h = ap (flat_map line_digits) h
+  digits-from unbroken k [] (p ∷ ps) snippet_lines at told h = absurd h
+  digits-from unbroken k (f ∷ fs) [] snippet_lines at told h = absurd h
+  digits-from unbroken k (f ∷ fs) (p ∷ ps) snippet_lines at told h =
+      let own = take p.line_total snippet_lines in
+      let later = drop p.line_total snippet_lines in
+      ap (flat_map line_digits) (sym (take-append-drop p.line_total snippet_lines)) ∙ flat_map-append line_digits own later
+      ∙ (λ i. file-digits (are_at-here k f.id (ids_view fs) at) told.0 h.0 unbroken i ++ digits-from unbroken (k + 1) fs ps later (are_at-next k f.id (ids_view fs) at) told.1 h.1 i)
 
-  module _ (plans : List (SheetFile Id)) (steps : List (GivenStep Id)) (found : ArePlans config.layout file es 0 gathered.files.items plans steps) where
+  module _ (plans : List (SnippetPlan Id)) (snippet_lines : List (RustLine Id)) (found : ArePlans config.layout file es 0 collected.files.items plans snippet_lines) where
     -- the ids stand at their places
-    ids_at : AreAt 0 (ids_given gathered.files.items)
+    ids_at : AreAt 0 (ids_view collected.files.items)
     ids_at = subst (λ (ids : List Id). AreAt 0 ids) (sym all.files.ids_are) all_at
 
     -- the ids of all plans
     plan_ids : ids_of plans ≡ file_ids same xs
-    plan_ids = ids-from 0 gathered.files.items plans steps found ∙ all.files.ids_are
+    plan_ids = ids-from 0 collected.files.items plans snippet_lines found ∙ all.files.ids_are
 
     -- all plans
-    file_plans : AreSheetFiles table config xs plans steps
-    file_plans = plans-from 0 gathered.files.items plans steps ids_at all.files.told found
+    file_plans : AreSnippetPlans table config xs plans snippet_lines
+    file_plans = plans-from 0 collected.files.items plans snippet_lines ids_at all.files.told found
 
     -- in the classic layout the labels tell the room for numbers
-    pub spanned-padding : config.layout ≡ Classic → {padding : ℕ} → padding ≡ gathered.padding → padding ≡ padding_of config (labelled_files same file xs)
+    pub spanned-padding : config.layout ≡ Classic → {padding : ℕ} → padding ≡ collected.padding → padding ≡ padding_of config (labelled_files same file xs)
     spanned-padding classic is = is ∙ all.files.padding_is ∙ spanned-room same file lawful.equivalence lawful.one_file config xs classic
 
-    -- in the unbroken layout the steps do
-    pub drawn-padding : config.layout ≡ Unbroken → {padding : ℕ} → padding ≡ fold max 0 (flat_map step_digits steps) → padding ≡ padding_of config (labelled_files same file xs)
+    -- in the unbroken layout the snippet lines do
+    pub drawn-padding : config.layout ≡ Unbroken → {padding : ℕ} → padding ≡ fold max 0 (flat_map line_digits snippet_lines) → padding ≡ padding_of config (labelled_files same file xs)
     drawn-padding unbroken is =
-        is ∙ ap (fold max 0) (digits-from unbroken 0 gathered.files.items plans steps ids_at all.files.told found
-        ∙ ap (flat_map (λ id. digits_of (labelled id) (numbered_lines config (labelled id)))) all.files.ids_are
-        ∙ sym (flat_map-map (λ (s : LabelledFile). digits_of s (numbered_lines config s)) labelled (file_ids same xs)))
+        is ∙ ap (fold max 0) (digits-from unbroken 0 collected.files.items plans snippet_lines ids_at all.files.told found
+        ∙ ap (flat_map (λ id. digits_of (labeled id) (numbered_lines config (labeled id)))) all.files.ids_are
+        ∙ sym (flat_map-map (λ (s : LabelledFile). digits_of s (numbered_lines config s)) labeled (file_ids same xs)))
 
--- ---- what was gathered, with its plans
+-- ---- what was collected, with its plans
 
-module _ {Id : Type 0} {table : FileDatabase Id} (lawful : AreFiles table) {config : Config} {xs : List (InFile Id)} {gathered : Gathered Id} (all : IsGathered table config xs gathered) where
+module _ {Id : Type 0} {table : FileDatabase Id} (lawful : AreFiles table) {config : Config} {xs : List (InFile Id)} {collected : Collected Id} (all : IsCollected table config xs collected) where
   -- plans fail with what the sheet fails with
-  pub failure-is : plans_failure config.layout table.failure gathered ≡ sheet_failure config table xs
+  pub failure-is : plans_failure config.layout table.failure collected ≡ output_plan_failure config table xs
   failure-is = λ i. first_error table.failure (numbers-are lawful all i ++ places-are lawful all i)
 
   -- plans, and the room for their numbers, are the sheet of the labels
-  pub sheet-prepared : {sheet : Sheet Id} → ArePlansOf config.layout table.file gathered sheet.files.items sheet.steps.items → sheet.padding ≡ padding_of config (labelled_files table.same table.file xs)
-      → IsPrepared table config xs sheet
-  sheet-prepared {sheet} found padding = record {
-    ids_are = plan_ids lawful all sheet.files.items sheet.steps.items found;
-    files_are = file_plans lawful all sheet.files.items sheet.steps.items found;
+  pub output_plan-prepared : {output_plan : OutputPlan Id} → ArePlansOf config.layout table.file collected output_plan.files.items output_plan.snippet_lines.items → output_plan.padding ≡ padding_of config (labelled_files table.same table.file xs)
+      → IsOutputPlan table config xs output_plan
+  output_plan-prepared {output_plan} found padding = record {
+    ids_are = plan_ids lawful all output_plan.files.items output_plan.snippet_lines.items found;
+    files_are = file_plans lawful all output_plan.files.items output_plan.snippet_lines.items found;
     padding_is = padding;
   }

@@ -15,145 +15,145 @@ use Rattle.codespan_base.specs.declared.term.config.Layout.{Layout}
 use Rattle.codespan_base.specs.FileModel.{FileModel, Lookup, or_failure}
 use Rattle.codespan_picture.specs.Lookups.{Failures, asked_of, first_error}
 use Rattle.codespan_reporting.specs.Inner.FileLookups.{FailsByOrFormat}
-use Rattle.codespan_reporting.specs.declared.term.views.entry.Entry.{Entry as GivenEntry}
-use Rattle.codespan_reporting.specs.declared.term.views.file_order.LabelledFile.{LabelledFile as GivenFile}
-use Rattle.codespan_reporting.specs.declared.term.views.sheet.SheetFile.{SheetFile}
-use Rattle.codespan_reporting.specs.declared.term.views.steps.Step.{Step as GivenStep}
-use Rattle.codespan_reporting.specs.Inner.Entries.{Entry, is_below, is_of_file}
-use Rattle.codespan_reporting.specs.Inner.GivenEntries.{IsLineOf, IsOfFiles, entry_of}
-use Rattle.codespan_reporting.specs.Inner.GivenSteps.{AddsSteps, numbers_asked}
-use Rattle.codespan_reporting.specs.Inner.LabelledFiles.{ids_given}
-use Rattle.codespan_reporting.specs.Inner.Loci.{place_asked, place_lookups}
-use Rattle.codespan_reporting.specs.Inner.PlacedLabels.{IsIdAt}
-use Rattle.codespan_reporting.specs.Inner.Plans.{ArePlans, IsPlan, by_place, number_lookups, steps_at}
-use Rattle.codespan_reporting.specs.Inner.Steps.{Step, fills_of, steps_of}
-use Rattle.codespan_reporting.proofs.Askings.{first_error-append, or_failure-answered, or_failure-none, or_failure-some}
+use Rattle.codespan_reporting.specs.declared.term.views.annotation.Annotation.{Annotation as RustAnnotation}
+use Rattle.codespan_reporting.specs.declared.term.views.collect.labeled_files.LabeledFile.{LabeledFile as RustFile}
+use Rattle.codespan_reporting.specs.declared.term.views.plan.snippet_plans.SnippetPlan.{SnippetPlan}
+use Rattle.codespan_reporting.specs.declared.term.views.plan.snippet_lines.SnippetLine.{SnippetLine as RustLine}
+use Rattle.codespan_reporting.specs.Inner.Annotations.{Annotation, is_below, is_of_file}
+use Rattle.codespan_reporting.specs.Inner.AnnotationViews.{IsLineOf, IsOfFiles, annotation_view}
+use Rattle.codespan_reporting.specs.Inner.SnippetLineViews.{AddsLines, numbers_looked_up}
+use Rattle.codespan_reporting.specs.Inner.LabeledFiles.{ids_view}
+use Rattle.codespan_reporting.specs.Inner.Loci.{locus_lookups_of, loci_lookups}
+use Rattle.codespan_reporting.specs.Inner.IndexedLabels.{IsIdAt}
+use Rattle.codespan_reporting.specs.Inner.SnippetPlans.{ArePlans, IsPlan, by_index, number_lookups, lines_at}
+use Rattle.codespan_reporting.specs.Inner.SnippetLines.{SnippetLine, fills_of, lines_of}
+use Rattle.codespan_reporting.proofs.LookupRuns.{first_error-append, or_failure-answered, or_failure-none, or_failure-some}
 use Rattle.codespan_reporting.proofs.FileParts.{IsFilePart, from_file, next-file, next_part}
-use Rattle.codespan_reporting.proofs.FilePlaces.{at-get}
-use Rattle.codespan_reporting.proofs.LabelPlaces.{StandsAt, take-at}
+use Rattle.codespan_reporting.proofs.FileIndices.{at-get}
+use Rattle.codespan_reporting.proofs.LabelIndexing.{StandsAt, take-at}
 use Rattle.codespan_reporting.proofs.Failures.{first_error-none, first_error-some}
 use Rattle.codespan_laws.proofs.SortedLists.{all-both, all-mapped, all-part, all-pass, all-weaker}
 
 -- ---- ids at their indices
 
 -- what ids have, one after the other
-by_place-append : {Id A : Type 0} (give : ℕ → Id → List A) (k : ℕ) (xs ys : List Id) → by_place give k (xs ++ ys) ≡ by_place give k xs ++ by_place give (k + length xs) ys
-by_place-append give k [] ys = let e : k ≡ k + 0 = omega arith in ap (λ n. by_place give n ys) e
-by_place-append {Id} {A} give k (x ∷ xs) ys =
+by_index-append : {Id A : Type 0} (give : ℕ → Id → List A) (k : ℕ) (xs ys : List Id) → by_index give k (xs ++ ys) ≡ by_index give k xs ++ by_index give (k + length xs) ys
+by_index-append give k [] ys = let e : k ≡ k + 0 = omega arith in ap (λ n. by_index give n ys) e
+by_index-append {Id} {A} give k (x ∷ xs) ys =
     let e : k + 1 + length xs ≡ k + suc (length xs) = omega arith in
-    ap (λ (r : List A). give k x ++ r) (by_place-append give (k + 1) xs ys ∙ ap (λ n. by_place give (k + 1) xs ++ by_place give n ys) e)
-    ∙ sym (append_assoc (give k x) (by_place give (k + 1) xs) (by_place give (k + suc (length xs)) ys))
+    ap (λ (r : List A). give k x ++ r) (by_index-append give (k + 1) xs ys ∙ ap (λ n. by_index give (k + 1) xs ++ by_index give n ys) e)
+    ∙ sym (append_assoc (give k x) (by_index give (k + 1) xs) (by_index give (k + suc (length xs)) ys))
 
 -- one more id
-by_place-more : {Id A : Type 0} (give : ℕ → Id → List A) (f : ℕ) (ids more : List Id) (id : Id) → length ids ≡ f → more ≡ ids ++ id ∷ []
-    → by_place give 0 more ≡ by_place give 0 ids ++ give f id
-by_place-more {Id} {A} give f ids more id len is =
+by_index-more : {Id A : Type 0} (give : ℕ → Id → List A) (f : ℕ) (ids more : List Id) (id : Id) → length ids ≡ f → more ≡ ids ++ id ∷ []
+    → by_index give 0 more ≡ by_index give 0 ids ++ give f id
+by_index-more {Id} {A} give f ids more id len is =
     let e : 0 + length ids ≡ f = omega (arith, len) in
-    ap (by_place give 0) is ∙ by_place-append give 0 ids (id ∷ [])
-    ∙ ap (λ (r : List A). by_place give 0 ids ++ r) (append-nil (give (0 + length ids) id) ∙ ap (λ n. give n id) e)
+    ap (by_index give 0) is ∙ by_index-append give 0 ids (id ∷ [])
+    ∙ ap (λ (r : List A). by_index give 0 ids ++ r) (append-nil (give (0 + length ids) id) ∙ ap (λ n. give n id) e)
 
 -- ids that have the same at their indices
-pub by_place-same : {Id A : Type 0} (give : ℕ → Id → List A) (each : Id → List A) (k : ℕ) (js : List Id) → ((i : ℕ) (id : Id) → IsIdAt js i id → give (k + i) id ≡ each id)
-    → by_place give k js ≡ flat_map each js
-by_place-same give each k [] same = refl
-by_place-same {Id} {A} give each k (j ∷ js) same =
+pub by_index-same : {Id A : Type 0} (give : ℕ → Id → List A) (each : Id → List A) (k : ℕ) (js : List Id) → ((i : ℕ) (id : Id) → IsIdAt js i id → give (k + i) id ≡ each id)
+    → by_index give k js ≡ flat_map each js
+by_index-same give each k [] same = refl
+by_index-same {Id} {A} give each k (j ∷ js) same =
     let none : k + 0 ≡ k = omega arith in
-    ap (λ (r : List A). r ++ by_place give (k + 1) js) (ap (λ n. give n j) (sym none) ∙ same 0 j refl)
+    ap (λ (r : List A). r ++ by_index give (k + 1) js) (ap (λ n. give n j) (sym none) ∙ same 0 j refl)
     ∙ ap (λ (r : List A). each j ++ r)
-    (by_place-same give each (k + 1) js (λ i id at. let e : k + 1 + i ≡ k + suc i = omega arith in ap (λ n. give n id) e ∙ same (suc i) id at))
+    (by_index-same give each (k + 1) js (λ i id at. let e : k + 1 + i ≡ k + suc i = omega arith in ap (λ n. give n id) e ∙ same (suc i) id at))
 
 module _ {Id : Type 0} (file : Id → FileModel) where
-  -- a file's part of the entries is of lines that the file has
-  part-lines : (ids : List Id) (xs : List (GivenEntry Id)) (at n f : ℕ) (id : Id) (ys : List Entry) → IsIdAt ids f id → AllByRecursion (IsOfFiles file ids) xs
-      → map entry_of (take n (drop at xs)) ≡ filter (is_of_file f) ys → AllByRecursion (λ e. IsLineOf (file id) e.line) (take n (drop at xs))
+  -- a file's part of the annotations is of lines that the file has
+  part-lines : (ids : List Id) (xs : List (RustAnnotation Id)) (at n f : ℕ) (id : Id) (ys : List Annotation) → IsIdAt ids f id → AllByRecursion (IsOfFiles file ids) xs
+      → map annotation_view (take n (drop at xs)) ≡ filter (is_of_file f) ys → AllByRecursion (λ e. IsLineOf (file id) e.line) (take n (drop at xs))
   part-lines ids xs at n f id ys is_at lines own =
       let part = take n (drop at xs) in
-      let of_file = all-mapped entry_of (λ e. is_of_file f e ≡ true) part (subst (AllByRecursion (λ e. is_of_file f e ≡ true)) (sym own) (all-pass (is_of_file f) ys)) in
-      all-weaker (λ e. (is_of_file f (entry_of e) ≡ true) × IsOfFiles file ids e) (λ e. IsLineOf (file id) e.line)
+      let of_file = all-mapped annotation_view (λ e. is_of_file f e ≡ true) part (subst (AllByRecursion (λ e. is_of_file f e ≡ true)) (sym own) (all-pass (is_of_file f) ys)) in
+      all-weaker (λ e. (is_of_file f (annotation_view e) ≡ true) × IsOfFiles file ids e) (λ e. IsLineOf (file id) e.line)
       (λ e h. h.1 id (subst (λ k. IsIdAt ids k id) (sym (eqb-true e.file f h.0)) is_at))
-      part (all-both (λ e. is_of_file f (entry_of e) ≡ true) (IsOfFiles file ids) part of_file (all-part (IsOfFiles file ids) at n xs lines))
+      part (all-both (λ e. is_of_file f (annotation_view e) ≡ true) (IsOfFiles file ids) part of_file (all-part (IsOfFiles file ids) at n xs lines))
 
 -- ---- the turn of a file
 
--- a loop over the files is at one of them: the entries from an index on are those of it and of later files, and its own are counted
-pub record IsTurn {Id : Type 0} (files : List (GivenFile Id)) (xs : List (GivenEntry Id)) (at n k : ℕ) (f : GivenFile Id) : Type 0 where
-  pub up : IsSortedBy is_below (map entry_of xs)
+-- a loop over the files is at one of them: the annotations from an index on are those of it and of later files, and its own are counted
+pub record IsTurn {Id : Type 0} (files : List (RustFile Id)) (xs : List (RustAnnotation Id)) (at n k : ℕ) (f : RustFile Id) : Type 0 where
+  pub up : IsSortedBy is_below (map annotation_view xs)
   pub inside : at ≤ length xs
-  pub left : drop at (map entry_of xs) ≡ from_file k (map entry_of xs)
-  pub counted : n ≡ prefix_len (λ e. is_of_file k (entry_of e)) (take (length xs - at) (drop at xs))
+  pub left : drop at (map annotation_view xs) ≡ from_file k (map annotation_view xs)
+  pub counted : n ≡ prefix_len (λ e. is_of_file k (annotation_view e)) (take (length xs - at) (drop at xs))
   pub within : n ≤ length (take (length xs - at) (drop at xs))
   pub here : StandsAt files k f
 
-module _ {Id : Type 0} {files : List (GivenFile Id)} {xs : List (GivenEntry Id)} {at n k : ℕ} {f : GivenFile Id} (turn : IsTurn files xs at n k f) where
-  -- the file's part of the entries
+module _ {Id : Type 0} {files : List (RustFile Id)} {xs : List (RustAnnotation Id)} {at n k : ℕ} {f : RustFile Id} (turn : IsTurn files xs at n k f) where
+  -- the file's part of the annotations
   own_part : IsFilePart xs at n k
   own_part = next-file xs at n k turn.up turn.inside turn.left turn.counted turn.within
 
-  module _ {zs : List (GivenEntry Id)} (same : zs ≡ xs) where
+  module _ {zs : List (RustAnnotation Id)} (same : zs ≡ xs) where
     -- it is the same in an equal list
-    own_entries : map entry_of (next_part zs at n) ≡ filter (is_of_file k) (map entry_of xs)
-    own_entries = ap (λ (es : List (GivenEntry Id)). map entry_of (next_part es at n)) same ∙ own_part.own
+    own_entries : map annotation_view (next_part zs at n) ≡ filter (is_of_file k) (map annotation_view xs)
+    own_entries = ap (λ (es : List (RustAnnotation Id)). map annotation_view (next_part es at n)) same ∙ own_part.own
 
     -- its lines are the file's
-    pub own_lines : (file : Id → FileModel) → AllByRecursion (IsOfFiles file (ids_given files)) xs → All (λ e. IsLineOf (file f.id) e.line) (next_part zs at n)
+    pub own_lines : (file : Id → FileModel) → AllByRecursion (IsOfFiles file (ids_view files)) xs → All (λ e. IsLineOf (file f.id) e.line) (next_part zs at n)
     own_lines file lines =
         let inside = turn.here.inside in
-        let there : IsIdAt (ids_given files) k f.id =
-        subst (IsIdAt (ids_given files) k) (get_or-map (λ (g : GivenFile Id). g.id) files k f f.id inside ∙ ap (λ (g : GivenFile Id). g.id) (sym turn.here.is))
-        (at-get (ids_given files) k f.id (omega (arith, inside, length-map files (λ (g : GivenFile Id). g.id)))) in
+        let there : IsIdAt (ids_view files) k f.id =
+        subst (IsIdAt (ids_view files) k) (get_or-map (λ (g : RustFile Id). g.id) files k f f.id inside ∙ ap (λ (g : RustFile Id). g.id) (sym turn.here.is))
+        (at-get (ids_view files) k f.id (omega (arith, inside, length-map files (λ (g : RustFile Id). g.id)))) in
         All-from_recursion (λ e. IsLineOf (file f.id) e.line) (next_part zs at n)
-        (part-lines file (ids_given files) zs at (at + n - at) k f.id (map entry_of xs) there (subst (AllByRecursion (IsOfFiles file (ids_given files))) (sym same) lines) own_entries)
+        (part-lines file (ids_view files) zs at (at + n - at) k f.id (map annotation_view xs) there (subst (AllByRecursion (IsOfFiles file (ids_view files))) (sym same) lines) own_entries)
 
-    -- so are its steps
-    pub own_steps : steps_of (map entry_of (next_part zs at n)) ≡ steps_at (map entry_of xs) k
-    own_steps = ap steps_of own_entries
+    -- so are its snippet lines
+    pub own_steps : lines_of (map annotation_view (next_part zs at n)) ≡ lines_at (map annotation_view xs) k
+    own_steps = ap lines_of own_entries
 
     -- and what they look up
-    pub own_asked : (layout : Layout) (failure : Failures Id) → first_error failure (asked_of f.id (numbers_asked layout (fills_of (steps_of (map entry_of (next_part zs at n))))))
-        ≡ first_error failure (asked_of f.id (numbers_asked layout (fills_of (steps_at (map entry_of xs) k))))
-    own_asked layout failure = ap (λ steps. first_error failure (asked_of f.id (numbers_asked layout (fills_of steps)))) own_steps
+    pub own_asked : (layout : Layout) (failure : Failures Id) → first_error failure (asked_of f.id (numbers_looked_up layout (fills_of (lines_of (map annotation_view (next_part zs at n))))))
+        ≡ first_error failure (asked_of f.id (numbers_looked_up layout (fills_of (lines_at (map annotation_view xs) k))))
+    own_asked layout failure = ap (λ snippet_lines. first_error failure (asked_of f.id (numbers_looked_up layout (fills_of snippet_lines)))) own_steps
 
   -- the next file's turn is after it
   pub next_inside : at + n ≤ length xs
   next_inside = omega (arith, own_part.within, own_part.len)
 
   -- later files remain there
-  pub next_left : drop (at + n) (map entry_of xs) ≡ from_file (k + 1) (map entry_of xs)
-  next_left = ap (λ i. drop (at + i) (map entry_of xs)) (sym own_part.len) ∙ own_part.rest
+  pub next_left : drop (at + n) (map annotation_view xs) ≡ from_file (k + 1) (map annotation_view xs)
+  next_left = ap (λ i. drop (at + i) (map annotation_view xs)) (sym own_part.len) ∙ own_part.rest
 
 -- ---- plans
 
--- a number of steps were added
-pub added-count : {Id : Type 0} {layout : Layout} {f : FileModel} {old new : List (GivenStep Id)} {steps : List Step} {now before : ℕ} → now ≡ length new → before ≡ length old
-    → (added : AddsSteps layout f old new steps) → now - before ≡ length added.more
+-- a number of snippet lines were added
+pub added-count : {Id : Type 0} {layout : Layout} {f : FileModel} {old new : List (RustLine Id)} {snippet_lines : List SnippetLine} {now before : ℕ} → now ≡ length new → before ≡ length old
+    → (added : AddsLines layout f old new snippet_lines) → now - before ≡ length added.more
 added-count {old = old} is was added = let whole = ap length added.whole in omega (arith, is, was, whole, length-append old added.more)
 
--- there are at least as many steps as a plan counts in front
-count-within : {Id : Type 0} {layout : Layout} {file : Id → FileModel} {es : List Entry} {k : ℕ} {f : GivenFile Id} {plan : SheetFile Id} (steps : List (GivenStep Id))
-    → IsPlan layout file es k f plan (take plan.step_count steps) → plan.step_count ≤ length steps
-count-within {plan = plan} steps is = omega (arith, is.count_is, length-take plan.step_count steps)
+-- there are at least as many snippet lines as a plan counts in front
+count-within : {Id : Type 0} {layout : Layout} {file : Id → FileModel} {es : List Annotation} {k : ℕ} {f : RustFile Id} {plan : SnippetPlan Id} (snippet_lines : List (RustLine Id))
+    → IsPlan layout file es k f plan (take plan.line_total snippet_lines) → plan.line_total ≤ length snippet_lines
+count-within {plan = plan} snippet_lines is = omega (arith, is.count_is, length-take plan.line_total snippet_lines)
 
-module _ {Id : Type 0} {layout : Layout} {file : Id → FileModel} {es : List Entry} {f : GivenFile Id} {plan : SheetFile Id} {own : List (GivenStep Id)} where
-  -- one plan, with its steps
+module _ {Id : Type 0} {layout : Layout} {file : Id → FileModel} {es : List Annotation} {f : RustFile Id} {plan : SnippetPlan Id} {own : List (RustLine Id)} where
+  -- one plan, with its snippet lines
   plan-alone : (k : ℕ) → IsPlan layout file es k f plan own → ArePlans layout file es k (f ∷ []) (plan ∷ []) own
   plan-alone k is =
       let count = is.count_is in
-      (subst (IsPlan layout file es k f plan) (sym (take_all plan.step_count own (omega (arith, count)))) is, drop_all plan.step_count own (omega (arith, count)))
+      (subst (IsPlan layout file es k f plan) (sym (take_all plan.line_total own (omega (arith, count)))) is, drop_all plan.line_total own (omega (arith, count)))
 
   -- plans from an index on, and then one more
-  plans-more : (k : ℕ) (fs : List (GivenFile Id)) (ps : List (SheetFile Id)) (steps : List (GivenStep Id)) → ArePlans layout file es k fs ps steps
-      → IsPlan layout file es (k + length fs) f plan own → ArePlans layout file es k (fs ++ f ∷ []) (ps ++ plan ∷ []) (steps ++ own)
-  plans-more k [] [] steps h is =
+  plans-more : (k : ℕ) (fs : List (RustFile Id)) (ps : List (SnippetPlan Id)) (snippet_lines : List (RustLine Id)) → ArePlans layout file es k fs ps snippet_lines
+      → IsPlan layout file es (k + length fs) f plan own → ArePlans layout file es k (fs ++ f ∷ []) (ps ++ plan ∷ []) (snippet_lines ++ own)
+  plans-more k [] [] snippet_lines h is =
       let e : k + 0 ≡ k = omega arith in
-      subst (λ (front : List (GivenStep Id)). ArePlans layout file es k (f ∷ []) (plan ∷ []) (front ++ own)) (sym h) (plan-alone k (subst (λ n. IsPlan layout file es n f plan own) e is))
-  plans-more k [] (p ∷ ps) steps h is = absurd h
-  plans-more k (g ∷ fs) [] steps h is = absurd h
-  plans-more k (g ∷ fs) (p ∷ ps) steps h is =
+      subst (λ (front : List (RustLine Id)). ArePlans layout file es k (f ∷ []) (plan ∷ []) (front ++ own)) (sym h) (plan-alone k (subst (λ n. IsPlan layout file es n f plan own) e is))
+  plans-more k [] (p ∷ ps) snippet_lines h is = absurd h
+  plans-more k (g ∷ fs) [] snippet_lines h is = absurd h
+  plans-more k (g ∷ fs) (p ∷ ps) snippet_lines h is =
       let e : k + suc (length fs) ≡ k + 1 + length fs = omega arith in
-      let within = count-within steps h.0 in (
-        subst (IsPlan layout file es k g p) (sym (take-append-le p.step_count steps own within)) h.0,
-        subst (ArePlans layout file es (k + 1) (fs ++ f ∷ []) (ps ++ plan ∷ [])) (sym (drop-append-le p.step_count steps own within))
-            (plans-more (k + 1) fs ps (drop p.step_count steps) h.1 (subst (λ n. IsPlan layout file es n f plan own) e is)),
+      let within = count-within snippet_lines h.0 in (
+        subst (IsPlan layout file es k g p) (sym (take-append-le p.line_total snippet_lines own within)) h.0,
+        subst (ArePlans layout file es (k + 1) (fs ++ f ∷ []) (ps ++ plan ∷ [])) (sym (drop-append-le p.line_total snippet_lines own within))
+            (plans-more (k + 1) fs ps (drop p.line_total snippet_lines) h.1 (subst (λ n. IsPlan layout file es n f plan own) e is)),
       )
 
 -- of two errors the first is kept
@@ -167,95 +167,95 @@ some-kept : (placed : Result (Unit {0}) Error) (e : Error) (P : Unit {0} → Typ
 some-kept (Ok x) e P = tt
 some-kept (Err x) e P = tt
 
-module _ {Id : Type 0} (layout : Layout) (file : Id → FileModel) (es : List Entry) (failure : Failures Id) where
+module _ {Id : Type 0} (layout : Layout) (file : Id → FileModel) (es : List Annotation) (failure : Failures Id) where
   -- the numbers of these files have been looked up, the first error of their loci is kept, and where no locus fails these are their plans
-  pub record ArePlanned (files : List (GivenFile Id)) (now : List (SheetFile Id)) (steps : List (GivenStep Id)) (placed : Result (Unit {0}) Error) : Type 0 where
-    pub answered : first_error failure (number_lookups layout es (ids_given files)) ≡ None
-    pub kept : FailsByOrFormat (first_error failure (place_lookups files)) placed
-    pub plans : IfOk placed (λ _. ArePlans layout file es 0 files now steps)
+  pub record ArePlanned (files : List (RustFile Id)) (now : List (SnippetPlan Id)) (snippet_lines : List (RustLine Id)) (placed : Result (Unit {0}) Error) : Type 0 where
+    pub answered : first_error failure (number_lookups layout es (ids_view files)) ≡ None
+    pub kept : FailsByOrFormat (first_error failure (loci_lookups files)) placed
+    pub plans : IfOk placed (λ _. ArePlans layout file es 0 files now snippet_lines)
 
-module _ {Id : Type 0} {layout : Layout} {file : Id → FileModel} {es : List Entry} {failure : Failures Id} {now : List (SheetFile Id)} {steps : List (GivenStep Id)}
+module _ {Id : Type 0} {layout : Layout} {file : Id → FileModel} {es : List Annotation} {failure : Failures Id} {now : List (SnippetPlan Id)} {snippet_lines : List (RustLine Id)}
     {placed : Result (Unit {0}) Error} where
   -- past the last file the lookups of all fail with what is kept
-  pub plans-tell : (files : List (GivenFile Id)) (k : ℕ) → length files ≤ k → ArePlanned layout file es failure (take k files) now steps placed
-      → FailsByOrFormat (first_error failure (number_lookups layout es (ids_given files) ++ place_lookups files)) placed
-  plans-tell files k past found =
-      let all = subst (λ (fs : List (GivenFile Id)). ArePlanned layout file es failure fs now steps placed) (take_all k files past) found in
-      let numbers = number_lookups layout es (ids_given files) in
-      subst (λ o. FailsByOrFormat o placed) (sym (first_error-none failure numbers (place_lookups files) all.answered)) all.kept
+  pub plans-add : (files : List (RustFile Id)) (k : ℕ) → length files ≤ k → ArePlanned layout file es failure (take k files) now snippet_lines placed
+      → FailsByOrFormat (first_error failure (number_lookups layout es (ids_view files) ++ loci_lookups files)) placed
+  plans-add files k past found =
+      let all = subst (λ (fs : List (RustFile Id)). ArePlanned layout file es failure fs now snippet_lines placed) (take_all k files past) found in
+      let numbers = number_lookups layout es (ids_view files) in
+      subst (λ o. FailsByOrFormat o placed) (sym (first_error-none failure numbers (loci_lookups files) all.answered)) all.kept
 
-module _ {Id : Type 0} {files : List (GivenFile Id)} {k : ℕ} {f : GivenFile Id} (here : StandsAt files k f) where
+module _ {Id : Type 0} {files : List (RustFile Id)} {k : ℕ} {f : RustFile Id} (here : StandsAt files k f) where
   -- how many files are before this one
   files_before : length (take k files) ≡ k
   files_before = let inside = here.inside in length-take-le k files (omega (arith, inside))
 
   -- the ids of these, and its own
-  ids-more : ids_given (take (k + 1) files) ≡ ids_given (take k files) ++ f.id ∷ []
-  ids-more = ap ids_given (take-at here) ∙ map-append (λ (g : GivenFile Id). g.id) (take k files) (f ∷ [])
+  ids-more : ids_view (take (k + 1) files) ≡ ids_view (take k files) ++ f.id ∷ []
+  ids-more = ap ids_view (take-at here) ∙ map-append (λ (g : RustFile Id). g.id) (take k files) (f ∷ [])
 
   -- the loci of these, and its own
-  places-more : place_lookups (take (k + 1) files) ≡ place_lookups (take k files) ++ place_asked f
+  places-more : loci_lookups (take (k + 1) files) ≡ loci_lookups (take k files) ++ locus_lookups_of f
   places-more =
-      ap (λ (fs : List (GivenFile Id)). place_lookups fs) (take-at here) ∙ flat_map-append place_asked (take k files) (f ∷ [])
-      ∙ ap (λ (ls : List (Id × Lookup)). place_lookups (take k files) ++ ls) (append-nil (place_asked f))
+      ap (λ (fs : List (RustFile Id)). loci_lookups fs) (take-at here) ∙ flat_map-append locus_lookups_of (take k files) (f ∷ [])
+      ∙ ap (λ (ls : List (Id × Lookup)). loci_lookups (take k files) ++ ls) (append-nil (locus_lookups_of f))
 
   -- they fail with what those of these are, or its own
-  place-fails : (failure : Failures Id)
-      → first_error failure (place_lookups (take (k + 1) files)) ≡ or_failure (first_error failure (place_lookups (take k files))) (first_error failure (place_asked f))
-  place-fails failure = ap (first_error failure) places-more ∙ first_error-append failure (place_lookups (take k files)) (place_asked f)
+  index-fails : (failure : Failures Id)
+      → first_error failure (loci_lookups (take (k + 1) files)) ≡ or_failure (first_error failure (loci_lookups (take k files))) (first_error failure (locus_lookups_of f))
+  index-fails failure = ap (first_error failure) places-more ∙ first_error-append failure (loci_lookups (take k files)) (locus_lookups_of f)
 
-  module _ {layout : Layout} {file : Id → FileModel} {es : List Entry} {failure : Failures Id} {now : List (SheetFile Id)} {steps : List (GivenStep Id)}
-      {placed : Result (Unit {0}) Error} (before : ArePlanned layout file es failure (take k files) now steps placed) where
+  module _ {layout : Layout} {file : Id → FileModel} {es : List Annotation} {failure : Failures Id} {now : List (SnippetPlan Id)} {snippet_lines : List (RustLine Id)}
+      {placed : Result (Unit {0}) Error} (before : ArePlanned layout file es failure (take k files) now snippet_lines placed) where
     -- the lookups of the numbers of a file's lines
     abbrev asked_at : ℕ → Id → List (Id × Lookup)
-    asked_at i id = asked_of id (numbers_asked layout (fills_of (steps_at es i)))
+    asked_at i id = asked_of id (numbers_looked_up layout (fills_of (lines_at es i)))
 
     -- the lookups with this one's
-    asked-more : first_error failure (number_lookups layout es (ids_given (take (k + 1) files))) ≡ first_error failure (asked_at k f.id)
+    asked-more : first_error failure (number_lookups layout es (ids_view (take (k + 1) files))) ≡ first_error failure (asked_at k f.id)
     asked-more =
-        ap (first_error failure) (by_place-more asked_at k (ids_given (take k files)) (ids_given (take (k + 1) files)) f.id (length-map (take k files) _ ∙ files_before) ids-more)
-        ∙ first_error-none failure (number_lookups layout es (ids_given (take k files))) (asked_at k f.id) before.answered
+        ap (first_error failure) (by_index-more asked_at k (ids_view (take k files)) (ids_view (take (k + 1) files)) f.id (length-map (take k files) _ ∙ files_before) ids-more)
+        ∙ first_error-none failure (number_lookups layout es (ids_view (take k files))) (asked_at k f.id) before.answered
 
     -- the plans with this one
-    plans-with : {new : List (SheetFile Id)} {plan : SheetFile Id} {all own : List (GivenStep Id)} → new ≡ now ++ plan ∷ [] → all ≡ steps ++ own → IsPlan layout file es k f plan own
-        → ArePlans layout file es 0 (take k files) now steps → ArePlans layout file es 0 (take (k + 1) files) new all
+    plans-with : {new : List (SnippetPlan Id)} {plan : SnippetPlan Id} {all own : List (RustLine Id)} → new ≡ now ++ plan ∷ [] → all ≡ snippet_lines ++ own → IsPlan layout file es k f plan own
+        → ArePlans layout file es 0 (take k files) now snippet_lines → ArePlans layout file es 0 (take (k + 1) files) new all
     plans-with {new} {plan} {all} {own} whole whole_steps is found =
-        let place : k ≡ 0 + length (take k files) = omega (arith, files_before) in
-        let planned = plans-more 0 (take k files) now steps found (subst (λ n. IsPlan layout file es n f plan own) place is) in
+        let index : k ≡ 0 + length (take k files) = omega (arith, files_before) in
+        let planned = plans-more 0 (take k files) now snippet_lines found (subst (λ n. IsPlan layout file es n f plan own) index is) in
         subst (λ fs. ArePlans layout file es 0 fs new all) (sym (take-at here))
         (subst₂ (ArePlans layout file es 0 (take k files ++ f ∷ [])) (sym whole) (sym whole_steps) planned)
 
     -- it is planned too
-    pub planned-more : {new : List (SheetFile Id)} {plan : SheetFile Id} {all own : List (GivenStep Id)} → new ≡ now ++ plan ∷ [] → all ≡ steps ++ own → IsPlan layout file es k f plan own
-        → first_error failure (asked_at k f.id) ≡ None → first_error failure (place_asked f) ≡ None
+    pub planned-more : {new : List (SnippetPlan Id)} {plan : SnippetPlan Id} {all own : List (RustLine Id)} → new ≡ now ++ plan ∷ [] → all ≡ snippet_lines ++ own → IsPlan layout file es k f plan own
+        → first_error failure (asked_at k f.id) ≡ None → first_error failure (locus_lookups_of f) ≡ None
         → ArePlanned layout file es failure (take (k + 1) files) new all placed
     planned-more {new} {all = all} whole whole_steps is answered there = record {
       answered = asked-more ∙ answered;
       kept =
-          let others = first_error failure (place_lookups (take k files)) in
-          subst (λ o. FailsByOrFormat o placed) (sym (place-fails failure ∙ ap (or_failure others) there ∙ or_failure-none others)) before.kept;
+          let others = first_error failure (loci_lookups (take k files)) in
+          subst (λ o. FailsByOrFormat o placed) (sym (index-fails failure ∙ ap (or_failure others) there ∙ or_failure-none others)) before.kept;
       plans =
-          IfOk-weaker placed (λ _. ArePlans layout file es 0 (take k files) now steps) (λ _. ArePlans layout file es 0 (take (k + 1) files) new all)
+          IfOk-weaker placed (λ _. ArePlans layout file es 0 (take k files) now snippet_lines) (λ _. ArePlans layout file es 0 (take (k + 1) files) new all)
           (λ _ found. plans-with whole whole_steps is found) before.plans;
     }
 
     -- its numbers have been looked up, and the lookups of its locus fail
-    pub planned-unplaced : {all : List (GivenStep Id)} {e : Error} → first_error failure (asked_at k f.id) ≡ None
-        → (e ≢ OutOfMemory → e ≢ FormatError → first_error failure (place_asked f) ≡ Some e)
+    pub planned-unplaced : {all : List (RustLine Id)} {e : Error} → first_error failure (asked_at k f.id) ≡ None
+        → (e ≢ OutOfMemory → e ≢ FormatError → first_error failure (locus_lookups_of f) ≡ Some e)
         → ArePlanned layout file es failure (take (k + 1) files) now all (result_and placed (Err e))
     planned-unplaced {all} {e} answered told = record {
       answered = asked-more ∙ answered;
-      kept = subst (λ o. FailsByOrFormat {T = Unit {0}} o (result_and placed (Err e))) (sym (place-fails failure)) (first-kept _ _ placed e before.kept told);
+      kept = subst (λ o. FailsByOrFormat {T = Unit {0}} o (result_and placed (Err e))) (sym (index-fails failure)) (first-kept _ _ placed e before.kept told);
       plans = some-kept placed e (λ _. ArePlans layout file es 0 (take (k + 1) files) now all);
     }
 
     -- what its numbers fail with fails all
     pub planned-fails : {e : Error} → first_error failure (asked_at k f.id) ≡ Some e
-        → first_error failure (number_lookups layout es (ids_given files) ++ place_lookups files) ≡ Some e
+        → first_error failure (number_lookups layout es (ids_view files) ++ loci_lookups files) ≡ Some e
     planned-fails {e} told =
         let rest = drop (k + 1) files in
-        let whole = ap ids_given (sym (take-append-drop (k + 1) files)) ∙ map-append (λ (g : GivenFile Id). g.id) (take (k + 1) files) rest in
-        first_error-some failure (number_lookups layout es (ids_given files)) (place_lookups files) e
+        let whole = ap ids_view (sym (take-append-drop (k + 1) files)) ∙ map-append (λ (g : RustFile Id). g.id) (take (k + 1) files) rest in
+        first_error-some failure (number_lookups layout es (ids_view files)) (loci_lookups files) e
         (ap (λ ids. first_error failure (number_lookups layout es ids)) whole
-        ∙ ap (first_error failure) (by_place-append asked_at 0 (ids_given (take (k + 1) files)) (ids_given rest))
-        ∙ first_error-some failure (number_lookups layout es (ids_given (take (k + 1) files))) _ e (asked-more ∙ told))
+        ∙ ap (first_error failure) (by_index-append asked_at 0 (ids_view (take (k + 1) files)) (ids_view rest))
+        ∙ first_error-some failure (number_lookups layout es (ids_view (take (k + 1) files))) _ e (asked-more ∙ told))

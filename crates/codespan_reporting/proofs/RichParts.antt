@@ -15,12 +15,12 @@ use Rattle.codespan_base.specs.FileModel.{FileDatabase}
 use Rattle.codespan_base.specs.Streams.{Stream, newline}
 use Rattle.codespan_base.specs.WriterLaw.{Sink, Sends, PrefixWritten, is_known, with_written}
 use Rattle.codespan_base.proofs.Sends.{PrefixWritten-first, PrefixWritten-last, with_written-nil}
-use Rattle.codespan_reporting.specs.declared.term.views.sheet.Sheet.{Sheet}
-use Rattle.codespan_reporting.specs.declared.term.views.sheet.SheetFile.{SheetFile}
-use Rattle.codespan_reporting.specs.declared.term.views.steps.Step.{Step as GivenStep}
-use Rattle.codespan_reporting.specs.Inner.AskedLabels.{labels_failure}
-use Rattle.codespan_reporting.specs.Inner.Asking.{WroteStream, WrotePrefix, EndedAsking, SendsAsking}
-use Rattle.codespan_reporting.specs.Inner.GivenSheets.{AreSheetFiles, IsPrepared, ids_of, places_of, sheet_failure}
+use Rattle.codespan_reporting.specs.declared.term.views.plan.OutputPlan.{OutputPlan}
+use Rattle.codespan_reporting.specs.declared.term.views.plan.snippet_plans.SnippetPlan.{SnippetPlan}
+use Rattle.codespan_reporting.specs.declared.term.views.plan.snippet_lines.SnippetLine.{SnippetLine as RustLine}
+use Rattle.codespan_reporting.specs.Inner.CollectedLabels.{labels_failure}
+use Rattle.codespan_reporting.specs.Inner.LookupsOnTheWay.{WroteStream, WrotePrefix, EndedWithLookups, WritesWithLookups}
+use Rattle.codespan_reporting.specs.Inner.OutputPlans.{AreSnippetPlans, IsOutputPlan, ids_of, loci_of, output_plan_failure}
 use Rattle.codespan_reporting.specs.WriteCalls.{WritesOutput}
 use Rattle.codespan_picture.specs.Lookups.{early_lookups, first_error, late_lookups}
 use Rattle.codespan_picture.specs.Picture.{heading_of, label_of, labels_of, look_of, notes_of}
@@ -32,9 +32,9 @@ use Rattle.codespan_picture.specs.RowStreams.{header_row, stream_of, stream_of_r
 use Rattle.codespan_picture.specs.Snippets.{InFile, has_any, labelled_file, labelled_files, note_rows}
 use Rattle.codespan_base.proofs.Chains.{came-then, stopped-before, stopped-then, told-after}
 use Rattle.codespan_reporting.proofs.Chains.{PrefixWritten-as}
-use Rattle.codespan_reporting.proofs.Drawing.{after_header, before_header, early_failure, finished, late_failure, ByPlaces, failed_by_writer, failed_early, failed_late}
+use Rattle.codespan_reporting.proofs.Renderings.{after_header, before_header, early_failure, finished, late_failure, ByPlaces, failed_by_writer, failed_early, failed_late}
 use Rattle.codespan_reporting.proofs.NoteRows.{whole_of_notes}
-use Rattle.codespan_reporting.proofs.SheetPrepared.{labels-answered, labels-failed}
+use Rattle.codespan_reporting.proofs.OutputPlanned.{labels-answered, labels-failed}
 
 module _ {Id : Type 0} (view : Config) (files : FileDatabase Id) (d : Diagnostic Id) (some : 0 < length d.labels.items) where
   -- its labels with their files are as many
@@ -78,23 +78,23 @@ bare-whole {renderer = renderer} {view = view} {files = files} {d = d} {old = ol
 -- ---- before the header
 
 -- where the labels' lookups succeed, those of the sheet decide what those before the header fail with
-early-is_sheet : {Id : Type 0} (view : Config) (table : FileDatabase Id) {given gathered items : List (Label Id)} → given ≡ items → gathered ≡ given
+early-is_sheet : {Id : Type 0} (view : Config) (table : FileDatabase Id) {given collected items : List (Label Id)} → given ≡ items → collected ≡ given
     → labels_failure view table (map label_of given) ≡ None
-    → first_error table.failure (early_lookups table (map label_of items) view) ≡ sheet_failure view table (map label_of gathered)
+    → first_error table.failure (early_lookups table (map label_of items) view) ≡ output_plan_failure view table (map label_of collected)
 early-is_sheet view table {given} given_are gathered_are answered =
     ap (λ ls. first_error table.failure (early_lookups table (map label_of ls) view)) (sym given_are)
     ∙ labels-answered table view (map label_of given) answered
-    ∙ ap (λ ls. sheet_failure view table (map label_of ls)) (sym gathered_are)
+    ∙ ap (λ ls. output_plan_failure view table (map label_of ls)) (sym gathered_are)
 
--- a sheet that is prepared of the labels that were gathered is that of the diagnostic's
-pub prepared-of_all : {Id : Type 0} {view : Config} {table : FileDatabase Id} {given gathered items : List (Label Id)} {sheet : Sheet Id} → given ≡ items → gathered ≡ given
-    → IsPrepared table view (map label_of gathered) sheet → IsPrepared table view (map label_of items) sheet
-prepared-of_all {view = view} {table = table} {sheet = sheet} given_are gathered_are prepared =
-    subst (λ ls. IsPrepared table view (map label_of ls) sheet) (gathered_are ∙ given_are) prepared
+-- a sheet that is prepared of the labels that were collected is that of the diagnostic's
+pub prepared-of_all : {Id : Type 0} {view : Config} {table : FileDatabase Id} {given collected items : List (Label Id)} {output_plan : OutputPlan Id} → given ≡ items → collected ≡ given
+    → IsOutputPlan table view (map label_of collected) output_plan → IsOutputPlan table view (map label_of items) output_plan
+prepared-of_all {view = view} {table = table} {output_plan = output_plan} given_are gathered_are prepared =
+    subst (λ ls. IsOutputPlan table view (map label_of ls) output_plan) (gathered_are ∙ given_are) prepared
 
 -- a view is ready to render: its sheet is prepared, and the lookups before the header have succeeded
-pub record IsReady {Id : Type 0} (view : Config) (table : FileDatabase Id) (d : Diagnostic Id) (sheet : Sheet Id) : Type 0 where
-  pub prepared : IsPrepared table view (labels_of d) sheet
+pub record IsReady {Id : Type 0} (view : Config) (table : FileDatabase Id) (d : Diagnostic Id) (output_plan : OutputPlan Id) : Type 0 where
+  pub prepared : IsOutputPlan table view (labels_of d) output_plan
   pub early : early_failure view table d ≡ None
 
 module _ {Id : Type 0} {view : Config} {table : FileDatabase Id} {d : Diagnostic Id} {given : List (Label Id)} (given_are : given ≡ d.labels.items) where
@@ -106,17 +106,17 @@ module _ {Id : Type 0} {view : Config} {table : FileDatabase Id} {d : Diagnostic
       (λ memory display. ap (λ ls. first_error table.failure (early_lookups table (map label_of ls) view)) (sym given_are)
       ∙ labels-failed table view (map label_of given) e (told memory))
 
-  module _ {gathered : List (Label Id)} (gathered_are : gathered ≡ given) (answered : labels_failure view table (map label_of given) ≡ None) where
+  module _ {collected : List (Label Id)} (gathered_are : collected ≡ given) (answered : labels_failure view table (map label_of given) ≡ None) where
     -- a lookup of the sheet failed
     pub stopped-preparing : {renderer : Config} {s : Sink} {e : Error} → 0 < length d.labels.items
-        → (e ≢ OutOfMemory → e ≢ FormatError → sheet_failure view table (map label_of gathered) ≡ Some e) → WritesOutput Rich renderer view table d s (Err e) s
+        → (e ≢ OutOfMemory → e ≢ FormatError → output_plan_failure view table (map label_of collected) ≡ Some e) → WritesOutput Rich renderer view table d s (Err e) s
     stopped-preparing some told =
         failed_early refl (some_early view table d some)
         (λ memory display. early-is_sheet view table given_are gathered_are answered ∙ told memory display)
 
     -- all of these lookups succeed
-    pub ready : {sheet : Sheet Id} → IsPrepared table view (map label_of gathered) sheet → sheet_failure view table (map label_of gathered) ≡ None
-        → IsReady view table d sheet
+    pub ready : {output_plan : OutputPlan Id} → IsOutputPlan table view (map label_of collected) output_plan → output_plan_failure view table (map label_of collected) ≡ None
+        → IsReady view table d output_plan
     ready prepared told = record {
       prepared = prepared-of_all given_are gathered_are prepared;
       early = early-is_sheet view table given_are gathered_are answered ∙ told;
@@ -124,18 +124,18 @@ module _ {Id : Type 0} {view : Config} {table : FileDatabase Id} {d : Diagnostic
 
 -- ---- from the header on
 
-module _ {Id : Type 0} {view : Config} {table : FileDatabase Id} {d : Diagnostic Id} {sheet : Sheet Id} (ready : IsReady view table d sheet) where
+module _ {Id : Type 0} {view : Config} {table : FileDatabase Id} {d : Diagnostic Id} {output_plan : OutputPlan Id} (ready : IsReady view table d output_plan) where
   -- the header, with the end of its row
   abbrev header : Stream
   header = header_row d.severity None (heading_of d) ++ newline
 
   -- the snippets, as a configuration renders them
   abbrev middle : Config → Stream
-  middle k = stream_of_rows (look_of k d.severity sheet.padding) (snippets view (has_any (notes_of d)) (places_of sheet.files.items) (labelled_files table.same table.file (labels_of d)))
+  middle k = stream_of_rows (look_of k d.severity output_plan.padding) (snippets view (has_any (notes_of d)) (loci_of output_plan.files.items) (labelled_files table.same table.file (labels_of d)))
 
   -- the notes and the empty line
   abbrev end : Config → Stream
-  end k = whole_of_notes (look_of k d.severity sheet.padding) (notes_of d)
+  end k = whole_of_notes (look_of k d.severity output_plan.padding) (notes_of d)
 
   -- all of these
   abbrev whole : Config → Stream
@@ -143,26 +143,26 @@ module _ {Id : Type 0} {view : Config} {table : FileDatabase Id} {d : Diagnostic
 
   -- the call renders the snippets so, and makes their lookups
   abbrev DrawsMiddle : Config → Sink → Result (Unit {0}) Error → Sink → Type 0
-  DrawsMiddle k old r new = SendsAsking (late_failure view table d) old (middle k) r new
+  DrawsMiddle k old r new = WritesWithLookups (late_failure view table d) old (middle k) r new
 
   -- the snippets start at loci of the files
-  places-are : AllZip IsLocusOfFile (labelled_files table.same table.file (labels_of d)) (places_of sheet.files.items)
+  places-are : AllZip IsLocusOfFile (labelled_files table.same table.file (labels_of d)) (loci_of output_plan.files.items)
   places-are =
-      subst (λ (ids : List Id). AllZip IsLocusOfFile (map (labelled_file table.same table.file (labels_of d)) ids) (places_of sheet.files.items)) ready.prepared.ids_are (from sheet.files.items sheet.steps.items ready.prepared.files_are)
+      subst (λ (ids : List Id). AllZip IsLocusOfFile (map (labelled_file table.same table.file (labels_of d)) ids) (loci_of output_plan.files.items)) ready.prepared.ids_are (from output_plan.files.items output_plan.snippet_lines.items ready.prepared.files_are)
     where
-      from : (fs : List (SheetFile Id)) (steps : List (GivenStep Id)) → AreSheetFiles table view (labels_of d) fs steps
-          → AllZip IsLocusOfFile (map (labelled_file table.same table.file (labels_of d)) (ids_of fs)) (places_of fs)
-      from [] steps are = tt
-      from (f ∷ fs) steps are = (are.0.place, from fs (drop f.step_count steps) are.1)
+      from : (fs : List (SnippetPlan Id)) (snippet_lines : List (RustLine Id)) → AreSnippetPlans table view (labels_of d) fs snippet_lines
+          → AllZip IsLocusOfFile (map (labelled_file table.same table.file (labels_of d)) (ids_of fs)) (loci_of fs)
+      from [] snippet_lines are = tt
+      from (f ∷ fs) snippet_lines are = (are.0.index, from fs (drop f.line_total snippet_lines) are.1)
 
   -- the output with these loci is all of these
   placed-is : (renderer : Config) → ByPlaces renderer view table d (λ s. s ≡ whole renderer)
   placed-is renderer =
-      let rows = snippets view (has_any (notes_of d)) (places_of sheet.files.items) (labelled_files table.same table.file (labels_of d)) in
-      let look = look_of renderer d.severity sheet.padding in
+      let rows = snippets view (has_any (notes_of d)) (loci_of output_plan.files.items) (labelled_files table.same table.file (labels_of d)) in
+      let look = look_of renderer d.severity output_plan.padding in
       let ended : Row → Stream = λ row. stream_of look row ++ newline in
       record {
-        places = places_of sheet.files.items;
+        places = loci_of output_plan.files.items;
         are = places-are;
         holds = ap (λ n. stream_of_rows (look_of renderer d.severity n) ((HeaderRow None (heading_of d) ∷ rows) ++ note_rows (notes_of d) ++ (BlankRow ∷ []))) (sym ready.prepared.padding_is)
             ∙ ap (stream_of_rows look) (append_assoc (HeaderRow None (heading_of d) ∷ rows) (note_rows (notes_of d)) (BlankRow ∷ []))
@@ -186,7 +186,7 @@ module _ {Id : Type 0} {view : Config} {table : FileDatabase Id} {d : Diagnostic
     stopped-in_snippets {now} {old} {mid} {new} {e} some came alike part =
         ⊎_elim
         (λ (w : IsIo e × WrotePrefix mid (middle renderer) new). let stopped = stopped-before (end renderer) (stopped-then header came w.1) in failed_by_writer ready.early stopped.0 w.0 (begun-as renderer stopped.1))
-        (λ (w : EndedAsking (late_failure view table d) mid (middle renderer) e new).
+        (λ (w : EndedWithLookups (late_failure view table d) mid (middle renderer) e new).
         failed_late ready.early (w.frame ∙ came.0) (some_late view table d some) w.told
         (begun-as renderer (λ told. cut told (came.1 told) w.begun)))
         (subst (λ (k : Config). DrawsMiddle k mid (Err e) new) alike part)

@@ -8,19 +8,19 @@ use Rattle.codespan_base.specs.FileModel.{FileDatabase, or_failure}
 use Rattle.codespan_base.specs.FileModel.Lookup.{Source}
 use Rattle.codespan_base.specs.Streams.{Stream, newline}
 use Rattle.codespan_base.specs.WriterLaw.{Sink, Sends}
-use Rattle.codespan_reporting.specs.declared.term.views.lines.Page.{Page}
-use Rattle.codespan_reporting.specs.declared.term.views.sheet.SheetFile.{SheetFile}
-use Rattle.codespan_reporting.specs.declared.term.views.steps.Step.{Step}
-use Rattle.codespan_reporting.specs.Inner.Asking.{WroteStream, SendsAsking}
-use Rattle.codespan_reporting.specs.Inner.GivenSnippets.{start_rows}
-use Rattle.codespan_reporting.specs.Inner.GivenSteps.{asked_by_all, step_of}
-use Rattle.codespan_reporting.specs.Inner.Steps.{rows_of_steps}
+use Rattle.codespan_reporting.specs.declared.term.views.snippet.lines.SnippetContext.{SnippetContext}
+use Rattle.codespan_reporting.specs.declared.term.views.plan.snippet_plans.SnippetPlan.{SnippetPlan}
+use Rattle.codespan_reporting.specs.declared.term.views.plan.snippet_lines.SnippetLine.{SnippetLine}
+use Rattle.codespan_reporting.specs.Inner.LookupsOnTheWay.{WroteStream, WritesWithLookups}
+use Rattle.codespan_reporting.specs.Inner.SnippetRows.{start_rows}
+use Rattle.codespan_reporting.specs.Inner.SnippetLineViews.{lookups_of_lines, line_view}
+use Rattle.codespan_reporting.specs.Inner.SnippetLines.{rows_of_lines}
 use Rattle.codespan_picture.specs.Lookups.{asked_of, first_error}
 use Rattle.codespan_picture.specs.Picture.{look_of}
 use Rattle.codespan_picture.specs.Rows.{Look, Row}
 use Rattle.codespan_picture.specs.RowStreams.{stream_of, stream_of_rows}
 use Rattle.codespan_base.proofs.Chains.{came-then, stopped-then}
-use Rattle.codespan_reporting.proofs.Askings.{IsAsking, asking_after, asking_as, asking_cut, asking_of_sends, asking_then}
+use Rattle.codespan_reporting.proofs.LookupRuns.{IsAsking, asking_after, asking_as, asking_cut, asking_of_sends, asking_then}
 
 -- the streams of rows, one after the other
 pub rows-two : (look : Look) (a b : List Row) → stream_of_rows look (a ++ b) ≡ stream_of_rows look a ++ stream_of_rows look b
@@ -37,16 +37,16 @@ sends_after s t u a b (Err e) came sends = stopped-then a came sends
 
 -- ---- the snippet of a file
 
-module _ {F Id : Type 0} (table : F → FileDatabase Id) (page : Page F) (snippet : SheetFile Id) (own : List (Step Id)) (config : Config) where
+module _ {F Id : Type 0} (table : F → FileDatabase Id) (context : SnippetContext F) (snippet : SnippetPlan Id) (own : List (SnippetLine Id)) (config : Config) where
   -- the source of its file was looked up, and so it is rendered
   pub record IsOpen : Type 0 where
-    pub answered : (table page.files.now).failure snippet.file.now.id Source ≡ None
+    pub answered : (table context.files.now).failure snippet.file.now.id Source ≡ None
 
-module _ {F Id : Type 0} {table : F → FileDatabase Id} {page : Page F} {snippet : SheetFile Id} {own : List (Step Id)} {config : Config}
-    (opened : IsOpen table page snippet own config) where
+module _ {F Id : Type 0} {table : F → FileDatabase Id} {context : SnippetContext F} {snippet : SnippetPlan Id} {own : List (SnippetLine Id)} {config : Config}
+    (opened : IsOpen table context snippet own config) where
   -- what rows share, as a configuration renders them
   abbrev look_by : Config → Look
-  look_by by = look_of by page.severity page.padding
+  look_by by = look_of by context.severity context.padding
 
   -- the stream of rows
   abbrev stream : List Row → Stream
@@ -54,11 +54,11 @@ module _ {F Id : Type 0} {table : F → FileDatabase Id} {page : Page F} {snippe
 
   -- the rows of its lines
   abbrev line_rows : List Row
-  line_rows = rows_of_steps ((table page.files.now).file snippet.file.now.id) snippet.file.now.lane_count (map step_of own)
+  line_rows = rows_of_lines ((table context.files.now).file snippet.file.now.id) snippet.file.now.lane_count (map line_view own)
 
-  -- the error of the lookups of these steps
-  abbrev asked : List (Step Id) → Option Error
-  asked steps = first_error (table page.files.now).failure (asked_of snippet.file.now.id (asked_by_all steps))
+  -- the error of the lookups of these snippet lines
+  abbrev asked : List (SnippetLine Id) → Option Error
+  asked snippet_lines = first_error (table context.files.now).failure (asked_of snippet.file.now.id (lookups_of_lines snippet_lines))
 
   -- the streams of its first rows, and of its lines
   abbrev at_start : Stream
@@ -70,7 +70,7 @@ module _ {F Id : Type 0} {table : F → FileDatabase Id} {page : Page F} {snippe
   -- a call renders all of it, and makes all its lookups
   abbrev DrawsWhole : Sink → Result (Unit {0}) Error → Sink → Type 0
   DrawsWhole s r t =
-      SendsAsking (or_failure ((table page.files.now).failure snippet.file.now.id Source) (asked own)) s (stream (start_rows snippet ++ line_rows)) r t
+      WritesWithLookups (or_failure ((table context.files.now).failure snippet.file.now.id Source) (asked own)) s (stream (start_rows snippet ++ line_rows)) r t
 
   -- a call renders its lines, and makes their lookups
   abbrev DrawsLines : Sink → Result (Unit {0}) Error → Sink → Type 0
@@ -82,7 +82,7 @@ module _ {F Id : Type 0} {table : F → FileDatabase Id} {page : Page F} {snippe
 
   -- the lines were rendered, by an equal configuration
   pub lines-drawn : {by : Config} {s t : Sink} {r : Result (Unit {0}) Error} → by ≡ config
-      → SendsAsking (asked own) s (stream_of_rows (look_by by) line_rows) r t → DrawsLines s r t
+      → WritesWithLookups (asked own) s (stream_of_rows (look_by by) line_rows) r t → DrawsLines s r t
   lines-drawn alike drawn = asking_as refl (λ i. stream_of_rows (look_by (alike i)) line_rows) (record { draws = drawn })
 
   -- the first rows were cut short

@@ -12,23 +12,23 @@ use Rattle.codespan_base.specs.FileModel.{FileModel, line_count}
 use Rattle.codespan_base.specs.Labels.{Labelled}
 use Rattle.codespan_picture.specs.Padding.{digit_count, digits_of, numbered_lines, padding_of, spanned_lines, spans}
 use Rattle.codespan_picture.specs.Snippets.{InFile, LabelledFile, labelled_file, labelled_files, file_ids}
-use Rattle.codespan_reporting.specs.Inner.PlacedLabels.{IsIdAt, file_place}
+use Rattle.codespan_reporting.specs.Inner.IndexedLabels.{IsIdAt, index_of_file}
 use Rattle.codespan_reporting.specs.Inner.SpannedDigits.{all_digits, digits_on, label_digits}
 use Rattle.codespan_laws.proofs.Greatest.{greatest-any, greatest-append, greatest-same}
 use Rattle.codespan_laws.proofs.PaddingLemmas.{contains-filter, contains-range, numbered-fits}
 use Rattle.codespan_laws.proofs.RefillLemmas.{any-map}
 use Rattle.codespan_laws.proofs.SortedLists.{all-append, any-filtered}
 use Rattle.codespan_reporting.proofs.FileOrder.{file_ids-has}
-use Rattle.codespan_reporting.proofs.FilePlaces.{at-get, file_place-at}
-use Rattle.codespan_reporting.proofs.LabelPlaces.{has-place}
+use Rattle.codespan_reporting.proofs.FileIndices.{at-get, index_of_file-at}
+use Rattle.codespan_reporting.proofs.LabelIndexing.{has-index}
 
 -- ---- ids and lines
 
 -- the id at an index is one of them
-place-contained : {Id X : Type 0} (h : Id → X) (ids : List Id) (f : ℕ) (id : Id) → IsIdAt ids f id → Contains (map h ids) (h id)
-place-contained h [] f id at = absurd at
-place-contained h (j ∷ js) zero id at = (0, omega arith, ap h at)
-place-contained h (j ∷ js) (suc f) id at = let c = place-contained h js f id at in let low : c.0 < length (map h js) = c.1 in (suc c.0, omega (arith, low), c.2)
+index-contained : {Id X : Type 0} (h : Id → X) (ids : List Id) (f : ℕ) (id : Id) → IsIdAt ids f id → Contains (map h ids) (h id)
+index-contained h [] f id at = absurd at
+index-contained h (j ∷ js) zero id at = (0, omega arith, ap h at)
+index-contained h (j ∷ js) (suc f) id at = let c = index-contained h js f id at in let low : c.0 < length (map h js) = c.1 in (suc c.0, omega (arith, low), c.2)
 
 -- what holds of all that each id contributes
 all-places : {Id A : Type 0} (P : A → Type 0) (each : Id → List A) (js : List Id) → ((i : ℕ) (id : Id) → IsIdAt js i id → AllByRecursion P (each id)) → AllByRecursion P (flat_map each js)
@@ -96,8 +96,8 @@ module _ {Id : Type 0} (same : Id → Id → Bool) (file : Id → FileModel) (o 
   ids = file_ids same xs
 
   -- a file with its labels
-  abbrev labelled : Id → LabelledFile
-  labelled = labelled_file same file xs
+  abbrev labeled : Id → LabelledFile
+  labeled = labelled_file same file xs
 
   -- the padding of the output
   abbrev room : ℕ
@@ -108,7 +108,7 @@ module _ {Id : Type 0} (same : Id → Id → Bool) (file : Id → FileModel) (o 
   numbered-spanned s = ap (λ v. numbered_lines (record config { layout = v }) s) classic
 
   -- whether some label of a file spans a line
-  spans-any : (id : Id) (l : ℕ) → list_any (λ x. spans (file id) x l) (labelled id).labels ≡ list_any (λ (x : InFile Id). same id x.id && spans (file id) x.label l) xs
+  spans-any : (id : Id) (l : ℕ) → list_any (λ x. spans (file id) x l) (labeled id).labels ≡ list_any (λ (x : InFile Id). same id x.id && spans (file id) x.label l) xs
   spans-any id l =
       any-map (λ x. spans (file id) x l) (λ (x : InFile Id). x.label) (filter (λ (x : InFile Id). same id x.id) xs)
       ∙ any-filtered (λ (x : InFile Id). spans (file id) x.label l) (λ (x : InFile Id). same id x.id) xs
@@ -118,19 +118,19 @@ module _ {Id : Type 0} (same : Id → Id → Bool) (file : Id → FileModel) (o 
       → digit_count ((file (get_or xs k d).id).number l) ≤ room
   line-fits k d inside l low t =
       let y = get_or xs k d in
-      let f = file_place same ids y.id in
+      let f = index_of_file same ids y.id in
       let id = get_or ids f y.id in
-      let at : IsIdAt ids f id = at-get ids f y.id (has-place same o ids y.id (file_ids-has same o xs k d inside)) in
-      let alike : same id y.id ≡ true = sym (file_place-at same o xs f id at y.id) ∙ eq-eqb f f refl in
+      let at : IsIdAt ids f id = at-get ids f y.id (has-index same o ids y.id (file_ids-has same o xs k d inside)) in
+      let alike : same id y.id ≡ true = sym (index_of_file-at same o xs f id at y.id) ∙ eq-eqb f f refl in
       let model : file y.id ≡ file id = sym (one_file id y.id alike) in
       let here : spans (file id) y.label l ≡ true = subst (λ m. spans m y.label l ≡ true) model t in
       let own : (same id y.id && spans (file id) y.label l) ≡ true = ap (λ b. b && spans (file id) y.label l) alike ∙ here in
       let any = spans-any id l ∙ list_any_at (λ (x : InFile Id). same id x.id && spans (file id) x.label l) xs k d inside own in
       let count : l < line_count (file id) = subst (λ m. l < line_count m) model low in
       subst (λ m. digit_count (m.number l) ≤ room) (sym model)
-      (numbered-fits config (labelled_files same file xs) (labelled id) l (place-contained labelled ids f id at)
-      (subst (λ ls. Contains ls l) (sym (numbered-spanned (labelled id)))
-      (contains-filter (λ n. list_any (λ x. spans (file id) x n) (labelled id).labels) l (range_with_len 0 (line_count (file id))) any
+      (numbered-fits config (labelled_files same file xs) (labeled id) l (index-contained labeled ids f id at)
+      (subst (λ ls. Contains ls l) (sym (numbered-spanned (labeled id)))
+      (contains-filter (λ n. list_any (λ x. spans (file id) x n) (labeled id).labels) l (range_with_len 0 (line_count (file id))) any
       (contains-range 0 (line_count (file id)) l (omega arith) (omega (arith, count))))))
 
   -- so have those of all lines of labels
@@ -160,10 +160,10 @@ module _ {Id : Type 0} (same : Id → Id → Bool) (file : Id → FileModel) (o 
   -- so is that of each spanned line of the output
   lines-counted : AllByRecursion (λ n. n ≤ fold max 0 (all_digits file xs)) (flat_map (λ (s : LabelledFile). digits_of s (numbered_lines config s)) (labelled_files same file xs))
   lines-counted =
-      subst (AllByRecursion (λ n. n ≤ fold max 0 (all_digits file xs))) (sym (flat_map-map (λ (s : LabelledFile). digits_of s (numbered_lines config s)) labelled ids))
-      (all-places (λ n. n ≤ fold max 0 (all_digits file xs)) (λ id. digits_of (labelled id) (numbered_lines config (labelled id))) ids
-      (λ f id at. subst (λ ls. AllByRecursion (λ n. n ≤ fold max 0 (all_digits file xs)) (digits_of (labelled id) ls)) (sym (numbered-spanned (labelled id)))
-      (all-lines (λ n. n ≤ fold max 0 (all_digits file xs)) (λ l. digit_count ((file id).number l)) (λ l. list_any (λ x. spans (file id) x l) (labelled id).labels)
+      subst (AllByRecursion (λ n. n ≤ fold max 0 (all_digits file xs))) (sym (flat_map-map (λ (s : LabelledFile). digits_of s (numbered_lines config s)) labeled ids))
+      (all-places (λ n. n ≤ fold max 0 (all_digits file xs)) (λ id. digits_of (labeled id) (numbered_lines config (labeled id))) ids
+      (λ f id at. subst (λ ls. AllByRecursion (λ n. n ≤ fold max 0 (all_digits file xs)) (digits_of (labeled id) ls)) (sym (numbered-spanned (labeled id)))
+      (all-lines (λ n. n ≤ fold max 0 (all_digits file xs)) (λ l. digit_count ((file id).number l)) (λ l. list_any (λ x. spans (file id) x l) (labeled id).labels)
       (line_count (file id)) 0 (λ l low t. some-counted id l (omega (arith, low)) xs (sym (spans-any id l) ∙ t)))))
 
   -- the greatest digit count of the lines of labels is the padding

@@ -1,2 +1,2 @@
--- where tokens and problems are in a text
-pub mod Spans
+-- the bytes of a word
+pub mod Bytes

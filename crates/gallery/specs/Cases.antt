@@ -1,4 +1,4 @@
--- Cases, as they are read line by line.
+-- Cases, as they are parsed line by line.
 use Rattle.std.specs.Prelude.{◌≡◌, ◌⊎◌, ℕ, ◌+◌, List, [], ◌∷◌, ◌++◌, map, take, Some, None, slice_get, string_bytes}
 use Rattle.codespan_base.specs.declared.diagnostic.Severity.TheVariants as severities
 use Rattle.codespan_base.specs.Defaults.{default_config}
@@ -25,7 +25,7 @@ use Rattle.gallery.specs.Words.{chars_of}
 abbrev pub file_view : File → List ℕ × List ℕ
 file_view file = (string_bytes file.name, string_bytes file.source)
 
--- a case of which no more is said than its name
+-- a case of this name alone
 pub record IsNew (name : List ℕ) (case : Case) : Type 0 where
   pub called : case.name.now ≡ name
   pub table : case.table ≡ Several
@@ -36,7 +36,7 @@ pub record IsNew (name : List ℕ) (case : Case) : Type 0 where
   pub said : diagnostic_view case.said
       ≡ record { severity = severities.Error; code = None; message = []; labels = []; notes = [] }
 
--- the text goes on with the source of the last file
+-- the text continues the source of the last file
 pub record GoesOn (text : List ℕ) (old new : List (List ℕ × List ℕ)) : Type 0 where
   pub front : List (List ℕ × List ℕ)
   pub name : List ℕ
@@ -44,7 +44,7 @@ pub record GoesOn (text : List ℕ) (old new : List (List ℕ × List ℕ)) : Ty
   pub was : old ≡ front ++ (name, source) ∷ []
   pub is : new ≡ front ++ (name, source ++ text) ∷ []
 
--- the new case is the old one, with what is said of it
+-- the new case is the old one, with the statement applied
 abbrev pub Takes : Statement → Case → Case → Type 0
 Takes (says.Table table) old new = new ≡ record old { table = table }
 Takes (says.File name) old new =
@@ -87,14 +87,14 @@ Takes (says.Note note) old new =
     (new ≡ record old { said = record old.said { notes = new.said.notes } })
     × (new.said.notes.items ≡ old.said.notes.items ++ note ∷ [])
 
--- the statement is a part of a source
+-- the statement continues a source
 abbrev pub IsSource : Statement → Type 0
 IsSource (says.Source text) = Unit {0}
 IsSource _ = ⊥
 
 -- ---- all cases
 
--- the last case takes in what is said
+-- the statement is applied to the last case
 pub record LastTakes (statement : Statement) (before after : List Case) : Type 0 where
   pub front : List Case
   pub old : Case
@@ -115,20 +115,20 @@ Adds Silent before after = after ≡ before
 Adds (Title name) before after = Begins name.now before after
 Adds (Said statement) before after = LastTakes statement before after
 
--- the cases after a line are those before it, with what it says
+-- the cases after a line are those before it, with the line applied
 pub record TakesLine (line : List ℕ) (before after : List Case) : Type 0 where
   pub said : Line
   pub says : LineSays line said
   pub adds : Adds said before after
 
--- the cases after some lines, read one after another
+-- the cases after some lines, parsed one after another
 abbrev pub TakesLines : List (List ℕ) → List Case → List Case → Type 0
 TakesLines [] before after = after ≡ before
 TakesLines (line ∷ lines) before after =
     (between : List Case) × TakesLine line before between × TakesLines lines between after
 
--- why the last case does not take in what is said: there is none, it has no file for a part of a
--- source, or memory failed
+-- why a statement can not be applied to the last case: there is none, it has no file whose source
+-- could be continued, or an allocation failed
 abbrev pub LastFails : Statement → List Case → Mistake → Type 0
 LastFails statement before NoCase = before ≡ []
 LastFails statement before NoFile = IsSource statement
@@ -136,8 +136,8 @@ LastFails statement before NoFile = IsSource statement
 LastFails statement before OutOfMemory = Unit {0}
 LastFails statement before _ = ⊥
 
--- what is wrong with a line after these cases: memory failed, or the line is wrong, or they
--- can not take in what it says
+-- what is wrong with a line after these cases: an allocation failed, the line is wrong, or it can
+-- not be applied to them
 abbrev pub IsMistaken : List ℕ → List Case → Mistake → Type 0
 IsMistaken line before mistake =
     (mistake ≡ OutOfMemory)
@@ -145,8 +145,8 @@ IsMistaken line before mistake =
     ⊎ ((statement : Statement) × LineSays line (Said statement)
     × LastFails statement before mistake))
 
--- the fault tells the first line that has a mistake, by its number from 1, and the mistake; or that
--- memory failed
+-- the error is the first line that has a mistake, by its number from 1, and the mistake; or a
+-- failed allocation
 abbrev pub IsFirstMistake : List (List ℕ) → faults.Fault → Type 0
 IsFirstMistake lines (fault.Line number mistake) =
     (k : ℕ) × (line : List ℕ) × (before : List Case) × (number ≡ k + 1)

@@ -1,12 +1,11 @@
--- Texts whose odd characters are escaped.
+-- Texts with escapes.
 use Rattle.std.specs.Prelude.{◌≡◌, ◌≢◌, ℕ, ◌==◌, List, [], ◌∷◌, ◌++◌, EachIndex, slice_index, Option, Some, None, Ok, encode_utf8, if◌then◌else◌}
 use Rattle.std.specs.Char.{IsScalar}
 use Rattle.std.specs.Option.{option_map}
 use Rattle.std.specs.Str.Parse.{ParsesUnsigned}
 
 -- the character of a letter: that of `n` is the newline, and those of `r`, `t`, `0` and the
--- backslash are the carriage return, the tab, the
--- character of the number 0 and the backslash
+-- backslash are the carriage return, the tab, the character of the number 0 and the backslash
 abbrev pub letter_said : ℕ → Option ℕ
 letter_said letter =
     if letter == 110 then Some 10
@@ -24,20 +23,19 @@ Lacks b text = EachIndex text (λ k. slice_index text k ≢ b)
 abbrev pub IsNumbered : List ℕ → ℕ → Type 0
 IsNumbered digits c = ParsesUnsigned {E = Unit {0}} 32 16 digits (Ok c) × IsScalar c
 
--- the text is `{`, some digits, `}`, and then what is left
+-- the text is `{`, some digits, `}`, and then the remaining text
 abbrev pub IsBraced : List ℕ → List ℕ → List ℕ → Type 0
 IsBraced text digits left = (text ≡ 123 ∷ digits ++ 125 ∷ left) × Lacks 125 digits
 
--- what is read of a text after `u`: the character that a number in braces has, and what is left;
--- none where no such number stands there
+-- what is parsed after `\u`: the character of a number in braces, and the remaining text; none if
+-- there is no such number
 abbrev pub ReadsNumbered : List ℕ → Option (ℕ × List ℕ) → Type 0
 ReadsNumbered text (Some (c, left)) =
     (digits : List ℕ) × IsBraced text digits left × IsNumbered digits c
 ReadsNumbered text None =
     (digits left : List ℕ) (c : ℕ) → IsBraced text digits left → ¬ (IsNumbered digits c)
 
--- what is read of a text after a backslash: a character, and what is left; none where no escape
--- stands there
+-- what is parsed after a backslash: a character, and the remaining text; none if there is no escape
 abbrev pub ReadsEscape : List ℕ → Option (ℕ × List ℕ) → Type 0
 ReadsEscape [] read = read ≡ None
 ReadsEscape (letter ∷ left) read =
@@ -48,11 +46,11 @@ ReadsEscape (letter ∷ left) read =
 abbrev pub IsPlain : List ℕ → Type 0
 IsPlain text = Lacks 92 text
 
--- what is said, after these bytes
+-- the text that is meant, after these bytes
 abbrev pub after_bytes : List ℕ → Option (List ℕ) → Option (List ℕ)
 after_bytes front said = option_map (λ bytes. front ++ bytes) said
 
--- what an escaped text says; none where a backslash begins no escape
+-- the text that an escaped text stands for; none if a backslash begins no escape
 pub data Unescapes : List ℕ → Option (List ℕ) → Type 0 where
   whole : (text : List ℕ) → IsPlain text → Unescapes text (Some text)
   broken : (plain escape : List ℕ) → IsPlain plain → ReadsEscape escape None

@@ -5,27 +5,27 @@ use Rattle.std.specs.Str.Parse.{ParsesUnsigned}
 use Rattle.gallery.specs.declared.fault.Mistake.{Mistake}
 use Rattle.gallery.specs.declared.fault.Mistake.TheVariants.{BadNumber}
 
--- the byte at which a line is cut into fields: one space
+-- the byte that separates fields: one space
 abbrev pub is_blank : ℕ → Bool
 is_blank b = b == 32
 
--- the first field of a text: what stands before its first blank, or all of it
+-- the first field of a text: what precedes its first space, or all of it
 abbrev pub field_of : List ℕ → List ℕ
 field_of text = before_first is_blank text
 
--- what follows the first blank of a text, or nothing
+-- what follows the first space of a text, or nothing
 abbrev pub past_blank : List ℕ → List ℕ
 past_blank text = after_first is_blank text
 
--- the text writes this number in decimal digits, before which a plus may stand
+-- the text is this number in decimal digits, which may follow a plus sign
 abbrev pub IsNumber : List ℕ → ℕ → Type 0
 IsNumber text n = ParsesUnsigned {E = Mistake} 64 10 text (Ok n)
 
--- the text writes no number, or one that does not fit
+-- the text is no number, or one that does not fit
 abbrev pub IsNoNumber : List ℕ → Type 0
 IsNoNumber text = ParsesUnsigned {E = Mistake} 64 10 text (Err BadNumber)
 
--- a line that says nothing: it is empty or begins with `#`
+-- a line that is ignored: it is empty or begins with `#`
 abbrev pub is_ignored : List ℕ → Bool
 is_ignored [] = true
 is_ignored (b ∷ bs) = b == 35

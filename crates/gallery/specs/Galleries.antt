@@ -1,4 +1,4 @@
--- All pictures, each under the name of its case.
+-- The output of every case, each under its name.
 use Rattle.std.specs.Prelude.{◌≡◌, ℕ, ◌==◌, List, [], ◌∷◌, ◌++◌, codes, Result, Ok, Err, IfSome, OnOk, if◌then◌else◌}
 use Rattle.std.specs.List.{flat_map}
 use Rattle.codespan_base.specs.declared.files.Error.{Error}
@@ -8,11 +8,11 @@ use Rattle.gallery.specs.declared.case.Colours.TheVariants.{Plain, Svg}
 use Rattle.gallery.specs.Pictures.{IsPicture}
 use Rattle.gallery.specs.Svg.{IsSvg}
 
--- the line that a picture stands under
+-- the heading of a case
 abbrev pub title : List ℕ → List ℕ
 title name = codes "== " ++ name ++ 10 ∷ []
 
--- a byte of a picture as it is shown: the escape character, the character of the number 0, the
+-- a byte of an output as it is shown: the escape character, the character of the number 0, the
 -- carriage return and the tab by a backslash
 abbrev pub shown_byte : ℕ → List ℕ
 shown_byte b =
@@ -22,19 +22,19 @@ shown_byte b =
     else if b == 9 then codes "\\t"
     else b ∷ []
 
--- a picture as it is shown
+-- an output as it is shown
 abbrev pub shown : List ℕ → List ℕ
 shown picture = flat_map shown_byte picture
 
--- what is told of an error: nothing where there is none, else a line with the error's text
+-- the line of an error: nothing if there is none, else a line with the error's text
 abbrev pub TellsFailure : Result (Unit {0}) Error → List ℕ → Type 0
 TellsFailure (Ok done) told = told ≡ []
 TellsFailure (Err error) told =
     IfSome (error_text error) (λ text. told ≡ codes "refused: " ++ text ++ 10 ∷ [])
 
--- what stands under a title: what was drawn, as it is shown, and after it, where it failed, a
--- line that tells so; in plain text what was
--- drawn is the picture of the case, and as SVG the document that shows it
+-- the section of a case after its heading: the output as it is shown, and, if rendering failed, a
+-- line of the error; in plain text the output is the rendered case, and as SVG the document that
+-- shows it
 pub record IsPictured (case : Case) (text : List ℕ) : Type 0 where
   pub drawn : Result (Unit {0}) Error
   pub picture : List ℕ
@@ -44,7 +44,7 @@ pub record IsPictured (case : Case) (text : List ℕ) : Type 0 where
   pub plain : case.colours ≡ Plain → OnOk drawn (IsPicture case picture)
   pub document : case.colours ≡ Svg → OnOk drawn (IsSvg case picture)
 
--- the text has the cases in their order, each as its title and its picture
+-- the text has the cases in their order, each as its heading and its section
 abbrev pub IsGallery : List Case → List ℕ → Type 0
 IsGallery [] text = text ≡ []
 IsGallery (case ∷ cases) text =

@@ -1,4 +1,4 @@
--- The characters of a picture, each in its ink, and the places where they stand.
+-- The characters of rendered text, each in its ink, and their positions.
 use Rattle.std.specs.Prelude.{ℕ, ◌+◌, ◌==◌, Bool, false, not, nat_le, ◌&&◌, List, [], ◌∷◌, map, max, Option, None, Some, unwrap_or, if◌then◌else◌}
 use Rattle.std.specs.List.{flat_map}
 use Rattle.std.specs.Str.{IsUtf8, chars}
@@ -22,52 +22,52 @@ glyphs_of_run run = map (λ c. record { character = c; ink = run.0 }) (chars run
 abbrev pub glyphs_of : List InkedText → List Glyph
 glyphs_of runs = flat_map glyphs_of_run runs
 
--- the cells that a glyph takes: what `unicode_width` gives its character, or none
+-- the cells that a glyph occupies: what `unicode_width` returns for its character, or 0
 abbrev pub cells_of : Glyph → ℕ
 cells_of glyph = unwrap_or (char_width false glyph.character) 0
 
--- a row ends here
+-- the glyph is a newline
 abbrev pub is_newline : Glyph → Bool
 is_newline glyph = glyph.character == 10
 
--- ---- places
+-- ---- positions
 
--- where a picture starts
+-- the position of the first glyph
 abbrev pub start : Place
 start = record { row = 0; column = 0 }
 
--- the place after a glyph: the start of the next row after a newline, else as many cells on as it
--- takes
+-- the position after a glyph: the start of the next row after a newline, else to the right by its
+-- cells
 abbrev pub after_glyph : Place → Glyph → Place
 after_glyph place glyph =
     if is_newline glyph
     then record { row = place.row + 1; column = 0 }
     else record { row = place.row; column = place.column + cells_of glyph }
 
--- the row where glyphs end, and the cells of the widest row, from a place on
+-- the size of glyphs from a position on: the row where they end, and the cells of the widest row
 abbrev pub extent_from : Place → List Glyph → Place
 extent_from place [] = place
 extent_from place (glyph ∷ glyphs) =
     let rest = extent_from (after_glyph place glyph) glyphs in
     record { row = rest.row; column = max place.column rest.column }
 
--- ---- glyphs that stand in one text
+-- ---- glyphs of one text
 
--- the glyph takes one cell or none, and ends no row
+-- the glyph occupies at most one cell and is no newline
 abbrev pub is_narrow : Glyph → Bool
 is_narrow glyph = not (is_newline glyph) && nat_le (cells_of glyph) 1
 
--- the glyph stands in one text with the one before it: both are narrow, in one ink
+-- the glyph belongs to the text of the one before it: both are narrow, in one ink
 abbrev pub joins : Glyph → Glyph → Bool
 joins before glyph =
     is_narrow before && is_narrow glyph && ink_number before.ink == ink_number glyph.ink
 
--- the glyph stands in one text with the one before it, if there is one
+-- the glyph belongs to the text of the one before it, if there is one
 abbrev pub follows : Option Glyph → Glyph → Bool
 follows None glyph = false
 follows (Some before) glyph = joins before glyph
 
--- the first of the glyphs after it stands in one text with the glyph
+-- the first of the glyphs after it belongs to the text of the glyph
 abbrev pub goes_on : Glyph → List Glyph → Bool
 goes_on glyph [] = false
 goes_on glyph (next ∷ glyphs) = joins glyph next

@@ -1,4 +1,4 @@
--- What text is drawn in, and how a writer of inks tells it beside text.
+-- Inks, and how a writer of inks encodes them beside text.
 use Rattle.std.specs.Prelude.{ℕ, ◌+◌, false, List, [], ◌∷◌, map, Option, Some, None, if◌then◌else◌}
 use Rattle.std.specs.List.{flat_map}
 use Rattle.codespan_base.specs.declared.term.config.color.Color.{Color}
@@ -16,20 +16,20 @@ use Rattle.gallery.specs.declared.inks.Run.{Run}
 abbrev pub plain_ink : Ink
 plain_ink = record { colour = None; bold = false }
 
--- the ink of a style: its colour, and whether it is bold
+-- the ink of a style: its color, and whether it is bold
 abbrev pub ink_of : ColorSpec → Ink
 ink_of spec = record { colour = spec.fg; bold = spec.bold }
 
--- the number of a colour, or 8 where there is none
+-- the number of a color, or 8 for `None`
 abbrev pub colour_number : Option Color → ℕ
 colour_number None = 8
 colour_number (Some colour) = color_number colour
 
--- the number that tells an ink: it is no byte, since these are less than 256
+-- the number of an ink: it is no byte, since these are less than 256
 abbrev pub ink_number : Ink → ℕ
 ink_number ink = (if ink.bold then 272 else 256) + colour_number ink.colour
 
--- how marks of style are told: each by the ink of its default style, and the reset by that of plain
+-- the spelling of style marks: each by the ink of its default style, and the reset by that of plain
 -- text
 abbrev pub ink_spelling : Spelling
 ink_spelling =
@@ -41,7 +41,7 @@ ink_spelling =
 abbrev pub InkedText : Type 0
 InkedText = Ink × List ℕ
 
--- the same of a run that is kept
+-- the same of a run of the program
 abbrev pub run_view : Run → InkedText
 run_view run = (run.ink, run.text.items)
 
@@ -49,7 +49,7 @@ run_view run = (run.ink, run.text.items)
 abbrev pub run_told : InkedText → List ℕ
 run_told run = ink_number run.0 ∷ run.1
 
--- runs as they are told, one after another
+-- runs by their numbers and texts, one after another
 abbrev pub all_told : List InkedText → List ℕ
 all_told runs = flat_map run_told runs
 
@@ -57,6 +57,6 @@ all_told runs = flat_map run_told runs
 abbrev pub runs_kept : Inks → List InkedText
 runs_kept inks = map run_view inks.runs.items
 
--- what a writer of inks tells
+-- the stream of a writer of inks
 abbrev pub told : Inks → List ℕ
 told inks = all_told (runs_kept inks)

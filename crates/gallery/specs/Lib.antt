@@ -1,19 +1,19 @@
 -- the fields and the words of lines, and the names that may follow these
 pub mod Fields
 pub mod Words
--- escaped texts
+-- texts with escapes
 pub mod Escapes
--- what a line says, and what it does to the cases before it
+-- what a line describes, and what it does to the cases before it
 pub mod Statements
 pub mod Cases
--- the files of a case, and what is drawn over them
+-- the files of a case, and what is rendered over them
 pub mod Pictures
 pub mod Tables
--- text in inks, its characters and their places, and SVG documents of these
+-- text in inks, its characters and their positions, and SVG documents of these
 pub mod Inks
 pub mod Glyphs
 pub mod Svg
--- all pictures
+-- the output of every case
 pub mod Galleries
--- what a run is asked for, and what it answers
+-- what a run is to write, and what it returns
 pub mod Requests

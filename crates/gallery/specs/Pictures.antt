@@ -1,4 +1,4 @@
--- What is drawn of a case.
+-- The output of a case.
 use Rattle.std.specs.Prelude.{◌≡◌, ℕ, nat_eq, true, List, [], ◌∷◌, ◌++◌, map, Option, Some}
 use Rattle.std.specs.Borrow.{Bor}
 use Rattle.codespan_base.specs.declared.diagnostic.Diagnostic.{Diagnostic}
@@ -13,12 +13,12 @@ use Rattle.gallery.specs.declared.case.Table.{Table}
 use Rattle.gallery.specs.declared.case.Table.TheVariants.{One, Several, Mapped}
 use Rattle.gallery.specs.Cases.{file_view}
 
--- a label by the id of a file that stands alone
+-- a label by the id of a database of one file
 abbrev pub label_alone : LabelView ℕ → LabelView (Unit {0})
 label_alone label =
     record { style = label.style; file_id = tt; range = label.range; message = label.message }
 
--- what is said by the id of a file that stands alone
+-- a diagnostic by the id of a database of one file
 abbrev pub alone : DiagnosticView ℕ → DiagnosticView (Unit {0})
 alone said =
     record {
@@ -35,7 +35,7 @@ with_numbers settings [] = settings
 with_numbers settings (setting ∷ more) =
     with_numbers (with_number setting.0 setting.1 settings) more
 
--- a name and a source as they are lent
+-- a name and a source as they are borrowed
 abbrev pub LentFile : Type 0
 LentFile = Bor (List ℕ) × Bor (List ℕ)
 
@@ -45,7 +45,7 @@ lent_view file = (file.0.now, file.1.now)
 
 -- ---- file databases
 
--- a file alone, with what its lookups fail with
+-- a file alone, with the errors of its lookups
 abbrev pub database_alone : FileModel → (Lookup → Option Error) → FileDatabase (Unit {0})
 database_alone file failures =
     record { same = λ i j. true; file = λ id. file; failure = λ id. failures }
@@ -72,7 +72,7 @@ several_database files = record {
 abbrev pub Shown : Type 1
 Shown = (Id : Type 0) → FileDatabase Id → Diagnostic Id → Type 0
 
--- this holds of what a case says over such a database of its only file
+-- this holds of the diagnostic of a case over such a database of its only file
 pub record IsAlone (database : List ℕ → List ℕ → FileDatabase (Unit {0}))
     (case : Case) (Holds : Shown) : Type 0 where
   pub name : List ℕ
@@ -82,24 +82,24 @@ pub record IsAlone (database : List ℕ → List ℕ → FileDatabase (Unit {0})
   pub same : diagnostic_view said ≡ alone (diagnostic_view case.said)
   pub holds : Holds (Unit {0}) (database name source) said
 
--- this holds of what a case says over all its files
+-- this holds of the diagnostic of a case over all its files
 pub record IsAmong (case : Case) (Holds : Shown) : Type 0 where
   pub files : List LentFile
   pub same : map lent_view files ≡ map file_view case.files.items
   pub holds : Holds ℕ (several_database files) case.said
 
--- this holds of what a case says over its files, in the table that it asks for
+-- this holds of the diagnostic of a case over its file database
 abbrev pub InTable : Table → Case → Shown → Type 0
 InTable One case Holds = IsAlone simple_database case Holds
 InTable Several case Holds = IsAmong case Holds
 InTable Mapped case Holds =
     IsAlone (mapped_database (with_numbers [] case.numbers.items)) case Holds
 
--- the text is the picture of a case in plain text
+-- the text is the output of a case in plain text
 abbrev pub IsPicture : Case → List ℕ → Type 0
 IsPicture case text =
     InTable case.table case (λ Id database said. IsRendered case.config database said text)
 
--- the picture of a case in plain text is added
+-- the output of a case in plain text has been appended
 abbrev pub AddsPicture : Case → List ℕ → List ℕ → Type 0
 AddsPicture case old new = (text : List ℕ) × (new ≡ old ++ text) × IsPicture case text

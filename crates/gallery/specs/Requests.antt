@@ -1,4 +1,4 @@
--- What the arguments ask for, and what answers it.
+-- What the arguments request, and what is returned for it.
 use Rattle.std.specs.Prelude.{◌≡◌, ℕ, List, [], ◌∷◌, codes, Option, Some, None, IsSomeAnd, Result, Ok, Err, string_bytes, if◌then◌else◌}
 use Rattle.std.specs.Str.{bytes_eq}
 use Rattle.std.specs.Str.Lines.{lines}
@@ -11,13 +11,13 @@ use Rattle.gallery.specs.Cases.{IsFirstMistake, TakesLines}
 use Rattle.gallery.specs.Galleries.{IsGallery}
 use Rattle.gallery.specs.Svg.{IsSvg}
 
--- what is asked for: all pictures, or the document of the case of a name
+-- a request: every case, or the document of the case of a name
 pub data Asked : Type 0 where
   All : Asked
   Svg : List ℕ → Asked
 
--- what arguments ask for: without any all pictures, and by `svg NAME` the document of that case;
--- nothing by any others
+-- the request of the arguments: without any every case, and for `svg NAME` the document of that
+-- case; nothing for any others
 abbrev pub asked_of : List (List ℕ) → Option Asked
 asked_of [] = Some All
 asked_of (word ∷ []) = None
@@ -35,18 +35,17 @@ abbrev pub request_view : Request → Asked
 request_view requests.All = All
 request_view (requests.Svg name) = Svg name.now
 
--- the bytes are what is asked for of cases
+-- the bytes are what is requested of cases
 abbrev pub AnswersOf : Asked → List Case → List ℕ → Type 0
 AnswersOf All cases bytes = IsGallery cases bytes
 AnswersOf (Svg name) cases bytes = IsSomeAnd (case_named name cases) (λ case. IsSvg case bytes)
 
--- the bytes are what is asked for of an input
+-- the bytes are what is requested of an input
 abbrev pub Answers : Asked → List ℕ → List ℕ → Type 0
 Answers asked input bytes =
     (cases : List Case) × TakesLines (lines input) [] cases × AnswersOf asked cases bytes
 
--- why what is asked for of cases fails: no case has the name, the drawing failed, or memory
--- failed
+-- why a request of cases fails: no case has the name, rendering failed, or an allocation failed
 abbrev pub FailsOf : Asked → List Case → Fault → Type 0
 FailsOf asked cases (UnknownCase name) =
     (asked ≡ Svg (string_bytes name)) × (case_named (string_bytes name) cases ≡ None)
@@ -54,8 +53,7 @@ FailsOf asked cases (Undrawn error) = Unit {0}
 FailsOf asked cases OutOfMemory = Unit {0}
 FailsOf asked cases _ = ⊥
 
--- what a fault tells of the input: its first mistake, or that no case has the name that is asked
--- for
+-- what an error says of the input: it is its first mistake, or no case has the requested name
 abbrev pub FaultTells : Option Asked → Fault → List ℕ → Type 0
 FaultTells asked (Line number mistake) input = IsFirstMistake (lines input) (Line number mistake)
 FaultTells asked (UnknownCase name) input =

@@ -1,4 +1,4 @@
--- What a line says.
+-- What a line describes.
 use Rattle.std.specs.Prelude.{◌≡◌, ◌≢◌, ◌⊎◌, ℕ, true, false, List, Option, Some, None, IsSomeAnd, codes, string_bytes}
 use Rattle.codespan_base.specs.declared.diagnostic.Label.{Label}
 use Rattle.codespan_base.specs.declared.diagnostic.LabelStyle.{LabelStyle}
@@ -16,16 +16,16 @@ use Rattle.gallery.specs.Escapes.{Unescapes}
 use Rattle.gallery.specs.Fields.{field_of, past_blank, IsNumber, IsNoNumber, is_ignored}
 use Rattle.gallery.specs.Words.{word_named, table_named, style_named, layout_named, characters_named, colours_named, severity_named}
 
--- ---- what a line says
+-- ---- what a line describes
 
--- what follows the second blank of a text, and the third
+-- what follows the second space of a text, and the third
 abbrev pub past_two : List ℕ → List ℕ
 past_two text = past_blank (past_blank text)
 
 abbrev pub past_three : List ℕ → List ℕ
 past_three text = past_blank (past_two text)
 
--- the text says these bytes
+-- the text stands for these bytes
 abbrev pub Spells : List ℕ → List ℕ → Type 0
 Spells text bytes = Unescapes text (Some bytes)
 
@@ -34,7 +34,7 @@ abbrev pub style_word : LabelStyle → Word
 style_word styles.Primary = Primary
 style_word styles.Secondary = Secondary
 
--- a rest gives the numbers of lines that are shown: after a first line, before a last one, before a
+-- the rest has the numbers of lines that are shown: after a first line, before a last one, before a
 -- label and after it
 pub record IsContext (rest : List ℕ) (context : contexts.Context) : Type 0 where
   pub start : IsNumber (field_of rest) context.start
@@ -42,14 +42,14 @@ pub record IsContext (rest : List ℕ) (context : contexts.Context) : Type 0 whe
   pub before : IsNumber (field_of (past_two rest)) context.before
   pub after : IsNumber (past_three rest) context.after
 
--- a rest gives a label: its file, where it starts, where it ends, and its message
+-- the rest has a label: its file, where it starts, where it ends, and its message
 pub record IsLabel (rest : List ℕ) (label : Label ℕ) : Type 0 where
   pub file : IsNumber (field_of rest) label.file_id
   pub start : IsNumber (field_of (past_blank rest)) label.range.start
   pub end : IsNumber (field_of (past_two rest)) label.range.end
   pub message : Spells (past_three rest) (string_bytes label.message)
 
--- what the word and the rest of a line say of a case
+-- what the word and the rest of a line state of a case
 abbrev pub Says : Option Word → List ℕ → Statement → Type 0
 Says word rest (says.Table table) = (word ≡ Some Table) × (table_named rest ≡ Some table)
 Says word rest (says.File name) = (word ≡ Some File) × Spells rest (string_bytes name)
@@ -69,7 +69,7 @@ Says word rest (says.Message message) = (word ≡ Some Message) × Spells rest (
 Says word rest (says.Label label) = (word ≡ Some (style_word label.style)) × IsLabel rest label
 Says word rest (says.Note note) = (word ≡ Some Note) × Spells rest (string_bytes note)
 
--- what a line says: nothing, that a case of a name begins, or more of the last case
+-- what a line is: ignored, the first of a case of this name, or a statement of the last case
 abbrev pub LineSays : List ℕ → Line → Type 0
 LineSays line Silent = is_ignored line ≡ true
 LineSays line (Title name) =
@@ -125,7 +125,7 @@ IsWrong word rest NoCase = ⊥
 IsWrong word rest NoFile = ⊥
 IsWrong word rest OutOfMemory = Unit {0}
 
--- what is wrong with a line that is neither silent nor the beginning of a case
+-- what is wrong with a line that is neither ignored nor the first of a case
 pub record IsWrongLine (line : List ℕ) (mistake : Mistake) : Type 0 where
   pub says_something : is_ignored line ≡ false
   pub goes_on : field_of line ≢ codes "case"

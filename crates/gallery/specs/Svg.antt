@@ -1,4 +1,4 @@
--- SVG documents of pictures in colours.
+-- SVG documents of rendered text in colors.
 use Rattle.std.specs.Prelude.{◌≡◌, ℕ, ◌+◌, ◌*◌, ◌==◌, nat_lt, Bool, true, false, ◌||◌, List, [], ◌∷◌, ◌++◌, codes, decimal, Option, Some, None, encode_utf8, if◌then◌else◌}
 use Rattle.codespan_base.specs.declared.term.config.color.Color.{Color}
 use Rattle.codespan_base.specs.declared.term.config.color.Color.TheVariants.{Black, Red, Green, Yellow, Blue, Magenta, Cyan, White}
@@ -19,13 +19,13 @@ use Rattle.gallery.specs.Pictures.{InTable}
 
 -- ---- characters
 
--- XML can not hold the character
+-- the character can not be in an XML document
 abbrev pub is_unheld : ℕ → Bool
 is_unheld c = nat_lt c 32 || (c == 65534) || (c == 65535)
 
--- a character as XML holds it: what begins a tag or an entity as an entity; the escape character,
--- the character of the number 0, the carriage
--- return and the tab by a backslash; any other that can not be held as the replacement character
+-- a character as XML spells it: one that begins a tag or an entity as an entity; the escape
+-- character, the character of the number 0, the carriage return and the tab by a backslash; any
+-- other that can not be in a document as the replacement character
 abbrev pub xml_character : ℕ → List ℕ
 xml_character c =
     if c == 38 then codes "&amp;"
@@ -40,7 +40,7 @@ xml_character c =
 
 -- ---- tags
 
--- what a colour of a terminal is on the dark ground
+-- what a terminal color is on the dark background
 abbrev pub shade : Color → List ℕ
 shade Black = codes "#6e7681"
 shade Red = codes "#ff7b72"
@@ -51,7 +51,7 @@ shade Magenta = codes "#d2a8ff"
 shade Cyan = codes "#56d4dd"
 shade White = codes "#b1bac4"
 
--- the attribute of a colour; that of plain text has none
+-- the attribute of a color; that of plain text has none
 abbrev pub colour_attribute : Option Color → List ℕ
 colour_attribute None = []
 colour_attribute (Some colour) = codes " fill=\"" ++ shade colour ++ codes "\""
@@ -61,16 +61,15 @@ abbrev pub weight_attribute : Bool → List ℕ
 weight_attribute true = codes " font-weight=\"bold\""
 weight_attribute false = []
 
--- the pixels left of a place: a margin, and nine for each cell
+-- the pixels left of a position: a margin, and nine for each cell
 abbrev pub left_of : Place → ℕ
 left_of place = 12 + 9 * place.column
 
--- the pixels above the line that the characters of a place stand on: eighteen for each row
+-- the pixels above the baseline of a position: eighteen for each row
 abbrev pub above : Place → ℕ
 above place = 25 + 18 * place.row
 
--- the tag that begins a text of so many cells at a place: where it stands, how long it is, and its
--- ink
+-- the tag that begins a text of this many cells at a position: its position, its length and its ink
 abbrev pub text_tag : Place → ℕ → Ink → List ℕ
 text_tag place cells ink =
     codes "<text x=\"" ++ decimal (left_of place) ++ codes "\" y=\"" ++ decimal (above place)
@@ -79,15 +78,15 @@ text_tag place cells ink =
 
 -- ---- texts
 
--- where the first glyph is to stand
+-- the position of the first glyph
 abbrev pub first_pen : Pen
 first_pen = record { place = start; before = None }
 
--- where the next glyph is to stand
+-- the position of the next glyph
 abbrev pub next_pen : Pen → Glyph → Pen
 next_pen pen glyph = record { place = after_glyph pen.place glyph; before = Some glyph }
 
--- a glyph before others: a newline ends a row; any other stands in one text with those that it
+-- a glyph before others: a newline ends a row; any other is part of one text with those that it
 -- joins, between the tags of the text
 abbrev pub glyph_text : Pen → Glyph → List Glyph → List ℕ
 glyph_text pen glyph others =
@@ -120,7 +119,7 @@ size_tag extent =
     ++ codes "\" viewBox=\"0 0 " ++ decimal (width extent)
     ++ codes " " ++ decimal (height extent) ++ codes "\""
 
--- and ends with the font and the colour of plain text; the dark ground follows
+-- and ends with the font and the color of plain text; the dark background follows
 unfoldable pub ground : List ℕ
 ground =
     codes " font-family=\"DejaVu Sans Mono, Menlo, Consolas, monospace\" font-size=\"15\" fill=\"#e6edf3\" xml:space=\"preserve\">\n"
@@ -133,8 +132,7 @@ svg_document glyphs =
 
 -- ---- the document of a case
 
--- the runs are those of a picture: told, its stream begins in the ink of plain text; no lookup is
--- failed
+-- the runs are those of an output, which begins in the ink of plain text; no lookup fails
 pub record IsPaintedOver {Id : Type 0} (config : Config) (files : FileDatabase Id)
     (d : Diagnostic Id) (runs : List InkedText) : Type 0 where
   pub answered : AllSucceed files.failure
@@ -143,18 +141,18 @@ pub record IsPaintedOver {Id : Type 0} (config : Config) (files : FileDatabase I
       ≡ ink_number plain_ink
       ∷ spelled ink_spelling (picture config.display_style config config files d)
 
--- the runs are those of the picture of a case
+-- the runs are those of the output of a case
 abbrev pub IsPainted : Case → List InkedText → Type 0
 IsPainted case runs =
     InTable case.table case (λ Id database said. IsPaintedOver case.config database said runs)
 
--- the document shows the picture of a case: the characters of its runs of text, each in its ink
+-- the document shows the output of a case: the characters of its runs of text, each in its ink
 pub record IsSvg (case : Case) (document : List ℕ) : Type 0 where
   pub runs : List InkedText
   pub painted : IsPainted case runs
   pub texts : AreTexts runs
   pub is : document ≡ svg_document (glyphs_of runs)
 
--- the document that shows the picture of a case is added
+-- the document that shows the output of a case has been appended
 abbrev pub AddsSvg : Case → List ℕ → List ℕ → Type 0
 AddsSvg case old new = (document : List ℕ) × (new ≡ old ++ document) × IsSvg case document

@@ -1,4 +1,4 @@
--- The files of a case, in the table that it asks for.
+-- The file database of a case.
 use Rattle.std.specs.Prelude.{◌≡◌, ℕ, List, [], ◌∷◌, map}
 use Rattle.codespan_base.specs.declared.diagnostic.Diagnostic.{Diagnostic}
 use Rattle.codespan_base.specs.Diagnostics.{diagnostic_view}
@@ -10,13 +10,14 @@ use Rattle.gallery.specs.declared.tables.Tables.TheVariants.{One, Several, Mappe
 use Rattle.gallery.specs.Cases.{file_view}
 use Rattle.gallery.specs.Pictures.{alone, lent_view, with_numbers}
 
--- the only file of a case has this name and this source, and this is what the case says by its id
+-- the only file of a case has this name and this source, and this is its diagnostic by the file's
+-- id
 pub record StandsAlone (case : Case) (name source : List ℕ)
     (said : Diagnostic (Unit {0})) : Type 0 where
   pub only : map file_view case.files.items ≡ (name, source) ∷ []
   pub same : diagnostic_view said ≡ alone (diagnostic_view case.said)
 
--- these are the files of a case, in the table that it asks for
+-- this is the file database of a case
 abbrev pub AreTables : Case → Tables → Type 0
 AreTables case (One file said) =
     (case.table ≡ tables.One) × StandsAlone case (name_of file).now (source_of file).now said

@@ -18,7 +18,7 @@ use Rattle.gallery.specs.declared.case.CharacterSet.TheVariants as sets
 use Rattle.gallery.specs.declared.words.Word.{Word}
 use Rattle.gallery.specs.declared.words.Word.TheVariants.{Table, File, Source, Number, Style, Layout, Tab, Context, Characters, Colours, Severity, Code, Message, Primary, Secondary, Note}
 
--- the word that is spelled so
+-- the word of this spelling
 unfoldable pub word_named : List ℕ → Option Word
 word_named text =
     if bytes_eq text (codes "table") then Some Table
@@ -39,7 +39,7 @@ word_named text =
     else if bytes_eq text (codes "note") then Some Note
     else None
 
--- the kind of table that is called so
+-- the kind of file database of this name
 unfoldable pub table_named : List ℕ → Option tables.Table
 table_named text =
     if bytes_eq text (codes "one") then Some One
@@ -47,7 +47,7 @@ table_named text =
     else if bytes_eq text (codes "mapped") then Some Mapped
     else None
 
--- the style that is called so
+-- the style of this name
 unfoldable pub style_named : List ℕ → Option DisplayStyle
 style_named text =
     if bytes_eq text (codes "rich") then Some Rich
@@ -55,21 +55,21 @@ style_named text =
     else if bytes_eq text (codes "short") then Some Short
     else None
 
--- the layout that is called so
+-- the layout of this name
 unfoldable pub layout_named : List ℕ → Option layouts.Layout
 layout_named text =
     if bytes_eq text (codes "classic") then Some Classic
     else if bytes_eq text (codes "unbroken") then Some Unbroken
     else None
 
--- the characters that are called so
+-- the characters of this name
 unfoldable pub characters_named : List ℕ → Option CharacterSet
 characters_named text =
     if bytes_eq text (codes "box") then Some sets.Box
     else if bytes_eq text (codes "ascii") then Some sets.Ascii
     else None
 
--- the way to show colours that is called so
+-- the way to write colors of this name
 unfoldable pub colours_named : List ℕ → Option colours.Colours
 colours_named text =
     if bytes_eq text (codes "none") then Some Plain
@@ -77,7 +77,7 @@ colours_named text =
     else if bytes_eq text (codes "svg") then Some Svg
     else None
 
--- the severity that is called so
+-- the severity of this name
 unfoldable pub severity_named : List ℕ → Option severities.Severity
 severity_named text =
     if bytes_eq text (codes "bug") then Some severity.Bug

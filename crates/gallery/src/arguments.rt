@@ -7,7 +7,7 @@ use std::env;
 use std::io::ErrorKind;
 use std::rt::Env;
 
-/// The program's arguments, without its own name. Some that are not UTF-8 are wrong arguments.
+/// Returns the program's arguments, without its own name. If one is not UTF-8, they are wrong.
 pub fn arguments<R: Env + AllocGlobal>(rt: &R) -> Result<Vec<String>, Fault>
     ensures { IfErr result (λ fault. (fault ≡ Fault.WrongArguments) ⊎ (fault ≡ Fault.OutOfMemory)) }
 {

@@ -1,4 +1,4 @@
-//! A case: what is drawn, over which files, and how.
+//! A case: a diagnostic, its files, and a configuration.
 
 ghost use Rattle.std.specs.Prelude.{◌≡◌, ◌⊎◌, [], ◌∷◌, ◌++◌, map, OnOk, IfErr, string_bytes};
 ghost use Rattle.codespan_base.specs.Lookalikes.{IsChars};
@@ -12,7 +12,7 @@ use codespan_reporting::diagnostic::Diagnostic;
 use codespan_reporting::term::{Chars, Config};
 use std::alloc::Global;
 
-/// The kind of table that the files of a case stand in.
+/// The type of the file database of a case.
 #[derive(Clone, Copy, Debug, PartialEq, Eq)]
 pub enum Table {
     /// A `SimpleFile`.
@@ -23,7 +23,7 @@ pub enum Table {
     Mapped,
 }
 
-/// The characters that a picture is drawn with.
+/// A set of characters for borders, carets and lanes.
 #[derive(Clone, Copy, Debug, PartialEq, Eq)]
 pub enum CharacterSet {
     /// Those of box drawing.
@@ -33,7 +33,7 @@ pub enum CharacterSet {
 }
 
 impl CharacterSet {
-    /// The characters of this set.
+    /// Returns the characters of this set.
     pub fn chars<'chars>(self) -> Chars<'chars>
         ensures { IsChars (chars_of self) result }
     {
@@ -44,7 +44,7 @@ impl CharacterSet {
     }
 }
 
-/// How a picture shows its colours.
+/// How colors are written.
 #[derive(Clone, Copy, Debug, PartialEq, Eq)]
 pub enum Colours {
     /// Not at all.
@@ -58,33 +58,35 @@ pub enum Colours {
 /// A file of a case.
 #[derive(Debug, Drop)]
 pub struct File {
-    /// The name that is shown.
+    /// The displayed name.
     pub name: String,
-    /// The text.
+    /// The source.
     pub source: String,
 }
 
-/// A picture that is asked for.
+/// A diagnostic to be rendered.
 #[derive(Debug, Drop)]
 pub struct Case<'input> {
-    /// What the picture stands under.
+    /// The name of the case, its heading.
     pub name: &'input str,
-    /// What the files stand in.
+    /// The type of the file database.
     pub table: Table,
     /// The files in their order.
     pub files: Vec<File>,
-    /// The lines whose numbers are set, by their indices from 0, with these numbers. Only a `MappedFile` has them.
+    /// The lines whose numbers are set, by their indices from 0, with these numbers. Only a
+    /// `MappedFile` uses them.
     pub numbers: Vec<(usize, usize)>,
-    /// What the picture looks like.
+    /// The configuration.
     pub config: Config<'input>,
-    /// How it shows its colours.
+    /// How colors are written.
     pub colours: Colours,
-    /// What it says.
+    /// The diagnostic.
     pub said: Diagnostic<usize>,
 }
 
 impl<'input> Case<'input> {
-    /// A case of which no more is said than its name: an error with nothing to it, by the default configuration, without colours.
+    /// Returns a case of this name alone: an empty error, by the default configuration, without
+    /// colors.
     pub fn new(alloc: Global, name: &'input str) -> Case<'input>
         ensures { IsNew name.now result }
     {
@@ -99,9 +101,13 @@ impl<'input> Case<'input> {
         }
     }
 
-    /// Takes in what a line says. A later line that says what an earlier one said already is the one that counts.
+    /// Applies a statement. It replaces an earlier one of the same kind, unless the kind adds to a
+    /// list.
     ///
-    /// Fails with `NoFile` a part of a source where there is no file.
+    /// # Errors
+    ///
+    /// `NoFile` for the continuation of a source if there is no file, and `OutOfMemory` if an
+    /// allocation fails.
     pub fn take(&mut self, statement: Statement) -> Result<(), Mistake>
         ensures takes { OnOk result (Takes statement self.old self.new) }
         ensures failed { IfErr result (λ mistake. (mistake ≡ OutOfMemory)
@@ -139,7 +145,7 @@ impl<'input> Case<'input> {
         Ok(())
     }
 
-    /// Adds a text to the source of the last file.
+    /// Appends a text to the source of the last file.
     fn add_source(&mut self, text: &str) -> Result<(), Mistake>
         ensures others { self.new ≡ record self.old { files = self.new.files } }
         ensures files { OnOk result

@@ -1,8 +1,9 @@
-//! Cases, as they are read.
+//! The parser of cases.
 //!
-//! An input is a text of lines. A line begins with a word, which goes up to its first blank, one space; its rest is what follows that blank.
-//! Lines that are empty or begin with `#` say nothing. A line `case NAME` begins a case, of which the lines after it speak
-//! ([`Statement`] has their words); texts in these are escaped ([`unescape`] has the escapes).
+//! The input is a text of lines. A line begins with a word, which ends before the first space; its
+//! rest is what follows that space. Lines that are empty or begin with `#` are ignored. A line
+//! `case NAME` begins a case, and the lines after it describe it ([`Statement`] lists their words);
+//! texts in these are escaped ([`unescape`] lists the escapes).
 //!
 //! [`Statement`]: crate::statement::Statement
 //! [`unescape`]: crate::escape::unescape
@@ -16,9 +17,12 @@ use crate::fault::{Fault, Mistake};
 use crate::statement::{Line, Statement, parse_line};
 use std::alloc::Global;
 
-/// The cases of an input, or the mistake of the first line that has one, with the line's number.
+/// Returns the cases of an input.
 ///
-/// Fails with `OutOfMemory` besides.
+/// # Errors
+///
+/// The mistake of the first line that has one, with the line's number from 1, and `OutOfMemory` if
+/// an allocation fails.
 pub fn parse_cases(alloc: Global, input: &str) -> Result<Vec<Case<'_>>, Fault>
     ensures cases { IfOk result (λ cases. TakesLines (lines input.now) [] cases.items) }
     ensures mistake { IfErr result (IsFirstMistake (lines input.now)) }
@@ -27,7 +31,7 @@ pub fn parse_cases(alloc: Global, input: &str) -> Result<Vec<Case<'_>>, Fault>
     take_lines(alloc, lines.as_slice())
 }
 
-/// The cases of lines.
+/// Returns the cases of lines.
 fn take_lines<'input>(alloc: Global, lines: &[&'input str]) -> Result<Vec<Case<'input>>, Fault>
     ensures cases { IfOk result (λ cases.
         TakesLines (map (λ line. line.now) lines.now) [] cases.items) }
@@ -42,7 +46,7 @@ fn take_lines<'input>(alloc: Global, lines: &[&'input str]) -> Result<Vec<Case<'
     Ok(cases)
 }
 
-/// Takes in a line: it begins a case, or speaks of the last one, or says nothing.
+/// Applies a line: it begins a case, describes the last one, or is ignored.
 fn take_line<'input>(
     alloc: Global,
     cases: &mut Vec<Case<'input>>,
@@ -59,7 +63,7 @@ fn take_line<'input>(
     Ok(())
 }
 
-/// Takes in what a line says of the last case.
+/// Applies a statement to the last case.
 fn take_in_last(cases: &mut Vec<Case<'_>>, statement: Statement) -> Result<(), Mistake>
     ensures takes { OnOk result (LastTakes statement cases.old.items cases.new.items) }
     ensures failed { IfErr result (LastFails statement cases.old.items) }

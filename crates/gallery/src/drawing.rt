@@ -1,4 +1,4 @@
-//! The picture of a case, by the calls that users have.
+//! The output of a case, by the calls of the library.
 
 ghost use Rattle.std.specs.Prelude.{◌≡◌, IfOk, OnOk, map};
 ghost use Rattle.gallery.specs.declared.case.Colours.TheVariants.{Plain};
@@ -16,9 +16,12 @@ use codespan_reporting::files::{Error, Files};
 use codespan_reporting::term::{Ansi, Styles, StylesWriter, emit_into_string, emit_to_write_style};
 use std::alloc::Global;
 
-/// Draws a case over its files as text: plain, or in colours by escape sequences.
+/// Appends the rendered case over its files: as plain text, or in colors by escape sequences.
 ///
-/// Fails with `FileMissing` besides where a table of one file has another number of files, or a label in another file.
+/// # Errors
+///
+/// Those of rendering, and `FileMissing` if a database of one file has another number of files, or
+/// a label is in another file.
 pub fn draw(alloc: Global, case: &Case<'_>, picture: &mut Vec<u8>) -> Result<(), Error>
     ensures { case.now.colours ≡ Plain
         → OnOk result (AddsPicture case.now picture.old.items picture.new.items) }
@@ -31,7 +34,7 @@ pub fn draw(alloc: Global, case: &Case<'_>, picture: &mut Vec<u8>) -> Result<(),
     }
 }
 
-/// Draws a case over its files as text: plain, or in colours by escape sequences.
+/// Appends the rendered case over these files: as plain text, or in colors by escape sequences.
 fn draw_over<'files, F: Files<'files>>(
     case: &Case<'_>,
     files: &'files F,
@@ -53,9 +56,12 @@ fn draw_over<'files, F: Files<'files>>(
     }
 }
 
-/// Draws a case over its files in the default styles, whatever colours it asks for: its runs of text, each in one ink.
+/// Renders a case over its files in the default styles, whatever colors it states, and returns its
+/// runs of text, each in one ink.
 ///
-/// Fails as [`draw`] does.
+/// # Errors
+///
+/// Those of [`draw`].
 pub fn paint(alloc: Global, case: &Case<'_>) -> Result<Vec<Run>, Error>
     ensures { IfOk result (λ runs. IsPainted case.now (map run_view runs.items)) }
 {
@@ -67,7 +73,7 @@ pub fn paint(alloc: Global, case: &Case<'_>) -> Result<Vec<Run>, Error>
     }
 }
 
-/// The runs of text of a case over its files.
+/// Returns the runs of text of a case over these files.
 fn paint_over<'files, F: Files<'files>>(
     alloc: Global,
     case: &Case<'_>,

@@ -1,4 +1,4 @@
-//! Texts whose odd characters are escaped.
+//! Texts with escapes.
 
 ghost use Rattle.std.specs.Prelude.{◌≡◌, ◌⊎◌, ℕ, ◌≤◌, ◌<◌, length, IfSome, MatchResult, Some, None, string_bytes};
 ghost use Rattle.std.specs.Option.{option_map};
@@ -8,7 +8,7 @@ ghost use Rattle.gallery.specs.declared.fault.Mistake.TheVariants.{BadEscape, Ou
 use crate::fault::Mistake;
 use std::alloc::Global;
 
-/// The text that an escaped one stands for.
+/// Returns the text that an escaped one stands for.
 ///
 /// | escape | stands for |
 /// |---|---|
@@ -36,7 +36,8 @@ pub fn unescape(alloc: Global, text: &str) -> Result<String, Mistake>
     Ok(said)
 }
 
-/// The character of the escape that a text begins with, after its backslash, and what follows the escape.
+/// Parses the escape at the start of a text, after its backslash, and returns its character with
+/// what follows.
 fn read_escape(text: &str) -> Option<(char, &str)>
     ensures read { ReadsEscape text.now (option_map (λ read. (read.0, read.1.now)) result) }
     ensures shorter { IfSome result (λ read. length read.1.now < length text.now) }
@@ -55,7 +56,7 @@ fn read_escape(text: &str) -> Option<(char, &str)>
     }
 }
 
-/// The character whose number a text begins with, in braces, and what follows these.
+/// Parses the number in braces at the start of a text, and returns its character with what follows.
 fn read_numbered(text: &str) -> Option<(char, &str)>
     ensures read { ReadsNumbered text.now (option_map (λ read. (read.0, read.1.now)) result) }
     ensures shorter { IfSome result (λ read. length read.1.now ≤ length text.now) }
@@ -65,7 +66,7 @@ fn read_numbered(text: &str) -> Option<(char, &str)>
     Some((numbered_character(digits)?, left))
 }
 
-/// The character of a number in hexadecimal digits, if it has one.
+/// Returns the character of a number in hexadecimal digits, if there is one.
 fn numbered_character(digits: &str) -> Option<char>
     ensures found { IfSome result (IsNumbered digits.now) }
     ensures absent { result ≡ None → (c : ℕ) → ¬ (IsNumbered digits.now c) }

@@ -1,4 +1,4 @@
-//! Why nothing was drawn.
+//! The errors of the program.
 
 ghost use Rattle.std.specs.Prelude.{◌≡◌};
 ghost use Rattle.gallery.specs.declared.fault.Mistake.TheVariants as mistakes;
@@ -9,31 +9,31 @@ use std::alloc::{AllocError, AllocFailed};
 use std::io::Write;
 use std::{fmt, io};
 
-/// What is wrong with a line of the input.
+/// An error in a line of the input.
 #[derive(Clone, Copy, Debug, PartialEq, Eq)]
 pub enum Mistake {
-    /// It begins with another word than those of cases.
+    /// It begins with an unknown word.
     UnknownWord,
     /// Its rest is none of the names that may follow its word.
     UnknownName,
-    /// A number is missing, or is none.
+    /// A number is missing or malformed.
     BadNumber,
     /// A backslash of its text begins no escape.
     BadEscape,
-    /// It stands before the first case.
+    /// It precedes the first case.
     NoCase,
-    /// It is a part of a source, and its case has no file yet.
+    /// It continues a source, and its case has no file yet.
     NoFile,
-    /// The memory that it needs failed.
+    /// An allocation failed.
     OutOfMemory,
 }
 
-/// Why a run ends without what it was asked for.
+/// An error that ends a run.
 #[derive(Debug, Drop)]
 pub enum Fault {
-    /// The arguments ask for nothing that is known.
+    /// The arguments are wrong.
     WrongArguments,
-    /// A read failed, or the memory that the input needs.
+    /// Reading the input failed, or an allocation for it.
     CannotReadInput,
     /// The input is not UTF-8.
     NotUtf8,
@@ -41,22 +41,22 @@ pub enum Fault {
     Line(usize, Mistake),
     /// No case has this name.
     UnknownCase(String),
-    /// The picture of the case failed.
+    /// Rendering the case failed.
     Undrawn(Error),
-    /// The memory that the pictures need failed.
+    /// An allocation for the output failed.
     OutOfMemory,
-    /// A write or the flush of the output failed.
+    /// Writing or flushing the output failed.
     CannotWriteOutput,
 }
 
 impl Fault {
-    /// Writes the fault's line.
+    /// Writes the message of the error as one line.
     pub fn write_line<W: Write>(&self, faults: &mut W) -> io::Result<()> {
         writeln!(faults, "{self}")
     }
 }
 
-/// Memory failed.
+/// Converts a failed allocation.
 impl From<AllocError> for Mistake {
     ghost from_gives = { λ _ mistake. mistake ≡ mistakes.OutOfMemory };
 
@@ -65,7 +65,7 @@ impl From<AllocError> for Mistake {
     }
 }
 
-/// Memory failed.
+/// Converts a failed allocation.
 impl<T: Drop> From<AllocFailed<T>> for Mistake {
     ghost from_gives = { λ _ mistake. mistake ≡ mistakes.OutOfMemory };
 
@@ -74,7 +74,7 @@ impl<T: Drop> From<AllocFailed<T>> for Mistake {
     }
 }
 
-/// Memory failed.
+/// Converts a failed allocation.
 impl From<AllocError> for Fault {
     ghost from_gives = { λ _ fault. fault ≡ faults.OutOfMemory };
 
@@ -83,7 +83,7 @@ impl From<AllocError> for Fault {
     }
 }
 
-/// A few words.
+/// Writes a message of a few words.
 impl fmt::Display for Mistake {
     fn fmt<W: fmt::Write>(&self, f: &mut fmt::Formatter<W>) -> fmt::Result {
         match self {
@@ -98,7 +98,7 @@ impl fmt::Display for Mistake {
     }
 }
 
-/// One line, without its end.
+/// Writes the message as one line, without its newline.
 impl fmt::Display for Fault {
     fn fmt<W: fmt::Write>(&self, f: &mut fmt::Formatter<W>) -> fmt::Result {
         match self {

@@ -7,7 +7,8 @@ ghost use Rattle.gallery.specs.declared.fault.Mistake.TheVariants.{BadNumber};
 
 use crate::fault::Mistake;
 
-/// What stands before the first blank of a text, and what follows it; all and nothing where there is none.
+/// Returns what precedes the first space of a text, and what follows it; the whole text and an
+/// empty one if there is no space.
 pub fn cut(text: &str) -> (&str, &str)
     ensures before { result.0.now ≡ field_of text.now }
     ensures after { result.1.now ≡ past_blank text.now }
@@ -18,7 +19,7 @@ pub fn cut(text: &str) -> (&str, &str)
     }
 }
 
-/// The number that a text writes in decimal digits, before which a plus may stand.
+/// Parses a number of decimal digits, which may follow a plus sign.
 pub fn parse_number(text: &str) -> Result<usize, Mistake>
     ensures value { ParsesUnsigned 64 10 text.now result }
     ensures failed { IfErr result (λ mistake. mistake ≡ BadNumber) }
@@ -29,7 +30,7 @@ pub fn parse_number(text: &str) -> Result<usize, Mistake>
     }
 }
 
-/// The number that a text begins with, up to its first blank, and what follows that.
+/// Parses the number before the first space of a text, and returns it with what follows that space.
 pub fn cut_number(text: &str) -> Result<(usize, &str), Mistake>
     ensures number { IfOk result (λ read. IsNumber (field_of text.now) read.0) }
     ensures left { IfOk result (λ read. read.1.now ≡ past_blank text.now) }
@@ -40,7 +41,7 @@ pub fn cut_number(text: &str) -> Result<(usize, &str), Mistake>
     Ok((parse_number(number)?, left))
 }
 
-/// Whether a line says nothing: it is empty or begins with `#`.
+/// Returns whether a line is ignored: it is empty or begins with `#`.
 pub fn is_ignored(line: &str) -> bool
     ensures { result ≡ is_ignored line.now }
 {

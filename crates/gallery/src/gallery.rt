@@ -1,4 +1,4 @@
-//! All pictures, each under the name of its case.
+//! The output of every case, each under its name.
 
 ghost use Rattle.std.specs.Prelude.{◌≡◌, ℕ, List, ◌++◌, IfOk, OnOk};
 ghost use Rattle.gallery.specs.declared.case.Colours.TheVariants.{Plain, Svg};
@@ -12,7 +12,7 @@ use crate::svg::svg;
 use codespan_reporting::files::Error;
 use std::alloc::{AllocError, Global};
 
-/// The sections of the cases, one after another.
+/// Returns the sections of the cases, one after another.
 pub fn draw_cases(alloc: Global, cases: &[Case<'_>]) -> Result<Vec<u8>, AllocError>
     ensures { IfOk result (λ gallery. IsGallery cases.now gallery.items) }
 {
@@ -24,7 +24,7 @@ pub fn draw_cases(alloc: Global, cases: &[Case<'_>]) -> Result<Vec<u8>, AllocErr
     Ok(gallery)
 }
 
-/// Adds the line that a picture stands under.
+/// Appends the heading of a case.
 fn add_title(gallery: &mut Vec<u8>, name: &str) -> Result<(), AllocError>
     ensures { OnOk result (gallery.new.items ≡ gallery.old.items ++ title name.now) }
 {
@@ -34,7 +34,7 @@ fn add_title(gallery: &mut Vec<u8>, name: &str) -> Result<(), AllocError>
     Ok(())
 }
 
-/// Adds the picture of a case, and after it a line with the error, if it failed.
+/// Appends the output of a case, and, if it failed, a line with the error.
 fn add_picture(alloc: Global, gallery: &mut Vec<u8>, case: &Case<'_>) -> Result<(), AllocError>
     ensures { OnOk result ((pictured : List ℕ) × (gallery.new.items ≡ gallery.old.items ++ pictured)
         × IsPictured case.now pictured) }
@@ -45,9 +45,11 @@ fn add_picture(alloc: Global, gallery: &mut Vec<u8>, case: &Case<'_>) -> Result<
     add_failure(alloc, gallery, drawn)
 }
 
-/// Draws a case as it asks: as text, or as an SVG document.
+/// Renders a case as it states: as text, or as an SVG document.
 ///
-/// Fails as [`draw`] does.
+/// # Errors
+///
+/// Those of [`draw`] and of `svg`.
 fn draw_as_asked(alloc: Global, case: &Case<'_>, picture: &mut Vec<u8>) -> Result<(), Error>
     ensures plain { case.now.colours ≡ Plain
         → OnOk result (AddsPicture case.now picture.old.items picture.new.items) }
@@ -64,7 +66,7 @@ fn draw_as_asked(alloc: Global, case: &Case<'_>, picture: &mut Vec<u8>) -> Resul
     }
 }
 
-/// Adds a line with the error of a picture, if it failed.
+/// Appends a line with the error of a case, if it failed.
 fn add_failure(
     alloc: Global,
     gallery: &mut Vec<u8>,
@@ -82,7 +84,7 @@ fn add_failure(
     }
 }
 
-/// Adds what was drawn, with its control characters but newlines as escapes.
+/// Appends an output, with its control characters but newlines as escapes.
 fn add_shown(gallery: &mut Vec<u8>, drawn: &[u8]) -> Result<(), AllocError>
     ensures { OnOk result (gallery.new.items ≡ gallery.old.items ++ shown drawn.now) }
 {

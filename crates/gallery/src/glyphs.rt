@@ -1,4 +1,4 @@
-//! The characters of a picture, each in its ink, and the cells that they take.
+//! The characters of rendered text, each in its ink, and the cells that they occupy.
 
 ghost use Rattle.std.specs.Prelude.{◌≡◌, ◌≤◌, IfOk, length, map};
 ghost use Rattle.std.specs.Str.{IsUtf8};
@@ -16,12 +16,12 @@ use unicode_width::UnicodeWidthChar;
 pub struct Glyph {
     /// The character.
     pub character: char,
-    /// What it is drawn in.
+    /// The ink of the character.
     pub ink: Ink,
 }
 
 impl Glyph {
-    /// The cells that it takes: what `unicode_width` gives its character, or none.
+    /// Returns the cells that it occupies: what `unicode_width` returns for its character, or 0.
     pub fn cells(self) -> usize
         ensures value { result ≡ cells_of self }
         ensures bound { result ≤ 3 }
@@ -29,21 +29,21 @@ impl Glyph {
         self.character.width().unwrap_or(0)
     }
 
-    /// Whether a row ends with it.
+    /// Returns whether it is a newline.
     pub fn ends_row(self) -> bool
         ensures { result ≡ is_newline self }
     {
         self.character == '\n'
     }
 
-    /// Whether it takes one cell or none, and ends no row.
+    /// Returns whether it occupies at most one cell and is no newline.
     fn is_narrow(self) -> bool
         ensures { result ≡ is_narrow self }
     {
         !self.ends_row() && self.cells() <= 1
     }
 
-    /// Whether the glyph after it stands in one text with it: both are narrow, in one ink.
+    /// Returns whether the next glyph belongs to the same text: both are narrow, in one ink.
     fn joins(self, next: Glyph) -> bool
         ensures { result ≡ joins self next }
     {
@@ -51,7 +51,7 @@ impl Glyph {
     }
 }
 
-/// Whether a glyph stands in one text with the one before it.
+/// Returns whether a glyph belongs to the text of the one before it.
 pub fn follows(before: Option<Glyph>, glyph: Glyph) -> bool
     ensures { result ≡ follows before glyph }
 {
@@ -61,7 +61,7 @@ pub fn follows(before: Option<Glyph>, glyph: Glyph) -> bool
     }
 }
 
-/// Whether the first of the glyphs after it stands in one text with a glyph.
+/// Returns whether the first of the glyphs after a glyph belongs to its text.
 pub fn goes_on(glyph: Glyph, others: &[Glyph]) -> bool
     ensures { result ≡ goes_on glyph others.now }
 {
@@ -71,7 +71,7 @@ pub fn goes_on(glyph: Glyph, others: &[Glyph]) -> bool
     }
 }
 
-/// The cells of the glyphs that stand in one text with the glyph before them.
+/// Returns the cells of the glyphs that belong to the text of the glyph before them.
 pub fn joined_cells(before: Glyph, others: &[Glyph]) -> u128
     ensures value { result ≡ joined_cells before others.now }
     ensures bound { result ≤ length others.now }
@@ -88,7 +88,11 @@ pub fn joined_cells(before: Glyph, others: &[Glyph]) -> u128
     cells
 }
 
-/// The characters of runs of text. Fails with `FormatError` a text that is not UTF-8.
+/// Returns the characters of runs of text.
+///
+/// # Errors
+///
+/// `FormatError` if the text of a run is not UTF-8, and `OutOfMemory` if an allocation fails.
 pub fn glyphs(alloc: Global, runs: &[Run]) -> Result<Vec<Glyph>, Error>
     ensures texts { IfOk result (λ glyphs. AreTexts (map run_view runs.now)) }
     ensures glyphs { IfOk result (λ glyphs. glyphs.items ≡ glyphs_of (map run_view runs.now)) }
@@ -101,7 +105,7 @@ pub fn glyphs(alloc: Global, runs: &[Run]) -> Result<Vec<Glyph>, Error>
     Ok(glyphs)
 }
 
-/// The characters of a run of text.
+/// Returns the characters of a run of text.
 fn glyphs_in(alloc: Global, run: &Run) -> Result<Vec<Glyph>, Error>
     ensures text { IfOk result (λ glyphs. IsUtf8 run.now.text.items) }
     ensures glyphs { IfOk result (λ glyphs. glyphs.items ≡ glyphs_of_run (run_view run.now)) }

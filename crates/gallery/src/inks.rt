@@ -1,4 +1,4 @@
-//! What text is drawn in, and a writer of colours that keeps the text of each apart.
+//! Inks, and a writer of styles that keeps the text of each ink apart.
 
 ghost use Rattle.std.specs.Prelude.{◌≡◌, ◌∷◌, [], IfOk, map, Some};
 ghost use Rattle.codespan_base.specs.ColorLaw.{AppendsBytes};
@@ -9,17 +9,17 @@ use std::alloc::{AllocError, Global};
 use std::io;
 use std::io::{ErrorKind, Write};
 
-/// What text is drawn in.
+/// A color and a weight of text.
 #[derive(Clone, Copy, Debug, PartialEq, Eq)]
 pub struct Ink {
-    /// Its colour, or none: that of plain text.
+    /// The color; `None` for that of plain text.
     pub colour: Option<Color>,
-    /// Whether it is bold.
+    /// Whether the text is bold.
     pub bold: bool,
 }
 
 impl Ink {
-    /// The ink of plain text.
+    /// Returns the ink of plain text.
     pub fn plain() -> Ink
         ensures { result ≡ plain_ink }
     {
@@ -29,7 +29,7 @@ impl Ink {
         }
     }
 
-    /// The ink of a style.
+    /// Returns the ink of a style.
     pub fn of(spec: &ColorSpec) -> Ink
         ensures { result ≡ ink_of spec.now }
     {
@@ -43,13 +43,13 @@ impl Ink {
 /// Text in one ink.
 #[derive(Debug, Drop)]
 pub struct Run {
-    /// What it is drawn in.
+    /// The ink.
     pub ink: Ink,
-    /// Its bytes.
+    /// The bytes.
     pub text: Vec<u8>,
 }
 
-/// A writer of colours that keeps what it gets as runs of text.
+/// A writer of styles that keeps what is written to it as runs of text.
 #[derive(Debug, Drop)]
 pub struct Inks {
     runs: Vec<Run>,
@@ -58,7 +58,7 @@ pub struct Inks {
 impl Inks {
     ghost use Rattle.gallery.specs.Inks.{runs_kept, told};
 
-    /// No text yet, in the ink of plain text.
+    /// Returns a writer without text, in the ink of plain text.
     pub fn new(alloc: Global) -> Result<Inks, AllocError>
         ensures { IfOk result (λ inks. told inks ≡ ink_number plain_ink ∷ []) }
     {
@@ -70,7 +70,7 @@ impl Inks {
         Ok(Inks { runs })
     }
 
-    /// The runs of text.
+    /// Returns the runs of text.
     pub fn into_runs(self) -> Vec<Run>
         ensures { map run_view result.items ≡ runs_kept self }
     {
@@ -93,7 +93,7 @@ impl Write for Inks {
 
     ghost contents = { λ inks. Some (told inks) };
 
-    /// Adds to the text of the last run. Fails where there is none; [`Inks::new`] begins one.
+    /// Appends to the text of the last run. Fails if there is none; [`Inks::new`] begins one.
     fn write(&mut self, buf: &[u8]) -> io::Result<usize> {
         let Some(run) = self.runs.last_mut() else {
             return Err(io::Error::from(ErrorKind::Other));

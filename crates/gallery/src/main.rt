@@ -1,13 +1,15 @@
-//! `gallery < CASES` draws each case of a list, under its name.
-//! `gallery svg NAME < CASES` draws the first case of a name in colours, as an SVG document.
+//! `gallery < CASES` writes the rendered diagnostic of each case of a list, under its name.
+//! `gallery svg NAME < CASES` writes that of the first case of a name in colors, as an SVG
+//! document.
 //!
-//! [`cases`] says how cases are written, and `tools/gallery/README.md` how those of the file `stdin` and their pictures were made.
+//! [`cases`] documents the input, and `tools/gallery/README.md` how the cases of the file `stdin`
+//! and their expected outputs were made.
 //!
-//! | status | what was done | standard error |
+//! | status | standard output | standard error |
 //! |---|---|---|
-//! | 0 | all cases, or the case of the name, were drawn to standard output | nothing |
-//! | 1 | nothing, or a beginning of the output was written where it failed | one line: why; what is wrong in the input by its line |
-//! | 2 | nothing: the arguments are wrong | one line: how it is called |
+//! | 0 | every case, or the case of the name | nothing |
+//! | 1 | nothing, or a prefix of the output if writing failed | one line: the error, and its line |
+//! | 2 | nothing: the arguments are wrong | one line: the usage |
 #![tactic(auto)]
 
 mod arguments;

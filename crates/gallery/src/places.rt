@@ -1,28 +1,28 @@
-//! Where the characters of a picture stand.
+//! Positions of rendered characters.
 
 ghost use Rattle.std.specs.Prelude.{◌≡◌, ◌+◌, ◌≤◌, ◌^◌, max};
 ghost use Rattle.gallery.specs.Glyphs.{after_glyph, extent_from, start};
 
 use crate::glyphs::Glyph;
 
-/// A row of cells, from 0, and a place in it, in cells.
+/// A position in rendered text: a row, from 0, and a column in it, in cells.
 #[derive(Clone, Copy, Debug, PartialEq, Eq)]
 pub struct Place {
-    /// The row.
+    /// The row, from 0.
     pub row: u128,
     /// The cells before it in the row.
     pub column: u128,
 }
 
 impl Place {
-    /// Where a picture starts.
+    /// Returns the position of the first character.
     pub fn start() -> Place
         ensures { result ≡ start }
     {
         Place { row: 0, column: 0 }
     }
 
-    /// The place after a character.
+    /// Returns the position after a character.
     pub fn after(self, glyph: Glyph) -> Place
         requires row { self.row ≤ 2 ^ 64 }
         requires column { self.column ≤ 2 ^ 66 }
@@ -44,7 +44,7 @@ impl Place {
     }
 }
 
-/// The rows and the columns that glyphs take: the row where they end, and the cells of their widest row.
+/// Returns the size of glyphs: the number of their rows, and the cells of the widest row.
 pub fn extent(glyphs: &[Glyph]) -> Place
     ensures extent { result ≡ extent_from start glyphs.now }
     ensures row { result.row ≤ 2 ^ 64 }
@@ -62,7 +62,7 @@ pub fn extent(glyphs: &[Glyph]) -> Place
     }
 }
 
-/// The greater of two numbers.
+/// Returns the greater of two numbers.
 fn greater(one: u128, other: u128) -> u128
     ensures { result ≡ max one other }
 {

@@ -1,12 +1,12 @@
-//! What the arguments ask for.
+//! What the arguments request.
 
 ghost use Rattle.std.specs.Prelude.{◌≡◌, map, string_bytes};
 ghost use Rattle.std.specs.Option.{option_map};
 
-/// What a run is asked for.
+/// What a run writes.
 #[derive(Clone, Copy, Debug)]
 pub enum Request<'args> {
-    /// All pictures.
+    /// The output of every case.
     All,
     /// `svg NAME`: the SVG document of the case of this name.
     Svg(&'args str),
@@ -15,7 +15,7 @@ pub enum Request<'args> {
 impl<'args> Request<'args> {
     ghost use Rattle.gallery.specs.Requests.{asked_of, request_view};
 
-    /// What arguments ask for; `None` where their number or their first word is another.
+    /// Returns the request of the arguments; `None` if their number or the first word is another.
     pub fn from_arguments(args: &'args [String]) -> Option<Request<'args>>
         ensures { option_map request_view result ≡ asked_of (map string_bytes args.now) }
     {

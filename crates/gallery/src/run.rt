@@ -15,10 +15,10 @@ use crate::svg::svg;
 use std::alloc::Global;
 use std::io::{Read, Write};
 
-/// Draws what the arguments ask for of the cases of the input to the output, and answers the program's status: 0, or where `faults` is told
-/// in one line why not 2 for wrong arguments, and 1 for all else.
+/// Writes the requested output of the cases of the input, and returns the program's status: 0, or,
+/// after one line about the error on `faults`, 2 for wrong arguments and 1 for any other error.
 ///
-/// Nothing is written to the output before all is drawn. An error of `faults` is ignored.
+/// Nothing is written to the output before all is rendered. An error of `faults` is ignored.
 pub fn run<R: Read, W: Write, E: Write>(
     alloc: Global,
     args: &[String],
@@ -39,7 +39,8 @@ pub fn run<R: Read, W: Write, E: Write>(
     conclude(show(alloc, args, input, output), faults)
 }
 
-/// Tells the fault, if there is one, in one line, and answers the program's status. An error of `faults` is ignored.
+/// Writes the error, if there is one, in one line, and returns the program's status. An error of
+/// `faults` is ignored.
 pub fn conclude<E: Write>(outcome: Result<(), Fault>, faults: &mut E) -> u8
     ensures status { IsStatusOf outcome result }
     ensures silent { OnOk outcome (faults.new ≡ faults.old) }
@@ -56,7 +57,7 @@ pub fn conclude<E: Write>(outcome: Result<(), Fault>, faults: &mut E) -> u8
     }
 }
 
-/// Reads the cases, draws what is asked for, and writes it.
+/// Reads the cases, renders what is requested, and writes it.
 fn show<R: Read, W: Write>(
     alloc: Global,
     args: &[String],
@@ -82,7 +83,7 @@ fn show<R: Read, W: Write>(
     write_bytes(output, answer.as_slice())
 }
 
-/// Draws what is asked for of cases.
+/// Renders what is requested of cases.
 fn answer(alloc: Global, request: Request<'_>, cases: &[Case<'_>]) -> Result<Vec<u8>, Fault>
     ensures answers { IfOk result (λ bytes.
         AnswersOf (request_view request.entry) cases.now bytes.items) }
@@ -102,7 +103,7 @@ fn answer(alloc: Global, request: Request<'_>, cases: &[Case<'_>]) -> Result<Vec
     }
 }
 
-/// The first case of a name.
+/// Returns the first case of a name.
 fn named<'cases, 'input>(cases: &'cases [Case<'input>], name: &str) -> Option<&'cases Case<'input>>
     ensures { option_copied result ≡ case_named name.now cases.now }
 {

@@ -1,4 +1,4 @@
-//! What a line says.
+//! The parser of a line.
 
 ghost use Rattle.std.specs.Prelude.{◌≡◌, Some, IfOk, IfErr};
 ghost use Rattle.std.specs.Option.{ok_or};
@@ -18,41 +18,41 @@ use codespan_reporting::diagnostic::{Label, LabelStyle, Severity};
 use codespan_reporting::term::{DisplayStyle, Layout};
 use std::alloc::Global;
 
-/// What a line says.
+/// A parsed line.
 #[derive(Debug, Drop)]
 pub enum Line<'input> {
-    /// Nothing: it is empty or begins with `#`.
+    /// It is empty or begins with `#`, and is ignored.
     Silent,
-    /// `case NAME`: a case of this name begins.
+    /// `case NAME`: it begins a case of this name.
     Title(&'input str),
-    /// More of the last case.
+    /// It describes the last case.
     Said(Statement),
 }
 
-/// What a line says of a case.
+/// A part of the description of a case.
 #[derive(Debug, Drop)]
 pub enum Statement {
-    /// `table KIND`: what its files stand in.
+    /// `table KIND`: the type of its file database.
     Table(Table),
     /// `file NAME`: one more file.
     File(String),
-    /// `| TEXT`: what the source of the last file goes on with.
+    /// `| TEXT`: the continuation of the source of the last file.
     Source(String),
     /// `number LINE NUMBER`: the number of a line, by its index from 0.
     Number(usize, usize),
-    /// `style NAME`: how much is drawn.
+    /// `style NAME`: the display style.
     Style(DisplayStyle),
-    /// `layout NAME`: how numbers and lanes are laid out.
+    /// `layout NAME`: the layout of line numbers and lanes.
     Layout(Layout),
     /// `tab WIDTH`: the cells between tab stops.
     Tab(usize),
     /// `context START END BEFORE AFTER`: how many lines are shown around those of labels.
     Context(Context),
-    /// `characters NAME`: what the picture is drawn with.
+    /// `characters NAME`: the characters of borders, carets and lanes.
     Characters(CharacterSet),
-    /// `colours NAME`: how it shows its colours.
+    /// `colours NAME`: how colors are written.
     Colours(Colours),
-    /// `severity NAME`: how bad it is.
+    /// `severity NAME`: the severity.
     Severity(Severity),
     /// `code TEXT`: the code.
     Code(String),
@@ -77,7 +77,11 @@ pub struct Context {
     pub after: usize,
 }
 
-/// What a line says.
+/// Parses a line.
+///
+/// # Errors
+///
+/// The mistake of the line, and `OutOfMemory` if an allocation fails.
 pub fn parse_line<'input>(alloc: Global, line: &'input str) -> Result<Line<'input>, Mistake>
     ensures says { IfOk result (LineSays line.now) }
     ensures wrong { IfErr result (IsWrongLine line.now) }
@@ -93,7 +97,7 @@ pub fn parse_line<'input>(alloc: Global, line: &'input str) -> Result<Line<'inpu
     Ok(Line::Said(parse_statement(alloc, word, rest)?))
 }
 
-/// What the word and the rest of a line say of a case.
+/// Parses the rest of a line that begins with this word.
 fn parse_statement(alloc: Global, word: Word, rest: &str) -> Result<Statement, Mistake>
     ensures says { IfOk result (Says (Some word) rest.now) }
     ensures wrong { IfErr result (IsWrong (Some word) rest.now) }
@@ -118,14 +122,14 @@ fn parse_statement(alloc: Global, word: Word, rest: &str) -> Result<Statement, M
     }
 }
 
-/// What a name stands for, where it is known.
+/// Returns what a name stands for, or `UnknownName`.
 fn known<T: Drop>(named: Option<T>) -> Result<T, Mistake>
     ensures { result ≡ ok_or named UnknownName }
 {
     named.ok_or(Mistake::UnknownName)
 }
 
-/// The number of a line that a rest gives.
+/// Parses the rest of a `number` line.
 fn parse_line_number(rest: &str) -> Result<Statement, Mistake>
     ensures says { IfOk result (Says (Some words.Number) rest.now) }
     ensures wrong { IfErr result (IsWrong (Some words.Number) rest.now) }
@@ -134,7 +138,7 @@ fn parse_line_number(rest: &str) -> Result<Statement, Mistake>
     Ok(Statement::Number(line, parse_number(left)?))
 }
 
-/// The context that a rest gives.
+/// Parses the rest of a `context` line.
 fn parse_context(rest: &str) -> Result<Statement, Mistake>
     ensures says { IfOk result (Says (Some words.Context) rest.now) }
     ensures wrong { IfErr result (IsWrong (Some words.Context) rest.now) }
@@ -150,7 +154,7 @@ fn parse_context(rest: &str) -> Result<Statement, Mistake>
     }))
 }
 
-/// The label of a style that a rest gives.
+/// Parses the rest of a line of a label in this style.
 fn parse_label(alloc: Global, style: LabelStyle, rest: &str) -> Result<Statement, Mistake>
     ensures says { IfOk result (Says (Some (style_word style)) rest.now) }
     ensures wrong { IfErr result (IsWrong (Some (style_word style)) rest.now) }

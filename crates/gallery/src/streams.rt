@@ -8,7 +8,7 @@ use std::alloc::Global;
 use std::io;
 use std::io::{Read, Write};
 
-/// The whole input, as a text.
+/// Returns the whole input, as text.
 pub fn read_input<R: Read>(alloc: Global, input: &mut R) -> Result<String, Fault>
     ensures text { IfOk result (λ text.
         IfSome (R.remaining input.old) (λ bytes. string_bytes text ≡ bytes)) }
@@ -37,7 +37,7 @@ pub fn write_bytes<W: Write>(output: &mut W, bytes: &[u8]) -> Result<(), Fault>
     }
 }
 
-/// The same, with the cause of an error.
+/// Writes the bytes to the output and flushes it, with the error of the call that failed.
 fn write_and_flush<W: Write>(output: &mut W, bytes: &[u8]) -> io::Result<()>
     ensures { OnOk result (Appends (W.contents output.old) (W.contents output.new) bytes.now) }
 {

@@ -1,4 +1,4 @@
-//! The SVG document of a picture.
+//! The SVG document of a rendered case.
 
 ghost use Rattle.std.specs.Prelude.{◌≡◌, ◌≤◌, ◌++◌, ◌*◌, ◌^◌, ◌<◌, IfOk, OnOk, string_bytes};
 ghost use Rattle.gallery.specs.Svg.{IsSvg, colour_attribute, first_pen, glyph_text, shade, size_tag, svg_document, text_tag, texts_from, weight_attribute, xml_character};
@@ -12,27 +12,29 @@ use codespan_reporting::files::Error;
 use codespan_reporting::term::Color;
 use std::alloc::{AllocError, Global};
 
-/// The pixels of a cell, from left to right.
+/// The width of a cell, in pixels.
 const CELL: u128 = 9;
 
-/// The pixels of a row, from top to bottom.
+/// The height of a row, in pixels.
 const ROW: u128 = 18;
 
-/// The pixels around all rows.
+/// The margin around the rows, in pixels.
 const MARGIN: u128 = 12;
 
-/// The pixels from the top of a picture down to the line that the characters of its first row stand on.
+/// The pixels from the top of the document down to the baseline of the first row.
 const BASE: u128 = 25;
 
-/// What the first tag ends with, the font and the colour of plain text, and after it the dark ground.
+/// The end of the first tag, with the font and the color of plain text, and the dark background.
 const GROUND: &str =
     " font-family=\"DejaVu Sans Mono, Menlo, Consolas, monospace\" font-size=\"15\" fill=\"#e6edf3\" xml:space=\"preserve\">
 <rect width=\"100%\" height=\"100%\" rx=\"6\" fill=\"#161b22\"/>
 ";
 
-/// The SVG document of the picture of a case, in colours.
+/// Returns the SVG document of the rendered case, in colors.
 ///
-/// Fails as the drawing does.
+/// # Errors
+///
+/// Those of [`paint`], `FormatError` if a run of text is not UTF-8, and `OutOfMemory`.
 pub fn svg(alloc: Global, case: &Case<'_>) -> Result<String, Error>
     ensures { IfOk result (λ document. IsSvg case.now (string_bytes document)) }
 {
@@ -41,7 +43,7 @@ pub fn svg(alloc: Global, case: &Case<'_>) -> Result<String, Error>
     Ok(document(alloc, glyphs.as_slice())?)
 }
 
-/// The document that shows glyphs.
+/// Returns the document that shows glyphs.
 fn document(alloc: Global, glyphs: &[Glyph]) -> Result<String, AllocError>
     ensures { IfOk result (λ document. string_bytes document ≡ svg_document glyphs.now) }
 {
@@ -53,7 +55,7 @@ fn document(alloc: Global, glyphs: &[Glyph]) -> Result<String, AllocError>
     Ok(document)
 }
 
-/// Adds what the first tag of a document begins with: its size.
+/// Appends the first half of the first tag of a document: its size.
 fn add_size(alloc: Global, document: &mut String, extent: Place) -> Result<(), AllocError>
     requires row { extent.row ≤ 2 ^ 64 }
     requires column { extent.column ≤ 2 ^ 66 }
@@ -69,16 +71,16 @@ fn add_size(alloc: Global, document: &mut String, extent: Place) -> Result<(), A
     Ok(())
 }
 
-/// Where a glyph is to stand, and the glyph before it.
+/// The position of the next glyph, and the glyph before it.
 #[derive(Clone, Copy, Debug)]
 struct Pen {
-    /// The place.
+    /// The position.
     place: Place,
     /// The glyph before it, if there is one.
     before: Option<Glyph>,
 }
 
-/// Adds glyphs as texts.
+/// Appends glyphs as texts.
 fn add_texts(alloc: Global, document: &mut String, glyphs: &[Glyph]) -> Result<(), AllocError>
     ensures { OnOk result (string_bytes document.new ≡ string_bytes document.old
         ++ texts_from first_pen glyphs.now) }
@@ -97,7 +99,7 @@ fn add_texts(alloc: Global, document: &mut String, glyphs: &[Glyph]) -> Result<(
     Ok(())
 }
 
-/// Adds a glyph, before others.
+/// Appends a glyph that these others follow.
 fn add_glyph(
     alloc: Global,
     document: &mut String,
@@ -125,7 +127,7 @@ fn add_glyph(
     Ok(())
 }
 
-/// Adds the tag that begins a text of so many cells at a place.
+/// Appends the tag that begins a text of this many cells at a position.
 fn add_tag(
     alloc: Global,
     document: &mut String,
@@ -150,7 +152,7 @@ fn add_tag(
     Ok(())
 }
 
-/// Adds the attribute of a colour, if there is one.
+/// Appends the attribute of a color, if there is one.
 fn add_colour(document: &mut String, colour: Option<Color>) -> Result<(), AllocError>
     ensures { OnOk result (string_bytes document.new ≡ string_bytes document.old
         ++ colour_attribute colour) }
@@ -164,7 +166,7 @@ fn add_colour(document: &mut String, colour: Option<Color>) -> Result<(), AllocE
     Ok(())
 }
 
-/// Adds the attribute of bold text, where it is bold.
+/// Appends the attribute of bold text, if it is bold.
 fn add_weight(document: &mut String, bold: bool) -> Result<(), AllocError>
     ensures { OnOk result (string_bytes document.new ≡ string_bytes document.old
         ++ weight_attribute bold) }
@@ -175,7 +177,7 @@ fn add_weight(document: &mut String, bold: bool) -> Result<(), AllocError>
     Ok(())
 }
 
-/// What a colour of a terminal is on the dark ground.
+/// Returns what a terminal color is on the dark background.
 fn shade(colour: Color) -> &'static str
     ensures { result.now ≡ shade colour }
 {
@@ -191,7 +193,7 @@ fn shade(colour: Color) -> &'static str
     }
 }
 
-/// Adds a character as XML holds it.
+/// Appends a character as XML spells it.
 fn add_character(document: &mut String, character: char) -> Result<(), AllocError>
     ensures { OnOk result (string_bytes document.new ≡ string_bytes document.old
         ++ xml_character character) }

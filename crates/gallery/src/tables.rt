@@ -1,4 +1,4 @@
-//! The files of a case, in the table that it asks for.
+//! The file database of a case.
 
 ghost use Rattle.std.specs.Prelude.{◌≡◌, ◌∷◌, [], map, IfOk};
 ghost use Rattle.codespan_base.specs.Diagnostics.{diagnostic_view, label_view};
@@ -12,20 +12,23 @@ use codespan_reporting::diagnostic::{Diagnostic, Label};
 use codespan_reporting::files::{Error, MappedFile, SimpleFile, SimpleFiles};
 use std::alloc::Global;
 
-/// The files of a case, in the table that it asks for; where a file stands alone, with what the case says by its id.
+/// The file database of a case; for a database of one file, with the diagnostic by its id.
 #[derive(Drop)]
 pub enum Tables<'case> {
-    /// A file that stands alone.
+    /// A database of one file.
     One(SimpleFile<&'case str, &'case str>, Diagnostic<()>),
-    /// All files; the case says what it says by their ids.
+    /// A database of all files; the case has the diagnostic by their ids.
     Several(SimpleFiles<&'case str, &'case str>),
-    /// A file that stands alone and has the numbers that are set.
+    /// A database of one file, with the line numbers that are set.
     Mapped(MappedFile<&'case str, &'case str>, Diagnostic<()>),
 }
 
-/// The files of a case, in the table that it asks for.
+/// Returns the file database of a case.
 ///
-/// Fails with `FileMissing` besides where a table of one file has another number of files, or a label in another file.
+/// # Errors
+///
+/// `FileMissing` if a database of one file has another number of files, or a label is in another
+/// file; `OutOfMemory` if an allocation fails.
 pub fn tables_of<'case>(alloc: Global, case: &'case Case<'_>) -> Result<Tables<'case>, Error>
     ensures { IfOk result (AreTables case.now) }
 {
@@ -44,7 +47,7 @@ pub fn tables_of<'case>(alloc: Global, case: &'case Case<'_>) -> Result<Tables<'
     }
 }
 
-/// The file, where there is one and no other.
+/// Returns the file, if there is exactly one.
 fn only_file(files: &[File]) -> Result<&File, Error>
     ensures { IfOk result (λ file. files.now ≡ file.now ∷ []) }
 {
@@ -54,7 +57,7 @@ fn only_file(files: &[File]) -> Result<&File, Error>
     }
 }
 
-/// A table of the files.
+/// Returns a database of the files.
 fn several_files(alloc: Global, files: &[File]) -> Result<SimpleFiles<&str, &str>, Error>
     ensures { IfOk result (λ table. map lent_view (entries table) ≡ map file_view files.now) }
 {
@@ -65,7 +68,7 @@ fn several_files(alloc: Global, files: &[File]) -> Result<SimpleFiles<&str, &str
     Ok(table)
 }
 
-/// The file, with the numbers that are set.
+/// Returns the file, with the line numbers that are set.
 fn mapped_file<'case>(
     alloc: Global,
     file: &'case File,
@@ -82,7 +85,7 @@ fn mapped_file<'case>(
     Ok(mapped)
 }
 
-/// The same diagnostic, by the id of a file that stands alone.
+/// Returns the diagnostic by the id of a database of one file.
 fn in_one_file(alloc: Global, said: &Diagnostic<usize>) -> Result<Diagnostic<()>, Error>
     ensures { IfOk result (λ alike. diagnostic_view alike ≡ alone (diagnostic_view said.now)) }
 {
@@ -100,7 +103,7 @@ fn in_one_file(alloc: Global, said: &Diagnostic<usize>) -> Result<Diagnostic<()>
     })
 }
 
-/// The same label, by the id of a file that stands alone.
+/// Returns the label by the id of a database of one file.
 fn in_this_file(label: &Label<usize>) -> Result<Label<()>, Error>
     ensures { IfOk result (λ alike. label_view alike ≡ label_alone (label_view label.now)) }
 {

@@ -7,44 +7,44 @@ use crate::case::{CharacterSet, Colours, Table};
 use codespan_reporting::diagnostic::Severity;
 use codespan_reporting::term::{DisplayStyle, Layout};
 
-/// What a line that speaks of a case begins with.
+/// The first word of a line that describes a case.
 #[derive(Clone, Copy, Debug, PartialEq, Eq)]
 pub enum Word {
-    /// The kind of table of the files.
+    /// The type of the file database.
     Table,
     /// The name of one more file.
     File,
-    /// What a source goes on with.
+    /// The continuation of a source.
     Source,
     /// The number of a line.
     Number,
-    /// How much is drawn.
+    /// The display style.
     Style,
-    /// How numbers and lanes are laid out.
+    /// The layout of line numbers and lanes.
     Layout,
     /// The cells between tab stops.
     Tab,
     /// How many lines are shown around those of labels.
     Context,
-    /// What a picture is drawn with.
+    /// The characters of borders, carets and lanes.
     Characters,
-    /// How it shows its colours.
+    /// How colors are written.
     Colours,
-    /// How bad it is.
+    /// The severity.
     Severity,
     /// The code.
     Code,
     /// The message.
     Message,
-    /// A label of a cause.
+    /// A primary label.
     Primary,
-    /// A label of what helps to see why.
+    /// A secondary label.
     Secondary,
     /// A note.
     Note,
 }
 
-/// The word that is spelled so; `None` for any other text.
+/// Returns the word of this spelling, or `None`.
 #[tactic(auto, unfolding(crate::specs::Words::word_named))]
 pub fn parse_word(text: &str) -> Option<Word>
     ensures { result ≡ word_named text.now }
@@ -70,7 +70,7 @@ pub fn parse_word(text: &str) -> Option<Word>
     }
 }
 
-/// The kind of table that is called so; `None` for any other text.
+/// Returns the kind of file database of this name, or `None`.
 #[tactic(auto, unfolding(crate::specs::Words::table_named))]
 pub fn parse_table(text: &str) -> Option<Table>
     ensures { result ≡ table_named text.now }
@@ -83,7 +83,7 @@ pub fn parse_table(text: &str) -> Option<Table>
     }
 }
 
-/// The style that is called so; `None` for any other text.
+/// Returns the style of this name, or `None`.
 #[tactic(auto, unfolding(crate::specs::Words::style_named))]
 pub fn parse_style(text: &str) -> Option<DisplayStyle>
     ensures { result ≡ style_named text.now }
@@ -96,7 +96,7 @@ pub fn parse_style(text: &str) -> Option<DisplayStyle>
     }
 }
 
-/// The layout that is called so; `None` for any other text.
+/// Returns the layout of this name, or `None`.
 #[tactic(auto, unfolding(crate::specs::Words::layout_named))]
 pub fn parse_layout(text: &str) -> Option<Layout>
     ensures { result ≡ layout_named text.now }
@@ -108,7 +108,7 @@ pub fn parse_layout(text: &str) -> Option<Layout>
     }
 }
 
-/// The characters that are called so; `None` for any other text.
+/// Returns the characters of this name, or `None`.
 #[tactic(auto, unfolding(crate::specs::Words::characters_named))]
 pub fn parse_characters(text: &str) -> Option<CharacterSet>
     ensures { result ≡ characters_named text.now }
@@ -120,7 +120,7 @@ pub fn parse_characters(text: &str) -> Option<CharacterSet>
     }
 }
 
-/// The way to show colours that is called so; `None` for any other text.
+/// Returns the way to write colors of this name, or `None`.
 #[tactic(auto, unfolding(crate::specs::Words::colours_named))]
 pub fn parse_colours(text: &str) -> Option<Colours>
     ensures { result ≡ colours_named text.now }
@@ -133,7 +133,7 @@ pub fn parse_colours(text: &str) -> Option<Colours>
     }
 }
 
-/// The severity that is called so; `None` for any other text.
+/// Returns the severity of this name, or `None`.
 #[tactic(auto, unfolding(crate::specs::Words::severity_named))]
 pub fn parse_severity(text: &str) -> Option<Severity>
     ensures { result ≡ severity_named text.now }

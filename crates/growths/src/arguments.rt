@@ -5,7 +5,8 @@ use std::env;
 use std::io::ErrorKind;
 use std::rt::Env;
 
-/// The program's arguments, without its own name. Some that are not UTF-8 name no subject.
+/// Returns the program's arguments, without its own name. If one is not UTF-8, they name no
+/// subject.
 pub fn arguments<R: Env + AllocGlobal>(rt: &R) -> Result<Vec<String>, Outcome> {
     match env::args(rt) {
         Ok(all) => match all.skip(1).collect(rt.alloc()) {

@@ -1,4 +1,4 @@
-//! A table of files that takes memory for each line that it is asked for.
+//! A file database that allocates at each lookup of a line.
 
 ghost use Rattle.std.specs.Prelude.{refl, Some};
 
@@ -6,7 +6,7 @@ use codespan_reporting::files::{Error, Files, Location, SimpleFile};
 use std::alloc::Global;
 use std::ops::Range;
 
-/// One file, of which each lookup of a line takes memory, as one that is read line by line does.
+/// One file, of which each lookup of a line allocates, as one that is read line by line does.
 #[derive(Drop)]
 pub struct Copying<'text> {
     file: SimpleFile<&'text str, &'text str>,
@@ -14,7 +14,7 @@ pub struct Copying<'text> {
 }
 
 impl<'text> Copying<'text> {
-    /// The file of this name and text. Fails with `OutOfMemory`.
+    /// Returns the file of this name and text. Fails with `OutOfMemory`.
     pub fn new(alloc: Global, name: &'text str, text: &'text str) -> Result<Self, Error> {
         Ok(Copying {
             file: SimpleFile::new(alloc, name, text)?,
@@ -69,7 +69,7 @@ impl<'a, 'text: 'a> Files<'a> for Copying<'text> {
         self.file.location((), byte_index)
     }
 
-    // The copy is made to take memory, and is let go again.
+    // The copy is made only to allocate, and is dropped.
     fn line_range(&'a self, _id: (), line_index: usize) -> Result<Range<usize>, Error> {
         let _copy = String::from_str(self.alloc, *self.file.source())?;
         self.file.line_range((), line_index)

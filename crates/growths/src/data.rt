@@ -37,7 +37,7 @@ pub enum DiagnosticCall {
     Clone,
 }
 
-/// A label that says this.
+/// Returns a label with this message.
 fn label(alloc: Global, message: &str) -> Result<Label<usize>, Error> {
     Ok(Label {
         style: LabelStyle::Secondary,
@@ -47,7 +47,7 @@ fn label(alloc: Global, message: &str) -> Result<Label<usize>, Error> {
     })
 }
 
-/// Labels that say these texts, in a vector without room for more.
+/// Returns labels with these messages, in a vector without spare capacity.
 fn labels(alloc: Global, messages: &[&str]) -> Result<Vec<Label<usize>>, Error> {
     let mut labels = Vec::with_capacity(alloc, messages.len())?;
     for message in messages {
@@ -56,7 +56,7 @@ fn labels(alloc: Global, messages: &[&str]) -> Result<Vec<Label<usize>>, Error> 
     Ok(labels)
 }
 
-/// Notes of these texts, in a vector without room for more.
+/// Returns notes of these texts, in a vector without spare capacity.
 fn notes(alloc: Global, texts: &[&str]) -> Result<Vec<String>, Error> {
     let mut notes = Vec::with_capacity(alloc, texts.len())?;
     for text in texts {
@@ -74,7 +74,7 @@ struct Texts<'text> {
     notes: &'text [&'text str],
 }
 
-/// What each call of a diagnostic is made of.
+/// The texts of the diagnostic on which each call is made.
 const GIVEN: Texts<'_> = Texts {
     code: None,
     message: "m",
@@ -82,7 +82,7 @@ const GIVEN: Texts<'_> = Texts {
     notes: &["n"],
 };
 
-/// The diagnostic of these texts, field by field.
+/// Returns the diagnostic of these texts, built field by field.
 fn diagnostic(alloc: Global, texts: Texts<'_>) -> Result<Diagnostic<usize>, Error> {
     let code = match texts.code {
         Some(code) => Some(String::from_str(alloc, code)?),
@@ -97,7 +97,7 @@ fn diagnostic(alloc: Global, texts: Texts<'_>) -> Result<Diagnostic<usize>, Erro
     })
 }
 
-/// What a call of a label does to a label.
+/// Makes a call of a label and judges it.
 pub fn judge_label(alloc: Global, call: LabelCall) -> Result<Outcome, Error> {
     match call {
         LabelCall::WithMessage => {
@@ -112,7 +112,7 @@ pub fn judge_label(alloc: Global, call: LabelCall) -> Result<Outcome, Error> {
     }
 }
 
-/// What a call of a diagnostic has to make.
+/// Returns the texts that a diagnostic has to have after a call.
 fn wanted(call: DiagnosticCall) -> Texts<'static> {
     match call {
         DiagnosticCall::WithCode | DiagnosticCall::Clone => Texts {
@@ -142,7 +142,7 @@ fn wanted(call: DiagnosticCall) -> Texts<'static> {
     }
 }
 
-/// What a call of a diagnostic makes.
+/// Makes a call of a diagnostic and judges it.
 pub fn judge_diagnostic(alloc: Global, call: DiagnosticCall) -> Result<Outcome, Error> {
     let want = diagnostic(alloc, wanted(call))?;
     let given = diagnostic(alloc, GIVEN)?;

@@ -1,4 +1,4 @@
-//! The views and the calls that emit, each over each worked picture.
+//! The views and the emit calls, each over each worked diagnostic.
 
 ghost use Rattle.std.specs.Prelude.{◌≡◌, ◌++◌, ℕ, List, IfOk, IsOk, IsErrAnd, IsErrOf, IsTrue, codes, string_bytes, false, true};
 ghost use Rattle.codespan_base.specs.Errors.{IsIo};
@@ -16,10 +16,10 @@ use codespan_reporting::term::{
 };
 use std::alloc::Global;
 
-/// A call that draws.
+/// A call that renders.
 #[derive(Clone, Copy)]
 pub enum DrawCall {
-    /// `render` of the view of the picture's style
+    /// `render` of the view of the style
     Render,
     /// `emit_to_write_style`
     EmitToWriteStyle,
@@ -33,10 +33,10 @@ pub enum DrawCall {
     EmitToString,
 }
 
-/// What a string holds that is appended to.
+/// The old text of a string that is appended to.
 const KEPT: &str = "kept";
 
-/// What a call draws of a worked picture.
+/// Makes a call over a worked diagnostic and judges it.
 pub fn judge_drawing(alloc: Global, call: DrawCall, row: Row) -> Result<Outcome, Error> {
     let drawing = row.drawing();
     match row {
@@ -46,7 +46,7 @@ pub fn judge_drawing(alloc: Global, call: DrawCall, row: Row) -> Result<Outcome,
     }
 }
 
-/// What a call draws over the files of a table.
+/// Makes a call over a file database and judges it.
 fn judge_simple(alloc: Global, call: DrawCall, drawing: &Drawing<'_>) -> Result<Outcome, Error> {
     let mut files = SimpleFiles::new(alloc);
     for (name, source) in drawing.files {
@@ -56,7 +56,7 @@ fn judge_simple(alloc: Global, call: DrawCall, drawing: &Drawing<'_>) -> Result<
     judge_call(alloc, call, drawing, &files, &diagnostic)
 }
 
-/// What a call draws over the first file, whose third line has the number 100.
+/// Makes a call over the first file, whose third line has the number 100, and judges it.
 fn judge_mapped(alloc: Global, call: DrawCall, drawing: &Drawing<'_>) -> Result<Outcome, Error> {
     let (name, source) = drawing.files.first().ok_or(Error::FileMissing)?;
     let mut file = MappedFile::new(alloc, *name, *source)?;
@@ -65,7 +65,7 @@ fn judge_mapped(alloc: Global, call: DrawCall, drawing: &Drawing<'_>) -> Result<
     judge_call(alloc, call, drawing, &file, &diagnostic)
 }
 
-/// What a call draws over the first file, where each lookup of a line takes memory.
+/// Makes a call over the first file, where each lookup of a line allocates, and judges it.
 fn judge_copying(alloc: Global, call: DrawCall, drawing: &Drawing<'_>) -> Result<Outcome, Error> {
     let (name, source) = drawing.files.first().ok_or(Error::FileMissing)?;
     let file = Copying::new(alloc, name, source)?;
@@ -73,7 +73,7 @@ fn judge_copying(alloc: Global, call: DrawCall, drawing: &Drawing<'_>) -> Result
     judge_call(alloc, call, drawing, &file, &diagnostic)
 }
 
-/// What a call draws. Fails where the string that it appends to fails.
+/// Makes a call and judges it. Fails if making the string to append to fails.
 fn judge_call<'files, F: Files<'files>>(
     alloc: Global,
     call: DrawCall,
@@ -95,7 +95,7 @@ fn judge_call<'files, F: Files<'files>>(
     }
 }
 
-/// What a call that takes a writer sends to one.
+/// Makes a call that writes to a writer and judges it.
 fn judge_written<'files, F: Files<'files>>(
     alloc: Global,
     call: DrawCall,
@@ -128,7 +128,7 @@ fn judge_written<'files, F: Files<'files>>(
     }
 }
 
-/// Draws to a writer of styles: by the view of the style, or by the call that emits.
+/// Renders to a writer of styles: by the view of the style, or by the emit call.
 fn draw_styled<'files, F: Files<'files>, W: WriteStyle>(
     writer: &mut W,
     call: DrawCall,
@@ -147,7 +147,7 @@ fn draw_styled<'files, F: Files<'files>, W: WriteStyle>(
     }
 }
 
-/// A string is the picture, or failed for want of memory.
+/// Judges a call that returns a string: it is the output, or an allocation failed.
 fn judge_string(answer: &Result<String, Error>, picture: &str) -> Outcome
     ensures done { result ≡ Outcome.Done
         → IfOk answer.now (λ text. string_bytes text ≡ picture.now) }
@@ -159,7 +159,8 @@ fn judge_string(answer: &Result<String, Error>, picture: &str) -> Outcome
     }
 }
 
-/// A string has gained the picture; or that failed for want of memory, and the string is as it was.
+/// Judges a call that appends to a string: the output has been appended; or an allocation failed,
+/// and the string is unchanged.
 fn judge_appended(answer: &Result<(), Error>, string: &str, picture: &str) -> Outcome
     ensures done { result ≡ Outcome.Done → (IsOk answer.now)
         × (string.now ≡ codes "kept" ++ picture.now) }
@@ -172,15 +173,15 @@ fn judge_appended(answer: &Result<(), Error>, string: &str, picture: &str) -> Ou
     }
 }
 
-/// Whether bytes are a beginning of a text.
+/// Returns whether bytes are a prefix of a text.
 fn is_beginning(bytes: &[u8], text: &str) -> bool
     ensures { IsTrue result → (rest : List ℕ) × (text.now ≡ bytes.now ++ rest) }
 {
     text.as_bytes().starts_with(bytes)
 }
 
-/// A vector holds the picture; or the call failed, and it holds a beginning: with `Io` where a growth of the vector failed, and
-/// else for want of memory.
+/// Judges a call that writes to a vector: it holds the output; or the call failed, and it holds a
+/// prefix: with `Io` if an allocation for the vector failed, and otherwise with `OutOfMemory`.
 fn judge_held(answer: &Result<(), Error>, held: &Held, picture: &str) -> Outcome
     ensures done { result ≡ Outcome.Done → (IsOk answer.now) × (held.now.has_failed ≡ false)
         × (held.now.bytes.items ≡ picture.now) }

@@ -1,10 +1,10 @@
-//! A writer that keeps what it is sent in a vector.
+//! A writer that keeps what is written to it in a vector.
 
 use std::alloc::Global;
 use std::io;
 use std::io::Write;
 
-/// A vector that is written to, and whether a growth of it failed.
+/// A vector that is written to, and whether an allocation for it failed.
 #[derive(Drop)]
 pub struct Held {
     /// What was written.
@@ -14,7 +14,7 @@ pub struct Held {
 }
 
 impl Held {
-    /// An empty vector. It takes no memory.
+    /// Returns an empty vector. It does not allocate.
     pub fn new(alloc: Global) -> Held {
         Held {
             bytes: Vec::new(alloc),
@@ -23,7 +23,7 @@ impl Held {
     }
 }
 
-/// All is written to the vector.
+/// Appends all bytes to the vector.
 impl Write for Held {
     fn write(&mut self, buf: &[u8]) -> io::Result<usize> {
         let answer = self.bytes.write(buf);

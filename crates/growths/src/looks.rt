@@ -1,4 +1,4 @@
-//! The clones of a configuration, and of what is in it, where that has a text of its own.
+//! The clones of a configuration, and of its parts, with an owned text.
 
 use crate::outcome::{Outcome, judge_failure, judge_made};
 use codespan_reporting::files::Error;
@@ -8,7 +8,7 @@ use std::alloc::Global;
 /// What is cloned.
 #[derive(Clone, Copy)]
 pub enum Look {
-    /// The text before a place.
+    /// The text before a locus.
     SnippetStart,
     /// The characters.
     Chars,
@@ -16,10 +16,10 @@ pub enum Look {
     Config,
 }
 
-/// A text before a place.
+/// A text before a locus.
 const START: &str = "==>";
 
-/// Whether it is this text of its own.
+/// Returns whether it is this owned text.
 fn is_start(start: &SnippetStart<'_>) -> bool {
     match start {
         SnippetStart::Owned(text) => text.as_str() == START,
@@ -27,12 +27,12 @@ fn is_start(start: &SnippetStart<'_>) -> bool {
     }
 }
 
-/// Whether they are the given characters.
+/// Returns whether they are the characters of the configuration.
 fn are_chars(chars: &Chars<'_>) -> bool {
     is_start(&chars.snippet_start) && chars.multi_top_left == '/'
 }
 
-/// What the clone of a configuration, or of a part of it, is.
+/// Makes the clone of a configuration, or of a part of it, and judges it.
 pub fn judge_look(alloc: Global, look: Look) -> Result<Outcome, Error> {
     let config = Config {
         tab_width: 7,

@@ -1,15 +1,17 @@
-//! `growths SUBJECT` makes one call that takes memory, and judges what came of it.
+//! `growths SUBJECT` makes one call that allocates, and judges the outcome.
 //! `growths` does so for each subject, one after another.
 //!
-//! It is made to be run while one growth after another fails: `tools/growths` does that. A subject is prepared, its one call is made,
-//! and one line says what came: `unprepared`, where a growth failed before the call; `done`, where the call answered `Ok` with exactly
-//! what is expected; `failed`, where it failed as it may be, and all that must stay as it was stayed; or `wrong`. What is expected is
-//! written down here, from worked pictures and from what each call promises.
+//! It is made to be run while one allocation after another fails: `tools/growths` does that. A
+//! subject is prepared, its one call is made, and one line reports the outcome: `unprepared`, an
+//! allocation failed before the call; `done`, the call returned `Ok` with exactly what is expected;
+//! `failed`, it failed with an error that it may return, and all that must stay unchanged is
+//! unchanged; or `wrong`. What is expected is written down in this crate: worked outputs, and what
+//! the contract of each call promises.
 //!
-//! | status | what came |
+//! | status | meaning |
 //! |---|---|
-//! | 0 | nothing wrong |
-//! | 1 | something wrong, or the output failed |
+//! | 0 | no error |
+//! | 1 | a wrong outcome, or writing the output failed |
 //! | 2 | nothing: no subject has this name |
 #![tactic(auto)]
 

@@ -1,4 +1,4 @@
-//! What came of a subject.
+//! The outcome of a subject.
 
 ghost use Rattle.std.specs.Prelude.{◌≡◌, ◌≢◌, ◌≤◌, ◌⊎◌, IfOk, IsTrue, IsErrOf};
 
@@ -6,36 +6,36 @@ use codespan_reporting::files::Error;
 use std::fmt;
 use std::fmt::Write;
 
-/// What came of a subject.
+/// The outcome of a subject.
 #[derive(Clone, Copy, PartialEq, Eq)]
 pub enum Outcome {
     /// No subject has this name.
     Unknown,
-    /// A growth failed before the call.
+    /// An allocation failed before the call.
     Unprepared,
-    /// The call answered `Ok`, with exactly what is expected.
+    /// The call returned `Ok`, with exactly what is expected.
     Done,
-    /// The call failed as it may be, and what must stay as it was stayed.
+    /// The call failed with an error that it may return, and what must stay unchanged is unchanged.
     Failed,
-    /// Something else.
+    /// Any other outcome.
     Wrong(Wrong),
 }
 
-/// What is wrong.
+/// The reasons of a wrong outcome.
 #[derive(Clone, Copy, PartialEq, Eq)]
 pub enum Wrong {
-    /// Something else than want of memory was told before the call.
+    /// An error other than a failed allocation was returned before the call.
     Preparation,
-    /// The call answered `Ok` with something else.
+    /// The call returned `Ok` with another value.
     Answer,
-    /// The call failed with an error that it may not fail with.
+    /// The call failed with an error that it may not return.
     Failure,
-    /// The call failed, and something did not stay as it was.
+    /// The call failed, and something has changed.
     Kept,
 }
 
 impl Outcome {
-    /// The program's status.
+    /// Returns the program's status.
     pub fn status(self) -> u8
         ensures most { result ≤ 2 }
         ensures right { result ≡ 0 → (self ≡ Outcome.Unprepared) ⊎ (self ≡ Outcome.Done)
@@ -49,7 +49,7 @@ impl Outcome {
     }
 }
 
-/// One word, or a few where something is wrong.
+/// Writes one word, or a few for a wrong outcome.
 impl fmt::Display for Outcome {
     fn fmt<W: Write>(&self, f: &mut fmt::Formatter<W>) -> fmt::Result {
         match self {
@@ -62,7 +62,7 @@ impl fmt::Display for Outcome {
     }
 }
 
-/// A few words.
+/// Writes a few words.
 impl fmt::Display for Wrong {
     fn fmt<W: Write>(&self, f: &mut fmt::Formatter<W>) -> fmt::Result {
         match self {
@@ -74,7 +74,7 @@ impl fmt::Display for Wrong {
     }
 }
 
-/// What came of a subject whose preparation may fail.
+/// Returns the outcome of a subject whose preparation may fail.
 pub fn prepared(judged: Result<Outcome, Error>) -> Outcome {
     match judged {
         Ok(outcome) => outcome,
@@ -83,7 +83,7 @@ pub fn prepared(judged: Result<Outcome, Error>) -> Outcome {
     }
 }
 
-/// `Done` where what was made is what is expected.
+/// Returns `Done` if the value is the expected one.
 pub fn judge_made(is_expected: bool) -> Outcome
     ensures done { result ≡ Outcome.Done → IsTrue is_expected }
     ensures answered { result ≢ Outcome.Failed }
@@ -95,7 +95,7 @@ pub fn judge_made(is_expected: bool) -> Outcome
     }
 }
 
-/// `Failed` where a growth is told as failed, and what must stay as it was did.
+/// Returns `Failed` if the error is a failed allocation, and what must stay unchanged is unchanged.
 pub fn judge_failure(error: &Error, is_kept: bool) -> Outcome
     ensures error { result ≡ Outcome.Failed → error.now ≡ Error.OutOfMemory }
     ensures kept { result ≡ Outcome.Failed → IsTrue is_kept }
@@ -108,7 +108,8 @@ pub fn judge_failure(error: &Error, is_kept: bool) -> Outcome
     }
 }
 
-/// What came of a call that makes a value: `Done` where it is the one that is expected, `Failed` where a growth failed.
+/// Returns the outcome of a call that makes a value: `Done` if it is the expected one, `Failed` if
+/// an allocation failed.
 pub fn judge_value<T: PartialEq + Drop>(answer: &Result<T, Error>, want: &T) -> Outcome
     ensures done { result ≡ Outcome.Done → IfOk answer.now (λ made. IsTrue (T.eq made want.now)) }
     ensures failed { result ≡ Outcome.Failed → IsErrOf answer.now Error.OutOfMemory }

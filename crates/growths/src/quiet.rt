@@ -1,4 +1,4 @@
-//! The calls that take no memory.
+//! The calls that do not allocate.
 
 use crate::outcome::{Outcome, judge_made};
 use codespan_reporting::diagnostic::LabelStyle::{Primary, Secondary};
@@ -17,7 +17,7 @@ use std::convert::AsStr;
 /// How much of the subject is done.
 #[derive(Clone, Copy)]
 pub enum Extent {
-    /// What the calls need is made, and that is all.
+    /// What the calls need is prepared, and no call is made.
     Preparation,
     /// The calls are made too.
     Calls,
@@ -29,7 +29,7 @@ const TEXT: &str = "foo\nbär\nbaz";
 /// What the calls need.
 #[derive(Drop)]
 struct Needs<'text> {
-    /// Vectors with room for all that is written to them.
+    /// Vectors with capacity for all that is written to them.
     rows: Vec<u8>,
     colours: Vec<u8>,
     picture: Vec<u8>,
@@ -40,7 +40,7 @@ struct Needs<'text> {
     mapped: MappedFile<&'text str, &'text str>,
 }
 
-/// Makes what the calls need, which takes memory, and then the calls.
+/// Prepares what the calls need, which allocates, and then makes the calls.
 pub fn judge_quiet(alloc: Global, extent: Extent) -> Result<Outcome, Error> {
     let needs = prepare(alloc)?;
     match extent {
@@ -49,7 +49,7 @@ pub fn judge_quiet(alloc: Global, extent: Extent) -> Result<Outcome, Error> {
     }
 }
 
-/// Makes what the calls need.
+/// Prepares what the calls need.
 fn prepare<'text>(alloc: Global) -> Result<Needs<'text>, Error> {
     let mut files = SimpleFiles::new(alloc);
     files.add("f", TEXT)?;
@@ -67,7 +67,7 @@ fn prepare<'text>(alloc: Global) -> Result<Needs<'text>, Error> {
     })
 }
 
-/// The place of a line and a column of a file.
+/// A location of a file: a line and a column.
 fn locus_of(
     alloc: Global,
     name: &str,
@@ -83,7 +83,8 @@ fn locus_of(
     })
 }
 
-/// Makes each call, and answers whether all gave what they should. A call that fails is told as the preparation would be.
+/// Makes each call, and returns whether all results are as expected. An error of a call is reported
+/// as one of the preparation would be.
 fn are_right(alloc: Global, needs: Needs<'_>) -> Result<bool, Error> {
     let Needs {
         mut rows,
@@ -115,7 +116,7 @@ fn are_right(alloc: Global, needs: Needs<'_>) -> Result<bool, Error> {
     )
 }
 
-/// Whether the lookups of the byte 7 of a file answer as they should.
+/// Returns whether the lookups of byte 7 of a file return what is expected.
 fn answers<'files, F: Files<'files>>(files: &'files F, id: F::FileId, number: usize) -> bool {
     let has_text = match files.source(id) {
         Ok(source) => source.as_str() == TEXT,
@@ -142,7 +143,7 @@ fn answers<'files, F: Files<'files>>(files: &'files F, id: F::FileId, number: us
         && matches!(files.column_number(id, 1, 7), Ok(3))
 }
 
-/// Whether the file that is there is had.
+/// Returns whether an existing file is found.
 fn is_got(files: &SimpleFiles<&str, &str>) -> bool {
     match files.get(0) {
         Ok(file) => file.source().as_str() == TEXT,
@@ -150,7 +151,8 @@ fn is_got(files: &SimpleFiles<&str, &str>) -> bool {
     }
 }
 
-/// Whether the calls that stand for a table's own lookups answer as they should, of the byte 7.
+/// Returns whether the free functions for the lookups of a custom database return what is expected
+/// at byte 7.
 fn are_defaults(files: &SimpleFiles<&str, &str>) -> bool {
     let is_place = match default_location(files, 0, 7) {
         Ok(place) => place.line_number == 2 && place.column_number == 3,
@@ -165,7 +167,7 @@ fn are_defaults(files: &SimpleFiles<&str, &str>) -> bool {
         && matches!(default_column_number(files, 0, 1, 7), Ok(3))
 }
 
-/// Whether each lookup of the default styles gives what it should.
+/// Returns whether each lookup of the default styles returns what is expected.
 fn are_styles(styles: &Styles) -> bool {
     let mark = Some(Color::Cyan);
     styles.header(Severity::Warning).fg == Some(Color::Yellow)
@@ -177,7 +179,7 @@ fn are_styles(styles: &Styles) -> bool {
         && styles.label(Severity::Bug, Secondary).fg == mark
 }
 
-/// Whether the lines of a text start where they should.
+/// Returns whether the lines of a text start where they should.
 fn are_starts() -> bool {
     let mut are_right = true;
     let mut count = 0usize;
@@ -188,7 +190,7 @@ fn are_starts() -> bool {
     are_right && count == 4
 }
 
-/// Whether constructors and clones of what has no text of its own make what they should.
+/// Returns whether constructors, and clones of what owns no text, return what is expected.
 fn are_made(alloc: Global) -> bool {
     let label = Label::primary(alloc, 3, 5..2);
     let diagnostic: Diagnostic<usize> = Diagnostic::help(alloc);
@@ -203,7 +205,7 @@ fn are_made(alloc: Global) -> bool {
     label.file_id == 3 && diagnostic.labels.is_empty() && is_config && are_chars
 }
 
-/// A picture without a lookup.
+/// Renders a diagnostic without a lookup.
 fn draw_bug(
     alloc: Global,
     picture: &mut Vec<u8>,
@@ -212,7 +214,7 @@ fn draw_bug(
     emit(picture, &Config::default(), files, &Diagnostic::bug(alloc))
 }
 
-/// Each kind of row, in plain text.
+/// Writes each kind of row, in plain text.
 fn draw_rows(text: &mut Vec<u8>, start: &Locus, place: &Locus) -> Result<(), Error> {
     let config = Config::default();
     let mut writer = PlainWriter::new(text);
@@ -225,7 +227,7 @@ fn draw_rows(text: &mut Vec<u8>, start: &Locus, place: &Locus) -> Result<(), Err
     draw_other_rows(&mut renderer, place)
 }
 
-/// The rows of other pictures.
+/// Writes rows of other kinds.
 fn draw_other_rows<W: WriteStyle>(
     renderer: &mut Renderer<'_, '_, W>,
     place: &Locus,
@@ -240,7 +242,7 @@ fn draw_other_rows<W: WriteStyle>(
     renderer.render_snippet_note(0, "a\r\n\nb\n")
 }
 
-/// The lines of a text with two labels over several lines whose underlines cross.
+/// Writes source lines with two labels over several lines whose underlines cross.
 fn draw_crossing<W: WriteStyle>(renderer: &mut Renderer<'_, '_, W>) -> Result<(), Error> {
     let first = [
         (0, Secondary, MultiLabel::Top(1)),
@@ -256,7 +258,7 @@ fn draw_crossing<W: WriteStyle>(renderer: &mut Renderer<'_, '_, W>) -> Result<()
     draw_line(renderer, 3, "ef", &third)
 }
 
-/// A line with two lanes.
+/// Writes a source line with two lanes.
 fn draw_line<W: WriteStyle>(
     renderer: &mut Renderer<'_, '_, W>,
     number: usize,
@@ -269,7 +271,7 @@ fn draw_line<W: WriteStyle>(
     renderer.render_snippet_source(1, number, text, Severity::Error, &[], 2, lanes)
 }
 
-/// A line with a label and its message, in colours.
+/// Writes a source line with a label and its message, in colors.
 fn draw_coloured(text: &mut Vec<u8>) -> Result<(), Error> {
     let config = Config::default();
     let styles = Styles::default();

@@ -1,4 +1,4 @@
-//! Worked pictures: what is drawn, and what has to come.
+//! Worked diagnostics, and their expected outputs.
 
 use codespan_reporting::diagnostic::LabelStyle::{Primary, Secondary};
 use codespan_reporting::diagnostic::{Diagnostic, Label, LabelStyle, Severity};
@@ -7,14 +7,14 @@ use codespan_reporting::term::{Config, DisplayStyle};
 use std::alloc::Global;
 use std::ops::Range;
 
-/// A worked picture.
+/// A worked diagnostic.
 #[derive(Clone, Copy)]
 pub enum Row {
     /// Three labels of one line.
     MutableBorrows,
-    /// A label over several lines, with a break and a line that is filled in, and a note.
+    /// A label over several lines, with a break and a filled line, and a note.
     MismatchedTypes,
-    /// A header in short style, without a lookup, and in colours where the call has some.
+    /// A header in short style, without a lookup, and in colors if the call has some.
     ColouredHeader,
     /// Labels of two files, and a note.
     TwoFiles,
@@ -22,19 +22,19 @@ pub enum Row {
     Medium,
     /// The same in short style.
     Short,
-    /// A file with numbers of its own.
+    /// A file with custom line numbers.
     MappedNumbers,
-    /// Lines before and after a label's, each of whose lookups takes memory.
+    /// Lines before and after a label's, each of whose lookups allocates.
     SurroundingLines,
 }
 
-/// A label: its style, the place of its file among the files, its range and its message.
+/// A label: its style, the index of its file, its range in bytes and its message.
 type GivenLabel<'text> = (LabelStyle, usize, Range<usize>, &'text str);
 
-/// A diagnostic, its files, and its picture.
+/// A diagnostic, its files, and its expected output.
 #[derive(Drop)]
 pub struct Drawing<'text> {
-    /// How it is drawn.
+    /// The configuration.
     pub config: Config<'text>,
     /// The name and the text of each file.
     pub files: &'text [(&'text str, &'text str)],
@@ -46,14 +46,14 @@ pub struct Drawing<'text> {
     pub labels: &'text [GivenLabel<'text>],
     /// Its notes.
     pub notes: &'text [&'text str],
-    /// The picture, in plain text.
+    /// The output, in plain text.
     pub picture: &'text str,
-    /// The picture in escape sequences, where it is drawn in these.
+    /// The output in escape sequences, if it is rendered in these.
     pub coloured: Option<&'text str>,
 }
 
 impl<'text> Default for Drawing<'text> {
-    /// An error that says nothing, by the default configuration.
+    /// Returns an empty error, by the default configuration.
     fn default() -> Drawing<'text> {
         Drawing {
             config: Config::default(),
@@ -69,7 +69,7 @@ impl<'text> Default for Drawing<'text> {
 }
 
 impl Row {
-    /// What is drawn, and its picture.
+    /// Returns the diagnostic and its output.
     pub fn drawing<'text>(self) -> Drawing<'text> {
         match self {
             Row::MutableBorrows => mutable_borrows(),
@@ -84,7 +84,7 @@ impl Row {
     }
 }
 
-/// The diagnostic of a drawing, over files of these ids. Fails with `OutOfMemory`.
+/// Returns the diagnostic, over files of these ids. Fails with `OutOfMemory`.
 pub fn diagnostic_of<FileId: Copy + Drop>(
     alloc: Global,
     drawing: &Drawing<'_>,
@@ -105,7 +105,7 @@ pub fn diagnostic_of<FileId: Copy + Drop>(
     Ok(diagnostic)
 }
 
-/// Three labels of one line, two of whose messages hang.
+/// Returns three labels of one line, two of whose messages hang.
 fn mutable_borrows<'text>() -> Drawing<'text> {
     Drawing {
         files: &[(
@@ -134,7 +134,7 @@ fn mutable_borrows<'text>() -> Drawing<'text> {
     }
 }
 
-/// A label over nine lines, of which some are left out, and one inside it.
+/// Returns a label over nine lines, of which some are left out, and one inside it.
 fn mismatched_types<'text>() -> Drawing<'text> {
     Drawing {
         config: Config {
@@ -173,7 +173,7 @@ fn mismatched_types<'text>() -> Drawing<'text> {
     }
 }
 
-/// A header alone.
+/// Returns a header alone.
 fn coloured_header<'text>() -> Drawing<'text> {
     Drawing {
         config: Config {
@@ -187,7 +187,7 @@ fn coloured_header<'text>() -> Drawing<'text> {
     }
 }
 
-/// A type error that another file explains, in a style.
+/// Returns a type error that another file explains, in a style.
 fn type_error<'text>(display_style: DisplayStyle, picture: &'text str) -> Drawing<'text> {
     Drawing {
         config: Config {
@@ -244,7 +244,7 @@ const MEDIUM: &str = "Test.fun:4:11: error[E0001]: unexpected type in applicatio
 /// The type error in short style.
 const SHORT: &str = "Test.fun:4:11: error[E0001]: unexpected type in application of `_+_`\n";
 
-/// A label over three lines, of which the second has the number 100.
+/// Returns a label over three lines, of which the second has the number 100.
 fn mapped_numbers<'text>() -> Drawing<'text> {
     Drawing {
         files: &[("m", "a\nb\nc\nd")],
@@ -260,7 +260,7 @@ fn mapped_numbers<'text>() -> Drawing<'text> {
     }
 }
 
-/// The end of a file, with lines before it.
+/// Returns the end of a file, with lines before it.
 fn surrounding_lines<'text>() -> Drawing<'text> {
     Drawing {
         config: Config {

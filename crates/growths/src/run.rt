@@ -8,7 +8,8 @@ use std::alloc::Global;
 use std::io;
 use std::io::Write;
 
-/// Judges the subject that the arguments name, or without any all of them, tells what came, and answers the program's status.
+/// Judges the subject that the arguments name, or all subjects if there are none, writes the
+/// outcome, and returns the program's status.
 pub fn run<W: Write>(alloc: Global, args: &[String], output: &mut W) -> u8
     ensures { result ≤ 2 }
 {
@@ -25,7 +26,7 @@ pub fn run<W: Write>(alloc: Global, args: &[String], output: &mut W) -> u8
     conclude(outcome, output)
 }
 
-/// Tells an outcome in one line, and answers the program's status.
+/// Writes an outcome as one line, and returns the program's status.
 pub fn conclude<W: Write>(outcome: Outcome, output: &mut W) -> u8
     ensures { result ≤ 2 }
 {
@@ -35,7 +36,7 @@ pub fn conclude<W: Write>(outcome: Outcome, output: &mut W) -> u8
     }
 }
 
-/// Judges all subjects, a line each, and answers whether all are done.
+/// Judges all subjects, writes a line for each, and returns whether all are done.
 fn judge_all<W: Write>(alloc: Global, output: &mut W) -> io::Result<bool> {
     let mut are_done = true;
     for (name, subject) in &CALLS {

@@ -1,4 +1,4 @@
-//! The subjects, and what they are called.
+//! The subjects, and their names.
 
 use crate::data::{DiagnosticCall, LabelCall, judge_diagnostic, judge_label};
 use crate::drawing::{DrawCall, judge_drawing};
@@ -18,15 +18,15 @@ pub enum Subject {
     Diagnostic(DiagnosticCall),
     /// A clone of a configuration or of a part of it.
     Look(Look),
-    /// A call of a table of files.
+    /// A call of a file database.
     Table(TableCall),
-    /// A call that draws, and what it draws.
+    /// A call that renders, and what it renders.
     Drawing(DrawCall, Row),
-    /// The calls that take no memory.
+    /// The calls that do not allocate.
     Quiet(Extent),
 }
 
-/// The subjects of one word.
+/// The subjects named by one word.
 pub const CALLS: [(&str, Subject); 20] = [
     (
         "Label::with_message",
@@ -80,7 +80,7 @@ pub const CALLS: [(&str, Subject); 20] = [
     ("no_memory", Subject::Quiet(Extent::Calls)),
 ];
 
-/// The first words of the subjects of two words.
+/// The first words of the subjects named by two words.
 pub const DRAW_CALLS: [(&str, DrawCall); 6] = [
     ("render", DrawCall::Render),
     ("emit_to_write_style", DrawCall::EmitToWriteStyle),
@@ -90,7 +90,7 @@ pub const DRAW_CALLS: [(&str, DrawCall); 6] = [
     ("emit_to_string", DrawCall::EmitToString),
 ];
 
-/// The second words of the subjects of two words.
+/// The second words of the subjects named by two words.
 pub const ROWS: [(&str, Row); 8] = [
     ("mutable_borrows", Row::MutableBorrows),
     ("mismatched_types", Row::MismatchedTypes),
@@ -103,7 +103,7 @@ pub const ROWS: [(&str, Row); 8] = [
 ];
 
 impl Subject {
-    /// The subject that the arguments name.
+    /// Returns the subject that the arguments name.
     pub fn from_arguments(args: &[String]) -> Option<Subject> {
         match args {
             [word] => named(&CALLS, word.as_str()),
@@ -115,7 +115,7 @@ impl Subject {
         }
     }
 
-    /// Prepares the subject, makes its call, and judges what came.
+    /// Prepares the subject, makes its call, and judges the outcome.
     pub fn judge(self, alloc: Global) -> Outcome {
         prepared(match self {
             Subject::Label(call) => judge_label(alloc, call),
@@ -128,7 +128,7 @@ impl Subject {
     }
 }
 
-/// What a table has under a name.
+/// Returns the entry of a table of this name.
 fn named<T: Copy>(table: &[(&str, T)], name: &str) -> Option<T> {
     for (known, value) in table {
         if *known == name {

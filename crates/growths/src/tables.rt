@@ -1,11 +1,11 @@
-//! The calls that make tables of files or add to them.
+//! The calls that make file databases or add to them.
 
 use crate::outcome::{Outcome, judge_failure, judge_made};
 use codespan_reporting::files::{Error, Files, MappedFile, SimpleFile, SimpleFiles};
 use std::alloc::Global;
 use std::convert::AsStr;
 
-/// A call of a table.
+/// A call of a file database.
 #[derive(Clone, Copy)]
 pub enum TableCall {
     /// `SimpleFile::new`
@@ -21,7 +21,7 @@ pub enum TableCall {
 /// The text of a file.
 const TEXT: &str = "a\nb\nc\nd";
 
-/// What a call of a table answers, and what it leaves.
+/// Makes a call of a file database, and judges its result and what it leaves.
 pub fn judge_table(alloc: Global, call: TableCall) -> Result<Outcome, Error> {
     match call {
         TableCall::SimpleFileNew => Ok(match SimpleFile::new(alloc, "f", TEXT) {
@@ -37,12 +37,12 @@ pub fn judge_table(alloc: Global, call: TableCall) -> Result<Outcome, Error> {
     }
 }
 
-/// Whether a file has the text, and lines of these numbers.
+/// Returns whether a file has the text, and lines of these numbers.
 fn is_file<'files, F: Files<'files>>(files: &'files F, id: F::FileId, numbers: [usize; 4]) -> bool {
     has_text(files, id) && has_numbers(files, id, numbers)
 }
 
-/// Whether a file has the text, in lines of two bytes.
+/// Returns whether a file has the text, in lines of two bytes.
 fn has_text<'files, F: Files<'files>>(files: &'files F, id: F::FileId) -> bool {
     let has_text = match files.source(id) {
         Ok(source) => source.as_str() == TEXT,
@@ -51,7 +51,7 @@ fn has_text<'files, F: Files<'files>>(files: &'files F, id: F::FileId) -> bool {
     has_text && matches!(files.line_index(id, 6), Ok(3))
 }
 
-/// Whether the lines of a file have these numbers.
+/// Returns whether the lines of a file have these numbers.
 fn has_numbers<'files, F: Files<'files>>(
     files: &'files F,
     id: F::FileId,
@@ -69,7 +69,7 @@ fn has_numbers<'files, F: Files<'files>>(
     true
 }
 
-/// Whether a table has so many files, each of them the text.
+/// Returns whether a database has this many files, each of them with the text.
 fn has_files(files: &SimpleFiles<&'static str, &'static str>, count: usize) -> bool {
     for id in 0..count {
         if !is_file(files, id, [1, 2, 3, 4]) {
@@ -79,7 +79,7 @@ fn has_files(files: &SimpleFiles<&'static str, &'static str>, count: usize) -> b
     matches!(files.get(count), Err(Error::FileMissing))
 }
 
-/// A fifth file, added to four.
+/// Adds a fifth file to four, and judges it.
 fn judge_add(alloc: Global) -> Result<Outcome, Error> {
     let mut files = SimpleFiles::new(alloc);
     for name in ["f", "g", "h", "i"] {
@@ -91,7 +91,7 @@ fn judge_add(alloc: Global) -> Result<Outcome, Error> {
     })
 }
 
-/// The first number that is set.
+/// Sets the first line number, and judges it.
 fn judge_set_line(alloc: Global) -> Result<Outcome, Error> {
     let mut file = MappedFile::new(alloc, "f", TEXT)?;
     Ok(match file.set_line(2, 100) {

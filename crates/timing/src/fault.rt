@@ -1,17 +1,17 @@
-//! Why nothing was drawn.
+//! The errors of the program.
 
 use codespan_reporting::files::Error;
 use std::alloc::AllocError;
 use std::io;
 
-/// Why nothing was drawn.
+/// The errors of the program.
 #[derive(Debug, Drop)]
 pub enum Fault {
-    /// The input is not as it has to be.
+    /// The input is malformed.
     Input,
-    /// The input or the output failed.
+    /// Reading the input or writing the output failed.
     Io(io::Error),
-    /// Memory failed, or the picture was.
+    /// Rendering or an allocation failed.
     Drawing(Error),
 }
 

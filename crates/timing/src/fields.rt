@@ -1,25 +1,27 @@
 //! The input: fields, one after another.
 //!
-//! They are, in this order: how often to draw; the number of files, and of each its name and its source; the code, the message; the
-//! number of labels, and of each `primary` or `secondary`, its file, its start, its end and its message; the number of notes, and each
-//! note. A number is a line. A text is a line with its length in bytes, and then that many bytes and a newline. An empty code is none.
+//! They are, in this order: how many times to render; the number of files, and of each its name and
+//! its source; the code; the message; the number of labels, and of each `primary` or `secondary`,
+//! its file, its start, its end and its message; the number of notes, and each note. A number is a
+//! line. A text is a line with its length in bytes, and then that many bytes and a newline. An
+//! empty code is none.
 
 use crate::fault::Fault;
 use std::str;
 
-/// The fields that are left.
+/// The remaining fields.
 #[derive(Clone, Copy)]
 pub struct Fields<'a> {
     left: &'a [u8],
 }
 
 impl<'a> Fields<'a> {
-    /// The fields of an input.
+    /// Returns the fields of an input.
     pub fn new(input: &'a [u8]) -> Fields<'a> {
         Fields { left: input }
     }
 
-    /// A line.
+    /// Reads a line.
     pub fn line(&mut self) -> Result<&'a str, Fault> {
         match self.left.iter().position(|byte| *byte == b'\n') {
             Some(length) => self.ended(length),
@@ -27,7 +29,7 @@ impl<'a> Fields<'a> {
         }
     }
 
-    /// A number.
+    /// Reads a number.
     pub fn number(&mut self) -> Result<usize, Fault> {
         match self.line()?.parse() {
             Ok(number) => Ok(number),
@@ -35,13 +37,13 @@ impl<'a> Fields<'a> {
         }
     }
 
-    /// A text.
+    /// Reads a text.
     pub fn text(&mut self) -> Result<&'a str, Fault> {
         let length = self.number()?;
         self.ended(length)
     }
 
-    /// So many bytes, which a newline has to end.
+    /// Reads this many bytes and the newline after them.
     fn ended(&mut self, length: usize) -> Result<&'a str, Fault> {
         let Some((taken, rest)) = self.left.split_at_checked(length) else {
             return Err(Fault::Input);

@@ -1,8 +1,10 @@
-//! `timing` draws the diagnostic on standard input, as often as that says, and writes the last picture.
+//! `timing` renders the diagnostic on standard input as many times as the input states, and writes
+//! the last output.
 //!
-//! On standard error it tells in nanoseconds how long the drawing took, in one line. It is made to be measured beside a program over the
-//! Rust crate that reads the same: tools/bench does that. [`fields`] says what the input is. Where the input is something else, or anything
-//! fails, the status is 1.
+//! It writes one line to standard error: how long rendering took, in nanoseconds. It is made to be
+//! measured beside a program over the Rust crate that reads the same input: `tools/bench` does
+//! that. [`fields`] documents the input. If the input is malformed or anything fails, the status is
+//! 1.
 #![tactic(auto)]
 
 mod fault;

@@ -1,4 +1,4 @@
-//! What is to be drawn.
+//! The files and the diagnostic to be rendered.
 
 use crate::fault::Fault;
 use crate::fields::Fields;
@@ -19,7 +19,7 @@ pub fn read_files<'a>(
     Ok(files)
 }
 
-/// Reads the diagnostic, an error.
+/// Reads the diagnostic, whose severity is error.
 pub fn read_diagnostic(alloc: Global, fields: &mut Fields<'_>) -> Result<Diagnostic<usize>, Fault> {
     let mut diagnostic = Diagnostic::error(alloc);
     let code = fields.text()?;

@@ -1,4 +1,4 @@
--- The spelling of the program's own writer of styles.
+-- The spelling of this program's writer of styles.
 use Rattle.std.specs.Prelude.{ℕ, Bool, List, [], ◌∷◌, Option, codes}
 use Rattle.codespan_base.specs.Streams.{StyleMark, Header, HeaderMessage, LineNumber, NoteBullet, SourceBorder, LabelMark, Reset}
 use Rattle.codespan_base.specs.WriterLaw.{Sink}

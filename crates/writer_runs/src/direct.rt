@@ -1,4 +1,4 @@
-//! The calls of `Renderer` that draw rows.
+//! The calls of `Renderer` that write rows.
 
 use crate::drawing::Draws;
 use codespan_reporting::diagnostic::{LabelStyle, Severity};
@@ -10,27 +10,27 @@ use std::alloc::Global;
 use std::fmt;
 use std::io::Write;
 
-/// A line of source, at padding 1.
+/// A source line, at padding 1.
 #[derive(Clone, Copy)]
 pub struct Line<'text> {
     /// Its number.
     pub number: usize,
     /// Its text.
     pub text: &'text str,
-    /// The severity that its labels are coloured by.
+    /// The severity, whose color its primary labels have.
     pub severity: Severity,
     /// Its labels.
     pub labels: &'text [SingleLabel<'text>],
-    /// How many lanes the file has.
+    /// The number of lanes of the file.
     pub lanes: usize,
-    /// What the lanes do on the line.
+    /// The multi-line label marks of the line.
     pub marks: &'text [(usize, LabelStyle, MultiLabel<'text>)],
 }
 
-/// A call of `Renderer` that draws rows.
+/// A call of `Renderer` that writes rows.
 #[derive(Clone, Copy)]
 pub enum RowCall<'text> {
-    /// `render_header` of an error, with a place: its code and its message.
+    /// `render_header` of an error with a locus: its code and its message.
     Header(Option<&'text str>, &'text str),
     /// `render_empty`
     Empty,
@@ -38,15 +38,15 @@ pub enum RowCall<'text> {
     Start,
     /// `render_snippet_source`
     Source(Line<'text>),
-    /// `render_snippet_empty` at a padding, in a file of so many lanes.
+    /// `render_snippet_empty` at a padding, in a file with this many lanes.
     SnippetEmpty(usize, usize),
-    /// `render_snippet_break` at a padding, in a file of so many lanes, which do this.
+    /// `render_snippet_break` at a padding, in a file with this many lanes, and their marks.
     Break(usize, usize, &'text [(usize, LabelStyle, MultiLabel<'text>)]),
     /// `render_snippet_note` at a padding.
     Note(usize, &'text str),
 }
 
-/// The name of the call.
+/// Returns the name of the call.
 impl fmt::Display for RowCall<'_> {
     fn fmt<W: fmt::Write>(&self, f: &mut fmt::Formatter<W>) -> fmt::Result {
         match self {
@@ -61,7 +61,7 @@ impl fmt::Display for RowCall<'_> {
     }
 }
 
-/// A call of `Renderer`, and the place that it may tell.
+/// A call of `Renderer`, and the locus that it may write.
 #[derive(Drop)]
 pub struct Direct<'text> {
     call: RowCall<'text>,
@@ -69,7 +69,7 @@ pub struct Direct<'text> {
 }
 
 impl<'text> Direct<'text> {
-    /// The call, with the first place of `f.txt`. Fails with `OutOfMemory`.
+    /// Returns the call, with the first locus of `f.txt`. Fails with `OutOfMemory`.
     pub fn new(alloc: Global, call: RowCall<'text>) -> Result<Self, Error> {
         Ok(Direct {
             call,
@@ -84,7 +84,7 @@ impl<'text> Direct<'text> {
     }
 }
 
-/// Draws a line. Fails lanes that are not in order.
+/// Writes a source line. Fails if the lanes are not in order.
 fn draw_line<W: WriteStyle>(
     renderer: &mut Renderer<'_, '_, W>,
     line: Line<'_>,
@@ -103,7 +103,7 @@ fn draw_line<W: WriteStyle>(
     )
 }
 
-/// Draws a break. Fails lanes that are not in order.
+/// Writes a break. Fails if the lanes are not in order.
 fn draw_break<W: WriteStyle>(
     renderer: &mut Renderer<'_, '_, W>,
     padding: usize,

@@ -1,4 +1,4 @@
-//! The calls that draw a row.
+//! The calls that render a row.
 
 use crate::zero::FromZero;
 use codespan_reporting::diagnostic::Diagnostic;
@@ -10,10 +10,11 @@ use codespan_reporting::term::{
 use std::fmt;
 use std::io::Write;
 
-/// A call that draws to a writer.
+/// A call that renders to a writer.
 #[derive(Clone, Copy)]
 pub enum Call {
-    /// `render` of the view of the style: `RichDiagnostic`, or `ShortDiagnostic` with notes or without.
+    /// `render` of the view of the style: `RichDiagnostic`, or `ShortDiagnostic` with notes or
+    /// without.
     Render,
     /// `emit_to_write_style`
     EmitToWriteStyle,
@@ -31,7 +32,7 @@ pub const CALLS: [Call; 4] = [
     Call::Emit,
 ];
 
-/// Its name.
+/// Returns the name of the call.
 impl fmt::Display for Call {
     fn fmt<W: fmt::Write>(&self, f: &mut fmt::Formatter<W>) -> fmt::Result {
         match self {
@@ -43,37 +44,37 @@ impl fmt::Display for Call {
     }
 }
 
-/// What draws to a writer.
+/// What can be rendered to a writer.
 pub trait Draws {
-    /// Draws to a writer of styles.
+    /// Writes to a writer of styles.
     fn draw<W: WriteStyle>(&self, writer: &mut W) -> Result<(), Error>;
 
-    /// Draws to a writer of bytes, as plain text.
+    /// Writes to a writer of bytes, as plain text.
     fn draw_plain<W: Write>(&self, writer: &mut W) -> Result<(), Error>;
 
-    /// Whether marks of style are sent.
+    /// Returns whether style marks are written.
     fn has_marks(&self) -> bool;
 }
 
-/// The files of a row, and its diagnostic over them.
+/// The file database of a row, and its diagnostic over it.
 #[derive(Clone, Copy)]
 pub enum Given<'a, 'text> {
-    /// Files in one table.
+    /// Several files.
     Several(&'a SimpleFiles<&'text str, &'text str>, &'a Diagnostic<usize>),
-    /// A file with numbers of its own.
+    /// A file with custom line numbers.
     Mapped(&'a MappedFile<&'text str, &'text str>, &'a Diagnostic<()>),
     /// A file whose lines are numbered from 0.
     FromZero(&'a FromZero<'text>, &'a Diagnostic<()>),
 }
 
-/// What is drawn, in a configuration, and the call that draws it.
+/// What is rendered, in a configuration, and the call that renders it.
 #[derive(Clone, Copy)]
 pub struct Scene<'a, 'text> {
     /// The call.
     pub call: Call,
     /// The configuration.
     pub config: &'a Config<'text>,
-    /// The files and the diagnostic.
+    /// The file database and the diagnostic.
     pub given: Given<'a, 'text>,
 }
 
@@ -101,7 +102,7 @@ impl<'a, 'text> Draws for Scene<'a, 'text> {
     }
 }
 
-/// Draws by a call to a writer of styles.
+/// Renders by a call to a writer of styles.
 fn draw_over<'files, F: Files<'files>, W: WriteStyle>(
     call: Call,
     config: &Config<'_>,
@@ -117,7 +118,7 @@ fn draw_over<'files, F: Files<'files>, W: WriteStyle>(
     }
 }
 
-/// Draws by a call to a writer of bytes, as plain text.
+/// Renders by a call to a writer of bytes, as plain text.
 fn draw_plain_over<'files, F: Files<'files>, W: Write>(
     call: Call,
     config: &Config<'_>,
@@ -135,7 +136,7 @@ fn draw_plain_over<'files, F: Files<'files>, W: Write>(
     }
 }
 
-/// Draws by the view of the style.
+/// Renders by the view of the style.
 fn render_over<'files, F: Files<'files>, W: WriteStyle>(
     config: &Config<'_>,
     files: &'files F,

@@ -1,4 +1,4 @@
-//! What is wrong with a run.
+//! The errors of a run.
 
 use crate::drawing::Call;
 use crate::path::Path;
@@ -11,40 +11,41 @@ use std::fmt::Write;
 /// How a writer stops.
 #[derive(Clone, Copy)]
 pub enum Ending {
-    /// It does not: it takes one byte at a time.
+    /// Never: it accepts one byte at a time.
     Slow,
-    /// So, at a write.
+    /// In this way, at a write.
     AtWrite(Stop),
-    /// It fails a mark after the first byte of its spelling.
+    /// It fails at a style mark, after the first byte of its spelling.
     AtMark,
 }
 
-/// What is wrong.
+/// An error of a run.
 #[derive(Drop)]
 pub enum Failure {
-    /// A call failed, or memory, where no writer stops.
+    /// A call or an allocation failed, although no writer stops.
     Failed(Error),
-    /// The text is not the one that the row says.
+    /// The text differs from the one that the row states.
     OtherRow,
-    /// A string that the text was appended to is not what it was and then the text.
+    /// A string to which the text was appended is not its old text followed by the new one.
     OtherString,
-    /// What came by a path is not the text.
+    /// The bytes written on a path differ from the text.
     OtherText(Path),
-    /// What came in escape sequences is not as the row says.
+    /// The text in escape sequences differs from what the row states.
     OtherColours,
-    /// On a path, of a writer that stops so after this many writes or marks: the answer is not `Io`, or what the writer holds is not exactly
-    /// what it took before, or it was asked again.
+    /// On a path, with a writer that stops in this way after this many writes or marks: the result
+    /// is not `Io`, the writer does not hold exactly what it accepted before, or it was called
+    /// again.
     Stopped(Path, Ending, usize),
 }
 
-/// A failure, and the style and the call in which it came.
+/// An error, with the style and the call in which it occurred.
 #[derive(Drop)]
 pub struct Place {
-    /// The style; `None` before any text is drawn.
+    /// The style; `None` before any text is rendered.
     pub style: Option<DisplayStyle>,
     /// The call; `None` before one to a writer.
     pub call: Option<Call>,
-    /// The failure.
+    /// The error.
     pub failure: Failure,
 }
 
@@ -54,7 +55,7 @@ impl From<Error> for Failure {
     }
 }
 
-/// A few words.
+/// Writes a few words.
 impl fmt::Display for Ending {
     fn fmt<W: Write>(&self, f: &mut fmt::Formatter<W>) -> fmt::Result {
         match self {
@@ -68,7 +69,7 @@ impl fmt::Display for Ending {
     }
 }
 
-/// A few words.
+/// Writes a few words.
 impl fmt::Display for Failure {
     fn fmt<W: Write>(&self, f: &mut fmt::Formatter<W>) -> fmt::Result {
         match self {
@@ -84,7 +85,7 @@ impl fmt::Display for Failure {
     }
 }
 
-/// The failure, after its style and its call.
+/// Writes the error, after its style and its call.
 impl fmt::Display for Place {
     fn fmt<W: Write>(&self, f: &mut fmt::Formatter<W>) -> fmt::Result {
         match self.style {

@@ -12,14 +12,14 @@ use codespan_reporting::files::{Error, Files, MappedFile, SimpleFiles};
 use codespan_reporting::term::{Config, DisplayStyle, emit_into_string, emit_to_string};
 use std::alloc::Global;
 
-/// The styles in which each row is drawn.
+/// The styles in which each row is rendered.
 pub const STYLES: [DisplayStyle; 3] = [
     DisplayStyle::Rich,
     DisplayStyle::Medium,
     DisplayStyle::Short,
 ];
 
-/// All runs of a row; answers how many these were.
+/// Makes all runs of a row, and returns their number.
 pub fn judge_row(alloc: Global, row: &Row<'_>) -> Result<usize, Place> {
     match row.table {
         Table::Several => judge_several(alloc, row),
@@ -28,28 +28,28 @@ pub fn judge_row(alloc: Global, row: &Row<'_>) -> Result<usize, Place> {
     }
 }
 
-/// All runs over the files of a row.
+/// Makes all runs over the files of a row.
 fn judge_several(alloc: Global, row: &Row<'_>) -> Result<usize, Place> {
     let files = prepared(several_files(alloc, row.files))?;
     let diagnostic = prepared(row.diagnostic(alloc, &[0, 1]))?;
     judge_styles(alloc, row, Given::Several(&files, &diagnostic))
 }
 
-/// All runs over the first file, one line of which has a number of its own.
+/// Makes all runs over the first file, one line of which has a custom number.
 fn judge_mapped(alloc: Global, row: &Row<'_>, line: usize, number: usize) -> Result<usize, Place> {
     let file = prepared(mapped_file(alloc, row.files, line, number))?;
     let diagnostic = prepared(row.diagnostic(alloc, &[()]))?;
     judge_styles(alloc, row, Given::Mapped(&file, &diagnostic))
 }
 
-/// All runs over the first file, whose lines are numbered from 0.
+/// Makes all runs over the first file, whose lines are numbered from 0.
 fn judge_from_zero(alloc: Global, row: &Row<'_>) -> Result<usize, Place> {
     let file = prepared(file_from_zero(alloc, row.files))?;
     let diagnostic = prepared(row.diagnostic(alloc, &[()]))?;
     judge_styles(alloc, row, Given::FromZero(&file, &diagnostic))
 }
 
-/// What a row is made of, or that it failed.
+/// Returns what a row is made of, or that making it failed.
 fn prepared<T: Drop>(made: Result<T, Error>) -> Result<T, Place> {
     match made {
         Ok(made) => Ok(made),
@@ -57,7 +57,7 @@ fn prepared<T: Drop>(made: Result<T, Error>) -> Result<T, Place> {
     }
 }
 
-/// The files of these names and texts.
+/// Returns the files of these names and texts.
 fn several_files<'text>(
     alloc: Global,
     given: &[(&'text str, &'text str)],
@@ -69,7 +69,7 @@ fn several_files<'text>(
     Ok(files)
 }
 
-/// The first file, one line of which has a number of its own.
+/// Returns the first file, one line of which has a custom number.
 fn mapped_file<'text>(
     alloc: Global,
     given: &[(&'text str, &'text str)],
@@ -82,7 +82,7 @@ fn mapped_file<'text>(
     Ok(file)
 }
 
-/// The first file, whose lines are numbered from 0.
+/// Returns the first file, whose lines are numbered from 0.
 fn file_from_zero<'text>(
     alloc: Global,
     given: &[(&'text str, &'text str)],
@@ -91,7 +91,7 @@ fn file_from_zero<'text>(
     FromZero::new(alloc, *name, *source)
 }
 
-/// All runs of a row over its files.
+/// Makes all runs of a row over its files.
 fn judge_styles(alloc: Global, row: &Row<'_>, given: Given<'_, '_>) -> Result<usize, Place> {
     let mut runs = 0usize;
     for style in STYLES {
@@ -101,7 +101,7 @@ fn judge_styles(alloc: Global, row: &Row<'_>, given: Given<'_, '_>) -> Result<us
     Ok(runs)
 }
 
-/// All runs of a row in a style.
+/// Makes all runs of a row in a style.
 fn judge_style(
     alloc: Global,
     row: &Row<'_>,
@@ -114,7 +114,8 @@ fn judge_style(
     judge_calls(alloc, &config, given, text.as_str(), colours)
 }
 
-/// All runs of a row in a style, of which the plain text is known, and what is said of the text in escape sequences.
+/// Makes all runs of a row in a style, from its plain text and what the row states of its text in
+/// escape sequences.
 fn judge_calls(
     alloc: Global,
     config: &Config<'_>,
@@ -130,7 +131,7 @@ fn judge_calls(
     Ok(runs)
 }
 
-/// All runs of a row in a style by one call.
+/// Makes all runs of a row in a style by one call.
 fn judge_scene(
     alloc: Global,
     call: Call,
@@ -148,7 +149,7 @@ fn judge_scene(
     at(Some(config.display_style), Some(call), judged)
 }
 
-/// A failure with its style and its call.
+/// Adds the style and the call to an error.
 fn at<T: Drop>(
     style: Option<DisplayStyle>,
     call: Option<Call>,
@@ -164,10 +165,11 @@ fn at<T: Drop>(
     }
 }
 
-/// What a string holds that is appended to.
+/// The old text of a string that is appended to.
 const KEPT: &str = "kept";
 
-/// The plain text of a row in the style of a configuration: the one that the row says, where it says one, and what a string gains.
+/// Returns the plain text of a row in the style of a configuration. It is compared with the one
+/// that the row states, if any, and with what is appended to a string.
 fn text_of(
     alloc: Global,
     row: &Row<'_>,
@@ -185,7 +187,7 @@ fn text_of(
     }
 }
 
-/// The plain text over files, which a string gains too.
+/// Returns the plain text over files. It is compared with what is appended to a string.
 fn text_over<'files, F: Files<'files>>(
     alloc: Global,
     config: &Config<'_>,
@@ -202,12 +204,12 @@ fn text_over<'files, F: Files<'files>>(
     }
 }
 
-/// A string that is appended to.
+/// Returns a string to append to.
 fn kept(alloc: Global) -> Result<String, Error> {
     Ok(String::from_str(alloc, KEPT)?)
 }
 
-/// All runs of a call.
+/// Makes all runs of a call, and returns their number.
 fn judge_call<D: Draws>(
     alloc: Global,
     drawn: &D,
@@ -228,7 +230,8 @@ fn judge_call<D: Draws>(
     Ok(runs)
 }
 
-/// What came in escape sequences is as the row says, where the call sends marks. It takes no run.
+/// Compares the text in escape sequences with what the row states, if the call writes style marks.
+/// This is no run of its own.
 fn judge_colours<D: Draws>(
     drawn: &D,
     bytes: &[u8],
@@ -241,7 +244,7 @@ fn judge_colours<D: Draws>(
     }
 }
 
-/// All runs of a direct call, whose text is known.
+/// Makes all runs of a direct call with this expected text.
 pub fn judge_direct(alloc: Global, call: RowCall<'_>, text: &str) -> Result<usize, Place> {
     let direct = prepared(Direct::new(alloc, call))?;
     at(

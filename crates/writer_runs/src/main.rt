@@ -1,18 +1,21 @@
-//! `writer_runs` draws each worked row by each call that draws to a writer, plain and in colours, into writers that stop.
+//! `writer_runs` renders each worked row by each call that writes to a writer, plain and in colors,
+//! into writers that stop.
 //!
-//! It makes the product of tables, so that none of its runs costs a proof: the rows ([`rows`]) in each style ([`judging`]); the calls
-//! ([`drawing`]), and those of `Renderer` ([`direct`]); the writers of styles that stand between ([`path`]); and the writers of bytes below, each stopped at each write that the
-//! drawing makes, or at each mark ([`stops`]). Of each run it is checked what is answered, and that the writer holds exactly the beginning of
-//! the output that it took before. The output is known: its text is the one that `emit_into_string` answers, which is compared with the row's
-//! own, and it is the same text in colours once the escape sequences are taken out.
+//! It makes the product of tables, so that no run needs a proof of its own: the rows ([`rows`]) in
+//! each style ([`judging`]); the calls ([`drawing`]), and those of `Renderer` ([`direct`]); the
+//! writers of styles between ([`path`]); and the writers of bytes below, each stopped at each write
+//! that rendering makes, or at each style mark ([`stops`]). Of each run it checks the result, and
+//! that the writer holds exactly the prefix of the output that it accepted. The output is known:
+//! its text is what `emit_into_string` returns, which is compared with the text that the row
+//! states, and in colors it is the same text once the escape sequences are removed.
 //!
-//! A line says of each row by how many calls and into how many writers it was drawn, or what is wrong. Standard error says how many runs were
-//! made.
+//! A line per row states by how many calls and into how many writers it was rendered, or the error.
+//! The number of runs is written to standard error.
 //!
-//! | status | what came |
+//! | status | meaning |
 //! |---|---|
-//! | 0 | nothing wrong |
-//! | 1 | something wrong, or the output failed |
+//! | 0 | no error |
+//! | 1 | an error in a run, or writing the output failed |
 #![tactic(auto)]
 
 mod direct;

@@ -1,4 +1,4 @@
-//! A writer of styles that stops at a mark.
+//! A writer of styles that stops at a style mark.
 
 ghost use Rattle.std.specs.Prelude.{◌≡◌, false, refl};
 ghost use Rattle.codespan_base.specs.Streams.{bytes};
@@ -11,7 +11,7 @@ use codespan_reporting::term::config::writing::{forward_all, forward_put, write_
 use std::io;
 use std::io::{ErrorKind, Write};
 
-/// The count of calls after an error, at one more call.
+/// Returns the number of calls after an error, at one more call.
 fn counted(calls_after: usize, failed: bool) -> usize {
     if failed {
         calls_after.saturating_add(1)
@@ -20,18 +20,19 @@ fn counted(calls_after: usize, failed: bool) -> usize {
     }
 }
 
-/// A writer that spells each mark as an escape sequence, and fails the mark after so many others, once the first byte of its spelling is sent.
+/// A writer that spells each style mark as an escape sequence. It fails at the mark after this many
+/// others, once the first byte of its spelling is written.
 #[derive(Drop)]
 pub struct Marking<W> {
     inner: W,
     failed: bool,
     marks_left: usize,
-    /// How many marks and writes came after the failed one.
+    /// The number of marks and writes after the failed one.
     pub calls_after: usize,
 }
 
 impl<W: Write> Marking<W> {
-    /// A writer of `marks` marks.
+    /// Returns a writer that fails after `marks` marks.
     pub fn new(writer: W, marks: usize) -> Marking<W> {
         Marking {
             inner: writer,
@@ -41,17 +42,17 @@ impl<W: Write> Marking<W> {
         }
     }
 
-    /// Whether a mark or a write failed.
+    /// Returns whether a mark or a write has failed.
     pub fn has_failed(&self) -> bool {
         self.failed
     }
 
-    /// The writer inside.
+    /// Returns the inner writer.
     pub fn into_inner(self) -> W {
         self.inner
     }
 
-    /// Sends the spelling of a mark, or its first byte and then no more.
+    /// Writes the spelling of a mark, or only its first byte and fails.
     fn send_mark(&mut self, text: &[u8]) -> io::Result<()>
         ensures { Sends (spelling_sink self.old.failed (W.contents self.old.inner))
             (bytes text.now) result
@@ -66,7 +67,7 @@ impl<W: Write> Marking<W> {
         }
     }
 
-    /// Sends the first byte and fails.
+    /// Writes the first byte and fails.
     fn break_off(&mut self, text: &[u8]) -> io::Result<()>
         ensures { Sends (spelling_sink self.old.failed (W.contents self.old.inner))
             (bytes text.now) result

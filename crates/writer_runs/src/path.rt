@@ -1,4 +1,4 @@
-//! The writers of styles by which what is drawn reaches a writer of bytes.
+//! The writers of styles between a call and a writer of bytes.
 
 use crate::drawing::Draws;
 use crate::failure::Failure;
@@ -20,14 +20,14 @@ pub enum Path {
     Ansi,
     /// A `StylesWriter` over `NoColor`.
     NoColor,
-    /// The program's own.
+    /// The writer of styles of this program.
     Own,
 }
 
 /// The writers of styles.
 pub const PATHS: [Path; 4] = [Path::Plain, Path::Ansi, Path::NoColor, Path::Own];
 
-/// Its name.
+/// Returns the name of the writer.
 impl fmt::Display for Path {
     fn fmt<W: fmt::Write>(&self, f: &mut fmt::Formatter<W>) -> fmt::Result {
         match self {
@@ -40,7 +40,7 @@ impl fmt::Display for Path {
 }
 
 impl Path {
-    /// Draws by this path.
+    /// Renders on this path.
     pub fn draw<D: Draws, W: Write>(self, drawn: &D, writer: &mut W) -> Result<(), Error> {
         let styles = Styles::default();
         match self {
@@ -51,12 +51,13 @@ impl Path {
         }
     }
 
-    /// Whether marks of style are seen on this path.
+    /// Returns whether style marks are written as escape sequences on this path.
     fn shows_marks(self) -> bool {
         matches!(self, Path::Ansi | Path::Own)
     }
 
-    /// All that is drawn by this path. Without its escape sequences, which it has where marks are sent and seen, it is the plain text.
+    /// Renders on this path into a writer that records, and returns it. Without the escape
+    /// sequences that style marks are written as, its text has to be the plain text.
     pub fn record<D: Draws>(self, alloc: Global, drawn: &D, text: &str) -> Result<Record, Failure> {
         let mut record = Record::new(alloc);
         self.draw(drawn, &mut record)?;

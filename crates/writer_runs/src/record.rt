@@ -1,20 +1,20 @@
-//! A writer that keeps what it is sent, and where each write began.
+//! A writer that records what is written to it, and where each write began.
 
 use std::alloc::Global;
 use std::io;
 use std::io::Write;
 
-/// What was written, and how much stood before each write.
+/// The bytes written, and how many preceded each write.
 #[derive(Drop)]
 pub struct Record {
-    /// What was written.
+    /// The bytes written.
     pub text: Vec<u8>,
-    /// The bytes before each write.
+    /// The number of bytes before each write.
     pub starts: Vec<usize>,
 }
 
 impl Record {
-    /// Nothing yet.
+    /// Returns an empty record.
     pub fn new(alloc: Global) -> Record {
         Record {
             text: Vec::new(alloc),
@@ -23,7 +23,7 @@ impl Record {
     }
 }
 
-/// All is taken.
+/// Records all bytes.
 impl Write for Record {
     fn write(&mut self, buf: &[u8]) -> io::Result<usize> {
         self.starts.push(self.text.len())?;

@@ -1,14 +1,15 @@
-//! What is drawn, and what has to come.
+//! Worked rows: what is rendered, and the expected output.
 
 use codespan_reporting::diagnostic::{Diagnostic, Label, LabelStyle, Severity};
 use codespan_reporting::files::Error;
 use codespan_reporting::term::{Chars, Config, DisplayStyle, Layout};
 use std::alloc::Global;
 
-/// A label: its style, the place of its file among the files, the start and the end of its range, and its message.
+/// A label: its style, the index of its file, the start and the end of its range in bytes, and its
+/// message.
 pub type GivenLabel<'text> = (LabelStyle, usize, usize, usize, &'text str);
 
-/// The kind of table that the files of a row stand in.
+/// The type of the file database of a row.
 #[derive(Clone, Copy)]
 pub enum Table {
     /// `SimpleFiles`.
@@ -19,7 +20,7 @@ pub enum Table {
     FromZero,
 }
 
-/// The characters that a row is drawn with.
+/// A set of characters for borders, carets and lanes.
 #[derive(Clone, Copy)]
 pub enum Look {
     /// Those of box drawing.
@@ -28,21 +29,22 @@ pub enum Look {
     Ascii,
     /// Those of box drawing, with others at the bottom of a label over several lines.
     OtherBottoms,
-    /// Those of box drawing, with another from the top corner of a label over several lines to its start.
+    /// Those of box drawing, with another from the top corner of a label over several lines to its
+    /// start.
     OtherTops,
 }
 
-/// What a row says of its text in escape sequences.
+/// What a row states of its text in escape sequences.
 #[derive(Clone, Copy)]
 pub enum Colours<'text> {
-    /// What it ends with.
+    /// The end of the text.
     End(&'text str),
-    /// All of it.
+    /// The whole text.
     Whole(&'text str),
 }
 
 impl Colours<'_> {
-    /// Whether a text is as it says.
+    /// Returns whether a text is as stated.
     pub fn are_those(self, text: &[u8]) -> bool {
         match self {
             Colours::End(end) => text.ends_with(end.as_bytes()),
@@ -51,12 +53,12 @@ impl Colours<'_> {
     }
 }
 
-/// A worked row: a diagnostic, its files, and its texts.
+/// A worked row: a diagnostic, its files, and its expected texts.
 #[derive(Clone, Copy)]
 pub struct Row<'text> {
-    /// What it is called.
+    /// The name of the row.
     pub name: &'text str,
-    /// What its files stand in.
+    /// The type of its file database.
     pub table: Table,
     /// The name and the text of each file.
     pub files: &'text [(&'text str, &'text str)],
@@ -64,7 +66,7 @@ pub struct Row<'text> {
     pub look: Look,
     /// Its layout.
     pub layout: Layout,
-    /// The cells between its tab stops.
+    /// The cells between tab stops.
     pub tab_width: usize,
     /// The lines that are shown after a start, before an end, before a label and after one.
     pub context: [usize; 4],
@@ -78,17 +80,17 @@ pub struct Row<'text> {
     pub labels: &'text [GivenLabel<'text>],
     /// Its notes.
     pub notes: &'text [&'text str],
-    /// Its text in rich style, where the row says it.
+    /// Its text in rich style, if stated.
     pub rich: Option<&'text str>,
-    /// Its text in medium style, where the row says it.
+    /// Its text in medium style, if stated.
     pub medium: Option<&'text str>,
-    /// Its text in short style, where the row says it.
+    /// Its text in short style, if stated.
     pub short: Option<&'text str>,
-    /// Its text in escape sequences, in each style of which the row says the text.
+    /// Its text in escape sequences, in each style whose text is stated.
     pub colours: Colours<'text>,
 }
 
-/// A row that says nothing.
+/// An empty row.
 pub const ROW: Row<'_> = Row {
     name: "",
     table: Table::Several,
@@ -109,7 +111,7 @@ pub const ROW: Row<'_> = Row {
 };
 
 impl Look {
-    /// The characters.
+    /// Returns the characters of the set.
     fn chars<'chars>(self) -> Chars<'chars> {
         match self {
             Look::Boxes => Chars::box_drawing(),
@@ -129,7 +131,7 @@ impl Look {
 }
 
 impl<'text> Row<'text> {
-    /// The text of the row in a style, where the row says it.
+    /// Returns the text of the row in a style, if stated.
     pub fn text(&self, style: DisplayStyle) -> Option<&'text str> {
         match style {
             DisplayStyle::Rich => self.rich,
@@ -138,7 +140,8 @@ impl<'text> Row<'text> {
         }
     }
 
-    /// What is said of its text in escape sequences in a style; nothing where the row does not say the text.
+    /// Returns what is stated of its text in escape sequences in a style: nothing if the text of
+    /// the style is not stated.
     pub fn colours(&self, style: DisplayStyle) -> Colours<'text> {
         match self.text(style) {
             Some(_) => self.colours,
@@ -146,7 +149,7 @@ impl<'text> Row<'text> {
         }
     }
 
-    /// How the row is drawn in a style.
+    /// Returns the configuration of the row in a style.
     pub fn config<'chars>(&self, style: DisplayStyle) -> Config<'chars> {
         let [start, end, before, after] = self.context;
         Config {
@@ -161,7 +164,7 @@ impl<'text> Row<'text> {
         }
     }
 
-    /// The diagnostic of the row, over files of these ids.
+    /// Returns the diagnostic of the row, over files of these ids.
     pub fn diagnostic<FileId: Copy + Drop>(
         &self,
         alloc: Global,

@@ -1,4 +1,4 @@
-//! The worked rows that draw a text.
+//! The worked rows that render a diagnostic.
 
 pub mod chosen_lines;
 pub mod direct;

@@ -15,8 +15,8 @@ use std::alloc::Global;
 use std::io;
 use std::io::Write;
 
-/// Makes the runs of each row, with a line for each, and answers the program's status. How many runs were made is told to `counts`, where a
-/// error changes nothing.
+/// Makes the runs of each row, writes a line for each, and returns the program's status. The number
+/// of runs is written to `counts`, whose error is ignored.
 pub fn run<W: Write, E: Write>(alloc: Global, output: &mut W, counts: &mut E) -> u8
     ensures { result ≤ 1 }
 {
@@ -30,7 +30,7 @@ pub fn run<W: Write, E: Write>(alloc: Global, output: &mut W, counts: &mut E) ->
     }
 }
 
-/// What came of the rows so far.
+/// The rows so far.
 #[derive(Clone, Copy, Default)]
 struct Sum {
     rows: usize,
@@ -39,7 +39,8 @@ struct Sum {
 }
 
 impl Sum {
-    /// Counts a row and its runs, and answers whether all is right; tells what is wrong, in a line.
+    /// Counts a row and its runs, and returns whether all are right; otherwise it writes the error
+    /// as one line.
     fn counts<W: Write>(
         &mut self,
         output: &mut W,
@@ -61,7 +62,7 @@ impl Sum {
     }
 }
 
-/// Judges the rows of each table.
+/// Makes the runs of the rows of each table.
 fn judge_all<W: Write>(alloc: Global, output: &mut W, sum: &mut Sum) -> io::Result<()> {
     judge_rows(alloc, &single_lines::ROWS, output, sum)?;
     judge_rows(alloc, &several_lines::ROWS, output, sum)?;
@@ -73,7 +74,7 @@ fn judge_all<W: Write>(alloc: Global, output: &mut W, sum: &mut Sum) -> io::Resu
     judge_direct_rows(alloc, output, sum)
 }
 
-/// Judges the rows of a table.
+/// Makes the runs of the rows of a table.
 fn judge_rows<W: Write>(
     alloc: Global,
     rows: &[Row<'_>],
@@ -86,7 +87,7 @@ fn judge_rows<W: Write>(
     Ok(())
 }
 
-/// Judges the direct calls.
+/// Makes the runs of the direct calls.
 fn judge_direct_rows<W: Write>(alloc: Global, output: &mut W, sum: &mut Sum) -> io::Result<()> {
     for (name, call, text) in &direct::ROWS {
         let judged = judge_direct(alloc, *call, text);
@@ -97,7 +98,7 @@ fn judge_direct_rows<W: Write>(alloc: Global, output: &mut W, sum: &mut Sum) -> 
     Ok(())
 }
 
-/// Judges a row and tells what came, in a line.
+/// Makes the runs of a row and writes their line.
 fn tell_row<W: Write>(
     alloc: Global,
     row: &Row<'_>,

@@ -16,10 +16,12 @@ pub const STOPS: [Stop; 4] = [
     Stop::TakesOneByte,
 ];
 
-/// The writers: those that stop, the one that takes a byte at a time, and the one that stops at a mark.
+/// The number of writers: those that stop, the one that accepts a byte at a time, and the one that
+/// stops at a style mark.
 pub const WRITERS: usize = STOPS.len() + 2;
 
-/// Draws by a path into each writer that stops, at each of the writes that are made; answers how many runs these were.
+/// Renders on a path into each writer that stops, at each write that rendering makes, and returns
+/// the number of runs.
 pub fn judge_stops<D: Draws>(
     alloc: Global,
     path: Path,
@@ -50,7 +52,7 @@ pub fn judge_stops<D: Draws>(
     Ok(runs)
 }
 
-/// The bytes that a writer holds which stops so, where so many were written before.
+/// Returns the number of bytes in a writer that stops in this way, after this many bytes.
 fn held_length(stop: Stop, start: usize, whole: usize) -> usize {
     match stop {
         Stop::TakesOneByte => start.saturating_add(1).min(whole),
@@ -58,8 +60,9 @@ fn held_length(stop: Stop, start: usize, whole: usize) -> usize {
     }
 }
 
-/// Draws by a path into a writer, and answers whether it holds this length of the whole text then: where that is less than all, the answer
-/// is `Io`, the writer has stopped, and no write followed.
+/// Renders on a path into a writer, and returns whether it then holds this length of the whole text
+/// and, if that is less than all, the result is `Io`, the writer has stopped, and no write
+/// followed.
 fn stops_at<D: Draws>(
     path: Path,
     drawn: &D,
@@ -74,7 +77,8 @@ fn stops_at<D: Draws>(
         && inner.text.len() == length
 }
 
-/// Draws to the program's own writer of styles, which fails each mark in turn after its first byte; answers how many runs these were.
+/// Renders to this program's writer of styles, which fails at each style mark in turn, and returns
+/// the number of runs.
 pub fn judge_marks<D: Draws>(alloc: Global, drawn: &D, whole: &[u8]) -> Result<usize, Failure> {
     let mut marks = 0usize;
     for (place, byte) in whole.iter().enumerate() {
@@ -92,8 +96,8 @@ pub fn judge_marks<D: Draws>(alloc: Global, drawn: &D, whole: &[u8]) -> Result<u
     Ok(marks.saturating_add(1))
 }
 
-/// Draws to a writer that fails the mark after so many, and answers whether it holds this then: where that is not all, the answer is `Io`,
-/// and no mark and no write followed.
+/// Renders to a writer that fails at the mark after this many, and returns whether it then holds
+/// these bytes and, if they are not all, the result is `Io` and no mark and no write followed.
 fn stops_at_mark<D: Draws>(
     alloc: Global,
     drawn: &D,

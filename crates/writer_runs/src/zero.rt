@@ -1,4 +1,4 @@
-//! A table of files whose lines are numbered from 0.
+//! A file database whose lines are numbered from 0.
 
 ghost use Rattle.std.specs.Prelude.{refl, None, Some};
 
@@ -13,7 +13,7 @@ pub struct FromZero<'text> {
 }
 
 impl<'text> FromZero<'text> {
-    /// The file of this name and text. Fails with `OutOfMemory`.
+    /// Returns the file of this name and text. Fails with `OutOfMemory`.
     pub fn new(alloc: Global, name: &'text str, text: &'text str) -> Result<Self, Error> {
         Ok(FromZero {
             file: SimpleFile::new(alloc, name, text)?,
@@ -82,7 +82,7 @@ impl<'a, 'text: 'a> Files<'a> for FromZero<'text> {
         self.file.column_number((), line_index, byte_index)
     }
 
-    // The byte's line is a line, so its column is told.
+    // The byte's line exists, so its column is known.
     #[tactic(auto, using(codespan_base::specs::Lemmas::Lines::line_of_below))]
     fn location(&'a self, _id: (), byte_index: usize) -> Result<Location, Error> {
         let line_index = self.file.line_index((), byte_index)?;
@@ -108,7 +108,7 @@ impl<'a, 'text: 'a> Files<'a> for FromZero<'text> {
 
     ghost same_is = { λ s. refl };
 
-    // A line past the last fails as there.
+    // A line past the last fails as in that file.
     ghost past_end = { λ s _ i.
         simple_past_end (Some (name_of s.file).now) (source_of s.file).now i };
 }

@@ -25,9 +25,9 @@ module _ {Id : Type 0} (config : Config) (file : Id → FileModel) (failure : Fa
   pub record HeaderStopped (old : Sink) (x : InFile Id) (error : Error) (new : Sink) : Type 0 where
     pub io : IsIo error
     pub frame : new.frame ≡ failing old.frame
-    pub place : Locus
-    pub at : IsLocusOfLabel file x place
-    pub begun : is_known old ≡ true → PrefixWritten old (headers_at config d (place ∷ [])) new
+    pub index : Locus
+    pub at : IsLocusOfLabel file x index
+    pub begun : is_known old ≡ true → PrefixWritten old (headers_at config d (index ∷ [])) new
 
   -- a lookup for a label's header failed, or an allocation, or the `Display` of its file's name:
   -- nothing of the header has been written
@@ -48,7 +48,7 @@ module _ {Id : Type 0} (config : Config) (file : Id → FileModel) (failure : Fa
     pub ended : HeaderStopped mid here error new ⊎ HeaderFailed mid here error new
 
   -- the call renders the headers of these labels, and returns whether there is one
-  abbrev pub DrawsHeaders : List (InFile Id) → Sink → Result Bool Error → Sink → Type 0
-  DrawsHeaders xs old r new =
+  abbrev pub RendersHeaders : List (InFile Id) → Sink → Result Bool Error → Sink → Type 0
+  RendersHeaders xs old r new =
       MatchResult r (λ some. HeadersCame old xs new × (some ≡ has_any xs))
       (λ e. HeadersEnded old xs e new)

@@ -5,22 +5,22 @@ use Rattle.codespan_base.specs.FileModel.Lookup.{LocationAt, Name}
 use Rattle.codespan_base.specs.Labels.{Labelled, is_primary}
 use Rattle.codespan_picture.specs.Lookups.{asked_of}
 use Rattle.codespan_picture.specs.Snippets.{InFile}
-use Rattle.codespan_reporting.specs.declared.term.views.file_order.LabelledFile.{LabelledFile as GivenFile}
-use Rattle.codespan_reporting.specs.declared.term.views.loci.FileStart.{FileStart}
+use Rattle.codespan_reporting.specs.declared.term.views.collect.labeled_files.LabeledFile.{LabeledFile as RustFile}
+use Rattle.codespan_reporting.specs.declared.term.views.file_start.FileStart.{FileStart}
 
 -- the least of some numbers, if there is one
 abbrev pub least_if_any : List ℕ → Option ℕ
 least_if_any [] = None
 least_if_any (n ∷ ns) = Some (fold min n ns)
 
--- the label is of the file, and primary where only primary ones are wanted
-abbrev pub is_asked_label : {Id : Type 0} → (Id → Id → Bool) → Id → Bool → InFile Id → Bool
-is_asked_label same id only_primary x = same id x.id && (not only_primary || is_primary x.label)
+-- the label is of the file, and primary if only primary ones are wanted
+abbrev pub is_wanted_label : {Id : Type 0} → (Id → Id → Bool) → Id → Bool → InFile Id → Bool
+is_wanted_label same id only_primary x = same id x.id && (not only_primary || is_primary x.label)
 
 -- the starts of the labels of a file, or of its primary ones alone
 abbrev pub label_starts : {Id : Type 0} → (Id → Id → Bool) → Id → Bool → List (InFile Id) → List ℕ
 label_starts {Id} same id only_primary xs =
-    map (λ (x : InFile Id). x.label.start) (filter (is_asked_label same id only_primary) xs)
+    map (λ (x : InFile Id). x.label.start) (filter (is_wanted_label same id only_primary) xs)
 
 -- where the snippet of a file starts, by these labels
 abbrev pub file_start : {Id : Type 0} → (Id → Id → Bool) → List (InFile Id) → Id → FileStart
@@ -50,9 +50,9 @@ abbrev pub start_byte : FileStart → ℕ
 start_byte s = unwrap_or s.primary (unwrap_or s.any 0)
 
 -- the lookups of the locus at which a file's snippet starts
-abbrev pub place_asked : {Id : Type 0} → GivenFile Id → List (Id × Lookup)
-place_asked f = asked_of f.id (Name ∷ LocationAt (start_byte f.start) ∷ [])
+abbrev pub locus_lookups_of : {Id : Type 0} → RustFile Id → List (Id × Lookup)
+locus_lookups_of f = asked_of f.id (Name ∷ LocationAt (start_byte f.start) ∷ [])
 
 -- those of all files
-abbrev pub place_lookups : {Id : Type 0} → List (GivenFile Id) → List (Id × Lookup)
-place_lookups files = flat_map place_asked files
+abbrev pub loci_lookups : {Id : Type 0} → List (RustFile Id) → List (Id × Lookup)
+loci_lookups files = flat_map locus_lookups_of files

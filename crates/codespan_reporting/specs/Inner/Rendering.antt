@@ -8,23 +8,24 @@ use Rattle.codespan_picture.specs.Rows.{Row}
 use Rattle.codespan_picture.specs.RowStreams.{stream_of_rows}
 use Rattle.codespan_renderer.specs.declared.term.renderer.Renderer.{Renderer}
 use Rattle.codespan_renderer.specs.Renderers.{config_of, writer_of}
-use Rattle.codespan_reporting.specs.Inner.Asking.{SendsAsking}
+use Rattle.codespan_reporting.specs.Inner.LookupsOnTheWay.{WritesWithLookups}
 
 module _ {W : Type 0} (sink : W → Sink) where
   -- the call writes this stream
-  abbrev pub SendsStream : Stream → Renderer W → Result (Unit {0}) Error → Renderer W → Type 0
-  SendsStream items old r new = Sends (sink (writer_of old)) items r (sink (writer_of new))
+  abbrev pub WritesStream : Stream → Renderer W → Result (Unit {0}) Error → Renderer W → Type 0
+  WritesStream items old r new = Sends (sink (writer_of old)) items r (sink (writer_of new))
 
   -- the call writes these rows
-  abbrev pub DrawsRows : Severity → ℕ → List Row → Renderer W → Result (Unit {0}) Error → Renderer W
+  abbrev pub RendersRows : Severity → ℕ → List Row → Renderer W → Result (Unit {0}) Error
+      → Renderer W
       → Type 0
-  DrawsRows severity padding rows old =
-      SendsStream (stream_of_rows (look_of (config_of old) severity padding) rows) old
+  RendersRows severity padding rows old =
+      WritesStream (stream_of_rows (look_of (config_of old) severity padding) rows) old
 
   -- the call writes these rows and makes lookups on the way, the first error of which is
   -- `failed`
-  abbrev pub DrawsRowsAsking : Option Error → Severity → ℕ → List Row → Renderer W
+  abbrev pub RendersRowsWithLookups : Option Error → Severity → ℕ → List Row → Renderer W
       → Result (Unit {0}) Error → Renderer W → Type 0
-  DrawsRowsAsking failed severity padding rows old r new =
-      SendsAsking failed (sink (writer_of old))
+  RendersRowsWithLookups failed severity padding rows old r new =
+      WritesWithLookups failed (sink (writer_of old))
       (stream_of_rows (look_of (config_of old) severity padding) rows) r (sink (writer_of new))

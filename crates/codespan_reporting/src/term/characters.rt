@@ -1,4 +1,5 @@
-//! Shows to the prover that the characters of a configuration are Unicode scalar values, and the text before a locus UTF-8.
+//! Shows to the prover that the characters of a configuration are Unicode scalar values, and the
+//! text before a locus UTF-8.
 //!
 //! These functions do nothing; their contracts follow from the types.
 

@@ -13,21 +13,22 @@ use codespan_base::term::config::plain_ref::PlainWriterRef;
 use codespan_base::term::{Config, DisplayStyle, PlainWriter, WriteStyle};
 use std::io::Write;
 
-/// The capacity in bytes of a string before an output is rendered into it: an output of a few rows needs no further allocation.
+/// The capacity in bytes of a string before an output is rendered into it: an output of a few rows
+/// needs no further allocation.
 const INITIAL_CAPACITY: usize = 1024;
 
 /// Returns the output of a diagnostic as plain text, in the style of the configuration.
 ///
 /// # Errors
 ///
-/// - [`Error::OutOfMemory`]: an allocation fails, or a lookup fails with it. The contract leaves open
-///   when.
+/// - [`Error::OutOfMemory`]: an allocation fails, or a lookup fails with it. The contract leaves
+///   open when.
 /// - [`Error::FormatError`]: the `Display` of a file's name fails, or a lookup fails with it. The
 ///   contract leaves open when, but it is not returned where nothing is looked up.
 /// - Any other error: that of the first lookup that fails.
 ///
-/// Nothing is looked up without labels, and in short and medium style without primary labels. The order
-/// of the lookups is this project's own; `docs/DIFFERENCES.md` states it.
+/// Nothing is looked up without labels, and in short and medium style without primary labels. The
+/// order of the lookups is this project's own; `docs/DIFFERENCES.md` states it.
 ///
 /// # Example
 ///
@@ -67,8 +68,9 @@ pub fn emit_into_string<'files, F: Files<'files>>(
     let mut plain = PlainWriter::new(bytes);
     let drawn = emit_to_write_style(&mut plain, config, files, diagnostic);
     match drawn {
-        // SAFETY: an output is UTF-8: its characters are Unicode scalar values, its texts are UTF-8, and a line is cut at character
-        // boundaries only. The condition of the call is proved from `codespan_reporting::laws::outputs_are_texts`.
+        // SAFETY: an output is UTF-8: its characters are Unicode scalar values, its texts are
+        // UTF-8, and a line is cut at character boundaries only. The condition of the call is
+        // proved from `codespan_reporting::laws::outputs_are_texts`.
         Ok(()) => Ok(unsafe { String::from_utf8_unchecked(plain.into_inner()) }),
         Err(error) => Err(if plain.has_failed() {
             Error::OutOfMemory
@@ -113,16 +115,16 @@ pub fn emit_to_string<'files, F: Files<'files>>(
 /// # Errors
 ///
 /// - [`Error::Io`]: the writer fails or takes no bytes, or a lookup fails with it.
-/// - [`Error::OutOfMemory`]: an allocation fails, or a lookup fails with it. The contract leaves open
-///   when, but it is not returned where nothing is looked up.
+/// - [`Error::OutOfMemory`]: an allocation fails, or a lookup fails with it. The contract leaves
+///   open when, but it is not returned where nothing is looked up.
 /// - [`Error::FormatError`]: the `Display` of a file's name fails, or a lookup fails with it. The
 ///   contract leaves open when, but it is not returned where nothing is looked up.
 /// - Any other error: that of the first lookup that fails.
 ///
-/// A prefix of the text has then been written. In rich style nothing has been written where a lookup
-/// before the header fails. In short and medium style, unless the error is `Io`, exactly the headers
-/// of the primary labels before one at which the call fails have been written. This is known of a
-/// writer whose bytes are known.
+/// A prefix of the text has then been written. In rich style nothing has been written where a
+/// lookup before the header fails. In short and medium style, unless the error is `Io`, exactly the
+/// headers of the primary labels before one at which the call fails have been written. This is
+/// known of a writer whose bytes are known.
 ///
 /// Nothing is looked up without labels, and in short and medium style without primary labels.
 ///
@@ -155,8 +157,8 @@ pub fn emit_to_io_write<'files, F: Files<'files>, W: Write>(
 ///
 /// # Errors
 ///
-/// As [`RichDiagnostic::render`] in rich style, and as [`ShortDiagnostic::render`] in short and medium
-/// style.
+/// As [`RichDiagnostic::render`] in rich style, and as [`ShortDiagnostic::render`] in short and
+/// medium style.
 ///
 /// # Example
 ///

@@ -1,23 +1,15 @@
-//! Views of a diagnostic, which render it to a [`Renderer`](crate::term::Renderer): in rich, medium or short style.
+//! Views of a diagnostic, which render it to a [`Renderer`](crate::term::Renderer): in rich, medium
+//! or short style.
 
-mod entry;
-mod file_order;
-mod gather;
-mod groups;
-mod label_entries;
-mod label_lines;
-mod lines;
-mod loci;
-mod marks;
-mod padding;
+mod annotation;
+mod collect;
+mod file_start;
 mod parts;
 mod plan;
 mod rich;
-mod sheet;
 mod short;
-mod snippets;
-mod sort;
-mod steps;
+mod snippet;
+mod source_file;
 
 pub use rich::RichDiagnostic;
 pub use short::ShortDiagnostic;

@@ -1,4 +1,4 @@
-//! Rows by which lines they show: lines that are filled in, and context.
+//! Rows by the lines that they show: filled lines, and context.
 
 use crate::row::{ROW, Row};
 use codespan_reporting::diagnostic::LabelStyle::{Primary, Secondary};

@@ -1,11 +1,11 @@
-//! Rows of worked rows, each by its own call of `Renderer`. The file is `f.txt`, and its place the first.
+//! Rows by their own calls of `Renderer`. The file is `f.txt`, and the locus its first.
 
 use crate::direct::{Line, RowCall};
 use codespan_reporting::diagnostic::LabelStyle::{Primary, Secondary};
 use codespan_reporting::diagnostic::Severity;
 use codespan_reporting::term::MultiLabel;
 
-/// What they are called, the calls, and their texts.
+/// The names of the rows, the calls, and their texts.
 pub static ROWS: [(&'static str, RowCall<'static>, &'static str); 16] = [
     (
         "report_short_and_medium",

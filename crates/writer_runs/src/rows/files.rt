@@ -1,4 +1,5 @@
-//! Worked rows without labels, of several files and notes, of files with numbers of their own, and of scripts.
+//! Worked rows without labels, of several files and notes, of files with custom line numbers, and
+//! of scripts.
 
 use crate::row::{Colours, ROW, Row, Table};
 use codespan_reporting::diagnostic::LabelStyle::{Primary, Secondary};

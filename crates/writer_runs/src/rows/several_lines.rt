@@ -1,4 +1,4 @@
-//! Worked rows of labels over several lines, of context lines and of breaks.
+//! Worked rows of multi-line labels, of context lines and of breaks.
 
 use crate::row::{Look, ROW, Row};
 use codespan_reporting::diagnostic::LabelStyle::{Primary, Secondary};

@@ -1,10 +1,10 @@
-//! Worked rows of labels inside one line.
+//! Worked rows of single-line labels.
 
 use crate::row::{Colours, Look, ROW, Row};
 use codespan_reporting::diagnostic::LabelStyle::{Primary, Secondary};
 use codespan_reporting::diagnostic::Severity;
 
-/// The text of the rows of tab stops.
+/// The source of the rows of tab stops.
 const TABBED: &[(&str, &str)] = &[(
     "tabbed",
     "Entity:\n\tArmament:\n\t\tWeapon: DogJaw\n\t\tReloadingCondition:\tattack-cooldown\n\tFoo: Bar",

@@ -1,4 +1,4 @@
-//! Small rows in colour, each named after the mistake that it would show.
+//! Small rows in color, each named after the bug that it would show.
 
 use crate::row::{Colours, ROW, Row};
 use codespan_reporting::diagnostic::LabelStyle::{Primary, Secondary};

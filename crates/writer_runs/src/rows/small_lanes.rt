@@ -1,4 +1,4 @@
-//! Small rows of labels over several lines, each named after the mistake that it would show.
+//! Small rows of multi-line labels, each named after the bug that it would show.
 
 use crate::row::{Look, ROW, Row};
 use codespan_reporting::diagnostic::LabelStyle::{Primary, Secondary};

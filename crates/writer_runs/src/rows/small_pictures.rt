@@ -1,4 +1,4 @@
-//! Small rows without lanes, each named after the mistake that it would show.
+//! Small rows without lanes, each named after the bug that it would show.
 
 use crate::row::{ROW, Row};
 use codespan_reporting::diagnostic::LabelStyle::{Primary, Secondary};

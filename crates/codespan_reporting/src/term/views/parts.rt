@@ -7,8 +7,8 @@ ghost use Rattle.codespan_picture.specs.Given.{locus_view};
 ghost use Rattle.codespan_picture.specs.Picture.{notes_of};
 ghost use Rattle.codespan_picture.specs.Snippets.{note_rows};
 ghost use Rattle.codespan_renderer.specs.Renderers.{SameRenderer};
-ghost use Rattle.codespan_reporting.specs.Inner.Rendering.{DrawsRows, SendsStream};
-ghost use Rattle.codespan_reporting.specs.Inner.ViewDrawing.{header_line};
+ghost use Rattle.codespan_reporting.specs.Inner.Rendering.{RendersRows, WritesStream};
+ghost use Rattle.codespan_reporting.specs.Inner.ViewRendering.{header_line};
 
 use crate::term::renderer::{Locus, Renderer};
 use codespan_base::diagnostic::Diagnostic;
@@ -20,13 +20,13 @@ use codespan_base::term::WriteStyle;
 /// # Errors
 ///
 /// `Io` alone: the writer fails or takes no bytes.
-pub fn draw_header<FileId, W: WriteStyle>(
+pub fn render_heading<FileId, W: WriteStyle>(
     diagnostic: &Diagnostic<FileId>,
     renderer: &mut Renderer<'_, '_, W>,
     locus: Option<&Locus>,
 ) -> Result<(), Error>
     ensures same { SameRenderer renderer.old renderer.new }
-    ensures sends { SendsStream W.sink
+    ensures sends { WritesStream W.sink
         (header_line diagnostic.now (option_map (λ at. locus_view at.now) locus.entry)) renderer.old
         result renderer.new }
     ensures io { IfErr result IsIo }
@@ -45,13 +45,13 @@ pub fn draw_header<FileId, W: WriteStyle>(
 /// # Errors
 ///
 /// `Io` alone: the writer fails or takes no bytes.
-pub fn draw_notes<FileId, W: WriteStyle>(
+pub fn render_notes<FileId, W: WriteStyle>(
     diagnostic: &Diagnostic<FileId>,
     renderer: &mut Renderer<'_, '_, W>,
     padding: usize,
 ) -> Result<(), Error>
     ensures same { SameRenderer renderer.old renderer.new }
-    ensures sends { DrawsRows W.sink diagnostic.now.severity padding
+    ensures sends { RendersRows W.sink diagnostic.now.severity padding
         (note_rows (notes_of diagnostic.now)) renderer.old result renderer.new }
     ensures io { IfErr result IsIo }
 {

@@ -1,77 +1,66 @@
-//! What is rendered of each file of an output, and where its snippet starts.
+//! The plan of a rich output: all that is known before its header is rendered.
 
-ghost use Rattle.std.specs.Prelude.{◌≡◌, [], IfOk, map};
-ghost use Rattle.std.specs.List.{AllByRecursion};
-ghost use Rattle.std.specs.List.Sorted.{IsSortedBy};
+ghost use Rattle.std.specs.Prelude.{IfOk, map};
 ghost use Rattle.codespan_reporting.specs.Inner.FileLookups.{FailsByOrFormat};
-ghost use Rattle.codespan_reporting.specs.Inner.Entries.{is_below};
-ghost use Rattle.codespan_reporting.specs.Inner.GivenEntries.{IsOfFiles, entry_of};
-ghost use Rattle.codespan_reporting.specs.Inner.LabelledFiles.{ids_given};
-ghost use Rattle.codespan_reporting.specs.Inner.Plans.{ArePlansOf, plans_failure};
+ghost use Rattle.codespan_picture.specs.Picture.{label_of};
+ghost use Rattle.codespan_reporting.specs.Inner.OutputPlans.{IsCollected, IsOutputPlan, output_plan_failure};
 
-use crate::term::views::gather::Gathered;
-use crate::term::views::groups::file_len;
-use crate::term::views::loci::locus_at;
-use crate::term::views::sheet::SheetFile;
-use crate::term::views::steps::{Step, Walk};
+use crate::term::views::annotation::groups::shown_count;
+use crate::term::views::collect::Collected;
+use crate::term::views::plan::padding::padding_of_lines;
+use crate::term::views::plan::snippet_lines::SnippetLine;
+use crate::term::views::plan::snippet_plans::{SnippetPlan, plan_snippets};
 use codespan_base::files::{Error, Files};
-use codespan_base::term::Layout;
+use codespan_base::term::{Config, Layout};
 use std::alloc::Global;
 
-/// Plans the files of an output, in the order of their first labels: where the snippet of each starts, and how many steps it has. The
-/// steps are appended to `steps`.
-///
-/// In the unbroken layout the numbers of the filled lines are looked up, and in both layouts the name and the location of each file.
+pub mod padding;
+pub mod snippet_lines;
+pub mod snippet_plans;
+
+/// The plan of an output.
+#[derive(Drop)]
+pub struct OutputPlan<'e, 'd, FileId> {
+    /// The plans of the files' snippets, in the order of the files' first labels.
+    pub files: Vec<SnippetPlan<'e, FileId>>,
+    /// The lines of all snippets: those of the first file, then those of the next.
+    pub snippet_lines: Vec<SnippetLine<'e, 'd, FileId>>,
+    /// The padding width, in characters.
+    pub padding: usize,
+}
+
+/// Plans an output: looks up the numbers of filled lines where the padding width depends on them,
+/// and the name and the location of each file.
 ///
 /// # Errors
 ///
-/// - `FormatError`: the `Display` of a name fails, or a lookup fails with it.
-/// - `OutOfMemory`: an allocation fails, or a lookup fails with it.
-/// - Any other error: that of the first lookup that fails. Numbers come before names and locations: the first error of a name or a
-///   location is kept until the numbers of all files have been looked up.
+/// As [`plan_snippets`].
 ///
 /// # Requires
 ///
-/// `steps` is empty, the entries are in order, and their lines are lines of their files.
-pub fn plan_files<'files, 'e, 'd, F: Files<'files>>(
+/// `collected` was collected from the same files, by the same configuration.
+pub fn plan_output<'files, 'e, 'd, F: Files<'files>>(
     alloc: Global,
     files: &'files F,
-    layout: Layout,
-    gathered: &'e Gathered<'d, F::FileId>,
-    steps: &mut Vec<Step<'e, 'd, F::FileId>>,
-) -> Result<Vec<SheetFile<'e, F::FileId>>, Error>
-    requires empty { steps.now.items ≡ [] }
-    requires sorted { IsSortedBy is_below (map entry_of gathered.now.entries.items) }
-    requires lines { AllByRecursion (IsOfFiles (F.database files.now).file
-        (ids_given gathered.now.files.items)) gathered.now.entries.items }
-    ensures plans { IfOk result (λ plans. ArePlansOf layout (F.database files.now).file gathered.now
-        plans.items steps.new.items) }
-    ensures failed { FailsByOrFormat
-        (plans_failure layout (F.database files.now).failure gathered.now) result }
+    config: &Config<'_>,
+    collected: &'e Collected<'d, F::FileId>,
+) -> Result<OutputPlan<'e, 'd, F::FileId>, Error>
+    requires { IsCollected (F.database files.now) config.now (map label_of collected.now.labels.now)
+        collected.now }
+    ensures prepared { IfOk result (IsOutputPlan (F.database files.now) config.now
+        (map label_of collected.now.labels.now)) }
+    ensures failed { FailsByOrFormat (output_plan_failure config.now (F.database files.now)
+        (map label_of collected.now.labels.now)) result }
 {
-    let mut plans = Vec::with_capacity(alloc, gathered.files.len())?;
-    let mut placed = Ok(());
-    let mut start = 0;
-    for (place, file) in gathered.files.iter().enumerate() {
-        let len = file_len(&gathered.entries[start..], place);
-        let walk = Walk {
-            files,
-            id: file.id,
-            layout,
-        };
-        let before = steps.len();
-        walk.push_steps(&gathered.entries[start..start + len], steps)?;
-        start += len;
-        let step_count = steps.len() - before;
-        match locus_at(alloc, files, file.id, file.start.byte()) {
-            Ok(locus) => plans.push(SheetFile {
-                file,
-                locus,
-                step_count,
-            })?,
-            Err(failed) => placed = placed.and(Err(failed)),
-        }
-    }
-    placed?;
-    Ok(plans)
+    let mut snippet_lines = Vec::with_capacity(alloc, shown_count(&collected.annotations))?;
+    let files = plan_snippets(alloc, files, config.layout, collected, &mut snippet_lines)?;
+    let padding = match config.layout {
+        Layout::Classic => collected.padding,
+        Layout::Unbroken => padding_of_lines(&snippet_lines),
+    };
+    Ok(OutputPlan {
+        files,
+        snippet_lines,
+        padding,
+    })
 }

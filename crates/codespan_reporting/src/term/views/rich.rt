@@ -7,29 +7,32 @@ ghost use Rattle.codespan_picture.specs.Picture.{labels_of, notes_of};
 ghost use Rattle.codespan_picture.specs.Snippets.{has_any};
 ghost use Rattle.codespan_renderer.specs.Renderers.{writer_of, config_of, SameRenderer};
 ghost use Rattle.codespan_reporting.specs.WriteCalls.{WritesStyled};
-ghost use Rattle.codespan_reporting.specs.Inner.GivenSheets.{IsPrepared};
-ghost use Rattle.codespan_reporting.specs.Inner.Rendering.{DrawsRows, SendsStream};
-ghost use Rattle.codespan_reporting.specs.Inner.ViewDrawing.{DrawsSnippets, DrawsView, bare_picture, closing_rows};
+ghost use Rattle.codespan_reporting.specs.Inner.OutputPlans.{IsOutputPlan};
+ghost use Rattle.codespan_reporting.specs.Inner.Rendering.{RendersRows, WritesStream};
+ghost use Rattle.codespan_reporting.specs.Inner.ViewRendering.{RendersSnippets, RendersView, output_without_labels, closing_rows};
 
 use crate::term::renderer::Renderer;
-use crate::term::views::gather::gather;
-use crate::term::views::lines::Page;
-use crate::term::views::marks::LineMarks;
-use crate::term::views::parts::{draw_header, draw_notes};
-use crate::term::views::sheet::{Sheet, prepare};
-use crate::term::views::snippets::{draw_end, draw_snippet};
+use crate::term::views::collect::collect;
+use crate::term::views::parts::{render_heading, render_notes};
+use crate::term::views::plan::{OutputPlan, plan_output};
+use crate::term::views::snippet::line_labels::LineLabels;
+use crate::term::views::snippet::lines::SnippetContext;
+use crate::term::views::snippet::{render_end, render_snippet};
 use codespan_base::diagnostic::Diagnostic;
 use codespan_base::files::{Error, Files};
 use codespan_base::term::{Config, WriteStyle};
 
-/// Renders a diagnostic in rich style: a header, a snippet for each file with a label, and the notes.
+/// Renders a diagnostic in rich style: a header, a snippet for each file with a label, and the
+/// notes.
 ///
-/// Files are in the order of their first labels. Which lines a snippet has is by the context lines of
-/// the configuration, and a single line between two of them is filled in; both as in the Rust crate.
+/// Files are in the order of their first labels. Which lines a snippet has is by the context lines
+/// of the configuration, and a single line between two of them is filled in; both as in the Rust
+/// crate.
 ///
 /// # Example
 ///
-/// The test `bare_views` of `crates/codespan_tests` has this code. It writes `bug: ` and an empty line.
+/// The test `bare_views` of `crates/codespan_tests` has this code. It writes `bug: ` and an empty
+/// line.
 ///
 /// ```rust
 /// let bug = Diagnostic::bug(alloc);
@@ -47,8 +50,8 @@ pub struct RichDiagnostic<'diagnostic, 'config, FileId> {
 impl<'diagnostic, 'config, FileId: Copy + Eq> RichDiagnostic<'diagnostic, 'config, FileId> {
     ghost use Rattle.codespan_reporting.specs.Views.{diagnostic_of, view_config_of};
 
-    /// Makes a view of the diagnostic. The configuration decides which lines are shown and, by its layout, the padding width. Its other
-    /// fields are not used.
+    /// Makes a view of the diagnostic. The configuration decides which lines are shown and, by its
+    /// layout, the padding width. Its other fields are not used.
     pub fn new(
         diagnostic: &'diagnostic Diagnostic<FileId>,
         config: &'config Config<'config>,
@@ -61,23 +64,26 @@ impl<'diagnostic, 'config, FileId: Copy + Eq> RichDiagnostic<'diagnostic, 'confi
 
     /// Writes the output.
     ///
-    /// The renderer's own configuration decides the characters, the tab width and the layout of lanes.
+    /// The renderer's own configuration decides the characters, the tab width and the layout of
+    /// lanes.
     ///
     /// # Errors
     ///
     /// - [`Error::Io`]: the writer fails or takes no bytes, or a lookup fails with it.
-    /// - [`Error::OutOfMemory`]: an allocation fails, or a lookup fails with it. The contract leaves
-    ///   open when, but it is not returned without labels.
-    /// - [`Error::FormatError`]: the `Display` of a file's name fails, or a lookup fails with it. The
-    ///   contract leaves open when, but it is not returned without labels.
+    /// - [`Error::OutOfMemory`]: an allocation fails, or a lookup fails with it. The contract
+    ///   leaves open when, but it is not returned without labels.
+    /// - [`Error::FormatError`]: the `Display` of a file's name fails, or a lookup fails with it.
+    ///   The contract leaves open when, but it is not returned without labels.
     /// - Any other error: that of the first lookup that fails.
     ///
     /// A prefix of the output has then been written. Nothing has been written where a lookup before
-    /// the header fails, nor where the error is `FormatError`, unless the first lookup after the header
-    /// that fails does so with it. What has been written is known of a writer whose bytes are known.
+    /// the header fails, nor where the error is `FormatError`, unless the first lookup after the
+    /// header that fails does so with it. What has been written is known of a writer whose bytes
+    /// are known.
     ///
-    /// The lookups after the header are those of a file's source, and of the range and, in the classic
-    /// layout, the number of a line between two shown ones. Without labels nothing is looked up.
+    /// The lookups after the header are those of a file's source, and of the range and, in the
+    /// classic layout, the number of a line between two shown ones. Without labels nothing is
+    /// looked up.
     pub fn render<'files, F, W>(
         &self,
         files: &'files F,
@@ -93,15 +99,15 @@ impl<'diagnostic, 'config, FileId: Copy + Eq> RichDiagnostic<'diagnostic, 'confi
             (W.sink (writer_of renderer.old)) result (W.sink (writer_of renderer.new)) }
     {
         if self.diagnostic.labels.is_empty() {
-            draw_bare(self.diagnostic, renderer)?;
+            render_without_labels(self.diagnostic, renderer)?;
         } else {
-            self.draw_labels(files, renderer)?;
+            self.render_labels(files, renderer)?;
         }
         Ok(())
     }
 
     /// Renders a diagnostic with labels.
-    fn draw_labels<'files, F, W>(
+    fn render_labels<'files, F, W>(
         &self,
         files: &'files F,
         renderer: &mut Renderer<'_, '_, W>,
@@ -112,51 +118,52 @@ impl<'diagnostic, 'config, FileId: Copy + Eq> RichDiagnostic<'diagnostic, 'confi
         FileId: 'files,
         requires { 0 < length (diagnostic_of self.now).labels.items }
         ensures same { SameRenderer renderer.old renderer.new }
-        ensures draws { DrawsView W.sink (F.database files.now)
+        ensures draws { RendersView W.sink (F.database files.now)
             self.now renderer.old result renderer.new }
     {
         let diagnostic = self.diagnostic;
         let alloc = *diagnostic.labels.allocator();
         let labels = diagnostic.labels.as_slice();
-        let gathered = gather(alloc, files, self.config, labels)?;
-        let sheet = prepare(alloc, files, self.config, &gathered)?;
-        draw_header(diagnostic, renderer, None)?;
-        self.draw_snippets(files, renderer, &sheet)?;
-        draw_closing(diagnostic, renderer, sheet.padding)
+        let collected = collect(alloc, files, self.config, labels)?;
+        let output_plan = plan_output(alloc, files, self.config, &collected)?;
+        render_heading(diagnostic, renderer, None)?;
+        self.render_snippets(files, renderer, &output_plan)?;
+        render_closing(diagnostic, renderer, output_plan.padding)
     }
 
-    /// Renders the snippets of all files, with an empty row after each, but after the last one only where notes follow.
-    fn draw_snippets<'files, F, W>(
+    /// Renders the snippets of all files, with an empty row after each, but after the last one only
+    /// where notes follow.
+    fn render_snippets<'files, F, W>(
         &self,
         files: &'files F,
         renderer: &mut Renderer<'_, '_, W>,
-        sheet: &Sheet<'_, '_, FileId>,
+        output_plan: &OutputPlan<'_, '_, FileId>,
     ) -> Result<(), Error>
     where
         F: Files<'files, FileId = FileId>,
         W: WriteStyle,
         FileId: 'files,
-        requires { IsPrepared (F.database files.now)
-            (view_config_of self.now) (labels_of (diagnostic_of self.now)) sheet.now }
+        requires { IsOutputPlan (F.database files.now)
+            (view_config_of self.now) (labels_of (diagnostic_of self.now)) output_plan.now }
         ensures same { SameRenderer renderer.old renderer.new }
-        ensures draws { DrawsSnippets W.sink (F.database files.now)
-            self.now sheet.now renderer.old result renderer.new }
+        ensures draws { RendersSnippets W.sink (F.database files.now)
+            self.now output_plan.now renderer.old result renderer.new }
     {
         let diagnostic = self.diagnostic;
-        let page = Page {
+        let context = SnippetContext {
             files,
-            padding: sheet.padding,
+            padding: output_plan.padding,
             severity: diagnostic.severity,
         };
-        let mut marks = LineMarks::new(*diagnostic.labels.allocator());
+        let mut marks = LineLabels::new(*diagnostic.labels.allocator());
         let notes_follow = has_notes(diagnostic);
         let mut start = 0;
-        for (place, file) in sheet.files.iter().enumerate() {
-            let steps = &sheet.steps[start..start + file.step_count];
-            start += file.step_count;
-            let is_followed = notes_follow | (place + 1 < sheet.files.len());
-            draw_snippet(&page, renderer, &mut marks, file, steps)?;
-            draw_end(&page, renderer, file, is_followed)?;
+        for (index, file) in output_plan.files.iter().enumerate() {
+            let snippet_lines = &output_plan.snippet_lines[start..start + file.line_total];
+            start += file.line_total;
+            let is_followed = notes_follow | (index + 1 < output_plan.files.len());
+            render_snippet(&context, renderer, &mut marks, file, snippet_lines)?;
+            render_end(&context, renderer, file, is_followed)?;
         }
         Ok(())
     }
@@ -171,31 +178,32 @@ fn has_notes<FileId>(diagnostic: &Diagnostic<FileId>) -> bool
 
 /// Renders the notes, and the empty line at the end.
 #[inline(always)]
-fn draw_closing<FileId, W: WriteStyle>(
+fn render_closing<FileId, W: WriteStyle>(
     diagnostic: &Diagnostic<FileId>,
     renderer: &mut Renderer<'_, '_, W>,
     padding: usize,
 ) -> Result<(), Error>
     ensures same { SameRenderer renderer.old renderer.new }
-    ensures sends { DrawsRows W.sink diagnostic.now.severity padding (closing_rows diagnostic.now)
+    ensures sends { RendersRows W.sink diagnostic.now.severity padding (closing_rows diagnostic.now)
         renderer.old result renderer.new }
     ensures io { IfErr result IsIo }
 {
-    draw_notes(diagnostic, renderer, padding)?;
+    render_notes(diagnostic, renderer, padding)?;
     renderer.render_empty()?;
     Ok(())
 }
 
 /// Renders a diagnostic without labels: its header and its notes. Nothing is looked up.
-fn draw_bare<FileId, W: WriteStyle>(
+fn render_without_labels<FileId, W: WriteStyle>(
     diagnostic: &Diagnostic<FileId>,
     renderer: &mut Renderer<'_, '_, W>,
 ) -> Result<(), Error>
     ensures same { SameRenderer renderer.old renderer.new }
-    ensures sends { SendsStream W.sink (bare_picture diagnostic.now (config_of renderer.old))
+    ensures sends { WritesStream W.sink
+        (output_without_labels diagnostic.now (config_of renderer.old))
         renderer.old result renderer.new }
     ensures io { IfErr result IsIo }
 {
-    draw_header(diagnostic, renderer, None)?;
-    draw_closing(diagnostic, renderer, 0)
+    render_heading(diagnostic, renderer, None)?;
+    render_closing(diagnostic, renderer, 0)
 }

@@ -5,17 +5,19 @@ ghost use Rattle.codespan_base.specs.declared.term.config.DisplayStyle.TheVarian
 ghost use Rattle.codespan_picture.specs.Picture.{label_of, labels_of};
 ghost use Rattle.codespan_renderer.specs.Renderers.{writer_of, config_of, SameRenderer};
 ghost use Rattle.codespan_reporting.specs.WriteCalls.{WritesStyled};
-ghost use Rattle.codespan_reporting.specs.Inner.ViewDrawing.{DrawsHeadersOf, DrawsInStyle};
+ghost use Rattle.codespan_reporting.specs.Inner.ViewRendering.{RendersHeadersOf, RendersInStyle};
 
 use crate::term::renderer::Renderer;
-use crate::term::views::loci::{is_primary, locus_at};
-use crate::term::views::parts::{draw_header, draw_notes};
+use crate::term::views::file_start::is_primary;
+use crate::term::views::parts::{render_heading, render_notes};
+use crate::term::views::source_file::SourceFile;
 use codespan_base::diagnostic::{Diagnostic, Label};
 use codespan_base::files::{Error, Files};
 use codespan_base::term::WriteStyle;
 
-/// Renders a header for each primary label of a diagnostic, with the locus of the label's start, or one header without a locus where no
-/// label is primary; in medium style the notes follow. This is as in the Rust crate.
+/// Renders a header for each primary label of a diagnostic, with the locus of the label's start, or
+/// one header without a locus where no label is primary; in medium style the notes follow. This is
+/// as in the Rust crate.
 ///
 /// # Example
 ///
@@ -59,15 +61,15 @@ impl<'diagnostic, FileId: Copy + Eq> ShortDiagnostic<'diagnostic, FileId> {
     /// # Errors
     ///
     /// - [`Error::Io`]: the writer fails or takes no bytes, or a lookup fails with it.
-    /// - [`Error::OutOfMemory`]: an allocation fails, or a lookup fails with it. The contract leaves
-    ///   open when, but it is not returned without primary labels.
-    /// - [`Error::FormatError`]: the `Display` of a file's name fails, or a lookup fails with it. The
-    ///   contract leaves open when, but it is not returned without primary labels.
+    /// - [`Error::OutOfMemory`]: an allocation fails, or a lookup fails with it. The contract
+    ///   leaves open when, but it is not returned without primary labels.
+    /// - [`Error::FormatError`]: the `Display` of a file's name fails, or a lookup fails with it.
+    ///   The contract leaves open when, but it is not returned without primary labels.
     /// - Any other error: that of the first lookup that fails.
     ///
-    /// Unless the writer fails, exactly the headers of the primary labels before one at which the call
-    /// fails have been written; where it fails, a prefix of the output has. This is known of a writer
-    /// whose bytes are known.
+    /// Unless the writer fails, exactly the headers of the primary labels before one at which the
+    /// call fails have been written; where it fails, a prefix of the output has. This is known of a
+    /// writer whose bytes are known.
     pub fn render<'files, F, W>(
         &self,
         files: &'files F,
@@ -84,77 +86,81 @@ impl<'diagnostic, FileId: Copy + Eq> ShortDiagnostic<'diagnostic, FileId> {
             (W.sink (writer_of renderer.old)) result (W.sink (writer_of renderer.new)) }
     {
         if self.show_notes {
-            draw_medium(files, self.diagnostic, renderer)
+            render_medium(files, self.diagnostic, renderer)
         } else {
-            draw_headers(files, self.diagnostic, renderer)
+            render_headers(files, self.diagnostic, renderer)
         }
     }
 }
 
 /// Renders the headers, and then the notes.
-fn draw_medium<'files, F: Files<'files>, W: WriteStyle>(
+fn render_medium<'files, F: Files<'files>, W: WriteStyle>(
     files: &'files F,
     diagnostic: &Diagnostic<F::FileId>,
     renderer: &mut Renderer<'_, '_, W>,
 ) -> Result<(), Error>
     ensures same { SameRenderer renderer.old renderer.new }
-    ensures draws { DrawsInStyle W.sink (F.database files.now)
+    ensures draws { RendersInStyle W.sink (F.database files.now)
         Medium diagnostic.now renderer.old result renderer.new }
 {
-    draw_headers(files, diagnostic, renderer)?;
-    draw_notes(diagnostic, renderer, 0)
+    render_headers(files, diagnostic, renderer)?;
+    render_notes(diagnostic, renderer, 0)
 }
 
 /// Renders a header for each primary label, or one without a locus.
-fn draw_headers<'files, F: Files<'files>, W: WriteStyle>(
+fn render_headers<'files, F: Files<'files>, W: WriteStyle>(
     files: &'files F,
     diagnostic: &Diagnostic<F::FileId>,
     renderer: &mut Renderer<'_, '_, W>,
 ) -> Result<(), Error>
     ensures same { SameRenderer renderer.old renderer.new }
-    ensures draws { DrawsInStyle W.sink (F.database files.now)
+    ensures draws { RendersInStyle W.sink (F.database files.now)
         Short diagnostic.now renderer.old result renderer.new }
 {
-    if draw_located(files, diagnostic, renderer)? {
+    if render_located(files, diagnostic, renderer)? {
         Ok(())
     } else {
-        draw_header(diagnostic, renderer, None)
+        render_heading(diagnostic, renderer, None)
     }
 }
 
 /// Renders a header for each primary label, in their order, and returns whether there is one.
-fn draw_located<'files, F: Files<'files>, W: WriteStyle>(
+fn render_located<'files, F: Files<'files>, W: WriteStyle>(
     files: &'files F,
     diagnostic: &Diagnostic<F::FileId>,
     renderer: &mut Renderer<'_, '_, W>,
 ) -> Result<bool, Error>
     ensures same { SameRenderer renderer.old renderer.new }
-    ensures draws { DrawsHeadersOf W.sink (F.database files.now)
+    ensures draws { RendersHeadersOf W.sink (F.database files.now)
         diagnostic.now (labels_of diagnostic.now) renderer.old result renderer.new }
 {
     let mut is_located = false;
     for label in &diagnostic.labels {
-        is_located |= draw_if_primary(files, diagnostic, renderer, label)?;
+        is_located |= render_if_primary(files, diagnostic, renderer, label)?;
     }
     Ok(is_located)
 }
 
 /// Renders the header of a label, where it is a primary one, and returns whether it is.
-fn draw_if_primary<'files, F: Files<'files>, W: WriteStyle>(
+fn render_if_primary<'files, F: Files<'files>, W: WriteStyle>(
     files: &'files F,
     diagnostic: &Diagnostic<F::FileId>,
     renderer: &mut Renderer<'_, '_, W>,
     label: &Label<F::FileId>,
 ) -> Result<bool, Error>
     ensures same { SameRenderer renderer.old renderer.new }
-    ensures draws { DrawsHeadersOf W.sink (F.database files.now)
+    ensures draws { RendersHeadersOf W.sink (F.database files.now)
         diagnostic.now (label_of label.now ∷ []) renderer.old result renderer.new }
 {
     if !is_primary(label) {
         return Ok(false);
     }
     let alloc = *diagnostic.labels.allocator();
-    let locus = locus_at(alloc, files, label.file_id, label.range.start)?;
-    draw_header(diagnostic, renderer, Some(&locus))?;
+    let file = SourceFile {
+        files,
+        id: label.file_id,
+    };
+    let locus = file.locus(alloc, label.range.start)?;
+    render_heading(diagnostic, renderer, Some(&locus))?;
     Ok(true)
 }

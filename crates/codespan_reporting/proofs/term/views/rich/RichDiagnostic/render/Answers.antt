@@ -21,26 +21,26 @@ written is equal lawful writes = record {
   means = λ rich. output_means_labels _ _ _ _ (subst IsEquivalence (sym is) equal) (λ i. (lawful i).some_line);
 }
 
-pub returns-in_err-draw_bare-clause-draws : goal.returns-in_err-draw_bare-clause-draws
-returns-in_err-draw_bare-clause-draws g c =
+pub returns-in_err-render_without_labels-clause-draws : goal.returns-in_err-render_without_labels-clause-draws
+returns-in_err-render_without_labels-clause-draws g c =
     let p = err_from_is_err_and c.from_residual.result c.from_residual.ensures.1 in
     rw (p.1 ∙ ap Err p.2)
     (written ((g.met.F.Files c.lifetimes (search rules)).same_is c.args.files.now) g.met.FileId.Eq.laws ((g.met.F.Files c.lifetimes (search rules)).lawful c.args.files.now)
-    (bare-whole (Err c.in_err-draw_bare.field-0.0) (search rules) c.in_err-draw_bare.ensures.sends c.in_err-draw_bare.ensures.io))
+    (bare-whole (Err c.in_err-render_without_labels.field-0.0) (search rules) c.in_err-render_without_labels.ensures.sends c.in_err-render_without_labels.ensures.io))
 
-pub returns-in_ok-draw_bare-clause-draws : goal.returns-in_ok-draw_bare-clause-draws
-returns-in_ok-draw_bare-clause-draws g c =
+pub returns-in_ok-render_without_labels-clause-draws : goal.returns-in_ok-render_without_labels-clause-draws
+returns-in_ok-render_without_labels-clause-draws g c =
     written ((g.met.F.Files c.lifetimes (search rules)).same_is c.args.files.now) g.met.FileId.Eq.laws ((g.met.F.Files c.lifetimes (search rules)).lawful c.args.files.now)
-    (bare-whole (Ok tt) (search rules) c.in_ok-draw_bare.ensures.sends tt)
+    (bare-whole (Ok tt) (search rules) c.in_ok-render_without_labels.ensures.sends tt)
 
-pub returns-in_err-draw_labels-clause-draws : goal.returns-in_err-draw_labels-clause-draws
-returns-in_err-draw_labels-clause-draws g c =
-    let p = err_from_is_err_and c.from_residual-in_err-draw_labels.result c.from_residual-in_err-draw_labels.ensures.1 in
+pub returns-in_err-render_labels-clause-draws : goal.returns-in_err-render_labels-clause-draws
+returns-in_err-render_labels-clause-draws g c =
+    let p = err_from_is_err_and c.from_residual-in_err-render_labels.result c.from_residual-in_err-render_labels.ensures.1 in
     rw (p.1 ∙ ap Err p.2)
     (written ((g.met.F.Files c.lifetimes (search rules)).same_is c.args.files.now) g.met.FileId.Eq.laws ((g.met.F.Files c.lifetimes (search rules)).lawful c.args.files.now)
-    c.in_err-draw_labels.ensures.draws)
+    c.in_err-render_labels.ensures.draws)
 
-pub returns-in_ok-draw_labels-clause-draws : goal.returns-in_ok-draw_labels-clause-draws
-returns-in_ok-draw_labels-clause-draws g c =
+pub returns-in_ok-render_labels-clause-draws : goal.returns-in_ok-render_labels-clause-draws
+returns-in_ok-render_labels-clause-draws g c =
     written ((g.met.F.Files c.lifetimes (search rules)).same_is c.args.files.now) g.met.FileId.Eq.laws ((g.met.F.Files c.lifetimes (search rules)).lawful c.args.files.now)
-    c.in_ok-draw_labels.ensures.draws
+    c.in_ok-render_labels.ensures.draws

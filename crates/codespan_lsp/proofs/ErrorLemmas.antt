@@ -1,0 +1,68 @@
+-- The error of a character of a line, case by case, for the clauses of `byte_of_character`.
+use Rattle.std.proofs.Common.{◌≡◌, ℕ, ◌+◌, ◌<◌, List, length, ap, sym, ◌∙◌, refl, arith, inl, inr, length-append}
+use Rattle.std.specs.Prelude.{encode_utf8_all, Some, None}
+use Rattle.std.proofs.lemmas.Bool.{cases_lt, lt-ltb, le-ltb, eq-eqb, ne_eqb}
+use Rattle.std.proofs.lemmas.List.Sums.{sum_by-append}
+use Rattle.std.proofs.lemmas.Str.{encodes-append, encodes-chars, scalars-chars}
+use Rattle.std.specs.Str.{chars, IsUtf8}
+use Rattle.codespan_base.specs.declared.files.Error.TheVariants.{ColumnTooLarge, InvalidCharBoundary}
+use Rattle.codespan_lsp.specs.Units.{char_units, total_units, code_units, prefix_within}
+use Rattle.codespan_lsp.specs.Positions.{character_error}
+use Rattle.codespan_lsp.specs.declared.encoding.PositionEncoding.{PositionEncoding}
+use Rattle.codespan_lsp.proofs.UnitLemmas.{total_units-le}
+use Rattle.codespan_lsp.proofs.PrefixLemmas.{Cut, prefix-cut, prefix-le, prefix-whole}
+
+module _ (encoding : PositionEncoding) (line : List ℕ) (n : ℕ) (utf8 : IsUtf8 line) where
+  -- the line has the code units and the bytes of the prefix, and those of what follows it
+  record Parts : Type 0 where
+    pub back : List ℕ
+    pub units : code_units encoding line ≡ total_units encoding (prefix_within encoding n (chars line)) + total_units encoding back
+    pub bytes : length line ≡ length (encode_utf8_all (prefix_within encoding n (chars line))) + length (encode_utf8_all back)
+
+  parts : Parts
+  parts =
+      let front : List ℕ = prefix_within encoding n (chars line) in
+      let cut : Cut (chars line) front = prefix-cut encoding n (chars line) (scalars-chars line utf8) in
+      record {
+        back = cut.back;
+        units = ap (total_units encoding) cut.whole_is ∙ sum_by-append (char_units encoding) front cut.back;
+        bytes = ap length (sym (encodes-chars line utf8) ∙ (ap encode_utf8_all cut.whole_is ∙ encodes-append front cut.back))
+            ∙ length-append (encode_utf8_all front) (encode_utf8_all cut.back);
+      }
+
+  -- no error where the prefix has all the code units
+  pub character_error-none : (start : ℕ) → total_units encoding (prefix_within encoding n (chars line)) ≡ n
+      → character_error encoding start line n ≡ None
+  character_error-none start h =
+      rw (
+        le-ltb (code_units encoding line) n (omega (arith, parts.units, h)),
+        eq-eqb (total_units encoding (prefix_within encoding n (chars line))) n h,
+      ) refl
+
+  -- past the line's end the prefix is the line
+  pub character_error-past : (start : ℕ) → ¬ (total_units encoding (prefix_within encoding n (chars line)) ≡ n)
+      → length (encode_utf8_all (prefix_within encoding n (chars line))) ≡ length line
+      → character_error encoding start line n
+      ≡ Some (ColumnTooLarge n (total_units encoding (prefix_within encoding n (chars line))))
+  character_error-past start apart whole =
+      let few = prefix-le encoding n (chars line) in
+      let none = total_units-le encoding parts.back in
+      let max : code_units encoding line ≡ total_units encoding (prefix_within encoding n (chars line)) =
+      omega (arith, parts.units, parts.bytes, whole, none) in
+      let less : total_units encoding (prefix_within encoding n (chars line)) < n = grind (arith, few, apart) in
+      rw (lt-ltb (code_units encoding line) n (omega (arith, max, less)))
+      (ap (λ m. Some (ColumnTooLarge n m)) max)
+
+  -- elsewhere it ends before the character that the code units end in
+  pub character_error-inside : (start : ℕ) → ¬ (total_units encoding (prefix_within encoding n (chars line)) ≡ n)
+      → ¬ (length (encode_utf8_all (prefix_within encoding n (chars line))) ≡ length line)
+      → character_error encoding start line n
+      ≡ Some (InvalidCharBoundary (start + length (encode_utf8_all (prefix_within encoding n (chars line)))))
+  character_error-inside start apart part =
+      elim (cases_lt (code_units encoding line) n) [
+        | inl p ↦ absurd (part (ap length (ap encode_utf8_all (prefix-whole encoding n (chars line) (omega (arith, p))) ∙ encodes-chars line utf8)))
+        | inr p ↦ rw (
+          le-ltb (code_units encoding line) n p,
+          ne_eqb (total_units encoding (prefix_within encoding n (chars line))) n apart,
+        ) refl
+      ]

@@ -1,0 +1,13 @@
+-- Severities as the protocol has them.
+use Rattle.codespan_base.specs.declared.diagnostic.Severity.{Severity}
+use Rattle.codespan_base.specs.declared.diagnostic.Severity.TheVariants.{Help, Note, Warning, Error, Bug}
+use Rattle.codespan_lsp.specs.declared.severity.DiagnosticSeverity.{DiagnosticSeverity}
+use Rattle.codespan_lsp.specs.declared.severity.DiagnosticSeverity.TheVariants as lsp
+
+-- the protocol's severity
+abbrev pub lsp_severity : Severity → DiagnosticSeverity
+lsp_severity Bug = lsp.Error
+lsp_severity Error = lsp.Error
+lsp_severity Warning = lsp.Warning
+lsp_severity Note = lsp.Information
+lsp_severity Help = lsp.Hint

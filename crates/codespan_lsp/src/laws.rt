@@ -1,0 +1,27 @@
+//! Laws of positions. Each is the contract of a function that does nothing and does not fail.
+
+ghost use Rattle.codespan_lsp.specs.PositionLaws.{PositionsReturn, PositionsAscend, ErrorsAreGaps, InsideIsNoBoundary};
+
+/// States that a byte at a character boundary, not past its line's end, is at its position, and
+/// that no other byte is: so it goes to a position and back to itself.
+pub fn positions_return()
+    ensures { PositionsReturn }
+{}
+
+/// States that a later byte has a later position.
+pub fn positions_ascend()
+    ensures { PositionsAscend }
+{}
+
+/// States that the lookup of a line's position fails, memory and the file's own lookups aside,
+/// exactly where no byte is at it.
+pub fn errors_are_gaps()
+    ensures { ErrorsAreGaps }
+{}
+
+/// States that a position between the code units of a character is an
+/// [`InvalidCharBoundary`](codespan_base::files::Error) with the character's byte, as in UTF-16 one
+/// between a pair of surrogates.
+pub fn inside_is_no_boundary()
+    ensures { InsideIsNoBoundary }
+{}

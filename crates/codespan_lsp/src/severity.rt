@@ -1,0 +1,53 @@
+//! Severities as the protocol has them.
+
+ghost use Rattle.std.specs.Prelude.{◌≡◌};
+
+use codespan_base::diagnostic::Severity;
+
+/// The severity of a diagnostic that a language server sends.
+///
+/// A severity of this project becomes one by `from`: both `Bug` and `Error` are errors, a note is
+/// information, and help is a hint.
+#[derive(Clone, Copy, Debug, PartialEq, Eq)]
+pub enum DiagnosticSeverity {
+    /// An error.
+    Error,
+    /// A warning.
+    Warning,
+    /// Information.
+    Information,
+    /// A hint.
+    Hint,
+}
+
+impl DiagnosticSeverity {
+    ghost use Rattle.codespan_lsp.specs.SeverityNumbers.{severity_number};
+
+    /// Returns the protocol's number: 1 of an error, 2 of a warning, 3 of information and 4 of a
+    /// hint.
+    pub fn number(self) -> u8
+        ensures { result ≡ severity_number self }
+    {
+        match self {
+            DiagnosticSeverity::Error => 1,
+            DiagnosticSeverity::Warning => 2,
+            DiagnosticSeverity::Information => 3,
+            DiagnosticSeverity::Hint => 4,
+        }
+    }
+}
+
+impl From<Severity> for DiagnosticSeverity {
+    ghost use Rattle.codespan_lsp.specs.Severities.{lsp_severity};
+
+    ghost from_gives = { λ severity converted. converted ≡ lsp_severity severity };
+
+    fn from(severity: Severity) -> DiagnosticSeverity {
+        match severity {
+            Severity::Bug | Severity::Error => DiagnosticSeverity::Error,
+            Severity::Warning => DiagnosticSeverity::Warning,
+            Severity::Note => DiagnosticSeverity::Information,
+            Severity::Help => DiagnosticSeverity::Hint,
+        }
+    }
+}

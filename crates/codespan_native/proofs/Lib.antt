@@ -1,0 +1,4 @@
+-- what is rendered
+pub mod Rendered
+-- files
+pub mod Views

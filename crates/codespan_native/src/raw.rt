@@ -1,0 +1,219 @@
+//! The structs that cross from C, field by field those of `native/include/codespan.h`.
+//!
+//! Numbers stand for enumerations and bytes for texts, so any value can be passed. [`crate::convert`] checks them.
+
+/// The number of the layouts of these structs.
+pub const ABI: u32 = 1;
+
+/// A tab width above this one is taken as this one, in cells.
+pub const TAB_WIDTH_MAX: usize = 1024;
+
+/// A text, in UTF-8.
+#[derive(Drop)]
+#[repr(C)]
+pub struct RawText<'a> {
+    /// Its bytes.
+    pub bytes: &'a [u8],
+}
+
+/// A line of a file.
+#[derive(Drop)]
+#[repr(C)]
+pub struct RawLine {
+    /// Byte index in the file.
+    pub start: usize,
+    /// Byte index in the file, exclusive.
+    pub end: usize,
+    /// The line number that is shown.
+    pub number: usize,
+}
+
+/// The line and column number that are shown for a byte.
+#[derive(Drop)]
+#[repr(C)]
+pub struct RawLocus {
+    /// Byte index in the file.
+    pub byte: usize,
+    /// The line number.
+    pub line_number: usize,
+    /// The column number.
+    pub column_number: usize,
+}
+
+/// A file, or a window of one.
+#[derive(Drop)]
+#[repr(C)]
+pub struct RawFile<'a> {
+    /// Its name, in UTF-8.
+    pub name: &'a [u8],
+    /// Its source, or a window of it, in UTF-8.
+    pub source: &'a [u8],
+    /// Byte index in the file of the first byte of `source`.
+    pub first_byte: usize,
+    /// The lines of the file before `source`; not read where there are `lines`.
+    pub first_line: usize,
+    /// The lines of `source`; where there are none, a line starts after each newline.
+    pub lines: &'a [RawLine],
+    /// The loci that are shown in place of computed ones.
+    pub loci: &'a [RawLocus],
+}
+
+/// A label.
+#[derive(Drop)]
+#[repr(C)]
+pub struct RawLabel<'a> {
+    /// 0: primary, 1: secondary.
+    pub style: u32,
+    /// The index of its file.
+    pub file: usize,
+    /// Byte index in the file.
+    pub start: usize,
+    /// Byte index in the file, exclusive.
+    pub end: usize,
+    /// Its message, in UTF-8.
+    pub message: &'a [u8],
+}
+
+/// A diagnostic.
+#[derive(Drop)]
+#[repr(C)]
+pub struct RawDiagnostic<'a> {
+    /// 0: help, 1: note, 2: warning, 3: error, 4: bug.
+    pub severity: u32,
+    /// Its code, in UTF-8; empty where it has none.
+    pub code: &'a [u8],
+    /// Its message, in UTF-8.
+    pub message: &'a [u8],
+    /// Its labels.
+    pub labels: &'a [RawLabel<'a>],
+    /// Its notes.
+    pub notes: &'a [RawText<'a>],
+}
+
+/// The characters of the output, each by its code point.
+#[derive(Drop)]
+#[repr(C)]
+pub struct RawChars<'a> {
+    /// The text before a locus, in UTF-8.
+    pub snippet_start: &'a [u8],
+    /// The border left of the source.
+    pub source_border_left: u32,
+    /// The same in a break.
+    pub source_border_left_break: u32,
+    /// Before a note.
+    pub note_bullet: u32,
+    /// Under a primary label of one line.
+    pub single_primary_caret: u32,
+    /// Under a secondary label of one line.
+    pub single_secondary_caret: u32,
+    /// Under the start of a multi-line primary label.
+    pub multi_primary_caret_start: u32,
+    /// Under its end.
+    pub multi_primary_caret_end: u32,
+    /// Under the start of a multi-line secondary label.
+    pub multi_secondary_caret_start: u32,
+    /// Under its end.
+    pub multi_secondary_caret_end: u32,
+    /// The top corner of a lane.
+    pub multi_top_left: u32,
+    /// The line from it.
+    pub multi_top: u32,
+    /// The bottom corner of a lane.
+    pub multi_bottom_left: u32,
+    /// The line from it.
+    pub multi_bottom: u32,
+    /// The bar of a lane.
+    pub multi_left: u32,
+    /// The pointer between a caret and a hanging message.
+    pub pointer_left: u32,
+}
+
+/// A style of text.
+#[derive(Drop)]
+#[repr(C)]
+pub struct RawColorSpec {
+    /// 0: none, 1 to 8: black, red, green, yellow, blue, magenta, cyan, white.
+    pub fg: u32,
+    /// The same, of the background.
+    pub bg: u32,
+    /// 0: not bold.
+    pub bold: u32,
+    /// 0: not intense.
+    pub intense: u32,
+}
+
+/// The styles of the parts of the output.
+#[derive(Drop)]
+#[repr(C)]
+pub struct RawStyles {
+    /// The severity in the header of a bug.
+    pub header_bug: RawColorSpec,
+    /// The severity in the header of an error.
+    pub header_error: RawColorSpec,
+    /// The severity in the header of a warning.
+    pub header_warning: RawColorSpec,
+    /// The severity in the header of a note.
+    pub header_note: RawColorSpec,
+    /// The severity in the header of a help.
+    pub header_help: RawColorSpec,
+    /// The message of a header.
+    pub header_message: RawColorSpec,
+    /// Primary labels of a bug.
+    pub primary_label_bug: RawColorSpec,
+    /// Primary labels of an error.
+    pub primary_label_error: RawColorSpec,
+    /// Primary labels of a warning.
+    pub primary_label_warning: RawColorSpec,
+    /// Primary labels of a note.
+    pub primary_label_note: RawColorSpec,
+    /// Primary labels of a help.
+    pub primary_label_help: RawColorSpec,
+    /// Secondary labels.
+    pub secondary_label: RawColorSpec,
+    /// Line numbers.
+    pub line_number: RawColorSpec,
+    /// The border left of the source.
+    pub source_border: RawColorSpec,
+    /// The bullet of a note.
+    pub note_bullet: RawColorSpec,
+}
+
+/// A configuration.
+#[derive(Drop)]
+#[repr(C)]
+pub struct RawConfig<'a> {
+    /// [`ABI`].
+    pub abi: u32,
+    /// 0: rich, 1: medium, 2: short.
+    pub display_style: u32,
+    /// 0: classic, 1: unbroken.
+    pub layout: u32,
+    /// How style marks are spelled. 0: as nothing, 1: as escape sequences of the default styles, 2: as those of `styles`, 3: in band.
+    pub spelling: u32,
+    /// 0: box drawing, 1: ASCII, 2: those of `chars`.
+    pub characters: u32,
+    /// The cells between tab stops, up to [`TAB_WIDTH_MAX`].
+    pub tab_width: usize,
+    /// The lines shown after the first line of a multi-line label.
+    pub start_context_lines: usize,
+    /// The lines shown before its last line.
+    pub end_context_lines: usize,
+    /// The lines shown before a label.
+    pub before_label_lines: usize,
+    /// The lines shown after a label.
+    pub after_label_lines: usize,
+    /// The caller's characters.
+    pub chars: RawChars<'a>,
+    /// The caller's styles.
+    pub styles: RawStyles,
+}
+
+/// What was wrong.
+#[derive(Drop)]
+#[repr(C)]
+pub struct Detail {
+    /// The number of an [`Argument`](crate::error::Argument), 0 where none is wrong.
+    pub argument: u32,
+    /// Which of several it is.
+    pub index: usize,
+}

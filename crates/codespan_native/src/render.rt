@@ -1,0 +1,134 @@
+//! The bytes of the output.
+
+ghost use Rattle.std.specs.Prelude.{◌≡◌, ◌++◌, true, IfOk, OnOk, OnErr, IsErrOf};
+ghost use Rattle.codespan_base.specs.Streams.{no_marks, spelled};
+ghost use Rattle.codespan_base.specs.WriterLaw.{is_known, with_written};
+ghost use Rattle.codespan_native.specs.declared.error.EmitError.TheVariants.{OutOfMemory};
+ghost use Rattle.codespan_base.specs.declared.term.config.DisplayStyle.TheVariants.{Rich};
+ghost use Rattle.codespan_laws.specs.Meanings.{MeansLabels};
+ghost use Rattle.codespan_native.specs.MarkBytes.{mark_spelling};
+ghost use Rattle.codespan_native.specs.Meaning.{ansi_spelling};
+ghost use Rattle.codespan_native.specs.SourceModel.{sources_of};
+ghost use Rattle.codespan_native.specs.SourceTexts.{database_of};
+ghost use Rattle.codespan_native.specs.Spellings.{picture_of, spelling_by_kind};
+
+use crate::convert::{Settings, Spelling};
+use crate::error::EmitError;
+use crate::mark_writer::MarkWriter;
+use crate::source_files::SourceFiles;
+use codespan_reporting::diagnostic::Diagnostic;
+use codespan_reporting::files::Error;
+use codespan_reporting::term::{
+    Ansi, Config, PlainWriter, Styles, StylesWriter, WriteStyle, emit_to_write_style,
+};
+use std::alloc::Global;
+
+/// The capacity in bytes of a vector before an output is rendered into it.
+const INITIAL_CAPACITY: usize = 1024;
+
+/// Returns the bytes of the output of a diagnostic, its style marks spelled as the settings say.
+///
+/// # Errors
+///
+/// [`EmitError::OutOfMemory`] where an allocation fails.
+pub fn render(
+    alloc: Global,
+    settings: &Settings<'_>,
+    files: &SourceFiles<'_>,
+    diagnostic: &Diagnostic<usize>,
+) -> Result<Vec<u8>, EmitError>
+    ensures value { IfOk result (λ bytes. bytes.items ≡ spelled
+        (spelling_by_kind settings.now.spelling)
+        (picture_of settings.now.config (sources_of files.now) diagnostic.now)) }
+    ensures means { IfOk result (λ _. settings.now.config.display_style ≡ Rich
+        → MeansLabels settings.now.config settings.now.config
+        (database_of (sources_of files.now)) diagnostic.now) }
+    ensures failed { OnErr result (IsErrOf result OutOfMemory) }
+{
+    let room = Vec::with_capacity(alloc, INITIAL_CAPACITY)?;
+    match &settings.spelling {
+        Spelling::Plain => render_plain(room, &settings.config, files, diagnostic),
+        Spelling::Ansi(styles) => render_ansi(room, styles, &settings.config, files, diagnostic),
+        Spelling::Marked => render_marked(room, &settings.config, files, diagnostic),
+    }
+}
+
+/// Appends the output without its style marks.
+fn render_plain(
+    room: Vec<u8>,
+    config: &Config<'_>,
+    files: &SourceFiles<'_>,
+    diagnostic: &Diagnostic<usize>,
+) -> Result<Vec<u8>, EmitError>
+    ensures value { IfOk result (λ bytes. bytes.items ≡ room.items ++ spelled no_marks
+        (picture_of config.now (sources_of files.now) diagnostic.now)) }
+    ensures means { IfOk result (λ _. config.now.display_style ≡ Rich
+        → MeansLabels config.now config.now (database_of (sources_of files.now)) diagnostic.now) }
+    ensures failed { OnErr result (IsErrOf result OutOfMemory) }
+{
+    let mut writer = PlainWriter::new(room);
+    write_to(&mut writer, config, files, diagnostic)?;
+    Ok(writer.into_inner())
+}
+
+/// Appends the output with its style marks as escape sequences.
+fn render_ansi(
+    room: Vec<u8>,
+    styles: &Styles,
+    config: &Config<'_>,
+    files: &SourceFiles<'_>,
+    diagnostic: &Diagnostic<usize>,
+) -> Result<Vec<u8>, EmitError>
+    ensures value { IfOk result (λ bytes. bytes.items ≡ room.items
+        ++ spelled (ansi_spelling styles.now)
+        (picture_of config.now (sources_of files.now) diagnostic.now)) }
+    ensures means { IfOk result (λ _. config.now.display_style ≡ Rich
+        → MeansLabels config.now config.now (database_of (sources_of files.now)) diagnostic.now) }
+    ensures failed { OnErr result (IsErrOf result OutOfMemory) }
+{
+    let mut writer = StylesWriter::new(Ansi::new(room), styles);
+    write_to(&mut writer, config, files, diagnostic)?;
+    Ok(writer.into_inner().into_inner())
+}
+
+/// Appends the output with its style marks in band.
+fn render_marked(
+    room: Vec<u8>,
+    config: &Config<'_>,
+    files: &SourceFiles<'_>,
+    diagnostic: &Diagnostic<usize>,
+) -> Result<Vec<u8>, EmitError>
+    ensures value { IfOk result (λ bytes. bytes.items ≡ room.items ++ spelled mark_spelling
+        (picture_of config.now (sources_of files.now) diagnostic.now)) }
+    ensures means { IfOk result (λ _. config.now.display_style ≡ Rich
+        → MeansLabels config.now config.now (database_of (sources_of files.now)) diagnostic.now) }
+    ensures failed { OnErr result (IsErrOf result OutOfMemory) }
+{
+    let mut writer = MarkWriter::new(room);
+    write_to(&mut writer, config, files, diagnostic)?;
+    Ok(writer.into_inner())
+}
+
+/// Writes the output to a writer over a vector.
+///
+/// # Errors
+///
+/// [`EmitError::OutOfMemory`]. The vector fails for want of memory alone, the names are texts, and no lookup of a file that exists fails.
+fn write_to<W: WriteStyle>(
+    writer: &mut W,
+    config: &Config<'_>,
+    files: &SourceFiles<'_>,
+    diagnostic: &Diagnostic<usize>,
+) -> Result<(), EmitError>
+    ensures value { is_known (W.sink writer.old) ≡ true → OnOk result (W.sink writer.new
+        ≡ with_written (W.sink writer.old)
+        (picture_of config.now (sources_of files.now) diagnostic.now)) }
+    ensures means { IfOk result (λ _. config.now.display_style ≡ Rich
+        → MeansLabels config.now config.now (database_of (sources_of files.now)) diagnostic.now) }
+    ensures failed { OnErr result (IsErrOf result OutOfMemory) }
+{
+    match emit_to_write_style(writer, config, files, diagnostic) {
+        Ok(()) => Ok(()),
+        Err(_) => Err(EmitError::OutOfMemory),
+    }
+}

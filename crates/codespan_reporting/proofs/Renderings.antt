@@ -1,0 +1,131 @@
+-- Rendering in rich style: what has been written, for each way to end.
+use Rattle.std.proofs.Common.{◌≡◌, ◌≢◌, true, ◌<◌, List, [], ◌++◌, length, Option, None, Some, Ok, Err, Result, inl, inr, refl, sym, subst, ap, ◌∙◌, arith}
+use Rattle.std.proofs.lemmas.List.{length-append}
+use Rattle.std.specs.Prelude.{IfErr}
+use Rattle.codespan_base.specs.declared.term.config.Config.{Config}
+use Rattle.codespan_base.specs.declared.diagnostic.Diagnostic.{Diagnostic}
+use Rattle.codespan_base.specs.declared.files.Error.{Error}
+use Rattle.codespan_base.specs.declared.files.Error.TheVariants.{FormatError, OutOfMemory}
+use Rattle.codespan_base.specs.Errors.{IsIo}
+use Rattle.codespan_base.specs.FileModel.{FileDatabase, Lookup}
+use Rattle.codespan_base.specs.Streams.{Stream}
+use Rattle.codespan_base.specs.WriterLaw.{Sink, with_written, is_known, PrefixWritten, Sends, failing}
+use Rattle.codespan_base.proofs.HeldBytes.{extended-nil}
+use Rattle.codespan_base.specs.declared.term.config.DisplayStyle.TheVariants.{Rich}
+use Rattle.codespan_picture.specs.Picture.{files_of, labels_of, output}
+use Rattle.codespan_picture.specs.StatedPicture.{stated_loci}
+use Rattle.codespan_picture.specs.Rows.{Locus}
+use Rattle.codespan_reporting.specs.Inner.TextLoci.{IsLocusOfFile}
+use Rattle.std.specs.List.{AllZip}
+use Rattle.codespan_picture.specs.Lookups.{early_lookups, late_lookups, first_error}
+use Rattle.codespan_reporting.specs.WriteCalls.{WritesOutput}
+use Rattle.codespan_reporting.proofs.OutputLoci.{file_loci, file_texts}
+use Rattle.codespan_laws.proofs.Loci.{stated_are_loci}
+use Rattle.codespan_reporting.specs.Inner.LookupsOnTheWay.{WroteStream}
+use Rattle.codespan_base.proofs.Chains.{came-then, stopped-then}
+use Rattle.codespan_reporting.proofs.Failures.{first_error-some, first_error-none, all_answered, some_fails}
+
+-- nothing has been written, which is a prefix of everything
+pub PrefixWritten-none : (s : Sink) (items : Stream) (t : Sink) → t ≡ s → PrefixWritten s items t
+PrefixWritten-none s items t same = record { begun = []; rest = _; whole = refl; held = ap (λ (x : Sink). x.held) same ∙ sym (extended-nil s.held) }
+
+-- an error is not both of these
+two_errors : (e : Error) → e ≡ FormatError → e ≡ OutOfMemory → ⊥
+two_errors e h m = cc
+
+module _ {Id : Type 0} (view : Config) (files : FileDatabase Id) (d : Diagnostic Id) where
+  -- the lookups before the header
+  abbrev pub before_header : List (Id × Lookup)
+  before_header = early_lookups files (labels_of d) view
+
+  -- the lookups after it
+  abbrev pub after_header : List (Id × Lookup)
+  after_header = late_lookups files (labels_of d) view
+
+  -- the error of the lookups before it
+  abbrev pub early_failure : Option Error
+  early_failure = first_error files.failure before_header
+
+  -- the error of those after it
+  abbrev pub late_failure : Option Error
+  late_failure = first_error files.failure after_header
+
+-- this holds of a rich output, by the loci of its snippets
+pub record ByPlaces {Id : Type 0} (renderer view : Config) (files : FileDatabase Id) (d : Diagnostic Id) (Holds : Stream → Type 0) : Type 0 where
+  pub places : List Locus
+  pub are : AllZip IsLocusOfFile (files_of files d) places
+  pub holds : Holds (output Rich renderer view files d places)
+
+module _ {Id : Type 0} {renderer view : Config} {files : FileDatabase Id} {d : Diagnostic Id} where
+  -- a lookup before the header failed: nothing has been written
+  pub failed_early : {old new : Sink} {e : Error} → new ≡ old → 0 < length (before_header view files d)
+      → (e ≢ OutOfMemory → e ≢ FormatError → early_failure view files d ≡ Some e) → WritesOutput Rich renderer view files d old (Err e) new
+  failed_early {old} {new} {e} unchanged some told = record {
+    loci = stated_loci files d Rich;
+    are_loci = stated_are_loci files d Rich;
+    gains = λ are_known. PrefixWritten-none old _ new unchanged;
+    on_end = record {
+      cause = inr (
+        ap (λ (s : Sink). s.frame) unchanged,
+        (omega (arith, length-append (before_header view files d) (after_header view files d)), λ p q. first_error-some files.failure (before_header view files d) (after_header view files d) e (told p q)),
+        λ h. inl unchanged,
+      );
+      early = λ rich p. unchanged;
+    };
+  }
+
+  -- the writer failed
+  pub failed_by_writer : {old new : Sink} {e : Error} → early_failure view files d ≡ None → new.frame ≡ failing old.frame → IsIo e
+      → ByPlaces renderer view files d (λ s. is_known old ≡ true → PrefixWritten old s new) → WritesOutput Rich renderer view files d old (Err e) new
+  failed_by_writer answered frame io begun = record {
+    loci = begun.places;
+    are_loci = file_loci files d begun.places begun.are;
+    gains = begun.holds;
+    on_end = record { cause = inl (io, frame); early = λ rich p. absurd (some_fails files (before_header view files d) answered p) };
+  }
+
+  -- a lookup after the header failed
+  pub failed_late : {old new : Sink} {e : Error} → early_failure view files d ≡ None → new.frame ≡ old.frame → 0 < length (after_header view files d)
+      → (e ≢ OutOfMemory → late_failure view files d ≡ Some e)
+      → ByPlaces renderer view files d (λ s. is_known old ≡ true → PrefixWritten old s new) → WritesOutput Rich renderer view files d old (Err e) new
+  failed_late {old} {new} {e} answered frame some told begun = record {
+    loci = begun.places;
+    are_loci = file_loci files d begun.places begun.are;
+    gains = begun.holds;
+    on_end = record {
+      cause = inr (
+        frame,
+        (omega (arith, length-append (before_header view files d) (after_header view files d)), λ p q. first_error-none files.failure (before_header view files d) (after_header view files d) answered ∙ told p),
+        λ h. inr (told (λ (m : e ≡ OutOfMemory). two_errors e h m)),
+      );
+      early = λ rich p. absurd (some_fails files (before_header view files d) answered p);
+    };
+  }
+
+  -- no lookup failed, and all has been written
+  drawn : {old new : Sink} → early_failure view files d ≡ None → late_failure view files d ≡ None → new.frame ≡ old.frame
+      → ByPlaces renderer view files d (λ s. is_known old ≡ true → new ≡ with_written old s) → WritesOutput Rich renderer view files d old (Ok tt) new
+  drawn {old} {new} answered_early answered_late frame came = record {
+    loci = came.places;
+    are_loci = file_loci files d came.places came.are;
+    gains = came.holds;
+    on_end = (
+      frame,
+      record {
+        lookups_succeed = all_answered files.failure (before_header view files d ++ after_header view files d) (first_error-none files.failure (before_header view files d) (after_header view files d) answered_early ∙ answered_late);
+        texts = file_texts files d came.places came.are;
+      },
+    );
+  }
+
+  -- after its first part, which has been written, the rest of the output was written or cut short
+  pub finished : {old mid new : Sink} (first rest : Stream) (r : Result (Unit {0}) Error) → early_failure view files d ≡ None
+      → (late_failure view files d ≡ None) × WroteStream old first mid → Sends mid rest r new → IfErr r IsIo
+      → ByPlaces renderer view files d (λ s. s ≡ first ++ rest) → WritesOutput Rich renderer view files d old r new
+  finished {old} first rest (Ok x) answered came sends io names =
+      let both = came-then old first rest came.1 sends in
+      drawn answered came.0 both.0 (record { places = names.places; are = names.are; holds = λ told. both.1 told ∙ ap (with_written old) (sym names.holds) })
+  finished {old} {new = new} first rest (Err e) answered came sends io names =
+      let stopped = stopped-then first came.1 sends in
+      failed_by_writer answered stopped.0 io
+      (record { places = names.places; are = names.are; holds = λ told. subst (λ (s : Stream). PrefixWritten old s new) (sym names.holds) (stopped.1 told) })

@@ -1,0 +1,276 @@
+//! The annotations of one label.
+
+ghost use Rattle.std.specs.Prelude.{◌≡◌, ◌≢◌, None, IfErr, IfOk, IfSome, OnOk, OnErr, IsErrOf};
+ghost use Rattle.std.specs.Option.{option_map};
+ghost use Rattle.codespan_base.specs.LawfulFiles.{FailsBy};
+ghost use Rattle.codespan_base.specs.Labels.{first_line, last_line};
+ghost use Rattle.codespan_picture.specs.Picture.{label_of};
+ghost use Rattle.codespan_reporting.specs.Inner.CollectedLabels.{AddsLine, FindsLine, FindsLines, HasLookedUpLine, IfEnded, IfOn, MakesRoom, MakesRoomForLine, FailsLine, label_collected, collected_label, label_failure, lines_failure, failure_on, multi_by, kind_by};
+ghost use Rattle.codespan_reporting.specs.Inner.SourceFiles.{EndsBefore, model_of};
+ghost use Rattle.codespan_reporting.specs.Inner.AnnotationViews.{Adds, IsLineOf, kind_view};
+ghost use Rattle.codespan_reporting.specs.Inner.Annotations.{annotation_if_any};
+ghost use Rattle.codespan_reporting.specs.Inner.LabelSpans.{line_of_end, line_of_start};
+
+use crate::term::views::annotation::{Annotation, AnnotationKind, LineInfo};
+use crate::term::views::collect::label_span::{LabelSpan, label_lines};
+use crate::term::views::source_file::SourceFile;
+use codespan_base::diagnostic::Label;
+use codespan_base::files::{Error, Files};
+use codespan_base::term::Config;
+use codespan_renderer::term::renderer::count_digits;
+
+/// The indices of a label, 0-based.
+#[derive(Clone, Copy)]
+pub struct LabelIndices {
+    /// The index of its file among those of the output.
+    pub file: usize,
+    /// Its index in the diagnostic's list of labels.
+    pub index: usize,
+    /// The number of the file's multi-line labels before it: its lane, if it is one.
+    pub lane: usize,
+}
+
+/// The annotations that were found, and what the padding depends on.
+#[derive(Drop)]
+pub struct FoundAnnotations<'d, FileId> {
+    /// The annotations.
+    pub annotations: Vec<Annotation<'d, FileId>>,
+    /// The number of digits of the longest number of a line that a label spans; 0 without such a
+    /// line.
+    pub padding: usize,
+}
+
+/// Looks up the lines of a label and makes its annotations.
+#[derive(Drop)]
+struct LabelCollector<'a, 'c, 'files, F: Files<'files>> {
+    /// The label's file.
+    file: SourceFile<'files, F>,
+    /// The configuration, which has the numbers of context lines.
+    config: &'a Config<'c>,
+    /// The label's indices.
+    at: LabelIndices,
+    /// The lines on which it starts and ends.
+    lines: LabelSpan,
+}
+
+impl<'a, 'c, 'files, F: Files<'files>> LabelCollector<'a, 'c, 'files, F> {
+    /// Returns what the label does on a line, its part of a multi-line label aside: it is a
+    /// single-line label there, or makes the line shown, or neither.
+    fn kind_on_line<'d>(
+        &self,
+        label: &'d Label<F::FileId>,
+        line: LineInfo,
+    ) -> Option<AnnotationKind<'d, F::FileId>>
+        ensures { option_map (kind_view line.start) result ≡ kind_by self.now label.now line }
+    {
+        // A long label makes few of its lines shown.
+        if !self.lines.shows(self.config, line.index) {
+            None
+        } else if self.lines.is_single() && self.lines.first == line.index {
+            Some(AnnotationKind::Single {
+                index: self.at.index,
+                label,
+            })
+        } else {
+            Some(AnnotationKind::Shown)
+        }
+    }
+
+    /// Returns the label's part on a line, if it is a multi-line label that has one.
+    fn mark_on_line<'d>(
+        &self,
+        label: &'d Label<F::FileId>,
+        line: LineInfo,
+    ) -> Option<AnnotationKind<'d, F::FileId>>
+        ensures { option_map (kind_view line.start) result ≡ multi_by self.now label.now line }
+    {
+        match self.lines.part_on(line.index) {
+            None => None,
+            Some(part) => Some(AnnotationKind::Multi {
+                lane: self.at.lane,
+                label,
+                part,
+            }),
+        }
+    }
+
+    /// Appends the annotations of the label on a line.
+    ///
+    /// # Errors
+    ///
+    /// `OutOfMemory`: an allocation fails.
+    fn push_line<'d>(
+        &self,
+        label: &'d Label<F::FileId>,
+        line: LineInfo,
+        annotations: &mut Vec<Annotation<'d, F::FileId>>,
+    ) -> Result<(), Error>
+        requires first { first_line (model_of F.database self.now.file) (label_of label.now).label
+            ≡ self.now.lines.first }
+        requires last { last_line (model_of F.database self.now.file) (label_of label.now).label
+            ≡ self.now.lines.last }
+        requires line { IsLineOf (model_of F.database self.now.file) line }
+        ensures added { OnOk result (AddsLine (label_collected F.database self.now label.now)
+            annotations.old.items annotations.new.items line.index) }
+        ensures failed { OnErr result (IsErrOf result Error.OutOfMemory) }
+    {
+        push_annotation(
+            self.at.file,
+            line,
+            self.kind_on_line(label, line),
+            annotations,
+        )?;
+        push_annotation(
+            self.at.file,
+            line,
+            self.mark_on_line(label, line),
+            annotations,
+        )?;
+        Ok(())
+    }
+
+    /// Looks up a line and appends the label's annotations of it, where the label spans the line or
+    /// its context lines reach it. Returns whether the context goes on: it ends with the file.
+    ///
+    /// # Errors
+    ///
+    /// - `OutOfMemory`: an allocation fails, or a lookup fails with it.
+    /// - Any other error: that of the first lookup that fails.
+    fn collect_line<'d>(
+        &self,
+        label: &'d Label<F::FileId>,
+        index: usize,
+        found: &mut FoundAnnotations<'d, F::FileId>,
+    ) -> Result<bool, Error>
+        requires first { first_line (model_of F.database self.now.file) (label_of label.now).label
+            ≡ self.now.lines.first }
+        requires last { last_line (model_of F.database self.now.file) (label_of label.now).label
+            ≡ self.now.lines.last }
+        ensures inside { IfOn result
+            (HasLookedUpLine (label_collected F.database self.now label.now) index) }
+        ensures added { IfOn result
+            (FindsLine (label_collected F.database self.now label.now) found.old
+            found.new index) }
+        ensures padding { IfOn result
+            (MakesRoomForLine (label_collected F.database self.now label.now)
+            found.old found.new index) }
+        ensures answered { IfOn result
+            (failure_on (label_collected F.database self.now label.now) index ≡ None) }
+        ensures ended { IfEnded result ((found.new ≡ found.old)
+            × EndsBefore F.database self.now.file index) }
+        ensures failed { IfErr result (λ e. e ≢ Error.OutOfMemory
+            → FailsLine F.database self.now label.now index e) }
+    {
+        let is_spanned = self.lines.spans(index);
+        if !is_spanned && !self.lines.is_around(self.config, index) {
+            return Ok(true);
+        }
+        let Some(line) = self.file.line_unless_past_end(index, self.lines.last)? else {
+            return Ok(false);
+        };
+        if is_spanned {
+            found.padding = count_digits(line.number).max(found.padding);
+        }
+        self.push_line(label, line, &mut found.annotations)?;
+        Ok(true)
+    }
+
+    /// Looks up the lines of the label in their order, and appends its annotations.
+    ///
+    /// # Errors
+    ///
+    /// - `OutOfMemory`: an allocation fails, or a lookup fails with it.
+    /// - Any other error: that of the first lookup that fails.
+    fn collect_lines<'d>(
+        &self,
+        label: &'d Label<F::FileId>,
+        found: &mut FoundAnnotations<'d, F::FileId>,
+    ) -> Result<(), Error>
+        requires first { first_line (model_of F.database self.now.file) (label_of label.now).label
+            ≡ self.now.lines.first }
+        requires last { last_line (model_of F.database self.now.file) (label_of label.now).label
+            ≡ self.now.lines.last }
+        ensures added { OnOk result
+            (FindsLines (label_collected F.database self.now label.now) found.old
+            found.new) }
+        ensures padding { OnOk result
+            (MakesRoom (label_collected F.database self.now label.now) found.old
+            found.new) }
+        ensures failed { FailsBy (lines_failure (label_collected F.database self.now label.now))
+            result }
+    {
+        let lines = self.lines;
+        let first = lines.first.saturating_sub(self.config.before_label_lines);
+        let last = lines.last.saturating_add(self.config.after_label_lines);
+        for index in first.min(lines.last)..=last.max(lines.first) {
+            if !self.collect_line(label, index, found)? {
+                return Ok(());
+            }
+        }
+        Ok(())
+    }
+}
+
+/// Appends an annotation of a line, if there is one.
+///
+/// # Errors
+///
+/// `OutOfMemory`: an allocation fails.
+fn push_annotation<'d, FileId>(
+    file: usize,
+    line: LineInfo,
+    kind: Option<AnnotationKind<'d, FileId>>,
+    annotations: &mut Vec<Annotation<'d, FileId>>,
+) -> Result<(), Error>
+    ensures added { OnOk result
+        (Adds (λ e. e.line ≡ line) annotations.old.items annotations.new.items
+        (annotation_if_any file line.index (option_map (kind_view line.start) kind.entry))) }
+    ensures failed { OnErr result (IsErrOf result Error.OutOfMemory) }
+{
+    if let Some(kind) = kind {
+        annotations.push(Annotation { file, line, kind })?;
+    }
+    Ok(())
+}
+
+/// Looks up the lines of a label and appends its annotations. Returns the lines on which it starts
+/// and ends.
+///
+/// # Errors
+///
+/// - `OutOfMemory`: an allocation fails, or a lookup fails with it.
+/// - Any other error: that of the first lookup that fails.
+pub fn collect_label<'files, 'd, F: Files<'files>>(
+    files: &'files F,
+    config: &Config<'_>,
+    at: LabelIndices,
+    label: &'d Label<F::FileId>,
+    found: &mut FoundAnnotations<'d, F::FileId>,
+) -> Result<LabelSpan, Error>
+    ensures first { IfOk result (λ lines. lines.first
+        ≡ line_of_start (F.database files.now).file label.now) }
+    ensures last { IfOk result (λ lines. lines.last
+        ≡ line_of_end (F.database files.now).file label.now) }
+    ensures added { OnOk result (FindsLines
+        (collected_label (F.database files.now) config.now at label.now) found.old found.new) }
+    ensures padding { OnOk result (MakesRoom
+        (collected_label (F.database files.now) config.now at label.now) found.old found.new) }
+    ensures failed { FailsBy (label_failure
+        (collected_label (F.database files.now) config.now at label.now)) result }
+{
+    let lines = label_lines(files, label)?;
+    found
+        .annotations
+        .reserve(lines.spanned_annotations(config))?;
+    let collector = LabelCollector {
+        file: SourceFile {
+            files,
+            id: label.file_id,
+        },
+        config,
+        at,
+        lines,
+    };
+    collector.collect_lines(label, found)?;
+    Ok(lines)
+}

@@ -1,0 +1,12 @@
+pub mod Bytes
+pub mod Decoding
+pub mod Recording
+pub mod Rendering
+pub mod HtmlWriting
+pub mod HtmlReading
+mod UnsafeCells
+mod SafeTexts
+mod Sequences
+mod Readings
+mod AnsiStreams
+pub mod StyleSheets

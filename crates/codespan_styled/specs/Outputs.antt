@@ -1,0 +1,29 @@
+-- What the call that returns the runs of a diagnostic's output does.
+use Rattle.std.specs.Prelude.{◌≡◌, List, Result, MatchResult}
+use Rattle.codespan_picture.specs.Types.{Diagnostic, Error, Config, Rich}
+use Rattle.codespan_base.specs.FileModel.{FileDatabase}
+use Rattle.codespan_base.specs.Streams.{Stream, text_of}
+use Rattle.codespan_laws.specs.Meanings.{MeansLabels}
+use Rattle.codespan_picture.specs.Picture.{AreLoci, output}
+use Rattle.codespan_picture.specs.Rows.{Locus}
+use Rattle.codespan_reporting.specs.Output.{IsEmitError, Succeeds}
+use Rattle.codespan_styled.specs.Runs.{StyledRun, joined, runs_of}
+
+module _ {Id : Type 0} (config : Config) (files : FileDatabase Id) (d : Diagnostic Id) where
+  -- the output with these loci, in the configuration's style
+  abbrev pub output_at : List Locus → Stream
+  output_at loci = output config.display_style config config files d loci
+
+  -- the runs are those of the output with some loci; their texts, one after another, are its plain
+  -- text, and in rich style the output means the labels
+  pub record AreRuns (runs : List StyledRun) : Type 0 where
+    pub loci : List Locus
+    pub are_loci : AreLoci files d config.display_style loci
+    pub runs_are : runs ≡ runs_of (output_at loci)
+    pub text_is : joined runs ≡ text_of (output_at loci)
+    pub succeeds : Succeeds config files d config.display_style loci
+    pub means : config.display_style ≡ Rich → MeansLabels config config files d
+
+  -- the call returns the runs of the output, or fails as `emit_into_string` does
+  abbrev pub EmitsRuns : {T : Type 0} → (T → List StyledRun) → Result T Error → Type 0
+  EmitsRuns runs r = MatchResult r (λ t. AreRuns (runs t)) (IsEmitError config files d)

@@ -1,0 +1,25 @@
+//! A diagnostic as text in runs, each in one style, as an HTML document, and as safe text for a
+//! terminal.
+//!
+//! [`styled_text`] renders a diagnostic to a [`StyledText`], [`to_html`] makes a document of it, and
+//! [`to_terminal`] a text that is safe to print.
+#![tactic(auto)]
+
+mod characters;
+pub mod html;
+mod recorder;
+pub mod render;
+pub mod style;
+pub mod style_sheet;
+pub mod terminal;
+pub mod text;
+
+pub use html::to_html;
+pub use render::styled_text;
+pub use style::Style;
+pub use style_sheet::html_styles;
+pub use terminal::to_terminal;
+pub use text::{Run, StyledText};
+
+#[cfg(test)]
+mod tests;

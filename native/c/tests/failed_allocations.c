@@ -1,0 +1,131 @@
+/* Each allocation of a call fails in turn, alone and with all after it: the call returns
+ * CODESPAN_OUT_OF_MEMORY or the same output as ever, and frees all that it allocated.
+ *
+ * It is linked with -Wl,--wrap=malloc,--wrap=realloc,--wrap=free, so that the library's calls of
+ * these arrive here. */
+#include "check.h"
+
+void *__real_malloc(size_t size);
+void *__real_realloc(void *block, size_t size);
+void __real_free(void *block);
+void *__wrap_malloc(size_t size);
+void *__wrap_realloc(void *block, size_t size);
+void __wrap_free(void *block);
+
+/* The allocations of one call, counted from 1, and which of them fail. */
+static size_t allocations, blocks, first_failed, last_failed;
+
+static bool has_to_fail(void) {
+    allocations++;
+    return allocations >= first_failed && allocations <= last_failed;
+}
+
+void *__wrap_malloc(size_t size) {
+    if (has_to_fail())
+        return NULL;
+    blocks++;
+    return __real_malloc(size);
+}
+
+void *__wrap_realloc(void *block, size_t size) {
+    if (has_to_fail())
+        return NULL;
+    return __real_realloc(block, size);
+}
+
+void __wrap_free(void *block) {
+    blocks--;
+    __real_free(block);
+}
+
+enum { ROOM = 1 << 16 };
+
+/* Makes a call in which the allocations from `first` to `last` fail. */
+static struct outcome emit_failing(const struct call *call, size_t first, size_t last,
+                                   uint8_t *out) {
+    memset(out, UNWRITTEN, ROOM);
+    allocations = 0;
+    blocks = 0;
+    first_failed = first;
+    last_failed = last;
+    struct outcome outcome = emit(call, out, ROOM);
+    CHECK(blocks == 0);
+    CHECK(outcome.detail.argument == CODESPAN_ARGUMENT_NONE && outcome.detail.index == 0);
+    return outcome;
+}
+
+/* Makes each allocation of a call fail, alone or with all after it. Returns how many calls ran out
+ * of memory. */
+static size_t fail_each(const struct call *call, bool with_later) {
+    static uint8_t wanted[ROOM], out[ROOM];
+    struct outcome whole = emit_failing(call, SIZE_MAX, 0, wanted);
+    CHECK(whole.status == CODESPAN_OK);
+    size_t total = allocations, failed = 0;
+    for (size_t first = 1; first <= total; first++) {
+        struct outcome outcome = emit_failing(call, first, with_later ? SIZE_MAX : first, out);
+        if (outcome.status == CODESPAN_OUT_OF_MEMORY) {
+            CHECK(outcome.written == 0 && is_unwritten(out, ROOM));
+            failed++;
+        } else {
+            CHECK(outcome.status == CODESPAN_OK && outcome.written == whole.written);
+            CHECK(memcmp(out, wanted, ROOM) == 0);
+        }
+    }
+    CHECK(failed > 0);
+    return failed;
+}
+
+/* A long source: 300 short lines. */
+static codespan_text long_source(void) {
+    static char source[300 * 8 + 1];
+    for (size_t i = 0; i < 300; i++)
+        memcpy(source + 8 * i, "let x =\n", 8);
+    return codespan_text_from(source);
+}
+
+/* Renders over a short file, one with lines and loci of the caller, and a window of a long one. */
+static size_t fail_all(codespan_config *config) {
+    codespan_line lines[] = {{0, 4, 7}, {4, 8, 8}, {8, 13, 9}};
+    codespan_locus loci[] = {{4, 80, 3}};
+    codespan_file files[3];
+    files[0] =
+        codespan_new_file(codespan_text_from("a"), codespan_text_from("one\ntwo\n\tthree\n"));
+    files[1] = codespan_new_file(codespan_text_from("b"), codespan_text_from("one\ntwo\nthree"));
+    files[1].lines = lines;
+    files[1].lines_length = 3;
+    files[1].loci = loci;
+    files[1].loci_length = 1;
+    files[2] = codespan_new_file(codespan_text_from("c"), long_source());
+    files[2].first_byte = 1000;
+    files[2].first_line = 50;
+    codespan_label labels[] = {
+        codespan_new_label(CODESPAN_PRIMARY, 0, 1, 9, codespan_text_from("over lines")),
+        codespan_new_label(CODESPAN_SECONDARY, 0, 4, 5, codespan_text_from("one line")),
+        codespan_new_label(CODESPAN_PRIMARY, 1, 4, 6, codespan_text_from("of given lines")),
+        codespan_new_label(CODESPAN_PRIMARY, 2, 1100, 1103, codespan_no_text()),
+        codespan_new_label(CODESPAN_SECONDARY, 2, 1200, 3000, codespan_text_from("over many")),
+    };
+    codespan_text notes[] = {codespan_text_from("a note\nof two lines")};
+    codespan_diagnostic diagnostic =
+        codespan_new_diagnostic(CODESPAN_ERROR, codespan_text_from("a message"));
+    diagnostic.code = codespan_text_from("E1");
+    diagnostic.labels = labels;
+    diagnostic.labels_length = sizeof labels / sizeof labels[0];
+    diagnostic.notes = notes;
+    diagnostic.notes_length = 1;
+    struct call call = {files, 3, &diagnostic, config};
+    return fail_each(&call, false) + fail_each(&call, true);
+}
+
+int main(void) {
+    size_t failed = 0;
+    for (uint32_t style = CODESPAN_RICH; style <= CODESPAN_SHORT; style++)
+        for (uint32_t spelling = CODESPAN_PLAIN; spelling <= CODESPAN_MARKED; spelling++) {
+            codespan_config config = codespan_default_config();
+            config.display_style = style;
+            config.spelling = spelling;
+            failed += fail_all(&config);
+        }
+    printf("failed allocations: %zu calls ran out of memory, and said so\n", failed);
+    return 0;
+}

@@ -1,0 +1,225 @@
+/* Random calls, from two threads at once.
+ *
+ *     fuzz SECONDS STACK [CASE]
+ *
+ * The threads have stacks of STACK bytes. With CASE it makes the calls of that case alone, the
+ * number that a failed check prints. The library can not write the arguments, nor read beside them,
+ * nor write beside its output, without a fault. Checked are the statuses, that nothing else is
+ * written, and that the spellings of an output have the same text. */
+#define _XOPEN_SOURCE 700
+#include "cases.h"
+#include "replay.h"
+#include <inttypes.h>
+#include <pthread.h>
+#include <signal.h>
+#include <time.h>
+
+enum { THREADS = 2, ROOM = 1 << 15, STATUSES = CODESPAN_INVALID + 1, AT_ONCE = 64 };
+
+/* A thread, and what it found. */
+struct worker {
+    uint64_t first, step, cases; /* its cases: first, first + step, .. */
+    double seconds;              /* how long it runs */
+    struct pages pages;
+    uint8_t *rooms[SPELLINGS]; /* of ROOM bytes each */
+    uint8_t *expected;         /* of ROOM bytes */
+    size_t counts[STATUSES];
+    uint8_t signal_stack[1 << 16];
+};
+
+/* The number of the case that a thread is at, for the message of a failed check. */
+static _Thread_local uint64_t current;
+
+#define REQUIRE(condition)                                                                         \
+    do {                                                                                           \
+        if (!(condition)) {                                                                        \
+            fprintf(stderr, "case %" PRIu64 ": ", current);                                        \
+            check_failed(__FILE__, __LINE__, #condition);                                          \
+        }                                                                                          \
+    } while (0)
+
+/* ---- checks ---- */
+
+/* Checks what a call may return, and what it may have written. */
+static void check_outcome(const struct fuzz_case *made, const struct call *call, const uint8_t *out,
+                          size_t room, const struct outcome *outcome) {
+    REQUIRE(outcome->status < STATUSES && outcome->status != CODESPAN_OUT_OF_MEMORY);
+    bool has_output = outcome->status <= CODESPAN_TOO_SMALL;
+    if (outcome->status == CODESPAN_OK) {
+        REQUIRE(outcome->written <= room);
+        REQUIRE(is_unwritten(out + outcome->written, room - outcome->written));
+    } else {
+        REQUIRE(has_output ? outcome->written > room : outcome->written == 0);
+        REQUIRE(is_unwritten(out, room));
+    }
+    REQUIRE(has_output == (outcome->detail.argument == CODESPAN_ARGUMENT_NONE));
+    REQUIRE(!has_output || (outcome->detail.index == 0 && made->labels_unfiled == 0));
+    if (outcome->status == CODESPAN_FILE_MISSING) {
+        REQUIRE(outcome->detail.argument == CODESPAN_ARGUMENT_LABEL_FILE);
+        REQUIRE(outcome->detail.index < call->diagnostic->labels_length);
+        REQUIRE(call->diagnostic->labels[outcome->detail.index].file >= call->files_length);
+    }
+    if (made->is_valid && made->labels_unfiled > 0)
+        REQUIRE(outcome->status == CODESPAN_FILE_MISSING);
+    else if (made->is_valid)
+        REQUIRE(has_output);
+}
+
+/* Makes a call with room for `room` bytes, at the end of a room. Returns the output's start. */
+static const uint8_t *try_call(struct worker *worker, const struct fuzz_case *made,
+                               uint32_t spelling, size_t room, struct outcome *outcome) {
+    const struct call *call = &made->calls[spelling];
+    uint8_t *out = worker->rooms[spelling] + ROOM - room;
+    memset(out, UNWRITTEN, room);
+    *outcome = emit(call, out, room);
+    check_outcome(made, call, out, room, outcome);
+    worker->counts[outcome->status]++;
+    return out;
+}
+
+/* Checks that a spelling of an output is the marked one, replayed in these styles. */
+static void check_styles(struct worker *worker, const uint8_t *marked, size_t marked_length,
+                         const codespan_styles *styles, const uint8_t *out,
+                         const struct outcome *outcome) {
+    size_t length = replay(marked, marked_length, styles, worker->expected, ROOM);
+    REQUIRE(outcome->written == length);
+    if (outcome->status == CODESPAN_OK)
+        REQUIRE(memcmp(out, worker->expected, length) == 0);
+}
+
+/* Renders a valid case in each spelling, and compares their texts. */
+static void check_spellings(struct worker *worker, const struct fuzz_case *made) {
+    struct outcome outcomes[SPELLINGS];
+    const uint8_t *outs[SPELLINGS];
+    for (uint32_t spelling = 0; spelling < SPELLINGS; spelling++)
+        outs[spelling] = try_call(worker, made, spelling, ROOM, &outcomes[spelling]);
+    if (!made->is_valid || outcomes[CODESPAN_MARKED].status != CODESPAN_OK)
+        return;
+    const uint8_t *marked = outs[CODESPAN_MARKED];
+    size_t length = outcomes[CODESPAN_MARKED].written;
+    size_t plain_length = remove_marks(marked, length, worker->expected);
+    REQUIRE(outcomes[CODESPAN_PLAIN].status == CODESPAN_OK);
+    REQUIRE(outcomes[CODESPAN_PLAIN].written == plain_length);
+    REQUIRE(memcmp(outs[CODESPAN_PLAIN], worker->expected, plain_length) == 0);
+    REQUIRE(is_utf8(worker->expected, plain_length));
+    codespan_styles defaults = codespan_default_styles();
+    check_styles(worker, marked, length, &defaults, outs[CODESPAN_ANSI], &outcomes[CODESPAN_ANSI]);
+    check_styles(worker, marked, length, &made->styles, outs[CODESPAN_ANSI_STYLES],
+                 &outcomes[CODESPAN_ANSI_STYLES]);
+}
+
+/* Renders with some room, and where that is too small with exactly the room that is needed. */
+static void check_room(struct worker *worker, const struct fuzz_case *made, size_t room) {
+    struct outcome first, second;
+    try_call(worker, made, CODESPAN_PLAIN, room, &first);
+    if (first.status != CODESPAN_TOO_SMALL || first.written > ROOM)
+        return;
+    try_call(worker, made, CODESPAN_PLAIN, first.written, &second);
+    REQUIRE(second.status == CODESPAN_OK && second.written == first.written);
+}
+
+/* ---- faults ---- */
+
+/* Prints the case of a fault, and leaves the fault to end the program. */
+static void print_case(int signal_number) {
+    fprintf(stderr, "case %" PRIu64 ": signal %d\n", current, signal_number);
+    signal(signal_number, SIG_DFL);
+}
+
+/* Has the thread print the case of a fault, on a stack of its own: the thread's may be full.
+ * Returns the stack that was used for signals before. */
+static stack_t watch_faults(struct worker *worker) {
+    stack_t stack = {.ss_sp = worker->signal_stack, .ss_size = sizeof worker->signal_stack}, before;
+    struct sigaction action = {.sa_handler = print_case, .sa_flags = SA_ONSTACK};
+    CHECK(sigaltstack(&stack, &before) == 0);
+    CHECK(sigaction(SIGSEGV, &action, NULL) == 0 && sigaction(SIGBUS, &action, NULL) == 0);
+    return before;
+}
+
+/* ---- threads ---- */
+
+static void run_case(struct worker *worker, uint64_t number) {
+    current = number;
+    struct fuzz_case made = make_case(number, &worker->pages);
+    check_spellings(worker, &made);
+    check_room(worker, &made, number % 300);
+    worker->cases++;
+}
+
+static double now(void) {
+    struct timespec time;
+    clock_gettime(CLOCK_MONOTONIC, &time);
+    return (double)time.tv_sec + (double)time.tv_nsec / 1e9;
+}
+
+static void *run(void *argument) {
+    struct worker *worker = argument;
+    stack_t before = watch_faults(worker);
+    double end = now() + worker->seconds;
+    uint64_t number = worker->first;
+    do {
+        for (int i = 0; i < AT_ONCE; i++, number += worker->step)
+            run_case(worker, number);
+    } while (now() < end);
+    CHECK(sigaltstack(&before, NULL) == 0);
+    return NULL;
+}
+
+static void prepare(struct worker *worker, uint64_t first, double seconds) {
+    worker->first = first;
+    worker->step = THREADS;
+    worker->seconds = seconds;
+    worker->pages = new_pages();
+    for (uint32_t spelling = 0; spelling < SPELLINGS; spelling++)
+        worker->rooms[spelling] = new_room(ROOM);
+    worker->expected = new_room(ROOM);
+}
+
+/* What all threads found. */
+struct sums {
+    uint64_t cases;
+    size_t calls, counts[STATUSES];
+};
+
+/* Runs the threads, and adds up what they found. */
+static struct sums run_all(double seconds, size_t stack) {
+    static struct worker workers[THREADS];
+    pthread_t threads[THREADS];
+    pthread_attr_t attributes;
+    struct sums sums = {0};
+    CHECK(pthread_attr_init(&attributes) == 0);
+    CHECK(pthread_attr_setstacksize(&attributes, stack) == 0);
+    for (size_t i = 0; i < THREADS; i++) {
+        prepare(&workers[i], i, seconds);
+        CHECK(pthread_create(&threads[i], &attributes, run, &workers[i]) == 0);
+    }
+    for (size_t i = 0; i < THREADS; i++) {
+        CHECK(pthread_join(threads[i], NULL) == 0);
+        sums.cases += workers[i].cases;
+        for (size_t status = 0; status < STATUSES; status++) {
+            sums.counts[status] += workers[i].counts[status];
+            sums.calls += workers[i].counts[status];
+        }
+    }
+    return sums;
+}
+
+int main(int argc, char **argv) {
+    CHECK(argc == 3 || argc == 4);
+    if (argc == 4) {
+        static struct worker worker;
+        prepare(&worker, 0, 0);
+        stack_t before = watch_faults(&worker);
+        run_case(&worker, strtoull(argv[3], NULL, 10));
+        CHECK(sigaltstack(&before, NULL) == 0);
+        return 0;
+    }
+    struct sums sums = run_all(strtod(argv[1], NULL), strtoul(argv[2], NULL, 10));
+    const size_t *counts = sums.counts;
+    printf("fuzz: %" PRIu64 " cases, %zu calls: ok %zu, too small %zu, no file %zu, invalid %zu\n",
+           sums.cases, sums.calls, counts[CODESPAN_OK], counts[CODESPAN_TOO_SMALL],
+           counts[CODESPAN_FILE_MISSING], counts[CODESPAN_INVALID]);
+    CHECK(counts[CODESPAN_OK] > 0 && counts[CODESPAN_TOO_SMALL] > 0);
+    CHECK(counts[CODESPAN_FILE_MISSING] > 0 && counts[CODESPAN_INVALID] > 0);
+    return 0;
+}

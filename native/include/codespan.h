@@ -1,0 +1,426 @@
+/* codespan.h: compiler-style diagnostics, rendered by a library whose output is proved.
+ *
+ * The one call that renders, codespan_emit, keeps nothing after it returns and has no global state:
+ * any number of threads may call it at once, each with its own `out`, `written` and `detail`. It
+ * returns a status whatever the numbers and the bytes of its arguments are.
+ *
+ * What a caller owes is only what a C type can not say:
+ *  - each pointer is aligned, is not NULL, and points to as many values as the length beside it says.
+ *    For a length of 0 use the CODESPAN_NO_ names or codespan_no_text below;
+ *  - `out`, `written` and `detail` overlap nothing else that is passed;
+ *  - nothing that is passed changes while the call runs.
+ *
+ * Lengths and indices of bytes are in bytes, indices start at 0, and ends are exclusive. Texts are
+ * UTF-8 without a final NUL. Enumerations are passed as uint32_t; an unknown number is
+ * CODESPAN_INVALID.
+ *
+ * C11 and C++11. The layout of the structs is fixed by CODESPAN_ABI: a library with other layouts
+ * has another number, and returns CODESPAN_INVALID where `abi` of the configuration is not its own.
+ */
+#ifndef CODESPAN_H
+#define CODESPAN_H
+
+#include <stddef.h>
+#include <stdint.h>
+#include <string.h>
+
+#ifdef __cplusplus
+extern "C" {
+#endif
+
+/* The number of the layouts of this header; codespan_abi_version returns that of the library. */
+#define CODESPAN_ABI 1u
+
+/* A tab width above this one is taken as this one, in cells: it bounds how far a tab can grow the
+ * output. */
+#define CODESPAN_TAB_WIDTH_MAX 1024u
+
+/* A text: bytes of the caller, in UTF-8. */
+typedef struct codespan_text {
+    const uint8_t *bytes;
+    size_t length; /* bytes */
+} codespan_text;
+
+/* ---- files ---- */
+
+/* A line of a file: the bytes from start to end. Its newline may be inside or not. */
+typedef struct codespan_line {
+    size_t start;  /* byte index in the file */
+    size_t end;    /* byte index in the file, exclusive */
+    size_t number; /* the line number that is shown */
+} codespan_line;
+
+/* The line and column number that are shown for a byte at which a label starts. */
+typedef struct codespan_locus {
+    size_t byte; /* byte index in the file */
+    size_t line_number;
+    size_t column_number;
+} codespan_locus;
+
+/* A file, or a window of a large one.
+ *
+ * `source` is the whole file, and then first_byte and first_line are 0; or a window of it, some
+ * whole lines one after another, and then they say where it starts. All byte indices, those of
+ * labels too, count from the start of the file, not of the window. An index before the window is
+ * taken as the start of the window, and one past its end as in a file that ends there; those of
+ * lines and loci are, too, before they are checked. */
+typedef struct codespan_file {
+    codespan_text name;
+    codespan_text source;
+    size_t first_byte; /* byte index in the file of the first byte of `source` */
+    size_t first_line; /* lines of the file before `source`; not read where there are `lines` */
+    /* The lines of `source`, in ascending order; none: a line starts after each '\n', and line
+     * numbers count on from first_line + 1, up to SIZE_MAX. Of given lines the first one starts at
+     * first_byte, each later one starts after the start of the one before it and not before its
+     * end, none ends before its start or past the end of `source`, and all starts and ends are
+     * boundaries of characters. */
+    const codespan_line *lines;
+    size_t lines_length;
+    /* Loci that are shown in place of those that are computed, in strictly ascending order of their
+     * bytes. A computed one has the number of the byte's line and counts characters from 1. */
+    const codespan_locus *loci;
+    size_t loci_length;
+} codespan_file;
+
+/* ---- diagnostics ---- */
+
+/* The style of a label. */
+enum { CODESPAN_PRIMARY = 0, CODESPAN_SECONDARY = 1 };
+
+/* A label: a range of bytes of a file, with a message. */
+typedef struct codespan_label {
+    uint32_t style; /* CODESPAN_PRIMARY or CODESPAN_SECONDARY */
+    size_t file;    /* index in the files that are passed to codespan_emit */
+    size_t start;   /* byte index in the file */
+    size_t end;     /* byte index in the file, exclusive; any number: also before start, past the
+                     * end of the file, or inside a character */
+    codespan_text message; /* empty: none */
+} codespan_label;
+
+/* A severity. */
+enum {
+    CODESPAN_HELP = 0,
+    CODESPAN_NOTE = 1,
+    CODESPAN_WARNING = 2,
+    CODESPAN_ERROR = 3,
+    CODESPAN_BUG = 4
+};
+
+/* A diagnostic. */
+typedef struct codespan_diagnostic {
+    uint32_t severity;  /* CODESPAN_HELP to CODESPAN_BUG */
+    codespan_text code; /* such as E0499; empty: none */
+    codespan_text message;
+    const codespan_label *labels;
+    size_t labels_length;
+    const codespan_text *notes;
+    size_t notes_length;
+} codespan_diagnostic;
+
+/* ---- configuration ---- */
+
+/* What is rendered. */
+enum {
+    CODESPAN_RICH = 0,   /* a header, the source with its labels, and the notes */
+    CODESPAN_MEDIUM = 1, /* a header for each primary label, and the notes */
+    CODESPAN_SHORT = 2   /* a header for each primary label */
+};
+
+/* How lines between those of labels are laid out. */
+enum {
+    CODESPAN_CLASSIC = 0, /* as the Rust crate codespan-reporting */
+    CODESPAN_UNBROKEN = 1 /* lanes of multi-line labels have no gaps */
+};
+
+/* Which characters are used. */
+enum {
+    CODESPAN_BOX_CHARS = 0,   /* box drawing */
+    CODESPAN_ASCII_CHARS = 1, /* ASCII */
+    CODESPAN_OWN_CHARS = 2    /* those of `chars` */
+};
+
+/* How style marks, the changes of style between texts, are spelled. */
+enum {
+    CODESPAN_PLAIN = 0,       /* not at all */
+    CODESPAN_ANSI = 1,        /* by escape sequences, in the default styles */
+    CODESPAN_ANSI_STYLES = 2, /* by escape sequences, in those of `styles` */
+    CODESPAN_MARKED = 3       /* by the byte 255, which UTF-8 never has, and the number of the mark */
+};
+
+/* The numbers of style marks, for CODESPAN_MARKED. Those of headers and labels are added to a
+ * severity. A reset ends each style. */
+enum {
+    CODESPAN_MARK_HEADER = 0, /* 0 to 4 */
+    CODESPAN_MARK_HEADER_MESSAGE = 5,
+    CODESPAN_MARK_LINE_NUMBER = 6,
+    CODESPAN_MARK_NOTE_BULLET = 7,
+    CODESPAN_MARK_SOURCE_BORDER = 8,
+    CODESPAN_MARK_PRIMARY_LABEL = 9,    /* 9 to 13 */
+    CODESPAN_MARK_SECONDARY_LABEL = 14, /* 14 to 18 */
+    CODESPAN_MARK_RESET = 19
+};
+
+/* The byte before the number of a style mark. */
+#define CODESPAN_MARK_BYTE 255u
+
+/* The characters of the output, each by its code point. */
+typedef struct codespan_chars {
+    codespan_text snippet_start; /* before a locus */
+    uint32_t source_border_left;
+    uint32_t source_border_left_break;
+    uint32_t note_bullet;
+    uint32_t single_primary_caret;
+    uint32_t single_secondary_caret;
+    uint32_t multi_primary_caret_start;
+    uint32_t multi_primary_caret_end;
+    uint32_t multi_secondary_caret_start;
+    uint32_t multi_secondary_caret_end;
+    uint32_t multi_top_left;
+    uint32_t multi_top;
+    uint32_t multi_bottom_left;
+    uint32_t multi_bottom;
+    uint32_t multi_left;
+    uint32_t pointer_left;
+} codespan_chars;
+
+/* A color of a terminal. */
+enum {
+    CODESPAN_NO_COLOR = 0, /* leaves the color */
+    CODESPAN_BLACK = 1,
+    CODESPAN_RED = 2,
+    CODESPAN_GREEN = 3,
+    CODESPAN_YELLOW = 4,
+    CODESPAN_BLUE = 5,
+    CODESPAN_MAGENTA = 6,
+    CODESPAN_CYAN = 7,
+    CODESPAN_WHITE = 8
+};
+
+/* A style of text. */
+typedef struct codespan_color_spec {
+    uint32_t fg;      /* CODESPAN_NO_COLOR to CODESPAN_WHITE */
+    uint32_t bg;      /* the same, of the background */
+    uint32_t bold;    /* 0: no */
+    uint32_t intense; /* 0: no; otherwise both colors are the bright ones */
+} codespan_color_spec;
+
+/* The styles of the parts of the output. */
+typedef struct codespan_styles {
+    codespan_color_spec header_bug;
+    codespan_color_spec header_error;
+    codespan_color_spec header_warning;
+    codespan_color_spec header_note;
+    codespan_color_spec header_help;
+    codespan_color_spec header_message;
+    codespan_color_spec primary_label_bug;
+    codespan_color_spec primary_label_error;
+    codespan_color_spec primary_label_warning;
+    codespan_color_spec primary_label_note;
+    codespan_color_spec primary_label_help;
+    codespan_color_spec secondary_label;
+    codespan_color_spec line_number;
+    codespan_color_spec source_border;
+    codespan_color_spec note_bullet;
+} codespan_styles;
+
+/* A configuration. codespan_default_config returns one that a caller may change. */
+typedef struct codespan_config {
+    uint32_t abi;           /* CODESPAN_ABI; it speaks for all structs that are passed */
+    uint32_t display_style; /* CODESPAN_RICH to CODESPAN_SHORT */
+    uint32_t layout;        /* CODESPAN_CLASSIC or CODESPAN_UNBROKEN */
+    uint32_t spelling;      /* CODESPAN_PLAIN to CODESPAN_MARKED */
+    uint32_t characters;    /* CODESPAN_BOX_CHARS to CODESPAN_OWN_CHARS */
+    size_t tab_width;       /* cells between tab stops, up to CODESPAN_TAB_WIDTH_MAX */
+    size_t start_context_lines; /* lines shown after the first line of a multi-line label */
+    size_t end_context_lines;   /* lines shown before its last line */
+    size_t before_label_lines;  /* lines shown before a label */
+    size_t after_label_lines;   /* lines shown after a label */
+    codespan_chars chars;       /* its values are not read but for CODESPAN_OWN_CHARS */
+    codespan_styles styles;     /* its values are not read but for CODESPAN_ANSI_STYLES */
+} codespan_config;
+
+/* ---- the call ---- */
+
+/* Statuses. */
+enum {
+    CODESPAN_OK = 0,            /* out[0..*written) is the output */
+    CODESPAN_TOO_SMALL = 1,     /* *written is the length of the output, in bytes */
+    CODESPAN_OUT_OF_MEMORY = 2, /* an allocation failed */
+    CODESPAN_FILE_MISSING = 3,  /* `file` of a label is no index in the files */
+    CODESPAN_INVALID = 4        /* an argument is invalid; `detail` says which */
+};
+
+/* Arguments, for codespan_detail. */
+enum {
+    CODESPAN_ARGUMENT_NONE = 0,
+    CODESPAN_ARGUMENT_ABI = 1,
+    CODESPAN_ARGUMENT_DISPLAY_STYLE = 2,
+    CODESPAN_ARGUMENT_LAYOUT = 3,
+    CODESPAN_ARGUMENT_SPELLING = 4,
+    CODESPAN_ARGUMENT_CHARACTERS = 5,
+    CODESPAN_ARGUMENT_SNIPPET_START = 6, /* not UTF-8 */
+    CODESPAN_ARGUMENT_CHARACTER = 7,     /* no Unicode scalar value; index: the field, from 0 for
+                                          * source_border_left to 14 for pointer_left */
+    CODESPAN_ARGUMENT_COLOR = 8,         /* index: the style, from 0 for header_bug to 14 */
+    CODESPAN_ARGUMENT_FILE_NAME = 9,     /* not UTF-8; index: the file */
+    CODESPAN_ARGUMENT_FILE_SOURCE = 10,  /* not UTF-8; index: the file */
+    CODESPAN_ARGUMENT_FILE_LINES = 11,   /* index: the file */
+    CODESPAN_ARGUMENT_FILE_LOCI = 12,    /* index: the file */
+    CODESPAN_ARGUMENT_SEVERITY = 13,
+    CODESPAN_ARGUMENT_CODE = 14,          /* not UTF-8 */
+    CODESPAN_ARGUMENT_MESSAGE = 15,       /* not UTF-8 */
+    CODESPAN_ARGUMENT_LABEL_STYLE = 16,   /* index: the label */
+    CODESPAN_ARGUMENT_LABEL_MESSAGE = 17, /* not UTF-8; index: the label */
+    CODESPAN_ARGUMENT_LABEL_FILE = 18,    /* with CODESPAN_FILE_MISSING alone; index: the label */
+    CODESPAN_ARGUMENT_NOTE = 19           /* not UTF-8; index: the note */
+};
+
+/* What was wrong. */
+typedef struct codespan_detail {
+    uint32_t argument; /* CODESPAN_ARGUMENT_NONE unless the status is CODESPAN_INVALID or
+                        * CODESPAN_FILE_MISSING */
+    size_t index;      /* which of several, as above; 0 where there is one */
+} codespan_detail;
+
+/* Renders a diagnostic over files into `out`, which has room for out_length bytes, and returns a
+ * status. *written and *detail are always set.
+ *
+ * CODESPAN_OK: out[0..*written) is the output, and the rest of `out` is unchanged.
+ * CODESPAN_TOO_SMALL: *written is the length of the output, more than out_length, and `out` is
+ * unchanged. Call again with as much room: the output is the same.
+ * Any other status: *written is 0, and `out` is unchanged.
+ *
+ * An ABI number that is not the library's is reported first, then a missing file; of several other
+ * invalid arguments any may be reported. */
+uint32_t codespan_emit(const codespan_file *files, size_t files_length,
+                       const codespan_diagnostic *diagnostic, const codespan_config *config,
+                       uint8_t *out, size_t out_length, size_t *written, codespan_detail *detail);
+
+/* Returns the number of the layouts that the library was built for; CODESPAN_ABI is the header's. */
+uint32_t codespan_abi_version(void);
+
+/* Writes what a status means, in English, to `text`, which has room for text_length bytes: one line
+ * of ASCII, without a newline or a NUL, of at most CODESPAN_STATUS_TEXT_MAX bytes. Of
+ * CODESPAN_INVALID it says what the argument must be. Returns CODESPAN_OK or CODESPAN_TOO_SMALL and
+ * sets *written, as codespan_emit does. */
+uint32_t codespan_status_text(uint32_t status, uint32_t argument, uint8_t *text,
+                              size_t text_length, size_t *written);
+
+/* The greatest length of a text of codespan_status_text, in bytes. */
+#define CODESPAN_STATUS_TEXT_MAX 128u
+
+/* ---- help for callers: no symbols of the library ---- */
+
+/* What a pointer for a length of 0 points to. */
+static const size_t codespan_nothing = 0;
+
+#define CODESPAN_NO_FILES ((const codespan_file *)(const void *)&codespan_nothing)
+#define CODESPAN_NO_LINES ((const codespan_line *)(const void *)&codespan_nothing)
+#define CODESPAN_NO_LOCI ((const codespan_locus *)(const void *)&codespan_nothing)
+#define CODESPAN_NO_LABELS ((const codespan_label *)(const void *)&codespan_nothing)
+#define CODESPAN_NO_NOTES ((const codespan_text *)(const void *)&codespan_nothing)
+
+/* Returns the text of these bytes; `bytes` may be NULL where length is 0. */
+static inline codespan_text codespan_text_of(const char *bytes, size_t length) {
+    codespan_text text = {(const uint8_t *)(const void *)&codespan_nothing, 0};
+    if (length > 0) {
+        text.bytes = (const uint8_t *)bytes;
+        text.length = length;
+    }
+    return text;
+}
+
+/* Returns the empty text. */
+static inline codespan_text codespan_no_text(void) { return codespan_text_of(NULL, 0); }
+
+/* Returns the text of a string that ends with a NUL; NULL is the empty text. */
+static inline codespan_text codespan_text_from(const char *string) {
+    return codespan_text_of(string, string == NULL ? 0 : strlen(string));
+}
+
+/* Returns a whole file, whose lines start after newlines. */
+static inline codespan_file codespan_new_file(codespan_text name, codespan_text source) {
+    codespan_file file = {name, source, 0, 0, CODESPAN_NO_LINES, 0, CODESPAN_NO_LOCI, 0};
+    return file;
+}
+
+/* Returns a label. */
+static inline codespan_label codespan_new_label(uint32_t style, size_t file, size_t start,
+                                                size_t end, codespan_text message) {
+    codespan_label label = {style, file, start, end, message};
+    return label;
+}
+
+/* Returns a diagnostic with no code, labels or notes. */
+static inline codespan_diagnostic codespan_new_diagnostic(uint32_t severity,
+                                                          codespan_text message) {
+    codespan_diagnostic diagnostic = {severity, codespan_no_text(), message, CODESPAN_NO_LABELS,
+                                      0,        CODESPAN_NO_NOTES,  0};
+    return diagnostic;
+}
+
+/* Returns the characters of box drawing. */
+static inline codespan_chars codespan_box_chars(void) {
+    codespan_chars chars = {codespan_text_of("\xe2\x94\x8c\xe2\x94\x80", 6),
+                            0x2502, /* source_border_left */
+                            0xb7,   /* source_border_left_break */
+                            0x3d,   /* note_bullet */
+                            0x5e,   /* single_primary_caret */
+                            0x2d,   /* single_secondary_caret */
+                            0x5e,   /* multi_primary_caret_start */
+                            0x5e,   /* multi_primary_caret_end */
+                            0x27,   /* multi_secondary_caret_start */
+                            0x27,   /* multi_secondary_caret_end */
+                            0x256d, /* multi_top_left */
+                            0x2500, /* multi_top */
+                            0x2570, /* multi_bottom_left */
+                            0x2500, /* multi_bottom */
+                            0x2502, /* multi_left */
+                            0x2502 /* pointer_left */};
+    return chars;
+}
+
+/* Returns the default styles, those of CODESPAN_ANSI. */
+static inline codespan_styles codespan_default_styles(void) {
+    codespan_styles styles = {
+        {CODESPAN_RED, CODESPAN_NO_COLOR, 1, 1},      /* header_bug */
+        {CODESPAN_RED, CODESPAN_NO_COLOR, 1, 1},      /* header_error */
+        {CODESPAN_YELLOW, CODESPAN_NO_COLOR, 1, 1},   /* header_warning */
+        {CODESPAN_GREEN, CODESPAN_NO_COLOR, 1, 1},    /* header_note */
+        {CODESPAN_CYAN, CODESPAN_NO_COLOR, 1, 1},     /* header_help */
+        {CODESPAN_NO_COLOR, CODESPAN_NO_COLOR, 1, 1}, /* header_message */
+        {CODESPAN_RED, CODESPAN_NO_COLOR, 0, 0},      /* primary_label_bug */
+        {CODESPAN_RED, CODESPAN_NO_COLOR, 0, 0},      /* primary_label_error */
+        {CODESPAN_YELLOW, CODESPAN_NO_COLOR, 0, 0},   /* primary_label_warning */
+        {CODESPAN_GREEN, CODESPAN_NO_COLOR, 0, 0},    /* primary_label_note */
+        {CODESPAN_CYAN, CODESPAN_NO_COLOR, 0, 0},     /* primary_label_help */
+        {CODESPAN_CYAN, CODESPAN_NO_COLOR, 0, 0},     /* secondary_label */
+        {CODESPAN_CYAN, CODESPAN_NO_COLOR, 0, 0},     /* line_number */
+        {CODESPAN_CYAN, CODESPAN_NO_COLOR, 0, 0},     /* source_border */
+        {CODESPAN_CYAN, CODESPAN_NO_COLOR, 0, 0}      /* note_bullet */
+    };
+    return styles;
+}
+
+/* Returns the default configuration: rich style, classic layout, plain text, box drawing, tab stops
+ * every 4 cells. */
+static inline codespan_config codespan_default_config(void) {
+    codespan_config config = {CODESPAN_ABI,
+                              CODESPAN_RICH,
+                              CODESPAN_CLASSIC,
+                              CODESPAN_PLAIN,
+                              CODESPAN_BOX_CHARS,
+                              4, /* tab_width */
+                              3, /* start_context_lines */
+                              1, /* end_context_lines */
+                              0, /* before_label_lines */
+                              0, /* after_label_lines */
+                              codespan_box_chars(),
+                              codespan_default_styles()};
+    return config;
+}
+
+#ifdef __cplusplus
+}
+#endif
+#endif

@@ -1,0 +1,231 @@
+"""Compiler-style diagnostics, rendered by a library whose output is proved.
+
+    import codespan
+
+    source = "retries = many\\n"
+    label = codespan.Label(10, 14, "expected a number")
+    diagnostic = codespan.Diagnostic("invalid value for `retries`", code="E0001", labels=[label])
+    print(codespan.emit([codespan.File("settings.conf", source)], diagnostic))
+
+Texts are `str`, or `bytes` in UTF-8. Indices of sources count **bytes of UTF-8**, from 0, and ends
+are exclusive: `byte_index` returns that of a character. Numbers are from 0 to 2**64 - 1.
+"""
+from __future__ import annotations
+
+from dataclasses import dataclass, field
+from enum import IntEnum
+from typing import Sequence, Union
+
+from . import _native
+
+__all__ = [
+    'Characters', 'Chars', 'Color', 'ColorSpec', 'Config', 'Diagnostic', 'DisplayStyle', 'File',
+    'InvalidArgument', 'Label', 'LabelStyle', 'Layout', 'Line', 'Locus', 'Severity', 'Spelling',
+    'Styles', 'byte_index', 'emit',
+]
+
+Text = Union[str, bytes]
+
+
+class Severity(IntEnum):
+    """A severity."""
+    HELP = 0
+    NOTE = 1
+    WARNING = 2
+    ERROR = 3
+    BUG = 4
+
+
+class LabelStyle(IntEnum):
+    """The style of a label."""
+    PRIMARY = 0
+    SECONDARY = 1
+
+
+class DisplayStyle(IntEnum):
+    """What is rendered."""
+    RICH = 0  #: a header, the source with its labels, and the notes
+    MEDIUM = 1  #: a header for each primary label, and the notes
+    SHORT = 2  #: a header for each primary label
+
+
+class Layout(IntEnum):
+    """How lines between those of labels are laid out."""
+    CLASSIC = 0  #: as by the Rust crate codespan-reporting
+    UNBROKEN = 1  #: lanes of multi-line labels have no gaps
+
+
+class Characters(IntEnum):
+    """Which characters are used."""
+    BOX = 0  #: box drawing
+    ASCII = 1  #: ASCII
+    OWN = 2  #: those of `Config.chars`
+
+
+class Spelling(IntEnum):
+    """How style marks, the changes of style between texts, are spelled."""
+    PLAIN = 0  #: not at all
+    ANSI = 1  #: by escape sequences, in the default styles
+    ANSI_STYLES = 2  #: by escape sequences, in those of `Config.styles`
+    MARKED = 3  #: by the character U+DCFF and then the one of the mark's number, as in codespan.h
+
+
+class Color(IntEnum):
+    """A color of a terminal."""
+    NONE = 0  #: leaves the color
+    BLACK = 1
+    RED = 2
+    GREEN = 3
+    YELLOW = 4
+    BLUE = 5
+    MAGENTA = 6
+    CYAN = 7
+    WHITE = 8
+
+
+@dataclass(frozen=True)
+class Line:
+    """A line of a file: the bytes from start to end. Its newline may be inside or not."""
+    start: int  #: byte index in the file
+    end: int  #: byte index in the file, exclusive
+    number: int  #: the line number that is shown
+
+
+@dataclass(frozen=True)
+class Locus:
+    """The line and column number that are shown for a byte at which a label starts."""
+    byte: int  #: byte index in the file
+    line_number: int
+    column_number: int
+
+
+@dataclass(frozen=True)
+class File:
+    """A file, or a window of a large one: some whole lines of it, one after another."""
+    name: Text
+    source: Text
+    first_byte: int = 0  #: byte index in the file of the first byte of `source`
+    first_line: int = 0  #: lines of the file before `source`
+    lines: Sequence[Line] = ()  #: its lines, in ascending order; none: they start after newlines
+    loci: Sequence[Locus] = ()  #: loci shown in place of those that are computed
+
+
+@dataclass(frozen=True)
+class Label:
+    """A range of bytes of a file, with a message."""
+    start: int  #: byte index in the file
+    end: int  #: byte index in the file, exclusive
+    message: Text = ''  #: empty: none
+    style: LabelStyle = LabelStyle.PRIMARY
+    file: int = 0  #: index in the files that are passed to `emit`
+
+
+@dataclass(frozen=True)
+class Diagnostic:
+    """A diagnostic."""
+    message: Text
+    severity: Severity = Severity.ERROR
+    code: Text = ''  #: such as E0499; empty: none
+    labels: Sequence[Label] = ()
+    notes: Sequence[Text] = ()
+
+
+@dataclass(frozen=True)
+class Chars:
+    """The characters of the output: by default those of box drawing."""
+    snippet_start: Text = '┌─'  #: a text, before a locus
+    source_border_left: str = '│'
+    source_border_left_break: str = '·'
+    note_bullet: str = '='
+    single_primary_caret: str = '^'
+    single_secondary_caret: str = '-'
+    multi_primary_caret_start: str = '^'
+    multi_primary_caret_end: str = '^'
+    multi_secondary_caret_start: str = "'"
+    multi_secondary_caret_end: str = "'"
+    multi_top_left: str = '╭'
+    multi_top: str = '─'
+    multi_bottom_left: str = '╰'
+    multi_bottom: str = '─'
+    multi_left: str = '│'
+    pointer_left: str = '│'
+
+
+@dataclass(frozen=True)
+class ColorSpec:
+    """A style of text."""
+    fg: Color = Color.NONE
+    bg: Color = Color.NONE
+    bold: bool = False
+    intense: bool = False  #: both colors are the bright ones
+
+
+def _header(color: Color) -> ColorSpec:
+    return ColorSpec(color, bold=True, intense=True)
+
+
+@dataclass(frozen=True)
+class Styles:
+    """The styles of the parts of the output."""
+    header_bug: ColorSpec = _header(Color.RED)
+    header_error: ColorSpec = _header(Color.RED)
+    header_warning: ColorSpec = _header(Color.YELLOW)
+    header_note: ColorSpec = _header(Color.GREEN)
+    header_help: ColorSpec = _header(Color.CYAN)
+    header_message: ColorSpec = _header(Color.NONE)
+    primary_label_bug: ColorSpec = ColorSpec(Color.RED)
+    primary_label_error: ColorSpec = ColorSpec(Color.RED)
+    primary_label_warning: ColorSpec = ColorSpec(Color.YELLOW)
+    primary_label_note: ColorSpec = ColorSpec(Color.GREEN)
+    primary_label_help: ColorSpec = ColorSpec(Color.CYAN)
+    secondary_label: ColorSpec = ColorSpec(Color.CYAN)
+    line_number: ColorSpec = ColorSpec(Color.CYAN)
+    source_border: ColorSpec = ColorSpec(Color.CYAN)
+    note_bullet: ColorSpec = ColorSpec(Color.CYAN)
+
+
+@dataclass(frozen=True)
+class Config:
+    """A configuration."""
+    display_style: DisplayStyle = DisplayStyle.RICH
+    layout: Layout = Layout.CLASSIC
+    spelling: Spelling = Spelling.PLAIN
+    characters: Characters = Characters.BOX
+    tab_width: int = 4  #: cells between tab stops; above 1024 it is taken as 1024
+    start_context_lines: int = 3  #: lines shown after the first line of a multi-line label
+    end_context_lines: int = 1  #: lines shown before its last line
+    before_label_lines: int = 0  #: lines shown before a label
+    after_label_lines: int = 0  #: lines shown after a label
+    chars: Chars = field(default_factory=Chars)  #: for `Characters.OWN`
+    styles: Styles = field(default_factory=Styles)  #: for `Spelling.ANSI_STYLES`
+
+
+class InvalidArgument(ValueError):
+    """An argument is invalid, or the file of a label is none of the files.
+
+    `argument` is its number, CODESPAN_ARGUMENT_ in codespan.h, and `index` which of several."""
+
+    def __init__(self, message: str, argument: int, index: int):
+        super().__init__(message)
+        self.argument = argument
+        self.index = index
+
+
+def byte_index(source: str, character: int) -> int:
+    """Returns the byte index, for a label, of a character of a source by its index."""
+    return len(source[:character].encode())
+
+
+def emit(files: Sequence[File], diagnostic: Diagnostic, config: Config = Config()) -> str:
+    """Returns the rendered diagnostic over these files.
+
+    Raises `InvalidArgument` where an argument is invalid, `ValueError` where a number is negative
+    or too large or a `str` has no UTF-8, and `MemoryError` where an allocation fails."""
+    outcome = _native.emit(files, diagnostic, config)
+    if outcome.status == _native.OK:
+        return outcome.output.decode(errors='surrogateescape')
+    if outcome.status == _native.OUT_OF_MEMORY:
+        raise MemoryError
+    message = _native.status_text(outcome.status, outcome.argument)
+    raise InvalidArgument('%s (index %d)' % (message, outcome.index), outcome.argument,
+                          outcome.index)

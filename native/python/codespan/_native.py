@@ -1,0 +1,207 @@
+"""The structs of codespan.h, by ctypes, and the call of its library."""
+from __future__ import annotations
+
+import ctypes as c
+import os
+from operator import index
+from pathlib import Path
+from typing import NamedTuple
+
+ABI = 1
+OK = 0
+TOO_SMALL = 1
+OUT_OF_MEMORY = 2
+STATUS_TEXT_MAX = 128
+SIZE_MAX = 2 ** (8 * c.sizeof(c.c_size_t)) - 1
+U32_MAX = 2 ** 32 - 1
+
+
+class Text(c.Structure):
+    _fields_ = [('bytes', c.c_char_p), ('length', c.c_size_t)]
+
+
+class Line(c.Structure):
+    _fields_ = [('start', c.c_size_t), ('end', c.c_size_t), ('number', c.c_size_t)]
+
+
+class Locus(c.Structure):
+    _fields_ = [('byte', c.c_size_t), ('line_number', c.c_size_t), ('column_number', c.c_size_t)]
+
+
+class File(c.Structure):
+    _fields_ = [('name', Text), ('source', Text), ('first_byte', c.c_size_t),
+                ('first_line', c.c_size_t), ('lines', c.POINTER(Line)),
+                ('lines_length', c.c_size_t), ('loci', c.POINTER(Locus)),
+                ('loci_length', c.c_size_t)]
+
+
+class Label(c.Structure):
+    _fields_ = [('style', c.c_uint32), ('file', c.c_size_t), ('start', c.c_size_t),
+                ('end', c.c_size_t), ('message', Text)]
+
+
+class Diagnostic(c.Structure):
+    _fields_ = [('severity', c.c_uint32), ('code', Text), ('message', Text),
+                ('labels', c.POINTER(Label)), ('labels_length', c.c_size_t),
+                ('notes', c.POINTER(Text)), ('notes_length', c.c_size_t)]
+
+
+CHARACTERS = [
+    'source_border_left', 'source_border_left_break', 'note_bullet', 'single_primary_caret',
+    'single_secondary_caret', 'multi_primary_caret_start', 'multi_primary_caret_end',
+    'multi_secondary_caret_start', 'multi_secondary_caret_end', 'multi_top_left', 'multi_top',
+    'multi_bottom_left', 'multi_bottom', 'multi_left', 'pointer_left',
+]
+
+
+class Chars(c.Structure):
+    _fields_ = [('snippet_start', Text)] + [(name, c.c_uint32) for name in CHARACTERS]
+
+
+class ColorSpec(c.Structure):
+    _fields_ = [('fg', c.c_uint32), ('bg', c.c_uint32), ('bold', c.c_uint32),
+                ('intense', c.c_uint32)]
+
+
+STYLES = [
+    'header_bug', 'header_error', 'header_warning', 'header_note', 'header_help', 'header_message',
+    'primary_label_bug', 'primary_label_error', 'primary_label_warning', 'primary_label_note',
+    'primary_label_help', 'secondary_label', 'line_number', 'source_border', 'note_bullet',
+]
+
+
+class Styles(c.Structure):
+    _fields_ = [(name, ColorSpec) for name in STYLES]
+
+
+CHOICES = ['display_style', 'layout', 'spelling', 'characters']
+COUNTS = ['tab_width', 'start_context_lines', 'end_context_lines', 'before_label_lines',
+          'after_label_lines']
+
+
+class Config(c.Structure):
+    _fields_ = ([('abi', c.c_uint32)] + [(name, c.c_uint32) for name in CHOICES] +
+                [(name, c.c_size_t) for name in COUNTS] + [('chars', Chars), ('styles', Styles)])
+
+
+class Detail(c.Structure):
+    _fields_ = [('argument', c.c_uint32), ('index', c.c_size_t)]
+
+
+class Outcome(NamedTuple):
+    """What a call returned."""
+    status: int
+    output: bytes
+    argument: int
+    index: int
+
+
+def load() -> c.CDLL:
+    """Loads the library: what CODESPAN_LIBRARY names, the one beside this file, or the system's."""
+    beside = Path(__file__).resolve().parent / 'libcodespan.so'
+    fallback = str(beside) if beside.is_file() else 'libcodespan.so.%d' % ABI
+    library = c.CDLL(os.environ.get('CODESPAN_LIBRARY') or fallback)
+    size = c.POINTER(c.c_size_t)
+    library.codespan_abi_version.restype = c.c_uint32
+    library.codespan_abi_version.argtypes = []
+    library.codespan_emit.restype = c.c_uint32
+    library.codespan_emit.argtypes = [c.POINTER(File), c.c_size_t, c.POINTER(Diagnostic),
+                                      c.POINTER(Config), c.c_char_p, c.c_size_t, size,
+                                      c.POINTER(Detail)]
+    library.codespan_status_text.restype = c.c_uint32
+    library.codespan_status_text.argtypes = [c.c_uint32, c.c_uint32, c.c_char_p, c.c_size_t, size]
+    if library.codespan_abi_version() != ABI:
+        raise ImportError('libcodespan.so has another ABI than this module')
+    return library
+
+
+LIBRARY = load()
+
+
+def number(value, greatest=SIZE_MAX):
+    """Returns a number that C holds: ctypes would cut it off."""
+    value = index(value)
+    if not 0 <= value <= greatest:
+        raise ValueError('%d is not from 0 to %d' % (value, greatest))
+    return value
+
+
+def choice(value):
+    """Returns a number of an enumeration."""
+    return number(value, U32_MAX)
+
+
+def text_of(text):
+    data = text.encode() if isinstance(text, str) else bytes(text)
+    return Text(data, len(data))
+
+
+def array_of(kind, values):
+    """Returns an array of structs. It has one at least: a pointer to it is not NULL."""
+    values = list(values)
+    return (kind * max(1, len(values)))(*values), len(values)
+
+
+def line_of(line):
+    return Line(number(line.start), number(line.end), number(line.number))
+
+
+def locus_of(locus):
+    return Locus(number(locus.byte), number(locus.line_number), number(locus.column_number))
+
+
+def file_of(file):
+    return File(text_of(file.name), text_of(file.source), number(file.first_byte),
+                number(file.first_line), *array_of(Line, map(line_of, file.lines)),
+                *array_of(Locus, map(locus_of, file.loci)))
+
+
+def label_of(label):
+    return Label(choice(label.style), number(label.file), number(label.start), number(label.end),
+                 text_of(label.message))
+
+
+def diagnostic_of(diagnostic):
+    return Diagnostic(choice(diagnostic.severity), text_of(diagnostic.code),
+                      text_of(diagnostic.message),
+                      *array_of(Label, map(label_of, diagnostic.labels)),
+                      *array_of(Text, map(text_of, diagnostic.notes)))
+
+
+def chars_of(chars):
+    return Chars(text_of(chars.snippet_start), *(ord(getattr(chars, name)) for name in CHARACTERS))
+
+
+def color_of(spec):
+    return ColorSpec(choice(spec.fg), choice(spec.bg), bool(spec.bold), bool(spec.intense))
+
+
+def config_of(config):
+    styles = Styles(*(color_of(getattr(config.styles, name)) for name in STYLES))
+    return Config(ABI, *(choice(getattr(config, name)) for name in CHOICES),
+                  *(number(getattr(config, name)) for name in COUNTS), chars_of(config.chars),
+                  styles)
+
+
+def emit(files, diagnostic, config) -> Outcome:
+    """Calls codespan_emit, with as much room as the output needs."""
+    file_array, files_length = array_of(File, map(file_of, files))
+    arguments = (file_array, files_length, c.byref(diagnostic_of(diagnostic)),
+                 c.byref(config_of(config)))
+    room = 4096
+    while True:
+        out = c.create_string_buffer(room)
+        written, detail = c.c_size_t(), Detail()
+        status = LIBRARY.codespan_emit(*arguments, out, room, c.byref(written), c.byref(detail))
+        if status != TOO_SMALL:
+            output = c.string_at(out, written.value)
+            return Outcome(status, output, detail.argument, detail.index)
+        room = written.value
+
+
+def status_text(status, argument) -> str:
+    """Returns what codespan_status_text writes."""
+    out = c.create_string_buffer(STATUS_TEXT_MAX)
+    written = c.c_size_t()
+    LIBRARY.codespan_status_text(status, argument, out, STATUS_TEXT_MAX, c.byref(written))
+    return c.string_at(out, written.value).decode('ascii')

@@ -1,0 +1,277 @@
+"""Tests of the module, over the library that it loads."""
+import ctypes
+import dataclasses
+import random
+import re
+import subprocess
+import unittest
+from concurrent.futures import ThreadPoolExecutor
+from enum import IntEnum
+from pathlib import Path
+
+import codespan
+from codespan import _native
+from codespan import (Characters, Chars, ColorSpec, Config, Diagnostic, DisplayStyle, File,
+                      InvalidArgument, Label, LabelStyle, Line, Locus, Severity, Spelling, Styles)
+
+HEADER = Path(__file__).resolve().parents[2] / 'include' / 'codespan.h'
+SETTINGS = File('settings.conf', 'retries = many\n')
+LINES = File('a.txt', 'one\ntwo\nthree\n')
+
+# ESC [0m, and then a style: of a header in yellow or of no color, and in cyan and yellow
+RESET, HEADER_YELLOW, HEADER_PLAIN = '\33[0m', '\33[0m\33[1m\33[38;5;11m', '\33[0m\33[1m'
+CYAN, YELLOW = '\33[0m\33[36m', '\33[0m\33[33m'
+
+
+def odd_value(**fields):
+    """Returns a diagnostic over SETTINGS."""
+    label = Label(10, 14, 'expected a number')
+    return Diagnostic('odd value', Severity.WARNING, 'W0001', [label], **fields)
+
+
+class Output(unittest.TestCase):
+    maxDiff = None
+
+    def test_colored(self):
+        border = '  ' + CYAN + '│' + RESET
+        expected = ''.join([
+            HEADER_YELLOW, 'warning[W0001]', HEADER_PLAIN, ': odd value', RESET, '\n',
+            '  ', CYAN, '┌─', RESET, ' settings.conf:1:11\n',
+            border, '\n',
+            CYAN, '1', RESET, ' ', CYAN, '│', RESET, ' retries = ', YELLOW, 'many', RESET, '\n',
+            border, '           ', YELLOW, '^^^^', RESET, ' ', YELLOW, 'expected a number', RESET,
+            '\n',
+            border, '\n',
+            '  ', CYAN, '=', RESET, ' the default is 3\n\n',
+        ])
+        diagnostic = odd_value(notes=['the default is 3'])
+        for spelling in (Spelling.ANSI, Spelling.ANSI_STYLES):
+            output = codespan.emit([SETTINGS], diagnostic, Config(spelling=spelling))
+            self.assertEqual(output, expected)
+
+    def test_own_styles(self):
+        number = ColorSpec(codespan.Color.BLUE, codespan.Color.WHITE, bold=True, intense=True)
+        styles = Styles(line_number=number)
+        config = Config(spelling=Spelling.ANSI_STYLES, styles=styles)
+        output = codespan.emit([SETTINGS], odd_value(), config)
+        self.assertIn('\33[0m\33[1m\33[38;5;12m\33[48;5;15m1\33[0m ', output)
+
+    def test_marked(self):
+        output = codespan.emit([SETTINGS], odd_value(), Config(spelling=Spelling.MARKED))
+        self.assertIn('\udcff\x02warning[W0001]\udcff\x05: odd value\udcff\x13\n', output)
+        plain = re.sub('\udcff.', '', output, flags=re.DOTALL)
+        self.assertEqual(plain, codespan.emit([SETTINGS], odd_value()))
+
+    def test_wide_characters(self):
+        source = '路 = 🗻é;\n'
+        at = [codespan.byte_index(source, i) for i in (4, 5, 6)]
+        self.assertEqual(at, [6, 10, 12])
+        labels = [Label(at[0], at[1], 'here'),
+                  Label(at[1], at[2], 'there', LabelStyle.SECONDARY)]
+        output = codespan.emit([File('a.txt', source)], Diagnostic('m', labels=labels))
+        self.assertEqual(output, '\n'.join([
+            'error: m', '  ┌─ a.txt:1:5', '  │', '1 │ 路 = 🗻é;', '  │      ^^- there',
+            '  │      │  ', '  │      here', '', '']))
+
+    def test_short(self):
+        labels = [Label(5, 6, 'x'), Label(9, 10, 'y'), Label(1, 2, 'z', LabelStyle.SECONDARY)]
+        diagnostic = Diagnostic('m', Severity.BUG, labels=labels, notes=['n'])
+        output = codespan.emit([LINES], diagnostic, Config(DisplayStyle.SHORT))
+        self.assertEqual(output, 'a.txt:2:2: bug: m\na.txt:3:2: bug: m\n')
+
+    def test_own_lines_and_loci(self):
+        lines = [Line(0, 4, 70), Line(4, 8, 80), Line(8, 14, 90)]
+        diagnostic = Diagnostic('m', Severity.NOTE, labels=[Label(5, 6, 'x')])
+        rest = ['   │', '80 │ two', '   │  ^ x', '', '']
+        file = dataclasses.replace(LINES, lines=lines)
+        self.assertEqual(codespan.emit([file], diagnostic),
+                         '\n'.join(['note: m', '   ┌─ a.txt:80:2', *rest]))
+        file = dataclasses.replace(file, loci=[Locus(5, 31, 41)])
+        self.assertEqual(codespan.emit([file], diagnostic),
+                         '\n'.join(['note: m', '   ┌─ a.txt:31:41', *rest]))
+
+    def test_window(self):
+        """A window of a file renders as the file, if it has all lines that are shown."""
+        source = ''.join('line %d\n' % i for i in range(1, 1000))
+        start = source.index('line 500')
+        window = File('a.txt', source[start - 9:start + 18], start - 9, 498)
+        diagnostic = Diagnostic('m', labels=[Label(start + 5, start + 8, 'here')])
+        self.assertEqual(codespan.emit([window], diagnostic),
+                         codespan.emit([File('a.txt', source)], diagnostic))
+
+    def test_ascii(self):
+        diagnostic = Diagnostic('m', Severity.HELP, labels=[Label(1, 10, 'x')])
+        output = codespan.emit([LINES], diagnostic, Config(characters=Characters.ASCII))
+        self.assertEqual(output, '\n'.join([
+            'help: m', '  --> a.txt:1:2', '  |  ', '1 |   one', '  | /--^', '2 | | two',
+            '3 | | three', '  | \\--^ x', '', '']))
+
+    def test_own_characters(self):
+        config = Config(characters=Characters.OWN, chars=Chars(single_primary_caret='~'))
+        self.assertIn('~~~~ expected a number', codespan.emit([SETTINGS], odd_value(), config))
+
+    def test_long(self):
+        message = 'é' * 100_000
+        output = codespan.emit([], Diagnostic(message, Severity.NOTE))
+        self.assertEqual(output, 'note: %s\n\n' % message)
+
+    def test_bytes(self):
+        file = File(b'settings.conf', SETTINGS.source.encode())
+        self.assertEqual(codespan.emit([file], odd_value()),
+                         codespan.emit([SETTINGS], odd_value()))
+
+    def test_threads(self):
+        diagnostics = [odd_value(notes=['note %d' % i]) for i in range(200)]
+        alone = [codespan.emit([SETTINGS], diagnostic) for diagnostic in diagnostics]
+        with ThreadPoolExecutor(4) as pool:
+            together = pool.map(lambda diagnostic: codespan.emit([SETTINGS], diagnostic),
+                                diagnostics)
+            self.assertEqual(list(together), alone)
+
+
+def random_case(rng):
+    """Returns a file and a diagnostic over it."""
+    pieces = ['a', 'let x = 1;', ' ', '\n', '\n', '\r\n', '\t', 'é', '路', '🗻']
+    source = ''.join(rng.choices(pieces, k=rng.randrange(30)))
+    ends = range(len(source.encode()) + 3)
+    labels = [Label(rng.choice(ends), rng.choice(ends), rng.choice(['', 'm', 'two\nlines']),
+                    rng.choice(list(LabelStyle))) for _ in range(rng.randrange(5))]
+    severity = rng.choice(list(Severity))
+    return File('a.txt', source), Diagnostic('message', severity, labels=labels)
+
+
+def newline_lines(file):
+    """Returns the lines of a file, cut after newlines."""
+    lines, start = [], 0
+    for number, line in enumerate(file.source.encode().split(b'\n'), 1):
+        end = min(start + len(line) + 1, len(file.source.encode()))
+        lines.append(Line(start, end, number))
+        start = end
+    return lines
+
+
+def shifted(file, diagnostic, distance):
+    """Returns the arguments of `emit` of a window that starts that many bytes into its file."""
+    lines = [Line(line.start + distance, line.end + distance, line.number) for line in file.lines]
+    labels = [dataclasses.replace(label, start=label.start + distance, end=label.end + distance)
+              for label in diagnostic.labels]
+    window = dataclasses.replace(file, first_byte=distance, lines=lines)
+    return [window], dataclasses.replace(diagnostic, labels=labels)
+
+
+class SameOutput(unittest.TestCase):
+    """Two ways to pass one file render the same."""
+
+    def setUp(self):
+        rng = random.Random(1)
+        self.cases = [random_case(rng) for _ in range(200)]
+
+    def test_lines_cut_at_newlines(self):
+        for file, diagnostic in self.cases:
+            with self.subTest(file=file, diagnostic=diagnostic):
+                given = dataclasses.replace(file, lines=newline_lines(file))
+                self.assertEqual(codespan.emit([given], diagnostic),
+                                 codespan.emit([file], diagnostic))
+
+    def test_window_of_all_lines(self):
+        for file, diagnostic in self.cases:
+            with self.subTest(file=file, diagnostic=diagnostic):
+                expected = codespan.emit([file], diagnostic)
+                self.assertEqual(codespan.emit(*shifted(file, diagnostic, 1000)), expected)
+                given = dataclasses.replace(file, lines=newline_lines(file))
+                self.assertEqual(codespan.emit(*shifted(given, diagnostic, 7)), expected)
+
+    def test_file_before_others(self):
+        for file, diagnostic in self.cases:
+            with self.subTest(file=file, diagnostic=diagnostic):
+                self.assertEqual(codespan.emit([file, SETTINGS], diagnostic),
+                                 codespan.emit([file], diagnostic))
+
+
+class Errors(unittest.TestCase):
+
+    def assert_invalid(self, argument, index, files, diagnostic, config=Config()):
+        with self.assertRaises(InvalidArgument) as caught:
+            codespan.emit(files, diagnostic, config)
+        self.assertEqual((caught.exception.argument, caught.exception.index), (argument, index))
+
+    def test_missing_file(self):
+        labels = [Label(0, 1), Label(0, 1, file=1)]
+        self.assert_invalid(18, 1, [SETTINGS], Diagnostic('m', labels=labels))
+
+    def test_invalid(self):
+        self.assert_invalid(13, 0, [], Diagnostic('m', severity=5))
+        self.assert_invalid(15, 0, [], Diagnostic(b'\xff'))
+        self.assert_invalid(19, 1, [], Diagnostic('m', notes=['n', b'\xff']))
+        self.assert_invalid(2, 0, [], Diagnostic('m'), Config(display_style=9))
+        lines = [Line(0, 4, 1), Line(3, 8, 2)]
+        self.assert_invalid(11, 0, [dataclasses.replace(LINES, lines=lines)], Diagnostic('m'))
+
+    def test_numbers_that_c_can_not_hold(self):
+        for number in (-1, 2 ** 64):
+            with self.assertRaises(ValueError):
+                codespan.emit([SETTINGS], Diagnostic('m', labels=[Label(number, 2)]))
+            with self.assertRaises(ValueError):
+                codespan.emit([SETTINGS], Diagnostic('m', severity=number))
+        with self.assertRaises(ValueError):
+            codespan.emit([], Diagnostic('\ud800'))
+
+    def test_greatest_numbers(self):
+        greatest = 2 ** 64 - 1
+        label = Label(greatest, greatest, 'past the end')
+        output = codespan.emit([SETTINGS], Diagnostic('m', labels=[label]))
+        self.assertIn('past the end', output)
+
+
+STRUCTS = {
+    'text': _native.Text, 'line': _native.Line, 'locus': _native.Locus, 'file': _native.File,
+    'label': _native.Label, 'diagnostic': _native.Diagnostic, 'chars': _native.Chars,
+    'color_spec': _native.ColorSpec, 'styles': _native.Styles, 'config': _native.Config,
+    'detail': _native.Detail,
+}
+
+# what follows the name of a constant of an enumeration in the header
+ENUMERATIONS = {
+    codespan.Severity: '', codespan.LabelStyle: '', codespan.DisplayStyle: '', codespan.Layout: '',
+    codespan.Characters: '_CHARS', codespan.Spelling: '', codespan.Color: '',
+}
+
+
+def struct_assertions(name, struct):
+    """Yields assertions in C that a struct is laid out as the header's."""
+    yield 'sizeof(codespan_%s) == %d' % (name, ctypes.sizeof(struct))
+    for field, _ in struct._fields_:
+        yield 'offsetof(codespan_%s, %s) == %d' % (name, field, getattr(struct, field).offset)
+
+
+def enumeration_assertions(enumeration: type[IntEnum], suffix):
+    """Yields assertions in C that constants are the header's."""
+    for item in enumeration:
+        name = 'NO_COLOR' if item is codespan.Color.NONE else item.name + suffix
+        yield 'CODESPAN_%s == %d' % (name, item)
+
+
+class Header(unittest.TestCase):
+
+    def test_header(self):
+        """A C compiler finds each struct and each constant of the module in the header."""
+        conditions = ['CODESPAN_ABI == %d' % _native.ABI, 'CODESPAN_OK == %d' % _native.OK,
+                      'CODESPAN_TOO_SMALL == %d' % _native.TOO_SMALL,
+                      'CODESPAN_OUT_OF_MEMORY == %d' % _native.OUT_OF_MEMORY,
+                      'CODESPAN_STATUS_TEXT_MAX == %d' % _native.STATUS_TEXT_MAX]
+        for name, struct in STRUCTS.items():
+            conditions += struct_assertions(name, struct)
+        for enumeration, suffix in ENUMERATIONS.items():
+            conditions += enumeration_assertions(enumeration, suffix)
+        program = '#include "%s"\n' % HEADER
+        program += ''.join('_Static_assert(%s, "");\n' % condition for condition in conditions)
+        subprocess.run(['cc', '-std=c11', '-fsyntax-only', '-x', 'c', '-'], input=program,
+                       text=True, check=True)
+
+    def test_no_struct_is_left_out(self):
+        declared = re.findall(r'^} codespan_(\w+);', HEADER.read_text(), re.MULTILINE)
+        self.assertEqual(sorted(declared), sorted(STRUCTS))
+
+
+if __name__ == '__main__':
+    unittest.main()

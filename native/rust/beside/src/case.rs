@@ -1,0 +1,233 @@
+//! A diagnostic, its files and a configuration, in types of neither crate.
+
+use std::ops::Range;
+
+use crate::random::Random;
+
+/// A label.
+#[derive(Debug)]
+pub struct Label {
+    pub primary: bool,
+    pub file: usize,
+    pub range: Range<usize>,
+    pub message: String,
+}
+
+impl Label {
+    /// Returns what the order of labels on a line depends on.
+    fn key(&self) -> (usize, usize, usize) {
+        let Range { start, end } = self.range;
+        (self.file, start, end.max(start + 1))
+    }
+}
+
+/// A lookup.
+#[derive(Clone, Copy, Debug, PartialEq)]
+pub enum Lookup {
+    Name(usize),
+    Source(usize),
+    LineIndex(usize, usize),
+    LineNumber(usize, usize),
+    LineRange(usize, usize),
+    ColumnNumber(usize, usize),
+}
+
+/// What the files are in.
+#[derive(Clone, Copy, Debug)]
+pub enum Table {
+    /// The crate's own file database.
+    Simple,
+    /// One of the caller, whose line numbers start at `first_number`, and a lookup of which may
+    /// fail.
+    Own {
+        with_newlines: bool,
+        first_number: usize,
+        failing: Option<Lookup>,
+    },
+}
+
+/// The characters of an output.
+#[derive(Clone, Copy, Debug)]
+pub enum Characters {
+    Box,
+    Ascii,
+    Own,
+}
+
+/// How much is rendered.
+#[derive(Clone, Copy, Debug, PartialEq)]
+pub enum Style {
+    Rich,
+    Medium,
+    Short,
+}
+
+/// The lines of context: of the starts and ends of labels over several lines, and before and after
+/// each label.
+#[derive(Clone, Copy, Debug)]
+pub struct Context {
+    pub start: usize,
+    pub end: usize,
+    pub before: usize,
+    pub after: usize,
+}
+
+#[derive(Debug)]
+pub struct Case {
+    /// Names and texts.
+    pub files: Vec<(String, String)>,
+    pub table: Table,
+    pub severity: usize,
+    pub code: Option<String>,
+    pub message: String,
+    pub labels: Vec<Label>,
+    pub notes: Vec<String>,
+    pub style: Style,
+    pub characters: Characters,
+    pub tab_width: usize,
+    pub context: Context,
+}
+
+const LINES: [&str; 12] = [
+    "",
+    "x",
+    "let a = 1;",
+    "\tif é {",
+    "  }",
+    "路径 = y",
+    "a\u{301}e\u{308}",
+    "\t\tab\tc",
+    "    ",
+    "🦀🦀 = crab",
+    "fn main() {}",
+    "end\0",
+];
+const MESSAGES: [&str; 5] = [
+    "",
+    "here",
+    "expected `é`, found `路`",
+    "m",
+    "a longer message",
+];
+const NOTES: [&str; 4] = ["note", "two\nlines", "", "three\n  indented\nlines\n"];
+
+impl Case {
+    pub fn random(random: &mut Random) -> Case {
+        let count = 1 + random.below(3);
+        let files: Vec<_> = (0..count)
+            .map(|index| (format!("f{index}.x"), text(random)))
+            .collect();
+        let table = table(random, &files);
+        let fails = matches!(
+            table,
+            Table::Own {
+                failing: Some(_),
+                ..
+            }
+        );
+        let labels = labels(random, &files);
+        let notes = random.pick(&[0, 0, 0, 1, 2]);
+        Case {
+            table,
+            severity: random.below(5),
+            code: random.pick(&[None, Some("E0001".to_owned()), Some(String::new())]),
+            message: random.pick(&MESSAGES).to_owned(),
+            labels,
+            notes: (0..notes).map(|_| random.pick(&NOTES).to_owned()).collect(),
+            style: random.pick(&[
+                Style::Rich,
+                Style::Rich,
+                Style::Rich,
+                Style::Medium,
+                Style::Short,
+            ]),
+            characters: random.pick(&[Characters::Box, Characters::Ascii, Characters::Own]),
+            tab_width: random.pick(&[4, 4, 0, 1, 3, 8]),
+            context: Context {
+                start: random.below(4),
+                end: random.below(4),
+                // Where a line of context can not be looked up, other errors are returned here.
+                before: if fails {
+                    0
+                } else {
+                    random.pick(&[0, 0, 1, 2, 5])
+                },
+                after: if fails {
+                    0
+                } else {
+                    random.pick(&[0, 0, 1, 2, 5])
+                },
+            },
+            files,
+        }
+    }
+
+    pub fn is_rich(&self) -> bool {
+        self.style == Style::Rich
+    }
+}
+
+fn text(random: &mut Random) -> String {
+    let count = random.pick(&[1, 3, 8, 20, 60, 120]);
+    let mut text = String::new();
+    for _ in 0..random.below(count + 1) {
+        text += random.pick(&LINES);
+        text += random.pick(&["\n", "\n", "\n", "\r\n"]);
+    }
+    text += random.pick(&LINES);
+    text
+}
+
+fn table(random: &mut Random, files: &[(String, String)]) -> Table {
+    if random.once_in(2) {
+        return Table::Simple;
+    }
+    let file = random.below(files.len());
+    let text = &files[file].1;
+    let byte = random.below(text.len() + 3);
+    let line = random.below(1 + text.matches('\n').count());
+    let failing = random.pick(&[
+        Lookup::Name(file),
+        Lookup::Source(file),
+        Lookup::LineIndex(file, byte),
+        Lookup::LineNumber(file, line),
+        Lookup::LineRange(file, line),
+        Lookup::ColumnNumber(file, byte),
+    ]);
+    Table::Own {
+        with_newlines: random.once_in(2),
+        first_number: random.pick(&[1, 1, 7, 95, 998, 99_997]),
+        failing: random.once_in(2).then_some(failing),
+    }
+}
+
+fn labels(random: &mut Random, files: &[(String, String)]) -> Vec<Label> {
+    let mut labels: Vec<Label> = Vec::new();
+    for _ in 0..random.pick(&[0, 1, 1, 2, 3, 5, 8]) {
+        let file = random.below(files.len());
+        let length = files[file].1.len();
+        let start = random.below(length + 3);
+        let end = match random.below(10) {
+            0..=5 => start + random.below(8),
+            6 | 7 => start + random.below(90),
+            8 => start + random.below(length + 3),
+            _ => random.below(length + 3),
+        };
+        let label = Label {
+            primary: random.once_in(2),
+            file,
+            range: start..end,
+            message: random.pick(&MESSAGES).to_owned(),
+        };
+        // The order of three labels of one range is another one here.
+        if labels
+            .iter()
+            .filter(|other| other.key() == label.key())
+            .count()
+            < 2
+        {
+            labels.push(label);
+        }
+    }
+    labels
+}

@@ -1,0 +1,136 @@
+//! The archive that renders: what is passed to it, and what it returns.
+
+mod ffi;
+mod layout;
+mod marks;
+
+use alloc::alloc::{handle_alloc_error, Layout};
+use alloc::string::String;
+use alloc::vec::Vec;
+
+use crate::diagnostic::{LabelStyle, Severity};
+use crate::term::{Chars, Config, DisplayStyle};
+
+use ffi::Status;
+pub(crate) use layout::{File, Label, Line, Locus, Slice};
+pub(crate) use marks::{replay, write_text};
+
+/// What a panic says of a file database whose lines the archive does not accept.
+pub(crate) const OVERLAP: &str = "the lines of a file overlap, or do not ascend";
+
+/// How changes of style are spelled in an output.
+#[derive(Clone, Copy)]
+pub(crate) enum Spelling {
+    /// Not at all: the output is text.
+    Plain = 0,
+    /// By marks, which [`replay`] understands.
+    Marked = 3,
+}
+
+/// What an output is rendered from.
+pub(crate) struct Request<'a> {
+    pub(crate) display_style: &'a DisplayStyle,
+    pub(crate) spelling: Spelling,
+    /// Where the characters and the tab width are from.
+    pub(crate) characters: &'a Config,
+    /// Where the lines of context are from.
+    pub(crate) context: &'a Config,
+    pub(crate) severity: Severity,
+    pub(crate) code: &'a str,
+    pub(crate) message: &'a str,
+    pub(crate) notes: &'a [String],
+    pub(crate) files: &'a [File<'a>],
+    pub(crate) labels: &'a [Label<'a>],
+}
+
+impl Request<'_> {
+    /// Returns the output.
+    ///
+    /// # Panics
+    ///
+    /// Where the lines of a file overlap, or do not ascend.
+    pub(crate) fn render(&self) -> Vec<u8> {
+        let notes: Vec<_> = self.notes.iter().map(|note| note.as_str().into()).collect();
+        let diagnostic = layout::Diagnostic {
+            severity: severity_number(self.severity),
+            code: self.code.into(),
+            message: self.message.into(),
+            labels: Slice::new(self.labels),
+            notes: Slice::new(&notes),
+        };
+        match ffi::emit(self.files, &diagnostic, &self.config()) {
+            Status::Ok(output) => output,
+            Status::OutOfMemory => handle_alloc_error(Layout::new::<u8>()),
+            Status::Invalid(detail) => {
+                panic!("{OVERLAP}: {detail:?}")
+            }
+        }
+    }
+
+    fn config(&self) -> layout::Config<'_> {
+        layout::Config {
+            abi: layout::ABI,
+            display_style: match self.display_style {
+                DisplayStyle::Rich => 0,
+                DisplayStyle::Medium => 1,
+                DisplayStyle::Short => 2,
+            },
+            layout: CLASSIC,
+            spelling: self.spelling as u32,
+            characters: OWN_CHARS,
+            tab_width: self.characters.tab_width,
+            start_context_lines: self.context.start_context_lines,
+            end_context_lines: self.context.end_context_lines,
+            before_label_lines: self.context.before_label_lines,
+            after_label_lines: self.context.after_label_lines,
+            chars: chars(&self.characters.chars),
+            styles: layout::Styles::default(),
+        }
+    }
+}
+
+/// The layout of the original.
+const CLASSIC: u32 = 0;
+
+/// Characters that are passed, not one of the archive's own sets.
+const OWN_CHARS: u32 = 2;
+
+/// Returns the number of a severity.
+fn severity_number(severity: Severity) -> u32 {
+    match severity {
+        Severity::Help => 0,
+        Severity::Note => 1,
+        Severity::Warning => 2,
+        Severity::Error => 3,
+        Severity::Bug => 4,
+    }
+}
+
+/// Returns the number of a label's style.
+pub(crate) fn label_style_number(style: LabelStyle) -> u32 {
+    match style {
+        LabelStyle::Primary => 0,
+        LabelStyle::Secondary => 1,
+    }
+}
+
+fn chars(chars: &Chars) -> layout::Chars<'_> {
+    layout::Chars {
+        snippet_start: chars.snippet_start.as_str().into(),
+        source_border_left: chars.source_border_left.into(),
+        source_border_left_break: chars.source_border_left_break.into(),
+        note_bullet: chars.note_bullet.into(),
+        single_primary_caret: chars.single_primary_caret.into(),
+        single_secondary_caret: chars.single_secondary_caret.into(),
+        multi_primary_caret_start: chars.multi_primary_caret_start.into(),
+        multi_primary_caret_end: chars.multi_primary_caret_end.into(),
+        multi_secondary_caret_start: chars.multi_secondary_caret_start.into(),
+        multi_secondary_caret_end: chars.multi_secondary_caret_end.into(),
+        multi_top_left: chars.multi_top_left.into(),
+        multi_top: chars.multi_top.into(),
+        multi_bottom_left: chars.multi_bottom_left.into(),
+        multi_bottom: chars.multi_bottom.into(),
+        multi_left: chars.multi_left.into(),
+        pointer_left: chars.pointer_left.into(),
+    }
+}

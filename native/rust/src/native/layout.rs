@@ -1,0 +1,147 @@
+//! The structs of `native/include/codespan.h`, under the same names but for the prefix. Its
+//! comments apply.
+
+use core::marker::PhantomData;
+
+#[cfg(all(test, feature = "std"))]
+mod header;
+
+/// The number of these layouts: `CODESPAN_ABI`.
+pub(crate) const ABI: u32 = 1;
+
+/// A borrowed slice: a pointer that is never null, then a number of items.
+#[repr(C)]
+pub(crate) struct Slice<'a, T> {
+    items: *const T,
+    length: usize,
+    borrowed: PhantomData<&'a [T]>,
+}
+
+impl<'a, T> Slice<'a, T> {
+    pub(crate) fn new(items: &'a [T]) -> Slice<'a, T> {
+        Slice {
+            items: items.as_ptr(),
+            length: items.len(),
+            borrowed: PhantomData,
+        }
+    }
+}
+
+/// A text.
+pub(crate) type Text<'a> = Slice<'a, u8>;
+
+impl<'a> From<&'a str> for Text<'a> {
+    fn from(text: &'a str) -> Text<'a> {
+        Slice::new(text.as_bytes())
+    }
+}
+
+/// A line: its bytes, and the number that is shown.
+#[repr(C)]
+#[derive(Debug, PartialEq)]
+pub(crate) struct Line {
+    pub(crate) start: usize,
+    pub(crate) end: usize,
+    pub(crate) number: usize,
+}
+
+/// The location that is shown for a byte at which a label starts.
+#[repr(C)]
+pub(crate) struct Locus {
+    pub(crate) byte: usize,
+    pub(crate) line_number: usize,
+    pub(crate) column_number: usize,
+}
+
+/// A file.
+#[repr(C)]
+pub(crate) struct File<'a> {
+    pub(crate) name: Text<'a>,
+    pub(crate) source: Text<'a>,
+    pub(crate) first_byte: usize,
+    pub(crate) first_line: usize,
+    pub(crate) lines: Slice<'a, Line>,
+    pub(crate) loci: Slice<'a, Locus>,
+}
+
+/// A label: its style, the index of its file, its bytes and its message.
+#[repr(C)]
+pub(crate) struct Label<'a> {
+    pub(crate) style: u32,
+    pub(crate) file: usize,
+    pub(crate) start: usize,
+    pub(crate) end: usize,
+    pub(crate) message: Text<'a>,
+}
+
+/// A diagnostic.
+#[repr(C)]
+pub(crate) struct Diagnostic<'a> {
+    pub(crate) severity: u32,
+    pub(crate) code: Text<'a>,
+    pub(crate) message: Text<'a>,
+    pub(crate) labels: Slice<'a, Label<'a>>,
+    pub(crate) notes: Slice<'a, Text<'a>>,
+}
+
+/// The characters, by their code points.
+#[repr(C)]
+pub(crate) struct Chars<'a> {
+    pub(crate) snippet_start: Text<'a>,
+    pub(crate) source_border_left: u32,
+    pub(crate) source_border_left_break: u32,
+    pub(crate) note_bullet: u32,
+    pub(crate) single_primary_caret: u32,
+    pub(crate) single_secondary_caret: u32,
+    pub(crate) multi_primary_caret_start: u32,
+    pub(crate) multi_primary_caret_end: u32,
+    pub(crate) multi_secondary_caret_start: u32,
+    pub(crate) multi_secondary_caret_end: u32,
+    pub(crate) multi_top_left: u32,
+    pub(crate) multi_top: u32,
+    pub(crate) multi_bottom_left: u32,
+    pub(crate) multi_bottom: u32,
+    pub(crate) multi_left: u32,
+    pub(crate) pointer_left: u32,
+}
+
+/// A style of text: two colors, and whether it is bold and intense.
+#[repr(C)]
+#[derive(Clone, Copy, Default)]
+pub(crate) struct ColorSpec {
+    fg: u32,
+    bg: u32,
+    bold: u32,
+    intense: u32,
+}
+
+/// The number of styles of a configuration.
+const STYLES: usize = 15;
+
+/// The styles, which the archive does not read in the spellings that are used here.
+pub(crate) type Styles = [ColorSpec; STYLES];
+
+/// A configuration.
+#[repr(C)]
+pub(crate) struct Config<'a> {
+    pub(crate) abi: u32,
+    pub(crate) display_style: u32,
+    pub(crate) layout: u32,
+    pub(crate) spelling: u32,
+    pub(crate) characters: u32,
+    pub(crate) tab_width: usize,
+    pub(crate) start_context_lines: usize,
+    pub(crate) end_context_lines: usize,
+    pub(crate) before_label_lines: usize,
+    pub(crate) after_label_lines: usize,
+    pub(crate) chars: Chars<'a>,
+    pub(crate) styles: Styles,
+}
+
+/// Which argument is invalid.
+#[repr(C)]
+#[derive(Debug, Default)]
+pub(crate) struct Detail {
+    pub(crate) argument: u32,
+    pub(crate) index: usize,
+}

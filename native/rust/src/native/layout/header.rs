@@ -1,0 +1,113 @@
+//! The structs here beside those of the header, whose layouts are computed from its text.
+
+use core::mem::{align_of, offset_of, size_of};
+use std::collections::BTreeMap;
+
+use super::*;
+
+const HEADER: &str = include_str!("../../../../include/codespan.h");
+
+/// How C lays out a type.
+#[derive(Clone, Default)]
+struct CLayout {
+    size: usize,
+    align: usize,
+    offsets: BTreeMap<String, usize>,
+}
+
+impl CLayout {
+    fn of_scalar(size: usize) -> CLayout {
+        CLayout {
+            size,
+            align: size,
+            offsets: BTreeMap::new(),
+        }
+    }
+
+    /// Computes the layout of a struct of the header.
+    fn of_struct(name: &str) -> CLayout {
+        let start = format!("typedef struct {name} {{");
+        let (_, rest) = HEADER.split_once(&start).expect(name);
+        let (body, _) = rest.split_once(&format!("}} {name};")).expect(name);
+        let mut layout = CLayout::default();
+        let body = without_comments(body);
+        for field in body
+            .split(';')
+            .map(str::trim)
+            .filter(|field| !field.is_empty())
+        {
+            let (kind, names) = field.rsplit_once(' ').expect(field);
+            let kind = CLayout::of_type(kind, names.starts_with('*'));
+            layout.push(names.trim_start_matches('*'), &kind);
+        }
+        layout.size = layout.size.next_multiple_of(layout.align);
+        layout
+    }
+
+    fn of_type(kind: &str, is_pointer: bool) -> CLayout {
+        match kind {
+            _ if is_pointer => CLayout::of_scalar(size_of::<*const u8>()),
+            "size_t" => CLayout::of_scalar(size_of::<usize>()),
+            "uint32_t" => CLayout::of_scalar(4),
+            name => CLayout::of_struct(name),
+        }
+    }
+
+    fn push(&mut self, name: &str, field: &CLayout) {
+        let offset = self.size.next_multiple_of(field.align);
+        self.offsets.insert(name.to_owned(), offset);
+        self.size = offset + field.size;
+        self.align = self.align.max(field.align);
+    }
+}
+
+fn without_comments(text: &str) -> String {
+    let mut parts = text.split("/*");
+    let mut rest = parts.next().unwrap_or_default().to_owned();
+    for part in parts {
+        rest += part.split_once("*/").expect("a comment ends").1;
+    }
+    rest
+}
+
+macro_rules! assert_layout {
+    ($name:literal, $type:ty, $($field:ident)+) => {
+        let layout = CLayout::of_struct($name);
+        assert_eq!((size_of::<$type>(), align_of::<$type>()), (layout.size, layout.align), $name);
+        $(assert_eq!(offset_of!($type, $field), layout.offsets[stringify!($field)], $name);)+
+    };
+}
+
+#[test]
+fn structs_are_those_of_the_header() {
+    assert_layout!("codespan_text", Text<'_>, length);
+    assert_layout!("codespan_line", Line, start end number);
+    assert_layout!("codespan_locus", Locus, byte line_number column_number);
+    assert_layout!("codespan_file", File<'_>, name source first_byte first_line lines loci);
+    assert_layout!("codespan_label", Label<'_>, style file start end message);
+    assert_layout!("codespan_diagnostic", Diagnostic<'_>, severity code message labels notes);
+    assert_layout!("codespan_color_spec", ColorSpec, fg bg bold intense);
+    assert_eq!(
+        CLayout::of_struct("codespan_styles").size,
+        size_of::<Styles>()
+    );
+    assert_layout!("codespan_detail", Detail, argument index);
+    assert_layout!(
+        "codespan_chars", Chars<'_>,
+        snippet_start source_border_left source_border_left_break note_bullet
+        single_primary_caret single_secondary_caret
+        multi_primary_caret_start multi_primary_caret_end
+        multi_secondary_caret_start multi_secondary_caret_end
+        multi_top_left multi_top multi_bottom_left multi_bottom multi_left pointer_left
+    );
+    assert_layout!(
+        "codespan_config", Config<'_>,
+        abi display_style layout spelling characters tab_width
+        start_context_lines end_context_lines before_label_lines after_label_lines chars styles
+    );
+}
+
+#[test]
+fn numbers_are_those_of_the_header() {
+    assert!(HEADER.contains(&format!("#define CODESPAN_ABI {ABI}u\n")));
+}

@@ -1,0 +1,160 @@
+//! Emitting diagnostics.
+//!
+//! [`emit_into_string`] returns the output, [`emit_to_string`] appends it to a string, and
+//! [`emit_to_io_write`] writes it without colors. [`emit_to_write_style`] writes it with styles: in
+//! color to any writer of termcolor, or to a [`WriteStyle`] of your own.
+
+use alloc::string::String;
+
+use crate::diagnostic::Diagnostic;
+use crate::files::{Error, Files};
+use crate::native::{replay, write_text, Spelling};
+
+mod config;
+mod excerpt;
+mod labeled_file;
+mod renderer;
+mod snippets;
+#[cfg(feature = "termcolor")]
+mod styles;
+mod views;
+
+pub use config::{Chars, Config, DisplayStyle};
+pub use renderer::{GeneralWrite, GeneralWriteResult, Renderer, WriteStyle};
+#[cfg(feature = "termcolor")]
+pub use styles::{Styles, StylesWriter};
+#[cfg(feature = "termcolor")]
+pub use termcolor;
+pub use views::{RichDiagnostic, ShortDiagnostic};
+
+use views::Output;
+
+/// Returns the output of a diagnostic, without colors.
+///
+/// # Errors
+///
+/// The error of the first lookup that fails.
+///
+/// # Panics
+///
+/// Where the lines of a file overlap, do not ascend, or do not have the bytes that `line_index`
+/// says. So do the other calls.
+pub fn emit_into_string<'files, F: Files<'files> + ?Sized>(
+    config: &Config,
+    files: &'files F,
+    diagnostic: &Diagnostic<F::FileId>,
+) -> Result<String, Error> {
+    let output = output(config, files, diagnostic, Spelling::Plain);
+    output.result?;
+    Ok(String::from_utf8(output.bytes).expect("the output is UTF-8"))
+}
+
+/// Appends the output of a diagnostic, without colors, to a string.
+///
+/// # Errors
+///
+/// The error of the first lookup that fails. The string is unchanged then.
+pub fn emit_to_string<'files, F: Files<'files> + ?Sized>(
+    writer: &mut String,
+    config: &Config,
+    files: &'files F,
+    diagnostic: &Diagnostic<F::FileId>,
+) -> Result<(), Error> {
+    writer.push_str(&emit_into_string(config, files, diagnostic)?);
+    Ok(())
+}
+
+/// Writes the output of a diagnostic, without colors.
+///
+/// # Errors
+///
+/// [`Error::Io`] where the writer fails, after a prefix of the output; or the error of the first
+/// lookup that fails, before anything is written, or, in short and medium style, after the headers
+/// of the labels before.
+#[cfg(feature = "std")]
+pub fn emit_to_io_write<'files, F: Files<'files> + ?Sized, W: std::io::Write + ?Sized>(
+    writer: &mut W,
+    config: &Config,
+    files: &'files F,
+    diagnostic: &Diagnostic<F::FileId>,
+) -> Result<(), Error> {
+    emit_plain(writer, config, files, diagnostic)
+}
+
+/// Writes the output of a diagnostic, with styles.
+///
+/// ```
+/// use codespan_reporting::diagnostic::{Diagnostic, Label};
+/// use codespan_reporting::files::SimpleFile;
+/// use codespan_reporting::term::termcolor::{ColorChoice, StandardStream};
+/// use codespan_reporting::term::{emit_to_write_style, Config};
+///
+/// let file = SimpleFile::new("poem.txt", "roses are red\nviolets are read\n");
+/// let diagnostic = Diagnostic::warning()
+///     .with_message("unlikely rhyme")
+///     .with_label(Label::primary((), 26..30).with_message("did you mean `blue`?"));
+///
+/// let stderr = StandardStream::stderr(ColorChoice::Auto);
+/// emit_to_write_style(&mut stderr.lock(), &Config::default(), &file, &diagnostic)?;
+/// # Ok::<(), codespan_reporting::files::Error>(())
+/// ```
+///
+/// # Errors
+///
+/// Those of [`emit_to_io_write`].
+pub fn emit_to_write_style<'files, F: Files<'files> + ?Sized, W: WriteStyle + ?Sized>(
+    writer: &mut W,
+    config: &Config,
+    files: &'files F,
+    diagnostic: &Diagnostic<F::FileId>,
+) -> Result<(), Error> {
+    let output = output(config, files, diagnostic, Spelling::Marked);
+    replay(&output.bytes, writer)?;
+    output.result
+}
+
+/// Writes the output of a diagnostic, without colors.
+///
+/// # Errors
+///
+/// Those of [`emit_to_io_write`].
+#[deprecated(
+    since = "0.13.0",
+    note = "use `emit_to_write_style` for colors, `emit_to_io_write` or `emit_to_string` without"
+)]
+pub fn emit<'files, F: Files<'files> + ?Sized, W: GeneralWrite + ?Sized>(
+    writer: &mut W,
+    config: &Config,
+    files: &'files F,
+    diagnostic: &Diagnostic<F::FileId>,
+) -> Result<(), Error> {
+    emit_plain(writer, config, files, diagnostic)
+}
+
+fn emit_plain<'files, F: Files<'files> + ?Sized, W: GeneralWrite + ?Sized>(
+    writer: &mut W,
+    config: &Config,
+    files: &'files F,
+    diagnostic: &Diagnostic<F::FileId>,
+) -> Result<(), Error> {
+    let output = output(config, files, diagnostic, Spelling::Plain);
+    write_text(writer, &output.bytes)?;
+    output.result
+}
+
+/// Renders a diagnostic in the style of a configuration.
+fn output<'files, F: Files<'files> + ?Sized>(
+    config: &Config,
+    files: &'files F,
+    diagnostic: &Diagnostic<F::FileId>,
+    spelling: Spelling,
+) -> Output {
+    let show_notes = match config.display_style {
+        DisplayStyle::Rich => {
+            return RichDiagnostic::new(diagnostic, config).output(files, config, spelling)
+        }
+        DisplayStyle::Medium => true,
+        DisplayStyle::Short => false,
+    };
+    ShortDiagnostic::new(diagnostic, show_notes).output(files, config, spelling)
+}
