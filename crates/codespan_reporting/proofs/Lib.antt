@@ -7,6 +7,7 @@ pub mod AnnotationGroups
 pub mod SnippetLineRows
 pub mod AnnotationOrder
 pub mod LabelAnnotations
+pub mod FewDigits
 pub mod FileIndices
 pub mod AnnotationLines
 pub mod AnnotationOutput

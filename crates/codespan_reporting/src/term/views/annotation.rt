@@ -10,6 +10,7 @@ use crate::term::renderer::MultiLabel;
 use codespan_base::diagnostic::Label;
 use std::ops::Range;
 
+pub mod by_line;
 pub mod groups;
 pub mod order;
 

@@ -7,6 +7,7 @@ ghost use Rattle.codespan_reporting.specs.Inner.CollectedLabels.{labels_failure}
 ghost use Rattle.codespan_reporting.specs.Inner.OutputPlans.{IsCollected, IsCollectedInTurn};
 
 use crate::term::views::annotation::Annotation;
+use crate::term::views::annotation::by_line::group_by_line;
 use crate::term::views::annotation::order::sort;
 use crate::term::views::collect::label_annotations::{
     FoundAnnotations, LabelIndices, collect_label,
@@ -20,6 +21,7 @@ use std::alloc::Global;
 pub mod label_annotations;
 pub mod label_span;
 pub mod labeled_files;
+pub mod padding;
 
 /// What was collected of the labels of a diagnostic.
 #[derive(Drop)]
@@ -54,6 +56,7 @@ pub fn collect<'files, 'd, F: Files<'files>>(
         (map label_of labels.now)) result }
 {
     let mut collected = collect_in_turn(alloc, files, config, labels)?;
+    group_by_line(&mut collected.annotations)?;
     sort(&mut collected.annotations);
     Ok(collected)
 }

@@ -55,8 +55,11 @@ fn compare_kinds<FileId>(left: &Annotation<'_, FileId>, right: &Annotation<'_, F
     }
 }
 
+/// The number of ranks.
+pub const RANKS: usize = 3;
+
 /// Returns the rank of a kind: 0 for shown, 1 for a single-line label, 2 for a multi-line label.
-fn rank<FileId>(annotation: &Annotation<'_, FileId>) -> usize
+pub fn rank<FileId>(annotation: &Annotation<'_, FileId>) -> usize
     ensures { result ≡ rank_of (annotation_view annotation.now).kind }
 {
     match &annotation.kind {

@@ -13,11 +13,11 @@ ghost use Rattle.codespan_reporting.specs.Inner.LabelSpans.{line_of_end, line_of
 
 use crate::term::views::annotation::{Annotation, AnnotationKind, LineInfo};
 use crate::term::views::collect::label_span::{LabelSpan, label_lines};
+use crate::term::views::collect::padding::padding_with;
 use crate::term::views::source_file::SourceFile;
 use codespan_base::diagnostic::Label;
 use codespan_base::files::{Error, Files};
 use codespan_base::term::Config;
-use codespan_renderer::term::renderer::count_digits;
 
 /// The indices of a label, 0-based.
 #[derive(Clone, Copy)]
@@ -169,7 +169,7 @@ impl<'a, 'c, 'files, F: Files<'files>> LabelCollector<'a, 'c, 'files, F> {
             return Ok(false);
         };
         if is_spanned {
-            found.padding = count_digits(line.number).max(found.padding);
+            found.padding = padding_with(found.padding, line.number);
         }
         self.push_line(label, line, &mut found.annotations)?;
         Ok(true)
