@@ -25,7 +25,7 @@ moved_range bs done rest n e = moved bs done rest n e ∙ ap (λ (l : List ℕ).
 pub prefix_kept : (old mid new : Option (List ℕ)) (bs : List ℕ) → AppendsPrefix old mid bs → Keeps mid new → AppendsPrefix old new bs
 prefix_kept old mid new bs came kept = (came.0, came.1, Appends-kept old mid new came.0 came.2 kept)
 
--- the line of a failed output, as that of a fault
+-- the line of a failed output, as that of an error
 pub line_of_fault : {E : Type 0} (fault : Fault) (old new : Option (List ℕ)) (r : Result (Unit {0}) E) → fault ≡ CannotWriteOutput
     → OnOk r (Appends old new failed_output_line) → OnOk r (IfSome (with_newline (fault_text fault)) (Appends old new))
 line_of_fault fault old new r is came =
