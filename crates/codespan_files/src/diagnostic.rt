@@ -119,7 +119,8 @@ impl<FileId> Label<FileId> {
 impl<FileId: Drop> Label<FileId> {
     ghost use Rattle.codespan_files.specs.Diagnostics.{IsTextFailure};
 
-    /// Returns the label with the text that `message` displays as its message, in place of the earlier one.
+    /// Returns the label with the text that `message` displays as its message, instead of the
+    /// earlier one.
     ///
     /// # Errors
     ///

@@ -104,7 +104,7 @@ impl Write for Stopping {
     }
 }
 
-/// Whether a drawing failed with `Io`; `None` where it failed otherwise.
+/// Returns whether rendering failed with `Io`; `None` if it failed otherwise.
 pub fn is_failed(answer: &Result<(), Error>) -> Option<bool> {
     match answer {
         Ok(()) => Some(false),

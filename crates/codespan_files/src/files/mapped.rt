@@ -69,7 +69,7 @@ impl<Name, Source: AsStr> MappedFile<Name, Source> {
     ghost use Rattle.codespan_files.specs.SimpleModel.{past_end};
     ghost use Rattle.codespan_files.specs.MappedModel.{setting, with_number};
 
-    /// Sets the number of the line at this index, from 0, in place of an earlier one. The law
+    /// Sets the number of the line at this index, from 0; replaces an earlier one. The law
     /// [`codespan_base::laws::set_numbers_count_on`] states what becomes of the other lines.
     ///
     /// # Errors

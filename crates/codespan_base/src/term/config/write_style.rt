@@ -77,7 +77,8 @@ pub trait WriteStyle: Write {
     ///
     /// # Errors
     ///
-    /// An [`io::Error`] where a write fails or takes none of its bytes; a prefix of the mark's spelling has then been written.
+    /// An [`io::Error`] if a write fails or takes none of its bytes; a prefix of the style mark's
+    /// spelling has then been written.
     fn set_header(&mut self, severity: Severity) -> io::Result<()>
         ensures { Sends (sink self.old) (one_mark (Header severity)) result (sink self.new) };
 
