@@ -1,4 +1,4 @@
-//! `example_errors` reports three errors of an application's own error type, over one text of settings.
+//! `example_errors` reports three errors of an application's error type, over one text of settings.
 #![tactic(auto)]
 
 mod settings;
