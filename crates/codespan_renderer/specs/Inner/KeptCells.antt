@@ -33,7 +33,7 @@ abbrev pub farther : Option ℕ → ℕ → Option ℕ
 farther None place = Some place
 farther (Some reach) place = Some (max reach place)
 
--- the byte index at which an underline's caret stands, or before which it does
+-- the byte index at which an underline's caret is, or before which it is
 abbrev pub farther_mark : Option ℕ → MultiLabel → Option ℕ
 farther_mark reach (Top start) = farther reach start
 farther_mark reach Left = reach

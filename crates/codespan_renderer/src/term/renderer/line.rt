@@ -29,7 +29,7 @@ pub struct Look<'config> {
 pub struct Lanes<'row, 'd> {
     /// The number of lanes.
     pub count: usize,
-    /// The lane of each mark, counted from 0, its style, and what the label does on the line.
+    /// The lane of each, counted from 0, its style, and what the label does on the line.
     pub marks: &'row [(usize, LabelStyle, MultiLabel<'d>)],
     ghost in_order: { IsTrue (lanes_in_order count marks.now) },
 }

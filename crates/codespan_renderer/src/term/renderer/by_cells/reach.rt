@@ -23,7 +23,8 @@ pub fn reach_of(line: Line<'_, '_>) -> Option<usize>
     reach
 }
 
-/// Returns the greater of a reach and what a mark has of the line.
+/// Returns the greater of a reach and the byte index that the underline of a multi-line label mark
+/// needs.
 fn farther_mark(reach: Option<usize>, part: MultiLabel<'_>) -> Option<usize>
     ensures { result ≡ farther_mark reach (multi_label_view part.entry) }
 {
