@@ -25,7 +25,7 @@ use Rattle.codespan_laws.proofs.OrderMembers.{AreAlike, SameTests, same-tests, l
 
 -- ---- one file
 
--- what two files with labels give to a picture is the same
+-- two files with labels render the same
 record GiveTheSame (view : Config) (s t : LabelledFile) : Type 0 where
   rows : (locus : Locus) → snippet view locus s ≡ snippet view locus t
   bare : bare_lanes s ≡ bare_lanes t
@@ -41,7 +41,7 @@ module _ (f : FileModel) (xs ys : List Labelled) (alike : AreAlike f xs ys) wher
   tests : SameTests xs ys
   tests = same-tests f xs ys alike
 
-  -- the marks of a line go by the labels over several lines
+  -- the multi-line label marks of a line depend on the multi-line labels alone
   lanes-same : (l : ℕ) → (line_at s l).lanes ≡ (line_at t l).lanes
   lanes-same l = ap {B = Lanes}
       (λ zs. record { count = length zs; marks = filter_map (λ (entry : ℕ × Labelled). mark_of entry.0 entry.1 (part_on f l entry.1)) (enumerate_from 0 zs) })
@@ -68,7 +68,7 @@ module _ (f : FileModel) (xs ys : List Labelled) (alike : AreAlike f xs ys) wher
   start-same : snippet_start s ≡ snippet_start t
   start-same = ap {B = FileModel × ℕ} (λ n. (f, n)) (locus-same xs ys tests)
 
-  -- the rows are the drawing of the shown lines
+  -- the rows follow from the shown lines
   after-same : (view : Config) → rows_after s None (drawn_lines view f xs) ≡ rows_after t None (drawn_lines view f ys)
   after-same view =
       drawing_of_shown view s ∙ ap₂ (λ line ls. drawing line None ls) (fun_ext line-same) (shown_lines-same view) ∙ sym (drawing_of_shown view t)

@@ -194,7 +194,7 @@ module _ (f : FileModel) (labels : List Labelled) (say : AllByRecursion SaysText
       says-sorted (reverse (map (drawn_label f) own))
       (all-reverse SaysText (map (drawn_label f) own) (each_map SaysText (drawn_label f) own (all-filter SaysText (λ x. is_single f x && (first_line f x == l)) labels say)))
 
-  -- a mark says what its label says
+  -- the message of a multi-line label mark is that of its label
   says-part : (s e l start : ℕ) (x : Labelled) (lane : ℕ) → SaysText x → IfSome (mark_of lane x (part_at s e l start x)) (λ m. IsTextPart m.part)
   says-part s e l start x lane t = by (s == l) (e == l) (nat_lt s l && nat_lt l e)
     where

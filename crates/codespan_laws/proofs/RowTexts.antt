@@ -52,7 +52,7 @@ followed {s} {t} a b = text-both s t a b
 pub text-bytes : (bs : List ℕ) → IsUtf8 bs → IsText (bytes bs)
 text-bytes bs u = record { utf8 = subst IsUtf8 (sym (text_of-bytes bs)) u }
 
--- a mark
+-- a style mark
 text-mark : (m : StyleMark) → IsText (one_mark m)
 text-mark m = record { utf8 = subst IsUtf8 (sym (text_of-one_mark m)) IsUtf8-nil }
 
@@ -98,7 +98,7 @@ text-close : IsText (bytes (codes "]"))
 unfolding is_ascii
 text-close = text-ascii (codes "]") refl
 
--- blanks
+-- spaces
 ascii-blanks : (n : ℕ) → IsAscii (replicate n 32)
 ascii-blanks zero = IsAscii-nil
 ascii-blanks (suc n) = IsAscii-cons 32 (replicate n 32) (omega arith) (ascii-blanks n)
@@ -255,7 +255,7 @@ text-source_glyph c s = by (c.code == 9)
 
 -- ---- what a row is of
 
--- what a mark says
+-- the message of a multi-line label mark
 abbrev pub IsTextPart : MultiLabel → Type 0
 IsTextPart (Bottom end message) = IsText message
 IsTextPart _ = Unit {0}
