@@ -57,7 +57,7 @@ rising-filter n p (x ∷ xs) h =
 not_equal : (a b : ℕ) → a < b → (b == a) ≡ false
 not_equal a b h = ⊎_elim (λ t. absurd (let e : b ≡ a = eqb-true b a t in omega arith)) (λ f. f) (cases_Bool (b == a))
 
--- what is at the least number stands in front of what is above it
+-- what is at the least number is in front of what is above it
 pub split_at : {X : Type 0} (n : X → ℕ) (k : ℕ) (xs : List X) → IsRising n xs → AllByRecursion (λ x. k ≤ n x) xs
     → xs ≡ filter (λ x. n x == k) xs ++ filter (λ x. nat_lt k (n x)) xs
 split_at n k [] h low = refl
@@ -157,7 +157,7 @@ abbrev IsHidden : (ℕ → List Annotation) → Option ℕ → ℕ → List Anno
 IsHidden m None a hidden = Unit {0}
 IsHidden m (Some c) a hidden = (c < a) × (c + 1 ≡ a → hidden ≡ []) × (c + 2 ≡ a → hidden ≡ m (c + 1))
 
--- what stands before a shown line
+-- what is before a shown line
 before-shown : (m : ℕ → List Annotation) (was : Option ℕ) (a : ℕ) (hidden : List Annotation) → IsHidden m was a hidden
     → before_line (lines_between hidden (m a)) was a ≡ before_line (gap_between (λ l. Filled l (m l) ∷ []) (λ d. Break (m d) ∷ [])) was a
 before-shown m None a hidden h = refl

@@ -62,7 +62,7 @@ module _ {Id : Type 0} (x : CollectedLabel Id) where
       (λ t. ap (λ k. from_line_start (line_start x.file k) x.label) (eqb-true (first_line x.file x.label) line.index t))
       ∙ ap (λ start. kind_at x.config x.at (first_line x.file x.label) (last_line x.file x.label) line.index start x.label) (sym is.range_is.start_is)
 
-  -- what a label says of a line, and its mark on it
+  -- what a label says of a line, and its multi-line label mark on it
   pub annotation_if_any-line : {line : LineInfo} {first last : ℕ} {kind mark : Option AnnotationKind} → first_line x.file x.label ≡ first → last_line x.file x.label ≡ last → IsLineOf x.file line
       → kind ≡ kind_at x.config x.at first last line.index line.start x.label → mark ≡ multi_at x.at first last line.index line.start x.label
       → line_annotations x.config x.file x.at x.label line.index ≡ annotation_if_any x.at.file line.index kind ++ annotation_if_any x.at.file line.index mark

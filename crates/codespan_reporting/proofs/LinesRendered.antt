@@ -1,4 +1,4 @@
--- Steps that are drawn one after another: what is sent and what is asked.
+-- Snippet lines that are rendered one after another: what is written and what is looked up.
 use Rattle.std.proofs.Common.{◌≡◌, ℕ, ◌+◌, List, [], ◌∷◌, ◌++◌, take, drop, map, Option, Result, Ok, Err, sym, subst, ap, ◌∙◌, append-nil}
 use Rattle.std.proofs.lemmas.List.{map-append, take-append-drop}
 use Rattle.std.proofs.lemmas.Grind.{flat_map-append}
@@ -40,11 +40,11 @@ module _ {F Id Name Source : Type 0} (table : F → FileDatabase Id) (lines : Sn
   abbrev asked_all : List (RustLine Id) → Option Error
   asked_all snippet_lines = asked (lookups_of_lines snippet_lines)
 
-  -- the call draws a snippet line, with what it asks for
+  -- the call renders a snippet line, with its lookups
   abbrev DrawsOne : RustLine Id → Sink → Result (Unit {0}) Error → Sink → Type 0
   DrawsOne snippet_line old r new = WritesWithLookups (asked (lookups_of_line snippet_line)) old (stream_of_rows look (rows_of_line f lines.lane_count (line_view snippet_line))) r new
 
-  -- these snippet lines are drawn, with what they ask for
+  -- these snippet lines are rendered, with their lookups
   pub record DrawsAll (snippet_lines : List (RustLine Id)) (old : Sink) (r : Result (Unit {0}) Error) (new : Sink) : Type 0 where
     pub drawn : IsAsking (asked_all snippet_lines) old (rows snippet_lines) r new
 
