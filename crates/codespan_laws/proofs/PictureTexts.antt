@@ -60,7 +60,7 @@ trimmed text u (suc n) h cut = by (is_line_end (get_or text n 0)) refl (trimmed 
         let none : suffix_len is_line_end (take (suc n) text) ≡ 0 = suffix_len-take_no is_line_end text (suc n) 0 (omega arith) h (ap (λ k. is_line_end (get_or text k 0)) e ∙ is) in
         subst (λ k. IsUtf8 (take k text)) (let e : suc n ≡ suc n - suffix_len is_line_end (take (suc n) text) = omega arith in e) (IsUtf8-take text (suc n) u cut)
 
--- the text of a line as it is drawn
+-- the text of a line as it is rendered
 drawn-utf8 : (text : List ℕ) → IsUtf8 text → IsUtf8 (drawn_text text)
 drawn-utf8 text u =
     subst (λ xs. IsUtf8 (take (length text - suffix_len is_line_end xs) text)) (take_all (length text) text (omega arith))

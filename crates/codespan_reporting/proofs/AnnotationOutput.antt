@@ -262,7 +262,7 @@ module _ {Id : Type 0} {table : FileDatabase Id} (lawful : AreFiles table)
       ∙ marks-given l)
       ∙ marks-of_entries f l (marks l)
 
-  -- a line is drawn with what its labels do on it
+  -- a line is rendered with what its labels do on it
   line-is : (l : ℕ) → line_of_group (file id) (lane_count s) l (bucket l) ≡ line_at s l
   line-is l = λ i. record (line_at s l) { labels = single_labels-are l i; lanes = record { count = lane_count s; marks = marks-are l i } }
 

@@ -64,7 +64,7 @@ pub record IsChanged {Id A : Type 0} (same : Id → Id → Bool) (i : Id) (h mor
   pub own : (j : Id) → same j i ≡ true → more j ≡ v
   pub others : (j : Id) → same j i ≡ false → more j ≡ h j
 
--- how many lanes a label takes: one, where it is over several lines
+-- how many lanes a label takes: one, where it is a multi-line label
 abbrev pub label_lanes : FileModel → Labelled → ℕ
 label_lanes f x = if is_single f x then 0 else 1
 

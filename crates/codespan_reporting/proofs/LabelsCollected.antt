@@ -172,7 +172,7 @@ module _ {Id : Type 0} {table : FileDatabase Id} (lawful : AreFiles table) {labe
       index-found : at ≡ index_of_file same ids label.file_id
       index-found = there ∙ ap (λ (js : List Id). index_of_file same js label.file_id) g.ids_are
 
-      -- as many lanes are counted for the file as labels over several lines come before
+      -- as many lanes are counted for the file as there are multi-line labels before
       pub lane-found : get_or (lanes_view files) at 0 ≡ lanes_in same file (before labels index) label.file_id
       lane-found = ap (λ k. get_or (lanes_view files) k 0) index-found ∙ lanes-kept
 

@@ -61,11 +61,11 @@ module _ {F Id Name Source : Type 0} (table : F → FileDatabase Id) (lines : Sn
       ap asked (flat_map-append lookups_of_line xs ys) ∙ first_error-asked (table lines.file.files.now).failure lines.file.id (lookups_of_lines xs) (lookups_of_lines ys)
 
 module _ {F Id Name Source : Type 0} {table : F → FileDatabase Id} {lines : Snippet F Id Name Source} {config : Config} where
-  -- nothing is drawn
+  -- nothing is rendered
   pub drawn-nothing : {s : Sink} → DrawsAll table lines config [] s (Ok tt) s
   drawn-nothing = record { drawn = asking_nothing }
 
-  -- one snippet line is drawn
+  -- one snippet line is rendered
   drawn-one : {snippet_line : RustLine Id} {s t : Sink} {r : Result (Unit {0}) Error} → DrawsOne table lines config snippet_line s r t → DrawsAll table lines config (snippet_line ∷ []) s r t
   drawn-one {snippet_line} draws = record {
     drawn = asking_as
@@ -74,14 +74,15 @@ module _ {F Id Name Source : Type 0} {table : F → FileDatabase Id} {lines : Sn
         (record { draws = draws });
   }
 
-  -- snippet lines are drawn, and then others, however that ends
+  -- snippet lines are rendered, and then others, however that ends
   drawn-then : {xs ys : List (RustLine Id)} {s t u : Sink} {r : Result (Unit {0}) Error} → DrawsAll table lines config xs s (Ok tt) t → DrawsAll table lines config ys t r u
       → DrawsAll table lines config (xs ++ ys) s r u
   drawn-then {xs} {ys} first second = record {
     drawn = asking_as (sym (asked-append table lines config xs ys)) (sym (rows-append table lines config xs ys)) (asking_then first.drawn second.drawn);
   }
 
-  -- snippet lines were drawn, and then the next one, by an equal configuration, however that ends
+  -- snippet lines were rendered, and then the next one, by an equal configuration, however that
+  -- ends
   pub drawn-next : {whole : List (RustLine Id)} {i : ℕ} {snippet_line : RustLine Id} {now : Config} {s t u : Sink} {r : Result (Unit {0}) Error} → StandsAt whole i snippet_line
       → DrawsAll table lines config (take i whole) s (Ok tt) t → now ≡ config → DrawsOne table lines now snippet_line t r u
       → DrawsAll table lines config (take (i + 1) whole) s r u

@@ -160,7 +160,7 @@ module _ {Id : Type 0} (table : FileDatabase Id) (view : RichDiagnostic Id) wher
       pub answered : first_error table.failure asked ≡ None
       pub asked_whole : asked ++ asked_left k ≡ asked_left 0
 
--- no file is drawn
+-- no file is rendered
 pub left-start : {Id : Type 0} {table : FileDatabase Id} {view : RichDiagnostic Id} {renderer : Config} {output_plan : OutputPlan Id} {s : Sink}
     → SnippetsLeft table view output_plan renderer 0 s s
 left-start = record { rows = []; drawn = asking_nothing; rows_whole = refl; asked = []; answered = refl; asked_whole = refl }
@@ -212,7 +212,7 @@ module _ {Id : Type 0} {table : FileDatabase Id} {view : RichDiagnostic Id} {ren
   failure-all : first_error table.failure (asks 0) ≡ all_failure
   failure-all = ap (λ js. first_error table.failure (flat_map (snippet_asked table view) js)) prepared.ids_are
 
-  -- all files are drawn
+  -- all files are rendered
   pub left-end : {gs : List (SnippetPlan Id)} → gs ≡ output_plan.files.items → length gs ≤ k → WritesWithLookups all_failure old (stream_of_rows look all_rows) (Ok tt) mid
   left-end alike past =
       let none : drop k ids ≡ [] =
@@ -270,7 +270,7 @@ module _ {Id : Type 0} {table : FileDatabase Id} {view : RichDiagnostic Id} {ren
     abbrev steps_failure : Option Error
     steps_failure = first_error table.failure (asked_of f.file.now.id (lookups_with snippet_lines))
 
-    -- the snippet is drawn, by an equal configuration
+    -- the snippet is rendered, by an equal configuration
     snippet-here : {r : Result (Unit {0}) Error} {new : Sink} → WritesWithLookups steps_failure mid (stream_of_rows (look_by now) (rows_in f (table.file f.file.now.id) snippet_lines)) r new
         → IsAsking steps_failure mid snippet_stream r new
     snippet-here draws = asking_as refl (λ i. stream_of_rows (look_by (alike i)) (rows_in f (table.file f.file.now.id) snippet_lines)) (record { draws = draws })
@@ -287,7 +287,7 @@ module _ {Id : Type 0} {table : FileDatabase Id} {view : RichDiagnostic Id} {ren
         ∙ ap (λ (b : Bool). stream_of_rows look (snippet (view_config_of view) (locus_view f.locus) own ++ row_after b own)) followed)
         both
 
-    -- the file is drawn
+    -- the file is rendered
     left-next : {new : Sink} → IsAsking (first_error table.failure asked_here) mid (stream_of_rows look rows_here) (Ok tt) new → SnippetsLeft table view output_plan renderer (k + 1) old new
     left-next drawn =
         record {
@@ -320,7 +320,7 @@ module _ {Id : Type 0} {table : FileDatabase Id} {view : RichDiagnostic Id} {ren
 
     module _ {inner : Sink} (draws : WritesWithLookups steps_failure mid (stream_of_rows (look_by now) (rows_in f (table.file f.file.now.id) snippet_lines)) (Ok tt) inner)
         {after : Config} (alike_after : after ≡ now) where
-      -- then the row after it was drawn, by an equal configuration, however that ends
+      -- then the row after it was rendered, by an equal configuration, however that ends
       end-here : {r : Result (Unit {0}) Error} {new : Sink} → Sends inner (stream_of_rows (look_by after) (end_rows f follows)) r new → IfErr r IsIo
           → IsAsking (first_error table.failure asked_here) mid (stream_of_rows look rows_here) r new
       end-here {r} {new} sends io =

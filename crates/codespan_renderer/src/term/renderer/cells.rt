@@ -109,7 +109,7 @@ impl<'text> Cells<'text> {
         }
     }
 
-    /// Returns the column after those of the characters to come that begin at this byte index or
+    /// Returns the column after those of the remaining characters that begin at this byte index or
     /// before it.
     pub fn column_past(&self, place: usize) -> u128
         ensures { result
