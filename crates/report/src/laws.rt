@@ -1,4 +1,5 @@
-//! Laws of scripts, one to a function that does nothing: its contract is the law, over the definitions alone.
+//! Laws of scripts, one to a function that does nothing: its contract is the law, over the
+//! definitions alone.
 //!
 //! [`parse_script`](crate::script::parse_script) promises to read what these definitions say.
 

@@ -9,8 +9,8 @@ use codespan_reporting::term::{Config, Layout, RichDiagnostic};
 use std::ops::Range;
 use std::test::Fail;
 
-/// A text of newlines that is as long as a text can be. Its lines are empty and numbered by their indices, and its
-/// source fails.
+/// A text of newlines that is as long as a text can be. Its lines are empty and numbered by their
+/// indices, and its source fails.
 #[derive(Drop)]
 struct LongestFile<'text> {
     name: &'text str,

@@ -98,7 +98,8 @@ fn is_line_end(byte: u8) -> bool
     matches!(byte, b'\n' | b'\r' | b'\0')
 }
 
-/// Returns the length in bytes of the white space that the text begins with: characters with the Unicode property `White_Space`.
+/// Returns the length in bytes of the white space that the text begins with: characters with the
+/// Unicode property `White_Space`.
 pub fn leading_whitespace(text: &str) -> usize
     ensures { result ≡ leading_whitespace text.now }
 {

@@ -10,7 +10,8 @@ use crate::term::renderer::MultiLabel;
 use crate::term::renderer::cells::Cell;
 use codespan_base::diagnostic::LabelStyle;
 
-/// What the primary multi-line labels cover of a line: all from one byte index on, and all before another.
+/// What the primary multi-line labels cover of a line: all from one byte index on, and all before
+/// another.
 #[derive(Clone, Copy)]
 pub struct PrimaryMarks {
     /// The least start of those that start on the line; 0 where one covers the whole line.

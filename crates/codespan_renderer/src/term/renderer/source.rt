@@ -113,7 +113,8 @@ pub fn is_plain(line: Line<'_, '_>) -> bool
     !has_primary(line.labels) && !has_primary_mark(line.lanes.marks) && !has_tab(line.text)
 }
 
-/// Writes the text of a line, which has these characters, with tabs as spaces, and with style marks where its style changes.
+/// Writes the text of a line, which has these characters, with tabs as spaces, and with style marks
+/// where its style changes.
 fn write_colored_text<W: WriteStyle, C: CharCursor>(
     w: &mut W,
     look: Look<'_>,
@@ -250,7 +251,8 @@ fn write_caret_rows<W: WriteStyle, S: LineSource>(
     Ok(())
 }
 
-/// Writes all rows of a line: its source, its carets, pointers and hanging messages, and its underlines.
+/// Writes all rows of a line: its source, its carets, pointers and hanging messages, and its
+/// underlines.
 pub fn write_line<W: WriteStyle, S: LineSource>(
     w: &mut W,
     look: Look<'_>,

@@ -106,7 +106,8 @@ impl<'cells, 'row, 'd> CachedLine<'cells, 'row, 'd> {
         Ok(())
     }
 
-    /// Returns a cursor over its characters, and the position after the last one where `to_end` is set.
+    /// Returns a cursor over its characters, and the position after the last one where `to_end` is
+    /// set.
     #[inline(always)]
     fn cursor(&self, to_end: bool) -> CachedCursor<'cells, 'row, 'd>
         ensures left { kept_left result.characters
