@@ -127,7 +127,7 @@ pub struct Location {
 ///
 ///     ghost same_is = { λ s. refl };
 ///
-///     // A line past the last fails as there.
+///     // A line past the last one fails as there.
 ///     ghost past_end = { λ s id i.
 ///         simple_past_end (part_name id) (source_of (of_part s.schema s.document id)).now i };
 /// }
