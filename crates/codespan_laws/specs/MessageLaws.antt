@@ -36,8 +36,7 @@ slotted_output renderer view files d loci =
     rendered Rich renderer view d.severity (heading_of d) loci
     (labelled_files files.same files.file (all_slotted (labels_of d))) (notes_of d)
 
--- each message has exactly one slot in the rich output, and with its slots filled that is the
--- output
+-- each message has one slot in the rich output, and with the slots filled that is the output
 pub record MessagesStandOnce {Id : Type 0} (renderer view : Config) (files : FileDatabase Id)
     (d : Diagnostic Id) (loci : List Locus) : Type 0 where
   pub once : (k : ℕ) (x : InFile Id) → slice_get (labels_of d) k ≡ Some x

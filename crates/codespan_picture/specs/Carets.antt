@@ -15,8 +15,7 @@ covers_part x start end = nat_lt (max x.start start) (min x.end end)
 abbrev pub covers : Labelled → Cell → Bool
 covers x c = covers_part x c.place (c.place + c.bytes)
 
--- the style under a character: primary where a primary label is over it, else secondary where a
--- label is
+-- the style under a character: primary where one of the labels over it is
 abbrev pub style_under : List Labelled → Cell → Option LabelStyle
 style_under labels c =
     if list_any (λ x. is_primary x && covers x c) labels then Some Primary
