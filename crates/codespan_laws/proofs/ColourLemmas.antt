@@ -6,7 +6,7 @@ use Rattle.codespan_base.specs.Streams.{Stream, Spelling, StyleMark, Byte, Mark,
 use Rattle.codespan_base.specs.StyleTables.{spelling_by}
 use Rattle.codespan_laws.specs.ColourLaws.{ColoursChangeNoText, NoColourIsPlain, SentByte, sent_bytes}
 
--- the byte that is sent
+-- the byte that is written
 abbrev byte_of : SentByte → ℕ
 byte_of x = x.byte
 

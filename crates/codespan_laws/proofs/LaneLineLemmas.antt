@@ -92,7 +92,7 @@ pub record Begins (layout : Layout) (lane : ℕ) (line : Line) (rows : List Row)
   pub turns : Shows layout lane TopCorner top
   pub goes_on : AllByRecursion (GoesOn layout lane line top) more
 
--- rows in which a lane that came from above ends
+-- rows in which a lane from above ends
 pub record Finishes (layout : Layout) (lane : ℕ) (rows : List Row) : Type 0 where
   pub before : List Row
   pub bottom : Row

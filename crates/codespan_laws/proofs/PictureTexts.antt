@@ -1,4 +1,4 @@
--- The rows of a picture say texts.
+-- The rows of an output are texts.
 use Rattle.std.proofs.Common.{◌≡◌, ℕ, zero, suc, ◌+◌, ◌-◌, ◌<◌, ◌≤◌, Bool, true, false, not, ◌&&◌, ◌==◌, cond, List, [], ◌∷◌, ◌++◌, length, take, drop, get_or, map, filter, reverse, Option, Some, None, encode_utf8_all, refl, sym, ap, ◌∙◌, subst, arith, append_assoc, append-nil, ⊎_elim, ◌||◌}
 use Rattle.std.specs.Prelude.{if◌then◌else◌, IfSome, String, nat_lt, string_bytes}
 use Rattle.std.specs.Char.{encode_utf8}
@@ -174,7 +174,7 @@ rows-notes (note ∷ notes) h =
 
 -- ---- the labels of a line
 
--- what a label says
+-- the message of a label is a text
 abbrev SaysText : Labelled → Type 0
 SaysText x = IsText x.message
 

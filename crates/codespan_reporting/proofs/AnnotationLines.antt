@@ -27,7 +27,7 @@ use Rattle.codespan_laws.proofs.SortedLists.{Falls, all-append, all-weaker, filt
 
 -- ---- ranges
 
--- the label that is said has this range
+-- the label of the annotation has this range
 abbrev pub says_range : ℕ → ℕ → Option Labelled → Bool
 says_range start end None = false
 says_range start end (Some x) = has_range start end x
@@ -92,7 +92,7 @@ module _ {Id : Type 0} {same : Id → Id → Bool} {file : Id → FileModel} {id
     abbrev place_at : List (InFile Id) → LabelIndices
     place_at before = record { file = f; index = length before; lane = lanes_in same file before id }
 
-    -- what a label says of the line
+    -- the annotations of a label on the line
     abbrev said_by : List (InFile Id) → InFile Id → List Annotation
     said_by before x = cond (same id x.id && nat_lt l (line_count own_file)) (line_annotations config own_file (place_at before) x.label l) []
 

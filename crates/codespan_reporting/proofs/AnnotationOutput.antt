@@ -35,7 +35,7 @@ use Rattle.codespan_renderer.specs.Inner.Sweeps.{starts_in_order}
 use Rattle.codespan_reporting.proofs.MarkOrder.{ascends-starts}
 use Rattle.codespan_reporting.proofs.SnippetLineRows.{lines_of_steps, snippet_lines-rows, snippet_lines-fit, snippet_lines-lines, snippet_lines-fills}
 
--- ---- what a group says
+-- ---- the annotations of a group
 
 -- the labels of a range are those of its annotations
 single_labels-of_range : (start end : ℕ) (es : List Annotation) → filter (has_range start end) (singles_in es) ≡ singles_in (filter (is_of_range start end) es)

@@ -93,7 +93,7 @@ module _ {Id : Type 0} (x : CollectedLabel Id) where
   abbrev failed : List Lookup → Option Error
   failed = failure_in x.failure x.id
 
-  -- what is said of the lines below this one
+  -- the annotations of the lines below this one
   abbrev entries_below : ℕ → List Annotation
   entries_below n = flat_map (annotations_on x.config x.file x.label x.at) (range_with_len 0 n)
 
@@ -187,7 +187,7 @@ module _ {Id : Type 0} {x : CollectedLabel Id} where
         further : is_asked x.config x.file x.label n ≡ false → n + 1 ≤ line_count x.file
         further skipped = ⊎_elim (λ (h : n < line_count x.file). omega arith) (λ (h : line_count x.file ≤ n). absurd (at_end skipped h)) (cases_lt n (line_count x.file))
 
-    -- all that the label says
+    -- all annotations of the label
     all_said : ((l : ℕ) → n ≤ l → l < line_count x.file → is_asked x.config x.file x.label l ≡ false)
         → (annotations_of x.config x.file x.at x.label ≡ entries_below x n) × (flat_map of_line (asked_lines x.config x.file x.label) ≡ lookups_below x n) × (label_digits x.file x.label ≡ digits_below x n)
     all_said skipped = (

@@ -39,7 +39,7 @@ text_came old new s plain came = ap (λ (x : Sink). x.held) came ∙ ap (λ (spe
 text_began : (old new : Sink) (s : Stream) → old.frame.spelling ≡ no_marks → PrefixWritten old s new → PrefixAppended old.held (text_of s) new.held
 text_began old new s plain p = record { begun = p.begun; rest = p.rest; whole = p.whole ∙ ap (λ (spelling : Spelling). spelled spelling s) plain; held = p.held }
 
--- what has been written before an error of lookups, said otherwise of the writer
+-- what has been written before an error of lookups, in other words about the writer
 written_before-other : {Id : Type 0} (files : FileDatabase Id) (view : Config) (d : Diagnostic Id) (loci : List Locus) (style : DisplayStyle) {A B : Type 0} {P Q : List Locus → Type 0} (e : Error)
     → (A → B) → ((ps : List Locus) → P ps → Q ps) → WrittenBefore view files d loci A P e style → WrittenBefore view files d loci B Q e style
 written_before-other files view d loci Rich e kept wrote left = λ h. ⊎_elim (λ a. inl (kept a)) (λ k. inr k) (left h)

@@ -136,7 +136,7 @@ module _ (config : Config) (f : FileModel) (at : LabelIndices) (x : Labelled) wh
   abbrev carets : ℕ → Annotation
   carets l = entry_on l (Single at.index (drawn_label f x))
 
-  -- what it says of a line, where it is inside the line and where it shows it
+  -- its annotations on a line, where it is inside the line and where it shows it
   abbrev said_where : ℕ → Bool → Bool → List Annotation
   said_where l a b = annotation_if_any at.file l (cond a (Some (Single at.index (drawn_label f x))) (cond b (Some Shown) None))
 
@@ -148,7 +148,7 @@ module _ (config : Config) (f : FileModel) (at : LabelIndices) (x : Labelled) wh
   abbrev pub marked_on : ℕ → List Annotation
   marked_on l = marked_where l (is_single f x) (mark_of at.lane x (part_on f l x))
 
-  -- what it says of a line itself
+  -- its own annotations on a line
   abbrev said_on : ℕ → List Annotation
   said_on l = said_where l (is_single f x && (first_line f x == l)) (shows config (first_line f x) (last_line f x) l)
 
@@ -191,7 +191,7 @@ module _ (config : Config) (f : FileModel) (at : LabelIndices) (x : Labelled) wh
       unmarked true = refl
       unmarked false = refl
 
-  -- of a line that the file has its annotations are what it says of the line
+  -- on a line that the file has these are its annotations
   pub annotations-of_line : (l : ℕ) → filter (is_on_line l) (annotations_of config f at x) ≡ cond (nat_lt l (line_count f)) (line_annotations config f at x l) []
   annotations-of_line l =
       on-line (line_annotations config f at x) (λ k. each-of_line (λ e. e.line ≡ k) k (λ s. refl)) (is_asked config f x) l (line_count f) 0
@@ -245,7 +245,7 @@ module _ (config : Config) (f : FileModel) (at : LabelIndices) (x : Labelled) wh
       by_tests false true = refl
       by_tests false false = refl
 
-  -- it says of the lines that it shows that they are shown: a label inside a line shows that line
+  -- its annotations make the lines shown that it shows: a label inside a line shows that line
   pub any-of_line : (l : ℕ) → list_any shows_line (line_annotations config f at x l) ≡ shows config (first_line f x) (last_line f x) l
   any-of_line l =
       list_any-append shows_line (said_on l) (marked_on l)

@@ -58,7 +58,7 @@ module _ {Id : Type 0} {same : Id → Id → Bool} (o : IsEquivalence same) (xs 
     annotations-stay before (y ∷ ys) there = λ i.
         annotations_of config (file y.id) (record { file = stays y.id there.0 i; index = length before; lane = lanes_in same file before y.id }) y.label ++ annotations-stay (before ++ y ∷ []) ys there.1 i
 
-    -- it is said of these files
+    -- the annotations are of these files
     annotations-inside : (before ys : List (InFile Id)) → AllByRecursion (λ (y : InFile Id). has same o were y.id ≡ true) ys
         → AllByRecursion (λ (e : Annotation). e.file < length were) (annotations_after same file config were before ys)
     annotations-inside before [] there = tt

@@ -127,7 +127,7 @@ module _ {Id : Type 0} {table : FileDatabase Id} (lawful : AreFiles table) {labe
         ap (λ (all : List ℕ). get_or all (index_of_file same ids label.file_id) 0) g.lanes_are
         ∙ kept-at o (lanes_in same file (before labels index)) (lanes_in-alike lawful (before labels index)) ids label.file_id 0 (has-file turn o)
 
-    -- what the label says was added
+    -- the label's annotations were added
     added-more : (more : FoundAnnotations Id) → AddsOf (file label.file_id) found.annotations.items more.annotations.items (annotations_of config (file label.file_id) here (label_of label).label)
         → Adds (IsOfFiles file ids) [] more.annotations.items (annotations_after same file config ids [] (before labels (index + 1)))
     added-more more adds =

@@ -1,4 +1,4 @@
--- The snippets of a sheet, one after another.
+-- The snippets of an output plan, one after another.
 use Rattle.std.proofs.Common.{◌≡◌, ℕ, zero, suc, ◌+◌, ◌-◌, ◌<◌, ◌≤◌, Bool, true, false, ◌||◌, List, [], ◌∷◌, ◌++◌, length, take, drop, get_or, map, Option, None, Result, Ok, Err, refl, sym, subst, subst₂, ap, ◌∙◌, arith, lt-ltb}
 use Rattle.std.specs.Prelude.{IfErr, flat_map, nat_lt, if◌then◌else◌}
 use Rattle.std.proofs.Math.Nat.{add-sub_cancel_left}
@@ -326,7 +326,7 @@ module _ {Id : Type 0} {table : FileDatabase Id} {view : RichDiagnostic Id} {ren
       end-here {r} {new} sends io =
           drawn-here (asking_then (snippet-here draws) (asking_of_sends r (sends_at (λ (c : Config). stream_of_rows (look_by c) (end_rows f follows)) (alike_after ∙ alike) inner new r sends) io))
 
-      -- it came
+      -- it was written
       pub next-file : {new : Sink} → WroteStream inner (stream_of_rows (look_by after) (end_rows f follows)) new → SnippetsLeft table view output_plan renderer (k + 1) old new
       next-file came = left-next (end-here came tt)
 

@@ -245,7 +245,7 @@ module _ {Id : Type 0} {table : FileDatabase Id} (lawful : AreFiles table) {conf
 -- ---- what was collected, with its plans
 
 module _ {Id : Type 0} {table : FileDatabase Id} (lawful : AreFiles table) {config : Config} {xs : List (InFile Id)} {collected : Collected Id} (all : IsCollected table config xs collected) where
-  -- plans fail with what the sheet fails with
+  -- plans fail with what the output plan fails with
   pub failure-is : plans_failure config.layout table.failure collected ≡ output_plan_failure config table xs
   failure-is = λ i. first_error table.failure (numbers-are lawful all i ++ places-are lawful all i)
 

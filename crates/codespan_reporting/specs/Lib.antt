@@ -27,7 +27,7 @@ pub use Rattle.codespan_picture.specs.Picture
 pub use Rattle.codespan_picture.specs.StatedPicture
 pub use Rattle.codespan_picture.specs.Lookups
 pub use Rattle.codespan_picture.specs.Given
--- what a picture means
+-- what an output means
 pub use Rattle.codespan_laws.specs.CaretLaws
 pub use Rattle.codespan_laws.specs.ColourLaws
 pub use Rattle.codespan_laws.specs.LaneLaws

@@ -60,9 +60,9 @@ picture_text style name source said =
     (map stated_locus (starts (λ i j. true) (only_file name source) (labels_said said) style))
     (labelled_files (λ i j. true) (only_file name source) (labels_said said)) said.notes)
 
--- ---- what is said
+-- ---- the diagnostics
 
--- what a request says: an error with its message, and one primary label with the same
+-- the diagnostic of a request: an error with its message, and one primary label with the same
 abbrev pub said_of_request : RequestView → DiagnosticView (Unit {0})
 said_of_request request = record {
   severity = severities.Error;

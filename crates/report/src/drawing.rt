@@ -44,7 +44,7 @@ fn draw_request(alloc: Global, request: &Request<'_>, input: &str) -> Result<Str
     Ok(draw_over(alloc, request.style, request.name, input, &diagnostic)?)
 }
 
-/// Renders what a script says over its source, or its first error over the whole input.
+/// Renders the diagnostic of a script over its source, or its first error over the whole input.
 fn draw_script(alloc: Global, style: DisplayStyle, name: &str, input: &str) -> Result<String, Fault>
     ensures text { IfOk result (λ text.
         drawing_of_script style name.now input.now (read_script input.now)

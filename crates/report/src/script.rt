@@ -25,7 +25,7 @@ use std::ops::Range;
 /// A label of a script: its style, the bytes of the source that it covers, and its message.
 pub type Labelled<'input> = (LabelStyle, Range<usize>, &'input str);
 
-/// What a script says, with texts of the input that it was read from.
+/// What a script states, with texts borrowed from the input that it was parsed from.
 #[derive(Debug, Drop)]
 pub struct Script<'input> {
     /// The severity; an error if the script states none.
