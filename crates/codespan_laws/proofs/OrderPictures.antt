@@ -142,7 +142,8 @@ module _ {Id : Type 0} (same : Id → Id → Bool) (file : Id → FileModel) (o 
   files-alike (i ∷ is) (j ∷ js) h =
       ap₂ (λ s ss. s ∷ ss) (file-alike i j (first_so (same i j) (pointwise same is js) h)) (files-alike is js (second_so (same i j) (pointwise same is js) h))
 
--- a reordering that keeps these orders changes nothing in a rich output, where equal ids have one file
+-- a reordering that keeps these orders changes nothing in a rich output, where equal ids have one
+-- file
 pub order_is_free : {Id : Type 0} (same : Id → Id → Bool) (file : Id → FileModel) → OrderIsFree same file
 order_is_free {Id} same file xs ys o one_file orders = record {
   same_starts = starts-same ids ∙ ap (map snippet_start) others;

@@ -316,7 +316,8 @@ in-reverse x xs i = all-in (λ y. IsIn y (reverse xs)) x xs (each xs) i
     each (y ∷ ys) = subst (λ zs. AllByRecursion (λ z. IsIn z zs) (y ∷ ys)) (sym (reverse-cons y ys))
         (first y (reverse ys), all-weaker (λ z. IsIn z (reverse ys)) (λ z. IsIn z (reverse ys ++ y ∷ [])) (λ z i. front z y (reverse ys) i) ys (each ys))
 
--- a filter keeps of a sorted list, from its end, what it keeps of the list that was sorted, where that falls
+-- a filter keeps of a sorted list, from its end, what it keeps of the list that was sorted, where
+-- that falls
 pub filter-sorted_falls : {X : Type 0} (lt : X → X → Bool) → IsStrictWeakOrder lt → (given sorted : List X) → IsPermutation given sorted → IsSortedBy lt sorted
     → (q : X → Bool) → Falls lt (filter q given) → filter q sorted ≡ reverse (filter q given)
 filter-sorted_falls lt o given sorted perm up q falls =

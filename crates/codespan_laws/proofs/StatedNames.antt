@@ -82,7 +82,8 @@ module _ {Id : Type 0} (files : FileDatabase Id) (d : Diagnostic Id) (named : Na
       → output style renderer view files d loci ≡ output style renderer view files d (stated_loci files d style)
   output_stated style renderer view loci are = ap (output style renderer view files d) (loci_stated style loci are)
 
-  -- and the headers before a label that fails are those of the labels before the first one that fails
+  -- and the headers before a label that fails are those of the labels before the first one that
+  -- fails
   headers_stated : (config : Config) (loci : List Locus) → AreLoci files d Short loci
       → (before : List (InFile Id)) (here : InFile Id) (after : List (InFile Id)) → before ++ here ∷ after ≡ primary_of (labels_of d)
       → AllSucceed files.failure (flat_map header_lookups_of before) → (e : Error) → first_error files.failure (header_lookups_of here) ≡ Some e

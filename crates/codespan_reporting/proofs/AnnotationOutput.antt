@@ -1,4 +1,5 @@
--- From all annotations of a diagnostic in order the walk makes, for each file, the rows of its snippet.
+-- From all annotations of a diagnostic in order the walk makes, for each file, the rows of its
+-- snippet.
 use Rattle.std.proofs.Common.{◌≡◌, ℕ, ◌<◌, ◌≤◌, Bool, true, false, cond, ◌==◌, ◌&&◌, ◌||◌, List, [], ◌∷◌, ◌++◌, map, filter, reverse, Option, Some, None, refl, sym, ◌∙◌, ap, subst, arith}
 use Rattle.std.specs.List.{list_any, cons_option, range_with_len, AllByRecursion}
 use Rattle.std.proofs.lemmas.Bool.{eqb-true, le-ltb, ltb-false}

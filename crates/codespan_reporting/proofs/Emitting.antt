@@ -100,7 +100,8 @@ module _ {Id : Type 0} {config : Config} {files : FileDatabase Id} {d : Diagnost
     means = drawn.means;
   }
 
-  -- an output that was rendered to a borrowed writer: the writer behind the reference has received the text, or a prefix of it
+  -- an output that was rendered to a borrowed writer: the writer behind the reference has received
+  -- the text, or a prefix of it
   pub written_back : {W : Type 0} (contents : W → Option (List ℕ)) (before after : PlainWriterRef W) {name : GName} {held : Option (List ℕ)} {x : W} {r : Result (Unit {0}) Error}
       → plain_ref_sink contents before ≡ fresh_plain_ref name held
       → WritesStyled config.display_style config config files d (plain_ref_sink contents before) r (plain_ref_sink contents after)

@@ -43,7 +43,8 @@ pub map-changed : {X A : Type 0} (h : X → A) (d : A) (snippet_line : A → A) 
 map-changed h d snippet_line {xs} {index} {x} at new is =
     map-set h xs index new ∙ ap (set (map h xs) index) (is ∙ ap snippet_line (ap h at.is ∙ sym (get_or-map h xs index x d at.inside)))
 
--- the table is lawful: sameness of ids is an equivalence, the same ids name one file, and each file has a line
+-- the table is lawful: sameness of ids is an equivalence, the same ids name one file, and each file
+-- has a line
 pub record AreFiles {Id : Type 0} (table : FileDatabase Id) : Type 0 where
   pub equivalence : IsEquivalence table.same
   pub one_file : (i j : Id) → table.same i j ≡ true → table.file i ≡ table.file j
@@ -59,7 +60,8 @@ are-files is equivalence same_file lawful = record {
   some_line = λ id. (lawful id).some_line;
 }
 
--- where what is kept for each id changes, it is this for those that are the same as one, and stays for the others
+-- where what is kept for each id changes, it is this for those that are the same as one, and stays
+-- for the others
 pub record IsChanged {Id A : Type 0} (same : Id → Id → Bool) (i : Id) (h more : Id → A) (v : A) : Type 0 where
   pub own : (j : Id) → same j i ≡ true → more j ≡ v
   pub others : (j : Id) → same j i ≡ false → more j ≡ h j

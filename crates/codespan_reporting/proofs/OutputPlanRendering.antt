@@ -87,7 +87,8 @@ module _ {Id : Type 0} {files : List (SnippetPlan Id)} {k : ℕ} {f : SnippetPla
   index-at = ap (λ (g : SnippetPlan Id). locus_view g.locus) at.is ∙ sym (get_or-map (λ (g : SnippetPlan Id). locus_view g.locus) files k f (locus_view f.locus) at.inside)
 
 module _ {Id : Type 0} (table : FileDatabase Id) (config : Config) (xs : List (InFile Id)) where
-  -- the file is that of its labels, with the snippet lines that it counts in front, and the rest is of the files after it
+  -- the file is that of its labels, with the snippet lines that it counts in front, and the rest is
+  -- of the files after it
   abbrev pub IsFirstFile : List (SnippetPlan Id) → SnippetPlan Id → List (RustLine Id) → Type 0
   IsFirstFile later f snippet_lines =
       IsSnippetPlan config (labelled_file table.same table.file xs f.file.now.id) f (take f.line_total snippet_lines) × AreSnippetPlans table config xs later (drop f.line_total snippet_lines)

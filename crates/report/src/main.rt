@@ -9,12 +9,12 @@
 //! | status | what was done | standard error |
 //! |---|---|---|
 //! | 0 | the output was written to standard output | nothing |
-//! | 1 | the input could not be read or was not UTF-8; rendering, writing, or memory for the arguments failed | one line: which of them |
+//! | 1 | the input is unreadable or not UTF-8, or rendering or writing failed | one line: which |
 //! | 2 | nothing: the arguments are wrong | one line: the usage |
-//! | 3 | nothing: the script has an error | its rendered diagnostic, whole; if writing that fails, the status is 1 |
+//! | 3 | nothing: the script has an error | its whole diagnostic; status 1 if that fails |
 //!
 //! Nothing is written to standard output before the whole output is rendered. Arguments that are
-//! not UTF-8 are wrong.
+//! not UTF-8 are wrong; where memory for them runs out, the status is 1.
 #![tactic(auto)]
 
 mod arguments;
