@@ -43,7 +43,8 @@ pub map-changed : {X A : Type 0} (h : X → A) (d : A) (snippet_line : A → A) 
 map-changed h d snippet_line {xs} {index} {x} at new is =
     map-set h xs index new ∙ ap (set (map h xs) index) (is ∙ ap snippet_line (ap h at.is ∙ sym (get_or-map h xs index x d at.inside)))
 
--- the table is lawful: sameness of ids is an equivalence, the same ids name one file, and each file
+-- the file database is lawful: sameness of ids is an equivalence, the same ids name one file, and
+-- each file
 -- has a line
 pub record AreFiles {Id : Type 0} (table : FileDatabase Id) : Type 0 where
   pub equivalence : IsEquivalence table.same

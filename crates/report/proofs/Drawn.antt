@@ -29,7 +29,7 @@ labels_alike [] = refl
 labels_alike (x ∷ xs) = ap (λ rest. label_of x ∷ rest) (labels_alike xs)
 
 module _ (style : DisplayStyle) (d : Diagnostic (Unit {0})) where
-  -- a table of that file alone
+  -- a file database of that file alone
   abbrev table_at : List ℕ → List ℕ → Failures (Unit {0}) → FileDatabase (Unit {0})
   table_at name source failure = record { same = λ i j. true; file = only_file name source; failure = failure }
 

@@ -1,4 +1,4 @@
-//! File databases of tables, and a view rendered plain and in colors.
+//! File databases of names and texts, and a view rendered plain and in colors.
 
 use codespan_base_tests::writers::sequences::without_sequences;
 use codespan_reporting::files::{Error, Files, SimpleFiles};
