@@ -23,7 +23,7 @@ def one(source, labels, **more):
 
 
 def spaced(count, by, width, message=''):
-    """Secondary labels that stand in one line, a distance apart."""
+    """Secondary labels in one line, a distance apart."""
     return [('secondary', 0, at * by, at * by + width, message and '%s%d' % (message, at)) for at in range(count)]
 
 

@@ -5,7 +5,7 @@ import pathlib
 import subprocess
 import sys
 
-# The manifest of a copy of the crate's source, by which cargo takes it in place of what is published.
+# The manifest of a copy of the crate's source, by which cargo takes it instead of the published crate.
 COPY = """[package]
 name = "codespan-reporting"
 version = "0.13.1"
@@ -39,7 +39,7 @@ def settings(out):
 
 
 def built(folder):
-    """Builds the program of a folder, and answers where it is."""
+    """Builds the program of a folder, and returns its path."""
     out = folder / 'out'
     options = [word for setting in settings(out) for word in ('--config', setting)]
     build = ['cargo', 'build', '--quiet', '--release', '--manifest-path', str(folder / 'Cargo.toml'), '--target-dir', str(out)]
@@ -49,7 +49,7 @@ def built(folder):
 
 
 def answers(text):
-    """What the program `compare` says of each case of an input: its name, `drawn`, `refused` or `panicked`, and a text."""
+    """What the program `compare` prints of each case of an input: its name, `drawn`, `refused` or `panicked`, and a text."""
     said = subprocess.run([built(pathlib.Path(__file__).resolve().parent)], input=text.encode(), stdout=subprocess.PIPE, check=True).stdout
     while said:
         head, _, rest = said.partition(b'\n')

@@ -49,7 +49,7 @@ class Reader:
         return values
 
     def value(self):
-        """A value: a text, a number, a list, a tuple, or a name, with what stands in brackets behind it."""
+        """A value: a text, a number, a list, a tuple, or a name, with what is in brackets behind it."""
         token = self.next()
         if token == '&':
             return self.value()

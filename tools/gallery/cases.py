@@ -30,7 +30,7 @@ def is_seen(character):
 
 
 def escaped(text):
-    """The text as the gallery reads it: one line, with each odd character, and a blank at its end, as an escape."""
+    """The text as the gallery reads it: one line, with each odd character, and a space at its end, as an escape."""
     spelled = [SPELLED.get(c, c if is_seen(c) else '\\u{%x}' % ord(c)) for c in text]
     if spelled and spelled[-1] == ' ':
         spelled[-1] = '\\u{20}'
@@ -38,7 +38,7 @@ def escaped(text):
 
 
 def line(*fields):
-    """A line of these fields; one that would end in a blank ends before it."""
+    """A line of these fields; one that would end in a space ends before it."""
     return ' '.join(fields).rstrip(' ')
 
 
@@ -128,7 +128,7 @@ def read_cases(text):
 
 
 def outcomes(oracle, cases):
-    """What the comparison program says of each case: `ok` and the picture, or `err`, the error and what was drawn before it."""
+    """What the comparison program prints of each case: `ok` and the output, or `err`, the error and what was written before it."""
     rows = ''.join(row + '\n' for case in cases for row in case.rows())
     answer = subprocess.run([oracle, '--impl', 'ported'], input=rows.encode(), stdout=subprocess.PIPE, check=True).stdout.decode()
     said = answer.splitlines()
@@ -140,7 +140,7 @@ def outcomes(oracle, cases):
 
 
 def written(case, kind, texts):
-    """A picture under its name, as the gallery writes it: of `ok` and the picture, or of `err`, the error and what was drawn before it."""
+    """An output under its name, as the gallery writes it: of `ok` and the output, or of `err`, the error and what was written before it."""
     colours = case.looks['colours']
     drawn = texts[0] if kind == 'ok' else texts[1] if colours == 'ansi' else ''
     if colours == 'svg' and kind == 'ok':
@@ -150,7 +150,7 @@ def written(case, kind, texts):
 
 
 def section(name):
-    """What stands under a name in the stored output."""
+    """The section under a name in the stored output."""
     text = '\n' + (GALLERY / 'stdout').read_bytes().decode()
     return text.split('\n== %s\n' % name, 1)[1].split('\n== ', 1)[0].rstrip('\n') + '\n'
 

@@ -31,7 +31,7 @@ def cells(c):
 
 
 def placed(characters):
-    """Glyphs with the row and the column where each stands; newlines are left out."""
+    """Glyphs with the row and the column of each; newlines are left out."""
     row = column = 0
     for c, ink in characters:
         if c == '\n':
@@ -42,7 +42,7 @@ def placed(characters):
 
 
 def texts(characters):
-    """The glyphs that stand in one text each: those of a row that follow one another in one ink and take one cell or none; others stand alone."""
+    """The glyphs of each text: those of a row that follow one another in one ink and take one cell or none; any other alone."""
     joined = []
     for glyph in placed(characters):
         if joined and not (joined[-1][0] == glyph[0] and joined[-1][3] == glyph[3] and cells(joined[-1][2]) < 2 and cells(glyph[2]) < 2):

@@ -41,12 +41,12 @@ partly-then o a b m k p q = λ told.
 pub partly-before : (o : Option (List ℕ)) (a b : List ℕ) (k : Option (List ℕ)) → PaintedPartly o a k → PaintedPartly o (a ++ b) k
 partly-before o a b k p = λ told. PrefixAppended-first o a k b (p told)
 
--- the last call gives the clause of all
+-- from the last call follows the clause of all
 pub paints-last : {E : Type 0} (o : Option (List ℕ)) (a b : List ℕ) (m k : Option (List ℕ)) (r : Result (Unit {0}) E) → Painted o a m → AppendsBytes m b r k → AppendsBytes o (a ++ b) r k
 paints-last o a b m k (Ok x) p q = painted-then o a b m k p q
 paints-last o a b m k (Err x) p q = partly-then o a b m k p q
 
--- the call that failed gives the clause of all
+-- from the call that failed follows the clause of all
 pub paint-failed : {E : Type 0} (Q : E → Type 0) (o : Option (List ℕ)) (a : List ℕ) (k : Option (List ℕ)) (r : Result (Unit {0}) E) → IsErrAnd r Q → PaintedPartly o a k → AppendsBytes o a r k
 paint-failed Q o a k r h p = let e = (err_from_is_err_and r h).1 in rw e p
 

@@ -36,11 +36,11 @@ stopped-then a {s} {t} {u} {b} p q = (
 pub stopped-before : (b : Stream) {s t : Sink} {a : Stream} → WrotePrefix s a t → WrotePrefix s (a ++ b) t
 stopped-before b {s} {t} {a} p = (p.0, λ told. PrefixWritten-first s a t b (p.1 told))
 
--- the last call gives the clause of all
+-- from the last call follows the clause of all
 pub sends-last : {E : Type 0} (s : Sink) (a b : Stream) {t : Sink} (u : Sink) (r : Result (Unit {0}) E) → WroteStream s a t → Sends t b r u → Sends s (a ++ b) r u
 sends-last s a b u (Ok x) p q = came-then s a b p q
 sends-last s a b u (Err x) p q = stopped-then a p q
 
--- the call that failed gives the clause of all
+-- from the call that failed follows the clause of all
 pub failed : {E : Type 0} (Q : E → Type 0) (s : Sink) (a : Stream) (t : Sink) (r : Result (Unit {0}) E) → IsErrAnd r Q → WrotePrefix s a t → Sends s a r t
 failed Q s a t r h p = let e = (err_from_is_err_and r h).1 in rw e p

@@ -1,7 +1,7 @@
 //! Diagnostics, file databases, and the configuration and the writers of rendering.
 //!
-//! Users name these by the paths of `codespan_reporting`, which re-exports `diagnostic`, `files` and `term`, and the laws as
-//! `codespan_base::laws`.
+//! Users name these by the paths of `codespan_reporting`, which re-exports `diagnostic`, `files`
+//! and `term`, and the laws as `codespan_base::laws`.
 #![tactic(auto)]
 
 pub mod files;

@@ -90,7 +90,8 @@ module _ (l : List (ℕ × ℕ)) (k at : ℕ) (gap : IsGapFor l k at) where
   pub setting_in_gap : 0 < at → setting l k ≡ Some (get_or l (at - 1) (0, 0))
   setting_in_gap some = last_set l k (at - 1) (omega (arith, gap.in_range)) (omega (arith, gap.smaller_before (at - 1) (omega arith))) (λ j g h. gap.greater_after j (omega arith) h)
 
-  -- it keeps the order: each new index is an old one below the gap, k at it, or an old one moved up by one
+  -- it keeps the order: each new index is an old one below the gap, k at it, or an old one moved up
+  -- by one
   pub sorted_insert : (v : ℕ) → IsStrictlySorted l → IsStrictlySorted (insert l at (k, v))
   sorted_insert v sorted i j lt in_range =
       let new = insert l at (k, v) in

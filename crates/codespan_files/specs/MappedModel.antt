@@ -23,7 +23,7 @@ setting (s ∷ ss) i = nearer (setting ss i) (if nat_le s.0 i then Some s else N
     nearer (Some later) earlier = Some later
     nearer None earlier = earlier
 
--- the settings with one more, in place of an earlier one of the same index
+-- the settings with one more, which replaces an earlier one of the same index
 abbrev pub with_number : ℕ → ℕ → List (ℕ × ℕ) → List (ℕ × ℕ)
 with_number i number [] = (i, number) ∷ []
 with_number i number (s ∷ ss) =

@@ -1,7 +1,7 @@
 //! Diagnostics as data: severities, labels on ranges of files, messages and notes.
 //!
-//! Constructors do not allocate and do not fail. The calls that begin with `with_` take a value and return it with one field changed;
-//! where such a call fails, the value is dropped.
+//! Constructors do not allocate and do not fail. The calls that begin with `with_` take a value and
+//! return it with one field changed; where such a call fails, the value is dropped.
 
 ghost use Rattle.std.specs.Prelude.{◌≡◌, ◌++◌, ◌∷◌, [], IfOk, IfSome, IfErr, OnErr, IsErrOf, IsSome, String, string_bytes, map, Some, None};
 ghost use Rattle.std.specs.Global.{Global};
@@ -19,7 +19,8 @@ use std::alloc::Global;
 use std::fmt::Display;
 use std::ops::Range;
 
-/// The severity of a diagnostic. The order is the Rust crate's: `Help` < `Note` < `Warning` < `Error` < `Bug`.
+/// The severity of a diagnostic. The order is the Rust crate's: `Help` < `Note` < `Warning` <
+/// `Error` < `Bug`.
 ///
 /// Equality, order and hash agree, by the law [`codespan_base::laws::severities_agree`].
 ///
@@ -50,7 +51,8 @@ pub enum Severity {
 /// Equality and order agree, by the law [`codespan_base::laws::label_styles_agree`].
 #[derive(Clone, Copy, Debug, PartialEq, Eq, PartialOrd)]
 pub enum LabelStyle {
-    /// Labels what the diagnostic is about. Short and medium style render a header for each primary label.
+    /// Labels what the diagnostic is about. Short and medium style render a header for each primary
+    /// label.
     Primary,
     /// Labels a range that explains more of it.
     Secondary,
@@ -70,15 +72,18 @@ pub struct Label<FileId> {
     pub style: LabelStyle,
     /// The id of the file, in the file database that the diagnostic is rendered with.
     pub file_id: FileId,
-    /// The labeled bytes of the file's text, from 0, with an exclusive end. Any range is valid, also one past the end of the text, off
-    /// character boundaries, or with its start after its end.
+    /// The labeled bytes of the file's text, from 0, with an exclusive end. Any range is valid,
+    /// also one past the end of the text, off character boundaries, or with its start after its
+    /// end.
     pub range: Range<usize>,
-    /// The message: one line, without line breaks, by the Rust crate's documentation. An empty one is not rendered.
+    /// The message: one line, without line breaks, by the Rust crate's documentation. An empty one
+    /// is not rendered.
     pub message: String,
 }
 
 impl<FileId> Label<FileId> {
-    /// Returns a label of this style without a message. The range is in bytes of the text, from 0, with an exclusive end.
+    /// Returns a label of this style without a message. The range is in bytes of the text, from 0,
+    /// with an exclusive end.
     pub fn new(alloc: Global, style: LabelStyle, file_id: FileId, range: Range<usize>) -> Self
         ensures style { result.style ≡ style }
         ensures file_id { result.file_id ≡ file_id }
@@ -93,8 +98,8 @@ impl<FileId> Label<FileId> {
         }
     }
 
-    /// Returns a label of style [`LabelStyle::Primary`] without a message. The range is in bytes of the text, from 0, with an exclusive
-    /// end.
+    /// Returns a label of style [`LabelStyle::Primary`] without a message. The range is in bytes of
+    /// the text, from 0, with an exclusive end.
     pub fn primary(alloc: Global, file_id: FileId, range: Range<usize>) -> Self
         ensures style { result.style ≡ LabelStyle.Primary }
         ensures file_id { result.file_id ≡ file_id }
@@ -104,8 +109,8 @@ impl<FileId> Label<FileId> {
         Label::new(alloc, LabelStyle::Primary, file_id, range)
     }
 
-    /// Returns a label of style [`LabelStyle::Secondary`] without a message. The range is in bytes of the text, from 0, with an exclusive
-    /// end.
+    /// Returns a label of style [`LabelStyle::Secondary`] without a message. The range is in bytes
+    /// of the text, from 0, with an exclusive end.
     pub fn secondary(alloc: Global, file_id: FileId, range: Range<usize>) -> Self
         ensures style { result.style ≡ LabelStyle.Secondary }
         ensures file_id { result.file_id ≡ file_id }
@@ -119,7 +124,8 @@ impl<FileId> Label<FileId> {
 impl<FileId: Drop> Label<FileId> {
     ghost use Rattle.codespan_files.specs.Diagnostics.{IsTextFailure};
 
-    /// Returns the label with the text that `message` displays as its message, in place of the earlier one.
+    /// Returns the label with the text that `message` displays as its message, instead of the
+    /// earlier one.
     ///
     /// # Errors
     ///
@@ -160,9 +166,10 @@ impl<FileId: Copy> Label<FileId> {
 
 /// A diagnostic: what a compiler, or any program that reads texts, reports.
 ///
-/// The order of its labels decides the order of files, of lanes and of equal ranges in rich style, the order of headers in the other
-/// styles, and which error is returned where several lookups fail; nothing else. The Rust crate's documentation says that the order has
-/// no meaning, but its code does the same.
+/// The order of its labels decides the order of files, of lanes and of equal ranges in rich style,
+/// the order of headers in the other styles, and which error is returned where several lookups
+/// fail; nothing else. The Rust crate's documentation says that the order has no meaning, but its
+/// code does the same.
 ///
 /// # Examples
 ///
@@ -181,7 +188,8 @@ pub struct Diagnostic<FileId> {
     pub severity: Severity,
     /// The code of this kind of diagnostic. An empty one is not rendered.
     pub code: Option<String>,
-    /// The message: one line that makes sense without labels and notes, by the Rust crate's documentation.
+    /// The message: one line that makes sense without labels and notes, by the Rust crate's
+    /// documentation.
     pub message: String,
     /// The labels.
     pub labels: Vec<Label<FileId>>,
@@ -218,7 +226,8 @@ impl<FileId> Diagnostic<FileId> {
         Diagnostic::new(alloc, Severity::Bug)
     }
 
-    /// Returns a diagnostic of severity [`Severity::Error`], with empty texts and lists and no code.
+    /// Returns a diagnostic of severity [`Severity::Error`], with empty texts and lists and no
+    /// code.
     pub fn error(alloc: Global) -> Self
         ensures severity { result.severity ≡ Severity.Error }
         ensures code { result.code ≡ None }
@@ -229,7 +238,8 @@ impl<FileId> Diagnostic<FileId> {
         Diagnostic::new(alloc, Severity::Error)
     }
 
-    /// Returns a diagnostic of severity [`Severity::Warning`], with empty texts and lists and no code.
+    /// Returns a diagnostic of severity [`Severity::Warning`], with empty texts and lists and no
+    /// code.
     pub fn warning(alloc: Global) -> Self
         ensures severity { result.severity ≡ Severity.Warning }
         ensures code { result.code ≡ None }
@@ -335,7 +345,8 @@ impl<FileId: Drop> Diagnostic<FileId> {
     ///
     /// # Requires
     ///
-    /// Whichever iterator `into_iter` returns: its `next` may be called, and its items come to an end.
+    /// Whichever iterator `into_iter` returns: its `next` may be called, and its items come to an
+    /// end.
     pub fn with_labels_iter<I: IntoIterator<Item = Label<FileId>>>(
         mut self,
         labels: I,
@@ -399,7 +410,8 @@ impl<FileId: Drop> Diagnostic<FileId> {
     ///
     /// # Requires
     ///
-    /// Whichever iterator `into_iter` returns: its `next` may be called, and its items come to an end.
+    /// Whichever iterator `into_iter` returns: its `next` may be called, and its items come to an
+    /// end.
     pub fn with_notes_iter<I: IntoIterator<Item = String>>(
         mut self,
         notes: I,

@@ -1,10 +1,12 @@
 //! The lookups that rendering makes, and file databases.
 //!
-//! [`Files`] is the trait of file databases. This module has three implementations: [`SimpleFile`] has one text, [`SimpleFiles`] many,
-//! and [`MappedFile`] one text whose line numbers can be set as `#line` does in C. They are small; implement [`Files`] for other
-//! databases, for example over the sources that a compiler keeps.
+//! [`Files`] is the trait of file databases. This module has three implementations: [`SimpleFile`]
+//! has one text, [`SimpleFiles`] many, and [`MappedFile`] one text whose line numbers can be set as
+//! `#line` does in C. They are small; implement [`Files`] for other databases, for example over the
+//! sources that a compiler keeps.
 //!
-//! Line indices and byte indices count from 0, and the end of a range is exclusive. Line numbers and column numbers are for users.
+//! Line indices and byte indices count from 0, and the end of a range is exclusive. Line numbers
+//! and column numbers are for users.
 
 ghost use Rattle.std.specs.Prelude.{◌≡◌, true, Option, IfOk, ℕ};
 ghost use Rattle.codespan_files.specs.LawfulFiles.{FailsBy};
@@ -43,19 +45,22 @@ pub struct Location {
 ///
 /// # The law
 ///
-/// The ghost member `database` says what a database returns: which ids are equal, the file of an id, and the error of each lookup. Each
-/// call returns what `database` says, so a result depends on the database and on the arguments alone. Only [`Error::OutOfMemory`] is
-/// free: any call may return it where an allocation fails. An implementation proves this and the following, and the contracts of
-/// rendering rest on it:
+/// The ghost member `database` says what a database returns: which ids are equal, the file of an
+/// id, and the error of each lookup. Each call returns what `database` says, so a result depends on
+/// the database and on the arguments alone. Only [`Error::OutOfMemory`] is free: any call may
+/// return it where an allocation fails. An implementation proves this and the following, and the
+/// contracts of rendering rest on it:
 ///
-/// - A file is a name, a text, a strictly ascending list of line starts, and an end for each line. Lines are counted from 0 by their
-///   indices, and offsets are bytes of the text. The text is UTF-8, and shorter than 2^64 bytes, as each `str` is.
-/// - The first line starts at byte 0. Starts and ends are character boundaries of the text. A line's end is not before its start, nor
-///   after the next line's start.
+/// - A file is a name, a text, a strictly ascending list of line starts, and an end for each line.
+///   Lines are counted from 0 by their indices, and offsets are bytes of the text. The text is
+///   UTF-8, and shorter than 2^64 bytes, as each `str` is.
+/// - The first line starts at byte 0. Starts and ends are character boundaries of the text. A
+///   line's end is not before its start, nor after the next line's start.
 /// - Ids are equal where the `==` of `FileId` says so. Equal ids have one file and the same errors.
-/// - `line_index` returns the last line whose start is not after the byte; past the end of the text that is the last line.
-/// - `line_range` returns a line's start and end. Of a file that exists it fails with [`Error::LineTooLarge`] exactly where the index is
-///   not below the number of lines.
+/// - `line_index` returns the last line whose start is not after the byte; past the end of the text
+///   that is the last line.
+/// - `line_range` returns a line's start and end. Of a file that exists it fails with
+///   [`Error::LineTooLarge`] exactly where the index is not below the number of lines.
 ///
 /// A name is the text that its `Display` states; where it states none, nothing is known of it.
 ///
@@ -122,7 +127,7 @@ pub struct Location {
 ///
 ///     ghost same_is = { λ s. refl };
 ///
-///     // A line past the last fails as there.
+///     // A line past the last one fails as there.
 ///     ghost past_end = { λ s id i.
 ///         simple_past_end (part_name id) (source_of (of_part s.schema s.document id)).now i };
 /// }
@@ -142,7 +147,8 @@ pub trait Files<'a> {
     /// The type of a file's text.
     type Source: 'a + AsStr + Drop;
 
-    /// Which ids are equal, the file of an id, and the error of each lookup of it, [`Error::OutOfMemory`] aside.
+    /// Which ids are equal, the file of an id, and the error of each lookup of it,
+    /// [`Error::OutOfMemory`] aside.
     ghost database: { Self → FileDatabase Self.FileId };
 
     /// Returns the file's name, as users see it.
@@ -159,14 +165,16 @@ pub trait Files<'a> {
     ///
     /// # Errors
     ///
-    /// - [`Error::FileMissing`], or a custom error, where the database has no such file or can not read it.
+    /// - [`Error::FileMissing`], or a custom error, where the database has no such file or can not
+    ///   read it.
     /// - [`Error::OutOfMemory`] where an allocation fails.
     fn source(&'a self, id: Self::FileId) -> Result<Self::Source, Error>
         ensures value { IfOk result (λ s. Self.Source.text s ≡ ((database self.now).file id).text) }
         ensures failed { FailsBy ((database self.now).failure id Source) result };
 
-    /// Returns the index of the byte's line, from 0. `byte_index` is in bytes of the text, from 0, and none is too large: past the end of
-    /// the text the line is the last one. The rule is the Rust crate's.
+    /// Returns the index of the byte's line, from 0. `byte_index` is in bytes of the text, from 0,
+    /// and none is too large: past the end of the text the line is the last one. The rule is the
+    /// Rust crate's.
     ///
     /// Keep the starts that [`line_starts`] returns, and search among them, as [`SimpleFile`] does.
     ///
@@ -179,21 +187,25 @@ pub trait Files<'a> {
             i ≡ line_of ((database self.now).file id).starts byte_index) }
         ensures failed { FailsBy ((database self.now).failure id (LineIndex byte_index)) result };
 
-    /// Returns the number of a line as users see it, in most databases the 0-based index plus 1, as [`default_line_number`] has it.
+    /// Returns the number of a line as users see it, in most databases the 0-based index plus 1, as
+    /// [`default_line_number`] has it.
     ///
-    /// The file need not be looked up for it, and the line need not exist. A database may number its lines otherwise, as [`MappedFile`]
-    /// does.
+    /// The file need not be looked up for it, and the line need not exist. A database may number
+    /// its lines otherwise, as [`MappedFile`] does.
     ///
     /// # Errors
     ///
-    /// - [`Error::LineTooLarge`], or a custom error, where the number does not fit into a `usize` or the line has none.
+    /// - [`Error::LineTooLarge`], or a custom error, where the number does not fit into a `usize`
+    ///   or the line has none.
     /// - [`Error::OutOfMemory`] where an allocation fails.
     fn line_number(&'a self, id: Self::FileId, line_index: usize) -> Result<usize, Error>
         ensures value { IfOk result (λ n. n ≡ ((database self.now).file id).number line_index) }
         ensures failed { FailsBy ((database self.now).failure id (LineNumber line_index)) result };
 
-    /// Returns the column number of a byte on a line as users see it: in most databases the characters from the line's start to the byte,
-    /// counted from 1, as [`default_column_number`](codespan_reporting::files::default_column_number) has it. Both indices count from 0.
+    /// Returns the column number of a byte on a line as users see it: in most databases the
+    /// characters from the line's start to the byte, counted from 1, as
+    /// [`default_column_number`](codespan_reporting::files::default_column_number) has it. Both
+    /// indices count from 0.
     ///
     /// # Errors
     ///
@@ -210,8 +222,9 @@ pub trait Files<'a> {
         ensures failed { FailsBy
             ((database self.now).failure id (ColumnNumber line_index byte_index)) result };
 
-    /// Returns the line number and the column number of a byte, as users see them: in most databases as
-    /// [`default_location`](codespan_reporting::files::default_location) has it. The byte index counts from 0.
+    /// Returns the line number and the column number of a byte, as users see them: in most
+    /// databases as [`default_location`](codespan_reporting::files::default_location) has it. The
+    /// byte index counts from 0.
     ///
     /// # Errors
     ///
@@ -221,12 +234,14 @@ pub trait Files<'a> {
         ensures value { IfOk result (λ p. p ≡ ((database self.now).file id).location byte_index) }
         ensures failed { FailsBy ((database self.now).failure id (LocationAt byte_index)) result };
 
-    /// Returns the bytes of a line, from 0, with an exclusive end. Whether they have the line's newline is up to the database.
+    /// Returns the bytes of a line, from 0, with an exclusive end. Whether they have the line's
+    /// newline is up to the database.
     ///
     /// # Errors
     ///
     /// - [`Error::LineTooLarge`] exactly where the file exists and has no such line.
-    /// - [`Error::FileMissing`], or a custom error, where the database has no such file or does not show the line.
+    /// - [`Error::FileMissing`], or a custom error, where the database has no such file or does not
+    ///   show the line.
     /// - [`Error::OutOfMemory`] where an allocation fails.
     fn line_range(&'a self, id: Self::FileId, line_index: usize) -> Result<Range<usize>, Error>
         ensures value { IfOk result (IsLineRange ((database self.now).file id) line_index) }
@@ -243,7 +258,8 @@ pub trait Files<'a> {
     /// Ids are equal where `==` says so.
     ghost same_is: { (s : Self) → (database s).same ≡ Self.FileId.eq };
 
-    /// Of a file that exists, `line_range` fails with [`Error::LineTooLarge`] exactly past the last line.
+    /// Of a file that exists, `line_range` fails with [`Error::LineTooLarge`] exactly past the last
+    /// line.
     ghost past_end: { (s : Self) (id : Self.FileId) (i : ℕ) →
         FailsPastEnd ((database s).file id) i ((database s).failure id (LineRange i)) };
 }

@@ -1,4 +1,5 @@
-//! Laws of diagnostics, files and line starts. Each is the contract of a function that does nothing and does not fail.
+//! Laws of diagnostics, files and line starts. Each is the contract of a function that does nothing
+//! and does not fail.
 //!
 //! Users name them as `codespan_base::laws`.
 
@@ -20,8 +21,9 @@ use crate::diagnostic::{LabelStyle, Severity};
 use crate::files::LineStarts;
 use std::hash::Hash;
 
-/// States that severities are ordered `Help` < `Note` < `Warning` < `Error` < `Bug`, that `Ord` and `PartialOrd` agree, that two are `==`
-/// exactly where they are one, and that equal ones have equal hashes.
+/// States that severities are ordered `Help` < `Note` < `Warning` < `Error` < `Bug`, that `Ord` and
+/// `PartialOrd` agree, that two are `==` exactly where they are one, and that equal ones have equal
+/// hashes.
 pub fn severities_agree()
     ensures order { (x y : Severity) →
         ⟦<Severity as Ord>⟧.cmp x y ≡ nat_cmp (severity_rank x) (severity_rank y) }
@@ -32,7 +34,8 @@ pub fn severities_agree()
         ⟦<Severity as Hash>⟧.hash_input x ≡ ⟦<Severity as Hash>⟧.hash_input y }
 {}
 
-/// States that label styles are ordered `Primary` < `Secondary`, and that two are `==` exactly where they are one.
+/// States that label styles are ordered `Primary` < `Secondary`, and that two are `==` exactly
+/// where they are one.
 pub fn label_styles_agree()
     ensures order { (x y : LabelStyle) →
         ⟦<LabelStyle as PartialOrd>⟧.partial_cmp x y
@@ -40,21 +43,23 @@ pub fn label_styles_agree()
     ensures equal { (x y : LabelStyle) → IsTrue (⟦<LabelStyle as PartialEq>⟧.eq x y) ↔ (x ≡ y) }
 {}
 
-/// States that the line ranges of a text follow each other from byte 0 to its length, and that its lines join to it.
+/// States that the line ranges of a text follow each other from byte 0 to its length, and that its
+/// lines join to it.
 pub fn lines_join_to_source()
     ensures { (name : Option (List ℕ)) (text : List ℕ) → IsUtf8 text →
         LinesJoin (simple_file name text) }
 {}
 
-/// States that the index of a byte's line, from 0, is the number of newlines before the byte. Past the end of the text it is that of the
-/// last line.
+/// States that the index of a byte's line, from 0, is the number of newlines before the byte. Past
+/// the end of the text it is that of the last line.
 pub fn line_counts_newlines()
     ensures { (name : Option (List ℕ)) (text : List ℕ) →
         LineCountsNewlines (simple_file name text) }
 {}
 
-/// States that once a line's number is set in a [`MappedFile`](codespan_reporting::files::MappedFile), that line and the lines after it
-/// count from there, up to the next line whose number is set; the lines above count as before.
+/// States that once a line's number is set in a
+/// [`MappedFile`](codespan_reporting::files::MappedFile), that line and the lines after it count
+/// from there, up to the next line whose number is set; the lines above count as before.
 pub fn set_numbers_count_on()
     ensures { (settings : List (ℕ × ℕ)) (line number i : ℕ) → IsStrictlySorted settings →
         setting (with_number line number settings) i
@@ -66,8 +71,8 @@ pub fn columns_rise()
     ensures { ColumnsRise }
 {}
 
-/// States that the iterator of [`line_starts`](codespan_reporting::files::line_starts) ends, and that it has then returned all starts
-/// that were left; at first these are all starts of the text.
+/// States that the iterator of [`line_starts`](codespan_reporting::files::line_starts) ends, and
+/// that it has then returned all starts that were left; at first these are all starts of the text.
 pub fn line_starts_end()
     ensures ends { (starts : LineStarts) →
         IsFinite (⟦<LineStarts<'static> as Iterator>⟧.remaining starts) }

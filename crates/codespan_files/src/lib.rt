@@ -1,7 +1,7 @@
 //! Diagnostics as data, and the file databases that rendering looks up.
 //!
-//! This crate is a layer of `codespan_base`. Users name its items as `codespan_reporting::diagnostic`, `codespan_reporting::files` and
-//! `codespan_base::laws`.
+//! This crate is a layer of `codespan_base`. Users name its items as
+//! `codespan_reporting::diagnostic`, `codespan_reporting::files` and `codespan_base::laws`.
 #![tactic(auto)]
 
 pub mod diagnostic;

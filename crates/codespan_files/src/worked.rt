@@ -9,7 +9,8 @@ ghost use Rattle.codespan_files.specs.SimpleModel.{simple_file, simple_failure, 
 ghost use Rattle.codespan_files.specs.MappedModel.{with_number, number_from, setting, mapped_failure};
 ghost use Rattle.codespan_files.specs.declared.files.error.Error.TheVariants.{FileMissing, LineTooLarge};
 
-/// Computes columns, which count the characters that end after the line's start, and lines, which start after newlines.
+/// Computes columns, which count the characters that end after the line's start, and lines, which
+/// start after newlines.
 fn columns_and_starts()
     ensures first_line { column_index_of (encode_utf8_all (codes "\n\n🗻∈🌏\n\n")) 0 1 0 ≡ 0 }
     ensures in_line { map (column_index_of (encode_utf8_all (codes "\n\n🗻∈🌏\n\n")) 2 13)

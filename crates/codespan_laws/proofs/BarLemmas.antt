@@ -14,7 +14,7 @@ use Rattle.codespan_picture.specs.Cells.{leading_whitespace, drawn_text}
 use Rattle.codespan_base.specs.Streams.{Stream}
 use Rattle.codespan_picture.specs.Snippets.{LabelledFile, line_at}
 
--- ---- the mark of a lane
+-- ---- the multi-line label mark of a lane
 
 abbrev pub mark_for : FileModel → ℕ → ℕ → Option Labelled → Option LaneMark
 mark_for f l lane None = None
@@ -23,7 +23,7 @@ mark_for f l lane (Some x) = mark_of lane x (part_on f l x)
 abbrev pub marks_from : FileModel → ℕ → ℕ → List Labelled → List LaneMark
 marks_from f l n xs = filter_map (λ (entry : ℕ × Labelled). mark_of entry.0 entry.1 (part_on f l entry.1)) (enumerate_from n xs)
 
--- a mark of another lane is passed by
+-- a multi-line label mark of another lane is passed over
 pass_by : (lane n : ℕ) (x : Labelled) (part : Option MultiLabel) (marks : List LaneMark) → (n == lane) ≡ false
     → mark_in (cons_option (mark_of n x part) marks) lane ≡ mark_in marks lane
 pass_by lane n x None marks h = refl

@@ -1,4 +1,4 @@
--- Break rows stand where shown lines are three or more apart.
+-- There are break rows where shown lines are three or more apart.
 use Rattle.std.proofs.Common.{◌≡◌, ℕ, ◌+◌, Bool, true, false, cond, ◌==◌, nat_le, List, [], ◌∷◌, ◌++◌, map, filter, filter_map, reverse, Some, None, refl, ap, ap₂, ◌∙◌, arith}
 use Rattle.std.proofs.lemmas.List.Elements.{filter_map-append}
 use Rattle.std.proofs.lemmas.Bool.Decides.{nat_tests}
@@ -35,7 +35,7 @@ no_break_line line =
     ∙ ap₂ (λ s t. s ++ t) (no_break_caret line line.labels) (no_break_hanging line (hanging line.labels)))
     (breaks-map (UnderlineRow line) (filter (λ (m : LaneMark). has_underline (leading_whitespace line.text) m.part) line.lanes.marks) (λ m. refl))
 
--- ---- the breaks of a drawing
+-- ---- the breaks between drawn lines
 
 breaks_of : (line : ℕ → Line) (c : ℕ) (ls : List ℕ)
     → filter_map broken_line (drawing line (Some c) ls) ≡ map (λ l. (line l).lanes) (broken_before (c ∷ ls))

@@ -56,7 +56,7 @@ map-constant x a (suc n) = ap (λ xs. x ∷ xs) (map-constant x (a + 1) n)
 
 -- ---- cells in a row
 
--- the cells begin at this place and this column, and each follows the one before
+-- the cells begin at this byte index and this column, and each follows the one before
 abbrev pub AreLaid : ℕ → ℕ → List Cell → Type 0
 AreLaid place column [] = Unit {0}
 AreLaid place column (c ∷ cs) =

@@ -1,4 +1,4 @@
--- Bytes of text among bytes of marks.
+-- Bytes of text among bytes of style marks.
 use Rattle.std.proofs.Common.{◌≡◌, ℕ, false, List, [], ◌∷◌, ◌++◌, map, filter, refl, ap, ap₂, ◌∙◌}
 use Rattle.std.proofs.lemmas.List.{map-append}
 use Rattle.codespan_base.specs.declared.term.config.styles.Styles.{Styles}
@@ -6,15 +6,15 @@ use Rattle.codespan_base.specs.Streams.{Stream, Spelling, StyleMark, Byte, Mark,
 use Rattle.codespan_base.specs.StyleTables.{spelling_by}
 use Rattle.codespan_laws.specs.ColourLaws.{ColoursChangeNoText, NoColourIsPlain, SentByte, sent_bytes}
 
--- the byte that is sent
+-- the byte that is written
 abbrev byte_of : SentByte → ℕ
 byte_of x = x.byte
 
--- a byte of a mark
+-- a byte of a style mark
 abbrev of_mark : ℕ → SentByte
 of_mark b = record { is_text = false; byte = b }
 
--- the bytes of a mark are its spelling
+-- the bytes of a style mark are its spelling
 mark_bytes : (bs : List ℕ) → map byte_of (map of_mark bs) ≡ bs
 mark_bytes [] = refl
 mark_bytes (b ∷ bs) = ap (λ (l : List ℕ). b ∷ l) (mark_bytes bs)
@@ -41,7 +41,7 @@ text_sent spelling (Slot k ∷ s) = text_sent spelling s
 pub colours_change_no_text : (spelling : Spelling) (s : Stream) → ColoursChangeNoText spelling s
 colours_change_no_text spelling s = record { all = all_sent spelling s; text = text_sent spelling s }
 
--- no colours spell each mark as nothing
+-- without colors each style mark is spelled as nothing
 nothing : (styles : Styles) (m : StyleMark) → spelling_by styles (λ spec. []) [] m ≡ []
 nothing styles (Header severity) = refl
 nothing styles HeaderMessage = refl

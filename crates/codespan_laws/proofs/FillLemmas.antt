@@ -1,4 +1,5 @@
--- Drawn lines with their breaks, from the shown lines alone: between two that follow each other stands nothing, one filled
+-- Drawn lines with their breaks, from the shown lines alone: between two consecutive ones there is
+-- nothing, one filled
 -- line, or a break.
 use Rattle.std.proofs.Common.{◌≡◌, ℕ, ◌≤◌, Bool, true, false, cond, nat_lt, List, Option, refl, arith}
 use Rattle.std.proofs.lemmas.Bool.Decides.{nat_tests}
@@ -11,7 +12,7 @@ use Rattle.codespan_picture.specs.Sequences.{before_line, break_between}
 use Rattle.codespan_picture.specs.Snippets.{LabelledFile, line_at, line_rows, break_rows}
 use Rattle.codespan_laws.proofs.Filling.{lines-shown}
 
--- what stands before a drawn line
+-- what is before a drawn line
 abbrev pub breaks_before : LabelledFile → Option ℕ → ℕ → List Row
 breaks_before s = before_line (break_between (break_rows (line_at s)))
 
@@ -19,7 +20,7 @@ breaks_before s = before_line (break_between (break_rows (line_at s)))
 pub none_past : (config : Config) (s : LabelledFile) (l : ℕ) → line_count s.file ≤ l → is_shown config s.file s.labels l ≡ false
 none_past config s l h = let past : nat_lt l (line_count s.file) ≡ false = grind (arith, nat_tests) in simp past
 
--- the drawn lines with their breaks are the shown lines with what stands between them
+-- the drawn lines with their breaks are the shown lines with what is between them
 pub drawing_of_shown : (config : Config) (s : LabelledFile) → DrawingOfShown config s
 drawing_of_shown config s =
     let rows = line_rows (line_at s) in

@@ -1,4 +1,5 @@
--- Lines of which some are shown: the drawn ones in order give what the shown ones give, with what stands between two of them.
+-- Lines of which some are shown: the elements of the drawn ones in order are those of the shown
+-- ones, with what is between two of them.
 use Rattle.std.proofs.Common.{◌≡◌, ℕ, zero, suc, ◌+◌, ◌-◌, ◌≤◌, Bool, true, false, cond, ◌==◌, nat_lt, nat_le, ◌&&◌, ◌||◌, if◌then◌else◌, List, [], ◌∷◌, ◌++◌, filter, Option, Some, None, refl, sym, ap, ◌∙◌, arith, append_assoc}
 use Rattle.std.specs.List.{range_with_len}
 use Rattle.std.proofs.Math.Bool.{and-false}
@@ -47,22 +48,22 @@ after-hidden shown a h = let back : a + 1 - 1 ≡ a = omega arith in rw back (si
 
 -- ---- all of them
 
--- what a shown line, a filled one and a break before a line give
+-- the elements of a shown line, of a filled one and of a break before a line
 module _ {X : Type 0} (drawn filled broken : ℕ → List X) where
-  -- where no line is filled in, a break stands between two shown lines or nothing
+  -- where no line is filled in, there is a break between two shown lines or nothing
   gap-break : (c d : ℕ) → (d == c + 2) ≡ false → gap_between filled broken c d ≡ break_between broken c d
   gap-break c d h = ap (λ b. cond b (filled (c + 1)) (break_between broken c d)) h
 
-  -- no break stands between two lines that follow each other
+  -- there is no break between two consecutive lines
   break-next : (c : ℕ) → break_between broken c (c + 1) ≡ []
   break-next c = let near : nat_le (c + 3) (c + 1) ≡ false = grind (arith, nat_tests) in ap (λ b. cond b (broken (c + 1)) []) near
 
-  -- shown lines, with what stands between them
+  -- shown lines, with what is between them
   abbrev shown_give : Option ℕ → List ℕ → List X
   shown_give = in_sequence (λ l. l) (gap_between filled broken) drawn
 
   module _ (shown : ℕ → Bool) where
-    -- what a drawn line gives
+    -- the elements of a drawn line
     abbrev pub given : ℕ → List X
     given l = if shown l then drawn l else filled l
 
@@ -82,12 +83,12 @@ module _ {X : Type 0} (drawn filled broken : ℕ → List X) where
     abbrev NoneFrom : ℕ → Type 0
     NoneFrom a = (l : ℕ) → a ≤ l → shown l ≡ false
 
-    -- a line that is not drawn gives nothing
+    -- a line that is not drawn has none
     lines-skip : (was : Option ℕ) (a n : ℕ) → is_filled shown a ≡ false → lines_from was a (suc n) ≡ lines_from was (a + 1) n
     lines-skip was a n h =
         ap (λ b. lines_give was (cond b (a ∷ filter (is_filled shown) (range_with_len (a + 1) n)) (filter (is_filled shown) (range_with_len (a + 1) n)))) h
 
-    -- a drawn line gives what it gives
+    -- those of a drawn line are its own
     lines-keep : (was : Option ℕ) (a n : ℕ) (b : Bool) → is_filled shown a ≡ true → shown a ≡ b
         → lines_from was a (suc n) ≡ before_line (break_between broken) was a ++ cond b (drawn a) (filled a) ++ lines_from (Some a) (a + 1) n
     lines-keep was a n b h k =
@@ -190,7 +191,7 @@ module _ {X : Type 0} (drawn filled broken : ℕ → List X) where
         by_test later false here =
             lines-skip None a n (not_filled-after shown a here was) ∙ later here ∙ sym (shown-skip None a n here)
 
-    -- the drawn lines give what the shown lines give with what stands between them
+    -- the elements of the drawn lines are those of the shown lines with what is between them
     pub lines-shown : (own : ℕ → List X) → ((l : ℕ) → own l ≡ given l) → (n : ℕ) → NoneFrom n
         → in_sequence (λ l. l) (break_between broken) own None (filter (is_filled shown) (range_with_len 0 n))
         ≡ in_sequence (λ l. l) (gap_between filled broken) drawn None (filter shown (range_with_len 0 n))

@@ -20,7 +20,7 @@ pub each_all : {X : Type 0} (P : X → Type 0) (xs : List X) → ((x : X) → P 
 each_all P [] h = tt
 each_all P (x ∷ xs) h = (h x, each_all P xs h)
 
--- what holds of each holds of what it stands for
+-- what holds of each holds of its image
 pub each_map : {X Y : Type 0} (P : Y → Type 0) (f : X → Y) (xs : List X) → AllByRecursion (λ x. P (f x)) xs → AllByRecursion P (map f xs)
 each_map P f [] a = tt
 each_map P f (x ∷ xs) a = (a.0, each_map P f xs a.1)
@@ -92,7 +92,7 @@ pub record Begins (layout : Layout) (lane : ℕ) (line : Line) (rows : List Row)
   pub turns : Shows layout lane TopCorner top
   pub goes_on : AllByRecursion (GoesOn layout lane line top) more
 
--- rows in which a lane that came from above ends
+-- rows in which a lane from above ends
 pub record Finishes (layout : Layout) (lane : ℕ) (rows : List Row) : Type 0 where
   pub before : List Row
   pub bottom : Row

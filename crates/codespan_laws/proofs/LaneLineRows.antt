@@ -79,7 +79,7 @@ left_mark layout lane line style is = (
 
 -- ---- a line with an end of the label
 
--- the lane's mark among those of the line
+-- the lane's multi-line label mark among those of the line
 pub record Split (lane : ℕ) (m : LaneMark) (marks : List LaneMark) : Type 0 where
   pub low : List LaneMark
   pub high : List LaneMark
@@ -219,7 +219,7 @@ top_early layout lane line style start is r early = record {
         (λ m. inl (ap (shape_of (underline_shape Unbroken (leading_of line) m.lane lane)) is
         ∙ ap (λ b. cond b Bar (cond (lane == m.lane) TopCorner (cond (nat_lt lane m.lane) Bar Gap))) early))
 
--- nothing goes on from a corner that the source row does not draw
+-- nothing goes on from a corner that is not in the source row
 late : (layout : Layout) (leading start : ℕ) → turns_early leading start ≡ false → (is_unbroken layout && turns_early leading start) ≡ false
 late layout leading start h = ap (λ b. is_unbroken layout && b) h ∙ and-false (is_unbroken layout)
 

@@ -22,7 +22,7 @@ use Rattle.codespan_laws.proofs.LaneLineLemmas.{Shows, Begins, Finishes, Whole, 
 use Rattle.codespan_laws.proofs.LaneLineRows.{mark_with, Split, no_mark, left_mark, bottom_mark, top_mark}
 use Rattle.codespan_laws.proofs.SortedLists.{all-append, all-weaker}
 
--- ---- the marks of a line in their order
+-- ---- the multi-line label marks of a line in their order
 
 each_mark : (P : LaneMark → Type 0) (n : ℕ) (x : Labelled) (part : Option MultiLabel) (marks : List LaneMark)
     → ((p : MultiLabel) → P (mark_with n x.style p)) → AllByRecursion P marks → AllByRecursion P (cons_option (mark_of n x part) marks)
@@ -35,7 +35,7 @@ each_from f l n (x ∷ xs) =
     each_mark (λ (o : LaneMark). n ≤ o.lane) n x (part_on f l x) (marks_from f l (n + 1) xs) (λ p. omega arith)
     (all-weaker (λ (o : LaneMark). n + 1 ≤ o.lane) (λ (o : LaneMark). n ≤ o.lane) (λ o h. omega arith) (marks_from f l (n + 1) xs) (each_from f l (n + 1) xs))
 
--- one mark more before the others
+-- one multi-line label mark more before the others
 split_later : (lane n : ℕ) (m : LaneMark) (x : Labelled) (part : Option MultiLabel) (marks : List LaneMark) → n < lane → Split lane m marks
     → Split lane m (cons_option (mark_of n x part) marks)
 split_later lane n m x None marks h r = r
@@ -129,7 +129,7 @@ module _ (layout : Layout) (s : LabelledFile) (lane : ℕ) (x : Labelled) (has :
   split_on : (l : ℕ) (part : MultiLabel) → part_on s.file l x ≡ Some part → Split lane (mark_with lane x.style part) (marks_on s.file s.labels l)
   split_on l part is = split_from s.file l lane 0 lane (multi_labels s.file s.labels) x part (zero-add lane) has is
 
-  -- the label has no mark on the line
+  -- the label has no multi-line label mark on the line
   abbrev NoMark : ℕ → Type 0
   NoMark l = mark_in (marks_on s.file s.labels l) lane ≡ None
 

@@ -15,7 +15,7 @@ use Rattle.codespan_picture.specs.Rows.{Look, Lanes}
 use Rattle.codespan_picture.specs.RowParts.{lane_of, lanes_in}
 use Rattle.codespan_laws.proofs.Texts.{row_length-append, row_length-glyph, row_length-one_mark, row_length-repeated, row_length-blanks}
 
--- a stream between two marks is as long as it is alone
+-- a stream between two style marks is as long as it is alone
 between_marks : (m : StyleMark) (s : Stream) → row_length (one_mark m ++ s ++ one_mark Reset) ≡ row_length s
 between_marks m s =
     row_length-append (one_mark m ++ s) (one_mark Reset)

@@ -13,7 +13,7 @@ use Rattle.codespan_laws.specs.LaneLaws.{lanes_shown, before_lanes, ShowsLanes, 
 
 -- ---- lanes
 
--- the two characters of each lane, from left to right, from the marks in them
+-- the two characters of each lane, from left to right, from the multi-line label marks in them
 lanes_are : (look : Look) (crossing : ℕ → Option LaneMark) (shape : ℕ → MultiLabel → Shape) (lanes : Lanes)
     → lanes_in look crossing shape lanes
     ≡ flat_map (λ lane. lane_cells look.severity look.chars (crossing lane) (style_of_mark (mark_in lanes.marks lane)) (shape_of (shape lane) (mark_in lanes.marks lane)))
@@ -65,7 +65,7 @@ unfolding row_lanes
 underline_are look line m =
     lanes_are look (row_crossing (Underline m)) (row_shape look.layout (leading_of line) (Underline m)) line.lanes
 
--- the beginning of each row under a line
+-- what each row under a line begins with
 opened : (look : Look) (line : Line)
     → Starts (gutter look.padding ++ border look.chars) (lanes_shown look (CaretRow line) line.lanes) (opening look line)
 unfolding opening

@@ -1,4 +1,4 @@
--- Each label's message stands in one slot, and the slots filled give the picture.
+-- Each label's message has one slot, and with the slots filled the stream is the output.
 use Rattle.std.proofs.Common.{◌≡◌, ℕ, zero, suc, ◌+◌, ◌<◌, ◌≤◌, Bool, true, false, not, cond, ◌==◌, List, [], ◌∷◌, length, map, filter, Option, Some, None, option_map, slice_get, if◌then◌else◌, refl, sym, ap, ap₂, ◌∙◌, append-nil, arith}
 use Rattle.std.specs.Prelude.{sum_by, string_bytes}
 use Rattle.std.proofs.lemmas.Bool.Decides.{nat_tests}
@@ -94,7 +94,7 @@ plain {Id = Id} d j x h = by_label (slice_get d.labels.items j) (sym (slice_get-
         sym (ap (λ (z : InFile Id). z.label.message) is)
         ∙ ap bytes (sym (text_of-bytes (string_bytes y.message)) ∙ ap (λ (z : InFile Id). text_of z.label.message) is)
 
--- a text, or another in place of an empty one
+-- a text, or another instead of an empty one
 abbrev pub nonempty : List ℕ → List ℕ
 nonempty [] = 32 ∷ []
 nonempty (b ∷ bs) = b ∷ bs

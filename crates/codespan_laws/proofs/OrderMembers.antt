@@ -15,7 +15,7 @@ use Rattle.codespan_laws.proofs.SortedLists.{any-filtered, filter-filter, filter
 
 -- ---- the orders of one file
 
--- the label stands inside the line and has this drawn range there
+-- the label is inside the line and has this drawn range there
 abbrev pub is_inside : FileModel → ℕ → ℕ → ℕ → Labelled → Bool
 is_inside f l start end x = is_single f x && (first_line f x == l) && is_drawn_at f start end x
 
@@ -49,7 +49,7 @@ some_passes p (x ∷ xs) h = by_test (some_passes p xs) (p x) refl h
 abbrev pub SameTests : List Labelled → List Labelled → Type 0
 SameTests xs ys = (p : Labelled → Bool) → list_any p xs ≡ list_any p ys
 
--- a single-line label stands inside its line with its drawn range
+-- a single-line label is inside its line with its drawn range
 inside : (f : FileModel) (x : Labelled) → is_single f x ≡ true
     → is_inside f (first_line f x) (drawn_label f x).start (drawn_label f x).end x ≡ true
 inside f x h = rw (h, eq-eqb (first_line f x) (first_line f x) refl, eq-eqb (drawn_label f x).start (drawn_label f x).start refl, eq-eqb (drawn_label f x).end (drawn_label f x).end refl) refl
@@ -86,7 +86,7 @@ same-tests f xs ys alike p = by_tests (list_any p xs) (list_any p ys) (passes-al
 filter-tests : (xs ys : List Labelled) (q : Labelled → Bool) → SameTests xs ys → SameTests (filter q xs) (filter q ys)
 filter-tests xs ys q same p = any-filtered p q xs ∙ same (λ x. q x && p x) ∙ sym (any-filtered p q ys)
 
--- and so are those that stand in for none
+-- and so are those instead of an empty list
 if_any-tests : (xs ys us vs : List Labelled) → SameTests xs ys → SameTests us vs → SameTests (if_any xs us) (if_any ys vs)
 if_any-tests [] [] us vs same others = others
 if_any-tests [] (y ∷ ys) us vs same others = let e = same (λ _. true) in cc
@@ -122,7 +122,7 @@ least-same (x ∷ xs) (y ∷ ys) same = same-number (least (starts (x ∷ xs))) 
     at_most : (k : ℕ) (z : Labelled) (zs : List Labelled) → nat_le (least (starts (z ∷ zs))) k ≡ list_any (λ (w : Labelled). nat_le w.start k) (z ∷ zs)
     at_most k z zs = least-test k z.start (starts zs) ∙ ap (λ b. nat_le z.start k || b) (any-map (λ n. nat_le n k) (λ (w : Labelled). w.start) zs)
 
--- the place where a snippet starts rests on which labels there are
+-- where a snippet starts depends only on which labels there are
 pub locus-same : (xs ys : List Labelled) → SameTests xs ys → locus_start xs ≡ locus_start ys
 locus-same xs ys same = least-same (if_any (filter is_primary xs) xs) (if_any (filter is_primary ys) ys)
     (if_any-tests (filter is_primary xs) (filter is_primary ys) xs ys (filter-tests xs ys is_primary same) same)
@@ -139,7 +139,7 @@ line_range f xs l start end =
     ∙ ap reverse (filter-map (has_range start end) (drawn_label f) (filter on_line xs))
     ∙ ap (λ ys. reverse (map (drawn_label f) ys)) (filter-filter (is_drawn_at f start end) on_line xs)
 
--- the labels of a line stand alike
+-- the labels of a line are in the same order
 pub singles-same : (f : FileModel) (xs ys : List Labelled) → AreAlike f xs ys → (l : ℕ) → single_labels f xs l ≡ single_labels f ys l
 singles-same f xs ys alike l = sorted-same _ _
     (λ start end. line_range f xs l start end ∙ ap (λ zs. reverse (map (drawn_label f) zs)) (alike.one_line l start end) ∙ sym (line_range f ys l start end))

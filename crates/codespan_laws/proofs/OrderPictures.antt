@@ -1,4 +1,5 @@
--- The order of labels is free: a reordering that keeps the orders that a rich picture shows changes nothing in it.
+-- The order of labels is free: a reordering that keeps the orders that a rich output shows changes
+-- nothing in it.
 use Rattle.std.proofs.Common.{◌≡◌, ℕ, ◌+◌, ◌-◌, max, Bool, true, ◌&&◌, ◌||◌, nat_lt, List, [], ◌∷◌, ◌++◌, map, filter, fold, flat_map, length, None, refl, sym, ap, ap₂, ◌∙◌, true, false}
 use mathlib.Core.Path.{fun_ext}
 use Rattle.std.specs.Cmp.{IsEquivalence, first_so, second_so}
@@ -25,7 +26,7 @@ use Rattle.codespan_laws.proofs.OrderMembers.{AreAlike, SameTests, same-tests, l
 
 -- ---- one file
 
--- what two files with labels give to a picture is the same
+-- two files with labels render the same
 record GiveTheSame (view : Config) (s t : LabelledFile) : Type 0 where
   rows : (locus : Locus) → snippet view locus s ≡ snippet view locus t
   bare : bare_lanes s ≡ bare_lanes t
@@ -41,7 +42,7 @@ module _ (f : FileModel) (xs ys : List Labelled) (alike : AreAlike f xs ys) wher
   tests : SameTests xs ys
   tests = same-tests f xs ys alike
 
-  -- the marks of a line go by the labels over several lines
+  -- the multi-line label marks of a line depend on the multi-line labels alone
   lanes-same : (l : ℕ) → (line_at s l).lanes ≡ (line_at t l).lanes
   lanes-same l = ap {B = Lanes}
       (λ zs. record { count = length zs; marks = filter_map (λ (entry : ℕ × Labelled). mark_of entry.0 entry.1 (part_on f l entry.1)) (enumerate_from 0 zs) })
@@ -68,7 +69,7 @@ module _ (f : FileModel) (xs ys : List Labelled) (alike : AreAlike f xs ys) wher
   start-same : snippet_start s ≡ snippet_start t
   start-same = ap {B = FileModel × ℕ} (λ n. (f, n)) (locus-same xs ys tests)
 
-  -- the rows are the drawing of the shown lines
+  -- the rows follow from the shown lines
   after-same : (view : Config) → rows_after s None (drawn_lines view f xs) ≡ rows_after t None (drawn_lines view f ys)
   after-same view =
       drawing_of_shown view s ∙ ap₂ (λ line ls. drawing line None ls) (fun_ext line-same) (shown_lines-same view) ∙ sym (drawing_of_shown view t)
@@ -141,7 +142,8 @@ module _ {Id : Type 0} (same : Id → Id → Bool) (file : Id → FileModel) (o 
   files-alike (i ∷ is) (j ∷ js) h =
       ap₂ (λ s ss. s ∷ ss) (file-alike i j (first_so (same i j) (pointwise same is js) h)) (files-alike is js (second_so (same i j) (pointwise same is js) h))
 
--- a reordering that keeps these orders changes nothing in a rich output, where equal ids have one file
+-- a reordering that keeps these orders changes nothing in a rich output, where equal ids have one
+-- file
 pub order_is_free : {Id : Type 0} (same : Id → Id → Bool) (file : Id → FileModel) → OrderIsFree same file
 order_is_free {Id} same file xs ys o one_file orders = record {
   same_starts = starts-same ids ∙ ap (map snippet_start) others;

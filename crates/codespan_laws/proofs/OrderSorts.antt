@@ -1,4 +1,5 @@
--- The order of a line's labels: the labels of each range keep their order, and nothing else of the order given counts.
+-- The order of a line's labels: the labels of each range keep their order, and nothing else of the
+-- order given counts.
 use mathlib.Core.Path.{fun_ext}
 use Rattle.std.proofs.Common.{◌≡◌, ℕ, Bool, true, false, ◌==◌, ◌&&◌, cond, List, [], ◌∷◌, filter, ⊎_elim, refl, sym, ap, subst, ◌∙◌, arith}
 use Rattle.std.proofs.lemmas.Bool.{both_ways, cases_Bool, cond_both, eq-eqb, false_from_ne_true}
@@ -18,19 +19,19 @@ use Rattle.codespan_laws.proofs.SortedLists.{Rises, all-weaker, filter-nothing, 
 abbrev pub has_range : ℕ → ℕ → Labelled → Bool
 has_range start end x = (x.start == start) && (x.end == end)
 
--- of two labels one stands before the other at most
+-- of two labels at most one is before the other
 before_one_way : (x y : Labelled) → stands_before x y ≡ true → stands_before y x ≡ false
 before_one_way x y h = grind (arith, nat_tests)
 
--- no label stands before itself
+-- no label is before itself
 not_before_itself : (x : Labelled) → stands_before x x ≡ false
 not_before_itself x = false_from_ne_true (stands_before x x) (λ t. both_ways (stands_before x x) (before_one_way x x t) t)
 
--- what does not stand before the second does not stand before a third that the second does not stand before
+-- what is not before the second is not before a third that the second is not before
 before_chain : (x y z : Labelled) → stands_before x y ≡ false → stands_before y z ≡ false → stands_before x z ≡ false
 before_chain x y z h k = grind (arith, nat_tests)
 
--- labels have one range where neither stands before the other
+-- labels have one range where neither is before the other
 one_range : (x y : Labelled) → stands_before x y ≡ false → stands_before y x ≡ false → has_range x.start x.end y ≡ true
 one_range x y h k = grind (arith, nat_tests)
 
@@ -38,17 +39,17 @@ one_range x y h k = grind (arith, nat_tests)
 own_range : (x : Labelled) → has_range x.start x.end x ≡ true
 own_range x = rw (eq-eqb x.start x.start refl, eq-eqb x.end x.end refl) refl
 
--- a label that stands before another has not its range
+-- a label that is before another has not its range
 apart : (start end : ℕ) (x y : Labelled) → stands_before x y ≡ true → has_range start end x ≡ true → has_range start end y ≡ false
 apart start end x y h k = grind (arith, nat_tests)
 
--- labels of one range stand before the same labels
+-- labels of one range are before the same labels
 before_alike : (x y z : Labelled) → has_range x.start x.end y ≡ true → stands_before x z ≡ true → stands_before y z ≡ true
 before_alike x y z h k = grind (arith, nat_tests)
 
--- ---- a label put in its place
+-- ---- a label inserted in order
 
--- of the labels of one range the one that is put in stands first
+-- of the labels of one range the inserted one is first
 put_in-keeps : (start end : ℕ) (x : Labelled) (ys : List Labelled) → filter (has_range start end) (put_in x ys) ≡ filter (has_range start end) (x ∷ ys)
 put_in-keeps start end x [] = refl
 put_in-keeps start end x (y ∷ ys) =
@@ -69,7 +70,7 @@ sorted-keeps start end (x ∷ xs) =
 
 -- ---- labels in order
 
--- no label stands before an earlier one
+-- no label is before an earlier one
 abbrev pub Ascends : List Labelled → Type 0
 Ascends = Rises stands_before
 
@@ -94,7 +95,7 @@ sorted-ascends (x ∷ xs) = put_in-ascends x (sorted xs) (sorted-ascends xs)
 
 -- ---- labels in order are fixed by those of each range
 
--- a label that stands before the first one has a range that none of them has
+-- a label that is before the first one has a range that none of them has
 none_of_range : (x y : Labelled) (ys : List Labelled) → stands_before x y ≡ true → AllByRecursion (λ z. stands_before z y ≡ false) ys
     → AllByRecursion (λ z. has_range x.start x.end z ≡ false) ys
 none_of_range x y ys h k = all-weaker (λ z. stands_before z y ≡ false) (λ z. has_range x.start x.end z ≡ false)
@@ -104,7 +105,7 @@ none_of_range x y ys h k = all-weaker (λ z. stands_before z y ≡ false) (λ z.
 own_first : (x : Labelled) (xs : List Labelled) → filter (has_range x.start x.end) (x ∷ xs) ≡ x ∷ filter (has_range x.start x.end) xs
 own_first x xs = rw (own_range x) refl
 
--- a label whose range one of the list has does not stand before the first of them
+-- a label whose range one of the list has is not before the first of them
 not_before : (x y : Labelled) (xs ys : List Labelled) → AllByRecursion (λ z. stands_before z y ≡ false) ys
     → filter (has_range x.start x.end) (x ∷ xs) ≡ filter (has_range x.start x.end) (y ∷ ys) → stands_before x y ≡ false
 not_before x y xs ys h same = false_from_ne_true (stands_before x y)
@@ -171,7 +172,7 @@ sorted-permutation (x ∷ xs) =
     (IsPermutation-cons x xs (sorted xs) (sorted-permutation xs))
     (put_in-permutation x (sorted xs))
 
--- neither of two labels stands before the other where they have one range
+-- neither of two labels is before the other where they have one range
 tie-range : (x y : Labelled) → ties stands_before x y ≡ has_range x.start x.end y
 tie-range x y = grind (arith, nat_tests)
 

@@ -128,7 +128,7 @@ ascends f up i j h low =
     let e : j ≡ i + (j - i) = omega arith in
     rw e (ascends-by f up i (j - i) (omega arith))
 
--- a line that is not below this one and has room in the padding
+-- a line that is not below this one and fits the padding
 abbrev Over : LabelledFile → ℕ → Type 0
 Over s l = (m : ℕ) × (l ≤ m) × (m < line_count s.file) × Contains (spanned_lines s) m
 

@@ -1,4 +1,4 @@
--- The rows of a picture say texts.
+-- The rows of an output are texts.
 use Rattle.std.proofs.Common.{◌≡◌, ℕ, zero, suc, ◌+◌, ◌-◌, ◌<◌, ◌≤◌, Bool, true, false, not, ◌&&◌, ◌==◌, cond, List, [], ◌∷◌, ◌++◌, length, take, drop, get_or, map, filter, reverse, Option, Some, None, encode_utf8_all, refl, sym, ap, ◌∙◌, subst, arith, append_assoc, append-nil, ⊎_elim, ◌||◌}
 use Rattle.std.specs.Prelude.{if◌then◌else◌, IfSome, String, nat_lt, string_bytes}
 use Rattle.std.specs.Char.{encode_utf8}
@@ -60,7 +60,7 @@ trimmed text u (suc n) h cut = by (is_line_end (get_or text n 0)) refl (trimmed 
         let none : suffix_len is_line_end (take (suc n) text) ≡ 0 = suffix_len-take_no is_line_end text (suc n) 0 (omega arith) h (ap (λ k. is_line_end (get_or text k 0)) e ∙ is) in
         subst (λ k. IsUtf8 (take k text)) (let e : suc n ≡ suc n - suffix_len is_line_end (take (suc n) text) = omega arith in e) (IsUtf8-take text (suc n) u cut)
 
--- the text of a line as it is drawn
+-- the text of a line as it is rendered
 drawn-utf8 : (text : List ℕ) → IsUtf8 text → IsUtf8 (drawn_text text)
 drawn-utf8 text u =
     subst (λ xs. IsUtf8 (take (length text - suffix_len is_line_end xs) text)) (take_all (length text) text (omega arith))
@@ -174,7 +174,7 @@ rows-notes (note ∷ notes) h =
 
 -- ---- the labels of a line
 
--- what a label says
+-- the message of a label is a text
 abbrev SaysText : Labelled → Type 0
 SaysText x = IsText x.message
 
@@ -194,7 +194,7 @@ module _ (f : FileModel) (labels : List Labelled) (say : AllByRecursion SaysText
       says-sorted (reverse (map (drawn_label f) own))
       (all-reverse SaysText (map (drawn_label f) own) (each_map SaysText (drawn_label f) own (all-filter SaysText (λ x. is_single f x && (first_line f x == l)) labels say)))
 
-  -- a mark says what its label says
+  -- the message of a multi-line label mark is that of its label
   says-part : (s e l start : ℕ) (x : Labelled) (lane : ℕ) → SaysText x → IfSome (mark_of lane x (part_at s e l start x)) (λ m. IsTextPart m.part)
   says-part s e l start x lane t = by (s == l) (e == l) (nat_lt s l && nat_lt l e)
     where

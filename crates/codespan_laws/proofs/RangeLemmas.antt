@@ -1,4 +1,4 @@
--- A label over several lines begins on an earlier line than it ends on, where its range does.
+-- A multi-line label begins on an earlier line than it ends on, where its range does.
 use Rattle.std.proofs.Common.{◌≡◌, ℕ, zero, suc, ◌+◌, ◌-◌, ◌<◌, ◌≤◌, Bool, true, false, ◌⊎◌, inl, inr, ⊎_elim, cond, not, nat_le, nat_lt, List, [], ◌∷◌, filter, length, Some, slice_get, refl, sym, ap, ◌∙◌, arith}
 use Rattle.std.specs.Prelude.{Contains}
 use Rattle.std.specs.List.{list_any}
@@ -74,7 +74,7 @@ shows-first config s e = grind (arith, nat_tests)
 pub shows-last : (config : Config) (s e : ℕ) → shows config s e e ≡ true
 shows-last config s e = grind (arith, nat_tests)
 
--- a shown line does not stand between two with none between
+-- a shown line is not between two with none between
 not_between : (config : Config) (s : LabelledFile) (c d l : ℕ) → ((k : ℕ) → c < k → k < d → is_shown config s.file s.labels k ≡ false)
     → is_shown config s.file s.labels l ≡ true → (l ≤ c) ⊎ (d ≤ l)
 not_between config s c d l none here =

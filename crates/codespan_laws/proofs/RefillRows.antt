@@ -43,7 +43,7 @@ slots-slot k s =
     let e = ap {B = ℕ} (λ b. cond b 1 0) same in
     omega (arith, e, slots-cons k (Slot k) s)
 
--- two fillings of the slots that stand there
+-- two fillings of the slots there
 pub fill_same : (m m' : ℕ → List ℕ) (s : Stream) → ((k : ℕ) → 0 < slots k s → m k ≡ m' k) → fill m s ≡ fill m' s
 unfolding fill
 fill_same m m' [] h = refl

@@ -54,7 +54,7 @@ ends_reset-repeated closed (suc n) c =
     ends_reset-append closed (glyph c) (repeat n (glyph c))
     ∙ ap (λ o. ends_reset o (repeat n (glyph c))) (ends_reset-bytes closed _) ∙ ends_reset-repeated closed n c
 
--- what stands after a mark and before the reset
+-- what is after a style mark and before the reset
 pub closes-in_style : (m : StyleMark) (s : Stream) → Closes (one_mark m ++ s ++ one_mark Reset)
 closes-in_style m s = closes-reset (one_mark m ++ s)
 

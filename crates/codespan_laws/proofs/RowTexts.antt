@@ -52,7 +52,7 @@ followed {s} {t} a b = text-both s t a b
 pub text-bytes : (bs : List ℕ) → IsUtf8 bs → IsText (bytes bs)
 text-bytes bs u = record { utf8 = subst IsUtf8 (sym (text_of-bytes bs)) u }
 
--- a mark
+-- a style mark
 text-mark : (m : StyleMark) → IsText (one_mark m)
 text-mark m = record { utf8 = subst IsUtf8 (sym (text_of-one_mark m)) IsUtf8-nil }
 
@@ -98,7 +98,7 @@ text-close : IsText (bytes (codes "]"))
 unfolding is_ascii
 text-close = text-ascii (codes "]") refl
 
--- blanks
+-- spaces
 ascii-blanks : (n : ℕ) → IsAscii (replicate n 32)
 ascii-blanks zero = IsAscii-nil
 ascii-blanks (suc n) = IsAscii-cons 32 (replicate n 32) (omega arith) (ascii-blanks n)
@@ -255,18 +255,18 @@ text-source_glyph c s = by (c.code == 9)
 
 -- ---- what a row is of
 
--- what a mark says
+-- the message of a multi-line label mark
 abbrev pub IsTextPart : MultiLabel → Type 0
 IsTextPart (Bottom end message) = IsText message
 IsTextPart _ = Unit {0}
 
--- what a line says
+-- the text of a line and the messages of its labels are texts
 pub record IsTextLine (line : Line) : Type 0 where
   pub text : IsUtf8 line.text
   pub labels : AllByRecursion (λ (x : Labelled). IsText x.message) line.labels
   pub marks : AllByRecursion (λ (m : LaneMark). IsTextPart m.part) line.lanes.marks
 
--- what a row says
+-- what a row is of is a text
 abbrev pub IsTextRow : Row → Type 0
 IsTextRow (HeaderRow place heading) = IfSome place (λ p. IsUtf8 p.name) × IfSome heading.code IsUtf8 × IsUtf8 heading.message
 IsTextRow (StartRow place) = IsUtf8 place.name
@@ -384,7 +384,7 @@ module _ (look : Look) (ok : AreCharacters look.chars) where
   unfolding opening
   text-opening line = followed (followed (followed (text-gutter look.padding) (text-border look.chars ok)) (text-row_lanes (leading_of line) Below line.lanes)) text-space
 
-  -- the stream of a row is a text where what the row says is
+  -- the stream of a row is a text where what the row is of is
   pub text-row : (row : Row) → IsTextRow row → IsText (stream_of look row)
   unfolding header_row start_row empty_row break_row source_row caret_row pointer_row hanging_row underline_row first_note_row later_note_row
   text-row (HeaderRow place heading) h =

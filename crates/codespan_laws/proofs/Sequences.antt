@@ -1,4 +1,4 @@
--- Items in sequence: what holds of all that they and what stands between them give.
+-- Items in sequence: what holds of all their elements and of those between them.
 use Rattle.std.proofs.Common.{◌≡◌, ℕ, ◌+◌, Bool, true, false, cond, ◌==◌, List, [], ◌∷◌, ◌++◌, flat_map, Option, Some, None, refl, ap, ap₂, ◌∙◌}
 use Rattle.std.specs.List.{AllByRecursion}
 use Rattle.std.proofs.lemmas.Bool.{cond_both}
@@ -8,23 +8,23 @@ use Rattle.codespan_picture.specs.Sequences.{before_line, break_between, gap_bet
 use Rattle.codespan_laws.proofs.SortedLists.{all-append}
 
 module _ {A : Type 0} (P : A → Type 0) where
-  -- what holds of all that breaks give
+  -- what holds of all elements of breaks
   pub all-break : (broken : ℕ → List A) → ((d : ℕ) → AllByRecursion P (broken d)) → (c d : ℕ) → AllByRecursion P (break_between broken c d)
   all-break broken each c d = cond_both (is_broken c d) (broken d) [] (AllByRecursion P) (λ _. each d) (λ _. tt)
 
-  -- and of all that filled lines give
+  -- and of all elements of filled lines
   pub all-gap : (filled broken : ℕ → List A) → ((l : ℕ) → AllByRecursion P (filled l)) → ((d : ℕ) → AllByRecursion P (broken d))
       → (c d : ℕ) → AllByRecursion P (gap_between filled broken c d)
   all-gap filled broken fills breaks c d =
       cond_both (d == c + 2) (filled (c + 1)) (break_between broken c d) (AllByRecursion P) (λ _. fills (c + 1)) (λ _. all-break broken breaks c d)
 
-  -- what holds of all that stands between lines holds of what stands before one
+  -- what holds of all between lines holds of what is before one
   pub all-before : (between : ℕ → ℕ → List A) → ((c d : ℕ) → AllByRecursion P (between c d))
       → (was : Option ℕ) (d : ℕ) → AllByRecursion P (before_line between was d)
   all-before between gaps None d = tt
   all-before between gaps (Some c) d = gaps c d
 
-  -- with what the items give it holds of all
+  -- with the elements of the items it holds of all
   pub all-sequence : {X : Type 0} (line_of : X → ℕ) (between : ℕ → ℕ → List A) (own : X → List A)
       → ((c d : ℕ) → AllByRecursion P (between c d)) → ((x : X) → AllByRecursion P (own x))
       → (was : Option ℕ) (xs : List X) → AllByRecursion P (in_sequence line_of between own was xs)
@@ -34,7 +34,7 @@ module _ {A : Type 0} (P : A → Type 0) where
       (all-append P (before_line between was (line_of x)) (own x) (all-before between gaps was (line_of x)) (each x))
       (all-sequence line_of between own gaps each (Some (line_of x)) xs)
 
--- what all of a sequence gives is what its items give and what stands between them gives
+-- the elements of a sequence are those of its items and of what is between them
 pub flat_map-sequence : {X A B : Type 0} (give : A → List B) (line_of : X → ℕ) (between : ℕ → ℕ → List A) (own : X → List A) (was : Option ℕ) (xs : List X)
     → flat_map give (in_sequence line_of between own was xs)
     ≡ in_sequence line_of (λ c d. flat_map give (between c d)) (λ x. flat_map give (own x)) was xs
@@ -49,7 +49,7 @@ flat_map-sequence {X} {A} {B} give line_of between own was (x ∷ xs) =
     before None = refl
     before (Some c) = refl
 
--- what a gap gives is what the filled line or the break in it gives
+-- the elements of a gap are those of the filled line or of the break in it
 pub flat_map-gap : {A B : Type 0} (give : A → List B) (filled broken : ℕ → List A) (c d : ℕ)
     → flat_map give (gap_between filled broken c d) ≡ gap_between (λ l. flat_map give (filled l)) (λ l. flat_map give (broken l)) c d
 flat_map-gap give filled broken c d = by_tests (d == c + 2) (is_broken c d)
@@ -60,7 +60,7 @@ flat_map-gap give filled broken c d = by_tests (d == c + 2) (is_broken c d)
     by_tests false true = refl
     by_tests false false = refl
 
--- where breaks give nothing, items give one after the other
+-- where breaks have no elements, the items have theirs one after the other
 pub sequence-flat : {X A : Type 0} (line_of : X → ℕ) (own : X → List A) (was : Option ℕ) (xs : List X)
     → in_sequence line_of (break_between (λ _. [])) own was xs ≡ flat_map own xs
 sequence-flat line_of own was [] = refl

@@ -1,4 +1,4 @@
--- Each label's message stands in one slot.
+-- Each label's message has one slot.
 use Rattle.std.proofs.Common.{◌≡◌, ℕ, zero, suc, ◌+◌, ◌-◌, ◌<◌, ◌≤◌, Bool, true, false, not, cond, ◌&&◌, ◌||◌, ◌==◌, nat_lt, nat_le, List, [], ◌∷◌, ◌++◌, map, filter, filter_map, reverse, Option, Some, None, slice_get, length, if◌then◌else◌, refl, sym, ap, ◌∙◌, arith}
 use Rattle.std.specs.Prelude.{sum_by, count_by, flat_map}
 use Rattle.std.specs.List.{list_any, range_with_len, enumerate_from, cons_option}
@@ -444,7 +444,7 @@ module _ {Id : Type 0} (same : Id → Id → Bool) (law : IsEquivalence same) wh
       ∙ sum-swap (λ id (x : InFile Id). cond (same id x.id) (label_slots k x.label) 0) ids xs
       ∙ all_seen (λ x. label_slots k x.label) (map (λ (x : InFile Id). x.id) xs) xs (λ z any. any)
 
--- ---- slots in place of messages
+-- ---- slots instead of messages
 
 pub slotted_slots : {Id : Type 0} (k n : ℕ) (x : InFile Id) → label_slots k (slotted n x).label ≡ cond (n == k) (if has_message x.label then 1 else 0) 0
 unfolding slots

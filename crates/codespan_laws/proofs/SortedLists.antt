@@ -48,7 +48,7 @@ all-take P (suc n) (x ∷ xs) h = (h.0, all-take P n xs h.1)
 pub all-part : {X : Type 0} (P : X → Type 0) (at n : ℕ) (xs : List X) → AllByRecursion P xs → AllByRecursion P (take n (drop at xs))
 all-part P at n xs h = all-take P n (drop at xs) (all-drop P at xs h)
 
--- what holds of what elements give holds of these by what they give
+-- what holds of the images of elements holds of the elements by their images
 pub all-mapped : {X Y : Type 0} (f : X → Y) (P : Y → Type 0) (xs : List X) → AllByRecursion P (map f xs) → AllByRecursion (λ x. P (f x)) xs
 all-mapped f P [] h = tt
 all-mapped f P (x ∷ xs) h = (h.0, all-mapped f P xs h.1)
@@ -137,7 +137,7 @@ climbs-rises : {X : Type 0} (lt : X → X → Bool) → IsStrictWeakOrder lt →
 climbs-rises lt o [] h = tt
 climbs-rises lt o (x ∷ xs) h = (all-weaker (λ y. lt x y ≡ true) (λ y. lt y x ≡ false) (λ y t. o.one_way x y t) xs h.0, climbs-rises lt o xs h.1)
 
--- what is sorted by what its elements stand for stands for something sorted
+-- the images of a list that is sorted by the images of its elements are sorted
 pub sorted-map : {X Y : Type 0} (f : X → Y) (lt : Y → Y → Bool) (xs : List X) → IsSortedBy (λ x y. lt (f x) (f y)) xs → IsSortedBy lt (map f xs)
 sorted-map f lt [] h k d z w = absurd (omega arith)
 sorted-map {X} {Y} f lt (x ∷ xs) h k d z w =
@@ -182,7 +182,7 @@ first-low lt o x y xs ys low same t =
     let some : sum_by (λ z. cond (lt z y) 1 0) (x ∷ xs) ≡ 1 + sum_by (λ z. cond (lt z y) 1 0) xs = sum_by-cons (λ z. cond (lt z y) 1 0) x xs ∙ rw t refl in
     omega (arith, none, some, same (λ z. cond (lt z y) 1 0))
 
--- two lists that rise are one where they have the same elements and the order tells these apart
+-- two ascending lists with the same elements are equal where the order separates the elements
 rises-unique : {X : Type 0} (lt : X → X → Bool) → IsStrictWeakOrder lt → (P : X → Type 0)
     → ((x y : X) → P x → P y → lt x y ≡ false → lt y x ≡ false → x ≡ y)
     → (xs ys : List X) → AllByRecursion P xs → AllByRecursion P ys → Rises lt xs → Rises lt ys → SameSums xs ys → xs ≡ ys
@@ -316,7 +316,8 @@ in-reverse x xs i = all-in (λ y. IsIn y (reverse xs)) x xs (each xs) i
     each (y ∷ ys) = subst (λ zs. AllByRecursion (λ z. IsIn z zs) (y ∷ ys)) (sym (reverse-cons y ys))
         (first y (reverse ys), all-weaker (λ z. IsIn z (reverse ys)) (λ z. IsIn z (reverse ys ++ y ∷ [])) (λ z i. front z y (reverse ys) i) ys (each ys))
 
--- a filter keeps of a sorted list, from its end, what it keeps of the list that was sorted, where that falls
+-- a filter keeps of a sorted list, from its end, what it keeps of the list that was sorted, where
+-- that falls
 pub filter-sorted_falls : {X : Type 0} (lt : X → X → Bool) → IsStrictWeakOrder lt → (given sorted : List X) → IsPermutation given sorted → IsSortedBy lt sorted
     → (q : X → Bool) → Falls lt (filter q given) → filter q sorted ≡ reverse (filter q given)
 filter-sorted_falls lt o given sorted perm up q falls =

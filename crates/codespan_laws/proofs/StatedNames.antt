@@ -22,17 +22,17 @@ use Rattle.codespan_laws.proofs.Loci.{each_of, each_start, zip_stated}
 
 -- ---- labels before the first one for which a lookup fails
 
--- whether both lookups for a header are answered
+-- whether both lookups of a header succeed
 abbrev is_answered : {Id : Type 0} → Failures Id → InFile Id → Bool
 is_answered failure x = is_none (failure x.id Name) && is_none (failure x.id (LocationAt x.label.start))
 
--- where the two fail nothing, each is answered
+-- where neither of the two fails, each succeeds
 both_answered : (o p : Option Error) → or_failure o (or_failure p None) ≡ None → (is_none o && is_none p) ≡ true
 both_answered None None h = refl
 both_answered None (Some e) h = cc
 both_answered (Some e) p h = cc
 
--- where one of the two fails, not both are answered
+-- where one of the two fails, not both succeed
 one_failed : (o p : Option Error) (e : Error) → or_failure o (or_failure p None) ≡ Some e → (is_none o && is_none p) ≡ false
 one_failed None None e h = cc
 one_failed None (Some x) e h = refl
@@ -43,7 +43,7 @@ none_first : (o p : Option Error) → or_failure o p ≡ None → (o ≡ None) �
 none_first None p h = (refl, h)
 none_first (Some x) p h = cc
 
--- lookups of which the first ones are answered as all are
+-- where all lookups succeed, the first ones do and the others do
 none_of_first : {Id : Type 0} (failure : Failures Id) (ls ms : List (Id × Lookup)) → first_error failure (ls ++ ms) ≡ None
     → (first_error failure ls ≡ None) × (first_error failure ms ≡ None)
 none_of_first failure [] ms h = (refl, h)
@@ -52,7 +52,7 @@ none_of_first failure (l ∷ ls) ms h =
     let later = none_of_first failure ls ms parts.1 in
     (ap (λ (o : Option Error). or_failure o (first_error failure ls)) parts.0 ∙ later.0, later.1)
 
--- labels whose lookups are answered, and then one whose are not
+-- labels whose lookups succeed, and then one of which one fails
 run_before : {Id : Type 0} (failure : Failures Id) (before : List (InFile Id)) (here : InFile Id) (after : List (InFile Id)) → first_error failure (flat_map header_lookups_of before) ≡ None
     → is_answered failure here ≡ false → take_while (is_answered failure) (before ++ here ∷ after) ≡ before
 run_before failure [] here after answered failed =
@@ -82,7 +82,8 @@ module _ {Id : Type 0} (files : FileDatabase Id) (d : Diagnostic Id) (named : Na
       → output style renderer view files d loci ≡ output style renderer view files d (stated_loci files d style)
   output_stated style renderer view loci are = ap (output style renderer view files d) (loci_stated style loci are)
 
-  -- and the headers before a label that fails are those of the labels before the first one that fails
+  -- and the headers before a label that fails are those of the labels before the first one that
+  -- fails
   headers_stated : (config : Config) (loci : List Locus) → AreLoci files d Short loci
       → (before : List (InFile Id)) (here : InFile Id) (after : List (InFile Id)) → before ++ here ∷ after ≡ primary_of (labels_of d)
       → AllSucceed files.failure (flat_map header_lookups_of before) → (e : Error) → first_error files.failure (header_lookups_of here) ≡ Some e

@@ -1,4 +1,4 @@
--- The laws of carets and pointers: they stand under the characters that their labels take.
+-- The laws of carets and pointers: they are under the characters that their labels cover.
 use Rattle.std.specs.Prelude.{◌≡◌, ℕ, ◌<◌, Bool, ◌&&◌, ◌==◌, List, ◌++◌, map, if◌then◌else◌, Contains, IsTrue, encode_utf8_all}
 use Rattle.std.specs.List.{list_any, range_with_len}
 use Rattle.codespan_picture.specs.Types.{Chars}
@@ -11,7 +11,7 @@ use Rattle.codespan_picture.specs.Rows.{Look, Line, trailing, hanging}
 use Rattle.codespan_picture.specs.RowParts.{line_cells, line_cells_to_end, trailing_message, starts_in, greatest_start, cells_before, cells_up_to, label_message}
 use Rattle.codespan_picture.specs.RowStreams.{caret_row, pointer_row, hanging_row, opening}
 
--- between the lanes and the trailing message of a caret row stand its caret cells
+-- between the lanes and the trailing message of a caret row are its caret cells
 abbrev pub CaretsAreCells : Look → Type 0
 CaretsAreCells look = (line : Line)
     → text_of (caret_row look line)
@@ -36,7 +36,7 @@ abbrev pub StartsInWide : List Labelled → List Cell → Type 0
 StartsInWide labels cs = (c : Cell) (x : Labelled)
     → Contains cs c → Contains (hanging labels) x → IsTrue (starts_in c x) → 0 < c.width
 
--- pointers stand in the first cells of the characters in which hanging labels start; a message that
+-- pointers are in the first cells of the characters in which hanging labels start; a message that
 -- hangs from a character begins in that character's first cell
 pub record PointersAreCells (look : Look) (line : Line) : Type 0 where
   pub in_pointer_row : text_of (pointer_row look line)

@@ -104,8 +104,8 @@ lanes_shown look row lanes =
     (style_of_mark (mark_in lanes.marks lane)) (shape_in look.layout row lane))
     (range_with_len 0 lanes.count)
 
--- what stands left of the lanes: in a source row the line's number, else blanks, and the bar left
--- of the source
+-- what is left of the lanes: in a source row the line's number, else spaces, and the bar left of
+-- the source
 abbrev pub before_lanes : Look → Row → Stream
 before_lanes look (SourceRow line) = numbered_gutter look.padding line.number ++ border look.chars
 before_lanes look (BreakRow lanes) = gutter look.padding ++ break_border look.chars

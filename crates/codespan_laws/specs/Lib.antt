@@ -1,4 +1,4 @@
--- what stands below: files, labels, streams, writers, tables
+-- the definitions of the crates below: files, labels, streams, writers, tables
 pub use Rattle.codespan_base.specs.FileModel
 pub use Rattle.codespan_base.specs.LawfulFiles
 pub use Rattle.codespan_base.specs.SimpleModel
@@ -13,7 +13,7 @@ pub use Rattle.codespan_base.specs.Characters
 pub use Rattle.codespan_base.specs.Defaults
 pub use Rattle.codespan_base.specs.StyleTables
 pub use Rattle.codespan_base.specs.Ansi
--- the picture
+-- the output
 pub use Rattle.codespan_picture.specs.Cells
 pub use Rattle.codespan_picture.specs.Carets
 pub use Rattle.codespan_picture.specs.Lanes
@@ -29,7 +29,7 @@ pub use Rattle.codespan_picture.specs.Picture
 pub use Rattle.codespan_picture.specs.StatedPicture
 pub use Rattle.codespan_picture.specs.Lookups
 pub use Rattle.codespan_picture.specs.Given
--- what a picture means
+-- what an output means
 pub mod CaretLaws
 pub mod ColourLaws
 pub mod LaneLaws

@@ -17,7 +17,7 @@ abbrev pub shown_lines : Config → LabelledFile → List ℕ
 shown_lines config s =
     filter (is_shown config s.file s.labels) (range_with_len 0 (line_count s.file))
 
--- drawn lines with their breaks are the drawing of the shown lines
+-- drawn lines with their breaks follow from the shown lines
 abbrev pub DrawingOfShown : Config → LabelledFile → Type 0
 DrawingOfShown config s =
     rows_after s None (drawn_lines config s.file s.labels)
@@ -37,7 +37,7 @@ abbrev pub broken_line : Row → Option Lanes
 broken_line (BreakRow lanes) = Some lanes
 broken_line _ = None
 
--- break rows stand exactly where shown lines are three or more apart
+-- there is a break row exactly where shown lines are three or more apart
 abbrev pub BreaksAreGaps : Config → LabelledFile → Type 0
 BreaksAreGaps config s = (locus : Locus)
     → filter_map broken_line (snippet config locus s)
@@ -59,7 +59,7 @@ abbrev pub is_source_row : Row → Bool
 is_source_row (SourceRow line) = true
 is_source_row _ = false
 
--- the lines that one label shows are so many at most
+-- one label shows at most so many lines
 abbrev pub reach : Config → ℕ
 reach config =
     2 + config.before_label_lines + config.after_label_lines + config.start_context_lines

@@ -1,4 +1,4 @@
--- The law of messages: each stands exactly once in a rich output.
+-- The law of messages: each is exactly once in a rich output.
 use Rattle.std.specs.Prelude.{◌≡◌, ℕ, Bool, false, ◌==◌, List, ◌∷◌, map, count_by, slice_get, Some, if◌then◌else◌, []}
 use Rattle.std.specs.List.{enumerate_from}
 use Rattle.std.specs.Option.{option_map_or}
@@ -10,13 +10,13 @@ use Rattle.codespan_picture.specs.Rows.{Locus}
 use Rattle.codespan_picture.specs.Snippets.{InFile, labelled_files}
 use Rattle.codespan_picture.specs.Picture.{heading_of, labels_of, notes_of, output, rendered}
 
--- a label with a slot in place of its message
+-- a label with a slot instead of its message
 abbrev pub slotted : {Id : Type 0} → ℕ → InFile Id → InFile Id
 slotted k x = record x {
   label = record x.label { message = if is_blank x.label.message then [] else Slot k ∷ [] };
 }
 
--- the labels with slots in place of their messages
+-- the labels with slots instead of their messages
 abbrev pub all_slotted : {Id : Type 0} → List (InFile Id) → List (InFile Id)
 all_slotted {Id} xs = map (λ (e : ℕ × InFile Id). slotted e.0 e.1) (enumerate_from 0 xs)
 
@@ -25,18 +25,18 @@ abbrev pub is_slot : ℕ → Item → Bool
 is_slot k (Slot j) = j == k
 is_slot k _ = false
 
--- the message of a label, by its place, and nothing where no label has the place
+-- the message of a label, by its index, and nothing where no label has the index
 abbrev pub message_text : {Id : Type 0} → List (InFile Id) → ℕ → List ℕ
 message_text xs k = option_map_or (λ x. text_of x.label.message) (slice_get xs k) []
 
--- the rich output with slots in place of the messages
+-- the rich output with slots instead of the messages
 abbrev pub slotted_output : {Id : Type 0}
     → Config → Config → FileDatabase Id → Diagnostic Id → List Locus → Stream
 slotted_output renderer view files d loci =
     rendered Rich renderer view d.severity (heading_of d) loci
     (labelled_files files.same files.file (all_slotted (labels_of d))) (notes_of d)
 
--- each message stands in exactly one slot of the rich output, and the slots filled give the output
+-- each message has one slot in the rich output, and with the slots filled that is the output
 pub record MessagesStandOnce {Id : Type 0} (renderer view : Config) (files : FileDatabase Id)
     (d : Diagnostic Id) (loci : List Locus) : Type 0 where
   pub once : (k : ℕ) (x : InFile Id) → slice_get (labels_of d) k ≡ Some x

@@ -14,13 +14,13 @@ abbrev pub is_drawn_at : FileModel → ℕ → ℕ → Labelled → Bool
 is_drawn_at f start end x =
     let drawn = drawn_label f x in (drawn.start == start) && (drawn.end == end)
 
--- the labels of a file that end on another line, in the order given
+-- the multi-line labels of a file, in the order of the list
 abbrev pub several_lines_of : {Id : Type 0}
     → (Id → Id → Bool) → (Id → FileModel) → List (InFile Id) → Id → List Labelled
 several_lines_of same file xs id =
     filter (λ x. not (is_single (file id) x)) (labelled_file same file xs id).labels
 
--- the labels of one line that have this drawn range, in the order given
+-- the labels of one line that have this drawn range, in the order of the list
 abbrev pub one_range_of : {Id : Type 0}
     → (Id → Id → Bool) → (Id → FileModel) → List (InFile Id) → Id → ℕ → ℕ → ℕ → List Labelled
 one_range_of same file xs id l start end =

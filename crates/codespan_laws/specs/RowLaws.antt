@@ -27,19 +27,19 @@ CharactersAreFree = (look : Look) (chars : Chars) (row : Row)
     ≡ character_count (start_text look.chars.snippet_start)
     → row_length (stream_of (record look { chars = chars }) row) ≡ row_length (stream_of look row)
 
--- the mark is a reset
+-- the style mark is a reset
 abbrev pub is_reset : StyleMark → Bool
 is_reset Reset = true
 is_reset _ = false
 
--- the last mark of a stream, if it has one, is a reset; `closed` is what is told of one that has
--- none
+-- the last style mark of a stream, if it has one, is a reset; `closed` is the value for one that
+-- has none
 abbrev pub ends_reset : Bool → Stream → Bool
 ends_reset closed [] = closed
 ends_reset closed (Mark m ∷ s) = ends_reset (is_reset m) s
 ends_reset closed (Byte b ∷ s) = ends_reset closed s
 ends_reset closed (Slot k ∷ s) = ends_reset closed s
 
--- the last mark of a row, if it has one, is a reset
+-- the last style mark of a row, if it has one, is a reset
 abbrev pub RowsEndReset : Type 0
 RowsEndReset = (look : Look) (row : Row) → IsTrue (ends_reset true (stream_of look row))

@@ -9,7 +9,7 @@ pub record IsSortOf (xs ys : List Labelled) : Type 0 where
   pub permutation : IsPermutation xs ys
   pub stable : IsStableBy stands_before xs ys
 
--- there is one such list, which `sorted` gives
+-- there is one such list, which is `sorted`
 pub record SortsLabels (xs : List Labelled) : Type 0 where
   pub is : IsSortOf xs (sorted xs)
   pub only : (ys : List Labelled) → IsSortOf xs ys → ys ≡ sorted xs

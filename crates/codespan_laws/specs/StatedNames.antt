@@ -22,7 +22,7 @@ module _ {Id : Type 0} (files : FileDatabase Id) (d : Diagnostic Id) where
   abbrev pub NamesAreStated : Type 0
   NamesAreStated = (x : InFile Id) → Contains (labels_of d) x → IsSome (files.file x.id).name
 
-  -- the output by any loci is the picture
+  -- the output with any loci is the picture
   abbrev pub OutputIsPicture : Type 0
   OutputIsPicture = NamesAreStated
       → (style : DisplayStyle) (renderer view : Config) (loci : List Locus)

@@ -11,7 +11,7 @@ use Rattle.codespan_picture.specs.Picture.{NamesAreTexts, output}
 use Rattle.codespan_picture.specs.StatedPicture.{picture}
 use Rattle.codespan_picture.specs.Rows.{Locus}
 
--- what the stream writes is UTF-8, marks aside
+-- what is written of the stream is UTF-8, style marks aside
 pub record IsText (s : Stream) : Type 0 where
   pub utf8 : IsUtf8 (text_of s)
 
@@ -42,7 +42,7 @@ module _ {Id : Type 0} (style : DisplayStyle) (renderer view : Config)
   OutputIsText = AreCharacters renderer.chars → ((id : Id) → IsLawful (files.file id))
       → (loci : List Locus) → NamesAreTexts loci → IsText (output style renderer view files d loci)
 
-  -- so the picture is one where what the names of the files state is UTF-8
+  -- so is the picture, where the stated names are UTF-8
   abbrev pub PictureIsText : Type 0
   PictureIsText = AreCharacters renderer.chars → ((id : Id) → IsLawful (files.file id))
       → ((id : Id) → IfSome (files.file id).name IsUtf8)

@@ -3,13 +3,13 @@ use Rattle.std.specs.Prelude.{◌≡◌, ℕ, ◌+◌, false, List, sum_by, Opti
 use Rattle.codespan_base.specs.Labels.{Labelled, has_message}
 use Rattle.codespan_picture.specs.Rows.{trailing, hanging}
 
--- what a label weighs, if there is one
+-- the weight of a label, if there is one
 abbrev pub weight_of : (Labelled → ℕ) → Option Labelled → ℕ
 weight_of weight None = 0
 weight_of weight (Some x) = weight x
 
--- the trailing label and the hanging ones weigh what all labels weigh, if those without a message
--- weigh nothing
+-- the weights of the trailing label and the hanging ones sum to those of all labels, if labels
+-- without a message weigh nothing
 abbrev pub EachTrailsOrHangs : Type 0
 EachTrailsOrHangs = (weight : Labelled → ℕ) (labels : List Labelled)
     → ((x : Labelled) → has_message x ≡ false → weight x ≡ 0)

@@ -43,13 +43,13 @@ pub fn outputs_mean_labels<Id>()
 
 // ---- drawn lines and breaks
 
-/// The drawn lines and the breaks follow from the shown lines: a gap of one line is filled, a
-/// longer one is broken.
+/// The drawn lines and the breaks follow from the shown lines: between two of them one line is
+/// filled in, and of two or more there is a break.
 pub fn drawing_is_of_shown_lines()
     ensures { (config : Config) (s : LabelledFile) → DrawingOfShown config s }
 {}
 
-/// Break rows stand exactly where shown lines are three or more apart.
+/// There is a break row exactly where shown lines are three or more apart.
 pub fn breaks_are_gaps()
     ensures { (config : Config) (s : LabelledFile) → BreaksAreGaps config s }
 {}
@@ -73,8 +73,8 @@ pub fn carets_are_cells()
     ensures { (look : Look) → CaretsAreCells look }
 {}
 
-/// Pointers stand in the first cells of the characters in which hanging labels start, and so do
-/// their messages.
+/// Pointers are in the first cells of the characters in which hanging labels start, and their
+/// messages begin there.
 pub fn pointers_are_cells()
     ensures { (look : Look) (line : Line)
         → StartsInWide line.labels (line_cells look line) → PointersAreCells look line }
@@ -108,8 +108,7 @@ pub fn lanes_take_two()
 
 // ---- messages
 
-/// Each label with a message has it exactly once in a rich output, and no other message stands
-/// there.
+/// Each label with a message has it exactly once in a rich output, and no other message is in it.
 pub fn messages_stand_once<Id>()
     ensures { (renderer view : Config) (files : FileDatabase Id) (d : Diagnostic Id)
         → IsEquivalence files.same → ((id : Id) → 0 < line_count (files.file id))
@@ -117,24 +116,23 @@ pub fn messages_stand_once<Id>()
         → MessagesStandOnce renderer view files d loci }
 {}
 
-/// Of a line's labels with a message one trails at most, and each other one hangs.
+/// Of a line's labels with a message at most one trails, and each other one hangs.
 pub fn each_message_trails_or_hangs()
     ensures { EachTrailsOrHangs }
 {}
 
 // ---- the order of labels
 
-/// A reordering of the labels that keeps the orders that a rich output shows changes nothing in it,
-/// its loci included: that of the files by their first labels, of each file's labels over several
-/// lines, and of the labels of one line and one drawn range. The ids of the files need only be
-/// equal, as equal ids name one file.
+/// A reordering of the labels changes nothing in a rich output, its loci included, if it keeps the
+/// order of the files by their first labels, of each file's multi-line labels, and of the labels of
+/// one line and one drawn range. The ids of the files need only be equal, as equal ids name one
+/// file.
 pub fn order_is_free<Id>()
     ensures { (same : Id → Id → Bool) (file : Id → FileModel) → OrderIsFree same file }
 {}
 
-/// `sorted` gives the one list that is in the order of ranges, equal ranges in the order of its
-/// argument. A line's labels are handed to it in reverse, so of equal ranges the label given last
-/// comes first.
+/// `sorted` is the one list in the order of ranges, and of equal ranges in the order of its
+/// argument. That is a line's labels in reverse, so of equal ranges the last label comes first.
 pub fn labels_are_sorted()
     ensures { (labels : List Labelled) → SortsLabels labels }
 {}
@@ -153,14 +151,14 @@ pub fn characters_are_free()
     ensures { CharactersAreFree }
 {}
 
-/// The last mark of a row, if it has one, is a reset.
+/// The last style mark of a row, if it has one, is a reset.
 pub fn rows_end_reset()
     ensures { RowsEndReset }
 {}
 
-// ---- names, texts and colours
+// ---- names, texts and colors
 
-/// An output has loci: those with the names that the files state are some.
+/// An output has loci: those with the names that the files state are loci of it.
 pub fn stated_loci_are_loci<Id>()
     ensures { (files : FileDatabase Id) (d : Diagnostic Id) (style : DisplayStyle)
         → AreLoci files d style (stated_loci files d style) }
@@ -171,15 +169,15 @@ pub fn stated_names_make_the_picture<Id>()
     ensures { (files : FileDatabase Id) (d : Diagnostic Id) → OutputIsPicture files d }
 {}
 
-/// Where they are stated, the headers that a failed lookup leaves are those of the labels before
-/// the first one for which a lookup fails.
+/// Where they are stated, the headers before a failed lookup are those of the labels before the
+/// first one for which a lookup fails.
 pub fn stated_names_make_the_headers<Id>()
     ensures { (files : FileDatabase Id) (d : Diagnostic Id) → HeadersAreBeforeFailure files d }
 {}
 
-/// What is rendered is UTF-8, style marks aside, in each style: where its characters are
-/// characters, its files are lawful, and the names of its loci are UTF-8; and of the picture, where
-/// what the names of the files state is UTF-8.
+/// An output is UTF-8, style marks aside, in each style: where its characters are characters, its
+/// files are lawful, and the names of its loci are UTF-8; and so is the picture, where the stated
+/// names are UTF-8.
 pub fn outputs_are_texts<Id>()
     ensures output { (style : DisplayStyle) (renderer view : Config)
         (files : FileDatabase Id) (d : Diagnostic Id) → OutputIsText style renderer view files d }
@@ -187,8 +185,9 @@ pub fn outputs_are_texts<Id>()
         (files : FileDatabase Id) (d : Diagnostic Id) → PictureIsText style renderer view files d }
 {}
 
-/// Colors change no text: however a writer spells marks, what it is sent of an output is the plain
-/// text and, among it, the bytes of marks. In no colors these are none, whatever the styles.
+/// Colors change no text: however a writer spells style marks, what it writes of an output is the
+/// plain text and, among it, the bytes of style marks. Over `NoColor` these are none, whatever the
+/// styles.
 pub fn colours_change_no_text<Id>()
     ensures spelled { (spelling : Spelling) (style : DisplayStyle) (renderer view : Config)
         (files : FileDatabase Id) (d : Diagnostic Id) (loci : List Locus)

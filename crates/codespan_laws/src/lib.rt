@@ -1,4 +1,4 @@
-//! Laws of pictures.
+//! Laws of outputs.
 #![tactic(auto)]
 
 pub mod laws;

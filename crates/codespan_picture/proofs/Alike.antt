@@ -1,4 +1,4 @@
--- Configurations that look alike draw alike.
+-- Equal configurations render alike.
 use Rattle.std.proofs.Common.{◌≡◌, ℕ, List, [], ◌∷◌, ◌++◌, refl, ap, ◌∙◌}
 use Rattle.codespan_base.specs.declared.term.config.Config.{Config}
 use Rattle.codespan_base.specs.declared.term.config.chars.SnippetStart.{SnippetStart}
@@ -16,7 +16,7 @@ use Rattle.codespan_picture.specs.Padding.{padding_of}
 use Rattle.codespan_picture.specs.Picture.{look_of, rendered}
 use Rattle.codespan_picture.specs.Snippets.{LabelledFile, header_rows, note_rows, rich_rows}
 
--- the configuration with this text before a place
+-- the configuration with this text before a locus
 abbrev with_start : Config → SnippetStart → Config
 with_start config start = record config { chars = record config.chars { snippet_start = start } }
 
@@ -53,7 +53,7 @@ module _ (config : Config) (severity : Severity) (padding : ℕ) (start other : 
 
 -- what is rendered is the same, in each style
 module _ (table config : Config) (alike : IsConfig table config) (severity : Severity) (heading : Heading) (loci : List Locus) (ss : List LabelledFile) (notes : List (List ℕ)) where
-  -- rows with so much room for line numbers are the same
+  -- rows of this padding width are the same
   all_alike : (padding : ℕ) (rows : List Row) → stream_of_rows (look_of config severity padding) rows ≡ stream_of_rows (look_of table severity padding) rows
   all_alike padding rows =
       ap (λ c. stream_of_rows (look_of c severity padding) rows) (is_with_start table config alike)

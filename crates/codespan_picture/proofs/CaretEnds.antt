@@ -7,7 +7,7 @@ use Rattle.codespan_base.specs.Labels.{Labelled, is_primary}
 use Rattle.codespan_picture.specs.declared.cells.Cell.{Cell}
 use Rattle.codespan_picture.specs.Carets.{covers, style_under, greatest_end}
 
--- a label over a character reaches past its place
+-- a label over a character ends past the index at which that begins
 covers-below : (x : Labelled) (c : Cell) → covers x c ≡ true → c.place < x.end
 covers-below x c h = let below = ltb-true (max x.start c.place) (min x.end (c.place + c.bytes)) h in omega arith
 

@@ -51,7 +51,7 @@ hanging_of labels (Some a) = filter has_message (if around_trails a then others 
 
 -- ---- the last label with the greatest end
 
--- the list, from what stands around the label
+-- the list, from what is around the label
 pub around_is : (end : ℕ) (xs : List Labelled) (a : Around) → around_with_end end xs ≡ Some a → a.before ++ (a.here ∷ a.after) ≡ xs
 around_is end [] a h = cc
 around_is end (x ∷ xs) a h = by_rest (around_is end xs) (around_with_end end xs) refl h

@@ -5,7 +5,7 @@ use Rattle.std.proofs.lemmas.Str.{len_utf8_bounds}
 use Rattle.codespan_picture.specs.declared.cells.Cell.{Cell}
 use Rattle.codespan_picture.specs.Cells.{cells_then, width_at}
 
--- they begin at this place and this column, each has a byte, and each follows the one before
+-- they begin at this byte index and this column, each has a byte, and each follows the one before
 abbrev pub AreSpread : ℕ → ℕ → List Cell → Type 0
 AreSpread place column [] = Unit {0}
 AreSpread place column (c ∷ cs) =
@@ -16,7 +16,7 @@ cells-spread tab place column [] = tt
 cells-spread tab place column (c ∷ cs) =
     (refl, refl, omega (arith, (len_utf8_bounds c).0), cells-spread tab (place + len_utf8 c) (column + width_at tab column c) cs)
 
--- from a place on no character begins before it
+-- from a byte index on no character begins before it
 pub none-before : (near : ℕ → Bool) (place column : ℕ) (cs : List Cell) → AreSpread place column cs
     → ((q : ℕ) → place ≤ q → near q ≡ false) → filter (λ (c : Cell). near c.place) cs ≡ []
 none-before near place column [] laid far = refl

@@ -15,7 +15,7 @@ covers_part x start end = nat_lt (max x.start start) (min x.end end)
 abbrev pub covers : Labelled → Cell → Bool
 covers x c = covers_part x c.place (c.place + c.bytes)
 
--- the style under a character: of the labels over it a primary one goes first
+-- the style under a character: primary where one of the labels over it is
 abbrev pub style_under : List Labelled → Cell → Option LabelStyle
 style_under labels c =
     if list_any (λ x. is_primary x && covers x c) labels then Some Primary
@@ -37,7 +37,7 @@ abbrev pub style_at : List Labelled → List Cell → ℕ → Option LabelStyle
 style_at labels [] k = None
 style_at labels (c ∷ cs) k = if owns k c then style_under labels c else style_at labels cs k
 
--- the caret of a style, and a blank for none
+-- the caret of a style, and a space for none
 abbrev pub caret_for : Chars → Option LabelStyle → ℕ
 caret_for chars None = 32
 caret_for chars (Some Primary) = chars.single_primary_caret

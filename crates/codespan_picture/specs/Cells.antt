@@ -6,22 +6,22 @@ use Rattle.std.specs.Char.{len_utf8, is_whitespace}
 use Rattle.codespan_picture.specs.declared.cells.Cell.{Cell}
 use Rattle.unicode_width.specs.Width.{char_width}
 
--- line feeds, carriage returns and NULs are not drawn at a line's end
+-- line feeds, carriage returns and NULs are not rendered at a line's end
 abbrev pub is_line_end : ℕ → Bool
 is_line_end b = (b == 10) || (b == 13) || (b == 0)
 
--- the text of a line as it is drawn
+-- the text of a line as it is rendered
 abbrev pub drawn_text : List ℕ → List ℕ
 drawn_text text = take (length text - suffix_len is_line_end text) text
 
--- the cells that a character takes at a column: a tab those up to its next stop, none where stops
--- are no cells apart; any other what `unicode_width` gives it, none where that gives none
+-- the cells of a character at a column: of a tab those up to its next stop, none where the tab
+-- width is 0; of any other as many as `unicode_width` returns, none where it returns none
 abbrev pub width_at : ℕ → ℕ → ℕ → ℕ
 width_at tab column c =
     if c == 9 then (if tab == 0 then 0 else tab - column % tab)
     else unwrap_or (char_width false c) 0
 
--- the cells of these characters from a place and a column on, and then those that `after` gives
+-- these characters with their cells, from a byte index and a column on, and then what `after` is
 -- where they end
 abbrev pub cells_then : (ℕ → ℕ → List Cell) → ℕ → ℕ → ℕ → List ℕ → List Cell
 cells_then after tab place column [] = after place column
@@ -39,7 +39,7 @@ cells_then after tab place column (c ∷ cs) =
 abbrev pub cells : ℕ → List ℕ → List Cell
 cells tab line = cells_then (λ _ _. []) tab 0 0 (chars line)
 
--- the place after the last character counts as one more, of one byte and one cell
+-- the placeholder after the last character: one more, of one byte and one cell
 abbrev pub placeholder : ℕ → ℕ → List Cell
 placeholder place column =
     record { code = 32; place = place; bytes = 1; column = column; width = 1 } ∷ []

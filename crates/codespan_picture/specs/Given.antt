@@ -1,4 +1,4 @@
--- Labels, marks and places as the calls of a renderer are given them.
+-- Labels, multi-line label marks and loci as the calls of a renderer take them.
 use Rattle.std.specs.Prelude.{ℕ, Bool, List, map, string_bytes, ◌+◌, true, ◌&&◌, nat_lt, nat_le, [], ◌∷◌}
 use Rattle.std.specs.Borrow.{Bor}
 use Rattle.std.specs.declared.ops.Range.{Range}
@@ -10,11 +10,11 @@ use Rattle.codespan_picture.specs.declared.given.MultiLabel as rust_multi_label
 use Rattle.codespan_picture.specs.declared.given.MultiLabel.TheVariants as given
 use Rattle.codespan_picture.specs.Rows.{Locus, Lanes}
 
--- a single-line label as it is given
+-- a single-line label, as an argument
 abbrev pub GivenLabel : Type 0
 GivenLabel = LabelStyle × Range ℕ × Bor (List ℕ)
 
--- a mark as it is given
+-- a multi-line label mark, as an argument
 abbrev pub GivenMark : Type 0
 GivenMark = ℕ × LabelStyle × rust_multi_label.MultiLabel
 
@@ -27,17 +27,17 @@ single_label_view x =
 abbrev pub single_label_views : List GivenLabel → List Labelled
 single_label_views xs = map single_label_view xs
 
--- what a label over several lines does on a line
+-- what a multi-line label does on a line
 abbrev pub multi_label_view : rust_multi_label.MultiLabel → MultiLabel
 multi_label_view (given.Top start) = Top start
 multi_label_view given.Left = Left
 multi_label_view (given.Bottom end message) = Bottom end (bytes message.now)
 
--- a mark
+-- a multi-line label mark
 abbrev pub mark_view : GivenMark → LaneMark
 mark_view m = record { lane = m.0; style = m.1; part = multi_label_view m.2 }
 
--- the marks in a row's lanes
+-- the multi-line label marks in a row's lanes
 abbrev pub lanes_of : ℕ → List GivenMark → Lanes
 lanes_of count ms = record { count = count; marks = map mark_view ms }
 
@@ -47,15 +47,15 @@ ascend_from count least [] = true
 ascend_from count least (m ∷ ms) =
     nat_le least m.lane && nat_lt m.lane count && ascend_from count (m.lane + 1) ms
 
--- the one condition on a caller that gives marks: their lanes ascend strictly and stay below their
--- number
+-- the one condition on a caller that passes multi-line label marks: their lanes ascend strictly and
+-- are below the number of lanes
 abbrev pub lanes_in_order : ℕ → List GivenMark → Bool
 lanes_in_order count ms = ascend_from count 0 (map mark_view ms)
 
--- a place as it is given
+-- a locus, as an argument
 abbrev pub locus_view : rust_locus.Locus → Locus
 locus_view at = record { name = string_bytes at.name; location = at.location }
 
--- a text as it is lent
+-- the bytes of a borrowed text
 abbrev pub text_now : Bor (List ℕ) → List ℕ
 text_now s = s.now

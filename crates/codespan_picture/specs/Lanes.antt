@@ -6,16 +6,17 @@ use Rattle.codespan_picture.specs.declared.lanes.Shape.{Shape}
 use Rattle.codespan_picture.specs.declared.lanes.Shape.TheVariants.{Gap, Bar, TopCorner, BottomCorner}
 use Rattle.codespan_base.specs.Labels.{LaneMark, MultiLabel, Top, Left, Bottom}
 
--- the lane begins, on a line whose text begins with so many bytes of white space, in the source row
+-- the lane begins in the source row, on a line whose text begins with so many bytes of white space
 abbrev pub turns_early : ℕ → ℕ → Bool
 turns_early leading start = nat_le start leading
 
--- what a mark shows in the source row
+-- what a multi-line label mark shows in the source row
 abbrev pub source_shape : ℕ → MultiLabel → Shape
 source_shape leading (Top start) = if turns_early leading start then TopCorner else Gap
 source_shape leading _ = Bar
 
--- what it shows in an empty row, and in a break row, which has the marks of the line after it
+-- what it shows in an empty row, and in a break row, which has the multi-line label marks of the
+-- line after it
 abbrev pub plain_shape : MultiLabel → Shape
 plain_shape (Top start) = Gap
 plain_shape _ = Bar
@@ -41,37 +42,37 @@ underline_shape layout leading turning lane (Bottom end message) =
     if lane == turning then BottomCorner else if nat_lt lane turning then Gap else Bar
 
 -- a kind of row, as far as its lanes go: a source row; an empty or a break row; a caret, pointer or
--- hanging row; the underline row of a mark
+-- hanging row; the underline row of a multi-line label mark
 pub data LaneRow : Type 0 where
   Source : LaneRow
   Plain : LaneRow
   Below : LaneRow
   Underline : LaneMark → LaneRow
 
--- the table of lanes: what a mark shows in a kind of row
+-- the table of lanes: what a multi-line label mark shows in a kind of row
 abbrev pub row_shape : Layout → ℕ → LaneRow → ℕ → MultiLabel → Shape
 row_shape layout leading Source lane = source_shape leading
 row_shape layout leading Plain lane = plain_shape
 row_shape layout leading Below lane = below_shape layout leading
 row_shape layout leading (Underline m) lane = underline_shape layout leading m.lane lane
 
--- the mark, in its own underline row, whose corner stands left of the lane
+-- the multi-line label mark, in its own underline row, whose corner is left of the lane
 abbrev pub row_crossing : LaneRow → ℕ → Option LaneMark
 row_crossing (Underline m) lane = if nat_lt m.lane lane then Some m else None
 row_crossing _ lane = None
 
--- ---- the marks of a row
+-- ---- the multi-line label marks of a row
 
--- the mark that the line has in a lane
+-- the multi-line label mark of the line in a lane
 abbrev pub mark_in : List LaneMark → ℕ → Option LaneMark
 mark_in marks lane = find (λ (m : LaneMark). m.lane == lane) marks
 
--- what a row shows in a lane, from the mark in it
+-- what a row shows in a lane, from the multi-line label mark in it
 abbrev pub shape_of : (MultiLabel → Shape) → Option LaneMark → Shape
 shape_of shape None = Gap
 shape_of shape (Some m) = shape m.part
 
--- the style of a mark, primary where there is none
+-- the style of a multi-line label mark, primary where there is none
 abbrev pub style_of_mark : Option LaneMark → LabelStyle
 style_of_mark None = Primary
 style_of_mark (Some m) = m.style
@@ -87,14 +88,14 @@ corner_line chars _ = chars.multi_bottom
 unfoldable pub label_glyph : Severity → LabelStyle → ℕ → Stream
 label_glyph severity style c = one_mark (LabelMark severity style) ++ glyph c ++ one_mark Reset
 
--- a lane's part before its own character: blanks, or the line of a corner that stands to the left
+-- a lane's part before its own character: spaces, or the line of a corner to the left
 unfoldable pub filling : Severity → Chars → Option LaneMark → ℕ → Stream
 filling severity chars None n = blanks n
 filling severity chars (Some m) n =
     one_mark (LabelMark severity m.style) ++ repeated n (corner_line chars m.part) ++ one_mark Reset
 
--- the two characters of a lane; `crossing` is the mark, in its own underline row, whose corner
--- stands left of the lane
+-- the two characters of a lane; `crossing` is the multi-line label mark, in its own underline row,
+-- whose corner is left of the lane
 unfoldable pub lane_cells : Severity → Chars → Option LaneMark → LabelStyle → Shape → Stream
 lane_cells severity chars crossing style Gap = filling severity chars crossing 2
 lane_cells severity chars crossing style Bar =

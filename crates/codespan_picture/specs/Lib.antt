@@ -1,4 +1,4 @@
--- what stands below: files, labels, streams, writers, tables
+-- the definitions of the crate below: files, labels, streams, writers, tables
 pub use Rattle.codespan_base.specs.FileModel
 pub use Rattle.codespan_base.specs.LawfulFiles
 pub use Rattle.codespan_base.specs.SimpleModel
@@ -23,7 +23,7 @@ pub mod Rows
 pub mod RowParts
 pub mod RowStreams
 pub mod RowWords
--- the picture
+-- the output
 pub mod Lines
 pub mod Sequences
 pub mod Snippets
@@ -31,5 +31,5 @@ pub mod Padding
 pub mod Picture
 pub mod StatedPicture
 pub mod Lookups
--- labels, marks and places as calls are given them
+-- labels, multi-line label marks and loci as calls take them
 pub mod Given

@@ -1,4 +1,4 @@
--- The lookups that an output rests on, in their order, and which error is returned.
+-- The lookups of an output, in their order, and which error is returned.
 use Rattle.std.specs.Prelude.{◌≡◌, ◌≢◌, ◌<◌, length, ℕ, ◌+◌, Bool, not, ◌&&◌, ◌||◌, nat_lt, nat_le, List, [], ◌∷◌, ◌++◌, map, filter, flat_map, Option, Some, None, Contains, if◌then◌else◌, true, false}
 use Rattle.std.specs.List.{range_with_len}
 use Rattle.codespan_picture.specs.Types.{Config, DisplayStyle, Rich, Layout, Classic, Unbroken, Diagnostic, Error, FormatError, LineTooLarge, OutOfMemory}
@@ -18,14 +18,14 @@ Failures Id = Id → Lookup → Option Error
 abbrev pub of_line : ℕ → List Lookup
 of_line l = LineRange l ∷ LineNumber l ∷ []
 
--- the line stands around the label's lines, as far as the context reaches
+-- the line is around the label's lines, as far as the context reaches
 abbrev pub is_around : Config → ℕ → ℕ → ℕ → Bool
 is_around config s e l =
     (nat_lt l s && nat_le s (l + config.before_label_lines))
     || (nat_lt e l && nat_le l (e + config.after_label_lines))
 
--- with a file's snippet, those of a line that is filled in: its range, and its number where that is
--- not known before the header
+-- those of a filled line, with its file's snippet: its range, and its number where that is not
+-- known before the header
 abbrev pub of_filled : Layout → ℕ → List Lookup
 of_filled Classic l = of_line l
 of_filled Unbroken l = LineRange l ∷ []
@@ -43,7 +43,7 @@ lookup_past_end config f failure x =
     && not (ends_context (failure (LineRange (line_count f))))
     then LineRange (line_count f) ∷ [] else []
 
--- the line is one of the label's, or stands around them
+-- the line is one of the label's, or is around them
 abbrev pub is_asked : Config → FileModel → Labelled → ℕ → Bool
 is_asked config f x l = spans f x l || is_around config (first_line f x) (last_line f x) l
 

@@ -1,4 +1,4 @@
--- How much room the line numbers of a picture have.
+-- The padding width: how many digits the line numbers of an output have.
 use Rattle.std.specs.Prelude.{ℕ, Bool, ◌&&◌, ◌||◌, ◌==◌, nat_le, max, List, map, filter, fold, flat_map, length, decimal, if◌then◌else◌}
 use Rattle.std.specs.List.{list_any, range_with_len}
 use Rattle.codespan_picture.specs.Types.{Config}
@@ -12,7 +12,7 @@ use Rattle.codespan_picture.specs.Snippets.{LabelledFile}
 abbrev pub digit_count : ℕ → ℕ
 digit_count n = length (decimal n)
 
--- the line is an end of the label or stands between its ends
+-- the line is an end of the label or is between its ends
 abbrev pub spans : FileModel → Labelled → ℕ → Bool
 spans f x l =
     (l == first_line f x) || (l == last_line f x)
@@ -24,8 +24,8 @@ spanned_lines s =
     filter (λ l. list_any (λ x. spans s.file x l) s.labels)
     (range_with_len 0 (line_count s.file))
 
--- the lines whose numbers the padding has room for: those of the labels, or, in the unbroken
--- layout, those that are drawn
+-- the lines whose numbers the padding fits: those of the labels, or, in the unbroken layout, those
+-- that are drawn
 abbrev pub numbered_lines : Config → LabelledFile → List ℕ
 numbered_lines config s =
     if is_unbroken config.layout then drawn_lines config s.file s.labels else spanned_lines s

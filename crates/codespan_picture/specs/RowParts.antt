@@ -15,7 +15,7 @@ use Rattle.codespan_picture.specs.Rows.{Locus, Look, Lanes, Line, hanging}
 
 -- ---- parts of rows
 
--- the word for a severity
+-- the name of a severity
 abbrev pub severity_name : Severity → List ℕ
 severity_name Bug = codes "bug"
 severity_name Error = codes "error"
@@ -29,11 +29,11 @@ locus p =
     bytes p.name ++ bytes (codes ":") ++ bytes (decimal p.location.line_number) ++ bytes (codes ":")
     ++ bytes (decimal p.location.column_number)
 
--- blanks in place of a number
+-- spaces instead of a number
 unfoldable pub gutter : ℕ → Stream
 gutter padding = blanks (padding + 1)
 
--- a number, right in its places
+-- a number, right-aligned
 unfoldable pub numbered_gutter : ℕ → ℕ → Stream
 numbered_gutter padding n =
     one_mark LineNumber ++ blanks (padding - length (decimal n)) ++ bytes (decimal n)
@@ -47,7 +47,7 @@ border chars = one_mark SourceBorder ++ glyph chars.source_border_left ++ one_ma
 unfoldable pub break_border : Chars → Stream
 break_border chars = one_mark SourceBorder ++ glyph chars.source_border_left_break ++ one_mark Reset
 
--- where the style changes a mark stands, and a reset where it ends
+-- a style mark where a style begins, and a reset where it ends
 unfoldable pub change : Severity → Option LabelStyle → Option LabelStyle → Stream
 change severity None None = []
 change severity None (Some style) = one_mark (LabelMark severity style)
@@ -70,7 +70,7 @@ label_message severity style message =
 
 -- ---- the lanes of a row
 
--- one lane, from the mark in it
+-- one lane, from the multi-line label mark in it
 unfoldable pub lane_of : Look → Option LaneMark → (MultiLabel → Shape) → Option LaneMark → Stream
 lane_of look crossing shape mark =
     lane_cells look.severity look.chars crossing (style_of_mark mark) (shape_of shape mark)
@@ -106,14 +106,14 @@ takes_in c (Top start) = nat_le start c.place
 takes_in c Left = true
 takes_in c (Bottom end message) = nat_le (c.place + c.bytes) end
 
--- a character is primary where a primary label has it
+-- a character is primary where a primary label covers it
 abbrev pub source_style : Line → Cell → Option LabelStyle
 source_style line c =
     if list_any (λ x. is_primary x && covers x c) line.labels
     || list_any (λ (m : LaneMark). is_primary_style m.style && takes_in c m.part) line.lanes.marks
     then Some Primary else None
 
--- a tab is written as blanks
+-- a tab is written as spaces
 unfoldable pub source_glyph : Cell → Stream
 source_glyph c = if c.code == 9 then blanks c.width else glyph c.code
 
@@ -122,7 +122,7 @@ unfoldable pub coloured_text : Look → Line → Stream
 coloured_text look line =
     styled look.severity (source_style line) source_glyph None (line_cells look line)
 
--- one character's carets, or its blanks up to the greatest end
+-- one character's carets, or its spaces up to the greatest end
 unfoldable pub caret_glyphs : Chars → ℕ → Option LabelStyle → Cell → Stream
 caret_glyphs chars end None c = if nat_lt c.place end then blanks c.width else []
 caret_glyphs chars end (Some style) c = repeated c.width (caret_for chars (Some style))
@@ -133,7 +133,7 @@ carets look labels cs =
     styled look.severity (style_under labels)
     (λ c. caret_glyphs look.chars (greatest_end labels) (style_under labels c) c) None cs
 
--- after the carets one blank and the trailing message, if there is one
+-- after the carets a space and the trailing message, if there is one
 unfoldable pub trailing_message : Severity → Option Labelled → Stream
 trailing_message severity None = []
 trailing_message severity (Some x) = space ++ label_message severity x.style x.message
@@ -148,16 +148,16 @@ starts_in c x = nat_le c.place x.start && nat_lt x.start (c.place + c.bytes)
 abbrev pub greatest_start : List Labelled → ℕ
 greatest_start labels = fold (λ m (x : Labelled). max m x.start) 0 labels
 
--- the blanks of a pointer row reach as far as the greatest start of the line's labels
+-- the spaces of a pointer row reach as far as the greatest start of the line's labels
 unfoldable pub blanks_up_to : ℕ → Cell → ℕ → Stream
 blanks_up_to place c n = if nat_le c.place place then blanks n else []
 
--- of the labels that start in a character a primary one goes first
+-- the style of a pointer: primary where a primary label starts in the character
 abbrev pub pointer_style : List Labelled → Cell → LabelStyle
 pointer_style labels c =
     if list_any (λ x. is_primary x && starts_in c x) labels then Primary else Secondary
 
--- one character's pointer or blanks
+-- one character's pointer or spaces
 unfoldable pub pointer_at : Look → List Labelled → List Labelled → Cell → Stream
 pointer_at look labels hanging c =
     if list_any (starts_in c) hanging then
@@ -169,11 +169,11 @@ pointer_at look labels hanging c =
 unfoldable pub pointers : Look → List Labelled → List Cell → Stream
 pointers look labels cs = flat_map (pointer_at look labels (hanging labels)) cs
 
--- the characters of a line before a place
+-- the characters of a line that begin before a byte index
 abbrev pub cells_before : ℕ → List Cell → List Cell
 cells_before place cs = filter (λ (c : Cell). nat_lt c.place place) cs
 
--- the characters of a line that begin at a place or before it
+-- the characters of a line that begin at a byte index or before it
 abbrev pub cells_up_to : ℕ → List Cell → List Cell
 cells_up_to place cs = filter (λ (c : Cell). nat_le c.place place) cs
 
@@ -189,7 +189,7 @@ abbrev pub end_caret : Chars → LabelStyle → ℕ
 end_caret chars Primary = chars.multi_primary_caret_end
 end_caret chars Secondary = chars.multi_secondary_caret_end
 
--- one blank and the message, where there is one
+-- a space and the message, where there is one
 unfoldable pub underline_message : Stream → Stream
 underline_message [] = []
 underline_message (p ∷ ps) = space ++ (p ∷ ps)

@@ -22,7 +22,7 @@ unfoldable pub leading_locus : Option Locus → Stream
 leading_locus None = []
 leading_locus (Some p) = locus p ++ bytes (codes ": ")
 
--- the header: where it is, how bad it is, and what it says
+-- the header: the locus, the severity, the code and the message
 unfoldable pub header_row : Severity → Option Locus → Heading → Stream
 header_row severity place heading =
     leading_locus place ++ one_mark (Header severity) ++ bytes (severity_name severity)
@@ -51,7 +51,7 @@ source_row look line =
     ++ row_lanes look (leading_of line) Source line.lanes ++ space
     ++ coloured_text look line
 
--- the beginning of each row under a line
+-- what each row under a line begins with
 unfoldable pub opening : Look → Line → Stream
 opening look line =
     gutter look.padding ++ border look.chars

@@ -1,4 +1,4 @@
--- The rows of a picture: what each is of.
+-- The rows of an output: what each is of.
 use Rattle.std.specs.Prelude.{ℕ, Bool, true, false, not, ◌&&◌, ◌==◌, List, [], ◌∷◌, ◌++◌, map, filter, reverse, Option, Some, None, if◌then◌else◌}
 use Rattle.std.specs.List.{list_any, enumerate_from, last_or, remove}
 use Rattle.std.specs.Option.{option_and_then, option_map, option_map_or}
@@ -8,17 +8,17 @@ use Rattle.codespan_picture.specs.Cells.{leading_whitespace}
 use Rattle.codespan_picture.specs.Carets.{covers_part, greatest_end}
 use Rattle.codespan_picture.specs.Lanes.{turns_early}
 
--- a place as readers see it
+-- a file's name and a location in it, as users see them
 pub record Locus : Type 0 where
   pub name : List ℕ
   pub location : Location
 
--- what a header says besides the severity
+-- what a header has besides the severity
 pub record Heading : Type 0 where
   pub code : Option (List ℕ)
   pub message : List ℕ
 
--- what all rows of a picture share
+-- what all rows of an output share
 pub record Look : Type 0 where
   pub chars : Chars
   pub tab_width : ℕ
@@ -26,7 +26,7 @@ pub record Look : Type 0 where
   pub severity : Severity
   pub padding : ℕ
 
--- the marks in a row's lanes
+-- the multi-line label marks in a row's lanes
 pub record Lanes : Type 0 where
   pub count : ℕ
   pub marks : List LaneMark
@@ -38,7 +38,7 @@ pub record Line : Type 0 where
   pub labels : List Labelled
   pub lanes : Lanes
 
--- one row of a picture
+-- one row of an output
 pub data Row : Type 0 where
   HeaderRow : Option Locus → Heading → Row
   StartRow : Locus → Row
@@ -64,7 +64,7 @@ last_with_end end labels =
 abbrev pub is_overlapped : Labelled → List Labelled → Bool
 is_overlapped x others = list_any (λ (y : Labelled). covers_part x y.start y.end) others
 
--- its message trails where it has one and no other label of the line overlaps it
+-- the label's message trails: it is not empty, and no other label of the line overlaps the label
 abbrev pub does_trail : List Labelled → ℕ × Labelled → Bool
 does_trail labels e = has_message e.1 && not (is_overlapped e.1 (remove labels e.0))
 
@@ -85,8 +85,8 @@ hanging labels =
 
 -- ---- underlines
 
--- a mark has a row of its own, on a line whose text begins with so many bytes of white space; a top
--- corner that the source row draws has none
+-- a multi-line label mark has an underline row, on a line whose text begins with so many bytes of
+-- white space; a top corner that the source row has needs none
 abbrev pub has_underline : ℕ → MultiLabel → Bool
 has_underline leading (Top start) = not (turns_early leading start)
 has_underline leading Left = false

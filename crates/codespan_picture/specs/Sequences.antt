@@ -1,14 +1,14 @@
--- Items in the order of their lines, and what stands between two that follow each other.
+-- Items in the order of their lines, and what is between two consecutive ones.
 use Rattle.std.specs.Prelude.{ℕ, ◌+◌, ◌==◌, List, [], ◌∷◌, ◌++◌, Option, Some, None, if◌then◌else◌}
 use Rattle.codespan_picture.specs.Lines.{is_broken}
 
--- what stands before a line, where `was` is the line before it: nothing before the first one
+-- what is before a line, where `was` is the line before it: nothing before the first one
 abbrev pub before_line : {A : Type 0} → (ℕ → ℕ → List A) → Option ℕ → ℕ → List A
 before_line between None d = []
 before_line between (Some c) d = between c d
 
--- what these items give, each of which has a line, with what stands between two lines that follow
--- each other; `was` is the line before them all
+-- the elements of these items, each of which has a line, with those between two consecutive lines;
+-- `was` is the line before them all
 abbrev pub in_sequence : {X A : Type 0}
     → (X → ℕ) → (ℕ → ℕ → List A) → (X → List A) → Option ℕ → List X → List A
 in_sequence line_of between own was [] = []
@@ -16,10 +16,10 @@ in_sequence line_of between own was (x ∷ xs) =
     before_line between was (line_of x) ++ own x
     ++ in_sequence line_of between own (Some (line_of x)) xs
 
--- between two drawn lines stands a break, where lines are left out, or nothing
+-- between two drawn lines: a break, where lines are left out, or nothing
 abbrev pub break_between : {A : Type 0} → (ℕ → List A) → ℕ → ℕ → List A
 break_between broken c d = if is_broken c d then broken d else []
 
--- between two shown lines stands the one line between them, a break, or nothing
+-- between two shown lines: the one line between them, a break, or nothing
 abbrev pub gap_between : {A : Type 0} → (ℕ → List A) → (ℕ → List A) → ℕ → ℕ → List A
 gap_between filled broken c d = if d == c + 2 then filled (c + 1) else break_between broken c d

@@ -68,7 +68,7 @@ abbrev pub rows_after : LabelledFile → Option ℕ → List ℕ → List Row
 rows_after s =
     in_sequence (λ l. l) (break_between (break_rows (line_at s))) (line_rows (line_at s))
 
--- the same from the shown lines alone: the drawing of an ascending list of them
+-- the same from an ascending list of shown lines alone
 abbrev pub drawing : (ℕ → Line) → Option ℕ → List ℕ → List Row
 drawing line =
     in_sequence (λ l. l) (gap_between (line_rows line) (break_rows line)) (line_rows line)
@@ -80,7 +80,7 @@ abbrev pub least : List ℕ → ℕ
 least [] = 0
 least (n ∷ ns) = fold min n ns
 
--- a list, or another in place of an empty one
+-- a list, or another instead of an empty one
 abbrev pub if_any : {A : Type 0} → List A → List A → List A
 if_any [] others = others
 if_any (x ∷ xs) others = x ∷ xs
@@ -107,8 +107,8 @@ abbrev pub has_any : {A : Type 0} → List A → Bool
 has_any [] = false
 has_any (x ∷ xs) = true
 
--- the snippets of files with these loci; an empty row stands after each, but after the last only
--- where notes follow
+-- the snippets of files with these loci; an empty row follows each, but the last only where notes
+-- follow
 abbrev pub snippets : Config → Bool → List Locus → List LabelledFile → List Row
 snippets config has_notes [] ss = []
 snippets config has_notes (p ∷ ps) [] = []

@@ -27,7 +27,7 @@ module _ {Id : Type 0} (style : DisplayStyle) (renderer view : Config)
 abbrev pub headers : Heading → List Locus → List Row
 headers heading loci = map (λ (locus : Locus). HeaderRow (Some locus) heading) loci
 
--- they alone
+-- the stream of these headers alone
 abbrev pub headers_at : {Id : Type 0} → Config → Diagnostic Id → List Locus → Stream
 headers_at renderer d loci =
     stream_of_rows (look_of renderer d.severity 0) (headers (heading_of d) loci)

@@ -1,11 +1,11 @@
 //! The characters of a drawn line.
 
-/// A character of a drawn line, or the place after the last one.
+/// A character of a drawn line, or the placeholder after the last one.
 #[derive(Clone, Copy, Debug)]
 pub struct Cell {
     /// The character.
     pub code: char,
-    /// The byte of the line at which it begins.
+    /// The byte index in the line at which it begins.
     pub place: usize,
     /// How many bytes it has in UTF-8.
     pub bytes: usize,

@@ -7,8 +7,8 @@ use std::ops::Range;
 /// A file's name and a location in it, as the start of a snippet and a header show them.
 ///
 /// In rich style the location is that of the least byte index at which a primary label of the file
-/// starts, or any label of it where none is primary, as in the Rust crate; in short and medium style
-/// it is that of the primary label's start.
+/// starts, or any label of it where none is primary, as in the Rust crate; in short and medium
+/// style it is that of the primary label's start.
 #[derive(Debug, Drop)]
 pub struct Locus {
     /// The name of the file, the text of its `Display`.
@@ -30,11 +30,11 @@ pub type SingleLabel<'d> = (LabelStyle, Range<usize>, &'d str);
 
 /// A multi-line label mark: what a multi-line label does on one line.
 ///
-/// Byte indices are from the line's start. The label's message is in its last mark.
+/// Byte indices are from the line's start. The label's message is in its bottom mark.
 #[derive(Clone, Copy, Debug)]
 pub enum MultiLabel<'d> {
-    /// It starts at this byte index. The caret is under the last cell of the last character that begins
-    /// at the index or before it.
+    /// It starts at this byte index. The caret is under the last cell of the last character that
+    /// begins at the index or before it.
     ///
     /// ```text
     /// 1 │   let x = (

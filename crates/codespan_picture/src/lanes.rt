@@ -3,7 +3,7 @@
 /// What a lane shows in a row.
 #[derive(Clone, Copy, Debug)]
 pub enum Shape {
-    /// Blanks, or the line that runs right from another lane's corner.
+    /// Spaces, or the line that runs right from another lane's corner.
     Gap,
     /// The label goes on.
     Bar,

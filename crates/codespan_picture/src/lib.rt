@@ -1,5 +1,4 @@
-//! What a picture is: the definitions of its rows and their streams, and the types that they speak
-//! of.
+//! The definitions of what is rendered, its rows and their streams, and the types in them.
 #![tactic(auto)]
 
 pub mod cells;

@@ -1,4 +1,5 @@
--- The kept characters of a line and the scan of the others: serves `keep_cells`, and the cursors of a cached line.
+-- The kept characters of a line and the scan of the others: serves `keep_cells`, and the cursors of
+-- a cached line.
 use Rattle.std.proofs.Common.{◌≡◌, ℕ, ◌<◌, Bool, List, [], ◌∷◌, ◌++◌, append_assoc, sym, ap, ◌∙◌, arith}
 use Rattle.std.specs.Str.{chars}
 use Rattle.std.specs.Str.Iter.{chars_rest}

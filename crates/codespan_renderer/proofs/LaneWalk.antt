@@ -17,7 +17,7 @@ use Rattle.codespan_picture.specs.Rows.{Look, Lanes}
 use Rattle.codespan_picture.specs.RowParts.{lane_of, row_lanes}
 use Rattle.codespan_renderer.proofs.RowWords.{blanks-add}
 
--- ---- the first of the remaining marks
+-- ---- the first of the remaining multi-line label marks
 
 pub here-is : (marks : List GivenMark) (next lane : ℕ) (d : GivenMark) → next < length marks → (get_or marks next d).0 ≡ lane → mark_here (drop next marks) lane ≡ Some (get_or marks next d)
 here-is marks next lane d h e = rw (drop-cons marks next d h, eq-eqb (get_or marks next d).0 lane e) refl
@@ -39,7 +39,7 @@ after-none marks next lane h = let e : drop next marks ≡ [] = grind (arith, co
 
 pub ruleset taking = (here-is, after-here, later-is, after-later, none-is, after-none)
 
--- ---- marks in order
+-- ---- multi-line label marks in order
 
 and_left : (a b : Bool) → (a && b) ≡ true → a ≡ true
 and_left true b h = refl
@@ -49,7 +49,7 @@ and_right : (a b : Bool) → (a && b) ≡ true → b ≡ true
 and_right true b h = h
 and_right false b h = absurd (false≢true h)
 
--- the first of marks in order
+-- the first of multi-line label marks in order
 record IsFirst (count from : ℕ) (m : GivenMark) (ms : List GivenMark) : Type 0 where
   above : from ≤ m.0
   after : IsTrue (ascend_from count (m.0 + 1) (map mark_view ms))
@@ -67,7 +67,7 @@ none_below count from (m ∷ ms) lane h k =
     let e : eqb m.0 lane ≡ false = ne_eqb m.0 lane (λ e. omega (arith, e, f.above)) in
     rw e (none_below count (m.0 + 1) ms lane f.after (omega (arith, f.above)))
 
--- at a lane the walk finds the mark of the lane
+-- at a lane the walk finds its multi-line label mark
 here-cons : (count lane : ℕ) (m : GivenMark) (ms : List GivenMark) (b : Bool) → eqb m.0 lane ≡ b → IsTrue (ascend_from count lane (map mark_view (m ∷ ms)))
     → mark_in (map mark_view (m ∷ ms)) lane ≡ option_map mark_view (mark_here (m ∷ ms) lane)
 here-cons count lane m ms true e h = rw e refl
@@ -79,7 +79,7 @@ here : (count lane : ℕ) (marks : List GivenMark) → IsTrue (ascend_from count
 here count lane [] h = refl
 here count lane (m ∷ ms) h = here-cons count lane m ms _ refl h
 
--- the marks that remain agree with those of later lanes
+-- the multi-line label marks that remain agree with those of later lanes
 left-cons : (count lane : ℕ) (m : GivenMark) (ms : List GivenMark) (k : ℕ) (b : Bool) → eqb m.0 lane ≡ b → lane < k
     → mark_in (map mark_view (m ∷ ms)) k ≡ mark_in (map mark_view (marks_after (m ∷ ms) lane)) k
 left-cons count lane m ms k true e h =
@@ -110,7 +110,7 @@ order count lane (m ∷ ms) h = order-cons count lane m ms _ refl h
 
 -- ---- the walk
 
--- a number of lanes from this one on, each with the mark that the walk finds
+-- a number of lanes from this one on, each with the multi-line label mark that the walk finds
 abbrev pub walk : Look → ℕ → GivenRow → ℕ → ℕ → List GivenMark → Stream
 walk look leading row lane zero marks = []
 walk look leading row lane (suc n) marks = given_lane look leading row lane (mark_here marks lane) ++ walk look leading row (lane + 1) n (marks_after marks lane)
@@ -122,12 +122,12 @@ walk-next look leading row i n marks h = let e : n - i ≡ suc (n - (i + 1)) = o
 pub walk-end : (look : Look) (leading : ℕ) (row : GivenRow) (i n : ℕ) (marks : List GivenMark) → n ≤ i → walk look leading row i (n - i) marks ≡ []
 walk-end look leading row i n marks h = let e : n - i ≡ 0 = omega arith in rw e refl
 
--- a lane without a mark, and without a line through it, is spaces
+-- a lane without a multi-line label mark, and without a line through it, is spaces
 blank-lane : (look : Look) (leading : ℕ) (row : GivenRow) (lane : ℕ) → row_crossing (lane_row_view row) lane ≡ None → given_lane look leading row lane None ≡ blanks 2
 unfolding given_lane lane_of lane_cells filling
 blank-lane look leading row lane clear = rw clear refl
 
--- where no mark is taken all remain
+-- where no multi-line label mark is taken all remain
 left-all : (marks : List GivenMark) (lane : ℕ) → mark_here marks lane ≡ None → marks_after marks lane ≡ marks
 left-all [] lane none = refl
 left-all (m ∷ ms) lane none = by (eqb m.0 lane) none
@@ -161,7 +161,7 @@ walk-past look leading row marks (suc n) lane rest clear bare =
     ∙ sym (append_assoc (blanks 2) (blanks (n + n)) (walk look leading row (lane + 1 + n) rest marks))
     ∙ (λ i. (sym (blanks-add 2 (n + n)) ∙ ap blanks two) i ++ walk look leading row (b i) rest marks)
 
--- the empty lanes up to that of the next mark are written at once
+-- the empty lanes up to that of the next multi-line label mark are written at once
 pub walk-blank : (look : Look) (leading : ℕ) (row : GivenRow) (marks : List GivenMark) (count lane until blank : ℕ) → lane < count → until ≤ count → lane + blank ≤ max lane until
     → ((k : ℕ) → lane ≤ k → k < lane + blank → row_crossing (lane_row_view row) k ≡ None) → ((k : ℕ) → k < until → mark_here marks k ≡ None)
     → walk look leading row lane (count - lane) marks ≡ blanks (blank + blank) ++ walk look leading row (lane + blank) (count - (lane + blank)) marks

@@ -1,4 +1,5 @@
--- How the cells of a line follow one another: what a loop over them knows of byte indices and columns.
+-- How the cells of a line follow one another: what a loop over them knows of byte indices and
+-- columns.
 use Rattle.std.proofs.Common.{◌≡◌, ℕ, ◌+◌, ◌*◌, ◌-◌, ◌^◌, ◌<◌, ◌≤◌, List, [], ◌∷◌, length, refl, sym, ap, ◌∙◌, arith, length-append}
 use Rattle.std.specs.Char.{encode_utf8, len_utf8}
 use Rattle.std.specs.Str.{IsUtf8, chars}

@@ -30,7 +30,7 @@ no-label c (x ∷ xs) e =
     let parts = or_parts (is_primary x) (list_any is_primary xs) e in
     rw (parts.0, no-label c xs parts.1) refl
 
--- none of these marks is of a primary label that covers the character
+-- none of these multi-line label marks is of a primary label that covers the character
 no-mark : (c : Cell) (ms : List LaneMark) → list_any (λ (m : LaneMark). is_primary_style m.style) ms ≡ false
     → list_any (λ (m : LaneMark). is_primary_style m.style && takes_in c m.part) ms ≡ false
 no-mark c [] e = refl

@@ -69,7 +69,7 @@ pub found-style : (labels before after bs ds : List GivenLabel) (c : Cell) (firs
     → second ≡ pointer_found (hanging (single_label_views labels)) c
 found-style labels before after bs ds c first second h e f p q = rw (q, p, e, f) (pointer_is labels before after c h)
 
--- no pointer stands where no label hangs
+-- there is no pointer where no label hangs
 pub no-pointers : (cs : List Cell) → pointers_in [] cs ≡ []
 no-pointers [] = refl
 no-pointers (c ∷ cs) = no-pointers cs

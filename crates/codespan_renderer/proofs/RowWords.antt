@@ -81,7 +81,7 @@ repeated-past k n c h = let e : n ≡ k + (n - k) = omega arith in ap (λ m. rep
 
 -- ---- styles
 
--- where the style stays, nothing is said
+-- where the style stays, nothing is written
 pub change-same : (severity : Severity) (style : Option LabelStyle) → change severity style style ≡ []
 unfolding change
 change-same severity None = refl

@@ -21,11 +21,13 @@ use Rattle.codespan_renderer.specs.Inner.KeptCells.{kept_left}
 use Rattle.codespan_renderer.specs.Inner.CursorStates.{Follow, IsBefore, HasReturned}
 use Rattle.codespan_renderer.specs.Inner.Sweeps.{starts_from, is_covered, end_with, IsReached, HasMet}
 
--- a label that begins before the character's end has a byte of it where it has one at all and ends past the character's place
+-- a label that starts before the character's end has a byte of it where it has one at all and ends
+-- past the byte index of the character
 covers-begun : (x : Labelled) (c : Cell) → x.start < c.place + c.bytes → 1 ≤ c.bytes → covers x c ≡ (nat_lt x.start x.end && nat_lt c.place x.end)
 covers-begun x c h some = grind (arith, nat_tests)
 
--- such a label is over the character where its end raises the greatest one past the character's place
+-- such a label is over the character where its end raises the greatest one past the byte index of
+-- the character
 end-raised : (counts : Bool) (end : ℕ) (x : Labelled) (c : Cell) → x.start < c.place + c.bytes → 1 ≤ c.bytes
     → nat_lt c.place (end_with counts end x) ≡ (nat_lt c.place end || (counts && covers x c))
 end-raised counts end x c h some = rw (covers-begun x c h some) (by_test counts (nat_lt x.start x.end))
@@ -82,7 +84,7 @@ pub labels-step : (ys xs : List GivenLabel) (i : ℕ) (d : GivenLabel) → ys �
     → single_label_views (drop i ys) ≡ single_label_view (get_or xs i d) ∷ single_label_views (drop (i + 1) ys)
 labels-step ys xs i d same h = rw (same, drop-cons xs i d h, add-one) refl
 
--- they start from an earlier place on
+-- they start from an earlier byte index on
 pub starts-lower : (xs : List Labelled) (low place : ℕ) → low ≤ place → starts_from place xs ≡ true → starts_from low xs ≡ true
 starts-lower [] low place h ordered = refl
 starts-lower (x ∷ xs) low place h ordered =
@@ -105,13 +107,13 @@ starts-first low ys xs i d same h ordered =
     let parts = and_parts (nat_le low x.start) (starts_from x.start (single_label_views (drop (i + 1) ys))) (rw (labels-step ys xs i d same h) at ordered) in
     let test = parts.0 in grind (arith, nat_tests)
 
--- those after one that has begun by a place
+-- those after one that starts before a byte index
 pub starts-rest : (low : ℕ) (ys xs : List GivenLabel) (i : ℕ) (d : GivenLabel) (place : ℕ) → ys ≡ xs → i < length xs → (get_or xs i d).1.start < place
     → starts_from low (single_label_views (drop i ys)) ≡ true → starts_from low (single_label_views (drop (i + 1) ys)) ≡ true
 starts-rest low ys xs i d place same h begun ordered =
     starts-next low (single_label_views (drop i ys)) (single_label_views (drop (i + 1) ys)) (single_label_view (get_or xs i d)) (labels-step ys xs i d same h) ordered
 
--- where it does not begin before a place, all begin there or later
+-- where it does not start before a byte index, all start there or later
 pub starts-past : (low : ℕ) (ys xs : List GivenLabel) (i place : ℕ) (d : GivenLabel) → ys ≡ xs → i < length xs
     → nat_lt (single_label_view (get_or xs i d)).start place ≡ false → starts_from low (single_label_views (drop i ys)) ≡ true → starts_from place (single_label_views (drop i ys)) ≡ true
 starts-past low ys xs i place d same h late ordered =
@@ -130,7 +132,7 @@ follow-then after tab place column [] last = last place column
 follow-then after tab place column (c ∷ cs) last =
     (refl, omega (arith, (len_utf8_bounds c).0), follow-then after tab (place + len_utf8 c) (column + width_at tab column c) cs last)
 
--- the characters of a line, and the placeholder where it is asked for
+-- the characters of a line, and the placeholder where `to_end` is set
 pub follow-after : (to_end : Bool) (tab : ℕ) (text : List ℕ) → Follow 0 (cells_then (after_last to_end) tab 0 0 (chars text))
 follow-after true tab text = follow-then placeholder tab 0 0 (chars text) (λ p q. (refl, omega arith, tt))
 follow-after false tab text = follow-then no_more tab 0 0 (chars text) (λ p q. tt)
@@ -163,7 +165,7 @@ module _ (s : Sweep) (left rest : List Cell) (c : Cell) (step : left ≡ c ∷ r
   pub cursor-returns : ∥ IsBefore s left ∥₁ → ∥ HasReturned c s rest ∥₁
   cursor-returns kept = ∥∥₁_elim kept (Prim.hlevel props) (λ w. ∣ record { some = (here w).1; met = rw (here w).0 w.met; follow = rw (here w).0 (here w).2 } ∣₁)
 
--- and goes on after it, whether or not it was asked
+-- and goes on after it, whether or not the style under it was requested
 pub cursor-goes_on : (s : Sweep) (rest : List Cell) (c : Cell) → ∥ HasReturned c s rest ∥₁ → ∥ IsBefore s rest ∥₁
 cursor-goes_on s rest c kept =
     ∥∥₁_elim kept (Prim.hlevel props) (λ g. ∣ record { place = c.place + c.bytes; met = met-later s c.place (c.place + c.bytes) (omega arith) g.met; follow = g.follow } ∣₁)

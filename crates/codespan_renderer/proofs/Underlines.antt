@@ -29,7 +29,7 @@ use Rattle.codespan_renderer.specs.Renderers.{later_notes}
 
 -- ---- the lanes of an underline row
 
--- the lanes of the row of a mark are those of that kind of row
+-- the lanes of the row of a multi-line label mark are those of that kind of row
 pub underline_lanes_are : (look : Look) (leading : ℕ) (lane : ℕ) (style : LabelStyle) (part : rust_multi_label.MultiLabel) (lanes : Lanes)
     → given_lanes look leading (Underline lane style part) lanes ≡ row_lanes look leading (kind.Underline (mark_view (lane, style, part))) lanes
 unfolding given_lanes row_lanes
@@ -96,11 +96,11 @@ pub ruleset widths_before = (width-before-first, width-before-next)
 
 -- ---- the underlines of a line
 
--- the rows of the remaining marks
+-- the rows of the remaining multi-line label marks
 abbrev pub underlines_of : Look → Line → List GivenMark → Stream
 underlines_of look line marks = stream_of_rows look (map (UnderlineRow line) (filter (λ (m : LaneMark). has_underline (leading_whitespace line.text) m.part) (map mark_view marks)))
 
--- the mark at an index has a row
+-- the multi-line label mark at an index has a row
 pub underlines-in : (look : Look) (line : Line) (leading : ℕ) (marks : List GivenMark) (i : ℕ) (d : GivenMark) → i < length marks
     → leading ≡ leading_whitespace line.text → has_underline leading (multi_label_view (get_or marks i d).2) ≡ true
     → underlines_of look line (drop i marks) ≡ underline_row look line (mark_view (get_or marks i d)) ++ newline ++ underlines_of look line (drop (i + 1) marks)

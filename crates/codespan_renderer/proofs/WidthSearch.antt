@@ -18,7 +18,7 @@ use Rattle.codespan_renderer.specs.Inner.CellsLeft.{cells_from, no_more}
 use Rattle.codespan_renderer.specs.Inner.KeptCells.{AreKept}
 use Rattle.codespan_renderer.proofs.Underlines.{width-in}
 
--- any cell, where a list is asked past its end
+-- any cell, for an index past the end of the list
 abbrev pub blank_cell : Cell
 blank_cell = record { code = 0; place = 0; bytes = 0; column = 0; width = 0 }
 

@@ -1,4 +1,5 @@
--- The lines_from over annotations in order takes the snippet lines of the lines that have annotations, from the first on.
+-- The lines_from over annotations in order takes the snippet lines of the lines that have
+-- annotations, from the first on.
 use Rattle.std.proofs.Common.{◌≡◌, ℕ, zero, suc, ◌+◌, ◌<◌, ◌≤◌, Bool, true, false, cond, ◌==◌, nat_lt, if◌then◌else◌, List, [], ◌∷◌, ◌++◌, take, drop, filter, Option, Some, None, ⊎_elim, refl, sym, ◌∙◌, ap, subst, arith}
 use Rattle.std.specs.List.{prefix_len, range_with_len, AllByRecursion}
 use Rattle.std.proofs.lemmas.Bool.{cases_Bool, eqb-true, eqb-false, eq-eqb, ltb-true, ltb-false, lt-ltb, le-ltb}
@@ -57,7 +58,7 @@ rising-filter n p (x ∷ xs) h =
 not_equal : (a b : ℕ) → a < b → (b == a) ≡ false
 not_equal a b h = ⊎_elim (λ t. absurd (let e : b ≡ a = eqb-true b a t in omega arith)) (λ f. f) (cases_Bool (b == a))
 
--- what is at the least number stands in front of what is above it
+-- what is at the least number is in front of what is above it
 pub split_at : {X : Type 0} (n : X → ℕ) (k : ℕ) (xs : List X) → IsRising n xs → AllByRecursion (λ x. k ≤ n x) xs
     → xs ≡ filter (λ x. n x == k) xs ++ filter (λ x. nat_lt k (n x)) xs
 split_at n k [] h low = refl
@@ -148,16 +149,18 @@ groups-by_line (suc n) a xs h low high =
 
 -- ---- the lines_from over groups of lines
 
--- the snippet lines of these shown lines, where each line has these annotations and `was` is shown before them
+-- the snippet lines of these shown lines, where each line has these annotations and `was` is shown
+-- before them
 abbrev pub steps_after : (ℕ → List Annotation) → Option ℕ → List ℕ → List SnippetLine
 steps_after m = in_sequence (λ l. l) (gap_between (λ l. Filled l (m l) ∷ []) (λ d. Break (m d) ∷ [])) (λ l. Labeled l (m l) ∷ [])
 
--- these are the annotations of the line before line `a`, where that is not shown, and `was` is shown before it
+-- these are the annotations of the line before line `a`, where that is not shown, and `was` is
+-- shown before it
 abbrev IsHidden : (ℕ → List Annotation) → Option ℕ → ℕ → List Annotation → Type 0
 IsHidden m None a hidden = Unit {0}
 IsHidden m (Some c) a hidden = (c < a) × (c + 1 ≡ a → hidden ≡ []) × (c + 2 ≡ a → hidden ≡ m (c + 1))
 
--- what stands before a shown line
+-- what is before a shown line
 before-shown : (m : ℕ → List Annotation) (was : Option ℕ) (a : ℕ) (hidden : List Annotation) → IsHidden m was a hidden
     → before_line (lines_between hidden (m a)) was a ≡ before_line (gap_between (λ l. Filled l (m l) ∷ []) (λ d. Break (m d) ∷ [])) was a
 before-shown m None a hidden h = refl
@@ -206,7 +209,8 @@ module _ (m : ℕ → List Annotation) where
               ∙ (λ i. (before-shown m was a hidden h i ++ Labeled a (m a) ∷ []) ++ rest (Some a) [] (hidden-none m a) i)
           by_test false = rest was (x ∷ xs) (hidden-next m was a hidden (x ∷ xs) h (λ none. sym e))
 
--- the snippet lines of annotations whose lines do not fall, and are all below n, are those of the lines that are shown
+-- the snippet lines of annotations whose lines do not fall, and are all below n, are those of the
+-- lines that are shown
 pub snippet_lines-by_line : (n : ℕ) (xs : List Annotation) → IsRising (λ e. e.line) xs → AllByRecursion (λ e. e.line < n) xs
     → lines_of xs ≡ steps_after (λ l. filter (is_on_line l) xs) None (filter (λ l. are_shown (filter (is_on_line l) xs)) (range_with_len 0 n))
 snippet_lines-by_line n xs h high =

@@ -27,7 +27,7 @@ use Rattle.codespan_laws.proofs.SortedLists.{Falls, all-append, all-weaker, filt
 
 -- ---- ranges
 
--- the label that is said has this range
+-- the label of the annotation has this range
 abbrev pub says_range : ℕ → ℕ → Option Labelled → Bool
 says_range start end None = false
 says_range start end (Some x) = has_range start end x
@@ -38,7 +38,8 @@ is_of_range start end e = says_range start end (single_of e.kind)
 
 -- ---- the labels of a file among those of a diagnostic
 
--- a file has its place among those of a diagnostic: its id is equal to those that have the place, they name it with its lanes, and it has
+-- a file has its index among those of a diagnostic: its id is equal to those that have the index,
+-- they name it with its lanes, and it has
 -- a line
 pub record HasPlace {Id : Type 0} (same : Id → Id → Bool) (file : Id → FileModel) (ids : List Id) (f : ℕ) (id : Id) : Type 0 where
   pub index : (i : Id) → (index_of_file same ids i == f) ≡ same id i
@@ -91,7 +92,7 @@ module _ {Id : Type 0} {same : Id → Id → Bool} {file : Id → FileModel} {id
     abbrev place_at : List (InFile Id) → LabelIndices
     place_at before = record { file = f; index = length before; lane = lanes_in same file before id }
 
-    -- what a label says of the line
+    -- the annotations of a label on the line
     abbrev said_by : List (InFile Id) → InFile Id → List Annotation
     said_by before x = cond (same id x.id && nat_lt l (line_count own_file)) (line_annotations config own_file (place_at before) x.label l) []
 
@@ -148,11 +149,11 @@ module _ {Id : Type 0} {same : Id → Id → Bool} {file : Id → FileModel} {id
         let no : (first_line own_file x == l) ≡ false = grind (arith, nat_tests) in
         ap (λ b. is_single own_file x && b) no ∙ and-false (is_single own_file x)
 
-    -- the annotation of a label at this place
+    -- the annotation of a label at this index
     abbrev single_at : ℕ → Labelled → Annotation
     single_at k x = record { file = f; line = l; kind = Single k (drawn_label own_file x) }
 
-    -- the annotations of the labels inside the line, where their places begin here
+    -- the annotations of the labels inside the line, where their indices begin here
     abbrev pub singles_from : ℕ → List (InFile Id) → List Annotation
     singles_from k [] = []
     singles_from k (x ∷ xs) = cond (same id x.id && on x.label) (single_at k x.label ∷ []) [] ++ singles_from (k + 1) xs
@@ -232,9 +233,9 @@ module _ {Id : Type 0} {same : Id → Id → Bool} {file : Id → FileModel} {id
         by_test true rest = by_range (has_range start end (drawn_label own_file x.label)) refl rest
         by_test false rest = rest
 
-    -- ---- marks
+    -- ---- multi-line label marks
 
-    -- the label has no mark on a line past the last
+    -- the label has no multi-line label mark on a line past the last
     part-outside : (x : Labelled) → nat_lt l (line_count own_file) ≡ false → part_on own_file l x ≡ None
     part-outside x h =
         let e = ends-below x in
@@ -246,11 +247,11 @@ module _ {Id : Type 0} {same : Id → Id → Bool} {file : Id → FileModel} {id
         let c : (nat_lt (first_line own_file x) l && nat_lt l (last_line own_file x)) ≡ false = grind (arith, nat_tests) in
         rw (a, b, c) refl
 
-    -- the mark of a label in a lane, where it is over several lines and has one
+    -- the mark of a multi-line label in a lane, where it has one
     abbrev marked : Bool → Option LaneMark → List Annotation
     marked a o = annotation_if_any f l (cond a None (option_map Multi o))
 
-    -- the mark of a label that comes after these
+    -- the multi-line label mark of a label that comes after these
     one-mark : (before : List (InFile Id)) (x : InFile Id)
         → filter (is_kind 2) (said_by before x) ≡ cond (same id x.id) (marked (is_single own_file x.label) (mark_of (lanes_in same file before id) x.label (part_on own_file l x.label))) []
     one-mark before x = by_tests (same id x.id) (nat_lt l (line_count own_file)) refl
@@ -268,7 +269,7 @@ module _ {Id : Type 0} {same : Id → Id → Bool} {file : Id → FileModel} {id
         by_tests true true h = marks-of_line config own_file (place_at before) x.label l
         by_tests true false h = none (is_single own_file x.label) ∙ ap (λ o. marked (is_single own_file x.label) (mark_of lane x.label o)) (sym (part-outside x.label h))
 
-    -- the marks of labels that come after these, in their lanes
+    -- the multi-line label marks of labels that come after these, in their lanes
     pub all-marks : (xs before : List (InFile Id)) (n : ℕ) → lanes_in same file before id ≡ n
         → filter (is_kind 2) (said_after before xs) ≡ map (mark_entry f l) (marks_from own_file l n (multi_labels own_file (labels_in xs)))
     all-marks [] before n e = refl

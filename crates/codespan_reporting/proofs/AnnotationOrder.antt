@@ -106,16 +106,16 @@ single_labels-ascend f l (x ∷ xs) on up = by_says x.kind refl (single_labels-a
 
 -- ---- annotations of one line
 
--- of labels with equal ranges the one at the later place is below
+-- of labels with equal ranges the one at the greater index is below
 pub place_below : (f l : ℕ) {p q : ℕ} (x y : Labelled) → x.start ≡ y.start → x.end ≡ y.end → p < q
     → is_below (record { file = f; line = l; kind = Single q y }) (record { file = f; line = l; kind = Single p x }) ≡ true
 place_below f l {p} {q} x y s e h =
     then_same f f _ refl ∙ then_same l l _ refl ∙ then_same y.start x.start _ (sym s) ∙ then_same y.end x.end _ (sym e) ∙ ap is_lt (cmp_less p q h)
 
--- an annotation of a mark
+-- an annotation of a multi-line label mark
 abbrev pub mark_entry : ℕ → ℕ → LaneMark → Annotation
 mark_entry f l m = record { file = f; line = l; kind = Multi m }
 
--- of two marks the one in the lesser lane is below
+-- of two multi-line label marks the one in the lesser lane is below
 pub lane_below : (f l : ℕ) (x y : LaneMark) → x.lane < y.lane → is_below (mark_entry f l x) (mark_entry f l y) ≡ true
 lane_below f l x y h = then_same f f _ refl ∙ then_same l l _ refl ∙ ap (λ q. is_lt (ordering_then q (ordering_then (nat_cmp 0 0) (nat_cmp 0 0)))) (cmp_less x.lane y.lane h)

@@ -1,4 +1,5 @@
--- From all annotations of a diagnostic in order the walk makes, for each file, the rows of its snippet.
+-- From all annotations of a diagnostic in order the walk makes, for each file, the rows of its
+-- snippet.
 use Rattle.std.proofs.Common.{◌≡◌, ℕ, ◌<◌, ◌≤◌, Bool, true, false, cond, ◌==◌, ◌&&◌, ◌||◌, List, [], ◌∷◌, ◌++◌, map, filter, reverse, Option, Some, None, refl, sym, ◌∙◌, ap, subst, arith}
 use Rattle.std.specs.List.{list_any, cons_option, range_with_len, AllByRecursion}
 use Rattle.std.proofs.lemmas.Bool.{eqb-true, le-ltb, ltb-false}
@@ -35,7 +36,7 @@ use Rattle.codespan_renderer.specs.Inner.Sweeps.{starts_in_order}
 use Rattle.codespan_reporting.proofs.MarkOrder.{ascends-starts}
 use Rattle.codespan_reporting.proofs.SnippetLineRows.{lines_of_steps, snippet_lines-rows, snippet_lines-fit, snippet_lines-lines, snippet_lines-fills}
 
--- ---- what a group says
+-- ---- the annotations of a group
 
 -- the labels of a range are those of its annotations
 single_labels-of_range : (start end : ℕ) (es : List Annotation) → filter (has_range start end) (singles_in es) ≡ singles_in (filter (is_of_range start end) es)
@@ -64,7 +65,7 @@ range-rank start end es = filter-filter (is_of_range start end) (is_kind 1) es �
     by_says (Single p y) = refl
     by_says (Multi m) = refl
 
--- the marks are the annotations of their kind
+-- the multi-line label marks are the annotations of their kind
 marks-rank : (es : List Annotation) → marks_in es ≡ marks_in (filter (is_kind 2) es)
 marks-rank [] = refl
 marks-rank (x ∷ xs) = by_says x.kind (marks-rank xs)
@@ -75,7 +76,7 @@ marks-rank (x ∷ xs) = by_says x.kind (marks-rank xs)
     by_says (Single p y) rest = rest
     by_says (Multi m) rest = ap (λ (ms : List LaneMark). m ∷ ms) rest
 
--- those of annotations of marks
+-- those of annotations of multi-line label marks
 marks-of_entries : (f l : ℕ) (ms : List LaneMark) → marks_in (map (mark_entry f l) ms) ≡ ms
 marks-of_entries f l [] = refl
 marks-of_entries f l (m ∷ ms) = ap (λ (ks : List LaneMark). m ∷ ks) (marks-of_entries f l ms)
@@ -91,7 +92,7 @@ single_labels-reverse (x ∷ xs) =
     by_option None = append-nil (reverse (singles_in xs))
     by_option (Some y) = sym (reverse-cons y (singles_in xs))
 
--- the first annotation of a line tells whether any shows the line
+-- the first annotation of a line shows it if any does
 first-shows : (f l : ℕ) (g : List Annotation) → AllByRecursion (IsOn f l) g → Rises is_below g → are_shown g ≡ list_any shows_line g
 first-shows f l [] on up = refl
 first-shows f l (x ∷ xs) on up = by_test (shows_line x) refl
@@ -150,7 +151,7 @@ module _ {Id : Type 0} {table : FileDatabase Id} (lawful : AreFiles table)
   abbrev bucket : ℕ → List Annotation
   bucket l = filter (is_on_line l) part
 
-  -- the file has this place among those of the labels
+  -- the file has this index among those of the labels
   here : HasPlace same file (file_ids same xs) f id
   here = record {
     index = index_of_file-at same lawful.equivalence xs f id at;
@@ -242,7 +243,7 @@ module _ {Id : Type 0} {table : FileDatabase Id} (lawful : AreFiles table)
           ∙ ap (filter (has_range start end)) (entry_lines.single_labels-labels here config l 0 xs))
           ∙ sym (filter-reverse (has_range start end) drawn)
 
-  -- ---- the marks of a line
+  -- ---- the multi-line label marks of a line
 
   -- those of the labels of the file
   abbrev marks : ℕ → List LaneMark
@@ -252,7 +253,7 @@ module _ {Id : Type 0} {table : FileDatabase Id} (lawful : AreFiles table)
   marks-given : (l : ℕ) → filter (pick l (is_kind 2)) all ≡ map (mark_entry f l) (marks l)
   marks-given l = sym (picked l (is_kind 2) all) ∙ ap (filter (is_kind 2)) (given-annotation_if_any l) ∙ entry_lines.all-marks here config l xs [] 0 refl
 
-  -- the marks of the annotations of a line
+  -- the multi-line label marks of the annotations of a line
   marks-are : (l : ℕ) → marks_in (bucket l) ≡ marks l
   marks-are l =
       marks-rank (bucket l)
@@ -262,7 +263,7 @@ module _ {Id : Type 0} {table : FileDatabase Id} (lawful : AreFiles table)
       ∙ marks-given l)
       ∙ marks-of_entries f l (marks l)
 
-  -- a line is drawn with what its labels do on it
+  -- a line is rendered with what its labels do on it
   line-is : (l : ℕ) → line_of_group (file id) (lane_count s) l (bucket l) ≡ line_at s l
   line-is l = λ i. record (line_at s l) { labels = single_labels-are l i; lanes = record { count = lane_count s; marks = marks-are l i } }
 
@@ -272,7 +273,7 @@ module _ {Id : Type 0} {table : FileDatabase Id} (lawful : AreFiles table)
   abbrev is_shown : ℕ → Bool
   is_shown l = lines.is_shown config (file id) s.labels l
 
-  -- the annotations of a line tell whether it is shown
+  -- the annotations of a line determine whether it is shown
   shown-is : (l : ℕ) → are_shown (bucket l) ≡ is_shown l
   shown-is l =
       first-shows f l (bucket l) (bucket-on l) (bucket-rises l)
@@ -303,15 +304,15 @@ module _ {Id : Type 0} {table : FileDatabase Id} (lawful : AreFiles table)
   pub snippet-fills : fills_of (lines_of part) ≡ filled_lines config s
   snippet-fills = ap fills_of snippet_lines-are ∙ snippet_lines-fills bucket is_shown (line_count (file id)) (none_past config s)
 
-  -- they draw the drawn lines
+  -- they render the drawn lines
   pub snippet-lines : lines_of_steps (lines_of part) ≡ drawn_lines config s.file s.labels
   snippet-lines = ap lines_of_steps snippet_lines-are ∙ snippet_lines-lines bucket is_shown (line_count (file id)) (none_past config s)
 
-  -- a line's labels stand in the order of their starts
+  -- a line's labels are in the order of their starts
   starts-ascend : (l : ℕ) → starts_in_order (singles_in (bucket l)) ≡ true
   starts-ascend l = ascends-starts (singles_in (bucket l)) (single_labels-ascend f l (bucket l) (bucket-on l) (bucket-rises l))
 
-  -- its marks ascend in the lanes of the file
+  -- its multi-line label marks ascend in the lanes of the file
   marks-fit : (l : ℕ) → do_marks_fit (lane_count s) (bucket l) ≡ true
   marks-fit l = ap (ascend_from (lane_count s) 0) (marks-are l) ∙ marks-ascend s l
 

@@ -38,7 +38,7 @@ module _ {Id : Type 0} {P : RustAnnotation Id → Type 0} where
 pub Adds-weaker : {Id : Type 0} {P Q : RustAnnotation Id → Type 0} {xs ys : List (RustAnnotation Id)} {es : List Annotation} → ((e : RustAnnotation Id) → P e → Q e) → Adds P xs ys es → Adds Q xs ys es
 Adds-weaker {P = P} {Q = Q} weaker a = record { more = a.more; whole = a.whole; say = a.say; each = all-weaker P Q weaker a.more a.each }
 
--- what was collected says this
+-- what was collected, seen as annotations
 pub collected-kind : {Id : Type 0} (P : RustAnnotation Id → Type 0) (collected : List (RustAnnotation Id)) (es : List Annotation) → Adds P [] collected es → map annotation_view collected ≡ es
 collected-kind P collected es adds = ap (map annotation_view) adds.whole ∙ adds.say
 
@@ -55,14 +55,14 @@ module _ {Id : Type 0} (x : CollectedLabel Id) where
   by_says true false drawn here shown same = refl
   by_says false c drawn here shown same = refl
 
-  -- what a label says of a line of its file, by the indices of its lines
+  -- the annotations of a label on a line of its file, by the indices of its lines
   kind_on-is : (line : LineInfo) → IsLineOf x.file line → kind_on x.config x.file x.at x.label line.index ≡ kind_at x.config x.at (first_line x.file x.label) (last_line x.file x.label) line.index line.start x.label
   kind_on-is line is =
       by_says (first_line x.file x.label == last_line x.file x.label) (first_line x.file x.label == line.index) (drawn_label x.file x.label) (from_line_start (line_start x.file line.index) x.label) _
       (λ t. ap (λ k. from_line_start (line_start x.file k) x.label) (eqb-true (first_line x.file x.label) line.index t))
       ∙ ap (λ start. kind_at x.config x.at (first_line x.file x.label) (last_line x.file x.label) line.index start x.label) (sym is.range_is.start_is)
 
-  -- what a label says of a line, and its mark on it
+  -- the annotations of a label on a line, and its multi-line label mark on it
   pub annotation_if_any-line : {line : LineInfo} {first last : ℕ} {kind mark : Option AnnotationKind} → first_line x.file x.label ≡ first → last_line x.file x.label ≡ last → IsLineOf x.file line
       → kind ≡ kind_at x.config x.at first last line.index line.start x.label → mark ≡ multi_at x.at first last line.index line.start x.label
       → line_annotations x.config x.file x.at x.label line.index ≡ annotation_if_any x.at.file line.index kind ++ annotation_if_any x.at.file line.index mark

@@ -1,4 +1,4 @@
--- The lines that a label asks for, one after another.
+-- The lines that are looked up for a label, one after another.
 use Rattle.std.proofs.Common.{◌≡◌, ℕ, zero, suc, ◌+◌, ◌-◌, ◌^◌, ◌<◌, ◌≤◌, Bool, true, false, not, ◌&&◌, ◌||◌, List, [], ◌∷◌, ◌++◌, length, Option, Some, None, refl, sym, ap, ◌∙◌, arith, ⊎_elim, true≢false}
 use Rattle.std.specs.Prelude.{nat_lt, nat_le, if◌then◌else◌, filter, flat_map, fold, max, min}
 use Rattle.std.specs.List.{range_with_len}
@@ -29,21 +29,21 @@ use Rattle.codespan_reporting.proofs.Collecting.{Adds-as, Adds-both, Adds-none}
 use Rattle.codespan_reporting.proofs.Failures.{first_error-none, first_error-some}
 
 module _ {X : Type 0} (g : ℕ → List X) where
-  -- what numbers give of which each gives nothing
+  -- where each of some numbers has no elements, all have none
   gives_none : (a n : ℕ) → ((l : ℕ) → a ≤ l → l < a + n → g l ≡ []) → flat_map g (range_with_len a n) ≡ []
   gives_none a zero none = refl
   gives_none a (suc n) none =
       ap (λ (xs : List X). xs ++ flat_map g (range_with_len (a + 1) n)) (none a (omega arith) (omega arith))
       ∙ gives_none (a + 1) n (λ l low high. none l (omega arith) (omega arith))
 
-  -- what one more number gives
+  -- the elements of one more number
   pub gives_more : (n : ℕ) → flat_map g (range_with_len 0 (n + 1)) ≡ flat_map g (range_with_len 0 n) ++ g n
   gives_more n =
       ap (flat_map g) (range_with_len-append 0 n 1)
       ∙ flat_map-append g (range_with_len 0 n) (range_with_len (0 + n) 1)
       ∙ ap (λ (xs : List X). flat_map g (range_with_len 0 n) ++ xs) (append-nil (g (0 + n)) ∙ ap g (omega arith))
 
-  -- where the numbers from one to another give nothing, what those below each give is the same
+  -- where the numbers from one to another have no elements, those below each have the same
   pub gives_same : (n m : ℕ) → n ≤ m → ((l : ℕ) → n ≤ l → l < m → g l ≡ []) → flat_map g (range_with_len 0 m) ≡ flat_map g (range_with_len 0 n)
   gives_same n m le none =
       ap (λ k. flat_map g (range_with_len 0 k)) (omega arith)
@@ -52,7 +52,7 @@ module _ {X : Type 0} (g : ℕ → List X) where
       ∙ ap (λ (xs : List X). flat_map g (range_with_len 0 n) ++ xs) (gives_none (0 + n) (m - n) (λ l low high. none l (omega arith) (omega arith)))
       ∙ append-nil _
 
-  -- what the numbers below one give is what those below a lesser one give, and more
+  -- the elements of the numbers below one are those of the numbers below a lesser one, and more
   pub gives_split : (n m : ℕ) → n ≤ m → flat_map g (range_with_len 0 m) ≡ flat_map g (range_with_len 0 n) ++ flat_map g (range_with_len n (m - n))
   gives_split n m le =
       ap (λ k. flat_map g (range_with_len 0 k)) (omega arith)
@@ -60,7 +60,7 @@ module _ {X : Type 0} (g : ℕ → List X) where
       ∙ flat_map-append g (range_with_len 0 n) (range_with_len (0 + n) (m - n))
       ∙ ap (λ k. flat_map g (range_with_len 0 n) ++ flat_map g (range_with_len k (m - n))) (omega arith)
 
--- what the elements that pass a test give
+-- the images of the elements that pass a test
 gives_filtered : {X : Type 0} (h : ℕ → List X) (p : ℕ → Bool) (ls : List ℕ) → flat_map h (filter p ls) ≡ flat_map (λ l. if p l then h l else []) ls
 gives_filtered h p [] = refl
 gives_filtered {X} h p (l ∷ ls) = by (p l) (gives_filtered h p ls)
@@ -93,11 +93,11 @@ module _ {Id : Type 0} (x : CollectedLabel Id) where
   abbrev failed : List Lookup → Option Error
   failed = failure_in x.failure x.id
 
-  -- what is said of the lines below this one
+  -- the annotations of the lines below this one
   abbrev entries_below : ℕ → List Annotation
   entries_below n = flat_map (annotations_on x.config x.file x.label x.at) (range_with_len 0 n)
 
-  -- what is asked of them
+  -- their lookups
   abbrev lookups_below : ℕ → List Lookup
   lookups_below n = flat_map (lookups_on x.config x.file x.label) (range_with_len 0 n)
 
@@ -105,7 +105,7 @@ module _ {Id : Type 0} (x : CollectedLabel Id) where
   abbrev digits_below : ℕ → List ℕ
   digits_below n = flat_map (digits_on x.file x.label) (range_with_len 0 n)
 
-  -- nothing is said of a line that is not asked for
+  -- there is no annotation of a line that is not looked up
   no_entries : (l : ℕ) → is_asked x.config x.file x.label l ≡ false → annotations_on x.config x.file x.label x.at l ≡ []
   no_entries l skipped = ap (λ (b : Bool). if b then line_annotations x.config x.file x.at x.label l else []) skipped
 
@@ -113,11 +113,11 @@ module _ {Id : Type 0} (x : CollectedLabel Id) where
   no_lookups : (l : ℕ) → is_asked x.config x.file x.label l ≡ false → lookups_on x.config x.file x.label l ≡ []
   no_lookups l skipped = ap (λ (b : Bool). if b then of_line l else []) skipped
 
-  -- a line that is asked for has its lookups
+  -- a line that is looked up has its lookups
   some_lookups : (l : ℕ) → is_asked x.config x.file x.label l ≡ true → lookups_on x.config x.file x.label l ≡ of_line l
   some_lookups l asked = ap (λ (b : Bool). if b then of_line l else []) asked
 
-  -- lookups that are answered, and others after them
+  -- lookups that succeed, and others after them
   answered_then : (ls ms : List Lookup) → failed ls ≡ None → failed (ls ++ ms) ≡ failed ms
   answered_then ls ms none = ap (first_error x.failure) (map-append (λ l. (x.id, l)) ls ms) ∙ first_error-none x.failure (asked_of x.id ls) (asked_of x.id ms) none
 
@@ -125,7 +125,7 @@ module _ {Id : Type 0} (x : CollectedLabel Id) where
   failed_then : (ls ms : List Lookup) (e : Error) → failed ls ≡ Some e → failed (ls ++ ms) ≡ Some e
   failed_then ls ms e some = ap (first_error x.failure) (map-append (λ l. (x.id, l)) ls ms) ∙ first_error-some x.failure (asked_of x.id ls) (asked_of x.id ms) e some
 
-  -- a line that is not asked for is not spanned
+  -- a line that is not looked up is not spanned
   no_digits : (l : ℕ) → is_asked x.config x.file x.label l ≡ false → digits_on x.file x.label l ≡ []
   no_digits l skipped = ap (λ (b : Bool). if b then digit_count (x.file.number l) ∷ [] else []) (neither (spans x.file x.label l) (is_around x.config (first_line x.file x.label) (last_line x.file x.label) l) skipped)
     where
@@ -138,7 +138,8 @@ module _ {Id : Type 0} (x : CollectedLabel Id) where
     pub first : first_line x.file x.label < line_count x.file
     pub last : last_line x.file x.label < line_count x.file
 
-  -- the lines below this one are done with: the file has them, what the label says of them is there, those that it spans have room, and
+  -- the lines below this one are done with: the file has them, their annotations are there, the
+  -- padding fits those that it spans, and
   -- no lookup failed
   pub record GathersLines (old new : FoundAnnotations Id) (n : ℕ) : Type 0 where
     pub within : n ≤ line_count x.file
@@ -186,7 +187,7 @@ module _ {Id : Type 0} {x : CollectedLabel Id} where
         further : is_asked x.config x.file x.label n ≡ false → n + 1 ≤ line_count x.file
         further skipped = ⊎_elim (λ (h : n < line_count x.file). omega arith) (λ (h : line_count x.file ≤ n). absurd (at_end skipped h)) (cases_lt n (line_count x.file))
 
-    -- all that the label says
+    -- all annotations of the label
     all_said : ((l : ℕ) → n ≤ l → l < line_count x.file → is_asked x.config x.file x.label l ≡ false)
         → (annotations_of x.config x.file x.at x.label ≡ entries_below x n) × (flat_map of_line (asked_lines x.config x.file x.label) ≡ lookups_below x n) × (label_digits x.file x.label ≡ digits_below x n)
     all_said skipped = (

@@ -39,7 +39,7 @@ text_came old new s plain came = ap (λ (x : Sink). x.held) came ∙ ap (λ (spe
 text_began : (old new : Sink) (s : Stream) → old.frame.spelling ≡ no_marks → PrefixWritten old s new → PrefixAppended old.held (text_of s) new.held
 text_began old new s plain p = record { begun = p.begun; rest = p.rest; whole = p.whole ∙ ap (λ (spelling : Spelling). spelled spelling s) plain; held = p.held }
 
--- what has been written before an error of lookups, said otherwise of the writer
+-- what has been written before an error of lookups, in other words about the writer
 written_before-other : {Id : Type 0} (files : FileDatabase Id) (view : Config) (d : Diagnostic Id) (loci : List Locus) (style : DisplayStyle) {A B : Type 0} {P Q : List Locus → Type 0} (e : Error)
     → (A → B) → ((ps : List Locus) → P ps → Q ps) → WrittenBefore view files d loci A P e style → WrittenBefore view files d loci B Q e style
 written_before-other files view d loci Rich e kept wrote left = λ h. ⊎_elim (λ a. inl (kept a)) (λ k. inr k) (left h)
@@ -100,7 +100,8 @@ module _ {Id : Type 0} {config : Config} {files : FileDatabase Id} {d : Diagnost
     means = drawn.means;
   }
 
-  -- an output that was rendered to a borrowed writer: the writer behind the reference has received the text, or a prefix of it
+  -- an output that was rendered to a borrowed writer: the writer behind the reference has received
+  -- the text, or a prefix of it
   pub written_back : {W : Type 0} (contents : W → Option (List ℕ)) (before after : PlainWriterRef W) {name : GName} {held : Option (List ℕ)} {x : W} {r : Result (Unit {0}) Error}
       → plain_ref_sink contents before ≡ fresh_plain_ref name held
       → WritesStyled config.display_style config config files d (plain_ref_sink contents before) r (plain_ref_sink contents after)

@@ -35,7 +35,7 @@ from_own f k = grind (arith, nat_tests)
 from_next : (f k : ℕ) → (nat_le f k && nat_lt f k) ≡ nat_le (f + 1) k
 from_next f k = grind (arith, nat_tests)
 
--- a file's annotations stand in front of those of later files
+-- a file's annotations are in front of those of later files
 pub from_file-next : (xs : List Annotation) (f : ℕ) → IsSortedBy is_below xs → from_file f xs ≡ filter (is_of_file f) xs ++ from_file (f + 1) xs
 from_file-next xs f up =
     split_at (λ (e : Annotation). e.file) f (from_file f xs)
@@ -74,7 +74,7 @@ own-len xs f =
 
 -- ---- annotations as a view holds them
 
--- how many pass in front does not rest on what they stand for
+-- how many pass in front depends on their images alone
 pub prefix-map : {X Y : Type 0} (f : X → Y) (p : Y → Bool) (xs : List X) → prefix_len p (map f xs) ≡ prefix_len (λ x. p (f x)) xs
 prefix-map f p [] = refl
 prefix-map f p (x ∷ xs) = ap (λ n. cond (p (f x)) (1 + n) 0) (prefix-map f p xs)

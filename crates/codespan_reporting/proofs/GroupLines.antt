@@ -32,26 +32,26 @@ prefix_len-some : (xs : List Annotation) (d : Annotation) (l : ℕ) → 0 < leng
 prefix_len-some [] d l some is = absurd (omega arith)
 prefix_len-some (x ∷ xs) d l some is = subst (λ n. 0 < prefix_len (is_on_line n) (x ∷ xs)) is (omega (arith, prefix_len-first x xs))
 
--- the first annotation tells whether a line is shown
+-- the first annotation determines whether a line is shown
 shown-first : (n : ℕ) (xs : List Annotation) (d : Annotation) → 0 < n → 0 < length xs → are_shown (take n xs) ≡ shows_line (get_or xs 0 d)
 shown-first zero xs d some more = absurd (omega arith)
 shown-first (suc n) [] d some more = absurd (omega arith)
 shown-first (suc n) (x ∷ xs) d some more = refl
 
--- ---- the lines_from by places
+-- ---- `lines_from` by indices
 
--- so many annotations from a place on
+-- so many annotations from an index on
 abbrev pub part : List Annotation → ℕ → ℕ → List Annotation
 part xs at n = take (at + n - at) (drop at xs)
 
--- so many annotations from a place on are the next group
+-- so many annotations from an index on are the next group
 pub record IsGroup (xs : List Annotation) (at n : ℕ) (d : Annotation) : Type 0 where
   pub len : length (part xs at n) ≡ n
   pub some : 0 < n
   pub shown : are_shown (part xs at n) ≡ shows_line (get_or xs at d)
   pub first : groups (drop at xs) ≡ group_at (get_or xs at d).line (part xs at n) ∷ groups (drop (at + n) xs)
 
--- those of the line of the annotation at a place are
+-- those of the line of the annotation at an index are
 pub next_group : (xs : List Annotation) (at n : ℕ) (d : Annotation) → at < length xs
     → n ≡ prefix_len (is_on_line (get_or xs at d).line) (take (length xs - at) (drop at xs)) → n ≤ length (take (length xs - at) (drop at xs)) → IsGroup xs at n d
 next_group xs at n d inside is' le' =

@@ -194,7 +194,8 @@ module _ {Id : Type 0} {config : Config} {file : Id → FileModel} {failure : Fa
     ended = w.ended;
   }
 
--- the headers of the labels before one have been written, and that one is next, by an equal configuration
+-- the headers of the labels before one have been written, and that one is next, by an equal
+-- configuration
 module _ {Id : Type 0} {config now : Config} {file : Id → FileModel} {failure : Failures Id} {d : Diagnostic Id} {i : ℕ} {label : Label Id} {s t : Sink}
     (at : StandsAt d.labels.items i label) (alike : now ≡ config) (before : HeadersCame config file failure d s (primary_of (map label_of (take i d.labels.items))) t) where
   -- its header has been written too

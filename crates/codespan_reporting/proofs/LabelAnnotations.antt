@@ -48,7 +48,7 @@ among-next a n l ne = let e : a + 1 + n ≡ a + suc n = omega arith in grind (ar
 among-below : (n l : ℕ) → is_among 0 n l ≡ nat_lt l n
 among-below n l = let e : 0 + n ≡ n = omega arith in grind (arith, nat_tests)
 
--- what lines of a range give holds each
+-- what holds of the elements of each line of a range holds of all
 all-range : (P : Annotation → Type 0) (g : ℕ → List Annotation) (p : ℕ → Bool) (n a : ℕ) → ((l : ℕ) → l < a + n → AllByRecursion P (g l))
     → AllByRecursion P (flat_map g (filter p (range_with_len a n)))
 all-range P g p zero a h = tt
@@ -59,16 +59,16 @@ all-range P g p (suc n) a h =
     (λ _. rest)
 
 module _ (g : ℕ → List Annotation) (own : (l : ℕ) → AllByRecursion (λ e. e.line ≡ l) (g l)) (p : ℕ → Bool) where
-  -- a line keeps what it gives
+  -- the elements of a line are kept for it
   keeps-own : (l : ℕ) → filter (is_on_line l) (g l) ≡ g l
   keeps-own l = filter-whole (is_on_line l) (g l) (all-weaker (λ e. e.line ≡ l) (λ e. is_on_line l e ≡ true) (λ e h. eq-eqb e.line l h) (g l) (own l))
 
-  -- it keeps nothing that another one gives
+  -- those of another line are not
   keeps-other : (a l : ℕ) → a ≢ l → filter (is_on_line l) (g a) ≡ []
   keeps-other a l ne =
       filter-nothing (is_on_line l) (g a) (all-weaker (λ e. e.line ≡ a) (λ e. is_on_line l e ≡ false) (λ e h. ne_eqb e.line l (λ k. ne (sym h ∙ k))) (g a) (own a))
 
-  -- a line has what it gives, where it is one of the lines that give
+  -- a line has its elements, where it is one of the lines
   on-line : (l n a : ℕ) → filter (is_on_line l) (flat_map g (filter p (range_with_len a n))) ≡ cond (is_among a n l && p l) (g l) []
   on-line l zero a = sym (ap (λ b. cond (b && p l) (g l) []) (among-none a l))
   on-line l (suc n) a = ⊎_elim (λ e. first e (on-line l n (a + 1))) (λ ne. later ne (on-line l n (a + 1))) (cases_eq a l)
@@ -98,10 +98,10 @@ module _ (g : ℕ → List Annotation) (own : (l : ℕ) → AllByRecursion (λ e
           by_test true = filter-append (is_on_line l) (g a) (flat_map g rest_lines) ∙ ap (λ (r : List Annotation). r ++ filter (is_on_line l) (flat_map g rest_lines)) (keeps-other a l ne)
           by_test false = refl
 
--- ---- lines that a label does not ask for
+-- ---- lines that are not looked up for a label
 
 module _ (config : Config) where
-  -- a label from line s to line e asks for line l
+  -- line l is looked up for a label from line s to line e
   abbrev asks : ℕ → ℕ → ℕ → Bool
   asks s e l = ((l == s) || (l == e) || (nat_le s l && nat_le l e)) || is_around config s e l
 
@@ -113,7 +113,7 @@ module _ (config : Config) where
   not_first : (s e l : ℕ) → asks s e l ≡ false → (s == l) ≡ false
   not_first s e l h = grind (arith, nat_tests)
 
-  -- it has no mark on another one
+  -- it has no multi-line label mark on another one
   not_marked : (s e l start : ℕ) (x : Labelled) → asks s e l ≡ false → part_at s e l start x ≡ None
   not_marked s e l start x h =
       let a : (s == l) ≡ false = grind (arith, nat_tests) in
@@ -136,23 +136,23 @@ module _ (config : Config) (f : FileModel) (at : LabelIndices) (x : Labelled) wh
   abbrev carets : ℕ → Annotation
   carets l = entry_on l (Single at.index (drawn_label f x))
 
-  -- what it says of a line, where it is inside the line and where it shows it
+  -- its annotations on a line, where it is inside the line and where it shows it
   abbrev said_where : ℕ → Bool → Bool → List Annotation
   said_where l a b = annotation_if_any at.file l (cond a (Some (Single at.index (drawn_label f x))) (cond b (Some Shown) None))
 
-  -- its mark on a line, where it is over several lines and has one
+  -- its multi-line label mark on a line, where it has one
   abbrev pub marked_where : ℕ → Bool → Option LaneMark → List Annotation
   marked_where l a o = annotation_if_any at.file l (cond a None (option_map Multi o))
 
-  -- its mark on a line
+  -- its multi-line label mark on a line
   abbrev pub marked_on : ℕ → List Annotation
   marked_on l = marked_where l (is_single f x) (mark_of at.lane x (part_on f l x))
 
-  -- what it says of a line itself
+  -- its own annotations on a line
   abbrev said_on : ℕ → List Annotation
   said_on l = said_where l (is_single f x && (first_line f x == l)) (shows config (first_line f x) (last_line f x) l)
 
-  -- what holds of each annotation that it can give of a line
+  -- what holds of each annotation that it can have on a line
   each-of_line : (P : Annotation → Type 0) (l : ℕ) → ((s : AnnotationKind) → P (entry_on l s)) → AllByRecursion P (line_annotations config f at x l)
   each-of_line P l h =
       all-append P (said_on l) (marked_on l) (by_tests (is_single f x && (first_line f x == l)) (shows config (first_line f x) (last_line f x) l))
@@ -178,7 +178,7 @@ module _ (config : Config) (f : FileModel) (at : LabelIndices) (x : Labelled) wh
   all-below = all-range (λ e. e.line < line_count f) (line_annotations config f at x) (is_asked config f x) (line_count f) 0
       (λ l k. each-of_line (λ e. e.line < line_count f) l (λ s. omega arith))
 
-  -- it says nothing of a line that it does not ask for
+  -- it has no annotation on a line that is not looked up for it
   not_asked : (l : ℕ) → is_asked config f x l ≡ false → line_annotations config f at x l ≡ []
   not_asked l h =
       let a : shows config (first_line f x) (last_line f x) l ≡ false = not_shown config (first_line f x) (last_line f x) l h in
@@ -191,7 +191,7 @@ module _ (config : Config) (f : FileModel) (at : LabelIndices) (x : Labelled) wh
       unmarked true = refl
       unmarked false = refl
 
-  -- of a line that the file has its annotations are what it says of the line
+  -- on a line that the file has these are its annotations
   pub annotations-of_line : (l : ℕ) → filter (is_on_line l) (annotations_of config f at x) ≡ cond (nat_lt l (line_count f)) (line_annotations config f at x l) []
   annotations-of_line l =
       on-line (line_annotations config f at x) (λ k. each-of_line (λ e. e.line ≡ k) k (λ s. refl)) (is_asked config f x) l (line_count f) 0
@@ -229,7 +229,7 @@ module _ (config : Config) (f : FileModel) (at : LabelIndices) (x : Labelled) wh
       by_tests false true = refl
       by_tests false false = refl
 
-  -- its mark
+  -- its multi-line label mark
   pub marks-of_line : (l : ℕ) → filter (is_kind 2) (line_annotations config f at x l) ≡ marked_on l
   marks-of_line l =
       filter-append (is_kind 2) (said_on l) (marked_on l)
@@ -245,7 +245,7 @@ module _ (config : Config) (f : FileModel) (at : LabelIndices) (x : Labelled) wh
       by_tests false true = refl
       by_tests false false = refl
 
-  -- it says of the lines that it shows that they are shown: a label inside a line shows that line
+  -- its annotations make the lines shown that it shows: a label inside a line shows that line
   pub any-of_line : (l : ℕ) → list_any shows_line (line_annotations config f at x l) ≡ shows config (first_line f x) (last_line f x) l
   any-of_line l =
       list_any-append shows_line (said_on l) (marked_on l)

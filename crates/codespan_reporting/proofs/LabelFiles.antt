@@ -36,11 +36,11 @@ module _ {Id : Type 0} {same : Id → Id → Bool} (o : IsEquivalence same) (xs 
   all-there : AllByRecursion (λ (y : InFile Id). has same o were y.id ≡ true) xs
   all-there = recursion_from_All (λ (y : InFile Id). has same o were y.id ≡ true) xs (λ k d h. file_ids-has same o xs k d h)
 
-  -- the places of ids that are there stay
+  -- the indices of ids that are there are unchanged
   stays : (i : Id) → has same o were i ≡ true → index_of_file same are i ≡ index_of_file same were i
   stays i there = ap (λ (js : List Id). index_of_file same js i) (file_ids-more same o xs x) ∙ index-stays same o were x.id i there
 
-  -- what is known of each file, where no label tells it of the label's
+  -- what is known of each file, where the label is not of it
   pub known-more : {A : Type 0} {d : A} {known now : List A} (h : Id → A) → (AllByRecursion (λ (y : InFile Id). same x.id y.id ≡ false) xs → h x.id ≡ d)
       → known ≡ map h were → now ≡ with_file same were x.id known d → now ≡ map h are
   known-more {A} {d} {known} h new was is =
@@ -58,7 +58,7 @@ module _ {Id : Type 0} {same : Id → Id → Bool} (o : IsEquivalence same) (xs 
     annotations-stay before (y ∷ ys) there = λ i.
         annotations_of config (file y.id) (record { file = stays y.id there.0 i; index = length before; lane = lanes_in same file before y.id }) y.label ++ annotations-stay (before ++ y ∷ []) ys there.1 i
 
-    -- it is said of these files
+    -- the annotations are of these files
     annotations-inside : (before ys : List (InFile Id)) → AllByRecursion (λ (y : InFile Id). has same o were y.id ≡ true) ys
         → AllByRecursion (λ (e : Annotation). e.file < length were) (annotations_after same file config were before ys)
     annotations-inside before [] there = tt
@@ -89,7 +89,7 @@ module _ {Id : Type 0} {same : Id → Id → Bool} (o : IsEquivalence same) (fil
   ids-length : length (ids_view files) ≡ length files
   ids-length = length-map files (λ (f : RustFile Id). f.id)
 
-  -- where the place is that after the files, one more is known of
+  -- where the index is that after the files, one more is known
   pub file-added : index ≡ length files → {A : Type 0} (known : List A) (one : A) → known ++ one ∷ [] ≡ with_file same (ids_view files) id known one
   file-added past known one =
       by (has same o (ids_view files) id) (λ there. omega (arith, is, past, ids-length, has-index same o (ids_view files) id there))

@@ -1,4 +1,5 @@
--- Elements at their places, the files of ids, and the places and lanes of labels, one label after another.
+-- Elements at their indices, the files of ids, and the indices and lanes of labels, one label after
+-- another.
 use Rattle.std.proofs.Common.{◌≡◌, ℕ, ◌+◌, ◌<◌, ◌≤◌, Bool, true, false, not, ◌||◌, cond, List, [], ◌∷◌, ◌++◌, length, take, get_or, set, map, refl, sym, ap, subst, ◌∙◌, arith, ⊎_elim, true≢false}
 use Rattle.std.specs.Prelude.{filter, if◌then◌else◌}
 use Rattle.std.specs.Cmp.{IsEquivalence}
@@ -20,7 +21,7 @@ use Rattle.codespan_laws.proofs.SortedLists.{filter-nothing}
 use Rattle.codespan_reporting.proofs.FileOrder.{has}
 use Rattle.codespan_reporting.proofs.FileIndices.{Differ, index-here, index-later}
 
--- the element at a place of a list
+-- the element at an index of a list
 pub record StandsAt {X : Type 0} (xs : List X) (index : ℕ) (x : X) : Type 0 where
   pub inside : index < length xs
   pub is : x ≡ get_or xs index x
@@ -36,13 +37,15 @@ stands-alike {X} {index = index} {x = x} alike inside is = record {
 pub take-at : {X : Type 0} {xs : List X} {index : ℕ} {x : X} → StandsAt xs index x → take (index + 1) xs ≡ take index xs ++ x ∷ []
 take-at {X} {xs} {index} {x} at = take_more xs index x at.inside ∙ ap (λ (y : X). take index xs ++ y ∷ []) (sym at.is)
 
--- what is known of each element, where the one at the place changes
+-- what is known of each element, where the one at the index changes
 pub map-changed : {X A : Type 0} (h : X → A) (d : A) (snippet_line : A → A) {xs : List X} {index : ℕ} {x : X} → StandsAt xs index x → (new : X) → h new ≡ snippet_line (h x)
     → map h (set xs index new) ≡ set (map h xs) index (snippet_line (get_or (map h xs) index d))
 map-changed h d snippet_line {xs} {index} {x} at new is =
     map-set h xs index new ∙ ap (set (map h xs) index) (is ∙ ap snippet_line (ap h at.is ∙ sym (get_or-map h xs index x d at.inside)))
 
--- the table is lawful: sameness of ids is an equivalence, the same ids name one file, and each file has a line
+-- the file database is lawful: sameness of ids is an equivalence, the same ids name one file, and
+-- each file
+-- has a line
 pub record AreFiles {Id : Type 0} (table : FileDatabase Id) : Type 0 where
   pub equivalence : IsEquivalence table.same
   pub one_file : (i j : Id) → table.same i j ≡ true → table.file i ≡ table.file j
@@ -58,12 +61,13 @@ are-files is equivalence same_file lawful = record {
   some_line = λ id. (lawful id).some_line;
 }
 
--- where what is kept for each id changes, it is this for those that are the same as one, and stays for the others
+-- where what is kept for each id changes, it is this for those that are the same as one, and stays
+-- for the others
 pub record IsChanged {Id A : Type 0} (same : Id → Id → Bool) (i : Id) (h more : Id → A) (v : A) : Type 0 where
   pub own : (j : Id) → same j i ≡ true → more j ≡ v
   pub others : (j : Id) → same j i ≡ false → more j ≡ h j
 
--- how many lanes a label takes: one, where it is over several lines
+-- how many lanes a label takes: one, where it is a multi-line label
 abbrev pub label_lanes : FileModel → Labelled → ℕ
 label_lanes f x = if is_single f x then 0 else 1
 
@@ -72,7 +76,7 @@ pub lanes_by-are : (f : FileModel) (x : Labelled) (lines : LabelSpan) → lines.
 lanes_by-are f x lines first last = λ i. lanes_by (record { first = first i; last = last i })
 
 module _ {Id : Type 0} (same : Id → Id → Bool) (o : IsEquivalence same) where
-  -- an id that is the same as that of one of these has a place among them
+  -- an id that is the same as that of one of these has an index among them
   pub has-index : (ids : List Id) (i : Id) → has same o ids i ≡ true → index_of_file same ids i < length ids
   has-index [] i h = absurd (true≢false (sym h))
   has-index (j ∷ js) i h =
@@ -83,7 +87,7 @@ module _ {Id : Type 0} (same : Id → Id → Bool) (o : IsEquivalence same) wher
 
 module _ {Id : Type 0} {same : Id → Id → Bool} (o : IsEquivalence same) where
   module _ {A : Type 0} (h : Id → A) (alike : (i j : Id) → same i j ≡ true → h i ≡ h j) where
-    -- what is kept at an id's place is what is kept for it
+    -- what is kept at an id's index is what is kept for it
     pub kept-at : (ids : List Id) (i : Id) (d : A) → has same o ids i ≡ true → get_or (map h ids) (index_of_file same ids i) d ≡ h i
     kept-at [] i d h = absurd (true≢false (sym h))
     kept-at (j ∷ js) i d there =
@@ -100,7 +104,7 @@ module _ {Id : Type 0} {same : Id → Id → Bool} (o : IsEquivalence same) wher
         let not_it : same k i ≡ false = o.symm k i ∙ sym (o.congr j i k t) ∙ apart.0 in
         λ n. changed.others k not_it n ∷ others-stay j t ks apart.1 n
 
-    -- where what is kept at the id's place changes, the others stay
+    -- where what is kept at the id's index changes, the others are unchanged
     pub set-at : (ids : List Id) → Differ same o ids → has same o ids i ≡ true → set (map h ids) (index_of_file same ids i) v ≡ map more ids
     set-at [] differ there = absurd (true≢false (sym there))
     set-at (j ∷ js) differ there =

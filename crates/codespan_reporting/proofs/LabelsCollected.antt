@@ -37,7 +37,8 @@ use Rattle.codespan_reporting.proofs.LocusStarts.{start-unknown, starts-set}
 use Rattle.codespan_reporting.proofs.LabelTurns.{before, before-more, file-inside, has-file, ids-differ}
 use Rattle.codespan_reporting.proofs.Failures.{first_error-none, first_error-some}
 
--- these labels are done with: each file has what they tell, what they say is there, the lines that they span have room, and no lookup failed
+-- these labels are done with: each file has what they add, their annotations are there, the padding
+-- fits the lines that they span, and no lookup failed
 pub record AreCollected {Id : Type 0} (table : FileDatabase Id) (config : Config) (ids : List Id) (done : List (InFile Id)) (files : List (RustFile Id)) (found : FoundAnnotations Id) : Type 0 where
   pub ids_are : ids_view files ≡ ids
   pub starts_are : starts_view files ≡ map (file_start table.same done) ids
@@ -46,19 +47,20 @@ pub record AreCollected {Id : Type 0} (table : FileDatabase Id) (config : Config
   pub counted : found.padding ≡ fold max 0 (all_digits table.file done)
   pub answered : labels_failure config table done ≡ None
 
--- what a label says was added, the lines that it spans have room, and no lookup of it failed
+-- the annotations of a label were added, the padding fits the lines that it spans, and no lookup of
+-- it failed
 pub record IsGatheredLabel {Id : Type 0} (table : FileDatabase Id) (config : Config) (at : LabelIndices) (label : Label Id) (found more : FoundAnnotations Id) : Type 0 where
   pub added : FindsLines (collected_label table config at label) found more
   pub counted : MakesRoom (collected_label table config at label) found more
   pub answered : label_failure (collected_label table config at label) ≡ None
 
--- the file at this place was told of a label
+-- a label was added to the file at this index
 pub record IsToldLabel {Id : Type 0} (file : Id → FileModel) (at : ℕ) (label : Label Id) (files next : List (RustFile Id)) : Type 0 where
   pub ids : ids_view next ≡ ids_view files
   pub starts : starts_view next ≡ starts_with_label (starts_view files) at (label_of label).label
   pub lanes : lanes_view next ≡ lanes_with_label (lanes_view files) at (label_lanes (file label.file_id) (label_of label).label)
 
--- a file of this id was placed: it is one of the files, or comes after them
+-- a file of this id was found: it is one of the files, or comes after them
 pub record IsPlacedFile {Id : Type 0} (same : Id → Id → Bool) (id : Id) (files now : List (RustFile Id)) : Type 0 where
   pub ids : ids_view now ≡ with_file same (ids_view files) id (ids_view files) id
   pub starts : starts_view now ≡ with_file same (ids_view files) id (starts_view files) no_start
@@ -119,13 +121,13 @@ module _ {Id : Type 0} {table : FileDatabase Id} (lawful : AreFiles table) {labe
   -- ---- the labels before it are done with, and its file is there too
 
   module _ {config : Config} {files : List (RustFile Id)} {found : FoundAnnotations Id} (g : AreCollected table config (file_ids same (before labels (index + 1))) (before labels index) files found) where
-    -- the lanes that are kept at its file's place are those of its file
+    -- the lanes that are kept at its file's index are those of its file
     lanes-kept : get_or (lanes_view files) (index_of_file same ids label.file_id) 0 ≡ lanes_in same file (before labels index) label.file_id
     lanes-kept =
         ap (λ (all : List ℕ). get_or all (index_of_file same ids label.file_id) 0) g.lanes_are
         ∙ kept-at o (lanes_in same file (before labels index)) (lanes_in-alike lawful (before labels index)) ids label.file_id 0 (has-file turn o)
 
-    -- what the label says was added
+    -- the label's annotations were added
     added-more : (more : FoundAnnotations Id) → AddsOf (file label.file_id) found.annotations.items more.annotations.items (annotations_of config (file label.file_id) here (label_of label).label)
         → Adds (IsOfFiles file ids) [] more.annotations.items (annotations_after same file config ids [] (before labels (index + 1)))
     added-more more adds =
@@ -148,7 +150,7 @@ module _ {Id : Type 0} {table : FileDatabase Id} (lawful : AreFiles table) {labe
         ∙ ap (λ (at : LabelIndices). annotations_after same file config ids [] (before labels index) ++ annotations_of config f at x) (sym here-is))
         (Adds-both g.added widened)
 
-    -- the lines that it spans have room
+    -- the padding fits the lines that it spans
     counted-more : (more : FoundAnnotations Id) → more.padding ≡ fold max found.padding (label_digits (file label.file_id) (label_of label).label) → more.padding ≡ fold max 0 (all_digits file (before labels (index + 1)))
     counted-more more counts =
         let digits : InFile Id → List ℕ = λ x. label_digits (file x.id) x.label in
@@ -166,11 +168,11 @@ module _ {Id : Type 0} {table : FileDatabase Id} (lawful : AreFiles table) {labe
         ∙ set-at o lanes-changed ids (ids-differ turn o) (has-file turn o)
 
     module _ {at : ℕ} (there : at ≡ index_of_file same (ids_view files) label.file_id) where
-      -- its file's place among the files is that among their ids
+      -- its file's index among the files is that among their ids
       index-found : at ≡ index_of_file same ids label.file_id
       index-found = there ∙ ap (λ (js : List Id). index_of_file same js label.file_id) g.ids_are
 
-      -- as many lanes are counted for the file as labels over several lines come before
+      -- as many lanes are counted for the file as there are multi-line labels before
       pub lane-found : get_or (lanes_view files) at 0 ≡ lanes_in same file (before labels index) label.file_id
       lane-found = ap (λ k. get_or (lanes_view files) k 0) index-found ∙ lanes-kept
 
@@ -188,7 +190,7 @@ module _ {Id : Type 0} {table : FileDatabase Id} (lawful : AreFiles table) {labe
           let long : length files ≡ length ids = sym (length-map files _) ∙ ap length g.ids_are in
           omega (arith, low, index-found, long)
 
-      -- one more label, whose file is at this place
+      -- one more label, whose file is at this index
       pub collected-more : {next : List (RustFile Id)} {more : FoundAnnotations Id} → IsGatheredLabel table config (record { file = at; index = index; lane = get_or (lanes_view files) at 0 }) label found more → IsToldLabel file at label files next
           → AreCollected table config (file_ids same (before labels (index + 1))) (before labels (index + 1)) next more
       collected-more {next} {more} own told = record {
@@ -208,7 +210,7 @@ module _ {Id : Type 0} {table : FileDatabase Id} (lawful : AreFiles table) {labe
   -- ---- the labels before it are done with
 
   module _ {config : Config} {files : List (RustFile Id)} {found : FoundAnnotations Id} (g : AreCollected table config (file_ids same (before labels index)) (before labels index) files found) where
-    -- its file was placed: it is one of those of the labels before, or after them
+    -- its file was found: it is one of those of the labels before, or after them
     pub file-placed : {now : List (RustFile Id)} → IsPlacedFile same label.file_id files now → AreCollected table config (file_ids same (before labels (index + 1))) (before labels index) now found
     file-placed {now} placed =
         let xs = before labels index in
@@ -247,7 +249,7 @@ pub collected-all : {Id : Type 0} {table : FileDatabase Id} {config : Config} {f
 collected-all {Id} {table} {config} {files} {found} labels index past g =
     subst (λ (ls : List (Label Id)). AreCollected table config (file_ids table.same (map label_of ls)) (map label_of ls) files found) (take_all index labels past) g
 
--- each file has what the labels tell of it
+-- each file has what the labels add to it
 pub each-told : {Id : Type 0} (same : Id → Id → Bool) (file : Id → FileModel) (xs : List (InFile Id)) (files : List (RustFile Id))
     → starts_view files ≡ map (file_start same xs) (ids_view files) → lanes_view files ≡ map (lanes_in same file xs) (ids_view files) → AllByRecursion (HasLabels same file xs) files
 each-told same file xs [] starts lanes = tt

@@ -1,4 +1,4 @@
--- The order of the marks on a line.
+-- The order of the multi-line label marks on a line.
 use Rattle.std.proofs.Common.{◌≡◌, ℕ, ◌+◌, ◌≤◌, Bool, true, false, ◌&&◌, List, [], ◌∷◌, length, map, Option, Some, None, refl, sym, ap, ◌∙◌, arith, nat_le, nat_lt, true≢false}
 use Rattle.std.specs.List.{AllByRecursion, enumerate_from, filter_map, cons_option}
 use Rattle.std.proofs.lemmas.Bool.{leb-true}
@@ -12,9 +12,9 @@ use Rattle.codespan_reporting.specs.Inner.SnippetLines.{do_marks_fit, marks_in}
 use Rattle.codespan_reporting.proofs.AnnotationOrder.{lane_below, mark_entry}
 use Rattle.codespan_laws.proofs.SortedLists.{Climbs, all-weaker}
 
--- ---- the marks of a file's labels
+-- ---- the multi-line label marks of a file's labels
 
--- the marks on a line of these labels, whose lanes begin here
+-- the multi-line label marks on a line of these labels, whose lanes begin here
 abbrev pub marks_from : FileModel → ℕ → ℕ → List Labelled → List LaneMark
 marks_from f l n ys = filter_map (λ (annotation : ℕ × Labelled). mark_of annotation.0 annotation.1 (part_on f l annotation.1)) (enumerate_from n ys)
 
@@ -31,11 +31,11 @@ ascend-from f l count n least (y ∷ ys) low total = by_part (part_on f l y) (λ
         let b : nat_lt n count ≡ true = grind (arith, nat_tests) in
         rw (a, b) (rest (n + 1) (omega arith))
 
--- the marks of a line ascend in the lanes of its file
+-- the multi-line label marks of a line ascend in the lanes of its file
 pub marks-ascend : (s : LabelledFile) (l : ℕ) → ascend_from (lane_count s) 0 (marks_on s.file s.labels l) ≡ true
 marks-ascend s l = ascend-from s.file l (lane_count s) 0 0 (multi_labels s.file s.labels) (omega arith) (omega arith)
 
--- ---- marks that ascend
+-- ---- multi-line label marks that ascend
 
 -- both of two are true
 pub both-true : (a b : Bool) → (a && b) ≡ true → (a ≡ true) × (b ≡ true)
@@ -61,6 +61,6 @@ ascend-climbs f l count least (m ∷ ms) up =
     later [] h = tt
     later (k ∷ ks) h = (lane_below f l m k (let low = h.0 in omega arith), later ks h.1)
 
--- a renderer may be given marks that ascend
+-- a renderer takes multi-line label marks that ascend
 pub lanes_fit : (count : ℕ) (es : List Annotation) (ms : List GivenMark) → map mark_view ms ≡ marks_in es → do_marks_fit count es ≡ true → lanes_in_order count ms ≡ true
 lanes_fit count es ms same fits = ap (ascend_from count 0) same ∙ fits

@@ -1,4 +1,5 @@
--- Steps that a walk over annotations finds, one after another, and the lookups of numbers with them.
+-- Steps that a walk over annotations finds, one after another, and the lookups of numbers with
+-- them.
 use Rattle.std.proofs.Common.{◌≡◌, ℕ, List, [], ◌++◌, Option, None, Some, refl, sym, ap, ◌∙◌, append-nil, append_assoc}
 use Rattle.std.proofs.lemmas.List.{map-append}
 use Rattle.std.proofs.lemmas.Grind.{flat_map-append}

@@ -1,4 +1,4 @@
--- Steps that are drawn one after another: what is sent and what is asked.
+-- Snippet lines that are rendered one after another: what is written and what is looked up.
 use Rattle.std.proofs.Common.{◌≡◌, ℕ, ◌+◌, List, [], ◌∷◌, ◌++◌, take, drop, map, Option, Result, Ok, Err, sym, subst, ap, ◌∙◌, append-nil}
 use Rattle.std.proofs.lemmas.List.{map-append, take-append-drop}
 use Rattle.std.proofs.lemmas.Grind.{flat_map-append}
@@ -40,11 +40,11 @@ module _ {F Id Name Source : Type 0} (table : F → FileDatabase Id) (lines : Sn
   abbrev asked_all : List (RustLine Id) → Option Error
   asked_all snippet_lines = asked (lookups_of_lines snippet_lines)
 
-  -- the call draws a snippet line, with what it asks for
+  -- the call renders a snippet line, with its lookups
   abbrev DrawsOne : RustLine Id → Sink → Result (Unit {0}) Error → Sink → Type 0
   DrawsOne snippet_line old r new = WritesWithLookups (asked (lookups_of_line snippet_line)) old (stream_of_rows look (rows_of_line f lines.lane_count (line_view snippet_line))) r new
 
-  -- these snippet lines are drawn, with what they ask for
+  -- these snippet lines are rendered, with their lookups
   pub record DrawsAll (snippet_lines : List (RustLine Id)) (old : Sink) (r : Result (Unit {0}) Error) (new : Sink) : Type 0 where
     pub drawn : IsAsking (asked_all snippet_lines) old (rows snippet_lines) r new
 
@@ -61,11 +61,11 @@ module _ {F Id Name Source : Type 0} (table : F → FileDatabase Id) (lines : Sn
       ap asked (flat_map-append lookups_of_line xs ys) ∙ first_error-asked (table lines.file.files.now).failure lines.file.id (lookups_of_lines xs) (lookups_of_lines ys)
 
 module _ {F Id Name Source : Type 0} {table : F → FileDatabase Id} {lines : Snippet F Id Name Source} {config : Config} where
-  -- nothing is drawn
+  -- nothing is rendered
   pub drawn-nothing : {s : Sink} → DrawsAll table lines config [] s (Ok tt) s
   drawn-nothing = record { drawn = asking_nothing }
 
-  -- one snippet line is drawn
+  -- one snippet line is rendered
   drawn-one : {snippet_line : RustLine Id} {s t : Sink} {r : Result (Unit {0}) Error} → DrawsOne table lines config snippet_line s r t → DrawsAll table lines config (snippet_line ∷ []) s r t
   drawn-one {snippet_line} draws = record {
     drawn = asking_as
@@ -74,14 +74,15 @@ module _ {F Id Name Source : Type 0} {table : F → FileDatabase Id} {lines : Sn
         (record { draws = draws });
   }
 
-  -- snippet lines are drawn, and then others, however that ends
+  -- snippet lines are rendered, and then others, however that ends
   drawn-then : {xs ys : List (RustLine Id)} {s t u : Sink} {r : Result (Unit {0}) Error} → DrawsAll table lines config xs s (Ok tt) t → DrawsAll table lines config ys t r u
       → DrawsAll table lines config (xs ++ ys) s r u
   drawn-then {xs} {ys} first second = record {
     drawn = asking_as (sym (asked-append table lines config xs ys)) (sym (rows-append table lines config xs ys)) (asking_then first.drawn second.drawn);
   }
 
-  -- snippet lines were drawn, and then the next one, by an equal configuration, however that ends
+  -- snippet lines were rendered, and then the next one, by an equal configuration, however that
+  -- ends
   pub drawn-next : {whole : List (RustLine Id)} {i : ℕ} {snippet_line : RustLine Id} {now : Config} {s t u : Sink} {r : Result (Unit {0}) Error} → StandsAt whole i snippet_line
       → DrawsAll table lines config (take i whole) s (Ok tt) t → now ≡ config → DrawsOne table lines now snippet_line t r u
       → DrawsAll table lines config (take (i + 1) whole) s r u

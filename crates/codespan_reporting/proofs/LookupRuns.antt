@@ -1,4 +1,5 @@
--- Rendering with lookups on the way, part by part: what has been written, what was looked up, and what an error cut short.
+-- Rendering with lookups on the way, part by part: what has been written, what was looked up, and
+-- what an error cut short.
 use Rattle.std.proofs.Common.{◌≡◌, ◌≢◌, [], ◌∷◌, ◌++◌, List, Option, None, Some, Result, Ok, Err, inl, inr, ⊎_elim, refl, sym, subst, ap, ◌∙◌}
 use Rattle.std.specs.Prelude.{IfErr}
 use Rattle.std.specs.Result.{IsErrOf}

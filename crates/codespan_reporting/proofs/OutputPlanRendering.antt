@@ -1,4 +1,4 @@
--- The snippets of a sheet, one after another.
+-- The snippets of an output plan, one after another.
 use Rattle.std.proofs.Common.{◌≡◌, ℕ, zero, suc, ◌+◌, ◌-◌, ◌<◌, ◌≤◌, Bool, true, false, ◌||◌, List, [], ◌∷◌, ◌++◌, length, take, drop, get_or, map, Option, None, Result, Ok, Err, refl, sym, subst, subst₂, ap, ◌∙◌, arith, lt-ltb}
 use Rattle.std.specs.Prelude.{IfErr, flat_map, nat_lt, if◌then◌else◌}
 use Rattle.std.proofs.Math.Nat.{add-sub_cancel_left}
@@ -66,14 +66,14 @@ followed-at has_notes xs k =
     ∙ ap (λ n. has_notes || nat_lt 0 n) (length-drop (k + 1) xs)
     ∙ ap (λ (b : Bool). has_notes || b) (left-over (k + 1) (length xs))
 
--- ---- the file at a place
+-- ---- the file at an index
 
 -- each file has one name
 ids-count : {Id : Type 0} (files : List (SnippetPlan Id)) → length (ids_of files) ≡ length files
 ids-count {Id} files = length-map files (λ (g : SnippetPlan Id). g.file.now.id)
 
 module _ {Id : Type 0} {files : List (SnippetPlan Id)} {k : ℕ} {f : SnippetPlan Id} (at : StandsAt files k f) where
-  -- its id and its place stand where it does
+  -- its id and its locus are at the same index
   id-inside : k < length (ids_of files)
   id-inside = omega (arith, at.inside, ids-count files)
 
@@ -87,19 +87,20 @@ module _ {Id : Type 0} {files : List (SnippetPlan Id)} {k : ℕ} {f : SnippetPla
   index-at = ap (λ (g : SnippetPlan Id). locus_view g.locus) at.is ∙ sym (get_or-map (λ (g : SnippetPlan Id). locus_view g.locus) files k f (locus_view f.locus) at.inside)
 
 module _ {Id : Type 0} (table : FileDatabase Id) (config : Config) (xs : List (InFile Id)) where
-  -- the file is that of its labels, with the snippet lines that it counts in front, and the rest is of the files after it
+  -- the file is that of its labels, with the snippet lines that it counts in front, and the rest is
+  -- of the files after it
   abbrev pub IsFirstFile : List (SnippetPlan Id) → SnippetPlan Id → List (RustLine Id) → Type 0
   IsFirstFile later f snippet_lines =
       IsSnippetPlan config (labelled_file table.same table.file xs f.file.now.id) f (take f.line_total snippet_lines) × AreSnippetPlans table config xs later (drop f.line_total snippet_lines)
 
-  -- the files from a place on are those of their labels, with the snippet lines from a place on
+  -- the files from an index on are those of their labels, with the snippet lines from an index on
   pub record AreFilesFrom (files : List (SnippetPlan Id)) (k : ℕ) (snippet_lines : List (RustLine Id)) (start : ℕ) : Type 0 where
     pub inside : start ≤ length snippet_lines
     pub are : AreSnippetPlans table config xs (drop k files) (drop start snippet_lines)
 
 module _ {Id : Type 0} {table : FileDatabase Id} {config : Config} {xs : List (InFile Id)} {files : List (SnippetPlan Id)} {k : ℕ} {f : SnippetPlan Id} {snippet_lines : List (RustLine Id)} {start : ℕ}
     (at : StandsAt files k f) (from : AreFilesFrom table config xs files k snippet_lines start) where
-  -- from the file at a place on they are that file, and those after it
+  -- from the file at an index on they are that file, and those after it
   files-at : IsFirstFile table config xs (drop (k + 1) files) f (drop start snippet_lines)
   files-at = subst (λ (fs : List (SnippetPlan Id)). AreSnippetPlans table config xs fs (drop start snippet_lines)) (drop-one files k f at.inside at.is) from.are
 
@@ -131,7 +132,7 @@ module _ {Id : Type 0} {config : Config} {own : LabelledFile} {f : SnippetPlan I
       ++ (if followed then EmptyRow (record { count = is.lanes_are i; marks = [] }) ∷ [] else []))
       ∙ ap (λ (r : List Row). (StartRow (locus_view f.locus) ∷ EmptyRow (bare_lanes own) ∷ []) ++ r ++ (if followed then EmptyRow (bare_lanes own) ∷ [] else [])) is.rows
 
--- ---- the files from a place on
+-- ---- the files from an index on
 
 module _ {Id : Type 0} (table : FileDatabase Id) (view : RichDiagnostic Id) where
   -- a file with its labels
@@ -143,7 +144,7 @@ module _ {Id : Type 0} (table : FileDatabase Id) (view : RichDiagnostic Id) wher
   snippet_asked = λ id. asked_of id (snippet_lookups table (labels_of (diagnostic_of view)) (view_config_of view) id)
 
   module _ (output_plan : OutputPlan Id) where
-    -- the rows of the files from a place on
+    -- the rows of the files from an index on
     abbrev pub rows_left : ℕ → List Row
     rows_left k = snippets (view_config_of view) (has_any (notes_of (diagnostic_of view))) (drop k (loci_of output_plan.files.items)) (map labeled (drop k (ids_of output_plan.files.items)))
 
@@ -151,7 +152,7 @@ module _ {Id : Type 0} (table : FileDatabase Id) (view : RichDiagnostic Id) wher
     abbrev pub asked_left : ℕ → List (Id × Lookup)
     asked_left k = flat_map snippet_asked (drop k (ids_of output_plan.files.items))
 
-    -- the files before this place are drawn, and all lookups with them were answered
+    -- the files before this index are rendered, and all lookups with them succeeded
     pub record SnippetsLeft (renderer : Config) (k : ℕ) (old now : Sink) : Type 0 where
       pub rows : List Row
       pub drawn : IsAsking None old (stream_of_rows (look_of renderer (diagnostic_of view).severity output_plan.padding) rows) (Ok tt) now
@@ -160,14 +161,14 @@ module _ {Id : Type 0} (table : FileDatabase Id) (view : RichDiagnostic Id) wher
       pub answered : first_error table.failure asked ≡ None
       pub asked_whole : asked ++ asked_left k ≡ asked_left 0
 
--- no file is drawn
+-- no file is rendered
 pub left-start : {Id : Type 0} {table : FileDatabase Id} {view : RichDiagnostic Id} {renderer : Config} {output_plan : OutputPlan Id} {s : Sink}
     → SnippetsLeft table view output_plan renderer 0 s s
 left-start = record { rows = []; drawn = asking_nothing; rows_whole = refl; asked = []; answered = refl; asked_whole = refl }
 
 module _ {Id : Type 0} {table : FileDatabase Id} {view : RichDiagnostic Id} {renderer : Config} {output_plan : OutputPlan Id} {k : ℕ} {old mid : Sink}
     (prepared : IsOutputPlan table (view_config_of view) (labels_of (diagnostic_of view)) output_plan) (left : SnippetsLeft table view output_plan renderer k old mid) where
-  -- what all rows share, as a configuration draws them
+  -- what all rows share, in a configuration
   abbrev look_by : Config → Look
   look_by config = look_of config (diagnostic_of view).severity output_plan.padding
 
@@ -186,11 +187,11 @@ module _ {Id : Type 0} {table : FileDatabase Id} {view : RichDiagnostic Id} {ren
   abbrev places : List Locus
   places = loci_of output_plan.files.items
 
-  -- the rows of these files, whose snippets start at these places
+  -- the rows of these files, whose snippets have these loci
   abbrev drawn_at : List Locus → List Id → List Row
   drawn_at ps js = snippets (view_config_of view) has_notes ps (map (labeled table view) js)
 
-  -- the rows of the files from a place on, and their lookups
+  -- the rows of the files from an index on, and their lookups
   abbrev rest : ℕ → List Row
   rest = rows_left table view output_plan
 
@@ -205,14 +206,14 @@ module _ {Id : Type 0} {table : FileDatabase Id} {view : RichDiagnostic Id} {ren
   abbrev all_failure : Option Error
   all_failure = first_error table.failure (late_lookups table (labels_of (diagnostic_of view)) (view_config_of view))
 
-  -- from the first place on these are all of them
+  -- from the first index on these are all of them
   rows-all : rest 0 ≡ all_rows
   rows-all = ap (drawn_at places) prepared.ids_are
 
   failure-all : first_error table.failure (asks 0) ≡ all_failure
   failure-all = ap (λ js. first_error table.failure (flat_map (snippet_asked table view) js)) prepared.ids_are
 
-  -- all files are drawn
+  -- all files are rendered
   pub left-end : {gs : List (SnippetPlan Id)} → gs ≡ output_plan.files.items → length gs ≤ k → WritesWithLookups all_failure old (stream_of_rows look all_rows) (Ok tt) mid
   left-end alike past =
       let none : drop k ids ≡ [] =
@@ -233,7 +234,7 @@ module _ {Id : Type 0} {table : FileDatabase Id} {view : RichDiagnostic Id} {ren
     abbrev own : LabelledFile
     own = labeled table view f.file.now.id
 
-    -- the rows of the file at the place
+    -- the rows of the file at the index
     abbrev rows_here : List Row
     rows_here = snippet (view_config_of view) (locus_view f.locus) own ++ row_after (has_any (drop (k + 1) ids) || has_notes) own
 
@@ -270,12 +271,12 @@ module _ {Id : Type 0} {table : FileDatabase Id} {view : RichDiagnostic Id} {ren
     abbrev steps_failure : Option Error
     steps_failure = first_error table.failure (asked_of f.file.now.id (lookups_with snippet_lines))
 
-    -- the snippet is drawn, by an equal configuration
+    -- the snippet is rendered, by an equal configuration
     snippet-here : {r : Result (Unit {0}) Error} {new : Sink} → WritesWithLookups steps_failure mid (stream_of_rows (look_by now) (rows_in f (table.file f.file.now.id) snippet_lines)) r new
         → IsAsking steps_failure mid snippet_stream r new
     snippet-here draws = asking_as refl (λ i. stream_of_rows (look_by (alike i)) (rows_in f (table.file f.file.now.id) snippet_lines)) (record { draws = draws })
 
-    -- both are the rows and the lookups at the place
+    -- both are the rows and the lookups at the index
     drawn-here : {r : Result (Unit {0}) Error} {new : Sink} → IsAsking (or_failure steps_failure None) mid (snippet_stream ++ end_stream) r new
         → IsAsking (first_error table.failure asked_here) mid (stream_of_rows look rows_here) r new
     drawn-here both =
@@ -287,7 +288,7 @@ module _ {Id : Type 0} {table : FileDatabase Id} {view : RichDiagnostic Id} {ren
         ∙ ap (λ (b : Bool). stream_of_rows look (snippet (view_config_of view) (locus_view f.locus) own ++ row_after b own)) followed)
         both
 
-    -- the file is drawn
+    -- the file is rendered
     left-next : {new : Sink} → IsAsking (first_error table.failure asked_here) mid (stream_of_rows look rows_here) (Ok tt) new → SnippetsLeft table view output_plan renderer (k + 1) old new
     left-next drawn =
         record {
@@ -320,13 +321,13 @@ module _ {Id : Type 0} {table : FileDatabase Id} {view : RichDiagnostic Id} {ren
 
     module _ {inner : Sink} (draws : WritesWithLookups steps_failure mid (stream_of_rows (look_by now) (rows_in f (table.file f.file.now.id) snippet_lines)) (Ok tt) inner)
         {after : Config} (alike_after : after ≡ now) where
-      -- then the row after it was drawn, by an equal configuration, however that ends
+      -- then the row after it was rendered, by an equal configuration, however that ends
       end-here : {r : Result (Unit {0}) Error} {new : Sink} → Sends inner (stream_of_rows (look_by after) (end_rows f follows)) r new → IfErr r IsIo
           → IsAsking (first_error table.failure asked_here) mid (stream_of_rows look rows_here) r new
       end-here {r} {new} sends io =
           drawn-here (asking_then (snippet-here draws) (asking_of_sends r (sends_at (λ (c : Config). stream_of_rows (look_by c) (end_rows f follows)) (alike_after ∙ alike) inner new r sends) io))
 
-      -- it came
+      -- it was written
       pub next-file : {new : Sink} → WroteStream inner (stream_of_rows (look_by after) (end_rows f follows)) new → SnippetsLeft table view output_plan renderer (k + 1) old new
       next-file came = left-next (end-here came tt)
 

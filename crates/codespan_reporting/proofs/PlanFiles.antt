@@ -1,4 +1,5 @@
--- The plans of files: what their snippet lines draw and ask for is what the pictures of the files show.
+-- The plans of files: the rows and the lookups of their snippet lines are those of the files'
+-- snippets.
 use Rattle.std.proofs.Common.{◌≡◌, ℕ, suc, ◌+◌, Bool, List, [], ◌∷◌, ◌++◌, take, drop, map, max, Option, None, refl, sym, subst, ap, ◌∙◌, arith}
 use Rattle.std.specs.Prelude.{IfSome, flat_map, fold}
 use Rattle.std.specs.List.{AllByRecursion}
@@ -48,7 +49,7 @@ line_view-file Classic f (given.Filled index number annotations) is = subst (λ 
 line_view-file Unbroken f (given.Filled index number annotations) is = subst (λ (o : Option ℕ). IfSome o (λ known. known ≡ f.number index)) (sym is) refl
 line_view-file layout f (given.Break next) is = is
 
--- it asks for what the layout asks for of the line that it fills in
+-- its lookups are those of the layout for the line that it fills in
 snippet_line-asks : {Id : Type 0} (layout : Layout) (f : FileModel) (g : RustLine Id) → IsSnippetLineIn layout f g → lookups_of_line g ≡ flat_map (of_filled layout) (fill_of (line_view g))
 snippet_line-asks layout f (given.Labeled line annotations) is = refl
 snippet_line-asks Classic f (given.Filled index number annotations) is = ap (λ (o : Option ℕ). lookups_of_filled o index) is
@@ -68,7 +69,7 @@ lines_of-file : {Id : Type 0} (layout : Layout) (f : FileModel) (gs : List (Rust
 lines_of-file layout f [] h = tt
 lines_of-file layout f (g ∷ gs) h = (line_view-file layout f g h.0, lines_of-file layout f gs h.1)
 
--- they ask for what the layout asks for of the lines that they fill in
+-- their lookups are those of the layout for the lines that they fill in
 snippet_lines-ask : {Id : Type 0} (layout : Layout) (f : FileModel) (gs : List (RustLine Id)) → AllByRecursion (IsSnippetLineIn layout f) gs → lookups_of_lines gs ≡ flat_map (of_filled layout) (fills_of (map line_view gs))
 snippet_lines-ask layout f [] h = refl
 snippet_lines-ask layout f (g ∷ gs) h =
@@ -84,7 +85,8 @@ snippet_lines-digits f (g ∷ gs) h =
 
 -- ---- plans
 
--- the snippet lines draw a file's labels: the lines that they fill in, the lines that they draw, and their rows are those of its snippet
+-- the snippet lines are those of a file's labels: the lines that they fill in, the lines that they
+-- show, and their rows are those of its snippet
 record DrawSnippet (config : Config) (s : LabelledFile) (snippet_lines : List SnippetLine) : Type 0 where
   fills : fills_of snippet_lines ≡ filled_lines config s
   lines : lines_of_steps snippet_lines ≡ drawn_lines config s.file s.labels
@@ -111,7 +113,7 @@ module _ {Id : Type 0} {table : FileDatabase Id} (lawful : AreFiles table) {conf
   abbrev labeled : Id → LabelledFile
   labeled = labelled_file same file xs
 
-  -- the snippet lines at a file's place are those of its snippet
+  -- the snippet lines at a file's index are those of its snippet
   snippet : (k : ℕ) (id : Id) → IsIdAt (file_ids same xs) k id → DrawSnippet config (labeled id) (lines_at es k)
   snippet k id at = record {
     fills = snippet-fills lawful all k id at;
@@ -120,7 +122,7 @@ module _ {Id : Type 0} {table : FileDatabase Id} (lawful : AreFiles table) {conf
     fits = snippet-fits lawful all k id at;
   }
 
-  -- the numbers that are asked for before the header are those of the padding
+  -- the numbers that are looked up before the header are those of the padding
   numbers-are : number_lookups config.layout es (ids_view collected.files.items) ≡ padding_lookups config table xs
   numbers-are =
       ap (number_lookups config.layout es) all.files.ids_are
@@ -138,7 +140,7 @@ module _ {Id : Type 0} {table : FileDatabase Id} (lawful : AreFiles table) {conf
   file_start-is : {f : RustFile Id} → HasLabels same file xs f → start_byte f.start ≡ locus_start (labeled f.id).labels
   file_start-is {f} told = ap start_byte told.start_is ∙ start-is same file f.id xs
 
-  -- the places of files that are asked for are those of their snippets
+  -- the lookups of the loci of files are those of their snippets
   places-asked : (fs : List (RustFile Id)) → AllByRecursion (HasLabels same file xs) fs → loci_lookups fs ≡ flat_map (λ id. asked_of id (locus_lookups table xs id)) (ids_view fs)
   places-asked [] told = refl
   places-asked (f ∷ fs) told = λ i. asked_of f.id (Name ∷ LocationAt (file_start-is told.0 i) ∷ []) ++ places-asked fs told.1 i
@@ -149,7 +151,7 @@ module _ {Id : Type 0} {table : FileDatabase Id} (lawful : AreFiles table) {conf
 
   module _ {k : ℕ} {f : RustFile Id} (at : IsIdAt (file_ids same xs) k f.id) (told : HasLabels same file xs f) {plan : SnippetPlan Id} {own : List (RustLine Id)}
       (is : IsPlan config.layout file es k f plan own) where
-    -- it is a file of the picture
+    -- it is a file of the output
     file-plan : IsSnippetPlan config (labeled f.id) plan own
     file-plan = record {
       lanes_are = ap (λ (g : RustFile Id). g.lane_count) is.file_is ∙ told.lanes_are;
@@ -162,14 +164,14 @@ module _ {Id : Type 0} {table : FileDatabase Id} (lawful : AreFiles table) {conf
           ∙ ap (λ (ls : List ℕ). flat_map (of_filled config.layout) ls) (snippet k f.id at).fills;
     }
 
-    -- in the unbroken layout the digits of its numbers are those that the padding has room for
+    -- in the unbroken layout the digits of its numbers are those that the padding fits
     file-digits : config.layout ≡ Unbroken → flat_map line_digits own ≡ digits_of (labeled f.id) (numbered_lines config (labeled f.id))
     file-digits unbroken =
         snippet_lines-digits (file f.id) own (subst (λ (layout : Layout). AllByRecursion (IsSnippetLineIn layout (file f.id)) own) unbroken is.each)
         ∙ ap (λ (snippet_lines : List SnippetLine). digits_of (labeled f.id) (lines_of_steps snippet_lines)) is.are
         ∙ ap (digits_of (labeled f.id)) ((snippet k f.id at).lines ∙ sym (numbered config unbroken (labeled f.id)))
 
-  -- the ids from a place on stand at their places
+  -- the ids from an index on are at their indices
   abbrev AreAt : ℕ → List Id → Type 0
   AreAt k ids = (i : ℕ) (id : Id) → IsIdAt ids i id → IsIdAt (file_ids same xs) (k + i) id
 
@@ -203,7 +205,7 @@ module _ {Id : Type 0} {table : FileDatabase Id} (lawful : AreFiles table) {conf
     plans-from (k + 1) fs ps (drop p.line_total snippet_lines) (are_at-next k f.id (ids_view fs) at) told.1 h.1,
   )
 
-  -- in the unbroken layout the digits of their snippet lines are those that the padding has room for
+  -- in the unbroken layout the digits of their snippet lines are those that the padding fits
   digits-from : config.layout ≡ Unbroken → (k : ℕ) (fs : List (RustFile Id)) (plans : List (SnippetPlan Id)) (snippet_lines : List (RustLine Id)) → AreAt k (ids_view fs)
       → AllByRecursion (HasLabels same file xs) fs → ArePlans config.layout file es k fs plans snippet_lines
       → flat_map line_digits snippet_lines ≡ flat_map (λ id. digits_of (labeled id) (numbered_lines config (labeled id))) (ids_view fs)
@@ -217,7 +219,7 @@ module _ {Id : Type 0} {table : FileDatabase Id} (lawful : AreFiles table) {conf
       ∙ (λ i. file-digits (are_at-here k f.id (ids_view fs) at) told.0 h.0 unbroken i ++ digits-from unbroken (k + 1) fs ps later (are_at-next k f.id (ids_view fs) at) told.1 h.1 i)
 
   module _ (plans : List (SnippetPlan Id)) (snippet_lines : List (RustLine Id)) (found : ArePlans config.layout file es 0 collected.files.items plans snippet_lines) where
-    -- the ids stand at their places
+    -- the ids are at their indices
     ids_at : AreAt 0 (ids_view collected.files.items)
     ids_at = subst (λ (ids : List Id). AreAt 0 ids) (sym all.files.ids_are) all_at
 
@@ -229,7 +231,7 @@ module _ {Id : Type 0} {table : FileDatabase Id} (lawful : AreFiles table) {conf
     file_plans : AreSnippetPlans table config xs plans snippet_lines
     file_plans = plans-from 0 collected.files.items plans snippet_lines ids_at all.files.told found
 
-    -- in the classic layout the labels tell the room for numbers
+    -- in the classic layout the labels determine the padding width
     pub spanned-padding : config.layout ≡ Classic → {padding : ℕ} → padding ≡ collected.padding → padding ≡ padding_of config (labelled_files same file xs)
     spanned-padding classic is = is ∙ all.files.padding_is ∙ spanned-room same file lawful.equivalence lawful.one_file config xs classic
 
@@ -243,11 +245,11 @@ module _ {Id : Type 0} {table : FileDatabase Id} (lawful : AreFiles table) {conf
 -- ---- what was collected, with its plans
 
 module _ {Id : Type 0} {table : FileDatabase Id} (lawful : AreFiles table) {config : Config} {xs : List (InFile Id)} {collected : Collected Id} (all : IsCollected table config xs collected) where
-  -- plans fail with what the sheet fails with
+  -- plans fail with what the output plan fails with
   pub failure-is : plans_failure config.layout table.failure collected ≡ output_plan_failure config table xs
   failure-is = λ i. first_error table.failure (numbers-are lawful all i ++ places-are lawful all i)
 
-  -- plans, and the room for their numbers, are the sheet of the labels
+  -- plans, and the padding width, are the output plan of the labels
   pub output_plan-prepared : {output_plan : OutputPlan Id} → ArePlansOf config.layout table.file collected output_plan.files.items output_plan.snippet_lines.items → output_plan.padding ≡ padding_of config (labelled_files table.same table.file xs)
       → IsOutputPlan table config xs output_plan
   output_plan-prepared {output_plan} found padding = record {

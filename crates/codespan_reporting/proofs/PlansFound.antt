@@ -75,7 +75,8 @@ module _ {Id : Type 0} (file : Id → FileModel) where
 
 -- ---- the turn of a file
 
--- a loop over the files is at one of them: the annotations from an index on are those of it and of later files, and its own are counted
+-- a loop over the files is at one of them: the annotations from an index on are those of it and of
+-- later files, and its own are counted
 pub record IsTurn {Id : Type 0} (files : List (RustFile Id)) (xs : List (RustAnnotation Id)) (at n k : ℕ) (f : RustFile Id) : Type 0 where
   pub up : IsSortedBy is_below (map annotation_view xs)
   pub inside : at ≤ length xs
@@ -168,7 +169,8 @@ some-kept (Ok x) e P = tt
 some-kept (Err x) e P = tt
 
 module _ {Id : Type 0} (layout : Layout) (file : Id → FileModel) (es : List Annotation) (failure : Failures Id) where
-  -- the numbers of these files have been looked up, the first error of their loci is kept, and where no locus fails these are their plans
+  -- the numbers of these files have been looked up, the first error of their loci is kept, and
+  -- where no locus fails these are their plans
   pub record ArePlanned (files : List (RustFile Id)) (now : List (SnippetPlan Id)) (snippet_lines : List (RustLine Id)) (placed : Result (Unit {0}) Error) : Type 0 where
     pub answered : first_error failure (number_lookups layout es (ids_view files)) ≡ None
     pub kept : FailsByOrFormat (first_error failure (loci_lookups files)) placed

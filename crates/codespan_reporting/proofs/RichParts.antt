@@ -77,7 +77,8 @@ bare-whole {renderer = renderer} {view = view} {files = files} {d = d} {old = ol
 
 -- ---- before the header
 
--- where the labels' lookups succeed, those of the sheet decide what those before the header fail with
+-- where the labels' lookups succeed, those of the plan decide what those before the header fail
+-- with
 early-is_sheet : {Id : Type 0} (view : Config) (table : FileDatabase Id) {given collected items : List (Label Id)} → given ≡ items → collected ≡ given
     → labels_failure view table (map label_of given) ≡ None
     → first_error table.failure (early_lookups table (map label_of items) view) ≡ output_plan_failure view table (map label_of collected)
@@ -86,13 +87,14 @@ early-is_sheet view table {given} given_are gathered_are answered =
     ∙ labels-answered table view (map label_of given) answered
     ∙ ap (λ ls. output_plan_failure view table (map label_of ls)) (sym gathered_are)
 
--- a sheet that is prepared of the labels that were collected is that of the diagnostic's
+-- the plan of the labels that were collected is that of the diagnostic's
 pub prepared-of_all : {Id : Type 0} {view : Config} {table : FileDatabase Id} {given collected items : List (Label Id)} {output_plan : OutputPlan Id} → given ≡ items → collected ≡ given
     → IsOutputPlan table view (map label_of collected) output_plan → IsOutputPlan table view (map label_of items) output_plan
 prepared-of_all {view = view} {table = table} {output_plan = output_plan} given_are gathered_are prepared =
     subst (λ ls. IsOutputPlan table view (map label_of ls) output_plan) (gathered_are ∙ given_are) prepared
 
--- a view is ready to render: its sheet is prepared, and the lookups before the header have succeeded
+-- a view is ready to render: its output is planned, and the lookups before the header have
+-- succeeded
 pub record IsReady {Id : Type 0} (view : Config) (table : FileDatabase Id) (d : Diagnostic Id) (output_plan : OutputPlan Id) : Type 0 where
   pub prepared : IsOutputPlan table view (labels_of d) output_plan
   pub early : early_failure view table d ≡ None
@@ -107,7 +109,7 @@ module _ {Id : Type 0} {view : Config} {table : FileDatabase Id} {d : Diagnostic
       ∙ labels-failed table view (map label_of given) e (told memory))
 
   module _ {collected : List (Label Id)} (gathered_are : collected ≡ given) (answered : labels_failure view table (map label_of given) ≡ None) where
-    -- a lookup of the sheet failed
+    -- a lookup of the plan failed
     pub stopped-preparing : {renderer : Config} {s : Sink} {e : Error} → 0 < length d.labels.items
         → (e ≢ OutOfMemory → e ≢ FormatError → output_plan_failure view table (map label_of collected) ≡ Some e) → WritesOutput Rich renderer view table d s (Err e) s
     stopped-preparing some told =

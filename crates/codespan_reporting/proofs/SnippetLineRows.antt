@@ -1,4 +1,4 @@
--- What the snippet lines of shown lines draw, and the lines that they draw and fill in.
+-- The rows of the snippet lines of shown lines, and the lines that they show and fill in.
 use Rattle.std.proofs.Common.{◌≡◌, ℕ, ◌≤◌, Bool, true, false, not, cond, ◌&&◌, if◌then◌else◌, List, [], ◌∷◌, ◌++◌, filter, flat_map, Option, None, refl, sym, ap, ◌∙◌}
 use Rattle.std.specs.List.{range_with_len, AllByRecursion}
 use Rattle.std.proofs.lemmas.List.{append-nil}
@@ -12,7 +12,7 @@ use Rattle.codespan_reporting.specs.Inner.Annotations.{Annotation}
 use Rattle.codespan_reporting.specs.Inner.SnippetLines.{SnippetLine, Labeled, Filled, Break, line_of_group, rows_of_line, rows_of_lines, fill_of, fills_of, do_annotations_fit, do_marks_fit, does_line_fit}
 use Rattle.codespan_reporting.proofs.AnnotationGroups.{steps_after}
 
--- the line of a snippet line that draws one
+-- the line of a snippet line that has one
 abbrev pub line_of_step : SnippetLine → List ℕ
 line_of_step (Labeled l es) = l ∷ []
 line_of_step (Filled l es) = l ∷ []
@@ -22,9 +22,9 @@ line_of_step (Break es) = []
 abbrev pub lines_of_steps : List SnippetLine → List ℕ
 lines_of_steps snippet_lines = flat_map line_of_step snippet_lines
 
--- ---- what snippet lines give
+-- ---- the elements of snippet lines
 
--- the snippet lines of shown lines give what the lines give with what stands between them
+-- the elements of the snippet lines of shown lines are those of the lines with what is between them
 snippet_lines-give : {A : Type 0} (give : SnippetLine → List A) (m : ℕ → List Annotation) (was : Option ℕ) (ds : List ℕ)
     → flat_map give (steps_after m was ds)
     ≡ in_sequence (λ l. l) (gap_between (λ l. give (Filled l (m l))) (λ d. give (Break (m d)))) (λ l. give (Labeled l (m l))) was ds
@@ -33,7 +33,8 @@ snippet_lines-give {A} give m was ds =
     ∙ (λ i. in_sequence (λ l. l) (λ c d. flat_map-gap give (λ l. Filled l (m l) ∷ []) (λ d. Break (m d) ∷ []) c d i) (λ l. append-nil (give (Labeled l (m l))) i) was ds)
     ∙ (λ i. in_sequence (λ l. l) (gap_between (λ l. append-nil (give (Filled l (m l))) i) (λ d. append-nil (give (Break (m d))) i)) (λ l. give (Labeled l (m l))) was ds)
 
--- so they give what the drawn lines give with the breaks between them, where a line that is not shown gives what it does as one that is
+-- so they are those of the drawn lines with the breaks between them, where a line that is not shown
+-- has the elements of one that is
 -- filled in
 snippet_lines-drawn : {A : Type 0} (give : SnippetLine → List A) (m : ℕ → List Annotation) (shown : ℕ → Bool) (own : ℕ → List A)
     → ((l : ℕ) → own l ≡ given (λ l. give (Labeled l (m l))) (λ l. give (Filled l (m l))) (λ d. give (Break (m d))) shown l)
@@ -44,7 +45,7 @@ snippet_lines-drawn give m shown own are n none =
     snippet_lines-give give m None (filter shown (range_with_len 0 n))
     ∙ sym (lines-shown (λ l. give (Labeled l (m l))) (λ l. give (Filled l (m l))) (λ d. give (Break (m d))) shown own are n none)
 
--- what one test chooses, where the other way gives the same
+-- what one test chooses, where the other way is the same
 chosen : {X : Type 0} (b : Bool) (x y : X) → (b ≡ false → x ≡ y) → x ≡ cond b x y
 chosen true x y same = refl
 chosen false x y same = same refl
@@ -64,7 +65,7 @@ module _ (f : FileModel) (count : ℕ) (m : ℕ → List Annotation) where
 
 -- ---- labels in order
 
--- the labels of all snippet lines are in order, and their marks in so many lanes
+-- the labels of all snippet lines are in order, and their multi-line label marks in so many lanes
 pub snippet_lines-fit : (count : ℕ) (m : ℕ → List Annotation) → ((l : ℕ) → do_annotations_fit count (m l) ≡ true) → ((l : ℕ) → do_marks_fit count (m l) ≡ true)
     → (was : Option ℕ) (ds : List ℕ) → AllByRecursion (λ snippet_line. does_line_fit count snippet_line ≡ true) (steps_after m was ds)
 snippet_lines-fit count m fit marks_fit = all-sequence (λ snippet_line. does_line_fit count snippet_line ≡ true) (λ l. l) (gap_between (λ l. Filled l (m l) ∷ []) (λ d. Break (m d) ∷ [])) (λ l. Labeled l (m l) ∷ [])
@@ -73,7 +74,7 @@ snippet_lines-fit count m fit marks_fit = all-sequence (λ snippet_line. does_li
 -- ---- the lines of snippet lines
 
 module _ (m : ℕ → List Annotation) (shown : ℕ → Bool) where
-  -- the snippet lines draw the shown lines and those between two of them
+  -- the snippet lines are the shown lines and those between two of them
   pub snippet_lines-lines : (n : ℕ) → ((l : ℕ) → n ≤ l → shown l ≡ false)
       → lines_of_steps (steps_after m None (filter shown (range_with_len 0 n))) ≡ filter (is_filled shown) (range_with_len 0 n)
   snippet_lines-lines n none =

@@ -17,22 +17,22 @@ cut-of_map {X} {Y} f n k xs = ap (λ (l : List Y). take n l) (drop-map f k xs) �
 abbrev pub given : {Id : Type 0} → List (RustAnnotation Id) → List Annotation
 given xs = map annotation_view xs
 
--- those from one place up to another
+-- those from one index up to another
 abbrev pub between : {Id : Type 0} → List (RustAnnotation Id) → ℕ → ℕ → List (RustAnnotation Id)
 between xs from to = take (to - from) (drop from xs)
 
--- the index of the line of the annotation at a place
+-- the index of the line of the annotation at an index
 abbrev pub index_at : {Id : Type 0} → List (RustAnnotation Id) → ℕ → RustAnnotation Id → ℕ
 index_at xs at d = (get_or xs at d).line.index
 
--- so many annotations from a place on are the next group
+-- so many annotations from an index on are the next group
 record IsGivenGroup {Id : Type 0} (xs : List (RustAnnotation Id)) (at n : ℕ) (d : RustAnnotation Id) : Type 0 where
   next : IsGroup (given xs) at n (annotation_view d)
   line : (get_or (given xs) at (annotation_view d)).line ≡ index_at xs at d
   group : part (given xs) at n ≡ given (next_part xs at n)
   shown : shows_line (get_or (given xs) at (annotation_view d)) ≡ shows_line (annotation_view (get_or xs at d))
 
--- so many annotations from a place on are of the line of the annotation there
+-- so many annotations from an index on are of the line of the annotation there
 pub record IsCounted {Id : Type 0} (xs : List (RustAnnotation Id)) (at n : ℕ) (d : RustAnnotation Id) : Type 0 where
   pub inside : at < length xs
   pub is : n ≡ prefix_len (λ e. is_on_line (index_at xs at d) (annotation_view e)) (take (length xs - at) (drop at xs))
@@ -61,15 +61,16 @@ given_group-len xs at n d counted =
     let g = given_group xs at n d counted in
     (g.next.some, omega (arith, counted.within, length-take (length xs - at) (drop at xs), length-drop at xs, counted.inside))
 
--- the snippet lines up to a shown line: what stands before it, and the line itself
+-- the snippet lines up to a shown line: what is before it, and the line itself
 abbrev pub shown_steps : {Id : Type 0} → List (RustAnnotation Id) → ℕ → ℕ → ℕ → RustAnnotation Id → Option ℕ → List SnippetLine
 shown_steps xs from at n d was = lines_to was (given (between xs from at)) (index_at xs at d) (given (next_part xs at n))
 
--- the snippet lines of the annotations that are left, where those of a hidden line before them start at a place
+-- the snippet lines of the annotations that are left, where those of a hidden line before them
+-- start at an index
 abbrev pub steps_left : {Id : Type 0} → List (RustAnnotation Id) → ℕ → ℕ → Option ℕ → List SnippetLine
 steps_left xs from at was = lines_from was (given (between xs from at)) (groups (drop at (given xs)))
 
--- no annotation is between a place and itself
+-- no annotation is between an index and itself
 between-none : {Id : Type 0} (xs : List (RustAnnotation Id)) (k : ℕ) → between xs k k ≡ []
 between-none xs k = let e : k - k ≡ 0 = omega arith in ap (λ n. take n (drop k xs)) e
 

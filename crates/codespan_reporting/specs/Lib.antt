@@ -1,4 +1,4 @@
--- what stands below: files, labels, streams, writers, tables
+-- the definitions of the crates below: files, labels, streams, writers, tables
 pub use Rattle.codespan_base.specs.FileModel
 pub use Rattle.codespan_base.specs.SimpleModel
 pub use Rattle.codespan_base.specs.MappedModel
@@ -12,7 +12,7 @@ pub use Rattle.codespan_base.specs.Characters
 pub use Rattle.codespan_base.specs.Defaults
 pub use Rattle.codespan_base.specs.StyleTables
 pub use Rattle.codespan_base.specs.Ansi
--- the picture
+-- the output
 pub use Rattle.codespan_picture.specs.Cells
 pub use Rattle.codespan_picture.specs.Carets
 pub use Rattle.codespan_picture.specs.Lanes
@@ -27,7 +27,7 @@ pub use Rattle.codespan_picture.specs.Picture
 pub use Rattle.codespan_picture.specs.StatedPicture
 pub use Rattle.codespan_picture.specs.Lookups
 pub use Rattle.codespan_picture.specs.Given
--- what a picture means
+-- what an output means
 pub use Rattle.codespan_laws.specs.CaretLaws
 pub use Rattle.codespan_laws.specs.ColourLaws
 pub use Rattle.codespan_laws.specs.LaneLaws
@@ -41,7 +41,7 @@ pub use Rattle.codespan_laws.specs.StatedNames
 pub use Rattle.codespan_laws.specs.Meanings
 -- a renderer, as its contracts see it
 pub use Rattle.codespan_renderer.specs.Renderers
--- the calls that draw a diagnostic
+-- the calls that render a diagnostic
 pub mod Failures
 pub mod Output
 pub mod WriteCalls

@@ -1,4 +1,4 @@
-//! Worked rows by direct calls.
+//! Tests of worked rows by direct calls.
 
 mod flushing;
 mod stopping;
@@ -14,7 +14,7 @@ use std::io::Write;
 use std::process::Abort;
 use std::test::Fail;
 
-/// A line as it is handed in.
+/// The arguments of a line.
 #[derive(Clone, Copy)]
 struct Given<'a> {
     number: usize,
@@ -25,7 +25,7 @@ struct Given<'a> {
 }
 
 impl<'a> Given<'a> {
-    /// The first line of a text, with labels of its own alone.
+    /// Returns the first line of a text, with single-line labels alone.
     fn labelled(text: &'a str, labels: &'a [SingleLabel<'a>]) -> Given<'a> {
         Given {
             number: 1,
@@ -37,7 +37,7 @@ impl<'a> Given<'a> {
     }
 }
 
-/// Draws a line. Its lanes are in order, as the call asks.
+/// Renders a line. Its lanes are in order, as the call requires.
 fn draw_line<W: WriteStyle>(
     rt: &impl Abort,
     renderer: &mut Renderer<'_, '_, W>,
@@ -55,15 +55,15 @@ fn draw_line<W: WriteStyle>(
     )
 }
 
-/// Draws a line to a writer, by the default configuration.
+/// Renders a line to a writer, by the default configuration.
 fn draw_on<W: WriteStyle>(rt: &impl Abort, w: &mut W, given: Given<'_>) -> Result<(), Error> {
     let config = Config::default();
     draw_line(rt, &mut Renderer::new(w, &config), given)
 }
 
-/// Rows that direct calls draw.
+/// Rows that direct calls render.
 trait Rows {
-    /// Draws them.
+    /// Renders them.
     fn draw<W: WriteStyle>(
         &self,
         rt: &impl Abort,
@@ -72,7 +72,7 @@ trait Rows {
 }
 
 impl<'a> Rows for Given<'a> {
-    /// Draws the line.
+    /// Renders the line.
     fn draw<W: WriteStyle>(
         &self,
         rt: &impl Abort,
@@ -82,8 +82,8 @@ impl<'a> Rows for Given<'a> {
     }
 }
 
-/// The rows are this text: plain, in no colours, and by escape sequences, once they are taken out; and a beginning of it where a writer
-/// stops.
+/// Asserts that the rows are this text: plain, over [`NoColor`], and over [`Ansi`] once the escape
+/// sequences are taken out; and a prefix of it where a writer stops.
 fn assert_rows<R: Rows>(
     rt: &impl Abort,
     alloc: Global,
@@ -160,7 +160,7 @@ fn wide_and_combining(rt: HostRuntime) -> Result<(), Fail> {
     Ok(())
 }
 
-/// Carets stand under all cells of a character that a range cuts.
+/// Carets are under all cells of a character that a range cuts.
 #[test]
 fn moon_jump(rt: HostRuntime) -> Result<(), Fail> {
     let message = "Cow does not start or end at boundary.";
@@ -221,7 +221,8 @@ fn coloured_label(rt: HostRuntime) -> Result<(), Fail> {
 const COLOURED: &str = "\x1b[0m\x1b[36m1\x1b[0m \x1b[0m\x1b[36m│\x1b[0m a\x1b[0m\x1b[31mb\x1b[0mc\n\
     \x20 \x1b[0m\x1b[36m│\x1b[0m  \x1b[0m\x1b[31m^\x1b[0m \x1b[0m\x1b[31mm\x1b[0m\n";
 
-/// A header, then the same and each other mark through the renderer as a writer of its own.
+/// Renders a header, then writes the same header and each other style mark through the renderer as
+/// a writer.
 fn draw_header<W: WriteStyle>(w: &mut W) -> Result<(), Error> {
     let config = Config::default();
     let mut renderer = Renderer::new(w, &config);
@@ -252,7 +253,7 @@ fn coloured_header(rt: HostRuntime) -> Result<(), Fail> {
     Ok(())
 }
 
-/// The lines of a text with two labels over several lines whose underlines cross.
+/// Renders the lines of a text with two multi-line labels whose underlines cross.
 fn draw_crossing<W: WriteStyle>(
     rt: &impl Abort,
     renderer: &mut Renderer<'_, '_, W>,
@@ -293,14 +294,14 @@ fn draw_crossing<W: WriteStyle>(
     draw_line(rt, renderer, given)
 }
 
-/// A picture with two labels over several lines whose underlines cross.
+/// An output with two multi-line labels whose underlines cross.
 #[derive(Drop)]
 struct CrossingLanes {
     locus: Locus,
 }
 
 impl Rows for CrossingLanes {
-    /// Draws all of its rows.
+    /// Renders all of its rows.
     fn draw<W: WriteStyle>(
         &self,
         rt: &impl Abort,
@@ -324,7 +325,7 @@ fn crossing_lanes(rt: HostRuntime) -> Result<(), Fail> {
     Ok(())
 }
 
-/// The place of a line and a column of a file.
+/// Returns the locus of a line and a column of a file.
 fn locus_of(
     alloc: Global,
     name: &str,
@@ -345,7 +346,7 @@ fn locus_of(
 struct NotePieces;
 
 impl Rows for NotePieces {
-    /// Draws both, and the empty line at the end.
+    /// Renders both, and the empty line at the end.
     fn draw<W: WriteStyle>(
         &self,
         _rt: &impl Abort,
@@ -364,14 +365,14 @@ fn note_pieces(rt: HostRuntime) -> Result<(), Fail> {
     Ok(())
 }
 
-/// A header with a place and a code, and one with neither.
+/// A header with a locus and a code, and one with neither.
 #[derive(Drop)]
 struct MediumAndShort {
     locus: Locus,
 }
 
 impl Rows for MediumAndShort {
-    /// Draws both.
+    /// Renders both.
     fn draw<W: WriteStyle>(
         &self,
         _rt: &impl Abort,

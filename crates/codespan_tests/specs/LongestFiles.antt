@@ -81,7 +81,7 @@ unfolding longest_starts
 start_at i h =
     omega (arith, get_or-range_with_len 0 (greatest + 1) i 0 (omega (arith, h, greatest_is)))
 
--- each place in the text is a boundary
+-- each index of the text is a boundary
 cut_at : (i : ℕ) → i < length longest_starts
     → IsCharBoundary longest_text (slice_index longest_starts i)
 cut_at i h =

@@ -1,4 +1,4 @@
-//! The public calls, where no table of `writer_runs` says the text.
+//! Tests of the public calls whose texts are in no table of `writer_runs`.
 
 mod drawing;
 mod endless;

@@ -1,2 +1,2 @@
--- how worked pictures are written down
+-- how worked outputs are written down
 pub mod Worked

@@ -56,7 +56,7 @@ from_zero f = record f {
   };
 }
 
--- what a diagnostic says besides its labels
+-- a diagnostic without its labels
 pub record Said : Type 0 where
   pub severity : Severity
   pub code : Option (List ℕ)
@@ -104,7 +104,7 @@ medium config said files labels = shown Medium config said files labels
 abbrev pub short : Config → Said → List FileModel → List (InFile ℕ) → Stream
 short config said files labels = shown Short config said files labels
 
--- ---- texts that stand in several of them
+-- ---- texts of several of them
 
 -- an example of the crate: two files
 abbrev pub nat_files : List FileModel
@@ -116,7 +116,7 @@ nat_files =
     ++ codes "_ : Nat\n_ = 123 + \"hello\"\n")
     ∷ []
 
--- what is said of them
+-- the diagnostic over them, without its labels
 abbrev pub nat_error : Said
 nat_error =
     with_note (codes "expected type `Nat`\n   found type `String`\n")
@@ -128,7 +128,7 @@ abbrev pub tabbed_file : FileModel
 tabbed_file = text_file (codes "tabbed") (codes "Entity:\n\tArmament:\n\t\tWeapon: DogJaw\n"
     ++ codes "\t\tReloadingCondition:\tattack-cooldown\n\tFoo: Bar")
 
--- ---- rows that are handed in
+-- ---- rows of direct calls
 
 -- a line with labels inside it alone
 abbrev pub line_of_labels : ℕ → List ℕ → List (InFile ℕ) → Line
@@ -149,7 +149,7 @@ bars_in lanes = map (λ lane. (lane, Primary, given.Left)) lanes
 abbrev pub many_lines : FileModel
 many_lines = text_file (codes "f") (flat_map (λ _. codes "abcdefgh\n") (range_with_len 0 50))
 
--- a label on one of them, two bytes long; its place in the list is the number
+-- a label on one of them, two bytes long; the number is its index in the list
 abbrev pub one_of_many : ℕ → InFile ℕ
 one_of_many i =
     let start = 9 * (i % 50) + i / 50 in
@@ -174,6 +174,6 @@ odds = map (λ k. one_of_many (2 * k + 1)) (range_with_len 0 100)
 abbrev pub rows : List (List ℕ) → List ℕ
 rows rs = flat_map (λ r. encode_utf8_all r ++ 10 ∷ []) rs
 
--- how a writer of escape sequences in the default styles spells the marks
+-- how a writer of escape sequences in the default styles spells style marks
 abbrev pub ansi : Spelling
 ansi = spelling_by default_styles ansi_style ansi_reset

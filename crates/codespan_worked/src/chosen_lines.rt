@@ -1,4 +1,4 @@
-//! Worked pictures of chosen lines, several files and notes.
+//! Worked outputs of shown lines, several files and notes.
 
 ghost use Rattle.std.specs.Prelude.{◌≡◌, ◌++◌, [], ◌∷◌, codes};
 ghost use Rattle.codespan_base.specs.Defaults.{default_config};
@@ -27,7 +27,7 @@ fn surrounding_lines()
         ∷ [] ∷ []) }
 {}
 
-/// Files stand in the order of their first labels.
+/// Files are in the order of their first labels.
 fn two_files()
     ensures { text_of (rich default_config nat_error
         nat_files
@@ -79,7 +79,7 @@ fn long_number_pushes_row()
         ∷ [] ∷ []) }
 {}
 
-/// In the unbroken layout it has room.
+/// In the unbroken layout the padding fits it.
 fn unbroken_padding()
     ensures { text_of (rich (record default_config { after_label_lines = 1; layout = Unbroken })
         (says Error [])
@@ -94,7 +94,7 @@ fn unbroken_padding()
         ∷ [] ∷ []) }
 {}
 
-/// A gap of one line is filled, a longer one is broken.
+/// Between shown lines one line is filled in, and of more there is a break.
 fn fills_and_breaks()
     ensures { text_of (rich default_config (says Error [])
         (text_file (codes "f") (codes "a\nb\nc\nd\ne\nf\ng") ∷ [])
@@ -141,7 +141,7 @@ fn script_run()
         ∷ [] ∷ []) }
 {}
 
-/// A script's fault: a word that is unknown.
+/// An error of a script: an unknown word.
 fn script_unknown_word()
     ensures { text_of (rich default_config
         (with_code (codes "S1") (says Error (codes "unknown word")))
@@ -156,7 +156,7 @@ fn script_unknown_word()
         ∷ [] ∷ []) }
 {}
 
-/// A script's fault: a word that comes again.
+/// An error of a script: a repeated word.
 fn script_repeated_word()
     ensures { text_of (rich default_config
         (with_code (codes "S4") (says Error (codes "repeated word")))
@@ -173,7 +173,7 @@ fn script_repeated_word()
         ∷ [] ∷ []) }
 {}
 
-/// A script's fault: no number.
+/// An error of a script: no number.
 fn script_bad_number()
     ensures { text_of (rich default_config
         (with_code (codes "S3") (says Error (codes "bad number")))
@@ -187,7 +187,7 @@ fn script_bad_number()
         ∷ [] ∷ []) }
 {}
 
-/// A script's fault: no end.
+/// An error of a script: no end.
 fn script_bad_end()
     ensures { text_of (rich default_config
         (with_code (codes "S5") (says Error (codes "missing end of script")))

@@ -1,5 +1,5 @@
-//! Worked pictures: each function does nothing, and its contract is one picture of the definitions,
-//! computed.
+//! Worked outputs: each function does nothing, and its contract is one output, computed from the
+//! definitions.
 #![tactic(auto, unfolding(crate::specs::Worked::worked_words))]
 
 mod chosen_lines;

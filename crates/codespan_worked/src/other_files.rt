@@ -1,5 +1,4 @@
-//! Worked pictures over files whose lines have numbers of their own, and of many labels in several
-//! orders.
+//! Worked outputs over files whose line numbers are set, and of many labels in several orders.
 
 ghost use Rattle.std.specs.Prelude.{◌≡◌, ◌∷◌, [], ◌++◌, codes, reverse};
 ghost use Rattle.codespan_base.specs.Defaults.{default_config};
@@ -37,7 +36,7 @@ fn line_number_zero()
         ∷ [] ∷ []) }
 {}
 
-/// In short style one header for the one label: what comes before a file that is missing.
+/// In short style one header for the one label: what is written before a missing file.
 fn missing_file_short()
     ensures { text_of (short default_config (says Error (codes "m"))
         (text_file (codes "f") (codes "ab") ∷ [])
@@ -45,8 +44,8 @@ fn missing_file_short()
         ≡ rows (codes "f:1:1: error: m" ∷ []) }
 {}
 
-/// Two hundred labels of fifty lines: neither the reverse order nor the odd ones first change the
-/// picture.
+/// Two hundred labels on fifty lines: neither the reverse order nor the odd ones first change the
+/// output.
 fn label_orders()
     ensures reversed { text_of
         (rich default_config (says Error []) (many_lines ∷ []) (reverse many_labels))

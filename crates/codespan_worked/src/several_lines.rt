@@ -1,4 +1,4 @@
-//! Worked pictures of labels over several lines.
+//! Worked outputs of multi-line labels.
 
 ghost use Rattle.std.specs.Prelude.{◌≡◌, ◌++◌, [], ◌∷◌, codes};
 ghost use Rattle.codespan_base.specs.Defaults.{default_config};
@@ -23,7 +23,7 @@ fn from_line_start()
         ∷ [] ∷ []) }
 {}
 
-/// Two lanes, with a break between chosen lines.
+/// Two lanes, with a break between shown lines.
 fn empty_elseif()
     ensures { text_of (rich (record default_config { start_context_lines = 2 })
         (with_code (codes "empty_if") (says Error (codes "empty elseif block")))
@@ -96,7 +96,7 @@ fn crossing_lanes()
         ∷ [] ∷ []) }
 {}
 
-/// What `report` draws over two lines.
+/// The output of `report` over two lines.
 fn report_two_lines()
     ensures { text_of (rich default_config (says Error (codes "bad"))
         (text_file (codes "f.txt") (codes "abc\nd") ∷ [])
@@ -135,7 +135,7 @@ fn other_bottom_characters()
         ∷ [] ∷ []) }
 {}
 
-/// A start after its end, on another line: no line bears a bar.
+/// A start after its end, on another line: no line has a bar.
 fn reversed_over_lines()
     ensures { text_of (rich default_config (says Error [])
         (text_file (codes "f") (codes "ab\ncd") ∷ [])

@@ -1,4 +1,4 @@
-//! Worked pictures of labels inside one line.
+//! Worked outputs of single-line labels.
 
 ghost use Rattle.std.specs.Prelude.{◌≡◌, ◌++◌, [], ◌∷◌, codes};
 ghost use Rattle.codespan_base.specs.Defaults.{default_config};
@@ -204,7 +204,7 @@ fn moon_jump()
         ∷ [] ∷ []) }
 {}
 
-/// Of three equal ranges the one given last hangs last.
+/// Of three equal ranges the last label hangs last.
 fn three_equal_ranges()
     ensures { text_of (rich default_config (says Error [])
         (text_file (codes "f") (codes "abc") ∷ [])
@@ -241,7 +241,7 @@ fn wide_pointers()
         ∷ [] ∷ []) }
 {}
 
-/// The greatest place.
+/// An empty range at the greatest byte index.
 fn greatest_positions()
     ensures { text_of (rich default_config (says Error [])
         (text_file (codes "f") (codes "ab") ∷ [])
@@ -254,7 +254,7 @@ fn greatest_positions()
         ∷ [] ∷ []) }
 {}
 
-/// From the greatest place to 0.
+/// From the greatest byte index to 0.
 fn greatest_positions_reversed()
     ensures { text_of (rich default_config (says Error [])
         (text_file (codes "f") (codes "ab") ∷ [])
@@ -267,7 +267,7 @@ fn greatest_positions_reversed()
         ∷ [] ∷ []) }
 {}
 
-/// What the program `report` draws in its stored run.
+/// The output of `report` in its stored run.
 fn report_run()
     ensures { text_of (rich default_config (says Error (codes "bad"))
         (text_file (codes "f.txt") (codes "abc\n") ∷ [])

@@ -1,4 +1,4 @@
-//! Worked pictures in short and medium style, and in colours.
+//! Worked outputs in short and medium style, and in colors.
 
 ghost use Rattle.std.specs.Prelude.{◌≡◌, ◌++◌, [], ◌∷◌, codes};
 ghost use Rattle.codespan_base.specs.Defaults.{default_config};
@@ -13,7 +13,7 @@ fn bare_bug_short()
         ≡ rows (codes "bug: " ∷ []) }
 {}
 
-/// Medium style: a header with its place, and the notes.
+/// Medium style: a header with its locus, and the notes.
 fn medium()
     ensures { text_of (medium default_config nat_error
         nat_files
@@ -24,7 +24,7 @@ fn medium()
         ∷ codes "      found type `String`" ∷ []) }
 {}
 
-/// Short style: a header with its place.
+/// Short style: a header with its locus.
 fn short()
     ensures { text_of (short default_config nat_error
         nat_files
@@ -56,7 +56,7 @@ fn report_medium()
         ≡ rows (codes "f.txt:1:1: error: bad" ∷ []) }
 {}
 
-/// A script's fault in short style.
+/// The error of a script, in short style.
 fn script_bad_end_short()
     ensures { text_of (short default_config
         (with_code (codes "S5") (says Error (codes "missing end of script")))
@@ -65,13 +65,13 @@ fn script_bad_end_short()
         ≡ rows (codes "script:1:1: error[S5]: missing end of script" ∷ []) }
 {}
 
-/// The marks of a header, in escape sequences.
+/// The style marks of a header, in escape sequences.
 fn coloured_header()
     ensures { spelled ansi (short default_config (says Error (codes "m")) [] [])
         ≡ rows (codes "\u{1b}[0m\u{1b}[1m\u{1b}[38;5;9merror\u{1b}[0m\u{1b}[1m: m\u{1b}[0m" ∷ []) }
 {}
 
-/// The marks of a label's rows, in escape sequences.
+/// The style marks of a label's rows, in escape sequences.
 fn coloured_label()
     ensures { spelled ansi (rich default_config (says Error [])
         (text_file (codes "f") (codes "abc") ∷ [])

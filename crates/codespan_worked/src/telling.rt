@@ -1,4 +1,4 @@
-//! Pictures that tell wrong bodies apart, each named for the rule that it shows.
+//! Worked outputs that kill mutants, each named for the rule that it shows.
 
 ghost use Rattle.std.specs.Prelude.{◌≡◌, ◌++◌, [], ◌∷◌, codes};
 ghost use Rattle.codespan_base.specs.Defaults.{default_config};
@@ -51,8 +51,7 @@ fn padding_of_all_lines()
         ∷ [] ∷ []) }
 {}
 
-/// A label over several lines colours its last line up to its end, and no character that reaches
-/// past it.
+/// A multi-line label colors its last line up to its end, and no character that reaches past it.
 fn bottom_colours_to_its_end()
     ensures { spelled ansi (rich default_config (says Error [])
         (text_file (codes "f") (codes "\n𝔸") ∷ [])
@@ -69,7 +68,7 @@ fn bottom_colours_to_its_end()
         ∷ [] ∷ []) }
 {}
 
-/// A label over several lines colours its first line from its start.
+/// A multi-line label colors its first line from its start.
 fn top_colours_from_its_start()
     ensures { spelled ansi (rich (record default_config { end_context_lines = 0 }) (says Error [])
         (text_file (codes "f") (codes "a\n") ∷ [])
@@ -86,7 +85,7 @@ fn top_colours_from_its_start()
         ∷ [] ∷ []) }
 {}
 
-/// A secondary label colours no text.
+/// A secondary label colors no text.
 fn secondary_colours_nothing()
     ensures { spelled ansi (rich default_config (says Error [])
         (text_file (codes "f") (codes "\na") ∷ [])
@@ -103,7 +102,7 @@ fn secondary_colours_nothing()
         ∷ [] ∷ []) }
 {}
 
-/// An underline that passes a bar keeps its colour, and the bar its own.
+/// An underline that passes a bar keeps its color, and the bar its own.
 fn underline_has_its_own_colour()
     ensures { spelled ansi (rich default_config (says Error [])
         (text_file (codes "f") (codes "\n") ∷ [])
@@ -124,7 +123,7 @@ fn underline_has_its_own_colour()
         ∷ [] ∷ []) }
 {}
 
-/// Of labels that hang from one character a primary one gives the pointer its colour.
+/// Where a primary label hangs from a character, the pointer has its color.
 fn primary_pointer_first()
     ensures { spelled ansi (rich default_config (says Error [])
         (text_file (codes "f") (codes "a") ∷ [])
@@ -142,7 +141,7 @@ fn primary_pointer_first()
         ∷ [] ∷ []) }
 {}
 
-/// A NUL at the end of a line is not drawn.
+/// A NUL at the end of a line is not rendered.
 fn nul_is_trimmed()
     ensures { text_of (rich default_config (says Error [])
         (text_file (codes "f") (codes "\0") ∷ [])
@@ -169,7 +168,7 @@ fn leading_whitespace_of_any_kind()
         ∷ [] ∷ []) }
 {}
 
-/// A pointer on a character of no width is drawn.
+/// A pointer under a character of no width is rendered.
 fn pointer_on_no_cell()
     ensures { text_of (rich (record default_config { end_context_lines = 0 }) (says Error [])
         (text_file (codes "f") (codes "\0a") ∷ [])
@@ -244,7 +243,7 @@ fn no_placeholder_in_pointers()
         ∷ [] ∷ []) }
 {}
 
-/// A caret may stand at the end of the line.
+/// A caret may be at the end of the line.
 fn placeholder_in_carets()
     ensures { text_of (rich default_config (says Error [])
         (text_file (codes "f") [] ∷ [])
@@ -270,7 +269,7 @@ fn tabs_count_from_line_start()
         ∷ [] ∷ []) }
 {}
 
-/// Lanes stand in the order of the labels given.
+/// Lanes are in the order of the labels.
 fn lanes_in_given_order()
     ensures { text_of (rich default_config (says Error [])
         (text_file (codes "f") (codes "\n") ∷ [])
@@ -286,7 +285,7 @@ fn lanes_in_given_order()
         ∷ [] ∷ []) }
 {}
 
-/// A snippet's place is that of its first primary label.
+/// The locus of a snippet is that of its first primary label.
 fn locus_of_primary_first()
     ensures { text_of (rich (record default_config { end_context_lines = 0 }) (says Error [])
         (text_file (codes "f") (codes "\n") ∷ [])
@@ -398,7 +397,7 @@ fn underline_characters_of_bottom()
         ∷ [] ∷ []) }
 {}
 
-/// The context lines of a label's start stand after its first line, those of its end before its
+/// The context lines of a label's start are after its first line, those of its end before its
 /// last.
 fn context_of_start_and_end()
     ensures { text_of (rich (record default_config { end_context_lines = 0 }) (says Error [])
@@ -446,7 +445,7 @@ fn carriage_return_of_note()
         ∷ [] ∷ []) }
 {}
 
-/// An empty row stands between two files.
+/// There is an empty row between two files.
 fn empty_row_between_files()
     ensures { text_of (rich default_config (says Error [])
         (text_file (codes "f") [] ∷ text_file (codes "f") [] ∷ [])

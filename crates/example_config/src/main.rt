@@ -63,7 +63,7 @@ impl Problem {
     }
 }
 
-/// Returns the words of a text: runs of letters and digits, and other bytes but blanks.
+/// Returns the words of a text: runs of letters and digits, and single newlines and other bytes.
 fn lex(alloc: Global, text: &str) -> Result<Vec<Word>, AllocError>
     ensures { IfOk result (λ words. All (λ w. w.end ≤ length text.now) words.items) }
 {

@@ -1,11 +1,14 @@
-//! `example_errors` reports three errors of an application's own error type, over one text of settings.
+//! `example_errors` reports three errors of an application's error type, over one text of settings.
 #![tactic(auto)]
 
+mod render;
 mod settings;
 
-use codespan_reporting::files::{Error, SimpleFile};
-use codespan_reporting::term::{Config, emit_to_io_write};
+use codespan_reporting::files::{Error, SimpleFiles};
+use codespan_reporting::term::Config;
+use render::render_all;
 use settings::{Key, SettingsError};
+use std::io::Write;
 
 /// The settings, with three errors.
 const SETTINGS: &str = "\
@@ -17,8 +20,8 @@ port = 80
 
 fn main(rt: HostRuntime) -> Result<(), Error> {
     let alloc = rt.alloc();
-    let config = Config::default();
-    let file = SimpleFile::new(alloc, "server.conf", SETTINGS)?;
+    let mut files = SimpleFiles::new(alloc);
+    let id = files.add("server.conf", SETTINGS)?;
     let errors = [
         SettingsError::NotANumber {
             key: Key::Workers,
@@ -34,9 +37,11 @@ fn main(rt: HostRuntime) -> Result<(), Error> {
             again: 39..43,
         },
     ];
+    let mut diagnostics = Vec::new(alloc);
     for error in &errors {
-        let diagnostic = error.diagnostic(alloc, ())?;
-        emit_to_io_write(&mut rt.stdout(), &config, &file, &diagnostic)?;
+        diagnostics.push(error.diagnostic(alloc, id)?)?;
     }
+    let text = render_all(alloc, &Config::default(), &files, &diagnostics)?;
+    rt.stdout().write_all(text.as_bytes())?;
     Ok(())
 }

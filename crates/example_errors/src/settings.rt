@@ -1,4 +1,4 @@
-//! What can be wrong in the settings of a server, and how that is reported.
+//! The errors in the settings of a server, and their diagnostics.
 
 ghost use Rattle.std.specs.Prelude.{◌≡◌, IfOk, IsSome, IfSome, slice_get};
 ghost use Rattle.example_errors.specs.Places.{wrong_bytes};
@@ -32,28 +32,28 @@ impl fmt::Display for Key {
     }
 }
 
-/// What is wrong in a text of settings. Ranges are bytes of the text.
+/// An error in a text of settings. Ranges are in bytes of the text.
 #[derive(Drop)]
 pub enum SettingsError {
     /// The value of a key is not a number.
     NotANumber {
         /// The key.
         key: Key,
-        /// Where its value stands.
+        /// The range of its value.
         value: Range<usize>,
     },
     /// A key is set twice.
     SetTwice {
         /// The key.
         key: Key,
-        /// Where it stands first.
+        /// The range of the key, where it is set first.
         first: Range<usize>,
-        /// Where it stands again.
+        /// The range of the key, where it is set again.
         again: Range<usize>,
     },
-    /// A key is none of the settings.
+    /// A line sets an unknown key.
     UnknownKey {
-        /// Where the word stands.
+        /// The range of the key.
         name: Range<usize>,
         /// The key that may have been meant.
         meant: Option<Key>,
@@ -61,7 +61,8 @@ pub enum SettingsError {
 }
 
 impl SettingsError {
-    /// The diagnostic of the error, in this file. Its first label is on the bytes that are wrong.
+    /// Returns the diagnostic of the error, in this file. Its first label is on the bytes that are
+    /// wrong.
     pub fn diagnostic<FileId: Copy + Drop>(
         &self,
         alloc: Global,

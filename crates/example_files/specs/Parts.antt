@@ -13,7 +13,7 @@ abbrev pub of_part : {A : Type 0} → A → A → Part → A
 of_part schema document Schema = schema
 of_part schema document Document = document
 
--- parts are one where an equality that tells them apart says so
+-- where an equality that separates the two parts holds of parts, they are one
 pub one_part : (eq : Part → Part → Bool) → (eq Schema Document ≡ true → ⊥)
     → (eq Document Schema ≡ true → ⊥) → (i j : Part) → eq i j ≡ true → i ≡ j
 one_part eq left right Schema Schema e = refl

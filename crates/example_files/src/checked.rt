@@ -9,7 +9,7 @@ use std::alloc::Global;
 use std::fmt;
 use std::ops::Range;
 
-/// Which of the two files. It is the id of the file, and its name too.
+/// One of the two files: its id, and its name too.
 #[derive(Clone, Copy, PartialEq, Eq)]
 pub enum Part {
     /// The schema.
@@ -39,7 +39,7 @@ pub struct Checked<'text> {
 }
 
 impl<'text> Checked<'text> {
-    /// A document of these texts. Fails with `OutOfMemory` alone.
+    /// Returns a document of these texts. Fails with `OutOfMemory` alone.
     pub fn new(alloc: Global, schema: &'text str, document: &'text str) -> Result<Self, Error>
         ensures schema { IfOk result (λ c. (source_of c.schema).now ≡ schema.now) }
         ensures document { IfOk result (λ c. (source_of c.document).now ≡ document.now) }
@@ -51,7 +51,7 @@ impl<'text> Checked<'text> {
         })
     }
 
-    /// The file of a part.
+    /// Returns the file of a part.
     pub fn file(&self, part: Part) -> &SimpleFile<Part, &'text str>
         ensures { result.now ≡ of_part self.now.schema self.now.document part }
     {
@@ -120,7 +120,7 @@ impl<'a, 'text: 'a> Files<'a> for Checked<'text> {
 
     ghost same_is = { λ s. refl };
 
-    // A line past the last fails as there.
+    // A line past the last one fails as there.
     ghost past_end = { λ s id i.
         simple_past_end (part_name id) (source_of (of_part s.schema s.document id)).now i };
 }

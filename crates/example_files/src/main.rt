@@ -1,4 +1,5 @@
-//! `example_files` prints an error over a file database of its own, whose two files are a document and its schema.
+//! `example_files` prints an error over a custom file database, whose two files are a document and
+//! its schema.
 #![tactic(auto)]
 
 mod checked;

@@ -1,7 +1,8 @@
-//! `example_preview` prints one error of a compiler three times: in rich style in color, and in medium and short style as plain text.
+//! `example_preview` prints one error of a compiler three times: in rich style in color, and in
+//! medium and short style as plain text.
 //!
-//! The compiler is that of an invented language with units of measure. The error has labels in two files, one of them over several lines,
-//! and two notes.
+//! The compiler is that of an invented language with units of measure. The error has labels in two
+//! files, one of them a multi-line label, and two notes.
 #![tactic(auto)]
 
 use codespan_reporting::diagnostic::{Diagnostic, Label};
@@ -32,7 +33,7 @@ unit Time = s
 unit Speed = Length / Time
 ";
 
-/// The error: a length is passed where a speed is expected.
+/// Returns the error: a length is passed where a speed is expected.
 fn mismatched_units(
     alloc: Global,
     flight: usize,

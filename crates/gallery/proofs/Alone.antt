@@ -1,4 +1,4 @@
--- What holds over the tables of a case.
+-- What holds over the file database of a case.
 use Rattle.std.proofs.Common.{◌≡◌, ℕ, List, [], map, Result, Ok, Err, OnOk, IfOk, sym, subst}
 use Rattle.codespan_base.specs.declared.diagnostic.Diagnostic.{Diagnostic}
 use Rattle.codespan_base.specs.FileModel.{FileDatabase}
@@ -16,7 +16,7 @@ over_several case files Holds table same holds =
     subst (λ t. InTable t case Holds) (sym table) among
 
 module _ (case : Case) (name source : List ℕ) (said : Diagnostic (Unit {0})) (alone : StandsAlone case name source said) (Holds : Shown) where
-  -- it holds over such a database of a file that stands alone
+  -- it holds over such a database of its only file
   over_one_file : (database : List ℕ → List ℕ → FileDatabase (Unit {0}))
       → Holds (Unit {0}) (database name source) said → IsAlone database case Holds
   over_one_file database holds = record { name = name; source = source; said = said; only = alone.only; same = alone.same; holds = holds }
@@ -35,7 +35,7 @@ module _ (case : Case) (name source : List ℕ) (said : Diagnostic (Unit {0})) (
       (subst (λ ns. IsAlone (mapped_database ns) case Holds) set
       (over_one_file (mapped_database numbers) holds))
 
--- this holds of what a call answers, where that does
+-- this holds of what a call returns, where that does
 pub ok_follows : {T E : Type 0} {P Q : T → Type 0} (r : Result T E) → ((x : T) → P x → Q x) → IfOk r P → IfOk r Q
 ok_follows (Ok x) follows holds = follows x holds
 ok_follows (Err error) follows holds = tt

@@ -1,4 +1,4 @@
--- What is read of escapes, and of escaped texts.
+-- What is parsed of escapes, and of escaped texts.
 use Rattle.std.proofs.Common.{◌≡◌, ◌<◌, ℕ, List, [], ◌∷◌, ◌++◌, Option, Some, None, refl, sym, ◌∙◌, ap, subst, append_assoc, arith}
 use Rattle.std.specs.Borrow.{Bor}
 use Rattle.std.specs.Prelude.{encode_utf8, MatchOption}
@@ -27,7 +27,7 @@ no_escape (b ∷ bs) left letter is newline return tab null backslash number =
 
 -- ---- numbers in braces
 
--- what is read, its text as bytes
+-- what is parsed, its text as bytes
 abbrev pub read_bytes : Option (ℕ × Bor (List ℕ)) → Option (ℕ × List ℕ)
 read_bytes read = option_map (λ r. (r.0, r.1.now)) read
 
@@ -48,14 +48,14 @@ pub unclosed : (text inner : List ℕ) (read : Option (ℕ × Bor (List ℕ))) �
 unclosed text inner None none is split = λ digits left c braced numbered. same_digits text inner digits left None is split braced
 unclosed text inner (Some r) none is split = absurd (cc none)
 
--- a text in whose braces no number of a character stands has none
+-- a text without a number of a character in its braces has none
 pub unnumbered : (text inner : List ℕ) (x : Bor (List ℕ) × Bor (List ℕ)) (read : Option (ℕ × Bor (List ℕ))) → read ≡ None → text ≡ 123 ∷ inner → IsSplitOnceResult 125 inner (Some x)
     → ((c : ℕ) → ¬ (IsNumbered x.0.now c)) → ReadsNumbered text (read_bytes read)
 unnumbered text inner x None none is split no_number =
     λ digits left c braced numbered. no_number c (subst (λ ds. IsNumbered ds c) (sym (same_digits text inner digits left (Some x) is split braced).0) numbered)
 unnumbered text inner x (Some r) none is split no_number = absurd (cc none)
 
--- what is read where a number of a character stands in the braces
+-- what is parsed where the number of a character is in the braces
 pub numbered : (text inner : List ℕ) (x : Bor (List ℕ) × Bor (List ℕ)) (c : ℕ) → text ≡ 123 ∷ inner → IsSplitOnceResult 125 inner (Some x) → IsNumbered x.0.now c
     → ReadsNumbered text (Some (c, x.1.now))
 numbered text inner x c is split number =
@@ -64,16 +64,16 @@ numbered text inner x c is split number =
 
 -- ---- escaped texts
 
--- what the rest of a text says comes after what was said before it
+-- what the rest of a text means follows what precedes it
 abbrev pub GoesOn : List ℕ → List ℕ → List ℕ → Type 0
 GoesOn text said rest = (outcome : Option (List ℕ)) → Unescapes rest outcome → Unescapes text (after_bytes said outcome)
 
--- at the beginning nothing was said
+-- nothing precedes the start
 pub none_said : (text said : List ℕ) → said ≡ [] → GoesOn text said text
 none_said text said empty None h = h
 none_said text said empty (Some bytes) h = subst (λ front. Unescapes text (Some (front ++ bytes))) (sym empty) h
 
--- what was said before an escape and its character come before what is left
+-- what precedes an escape, and its character, precede what is left
 pub one_more : (text said new rest left : List ℕ) (c : ℕ) (x : Bor (List ℕ) × Bor (List ℕ)) → GoesOn text said rest → IsSplitOnceResult 92 rest (Some x)
     → ReadsEscape x.1.now (Some (c, left)) → new ≡ (said ++ x.0.now) ++ encode_utf8 c → GoesOn text new left
 one_more text said new rest left c x before split read is outcome h =
@@ -87,7 +87,7 @@ one_more text said new rest left c x before split read is outcome h =
     joined said plain character new None is = refl
     joined said plain character new (Some bytes) is = ap Some (sym (ap (λ front. front ++ bytes) is ∙ simp append_assoc))
 
--- a rest with no backslash is said as it is
+-- a rest without a backslash means itself
 pub all_said : (text said rest new : List ℕ) → GoesOn text said rest → IsSplitOnceResult 92 rest None → new ≡ said ++ rest → Unescapes text (Some new)
 all_said text said rest new before split is =
     let plain : IsPlain rest = split_parts 92 rest None split (omega arith) in

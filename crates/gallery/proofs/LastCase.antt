@@ -15,7 +15,7 @@ pub record IsLast {X : Type 0} (xs : List X) (k : ℕ) (old new : X) : Type 0 wh
   pub was : xs ≡ front ++ old ∷ []
   pub is : slice_set xs k new ≡ front ++ new ∷ []
 
--- what stands at the last place is the last one
+-- the element at the last index is the last one
 pub last_one : {X : Type 0} (xs : List X) (k : ℕ) (old new : X) → k + 1 ≡ length xs → old ≡ slice_index_or xs k old → IsLast xs k old new
 last_one [] k old new count at = absurd (omega arith)
 last_one (x ∷ []) zero old new count at = record { front = []; was = ap (λ y. y ∷ []) (sym at); is = refl }
@@ -24,7 +24,7 @@ last_one (x ∷ xs) (suc k) old new count at =
     let left : IsLast xs k old new = last_one xs k old new (omega arith) at in
     record { front = x ∷ left.front; was = ap (λ ys. x ∷ ys) left.was; is = ap (λ ys. x ∷ ys) left.is }
 
--- the last case has taken in what was said
+-- the statement has been applied to the last case
 pub last_taken : (cases : List Case) (n : ℕ) (statement : Statement) (old new : Case) (r : Result (Unit {0}) Mistake) → n ≡ length cases → 0 < n → old ≡ slice_index_or cases (n - 1) old
     → OnOk r (Takes statement old new) → OnOk r (LastTakes statement cases (slice_set cases (n - 1) new))
 last_taken cases n statement old new (Ok done) count some at takes =
@@ -32,7 +32,7 @@ last_taken cases n statement old new (Ok done) count some at takes =
     record { front = last.front; old = old; new = new; was = last.was; is = last.is; takes = takes }
 last_taken cases n statement old new (Err mistake) count some at takes = tt
 
--- the last case has not
+-- it has not been applied
 pub last_failed : (cases : List Case) (n : ℕ) (statement : Statement) (old : Case) (r : Result (Unit {0}) Mistake) → n ≡ length cases → 0 < n → old ≡ slice_index_or cases (n - 1) old
     → IfErr r (λ mistake. (mistake ≡ OutOfMemory) ⊎ ((mistake ≡ NoFile) × IsSource statement × (old.files.items ≡ []))) → IfErr r (LastFails statement cases)
 last_failed cases n statement old (Ok done) count some at failed = tt
@@ -41,7 +41,7 @@ last_failed cases n statement old (Err mistake) count some at (inr no_file) =
     let last : IsLast cases (n - 1) old old = last_one cases (n - 1) old old (omega arith) at in
     subst (LastFails statement cases) (sym no_file.0) (no_file.1, (last.front, old, last.was, no_file.2))
 
--- the last file has gone on with the text
+-- the text continues the last file
 pub last_goes_on : (files : List File) (n : ℕ) (text : List ℕ) (old : File) (source : String Global) → n ≡ length files → 0 < n → old ≡ slice_index_or files (n - 1) old
     → string_bytes source ≡ string_bytes old.source ++ text
     → GoesOn text (map file_view files) (map file_view (slice_set files (n - 1) (record { name = old.name; source = source })))

@@ -1,4 +1,4 @@
--- Cases that are read line by line, and pictures that are added one by one.
+-- Cases that are parsed line by line, and outputs that are appended one by one.
 use Rattle.std.proofs.Common.{◌≡◌, ◌+◌, ◌<◌, ℕ, Bor, List, [], ◌∷◌, ◌++◌, length, map, take, get_or, Some, refl, sym, ◌∙◌, ap, subst, append_assoc}
 use Rattle.std.specs.List.{slice_get}
 use Rattle.std.specs.Option.{option_map}
@@ -16,11 +16,11 @@ pub TakesLines-more : (lines : List (List ℕ)) (line : List ℕ) (before betwee
 TakesLines-more [] line before between after none more = (after, subst (λ cases. TakesLine line cases after) none more, refl)
 TakesLines-more (first ∷ lines) line before between after taken more = (taken.0, taken.1, TakesLines-more lines line taken.0 between after taken.2 more)
 
--- what is added at the end is added to what is left after a part
+-- what is appended at the end is appended to what is left after a part
 regrouped : (named first left next pictured : List ℕ) → (((named ++ first) ++ left) ++ next) ++ pictured ≡ (named ++ first) ++ ((left ++ next) ++ pictured)
 regrouped named first left next pictured = simp append_assoc
 
--- the gallery with one more picture
+-- the gallery with one more output
 pub IsGallery-more : (cases : List Case) (case : Case) (text pictured new : List ℕ) → IsGallery cases text → IsPictured case pictured
     → new ≡ (text ++ title case.name.now) ++ pictured → IsGallery (cases ++ case ∷ []) new
 IsGallery-more [] case text pictured new none picture is =
@@ -52,7 +52,7 @@ module _ (lines : List (Bor (List ℕ))) (i : ℕ) (d : Bor (List ℕ)) where
       let before : TakesLines (take i (texts lines)) [] between = subst (λ ls. TakesLines ls [] between) (sym (take-map (λ (line : Bor (List ℕ)). line.now) i lines)) taken in
       (i, (get_or lines i d).now, between, refl, stands, before, wrong)
 
--- the gallery with the picture of the case at an index
+-- the gallery with the output of the case at an index
 pub next_case : (cases : List Case) (i : ℕ) (case : Case) (text pictured new : List ℕ) → i < length cases → case ≡ get_or cases i case
     → IsGallery (take i cases) text → IsPictured case pictured → new ≡ (text ++ title case.name.now) ++ pictured → IsGallery (take (i + 1) cases) new
 next_case cases i case text pictured new inside at drawn picture is =

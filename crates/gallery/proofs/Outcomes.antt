@@ -1,4 +1,4 @@
--- What the outcome of a run tells.
+-- What the outcome of a run says.
 use Rattle.std.proofs.Common.{◌≤◌, IfErr, IfSome, OnOk, IsErrOf, Result, refl, sym, ap, ◌∙◌, ◌≡◌, ◌≢◌, ℕ, List, [], Option, Some, None, Ok, Err, subst, arith}
 use Rattle.std.specs.Option.{ok_or, option_map}
 use Rattle.std.specs.Str.Lines.{lines}
@@ -49,13 +49,13 @@ success_by_status (Err (Undrawn error)) status is zero held = absurd (omega arit
 success_by_status (Err OutOfMemory) status is zero held = absurd (omega arith)
 success_by_status (Err CannotWriteOutput) status is zero held = absurd (omega arith)
 
--- at wrong arguments the output stays
+-- with wrong arguments the output is unchanged
 pub kept_at_wrong : (outcome : Result (Unit {0}) Fault) {X : Type 0} → IfErr outcome (λ fault. fault ≢ CannotWriteOutput → X)
     → IsErrOf outcome WrongArguments → X
 kept_at_wrong (Ok done) kept wrong = absurd (cc wrong)
 kept_at_wrong (Err fault) kept wrong = kept (λ output. cc (wrong, output))
 
--- the request is what arguments ask for, where they ask for something
+-- the request is that of the arguments, where they are right
 pub asked : {R A E : Type 0} (view : R → A) (found : Option R) (wrong : E) (r : Result R E) (request : R) (wanted : Option A) → r ≡ ok_or found wrong → r ≡ Ok request
     → option_map view found ≡ wanted → wanted ≡ Some (view request)
 asked view None wrong r request wanted is ok viewed = absurd (cc (is, ok))
@@ -63,7 +63,7 @@ asked view (Some other) wrong r request wanted is ok viewed =
     let same : other ≡ request = cc (is, ok) in
     sym viewed ∙ ap (λ o. Some (view o)) same
 
--- what is asked for of the cases of an input is answered
+-- what is requested of the cases of an input is written
 pub answered : {E : Type 0} (wanted : Option Asked) (left : Option (List ℕ)) (request : Asked) (text bytes : List ℕ) (cases : List Case) (r : Result (Unit {0}) E) (Writes : List ℕ → Type 0)
     → wanted ≡ Some request → IfSome left (λ input. text ≡ input) → TakesLines (lines text) [] cases → AnswersOf request cases bytes → OnOk r (Writes bytes)
     → OnOk r (IfSome wanted (λ a. IfSome left (λ input. (answer : List ℕ) × Answers a input answer × Writes answer)))
@@ -74,7 +74,7 @@ answered (Some a) (Some input) request text bytes cases (Ok done) Writes wants r
     let same : request ≡ a = cc wants in
     (bytes, (cases, subst (λ t. TakesLines (lines t) [] cases) read taken, subst (λ q. AnswersOf q cases bytes) same answers), written)
 
--- what is asked for of the cases of an input fails
+-- what is requested of the cases of an input fails
 pub failed : (wanted : Option Asked) (left : Option (List ℕ)) (request : Asked) (text : List ℕ) (cases : List Case) (fault : Fault)
     → wanted ≡ Some request → IfSome left (λ input. text ≡ input) → TakesLines (lines text) [] cases → FailsOf request cases fault → IfSome left (FaultTells wanted fault)
 failed wanted None request text cases fault wants read taken fails = tt

@@ -1,4 +1,4 @@
--- Glyphs one by one: whose they are, what room they take, and what texts they stand in.
+-- Glyphs one by one: their runs, their extent, and their texts.
 use Rattle.std.proofs.Common.{◌≡◌, ◌+◌, ◌-◌, ◌≤◌, ◌<◌, ℕ, List, [], ◌∷◌, ◌++◌, length, length-drop, map, max, take, drop, get_or, Some, sym, ◌∙◌, ap, subst, append_assoc, append-nil, arith}
 use Rattle.std.proofs.lemmas.Grind.{flat_map-append}
 use Rattle.std.proofs.lemmas.List.{drop_all, drop_more, map-append, take_all, take_more}
@@ -42,14 +42,14 @@ next_glyphs runs i run old new inside at before is =
 pub all_texts : (runs : List Run) (i : ℕ) → length runs ≤ i → AreTexts (map run_view (take i runs)) → AreTexts (map run_view runs)
 all_texts runs i past texts = subst (λ rs. AreTexts (map run_view rs)) (take_all i runs past) texts
 
--- ---- room
+-- ---- extent
 
--- a picture is at least as wide as its place
+-- glyphs end at or right of the position where they begin
 as_wide : (place : Place) (glyphs : List Glyph) → place.column ≤ (extent_from place glyphs).column
 as_wide place [] = omega arith
 as_wide place (glyph ∷ glyphs) = omega arith
 
--- the widest row, with the next place
+-- the widest row, with the next position
 widest : (columns column next rest : ℕ) → column ≤ columns → next ≤ rest → max (max columns next) rest ≡ max columns (max column rest)
 widest columns column next rest reached wide = omega arith
 

@@ -35,7 +35,7 @@ with_numbers settings [] = settings
 with_numbers settings (setting ∷ more) =
     with_numbers (with_number setting.0 setting.1 settings) more
 
--- a name and a source as they are borrowed
+-- a borrowed name and source
 abbrev pub LentFile : Type 0
 LentFile = Bor (List ℕ) × Bor (List ℕ)
 

@@ -115,7 +115,7 @@ IsBroken rest Primary = Unescapes (past_three rest) None
 IsBroken rest Secondary = Unescapes (past_three rest) None
 IsBroken rest _ = ⊥
 
--- what is wrong with a line of this word and this rest, whatever stands before it
+-- what is wrong with a line of this word and this rest, whatever precedes it
 abbrev pub IsWrong : Option Word → List ℕ → Mistake → Type 0
 IsWrong word rest UnknownWord = word ≡ None
 IsWrong word rest UnknownName = IsSomeAnd word (IsUnnamed rest)

@@ -1,4 +1,4 @@
-//! The arguments that the program is started with.
+//! The program's arguments.
 
 ghost use Rattle.std.specs.Prelude.{◌≡◌, ◌⊎◌, IfErr};
 

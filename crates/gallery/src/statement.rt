@@ -67,9 +67,9 @@ pub enum Statement {
 /// How many lines are shown around those of labels.
 #[derive(Clone, Copy, Debug, PartialEq, Eq)]
 pub struct Context {
-    /// After the first line of a label over several lines.
+    /// After the first line of a multi-line label.
     pub start: usize,
-    /// Before the last line of such a label.
+    /// Before the last line of a multi-line label.
     pub end: usize,
     /// Before the first line of a label.
     pub before: usize,

@@ -242,7 +242,7 @@ fn draw_other_rows<W: WriteStyle>(
     renderer.render_snippet_note(0, "a\r\n\nb\n")
 }
 
-/// Writes source lines with two labels over several lines whose underlines cross.
+/// Writes source lines with two multi-line labels whose underlines cross.
 fn draw_crossing<W: WriteStyle>(renderer: &mut Renderer<'_, '_, W>) -> Result<(), Error> {
     let first = [
         (0, Secondary, MultiLabel::Top(1)),

@@ -12,7 +12,7 @@ use std::ops::Range;
 pub enum Row {
     /// Three labels of one line.
     MutableBorrows,
-    /// A label over several lines, with a break and a filled line, and a note.
+    /// A multi-line label, with a break and a filled line, and a note.
     MismatchedTypes,
     /// A header in short style, without a lookup, and in colors if the call has some.
     ColouredHeader,

@@ -1,4 +1,4 @@
--- What is drawn of what a diagnostic says.
+-- The output of a diagnostic.
 use Rattle.std.proofs.Common.{◌≡◌, ℕ, true, List, [], ◌∷◌, map, Result, Ok, Err, IfOk, refl, ap, ◌∙◌}
 use Rattle.codespan_base.specs.declared.diagnostic.Diagnostic.{Diagnostic}
 use Rattle.codespan_base.specs.declared.diagnostic.Label.{Label}
@@ -23,22 +23,23 @@ use Rattle.report.specs.Drawings.{config_of, label_said, only_file, picture_text
 restyled : (table config : Config) (style : DisplayStyle) → IsConfig table config → IsConfig (record table { display_style = style }) (record config { display_style = style })
 restyled table config style alike = record { chars = alike.chars; others = ap (λ (c : Config). record c { display_style = style }) alike.others }
 
--- labels as pictures see them are those that are said
+-- labels as the definition of the output takes them are those of the diagnostic
 labels_alike : (xs : List (Label (Unit {0}))) → map label_of xs ≡ map label_said (map label_view xs)
 labels_alike [] = refl
 labels_alike (x ∷ xs) = ap (λ rest. label_of x ∷ rest) (labels_alike xs)
 
 module _ (style : DisplayStyle) (d : Diagnostic (Unit {0})) where
-  -- a table of that file alone
+  -- a file database of that file alone
   abbrev table_at : List ℕ → List ℕ → Failures (Unit {0}) → FileDatabase (Unit {0})
   table_at name source failure = record { same = λ i j. true; file = only_file name source; failure = failure }
 
-  -- the picture of the diagnostic with these labels
+  -- the output of the diagnostic with these labels
   abbrev drawn_by : Config → List ℕ → List ℕ → List (InFile (Unit {0})) → Stream
   drawn_by config name source xs =
       rendered style config config d.severity (heading_of d) (map stated_locus (starts (λ i j. true) (only_file name source) xs style)) (labelled_files (λ i j. true) (only_file name source) xs) (notes_of d)
 
-  -- a text that is drawn of the diagnostic over a name and a source, by a configuration that looks like the default one, is the picture's
+  -- the text rendered of the diagnostic over a name and a source, by a configuration equal to the
+  -- default one, is that of its output
   pub drawn_text : (name source : List ℕ) (config : Config) (failure : Failures (Unit {0})) (text : List ℕ)
       → IsConfig default_config config → IsRendered (record config { display_style = style }) (table_at name source failure) d text
       → (named held : List ℕ) → name ≡ named → source ≡ held → text ≡ picture_text style named held (diagnostic_view d)
@@ -52,7 +53,7 @@ module _ (style : DisplayStyle) (d : Diagnostic (Unit {0})) where
       ∙ ap (λ m. text_of (drawn_by (config_of style) named m (labels_of d))) s
       ∙ ap (λ xs. text_of (drawn_by (config_of style) named held xs)) (labels_alike d.labels.items)
 
-  -- the same of what a call that answers a text did
+  -- the same of a call that returns a text
   pub drawn_result : {T : Type 0} (text : T → List ℕ) (name source : List ℕ) (config : Config) (failure : Failures (Unit {0})) (r : Result T Error)
       → IsConfig default_config config → Emits (record config { display_style = style }) (table_at name source failure) d text r
       → (named held : List ℕ) → name ≡ named → source ≡ held → IfOk r (λ t. text t ≡ picture_text style named held (diagnostic_view d))

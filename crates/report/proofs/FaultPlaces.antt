@@ -1,4 +1,4 @@
--- Where the faults of an input that is UTF-8 lie.
+-- Where the errors of an input that is UTF-8 are.
 use Rattle.std.proofs.Common.{◌≡◌, ℕ, ◌+◌, ◌-◌, ◌<◌, ◌≤◌, ◌==◌, Bool, true, false, List, [], ◌∷◌, ◌++◌, length, get_or, take, drop, Option, Some, None, IfSome, IfErr, is_some, IsCharBoundary, IsUtf8, bytes_eq, refl, sym, ap, ◌∙◌, inl, inr, arith, if◌then◌else◌, eqb-true, length-append, length-drop, length-take-le, get_or-drop, get_or-take}
 use Rattle.std.specs.List.{AllByRecursion, join_with_byte, position_or_len, slice_split}
 use Rattle.std.specs.Option.{option_map}
@@ -41,28 +41,28 @@ either_fault : (P : Fault → Type 0) (x y : Option Fault) → IfSome x P → If
 either_fault P (Some fault) y first second = first
 either_fault P None y first second = second
 
--- the text stands in the input at this byte, between characters
+-- the text is in the input at this byte, between characters
 pub record StandsAt (input : List ℕ) (at : ℕ) (text : List ℕ) : Type 0 where
   pub starts : IsCharBoundary input at
   pub ends : IsCharBoundary input (at + length text)
   pub same : (k : ℕ) → k < length text → get_or input (at + k) 0 ≡ get_or text k 0
 
--- an end of a line, which stands in the input where the line has it
+-- a suffix of a line is in the input where the line has it
 pub record IsEndOf (input : List ℕ) (line : ScriptLine) (from : List ℕ) : Type 0 where
   pub fits : length from ≤ length line.text
   pub stands : StandsAt input (line.start + length line.text - length from) from
 
--- what stands in the input lies inside it
+-- a text of the input lies inside it
 lies : (input : List ℕ) (at : ℕ) (text : List ℕ) → StandsAt input at text → LiesIn input (record { start = at; end = at + length text })
 lies input at text stands = record { in_order = omega arith; within = stands.ends.0; starts = stands.starts; ends = stands.ends }
 
--- a blank of the text is one of the input
+-- a space of the text is one of the input
 blank_stands : (input : List ℕ) (at : ℕ) (text : List ℕ) → StandsAt input at text → position_or_len is_blank text < length text
     → get_or input (at + position_or_len is_blank text) 0 ≡ 32
 blank_stands input at text stands some =
     stands.same (position_or_len is_blank text) some ∙ eqb-true (get_or text (position_or_len is_blank text) 0) 32 (passes_at_first is_blank text 0 some)
 
--- the first field of a text that stands in the input
+-- the first field of a text of the input
 field_stands : (input : List ℕ) (at : ℕ) (text : List ℕ) → StandsAt input at text → StandsAt input at (field_of text)
 field_stands input at text stands =
     let n : ℕ = position_or_len is_blank text in
@@ -96,11 +96,11 @@ newline_after input start piece rest is =
     sym (get_or-drop start input (length piece) 0) ∙ ap (λ xs. get_or xs (length piece) 0) is ∙ get_or_at piece 10 rest 0 (length piece) refl
 
 module _ (input : List ℕ) (utf8 : IsUtf8 input) where
-  -- a line stands in the input where it starts
+  -- a line is in the input where it starts
   abbrev Stands : ScriptLine → Type 0
   Stands line = StandsAt input line.start line.text
 
-  -- what follows the first blank of a text that stands in the input
+  -- what follows the first space of a text of the input
   past_stands : (at : ℕ) (text : List ℕ) → StandsAt input at text → StandsAt input (at + length text - length (past_blank text)) (past_blank text)
   past_stands at text stands =
       let n : ℕ = position_or_len is_blank text in
@@ -141,7 +141,7 @@ module _ (input : List ℕ) (utf8 : IsUtf8 input) where
             same = λ k below. stands.same k (omega (arith, long)) ∙ sym (get_or-take (length piece - 1) piece k 0 (omega (arith, long)));
           }
 
-  -- a piece that ends where a newline stands
+  -- a piece that ends at a newline
   piece_stands : (start : ℕ) (piece rest : List ℕ) → IsCharBoundary input start → drop start input ≡ piece ++ 10 ∷ rest → StandsAt input start piece
   piece_stands start piece rest cut is =
       let newline : get_or input (start + length piece) 0 ≡ 10 = newline_after input start piece rest is in
@@ -186,7 +186,7 @@ module _ (input : List ℕ) (utf8 : IsUtf8 input) where
       let at : line.start + length line.text - length line.text ≡ line.start = omega arith in
       record { fits = omega arith; stands = rw at stands }
 
-  -- what follows the first blank of an end of a line
+  -- what follows the first space of a suffix of a line
   past_end : (line : ScriptLine) (from : List ℕ) → IsEndOf input line from → IsEndOf input line (past_blank from)
   past_end line from end =
       let short : length (past_blank from) ≤ length from = omega (arith, length-drop (position_or_len is_blank from + 1) from) in
@@ -212,9 +212,9 @@ module _ (input : List ℕ) (utf8 : IsUtf8 input) where
   word_lies : (line : ScriptLine) → Stands line → LiesIn input (word_range line)
   word_lies line stands = field_lies line line.text (whole_line line stands)
 
-  -- ---- the faults
+  -- ---- the errors
 
-  -- a fault in one place
+  -- an error with one range
   one_place : (number : FaultNumber) (range : Range ℕ) → LiesIn input range → FaultLiesIn input (fault_at number range)
   one_place number range place = record { place = place; first = tt }
 
@@ -276,7 +276,7 @@ module _ (input : List ℕ) (utf8 : IsUtf8 input) where
       (record { in_order = omega arith; within = omega arith; starts = IsCharBoundary-end input; ends = IsCharBoundary-end input })
   read_lies lines None (Some source) place = tt
 
--- the places of a fault lie inside the input
+-- the ranges of an error lie inside the input
 pub faults_lie : (input : List ℕ) → FaultsLieInside input
 unfolding read_script lines_of
 faults_lie input utf8 =

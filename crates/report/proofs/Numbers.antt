@@ -12,7 +12,7 @@ use Rattle.std.proofs.lemmas.List.Recursion.{same_from_clauses}
 use Rattle.std.proofs.lemmas.Str.Parse.{IsNumeralModel, numerals_by_value, tells_all_ascii_digits, tells_by_index, parse_digits}
 use Rattle.report.specs.Requests.{number_of}
 
--- `all` tells digits as the definition does
+-- `all` finds digits as the definition does
 pub digits_are : (bs : List ℕ) → list_all is_ascii_digit bs ≡ all_ascii_digits bs
 digits_are bs = same_from_clauses (list_all is_ascii_digit) all_ascii_digits (λ c rest. is_ascii_digit c && rest) refl (λ _ _. refl) (λ _ _. refl) bs
 

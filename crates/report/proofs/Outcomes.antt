@@ -1,4 +1,4 @@
--- What the outcome of a run tells.
+-- What the outcome of a run says.
 use Rattle.std.proofs.Common.{◌≤◌, IfErr, OnOk, Result, refl, ◌≡◌, ◌≢◌, ◌⊎◌, inl, inr, ℕ, List, Option, Some, None, Ok, Err, IfSome, IsErrOf, subst, arith, string_bytes}
 use Rattle.std.specs.Str.{IsUtf8}
 use Rattle.report.specs.declared.fault.Fault.{Fault}
@@ -42,7 +42,7 @@ success_by_status (Err (Drawing error)) status is zero held = absurd (omega arit
 success_by_status (Err (BadScript picture)) status is zero held = absurd (elim is [ inl three ↦ omega arith | inr one ↦ omega arith ])
 success_by_status (Err CannotWriteOutput) status is zero held = absurd (omega arith)
 
--- the status 3 is that of a script's fault
+-- the status 3 is that of a script's error
 pub faulty_by_status : (outcome : Result (Unit {0}) Fault) (status : ℕ) {X : Type 0} → IsStatusOf outcome status → status ≡ 3
     → ((picture : _) → outcome ≡ Err (BadScript picture) → X) → X
 faulty_by_status (Ok done) status is three follows = absurd (omega arith)
@@ -79,7 +79,7 @@ kept_at_not_utf8 words bytes X (Err fault) utf8 told kept =
     known_weaker (asked_of words) bytes (FaultTells fault) (λ _ source. ¬ (IsUtf8 source) → X)
     (λ asked source are_known other. kept (λ output. let wrote : FaultTells CannotWriteOutput asked source = subst (λ (f : Fault). FaultTells f asked source) output are_known in other wrote.0)) told
 
--- a script's fault that was told is the one of what was asked for
+-- the script's error that was written is that of the request
 pub told_at_faulty : (words : List (List ℕ)) (bytes : Option (List ℕ)) (outcome : Result (Unit {0}) Fault) (status : ℕ) (Told : List ℕ → Type 0)
     → IsStatusOf outcome status → status ≡ 3
     → IfErr outcome (λ fault. WhereKnown words bytes (FaultTells fault))
@@ -95,11 +95,11 @@ told_at_faulty words bytes (Err (BadScript picture)) status Told is three are_kn
     (λ asked source same. (string_bytes picture, same, told)) are_known
 told_at_faulty words bytes (Err CannotWriteOutput) status Told is three are_known told = absurd (omega arith)
 
--- no drawing is both
+-- no rendering is both
 not_both : (drawing : Result (List ℕ) (List ℕ)) (good bad : List ℕ) → drawing ≡ Ok good → drawing ≡ Err bad → ⊥
 not_both drawing good bad is other = cc (is, other)
 
--- the same of a fault
+-- the same of an error
 faulty_fault : (fault : Fault) (status : ℕ) (X : Type 0) (asked : AskedView) (source picture : List ℕ) → IsStatusOf (Err fault) status → FaultTells fault asked source
     → (fault ≢ CannotWriteOutput → X) → drawing_of asked source ≡ Err picture → ((status ≡ 3) ⊎ (status ≡ 1)) × X
 faulty_fault WrongArguments status X asked source picture is are_known kept bad = absurd are_known
@@ -109,7 +109,7 @@ faulty_fault (Drawing error) status X asked source picture is are_known kept bad
 faulty_fault (BadScript told) status X asked source picture is are_known kept bad = (is, kept (λ output. cc output))
 faulty_fault CannotWriteOutput status X asked source picture is are_known kept bad = absurd (not_both (drawing_of asked source) are_known.1.0 picture are_known.1.1 bad)
 
--- where the script has a fault, that is told or not, and the output stays
+-- where the script has an error, that is written or not, and the output is unchanged
 pub faulty_status : (words : List (List ℕ)) (bytes : Option (List ℕ)) (outcome : Result (Unit {0}) Fault) (status : ℕ) (X : Type 0) (Wrote : List ℕ → Type 0)
     → IsStatusOf outcome status
     → OnOk outcome (WhereKnown words bytes (λ asked source. (picture : List ℕ) × (drawing_of asked source ≡ Ok picture) × Wrote picture))
@@ -125,7 +125,7 @@ faulty_status words bytes (Err fault) status X Wrote is drawn are_known kept =
     (λ asked source. (picture : List ℕ) → drawing_of asked source ≡ Err picture → ((status ≡ 3) ⊎ (status ≡ 1)) × X)
     (λ asked source told picture bad. faulty_fault fault status X asked source picture is told kept bad) are_known
 
--- the output stays, or its whole picture was drawn
+-- the output is unchanged, or all of it was rendered
 pub stays_unless_drawn : (outcome : Result (Unit {0}) Fault) (status : ℕ) (X : Type 0) (old new : Option (List ℕ))
     → IsStatusOf outcome status
     → (IsErrOf outcome CannotWriteOutput → AppendsPrefix old new failed_output_line)
@@ -139,7 +139,7 @@ stays_unless_drawn (Err (Drawing error)) status X old new is line kept = inl (ke
 stays_unless_drawn (Err (BadScript picture)) status X old new is line kept = inl (kept (λ output. cc output))
 stays_unless_drawn (Err CannotWriteOutput) status X old new is line kept = inr (inr (is, line refl))
 
--- where the output does not stay, a prefix of the picture came to it
+-- where the output changes, it has received a prefix of what was rendered
 pub prefix_written : (words : List (List ℕ)) (bytes : Option (List ℕ)) (outcome : Result (Unit {0}) Fault) (status : ℕ) (X : Type 0) (Wrote : AskedView → List ℕ → Type 0)
     → IsStatusOf outcome status → status ≡ 1
     → (IsErrOf outcome CannotWriteOutput → WhereKnown words bytes Wrote)

@@ -27,7 +27,7 @@ use Rattle.report.proofs.ScriptCuts.{Lacks, past_one, left_after, line_then, pie
 
 -- ---- fields
 
--- a text without a blank is one field, and nothing follows it
+-- a text without a space is one field, and nothing follows it
 field_alone : (xs : List ℕ) → Lacks 32 xs → field_of xs ≡ xs
 field_alone xs lacks =
     let end : position_or_len is_blank xs ≡ length xs = position_or_len_is is_blank xs (length xs) 0 (omega arith) (λ k below. ne_eqb _ _ (lacks k below)) (λ past. absurd (omega arith)) in
@@ -38,7 +38,7 @@ past_alone xs lacks =
     let end : position_or_len is_blank xs ≡ length xs = position_or_len_is is_blank xs (length xs) 0 (omega arith) (λ k below. ne_eqb _ _ (lacks k below)) (λ past. absurd (omega arith)) in
     ap (λ n. drop (n + 1) xs) end ∙ drop_all (length xs + 1) xs (omega arith)
 
--- the first of two fields ends at the blank between them
+-- the first of two fields ends at the space between them
 blank_at : (xs ys : List ℕ) → Lacks 32 xs → position_or_len is_blank (fields xs ys) ≡ length xs
 blank_at xs ys lacks =
     position_or_len_is is_blank (xs ++ 32 ∷ ys) (length xs) 0 (omega (arith, length-append xs (32 ∷ ys)))
@@ -51,13 +51,13 @@ first_field xs ys lacks = ap (λ n. take n (xs ++ 32 ∷ ys)) (blank_at xs ys la
 past_field : (xs ys : List ℕ) → Lacks 32 xs → past_blank (fields xs ys) ≡ ys
 past_field xs ys lacks = ap (λ n. drop (n + 1) (xs ++ 32 ∷ ys)) (blank_at xs ys lacks) ∙ past_one 32 xs ys
 
--- digits have no blank
+-- digits have no space
 no_blank : (n : ℕ) → n < 2 ^ 64 → Lacks 32 (decimal n)
 no_blank n fits i below is = let digit = digits_of_decimal n fits i below in omega (arith, digit.0, is)
 
 -- ---- the texts of lines
 
--- each byte stands after those that end lines
+-- each byte is greater than those that end lines
 abbrev AreAbove : List ℕ → Type 0
 AreAbove xs = (i : ℕ) → i < length xs → 13 < get_or xs i 0
 
@@ -79,7 +79,7 @@ return_none x (y ∷ ys) large none is =
     let last : length (x ∷ y ∷ ys) - 1 ≡ suc (length (y ∷ ys) - 1) = omega arith in
     none (sym (ap (λ n. get_or (x ∷ y ∷ ys) n 0) last) ∙ is)
 
--- such bytes before a text that can stand at a line's end
+-- such bytes before a text that can be the end of a line
 end_after : (xs ys : List ℕ) → AreAbove xs → IsLineEnd ys → IsLineEnd (xs ++ ys)
 end_after [] ys large end = end
 end_after (x ∷ xs) ys large end =
@@ -190,7 +190,7 @@ source_written input start (s ∷ ss) source can is =
 
 -- ---- what is read of each line
 
--- the word of a comment begins with its mark
+-- the word of a comment begins with `#`
 comment_word : (text : List ℕ) → field_of (35 ∷ text) ≡ 35 ∷ field_of text
 comment_word text = ap (λ n. take n (35 ∷ text)) (one-add (position_or_len is_blank text))
 
@@ -198,7 +198,7 @@ comment_word text = ap (λ n. take n (35 ∷ text)) (one-add (position_or_len is
 abbrev rest_by : List ℕ → ScriptLine → Option (List ℕ)
 rest_by word line = if bytes_eq (word_of line) word then Some (rest_of line) else None
 
--- the severity, the code, the message and the note that a line gives are those that its statement gives
+-- the severity, the code, the message and the note of a line are those of its statement
 severity_read : (start : ℕ) (s : Statement) → IsStatable s → rest_by (codes "severity") (line_at start s) ≡ option_map severity_name (severity_stated s)
 severity_read start (SeverityLine severity) can = refl
 severity_read start (CodeLine text) can = refl
@@ -307,7 +307,7 @@ all_read read stated same start (s ∷ ss) can =
     ap (λ x. cons_option x (filter_map read (placed next ss))) (same start s can.0)
     ∙ ap (cons_option (stated s)) (all_read read stated same next ss can.1)
 
--- ---- no line has a fault
+-- ---- no line has an error
 
 -- the first line of a word has the first of the rests
 rest_given_first : (word : List ℕ) (lines : List ScriptLine) → rest_given word lines ≡ slice_get (filter_map (rest_by word) lines) 0
@@ -343,7 +343,7 @@ none_before word before line lines once is =
     ap length split ∙ length-append (filter_map (rest_by word) before) (filter_map (rest_by word) (line ∷ lines)) ∙ ap (λ rests. length (filter_map (rest_by word) before) + length rests) here in
     none_given word before (omega arith)
 
--- severity, code and message are given once at most
+-- severity, code and message are stated once at most
 record AreOnce (lines : List ScriptLine) : Type 0 where
   severity : IsOnce (codes "severity") lines
   code : IsOnce (codes "code") lines
@@ -354,7 +354,7 @@ not_repeated : (before : List ScriptLine) (line : ScriptLine) → given_line (wo
 unfolding repetition
 not_repeated before line none = ap (option_map (λ first. record { number = RepeatedWord; range = word_range line; first = Some (word_range first) })) none
 
--- the line of a statement has no fault
+-- the line of a statement has no error
 severity_right : (before : List ScriptLine) (start : ℕ) (severity : Severity) (lines : List ScriptLine) → AreOnce (before ++ line_at start (SeverityLine severity) ∷ lines)
     → line_fault before (line_at start (SeverityLine severity)) ≡ None
 unfolding severity_fault word_named
@@ -363,7 +363,7 @@ severity_right before start severity lines once =
     ap (λ fault. or_fault fault (severity_fault line)) (not_repeated before line (none_before (codes "severity") before line lines once.severity refl))
     ∙ ap (λ named. if is_some named then None else Some (fault_at UnknownSeverity (range_at line (rest_of line) (rest_of line)))) (name_read severity)
 
--- two numbers are no fault
+-- two numbers are no error
 both_numbers : (first last : Option ℕ) (start end : Option Fault) (m n : ℕ) → first ≡ Some m → last ≡ Some n
     → (if is_some first then (if is_some last then None else end) else start) ≡ None
 both_numbers first last start end m n p q = rw (p, q)
@@ -390,7 +390,7 @@ line_right before start (NoteLine text) lines can once = refl
 line_right before start (CommentLine text) lines can once = refl
 line_right before start EmptyLine lines can once = refl
 
--- no line of statements has a fault
+-- no line of statements has an error
 lines_right : (before : List ScriptLine) (start : ℕ) (ss : List Statement) → AllByRecursion IsStatable ss → AreOnce (before ++ placed start ss)
     → fault_from before (placed start ss) ≡ None
 lines_right before start [] can once = refl
@@ -445,7 +445,7 @@ module _ (ss : List Statement) (can : AllByRecursion IsStatable ss) where
     notes = all_read note_given note_stated note_read 0 ss can i;
   }
 
-  -- and no word that may stand once is repeated
+  -- and no word that may occur once is repeated
   all_once : length (filter_map severity_stated ss) ≤ 1 → length (filter_map code_stated ss) ≤ 1 → length (filter_map message_stated ss) ≤ 1 → AreOnce (placed 0 ss)
   all_once severity code message = record {
     severity = rw (names_read, length-map) severity;
@@ -453,7 +453,7 @@ module _ (ss : List Statement) (can : AllByRecursion IsStatable ss) where
     message = rw (all_read (rest_by (codes "message")) message_stated message_read 0 ss can) message;
   }
 
--- what holds by the places of elements holds of each
+-- what holds by the indices of elements holds of each
 each_by_place : (P : Statement → Type 0) (ss : List Statement) → All P ss → AllByRecursion P ss
 each_by_place P [] all = tt
 each_by_place P (s ∷ ss) all = (all 0 s (omega arith), each_by_place P ss (λ k d below. all (suc k) d (omega arith)))

@@ -9,11 +9,11 @@ use Rattle.report.specs.declared.fault.Fault.{Fault}
 use Rattle.report.specs.declared.fault.Fault.TheVariants.{CannotWriteOutput}
 use Rattle.report.specs.Faults.{AppendsPrefix, fault_text, failed_output_line}
 
--- the first of the bytes came
+-- the first of the bytes were received
 pub front_came : (old new : Option (List ℕ)) (bs done rest : List ℕ) → bs ≡ done ++ rest → Appends old new done → AppendsPrefix old new bs
 front_came old new bs done rest e came = (done, subst (λ (l : List ℕ). take (length done) l ≡ done) (sym e) (take-append_seam done rest), came)
 
--- n more came of those that were left
+-- n more of those that were left were received
 pub moved : (bs done rest : List ℕ) (n : ℕ) → bs ≡ done ++ rest → bs ≡ (done ++ take n rest) ++ drop n rest
 moved bs done rest n e = e ∙ ap (λ (l : List ℕ). done ++ l) (sym (take-append-drop n rest)) ∙ sym (append_assoc done (take n rest) (drop n rest))
 
@@ -21,11 +21,11 @@ moved bs done rest n e = e ∙ ap (λ (l : List ℕ). done ++ l) (sym (take-appe
 pub moved_range : (bs done rest : List ℕ) (n : ℕ) → bs ≡ done ++ rest → bs ≡ (done ++ take n rest) ++ take (length rest - n) (drop n rest)
 moved_range bs done rest n e = moved bs done rest n e ∙ ap (λ (l : List ℕ). (done ++ take n rest) ++ l) (sym (take_rest rest n))
 
--- a prefix came, and then known bytes stayed
+-- a prefix was received, and known bytes are then unchanged
 pub prefix_kept : (old mid new : Option (List ℕ)) (bs : List ℕ) → AppendsPrefix old mid bs → Keeps mid new → AppendsPrefix old new bs
 prefix_kept old mid new bs came kept = (came.0, came.1, Appends-kept old mid new came.0 came.2 kept)
 
--- the line of a failed output, as that of a fault
+-- the line of a failed output, as that of an error
 pub line_of_fault : {E : Type 0} (fault : Fault) (old new : Option (List ℕ)) (r : Result (Unit {0}) E) → fault ≡ CannotWriteOutput
     → OnOk r (Appends old new failed_output_line) → OnOk r (IfSome (with_newline (fault_text fault)) (Appends old new))
 line_of_fault fault old new r is came =

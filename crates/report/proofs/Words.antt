@@ -1,11 +1,11 @@
--- What the arguments ask for, word by word.
+-- What the arguments request, word by word.
 use Rattle.std.proofs.Common.{◌≡◌, ℕ, ◌<◌, ◌≤◌, ◌⊎◌, inl, inr, List, [], ◌∷◌, length, get_or, map, Option, None, refl, ap, sym, ◌∙◌, arith}
 use Rattle.codespan_base.specs.declared.term.config.DisplayStyle.{DisplayStyle}
 use Rattle.std.specs.Option.{option_map}
 use Rattle.report.specs.Requests.{asked_of, number_of, request_of, style_of, with_parts}
 use Rattle.report.specs.Requests.AskedView.{OneLabel, OfScript}
 
--- five words are what stands at their places
+-- five words by their indices
 five_words : {A : Type 0} (xs : List A) (a b c d e : A) → 5 ≤ length xs → length xs < 6
     → a ≡ get_or xs 0 a → b ≡ get_or xs 1 b → c ≡ get_or xs 2 c → d ≡ get_or xs 3 d → e ≡ get_or xs 4 e
     → xs ≡ a ∷ b ∷ c ∷ d ∷ e ∷ []
@@ -17,7 +17,7 @@ five_words (v ∷ w ∷ x ∷ y ∷ []) a b c d e least most p q r s t = absurd 
 five_words (v ∷ w ∷ x ∷ y ∷ z ∷ []) a b c d e least most p q r s t = cc
 five_words (v ∷ w ∷ x ∷ y ∷ z ∷ u ∷ more) a b c d e least most p q r s t = absurd (omega arith)
 
--- another number of words asks for nothing
+-- another number of words is no request
 pub other_words : {A : Type 0} (text : A → List ℕ) (xs : List A) → (length xs < 5) ⊎ (6 ≤ length xs) → None ≡ request_of (map text xs)
 unfolding request_of
 other_words text [] others = refl
@@ -28,7 +28,7 @@ other_words text (v ∷ w ∷ x ∷ y ∷ []) others = refl
 other_words text (v ∷ w ∷ x ∷ y ∷ z ∷ []) others = absurd (elim others [ inl few ↦ omega arith | inr many ↦ omega arith ])
 other_words text (v ∷ w ∷ x ∷ y ∷ z ∷ u ∷ more) others = refl
 
--- what five words ask for, from what each of them says
+-- the request of five words, from what each of them says
 pub words_ask : {A : Type 0} (text : A → List ℕ) (xs : List A) (style name start end message : A) → 5 ≤ length xs → length xs < 6
     → style ≡ get_or xs 0 style → name ≡ get_or xs 1 name → start ≡ get_or xs 2 start → end ≡ get_or xs 3 end → message ≡ get_or xs 4 message
     → (named : Option DisplayStyle) (first last : Option ℕ)
@@ -42,14 +42,14 @@ words_ask text xs style name start end message least most p q r s t named first 
     rw (x, y, z) refl in
     asked ∙ ap (λ l. request_of (map text l)) (sym five)
 
--- two words are what stands at their places
+-- two words by their indices
 two_words : {A : Type 0} (xs : List A) (a b : A) → 2 ≤ length xs → length xs < 3 → a ≡ get_or xs 0 a → b ≡ get_or xs 1 b → xs ≡ a ∷ b ∷ []
 two_words [] a b least most p q = absurd (omega arith)
 two_words (v ∷ []) a b least most p q = absurd (omega arith)
 two_words (v ∷ w ∷ []) a b least most p q = cc
 two_words (v ∷ w ∷ x ∷ more) a b least most p q = absurd (omega arith)
 
--- what two words ask for
+-- the request of two words
 pub two_ask : {A : Type 0} (text : A → List ℕ) (xs : List A) (style name : A) → 2 ≤ length xs → length xs < 3
     → style ≡ get_or xs 0 style → name ≡ get_or xs 1 name → (named : Option DisplayStyle) → named ≡ style_of (text style)
     → option_map (λ s. OfScript s (text name)) named ≡ asked_of (map text xs)
@@ -57,7 +57,7 @@ unfolding asked_of
 two_ask text xs style name least most p q named x =
     ap (option_map (λ s. OfScript s (text name))) x ∙ ap (λ l. asked_of (map text l)) (sym (two_words xs style name least most p q))
 
--- what another number of words asks for
+-- what another number of words requests
 pub others_ask : {A : Type 0} (text : A → List ℕ) (xs : List A) → (length xs < 2) ⊎ (3 ≤ length xs) → asked_of (map text xs) ≡ option_map OneLabel (request_of (map text xs))
 unfolding asked_of
 others_ask text [] others = refl

@@ -1,4 +1,4 @@
--- What is drawn of a diagnostic over one file, and what a run draws.
+-- The output of a diagnostic over one file, and what a run renders.
 use Rattle.std.specs.Prelude.{◌≡◌, ℕ, true, List, [], ◌∷◌, map, Option, Some, None, Result, Ok, Err, codes, string_bytes}
 use Rattle.std.specs.declared.ops.Range.{Range}
 use Rattle.codespan_base.specs.declared.diagnostic.LabelStyle.TheVariants.{Primary, Secondary}
@@ -23,13 +23,13 @@ use Rattle.report.specs.Requests.{RequestView, AskedView}
 use Rattle.report.specs.Requests.AskedView.{OneLabel, OfScript}
 use Rattle.report.specs.Scripts.{ScriptView, read_script}
 
--- ---- the picture of what a diagnostic says
+-- ---- the output of a diagnostic
 
--- what the header says
+-- the header
 abbrev pub heading_said : DiagnosticView (Unit {0}) → Heading
 heading_said said = record { code = said.code; message = said.message }
 
--- a label, as pictures see it
+-- a label, as the definition of the output takes it
 abbrev pub label_said : LabelView (Unit {0}) → InFile (Unit {0})
 label_said label = record {
   id = label.file_id;
@@ -45,7 +45,7 @@ label_said label = record {
 abbrev pub labels_said : DiagnosticView (Unit {0}) → List (InFile (Unit {0}))
 labels_said said = map label_said said.labels
 
--- what it is drawn by: the default configuration, in this style
+-- the configuration: the default one, in this display style
 abbrev pub config_of : DisplayStyle → Config
 config_of style = record default_config { display_style = style }
 
@@ -53,16 +53,16 @@ config_of style = record default_config { display_style = style }
 abbrev pub only_file : List ℕ → List ℕ → Unit {0} → FileModel
 only_file name source id = simple_file (Some name) source
 
--- the text of the picture of what is said, in a style, over the file of a name and a source
+-- the text of the diagnostic's output, in a style, over the file of a name and a source
 unfoldable pub picture_text : DisplayStyle → List ℕ → List ℕ → DiagnosticView (Unit {0}) → List ℕ
 picture_text style name source said =
     text_of (rendered style (config_of style) (config_of style) said.severity (heading_said said)
     (map stated_locus (starts (λ i j. true) (only_file name source) (labels_said said) style))
     (labelled_files (λ i j. true) (only_file name source) (labels_said said)) said.notes)
 
--- ---- what is said
+-- ---- the diagnostics
 
--- what a request says: an error with its message, and one primary label with the same
+-- the diagnostic of a request: an error with its message, and one primary label with the same
 abbrev pub said_of_request : RequestView → DiagnosticView (Unit {0})
 said_of_request request = record {
   severity = severities.Error;
@@ -77,7 +77,7 @@ said_of_request request = record {
   notes = [];
 }
 
--- the code of a script's fault
+-- the code of a script's error
 abbrev pub fault_code : FaultNumber → List ℕ
 fault_code UnknownWord = codes "S1"
 fault_code UnknownSeverity = codes "S2"
@@ -85,7 +85,7 @@ fault_code BadNumber = codes "S3"
 fault_code RepeatedWord = codes "S4"
 fault_code MissingEnd = codes "S5"
 
--- what is wrong
+-- its message
 abbrev pub fault_message : FaultNumber → List ℕ
 fault_message UnknownWord = codes "unknown word"
 fault_message UnknownSeverity = codes "unknown severity"
@@ -93,7 +93,7 @@ fault_message BadNumber = codes "bad number"
 fault_message RepeatedWord = codes "repeated word"
 fault_message MissingEnd = codes "missing end of script"
 
--- what its place is told
+-- the message of its primary label
 abbrev pub fault_note : FaultNumber → List ℕ
 fault_note UnknownWord = codes "expected severity, code, message, primary, secondary or note"
 fault_note UnknownSeverity = codes "expected bug, error, warning, note or help"
@@ -101,14 +101,14 @@ fault_note BadNumber = codes "expected a decimal number"
 fault_note RepeatedWord = codes "given again"
 fault_note MissingEnd = codes "expected ---"
 
--- the label of the first place of a repeated word, if there is one
+-- the label over the first occurrence of a repeated word, if there is one
 abbrev pub first_place : Option (Range ℕ) → List (LabelView (Unit {0}))
 first_place None = []
 first_place (Some range) =
     record { style = Secondary; file_id = tt; range = range; message = codes "first given here" }
     ∷ []
 
--- what a script's fault says: an error with its code, and a primary label at its place
+-- the diagnostic of a script's error: its code, and a primary label over its range
 abbrev pub said_of_fault : Fault → DiagnosticView (Unit {0})
 said_of_fault fault = record {
   severity = severities.Error;
@@ -123,10 +123,10 @@ said_of_fault fault = record {
   notes = [];
 }
 
--- ---- what a run draws
+-- ---- what a run renders
 
--- what is drawn of an input that was read as a script: its diagnostic over its source, or its fault
--- over the whole input
+-- what is rendered of an input that was read as a script: its diagnostic over its source, or its
+-- error over the whole input
 abbrev pub drawing_of_script : DisplayStyle → List ℕ → List ℕ → Result ScriptView Fault
     → Result (List ℕ) (List ℕ)
 drawing_of_script style name input (Ok script) =
@@ -134,13 +134,14 @@ drawing_of_script style name input (Ok script) =
 drawing_of_script style name input (Err fault) =
     Err (picture_text style (codes "script") input (said_of_fault fault))
 
--- what is drawn of an input: `Ok` a picture for the output, `Err` the picture of a script's fault
+-- what is rendered of an input: `Ok` what goes to the output, `Err` the diagnostic of a script's
+-- error
 abbrev pub drawing_of : AskedView → List ℕ → Result (List ℕ) (List ℕ)
 drawing_of (OneLabel request) input =
     Ok (picture_text request.style request.name input (said_of_request request))
 drawing_of (OfScript style name) input = drawing_of_script style name input (read_script input)
 
--- why nothing is drawn: a drawing failed, or the script has the fault of this picture
+-- the error of rendering: it failed, or the script has the error of this diagnostic
 abbrev pub IsDrawFailure : Result (List ℕ) (List ℕ) → faults.Fault → Type 0
 IsDrawFailure drawing (fault.Drawing error) = Unit {0}
 IsDrawFailure drawing (fault.BadScript picture) = drawing ≡ Err (string_bytes picture)

@@ -1,4 +1,4 @@
--- What a fault tells.
+-- The errors of a run.
 use Rattle.std.specs.Prelude.{◌≡◌, ◌⊎◌, ℕ, List, ◌++◌, Option, Some, Result, Ok, Err, codes, string_bytes}
 use Rattle.std.specs.Global.{Global}
 use Rattle.std.specs.Option.{option_map}
@@ -12,9 +12,8 @@ use Rattle.report.specs.declared.fault.Fault.TheVariants.{WrongArguments, Cannot
 use Rattle.report.specs.Drawings.{drawing_of}
 use Rattle.report.specs.Requests.{AskedView}
 
--- the program's status: 0 where there is no fault, 2 for wrong arguments, 3 for a script's fault
--- whose picture was told and 1 where it was not,
--- and 1 for any other fault
+-- the program's status: 0 without an error, 2 for wrong arguments, 3 or 1 for a script's error, and
+-- 1 for any other
 abbrev pub IsStatusOf : Result (Unit {0}) Fault → ℕ → Type 0
 IsStatusOf (Ok done) status = status ≡ 0
 IsStatusOf (Err WrongArguments) status = status ≡ 2
@@ -24,8 +23,8 @@ IsStatusOf (Err (Drawing error)) status = status ≡ 1
 IsStatusOf (Err (BadScript picture)) status = (status ≡ 3) ⊎ (status ≡ 1)
 IsStatusOf (Err CannotWriteOutput) status = status ≡ 1
 
--- the line of a fault, before its end; that of a drawing has the error's text, and that of a script
--- its picture
+-- the line of an error, without its newline; that of rendering has the text of its error, that of a
+-- script its diagnostic
 abbrev pub fault_text : Fault → Option (List ℕ)
 fault_text WrongArguments = Some (codes "usage: report STYLE NAME START END MESSAGE")
 fault_text CannotReadInput = Some (codes "report: cannot read input")
@@ -34,7 +33,7 @@ fault_text (Drawing error) = option_map (λ text. codes "report: " ++ text) (err
 fault_text (BadScript picture) = Some (string_bytes picture)
 fault_text CannotWriteOutput = Some (codes "report: cannot write output")
 
--- what a fault tells of what is asked for and of the input
+-- what an error says of the request and of the input
 abbrev pub FaultTells : Fault → AskedView → List ℕ → Type 0
 FaultTells WrongArguments asked input = ⊥
 FaultTells CannotReadInput asked input = Unit {0}
@@ -44,21 +43,21 @@ FaultTells (BadScript picture) asked input = drawing_of asked input ≡ Err (str
 FaultTells CannotWriteOutput asked input =
     IsUtf8 input × ((picture : List ℕ) × (drawing_of asked input ≡ Ok picture))
 
--- the fact holds of the picture, where the fault is that of a script
+-- the fact holds of the diagnostic, where the error is that of a script
 abbrev pub IfBadScript : Fault → (String Global → Type 0) → Type 0
 IfBadScript (BadScript picture) P = P picture
 IfBadScript _ P = Unit {0}
 
--- the line that tells that the output failed, with its end
+-- the line of a failed output, with its newline
 abbrev pub failed_output_line : List ℕ
 failed_output_line = codes "report: cannot write output\n"
 
--- known bytes grow by a prefix of bs: by some of its first bytes, by none or by all
+-- a prefix of bs is appended to known bytes: none of it, some of its first bytes, or all
 abbrev pub AppendsPrefix : Option (List ℕ) → Option (List ℕ) → List ℕ → Type 0
 AppendsPrefix old new bs = (front : List ℕ) × StartsWith bs front × Appends old new front
 
--- the output stays, or a whole picture was drawn for it: the status is 0, or it is 1 and what
--- `faults` has received is a prefix of the line of a failed output
+-- the output is unchanged, or all of it was rendered: the status is 0, or it is 1 and what `faults`
+-- has received is a prefix of the line of a failed output
 abbrev pub StaysUnlessDrawn : Type 0 → ℕ → Option (List ℕ) → Option (List ℕ) → Type 0
 StaysUnlessDrawn stays status old new =
     stays ⊎ ((status ≡ 0) ⊎ ((status ≡ 1) × AppendsPrefix old new failed_output_line))

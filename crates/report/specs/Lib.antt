@@ -1,6 +1,6 @@
--- what is asked for
+-- what the arguments request
 pub mod Requests
--- scripts: their lines, their words, their faults, and what they say
+-- scripts: their lines, their words, their errors, and what they state
 pub mod ScriptLines
 pub mod ScriptWords
 pub mod ScriptFaults
@@ -8,6 +8,6 @@ pub mod Scripts
 -- what scripts are written from, and their laws
 pub mod Statements
 pub mod ScriptLaws
--- what is drawn, and what faults tell
+-- what is rendered, and the errors of a run
 pub mod Drawings
 pub mod Faults

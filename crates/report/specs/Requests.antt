@@ -1,4 +1,4 @@
--- What the arguments ask for.
+-- What the arguments request.
 use Rattle.std.specs.Prelude.{ℕ, ◌^◌, ◌&&◌, nat_lt, List, [], ◌∷◌, Option, Some, None, IfSome, codes, if◌then◌else◌}
 use Rattle.std.specs.Str.{all_ascii_digits, bytes_eq}
 use Rattle.std.specs.Str.Parse.{digits_value}
@@ -17,7 +17,7 @@ pub record RequestView : Type 0 where
   pub end : ℕ
   pub message : List ℕ
 
--- what a request says
+-- a request by its fields
 abbrev pub request_view : Request → RequestView
 request_view request = record {
   style = request.style;
@@ -57,23 +57,23 @@ request_of (style ∷ name ∷ start ∷ end ∷ message ∷ []) =
     with_parts name message (style_of style) (number_of start) (number_of end)
 request_of _ = None
 
--- what a run is asked for: an error with one label over the input, or a script that the input
--- begins with, in a style, over a file of a name
+-- what a run renders: an error with one label over the input, or the script at the input's start,
+-- in a style, over a file of a name
 pub data AskedView : Type 0 where
   OneLabel : RequestView → AskedView
   OfScript : DisplayStyle → List ℕ → AskedView
 
--- what a run is asked for
+-- the same, of the program's value
 abbrev pub asked_view : Asked → AskedView
 asked_view (variants.OneLabel request) = OneLabel (request_view request)
 asked_view (variants.OfScript style name) = OfScript style name.now
 
--- what the arguments ask for: two of them a script, and others what a request of one label is
+-- what the arguments request: two of them a script, others an error with one label
 unfoldable pub asked_of : List (List ℕ) → Option AskedView
 asked_of (style ∷ name ∷ []) = option_map (λ s. OfScript s name) (style_of style)
 asked_of words = option_map OneLabel (request_of words)
 
--- the fact holds of what the words ask for and of the bytes that the reader has, where both are
+-- the fact holds of what the words request and of the bytes that the reader has, where both are
 -- known
 abbrev pub WhereKnown : List (List ℕ) → Option (List ℕ) → (AskedView → List ℕ → Type 0) → Type 0
 WhereKnown words bytes P = IfSome (asked_of words) (λ asked. IfSome bytes (P asked))

@@ -1,5 +1,5 @@
--- What is read of a script that is written from its statements, and where the faults of an input
--- lie.
+-- What is read of a script that is written from its statements, and where the errors of an input
+-- are.
 use Rattle.std.specs.Prelude.{◌≡◌, ℕ, ◌≤◌, List, length, Ok, IfErr, IfSome}
 use Rattle.std.specs.Str.{IsCharBoundary, IsUtf8}
 use Rattle.std.specs.declared.ops.Range.{Range}
@@ -21,11 +21,11 @@ pub record LiesIn (input : List ℕ) (range : Range ℕ) : Type 0 where
   pub starts : IsCharBoundary input range.start
   pub ends : IsCharBoundary input range.end
 
--- the places of a fault lie inside the input
+-- the ranges of an error lie inside the input
 pub record FaultLiesIn (input : List ℕ) (fault : Fault) : Type 0 where
   pub place : LiesIn input fault.range
   pub first : IfSome fault.first (LiesIn input)
 
--- where an input that is UTF-8 is no script, the places of its fault lie inside it
+-- where an input that is UTF-8 is no script, the ranges of its error lie inside it
 abbrev pub FaultsLieInside : List ℕ → Type 0
 FaultsLieInside input = IsUtf8 input → IfErr (read_script input) (FaultLiesIn input)

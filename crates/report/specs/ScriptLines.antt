@@ -63,15 +63,15 @@ abbrev pub is_ignored_text : List ℕ → Bool
 is_ignored_text [] = true
 is_ignored_text (b ∷ bs) = b == 35
 
--- the line says nothing
+-- the line is ignored
 abbrev pub is_ignored : ScriptLine → Bool
 is_ignored line = is_ignored_text line.text
 
--- the first field of a text: what stands before its first blank, or all of it
+-- the first field of a text: what precedes its first space, or all of it
 abbrev pub field_of : List ℕ → List ℕ
 field_of text = before_first is_blank text
 
--- what follows the first blank of a text, or nothing
+-- what follows the first space of a text, or nothing
 abbrev pub past_blank : List ℕ → List ℕ
 past_blank text = after_first is_blank text
 
@@ -83,14 +83,14 @@ word_of line = field_of line.text
 abbrev pub rest_of : ScriptLine → List ℕ
 rest_of line = past_blank line.text
 
--- where in the input a field stands with which an end of the line begins; a field that is not there
--- is empty, at the line's end
+-- the range in the input of a field with which a suffix of the line begins; a field that is not
+-- there is empty, at the line's end
 abbrev pub range_at : ScriptLine → List ℕ → List ℕ → Range ℕ
 range_at line from field = record {
   start = line.start + length line.text - length from;
   end = line.start + length line.text - length from + length field;
 }
 
--- where the word stands
+-- the range of the word
 abbrev pub word_range : ScriptLine → Range ℕ
 word_range line = range_at line line.text (word_of line)

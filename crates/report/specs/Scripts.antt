@@ -1,4 +1,4 @@
--- What a script says.
+-- What a script states.
 use Rattle.std.specs.Prelude.{ℕ, List, [], map, Option, Some, None, Result, Ok, Err, codes, if◌then◌else◌, unwrap_or}
 use Rattle.std.specs.Borrow.{Bor}
 use Rattle.std.specs.List.{filter_map}
@@ -19,7 +19,7 @@ use Rattle.report.specs.ScriptFaults.{given_line, fault_from, missing_end}
 use Rattle.report.specs.ScriptLines.{ScriptLine, lines_of, body, source_of, word_of, rest_of, field_of, past_blank}
 use Rattle.report.specs.ScriptWords.{word_named, severity_named}
 
--- what a script says: a diagnostic of one file, and that file's source
+-- what a script states: a diagnostic of one file, and that file's source
 pub record ScriptView : Type 0 where
   pub said : DiagnosticView (Unit {0})
   pub source : List ℕ
@@ -46,7 +46,7 @@ script_view script = record {
 abbrev pub rest_given : List ℕ → List ScriptLine → Option (List ℕ)
 rest_given word lines = option_map rest_of (given_line word lines)
 
--- the severity that is given, an error without one
+-- the severity that is stated, an error without one
 unfoldable pub severity_given : List ScriptLine → Severity
 severity_given lines =
     unwrap_or (option_and_then severity_named (rest_given (codes "severity") lines))
@@ -92,7 +92,7 @@ note_given line = if bytes_eq (word_of line) (codes "note") then Some (rest_of l
 abbrev pub notes_given : List ScriptLine → List (List ℕ)
 notes_given lines = filter_map note_given lines
 
--- what lines say
+-- what lines state
 abbrev pub diagnostic_of : List ScriptLine → DiagnosticView (Unit {0})
 diagnostic_of lines = record {
   severity = severity_given lines;
@@ -102,8 +102,8 @@ diagnostic_of lines = record {
   notes = notes_given lines;
 }
 
--- what is read of lines by their first fault and the source: the fault, else that the end is
--- missing, else what they say
+-- what is read of lines by their first error and the source: the error, else that the end is
+-- missing, else what they state
 abbrev pub read_lines : List ℕ → List ScriptLine → Option Fault → Option (List ℕ)
     → Result ScriptView Fault
 read_lines input lines (Some fault) source = Err fault
@@ -111,7 +111,7 @@ read_lines input lines None None = Err (missing_end input)
 read_lines input lines None (Some source) =
     Ok (record { said = diagnostic_of lines; source = source })
 
--- what an input says as a script, or its first fault
+-- what an input states as a script, or its first error
 unfoldable pub read_script : List ℕ → Result ScriptView Fault
 read_script input =
     read_lines input (body (lines_of input)) (fault_from [] (body (lines_of input)))

@@ -1,5 +1,5 @@
--- Statements: what the lines of a script give, what they say together, and how a script is written
--- from them.
+-- Statements: what each line of a script states, what they state together, and how a script is
+-- written from them.
 use Rattle.std.specs.Prelude.{◌≢◌, ℕ, ◌-◌, ◌^◌, ◌<◌, ◌≤◌, List, [], ◌∷◌, ◌++◌, length, Option, Some, None, IfSome, codes, flat_map, slice_index, unwrap_or}
 use Rattle.std.specs.Fmt.{decimal}
 use Rattle.std.specs.List.{All, filter_map, slice_get}
@@ -10,8 +10,8 @@ use Rattle.codespan_base.specs.declared.diagnostic.LabelStyle.TheVariants.{Prima
 use Rattle.codespan_base.specs.declared.diagnostic.Severity.{Severity}
 use Rattle.codespan_base.specs.declared.diagnostic.Severity.TheVariants.{Bug, Error, Warning, Note, Help}
 
--- a statement: what one line of a script gives; a label's message may be left out, and a comment
--- and an empty line give nothing
+-- a statement: what one line of a script states; a label's message may be left out, and a comment
+-- and an empty line state nothing
 pub data Statement : Type 0 where
   SeverityLine : Severity → Statement
   CodeLine : List ℕ → Statement
@@ -21,12 +21,12 @@ pub data Statement : Type 0 where
   CommentLine : List ℕ → Statement
   EmptyLine : Statement
 
--- the text can stand at the end of a line: it has no newline, and does not end in a carriage return
+-- the text can be the end of a line: it has no newline, and does not end in a carriage return
 pub record IsLineEnd (text : List ℕ) : Type 0 where
   pub no_newline : All (λ b. b ≢ 10) text
   pub no_return : slice_index text (length text - 1) ≢ 13
 
--- a line can state it: its text can stand at a line's end, and the numbers of a label fit a usize
+-- a line can state it: its text can be the end of a line, and the numbers of a label fit a usize
 abbrev pub IsStatable : Statement → Type 0
 IsStatable (SeverityLine severity) = Unit {0}
 IsStatable (CodeLine text) = IsLineEnd text
@@ -37,40 +37,40 @@ IsStatable (NoteLine text) = IsLineEnd text
 IsStatable (CommentLine text) = IsLineEnd text
 IsStatable EmptyLine = Unit {0}
 
--- ---- what statements say
+-- ---- what statements state
 
--- the severity that a statement gives
+-- the severity of a statement
 abbrev pub severity_stated : Statement → Option Severity
 severity_stated (SeverityLine severity) = Some severity
 severity_stated _ = None
 
--- the code that a statement gives
+-- the code of a statement
 abbrev pub code_stated : Statement → Option (List ℕ)
 code_stated (CodeLine text) = Some text
 code_stated _ = None
 
--- the message that a statement gives
+-- the message of a statement
 abbrev pub message_stated : Statement → Option (List ℕ)
 message_stated (MessageLine text) = Some text
 message_stated _ = None
 
--- the label that a statement gives
+-- the label of a statement
 abbrev pub label_stated : Statement → Option (LabelView (Unit {0}))
 label_stated (LabelLine style range message) =
     Some (record { style = style; file_id = tt; range = range; message = unwrap_or message [] })
 label_stated _ = None
 
--- the note that a statement gives
+-- the note of a statement
 abbrev pub note_stated : Statement → Option (List ℕ)
 note_stated (NoteLine text) = Some text
 note_stated _ = None
 
--- the one thing of its kind that statements give, if they give one
+-- the first thing of its kind that statements have, if they have one
 abbrev pub one_stated : {T : Type 0} → (Statement → Option T) → List Statement → Option T
 one_stated stated statements = slice_get (filter_map stated statements) 0
 
--- what statements say: an error where they give no severity, an empty message where they give none,
--- and the labels and notes in their order
+-- what statements state: an error without a severity, an empty message without one, and the labels
+-- and notes in their order
 abbrev pub said_by : List Statement → DiagnosticView (Unit {0})
 said_by statements = record {
   severity = unwrap_or (one_stated severity_stated statements) Error;
@@ -80,8 +80,8 @@ said_by statements = record {
   notes = filter_map note_stated statements;
 }
 
--- statements that make a script: lines can state them, and a severity, a code and a message are
--- given at most once
+-- statements that make a script: lines can state them, and there is at most one severity, one code
+-- and one message
 pub record AreScript (statements : List Statement) : Type 0 where
   pub statable : All IsStatable statements
   pub one_severity : length (filter_map severity_stated statements) ≤ 1
@@ -90,7 +90,7 @@ pub record AreScript (statements : List Statement) : Type 0 where
 
 -- ---- how statements are written
 
--- what a severity is called
+-- the name of a severity
 abbrev pub severity_name : Severity → List ℕ
 severity_name Bug = codes "bug"
 severity_name Error = codes "error"

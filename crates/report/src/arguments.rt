@@ -1,4 +1,4 @@
-//! The arguments that the program is started with.
+//! The program's arguments.
 
 ghost use Rattle.std.specs.Prelude.{◌≡◌, ◌⊎◌, IfErr};
 ghost use Rattle.codespan_base.specs.declared.files.Error.TheVariants.{OutOfMemory};
@@ -9,7 +9,7 @@ use std::env;
 use std::io::ErrorKind;
 use std::rt::Env;
 
-/// The program's arguments, without its own name. Some that are not UTF-8 are wrong arguments.
+/// Returns the program's arguments, without its own name. Arguments that are not UTF-8 are wrong.
 pub fn arguments<R: Env + AllocGlobal>(rt: &R) -> Result<Vec<String>, Fault>
     ensures { IfErr result (λ fault. (fault ≡ Fault.WrongArguments)
         ⊎ (fault ≡ Fault.Drawing OutOfMemory)) }

@@ -1,4 +1,4 @@
-//! The picture that a run is asked for.
+//! Renders the diagnostic that the arguments request.
 
 ghost use Rattle.std.specs.Prelude.{◌≡◌, IfOk, IfErr, Ok, string_bytes};
 ghost use Rattle.codespan_base.specs.Diagnostics.{diagnostic_view};
@@ -15,9 +15,13 @@ use codespan_reporting::files::{Error, SimpleFile};
 use codespan_reporting::term::{Config, DisplayStyle, emit_into_string};
 use std::alloc::Global;
 
-/// The text of the picture that is asked for.
+/// Returns the requested output.
 ///
-/// Fails with the picture of the first fault where a script is asked for and the input is none, and where a drawing failed.
+/// # Errors
+///
+/// - `BadScript` if a script is requested and the input is none: the rendered diagnostic of its
+///   first error.
+/// - `Drawing` if rendering fails.
 pub fn draw(alloc: Global, asked: &Asked<'_>, input: &str) -> Result<String, Fault>
     ensures text { IfOk result (λ text. drawing_of (asked_view asked.now) input.now
         ≡ Ok (string_bytes text)) }
@@ -29,7 +33,7 @@ pub fn draw(alloc: Global, asked: &Asked<'_>, input: &str) -> Result<String, Fau
     }
 }
 
-/// The picture of a request over the input.
+/// Renders a request over the input.
 fn draw_request(alloc: Global, request: &Request<'_>, input: &str) -> Result<String, Fault>
     ensures text { IfOk result (λ text.
         drawing_of (asked_view (Asked.OneLabel request.now)) input.now ≡ Ok (string_bytes text)) }
@@ -40,7 +44,7 @@ fn draw_request(alloc: Global, request: &Request<'_>, input: &str) -> Result<Str
     Ok(draw_over(alloc, request.style, request.name, input, &diagnostic)?)
 }
 
-/// The picture of what a script says over its source, or of its first fault over the whole input.
+/// Renders the diagnostic of a script over its source, or its first error over the whole input.
 fn draw_script(alloc: Global, style: DisplayStyle, name: &str, input: &str) -> Result<String, Fault>
     ensures text { IfOk result (λ text.
         drawing_of_script style name.now input.now (read_script input.now)
@@ -62,7 +66,7 @@ fn draw_script(alloc: Global, style: DisplayStyle, name: &str, input: &str) -> R
     }
 }
 
-/// The picture of a diagnostic over the file of a name and a source.
+/// Renders a diagnostic over the file of a name and a source.
 fn draw_over(
     alloc: Global,
     style: DisplayStyle,

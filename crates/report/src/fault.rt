@@ -1,4 +1,4 @@
-//! Why nothing was drawn, or the picture not written.
+//! The errors of a run.
 
 ghost use Rattle.std.specs.Prelude.{◌≡◌, IfSome, OnOk};
 ghost use Rattle.std.specs.Fmt.{with_newline};
@@ -10,18 +10,18 @@ use codespan_reporting::files::Error;
 use std::io::Write;
 use std::{fmt, io};
 
-/// Why a run ends without its picture.
+/// An error of a run.
 #[derive(Debug, Drop)]
 pub enum Fault {
     /// The number or the form of the arguments is wrong.
     WrongArguments,
-    /// A read failed, or the memory that the input needs.
+    /// Reading the input failed, or memory for it ran out.
     CannotReadInput,
     /// The input is not UTF-8.
     NotUtf8,
-    /// The drawing failed.
+    /// Rendering failed.
     Drawing(Error),
-    /// The input is no script: the picture of its first fault.
+    /// The input is no script: the rendered diagnostic of its first error.
     BadScript(String),
     /// A write or the flush of the output failed.
     CannotWriteOutput,
@@ -30,7 +30,12 @@ pub enum Fault {
 impl Fault {
     ghost use Rattle.report.specs.Faults.{AppendsPrefix, fault_text, failed_output_line};
 
-    /// Writes the fault's line, and where it fails a prefix of it, which is promised of the line of a failed output.
+    /// Writes the error's line.
+    ///
+    /// # Errors
+    ///
+    /// An [`io::Error`] if a write fails. Of the line of a failed output a prefix has then been
+    /// written; what has been written of another line is unspecified.
     pub fn write_line<W: Write>(&self, faults: &mut W) -> io::Result<()>
         ensures written { OnOk result (IfSome (with_newline (fault_text self.now))
             (Appends (W.contents faults.old) (W.contents faults.new))) }
@@ -45,7 +50,7 @@ impl Fault {
     }
 }
 
-/// A drawing that failed.
+/// An error of rendering becomes `Drawing`.
 impl From<Error> for Fault {
     ghost from_gives = { λ error fault. fault ≡ Drawing error };
 
@@ -54,7 +59,7 @@ impl From<Error> for Fault {
     }
 }
 
-/// One line, without its end.
+/// The error's line, without its newline.
 impl fmt::Display for Fault {
     ghost use Rattle.report.specs.Faults.{fault_text};
 

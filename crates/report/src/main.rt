@@ -1,17 +1,20 @@
-//! `report STYLE NAME START END MESSAGE` draws an error with one label over the source on standard input.
-//! `report STYLE NAME` draws what a script says that stands before the source there.
+//! `report STYLE NAME START END MESSAGE` renders an error with one label over the source on
+//! standard input. `report STYLE NAME` renders what the script there says, over the source that
+//! follows it.
 //!
-//! `STYLE` is `rich`, `medium` or `short`. `START` and `END` are bytes of the source, in decimal digits: what the label covers. `NAME` is the
-//! file's name, and `MESSAGE` what both the error and the label say. [`script`] says what a script is.
+//! `STYLE` is `rich`, `medium` or `short`. `START` and `END`, in decimal digits, are the byte
+//! range of the label in the source. `NAME` is the file's name, and `MESSAGE` the message of both
+//! the error and the label. [`script`] says what a script is.
 //!
 //! | status | what was done | standard error |
 //! |---|---|---|
-//! | 0 | the picture was written to standard output | nothing |
-//! | 1 | the input could not be read or was not UTF-8; the drawing, the output or memory for the arguments failed | one line: which of them |
-//! | 2 | nothing: the arguments are wrong | one line: how it is called |
-//! | 3 | nothing: the script has a fault | the picture of the fault, whole; where that fails the status is 1 |
+//! | 0 | the output was written to standard output | nothing |
+//! | 1 | the input is unreadable or not UTF-8, or rendering or writing failed | one line: which |
+//! | 2 | nothing: the arguments are wrong | one line: the usage |
+//! | 3 | nothing: the script has an error | its whole diagnostic; status 1 if that fails |
 //!
-//! Nothing is written to standard output unless the whole picture was drawn. Arguments that are not UTF-8 are wrong.
+//! Nothing is written to standard output before the whole output is rendered. Arguments that are
+//! not UTF-8 are wrong; where memory for them runs out, the status is 1.
 #![tactic(auto)]
 
 mod arguments;

@@ -1,4 +1,4 @@
-//! What the arguments ask for.
+//! What the arguments request.
 
 ghost use Rattle.std.specs.Prelude.{◌≡◌, map, string_bytes};
 ghost use Rattle.std.specs.Option.{option_map};
@@ -6,25 +6,26 @@ ghost use Rattle.report.specs.Requests.{number_of, style_of};
 
 use codespan_reporting::term::DisplayStyle;
 
-/// An error over a source: how much is drawn, the file's name, the bytes that its label covers, and what both say.
+/// A request for an error with one label over the input.
 #[derive(Clone, Copy, Debug)]
 pub struct Request<'args> {
-    /// How much is drawn.
+    /// The display style.
     pub style: DisplayStyle,
     /// The name of the file.
     pub name: &'args str,
-    /// The first byte of the label.
+    /// The byte index in the source at which the label starts.
     pub start: usize,
-    /// The byte after the label.
+    /// The byte index at which the label ends, exclusive.
     pub end: usize,
-    /// What the error and its label say.
+    /// The message of the error and of its label.
     pub message: &'args str,
 }
 
 impl<'args> Request<'args> {
     ghost use Rattle.report.specs.Requests.{request_view, request_of};
 
-    /// The request of the arguments `STYLE NAME START END MESSAGE`; `None` where their number or form is another.
+    /// Parses the arguments `STYLE NAME START END MESSAGE`; `None` if their number or form is
+    /// another.
     pub fn from_arguments(args: &'args [String]) -> Option<Request<'args>>
         ensures { option_map request_view result ≡ request_of (map string_bytes args.now) }
     {
@@ -41,19 +42,21 @@ impl<'args> Request<'args> {
     }
 }
 
-/// What a run is asked for.
+/// What the arguments request.
 #[derive(Clone, Copy, Debug)]
 pub enum Asked<'args> {
     /// An error with one label over the input.
     OneLabel(Request<'args>),
-    /// What the script says that the input begins with, in a style, over the file of a name whose source follows the script.
+    /// The script at the input's start, in this display style; the file has this name, and its
+    /// source follows the script.
     OfScript(DisplayStyle, &'args str),
 }
 
 impl<'args> Asked<'args> {
     ghost use Rattle.report.specs.Requests.{asked_of, asked_view};
 
-    /// What the arguments `STYLE NAME`, or those of a [`Request`], ask for; `None` where their number or form is another.
+    /// Parses the arguments `STYLE NAME`, or those of a [`Request`]; `None` if their number or form
+    /// is another.
     pub fn from_arguments(args: &'args [String]) -> Option<Asked<'args>>
         ensures { option_map asked_view result ≡ asked_of (map string_bytes args.now) }
     {
@@ -64,7 +67,7 @@ impl<'args> Asked<'args> {
     }
 }
 
-/// The style that is called `rich`, `medium` or `short`; `None` for any other word.
+/// Parses `rich`, `medium` or `short`; `None` for any other word.
 #[tactic(auto, unfolding(crate::specs::Requests::style_of))]
 fn parse_style(text: &str) -> Option<DisplayStyle>
     ensures { result ≡ style_of text.now }
@@ -77,7 +80,8 @@ fn parse_style(text: &str) -> Option<DisplayStyle>
     }
 }
 
-/// The number of one or more ASCII digits; `None` where there is another character, or the number does not fit.
+/// Parses one or more ASCII digits; `None` if there is another character or the number does not
+/// fit.
 pub fn parse_number(text: &str) -> Option<usize>
     ensures { result ≡ number_of text.now }
 {

@@ -14,13 +14,14 @@ use crate::streams::{read_source, write_text};
 use std::alloc::Global;
 use std::io::{Read, Write};
 
-/// Draws what the arguments ask for over the input, and answers the program's status.
+/// Renders what the arguments request over the input, and returns the program's status.
 ///
-/// Where nothing is drawn, or the output fails, it tells why to `faults`: the fault of a script as its picture, and any other in one
-/// line. The status 3 is answered where a script's fault was told whole; any other error of `faults` is ignored.
+/// If nothing is rendered, or writing the output fails, the error is written to `faults`: that of
+/// a script as a rendered diagnostic, any other in one line. The status is 3 where a script's
+/// error was written whole; any other failure of `faults` is ignored.
 ///
-/// The output is changed only where the whole picture was drawn: where the status is 0, or it is 1 and `faults` has received nothing but
-/// the line of a failed output or a prefix of it.
+/// The output is changed only after the whole of it was rendered: with status 0, or with status 1
+/// where `faults` has received nothing but the line of a failed output or a prefix of it.
 pub fn run<R: Read, W: Write, E: Write>(
     alloc: Global,
     args: &[String],
@@ -58,9 +59,10 @@ pub fn run<R: Read, W: Write, E: Write>(
     conclude(report(alloc, args, input, output), faults)
 }
 
-/// Tells the fault, if there is one, and answers the program's status: that of a script as its picture, and any other in one line.
+/// Writes the error, if there is one, and returns the program's status: the error of a script as a
+/// rendered diagnostic, any other in one line.
 ///
-/// An error of `faults` is ignored, but that a script's fault whose picture failed has the status 1.
+/// A failure of `faults` is ignored, except that the status of a script's error is then 1.
 pub fn conclude<E: Write>(outcome: Result<(), Fault>, faults: &mut E) -> u8
     ensures status { IsStatusOf outcome result }
     ensures silent { OnOk outcome (faults.new ≡ faults.old) }
@@ -87,7 +89,7 @@ pub fn conclude<E: Write>(outcome: Result<(), Fault>, faults: &mut E) -> u8
     }
 }
 
-/// Reads the arguments and the input, draws, and writes.
+/// Reads the arguments and the input, renders, and writes.
 fn report<R: Read, W: Write>(
     alloc: Global,
     args: &[String],

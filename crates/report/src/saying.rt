@@ -1,4 +1,4 @@
-//! The diagnostics of requests, of scripts, and of faults in scripts.
+//! The diagnostics of requests, of scripts, and of errors in scripts.
 
 ghost use Rattle.std.specs.Prelude.{◌≡◌, IfOk, map, string_bytes};
 ghost use Rattle.codespan_base.specs.Diagnostics.{diagnostic_view, label_view};
@@ -13,7 +13,7 @@ use codespan_reporting::diagnostic::{Diagnostic, Label};
 use codespan_reporting::files::Error;
 use std::alloc::Global;
 
-/// An error with the message, and with one primary label that has the same message.
+/// Returns an error with the message, and with one primary label that has the same message.
 pub fn of_request(alloc: Global, request: &Request<'_>) -> Result<Diagnostic<()>, Error>
     ensures { IfOk result (λ d. diagnostic_view d ≡ said_of_request (request_view request.now)) }
 {
@@ -24,7 +24,7 @@ pub fn of_request(alloc: Global, request: &Request<'_>) -> Result<Diagnostic<()>
     error.with_label(label)
 }
 
-/// What a script says.
+/// Returns the diagnostic that a script states.
 pub fn of_script(alloc: Global, script: &Script<'_>) -> Result<Diagnostic<()>, Error>
     ensures { IfOk result (λ d. diagnostic_view d ≡ (script_view script.now).said) }
 {
@@ -41,7 +41,7 @@ pub fn of_script(alloc: Global, script: &Script<'_>) -> Result<Diagnostic<()>, E
     })
 }
 
-/// The labels of a script.
+/// Returns the labels of a script.
 fn labels(alloc: Global, given: &[Labelled<'_>]) -> Result<Vec<Label<()>>, Error>
     ensures { IfOk result (λ labels. map label_view labels.items ≡ map labelled_view given.now) }
 {
@@ -57,7 +57,7 @@ fn labels(alloc: Global, given: &[Labelled<'_>]) -> Result<Vec<Label<()>>, Error
     Ok(labels)
 }
 
-/// The notes of a script.
+/// Returns the notes of a script.
 fn notes(alloc: Global, given: &[&str]) -> Result<Vec<String>, Error>
     ensures { IfOk result (λ notes. map string_bytes notes.items
         ≡ map (λ note. note.now) given.now) }
@@ -69,7 +69,8 @@ fn notes(alloc: Global, given: &[&str]) -> Result<Vec<String>, Error>
     Ok(notes)
 }
 
-/// An error with the fault's code, with a primary label at its place, and with a secondary one at the first place of a repeated word.
+/// Returns the diagnostic of a script's error: its code and message, a primary label over its
+/// range, and a secondary one over the first occurrence of a repeated word.
 pub fn of_fault(alloc: Global, fault: script::Fault) -> Result<Diagnostic<()>, Error>
     ensures { IfOk result (λ d. diagnostic_view d ≡ said_of_fault fault) }
 {

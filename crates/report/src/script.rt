@@ -1,7 +1,8 @@
-//! Scripts: a diagnostic in lines of words, and the source that it is drawn over.
+//! Scripts: a diagnostic in lines of words, and the source that it is rendered over.
 //!
-//! A script is a text of lines, up to the first line that is `---`; the source follows that line. Each line begins with a word, which goes
-//! up to the first blank, one space; its rest is what follows that blank. Lines that are empty or begin with `#` say nothing.
+//! A script is a text of lines, up to the first line that is `---`; the source follows that line.
+//! Each line begins with a word, which ends at the first space; its rest is what follows that
+//! space. Lines that are empty or begin with `#` are ignored.
 
 ghost use Rattle.std.specs.Prelude.{◌≡◌, MatchResult};
 ghost use Rattle.report.specs.Scripts.{read_script, script_view};
@@ -24,14 +25,14 @@ use std::ops::Range;
 /// A label of a script: its style, the bytes of the source that it covers, and its message.
 pub type Labelled<'input> = (LabelStyle, Range<usize>, &'input str);
 
-/// What a script says, with texts of the input that it was read from.
+/// What a script states, with texts borrowed from the input that it was parsed from.
 #[derive(Debug, Drop)]
 pub struct Script<'input> {
-    /// How bad it is; an error where the script does not say.
+    /// The severity; an error if the script states none.
     pub severity: Severity,
-    /// The code, if one is given.
+    /// The code, if the script states one.
     pub code: Option<&'input str>,
-    /// The message; empty where none is given.
+    /// The message; empty if the script states none.
     pub message: &'input str,
     /// The labels in the order of their lines.
     pub labels: Vec<Labelled<'input>>,
@@ -41,16 +42,16 @@ pub struct Script<'input> {
     pub source: &'input str,
 }
 
-/// What can be wrong with a script, in the order of its numbers, from 1 on.
+/// The kinds of errors in scripts, in the order of their numbers, from 1.
 #[derive(Clone, Copy, Debug, PartialEq, Eq)]
 pub enum FaultNumber {
-    /// A line begins with another word than those of scripts.
+    /// A line begins with a word that scripts do not have.
     UnknownWord,
     /// The rest of a `severity` line is no severity.
     UnknownSeverity,
-    /// Where a label starts or ends is no number.
+    /// The start or the end of a label is no number.
     BadNumber,
-    /// `severity`, `code` or `message` is given again.
+    /// `severity`, `code` or `message` is repeated.
     RepeatedWord,
     /// No line is `---`.
     MissingEnd,
@@ -59,7 +60,7 @@ pub enum FaultNumber {
 impl FaultNumber {
     ghost use Rattle.report.specs.Drawings.{fault_code, fault_message, fault_note};
 
-    /// The number as the code of an error: `S1` for the first.
+    /// Returns the code of the diagnostic, `S1` for the first kind.
     pub fn code(self) -> &'static str
         ensures { result.now ≡ fault_code self }
     {
@@ -72,7 +73,7 @@ impl FaultNumber {
         }
     }
 
-    /// What is wrong.
+    /// Returns the message of the diagnostic.
     pub fn message(self) -> &'static str
         ensures { result.now ≡ fault_message self }
     {
@@ -85,7 +86,7 @@ impl FaultNumber {
         }
     }
 
-    /// What is told at the place of the fault.
+    /// Returns the message of the label over the error.
     pub fn note(self) -> &'static str
         ensures { result.now ≡ fault_note self }
     {
@@ -101,14 +102,14 @@ impl FaultNumber {
     }
 }
 
-/// The first fault of a script, and where in the input it stands.
+/// The first error of a script, and its range in the input.
 #[derive(Clone, Debug, Drop, PartialEq, Eq)]
 pub struct Fault {
-    /// What is wrong.
+    /// The kind of error.
     pub number: FaultNumber,
-    /// The bytes of the input that are at fault.
+    /// The byte range of the input that is wrong.
     pub range: Range<usize>,
-    /// Of a repeated word, the bytes of its first one.
+    /// Of a repeated word, the byte range of its first occurrence.
     pub first: Option<Range<usize>>,
 }
 
@@ -117,11 +118,11 @@ pub struct Fault {
 pub enum ScriptError {
     /// The text is no script.
     Fault(Fault),
-    /// Memory failed.
+    /// Memory ran out.
     OutOfMemory,
 }
 
-/// Memory failed.
+/// A failed allocation becomes `OutOfMemory`.
 impl From<AllocError> for ScriptError {
     ghost from_gives = { λ _ error. error ≡ OutOfMemory };
 
@@ -130,9 +131,13 @@ impl From<AllocError> for ScriptError {
     }
 }
 
-/// What a text says as a script. Where it is none, it fails with its first fault, by lines, and within a line from left to right.
+/// Parses a text as a script.
 ///
-/// Fails with `OutOfMemory` where memory failed.
+/// # Errors
+///
+/// - `Fault` if the text is no script: its first error, by lines, and within a line from left to
+///   right.
+/// - `OutOfMemory` if memory runs out.
 pub fn parse_script(alloc: Global, input: &str) -> Result<Script<'_>, ScriptError>
     ensures { MatchResult result (λ script. read_script input.now ≡ Ok (script_view script))
         (λ error. IsFaultOf (read_script input.now) error) }

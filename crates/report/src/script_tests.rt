@@ -1,11 +1,12 @@
-//! Scripts that are run: the input, the status, and what is drawn.
+//! Runs over scripts: the input, the status, and what is rendered.
 
 use crate::run::run;
 use crate::tests::{Input, Output, arguments, ran};
 use std::process::Abort;
 use std::test::Fail;
 
-/// Runs a script in a style over the file `f.txt`: what the output has, what the faults have, and the status.
+/// Runs a script in a style over the file `f.txt`: the output, what is written to `faults`, and the
+/// status.
 fn check<R: Abort + AllocGlobal>(
     rt: &R,
     style: &str,
@@ -396,7 +397,8 @@ fn scripts_without_end(rt: HostRuntime) -> Result<(), Fail> {
     Ok(())
 }
 
-/// Where the picture of a script's fault fails the status is 1, and nothing more is written.
+/// If writing the diagnostic of a script's error fails, the status is 1 and nothing more is
+/// written.
 #[test]
 fn script_fault_failed(rt: HostRuntime) -> Result<(), Fail> {
     let args = arguments(rt.alloc(), &["short", "f.txt"])?;

@@ -10,7 +10,7 @@ use std::alloc::Global;
 use std::io;
 use std::io::{ErrorKind, Read, Write};
 
-/// The whole input, as a text.
+/// Reads the whole input, as a text.
 pub fn read_source<R: Read>(alloc: Global, input: &mut R) -> Result<String, Fault>
     ensures source { IfOk result (λ source.
         IfSome (R.remaining input.old) (λ bytes. string_bytes source ≡ bytes)) }
@@ -44,7 +44,7 @@ pub fn write_text<W: Write>(output: &mut W, text: &str) -> Result<(), Fault>
     }
 }
 
-/// The same, with the cause of an error.
+/// Writes the text and flushes the output; on an error, returns what the writer returned.
 fn write_and_flush<W: Write>(output: &mut W, text: &str) -> io::Result<()>
     ensures written { OnOk result (Appends (W.contents output.old)
         (W.contents output.new) text.now) }
@@ -54,16 +54,16 @@ fn write_and_flush<W: Write>(output: &mut W, text: &str) -> io::Result<()>
     output.flush()
 }
 
-/// Writes all the bytes, and where it fails a prefix of them. An interrupted write is tried again.
+/// Writes all the bytes, or a prefix of them and fails. An interrupted write is tried again.
 ///
-/// That is what `write_all` does, but its contract leaves open what a failed one has written.
+/// `write_all` does the same, but its contract leaves open what has been written if it fails.
 pub fn write_whole<W: Write>(writer: &mut W, bytes: &[u8]) -> io::Result<()>
     ensures written { OnOk result (Appends (W.contents writer.old)
         (W.contents writer.new) bytes.now) }
     ensures begun { AppendsPrefix (W.contents writer.old) (W.contents writer.new) bytes.now }
 {
     let mut rest = bytes;
-    // No run makes as many writes.
+    // More writes than any run makes.
     for _ in 0..u64::MAX {
         if rest.is_empty() {
             return Ok(());

@@ -9,10 +9,10 @@ use std::test::Fail;
 /// The arguments of most runs.
 const REQUEST: [&str; 5] = ["rich", "f.txt", "0", "3", "bad"];
 
-/// What they draw over `abc` and a newline.
+/// Their output over `abc` and a newline.
 const PICTURE: &str = "error: bad\n  ┌─ f.txt:1:1\n  │\n1 │ abc\n  │ ^^^ bad\n\n";
 
-/// What a label over both lines draws over `abc`, a newline and `d`.
+/// The output of a label over both lines of `abc`, a newline and `d`.
 const TWO_LINES: &str = "error: bad\n  ┌─ f.txt:1:1\n  │  \n1 │ ╭ abc\n2 │ │ d\n  │ ╰^ bad\n\n";
 
 /// The line of wrong arguments.
@@ -27,7 +27,7 @@ pub struct Input<'a> {
 }
 
 impl<'a> Input<'a> {
-    /// An input that fails no read.
+    /// Returns an input that fails no read.
     pub fn new(text: &'a [u8]) -> Self {
         Input {
             left: text,
@@ -58,7 +58,7 @@ pub struct Output {
 }
 
 impl Output {
-    /// An output that fails nothing.
+    /// Returns an output that fails nothing.
     pub fn new(alloc: Global) -> Self {
         Output {
             taken: Vec::new(alloc),
@@ -68,7 +68,7 @@ impl Output {
         }
     }
 
-    /// What it has taken, as a text.
+    /// Returns what it has taken, as a text.
     pub fn text(&self) -> &str {
         match std::str::from_utf8(self.taken.as_slice()) {
             Ok(text) => text,
@@ -95,7 +95,7 @@ impl Write for Output {
     }
 }
 
-/// The words as the program has them.
+/// Returns the words as the program has them.
 pub fn arguments(alloc: Global, words: &[&str]) -> Result<Vec<String>, AllocError> {
     words
         .iter()
@@ -103,7 +103,7 @@ pub fn arguments(alloc: Global, words: &[&str]) -> Result<Vec<String>, AllocErro
         .try_collect(alloc)
 }
 
-/// What a run answered and wrote.
+/// What a run returned and wrote.
 #[derive(Drop)]
 pub struct Outcome {
     pub status: u8,
@@ -111,7 +111,7 @@ pub struct Outcome {
     pub faults: Output,
 }
 
-/// A run over an input and an output that fail nothing.
+/// Runs over an input and an output that fail nothing.
 pub fn ran(alloc: Global, words: &[&str], text: &[u8]) -> Result<Outcome, AllocError> {
     let args = arguments(alloc, words)?;
     let mut output = Output::new(alloc);

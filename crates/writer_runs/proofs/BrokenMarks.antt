@@ -1,9 +1,9 @@
--- A mark that broke off after the first bytes of its spelling.
+-- A style mark of which only the first bytes of its spelling are written.
 use Rattle.std.proofs.Common.{◌≡◌, ℕ, List, ◌++◌, Option, take, drop, sym, ap, ◌∙◌, append_assoc}
 use Rattle.std.proofs.lemmas.List.{take-append-drop}
 use Rattle.codespan_base.specs.WriterLaw.{extended, PrefixAppended}
 
--- the first bytes came
+-- the first bytes are written
 pub first_came : (o : Option (List ℕ)) (n : ℕ) (bs first : List ℕ) (m : Option (List ℕ)) → first ≡ take n bs → m ≡ extended o first → PrefixAppended o bs m
 first_came o n bs first m e h = record {
   begun = first;
@@ -12,7 +12,7 @@ first_came o n bs first m e h = record {
   held = h;
 }
 
--- the first bytes began
+-- the first bytes are a prefix
 pub first_began : (o : Option (List ℕ)) (n : ℕ) (bs first : List ℕ) (m : Option (List ℕ)) → first ≡ take n bs → PrefixAppended o first m → PrefixAppended o bs m
 first_began o n bs first m e p = record {
   begun = p.begun;

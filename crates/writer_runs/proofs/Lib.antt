@@ -1,2 +1,2 @@
--- a mark that broke off
+-- a style mark that is written in part
 mod BrokenMarks

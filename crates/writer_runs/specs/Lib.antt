@@ -1,2 +1,2 @@
--- the writer of styles that stops at a mark
+-- the writer of styles that stops at a style mark
 pub mod Spellings

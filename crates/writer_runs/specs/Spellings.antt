@@ -3,7 +3,7 @@ use Rattle.std.specs.Prelude.{ℕ, Bool, List, [], ◌∷◌, Option, codes}
 use Rattle.codespan_base.specs.Streams.{StyleMark, Header, HeaderMessage, LineNumber, NoteBullet, SourceBorder, LabelMark, Reset}
 use Rattle.codespan_base.specs.WriterLaw.{Sink}
 
--- the escape sequence of a mark
+-- the escape sequence of a style mark
 abbrev pub sequence : StyleMark → List ℕ
 sequence (Header severity) = 0x1b ∷ codes "[1m"
 sequence HeaderMessage = 0x1b ∷ codes "[2m"
@@ -13,7 +13,7 @@ sequence SourceBorder = 0x1b ∷ codes "[5m"
 sequence (LabelMark severity style) = 0x1b ∷ codes "[6m"
 sequence Reset = 0x1b ∷ codes "[0m"
 
--- what the law sees of the writer
+-- the writer, as the law of writers sees it
 abbrev pub spelling_sink : Bool → Option (List ℕ) → Sink
 spelling_sink failed held =
     record { frame = record { spelling = sequence; failed = failed; through = [] }; held = held }

@@ -40,7 +40,8 @@ pub enum RowCall<'text> {
     Source(Line<'text>),
     /// `render_snippet_empty` at a padding, in a file with this many lanes.
     SnippetEmpty(usize, usize),
-    /// `render_snippet_break` at a padding, in a file with this many lanes, and their marks.
+    /// `render_snippet_break` at a padding, in a file with this many lanes, and these multi-line
+    /// label marks.
     Break(usize, usize, &'text [(usize, LabelStyle, MultiLabel<'text>)]),
     /// `render_snippet_note` at a padding.
     Note(usize, &'text str),

@@ -32,7 +32,8 @@ pub enum Failure {
     OtherText(Path),
     /// The text in escape sequences differs from what the row states.
     OtherColours,
-    /// On a path, with a writer that stops in this way after this many writes or marks: the result
+    /// On a path, with a writer that stops in this way after this many writes or style marks: the
+    /// result
     /// is not `Io`, the writer does not hold exactly what it accepted before, or it was called
     /// again.
     Stopped(Path, Ending, usize),

@@ -20,19 +20,19 @@ fn counted(calls_after: usize, failed: bool) -> usize {
     }
 }
 
-/// A writer that spells each style mark as an escape sequence. It fails at the mark after this many
-/// others, once the first byte of its spelling is written.
+/// A writer that spells each style mark as an escape sequence. It fails at the style mark after
+/// this many others, once the first byte of its spelling is written.
 #[derive(Drop)]
 pub struct Marking<W> {
     inner: W,
     failed: bool,
     marks_left: usize,
-    /// The number of marks and writes after the failed one.
+    /// The number of style marks and writes after the failed one.
     pub calls_after: usize,
 }
 
 impl<W: Write> Marking<W> {
-    /// Returns a writer that fails after `marks` marks.
+    /// Returns a writer that fails after `marks` style marks.
     pub fn new(writer: W, marks: usize) -> Marking<W> {
         Marking {
             inner: writer,
@@ -42,7 +42,7 @@ impl<W: Write> Marking<W> {
         }
     }
 
-    /// Returns whether a mark or a write has failed.
+    /// Returns whether a style mark or a write has failed.
     pub fn has_failed(&self) -> bool {
         self.failed
     }
@@ -52,7 +52,7 @@ impl<W: Write> Marking<W> {
         self.inner
     }
 
-    /// Writes the spelling of a mark, or only its first byte and fails.
+    /// Writes the spelling of a style mark, or only its first byte and fails.
     fn send_mark(&mut self, text: &[u8]) -> io::Result<()>
         ensures { Sends (spelling_sink self.old.failed (W.contents self.old.inner))
             (bytes text.now) result

@@ -27,9 +27,9 @@ pub enum Look {
     Boxes,
     /// ASCII alone.
     Ascii,
-    /// Those of box drawing, with others at the bottom of a label over several lines.
+    /// Those of box drawing, with others at the bottom of a multi-line label.
     OtherBottoms,
-    /// Those of box drawing, with another from the top corner of a label over several lines to its
+    /// Those of box drawing, with another from the top corner of a multi-line label to its
     /// start.
     OtherTops,
 }

@@ -96,8 +96,9 @@ pub fn judge_marks<D: Draws>(alloc: Global, drawn: &D, whole: &[u8]) -> Result<u
     Ok(marks.saturating_add(1))
 }
 
-/// Renders to a writer that fails at the mark after this many, and returns whether it then holds
-/// these bytes and, if they are not all, the result is `Io` and no mark and no write followed.
+/// Renders to a writer that fails at the style mark after this many, and returns whether it then
+/// holds these bytes and, if they are not all, the result is `Io` and no style mark and no write
+/// followed.
 fn stops_at_mark<D: Draws>(
     alloc: Global,
     drawn: &D,

@@ -108,7 +108,7 @@ impl<'a, 'text: 'a> Files<'a> for FromZero<'text> {
 
     ghost same_is = { λ s. refl };
 
-    // A line past the last fails as in that file.
+    // A line past the last one fails as in that file.
     ghost past_end = { λ s _ i.
         simple_past_end (Some (name_of s.file).now) (source_of s.file).now i };
 }

@@ -3,7 +3,7 @@
 use codespan_reporting::diagnostic::{LabelStyle, Severity};
 use codespan_reporting::term::{Chars, Config, DisplayStyle};
 
-/// What the files of a case stand in.
+/// The file database of a case.
 #[derive(Clone, Copy, PartialEq)]
 pub enum Table {
     One,
@@ -83,7 +83,7 @@ impl Case {
                     _ => return None,
                 }
             }
-            // The crate has one layout, the classic one, and draws it for the other too.
+            // The crate has one layout, the classic one, which is rendered for the other too.
             "layout" => return matches!(rest, "classic" | "unbroken").then_some(()),
             "tab" => self.config.tab_width = rest.parse().ok()?,
             "context" => match numbers(rest)?.as_slice() {
@@ -152,7 +152,7 @@ fn character_of<'chars>(chars: &'chars mut Chars, name: &str) -> Option<&'chars 
     }
 }
 
-/// The numbers of a line, one blank apart.
+/// The numbers of a line, separated by spaces.
 fn numbers(rest: &str) -> Option<Vec<usize>> {
     rest.split(' ').map(|number| number.parse().ok()).collect()
 }

@@ -1,6 +1,8 @@
-//! `compare < CASES` draws cases of the gallery by the Rust crate, and writes for each `NAME KIND LENGTH`, and then a text of that many bytes
-//! and a newline. KIND is `drawn`, and the text is the picture; or `refused`, and the text is the error, a newline, and what was drawn before
-//! the refusal; or `panicked`, with an empty text. A case in colours is drawn with escape sequences.
+//! `compare < CASES` renders cases of the gallery by the Rust crate, and writes for each `NAME KIND
+//! LENGTH`, and then a text of that many bytes and a newline. KIND is `drawn`, and the text is the
+//! output; or `refused`, and the text is the error, a newline, and what was written before it; or
+//! `panicked`, with an empty text. A case in
+//! colors is rendered with escape sequences.
 
 mod case;
 mod mapped;
@@ -13,10 +15,10 @@ use mapped::MappedFile;
 use std::io::{self, Read, Write};
 use std::panic;
 
-/// What the crate draws of a case: a picture, or an error and what was drawn before it.
+/// What the crate renders of a case: its output, or an error and what was written before it.
 type Outcome = Result<Vec<u8>, (String, Vec<u8>)>;
 
-/// Draws a case.
+/// Renders a case.
 fn draw(case: &Case) -> Outcome {
     let mut files = case.files.iter().map(|file| (file.name.as_str(), file.text.as_str()));
     match case.table {
@@ -38,7 +40,7 @@ fn draw(case: &Case) -> Outcome {
     }
 }
 
-/// Draws a case over its files, of which each has an id in the table.
+/// Renders a case over its file database, in which each file has an id.
 fn draw_over<'files, F: Files<'files>>(
     case: &Case,
     files: &'files F,
@@ -77,7 +79,7 @@ fn diagnostic<Id>(case: &Case, id: impl Fn(usize) -> Id) -> Diagnostic<Id> {
     }
 }
 
-/// Writes what came of a case.
+/// Writes the outcome of a case.
 fn write(output: &mut impl Write, name: &str, kind: &str, text: &[u8]) -> io::Result<()> {
     writeln!(output, "{name} {kind} {}", text.len())?;
     output.write_all(text)?;

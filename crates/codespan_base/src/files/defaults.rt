@@ -1,5 +1,5 @@
-//! Column numbers and locations as most files have them, for file databases that count so. The rules are those of the Rust crate's
-//! default bodies.
+//! Column numbers and locations as most files have them, for file databases that count so. The
+//! rules are those of the Rust crate's default bodies.
 
 ghost use Rattle.std.specs.Prelude.{◌≡◌, ◌+◌, IfOk};
 ghost use Rattle.codespan_files.specs.LawfulFiles.{FailsBy, column_of, location_of, column_failure, location_failure};
@@ -7,8 +7,9 @@ ghost use Rattle.codespan_files.specs.LawfulFiles.{FailsBy, column_of, location_
 use crate::files::{Error, Files, Location};
 use std::convert::AsStr;
 
-/// Returns the column number of a byte on a line as most files have it, in characters from 1: [`column_index`] of the source, the line's
-/// range and the byte, plus 1. Both indices count from 0.
+/// Returns the column number of a byte on a line as most files have it, in characters from 1:
+/// [`column_index`] of the source, the line's range and the byte, plus 1. Both indices count from
+/// 0.
 ///
 /// A database's own `column_number` can not call this, since that would be a cycle; its body is
 /// [`column_number_by_default!`](codespan_base::column_number_by_default).
@@ -30,7 +31,8 @@ pub fn default_column_number<'a, F: Files<'a>>(
     crate::column_number_by_default!(files, id, line_index, byte_index)
 }
 
-/// Returns the location of a byte as most files have it: the number of its line, and its column number there. The byte index counts from 0.
+/// Returns the location of a byte as most files have it: the number of its line, and its column
+/// number there. The byte index counts from 0.
 ///
 /// A database's own `location` can not call this, since that would be a cycle; its body is
 /// [`location_by_default!`](codespan_base::location_by_default).
@@ -50,8 +52,9 @@ pub fn default_location<'a, F: Files<'a>>(
     crate::location_by_default!(files, id, byte_index)
 }
 
-/// Writes the body of a database's own `column_number`, from its `source` and `line_range`: it returns what
-/// [`default_column_number`](codespan_reporting::files::default_column_number) returns, and fails as it does.
+/// Writes the body of a database's own `column_number`, from its `source` and `line_range`: it
+/// returns what [`default_column_number`](codespan_reporting::files::default_column_number)
+/// returns, and fails as it does.
 #[macro_export]
 macro_rules! column_number_by_default {
     ($files:expr, $id:expr, $line_index:expr, $byte_index:expr) => {{
@@ -61,7 +64,8 @@ macro_rules! column_number_by_default {
     }};
 }
 
-/// Writes the body of a database's own `location`, from its `line_index`, `line_number` and `column_number`: it returns what
+/// Writes the body of a database's own `location`, from its `line_index`, `line_number` and
+/// `column_number`: it returns what
 /// [`default_location`](codespan_reporting::files::default_location) returns, and fails as it does.
 #[macro_export]
 macro_rules! location_by_default {

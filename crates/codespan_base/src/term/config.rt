@@ -19,10 +19,11 @@ pub mod writing;
 use chars::Chars;
 use codespan_files::files::Error;
 
-/// The configuration of the output. `'chars` is the lifetime of the text before a locus, where that text is borrowed.
+/// The configuration of the output. `'chars` is the lifetime of the text before a locus, where that
+/// text is borrowed.
 ///
-/// The fields and their defaults are the Rust crate's, but for `layout`. All numbers of lines are minima, as there: other labels may show
-/// more.
+/// The fields and their defaults are the Rust crate's, but for `layout`. All numbers of lines are
+/// minima, as there: other labels may show more.
 ///
 /// # Examples
 ///
@@ -39,17 +40,22 @@ use codespan_files::files::Error;
 pub struct Config<'chars> {
     /// How much of a diagnostic is rendered. By default [`DisplayStyle::Rich`].
     pub display_style: DisplayStyle,
-    /// The distance of tab stops, in cells of the terminal. Where it is 0, a tab takes no cell. By default 4.
+    /// The distance of tab stops, in cells of the terminal. Where it is 0, a tab takes no cell. By
+    /// default 4.
     pub tab_width: usize,
     /// The characters of the output. By default [`Chars::box_drawing`].
     pub chars: Chars<'chars>,
-    /// How many lines are shown after the first line of a multi-line label, where it has so many. By default 3.
+    /// How many lines are shown after the first line of a multi-line label, where it has so many.
+    /// By default 3.
     pub start_context_lines: usize,
-    /// How many lines are shown before the last line of a multi-line label, where it has so many. By default 1.
+    /// How many lines are shown before the last line of a multi-line label, where it has so many.
+    /// By default 1.
     pub end_context_lines: usize,
-    /// How many lines are shown before a label's first line, where the file has so many. By default 0.
+    /// How many lines are shown before a label's first line, where the file has so many. By default
+    /// 0.
     pub before_label_lines: usize,
-    /// How many lines are shown after a label's last line, where the file has so many. By default 0.
+    /// How many lines are shown after a label's last line, where the file has so many. By default
+    /// 0.
     pub after_label_lines: usize,
     /// The padding width and the lanes. By default [`Layout::Classic`], the Rust crate's.
     pub layout: Layout,
@@ -113,7 +119,8 @@ pub enum DisplayStyle {
     ///
     /// ```
     Rich,
-    /// A header for each primary label, with its locus, and then the notes. Without primary labels there is one header without a locus.
+    /// A header for each primary label, with its locus, and then the notes. Without primary labels
+    /// there is one header without a locus.
     ///
     /// ```text
     /// test:2:9: error[E0001]: unexpected type in `+` application
@@ -132,9 +139,11 @@ pub enum DisplayStyle {
 /// How wide the padding is, and how the lanes of multi-line labels are rendered.
 #[derive(Clone, Copy, Debug, PartialEq, Eq)]
 pub enum Layout {
-    /// The Rust crate's layout: the padding width fits the numbers of the lines from the start to the end of each label, and below a
-    /// corner that is in a source row its lane is left out in the other rows of that line.
+    /// The Rust crate's layout: the padding width fits the numbers of the lines from the start to
+    /// the end of each label, and below a corner that is in a source row its lane is left out in
+    /// the other rows of that line.
     Classic,
-    /// This project's own layout: the padding width fits the numbers of all drawn lines, and each lane is one line from corner to corner.
+    /// This project's own layout: the padding width fits the numbers of all drawn lines, and each
+    /// lane is one line from corner to corner.
     Unbroken,
 }

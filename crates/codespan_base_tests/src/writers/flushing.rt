@@ -17,7 +17,7 @@ fn send_and_flush<W: WriteStyle>(w: &mut W) -> io::Result<()> {
     w.flush()
 }
 
-/// A write and a flush come through each writer, and nothing else flushes.
+/// Each writer passes on a write and a flush, and nothing else flushes.
 #[test]
 fn only_flush_flushes(rt: HostRuntime) -> Result<(), Fail> {
     let styles = Styles::default();

@@ -1,4 +1,4 @@
-//! Parts of rows, sent to writers that take little at a time, or stop.
+//! Parts of rows, written to writers that take little at a time, or stop.
 
 use crate::writers::example::TagWriter;
 use crate::writers::stopping::{Stop, Stopping};

@@ -50,8 +50,8 @@ impl Stopping {
         self.has_stopped
     }
 
-    /// Whether it holds what it should of the whole text: all of it, where it has not stopped, and else a beginning, and no write has
-    /// followed the failed one.
+    /// Whether it holds what it should of the whole text: all of it, where it has not stopped, and
+    /// else a beginning, and no write has followed the failed one.
     pub fn is_right(&self, succeeded: bool, whole: &[u8]) -> bool {
         let text = self.text.as_slice();
         succeeded != self.has_stopped
@@ -104,7 +104,7 @@ impl Write for Stopping {
     }
 }
 
-/// Whether a drawing failed with `Io`; `None` where it failed otherwise.
+/// Returns whether rendering failed with `Io`; `None` if it failed otherwise.
 pub fn is_failed(answer: &Result<(), Error>) -> Option<bool> {
     match answer {
         Ok(()) => Some(false),

@@ -5,11 +5,13 @@ ghost use Rattle.codespan_files.specs.LawfulFiles.{NeedsNoMemory, FailsBy, line_
 
 use crate::files::Error;
 
-/// Returns the number of a line as most files have it: the 0-based index plus 1, as the Rust crate's default does.
+/// Returns the number of a line as most files have it: the 0-based index plus 1, as the Rust
+/// crate's default does.
 ///
 /// # Errors
 ///
-/// [`Error::LineTooLarge`] `{ given: usize::MAX, max: usize::MAX - 1 }` where the index is `usize::MAX`; the Rust crate overflows there.
+/// [`Error::LineTooLarge`] `{ given: usize::MAX, max: usize::MAX - 1 }` where the index is
+/// `usize::MAX`; the Rust crate overflows there.
 pub fn default_line_number(line_index: usize) -> Result<usize, Error>
     ensures value { IfOk result (λ n. n ≡ line_index + 1) }
     ensures failed { FailsBy (line_number_failure line_index) result }

@@ -8,7 +8,8 @@ use std::{fmt, io};
 
 /// The error of a lookup, of a call that makes a diagnostic, or of rendering.
 ///
-/// The variants and texts are the Rust crate's, but for [`Error::OutOfMemory`], which is this project's own.
+/// The variants and texts are the Rust crate's, but for [`Error::OutOfMemory`], which is this
+/// project's own.
 #[derive(Debug, Drop)]
 #[non_exhaustive]
 pub enum Error {
@@ -21,23 +22,27 @@ pub enum Error {
         /// The greatest byte index of the file.
         max: usize,
     },
-    /// The file has no such line, or the line's number does not fit into a `usize`.
+    /// The file has no such line, or the line's number does not fit into a `usize`, or, of a
+    /// position of `codespan_lsp`, the line's index does not fit into a `u32`.
     LineTooLarge {
         /// The line index that was looked up, from 0.
         given: usize,
         /// The greatest line index with which the lookup succeeds.
         max: usize,
     },
-    /// The line has no such column. Returned by custom file databases only.
+    /// The line has no such column. Returned by custom file databases, and by `codespan_lsp` where
+    /// a byte or a position is past its line's end, or a column does not fit into a `u32`.
     ColumnTooLarge {
-        /// The column that was looked up, in characters from 0.
+        /// The column that was looked up, from 0: in characters, in `codespan_lsp` in bytes of the
+        /// line or in code units.
         given: usize,
-        /// The greatest column of the line.
+        /// The greatest column with which the lookup succeeds, in the same unit.
         max: usize,
     },
-    /// The byte is inside a character. Returned by custom file databases only.
+    /// The byte is inside a character, or the position between its code units. Returned by custom
+    /// file databases and by `codespan_lsp`.
     InvalidCharBoundary {
-        /// The byte index that was looked up, from 0.
+        /// The byte index that was looked up, from 0; of a position that of the character.
         given: usize,
     },
     /// A write to a writer failed or took none of its bytes, or a file database failed to read.
@@ -75,7 +80,8 @@ impl From<AllocError> for Error {
     }
 }
 
-/// Converts a failed allocation to [`Error::OutOfMemory`], and drops the value that was to be added.
+/// Converts a failed allocation to [`Error::OutOfMemory`], and drops the value that was to be
+/// added.
 impl<T: Drop> From<AllocFailed<T>> for Error {
     ghost from_gives = { λ _ e. e ≡ OutOfMemory };
 
@@ -110,5 +116,6 @@ impl fmt::Display for Error {
     }
 }
 
-/// Returns no `source`: the inner error of [`Error::Io`] is in the variant, and its text is displayed.
+/// Returns no `source`: the inner error of [`Error::Io`] is in the variant, and its text is
+/// displayed.
 impl std::error::Error for Error {}

@@ -6,9 +6,11 @@ ghost use Rattle.codespan_files.specs.LineStarts.{starts_left};
 use crate::files::LineStarts;
 use std::ops::Range;
 
-/// Returns the byte indices at which the lines of a text start: 0, and after each newline the next one. They count from 0 and ascend.
+/// Returns the byte indices at which the lines of a text start: 0, and after each newline the next
+/// one. They count from 0 and ascend.
 ///
-/// File databases keep them, and search them for a byte's line: [`Files::line_index`](codespan_reporting::files::Files::line_index).
+/// File databases keep them, and search them for a byte's line:
+/// [`Files::line_index`](codespan_reporting::files::Files::line_index).
 ///
 /// # Examples
 ///
@@ -23,11 +25,13 @@ pub fn line_starts(source: &str) -> LineStarts<'_>
     LineStarts::new(source)
 }
 
-/// Returns the column of a byte on a line, in characters from 0: the number of character boundaries after the line's start, up to the
-/// byte, the line's end or the text's end, whichever comes first. The rule is the Rust crate's.
+/// Returns the column of a byte on a line, in characters from 0: the number of character boundaries
+/// after the line's start, up to the byte, the line's end or the text's end, whichever comes first.
+/// The rule is the Rust crate's.
 ///
-/// `line_range` and `byte_index` are in bytes of `source`, from 0, with an exclusive end. Before the line's start the column is 0, inside
-/// a character that of the character, and past the line's end that of the end. Any range and byte are valid.
+/// `line_range` and `byte_index` are in bytes of `source`, from 0, with an exclusive end. Before
+/// the line's start the column is 0, inside a character that of the character, and past the line's
+/// end that of the end. Any range and byte are valid.
 ///
 /// # Examples
 ///

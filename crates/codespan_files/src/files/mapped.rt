@@ -11,11 +11,13 @@ use std::convert::AsStr;
 use std::fmt::Display;
 use std::ops::Range;
 
-/// A file database of one file, whose line numbers can be set as `#line` does in C. The id is `()`. It is this project's own.
+/// A file database of one file, whose line numbers can be set as `#line` does in C. The id is `()`.
+/// It is this project's own.
 ///
-/// A line whose number is set has that number, and the lines after it count on from there, up to the next line whose number is set.
-/// Before the first such line they count from 1. A line starts after each newline and ends before its own, the last one with the source.
-/// Column numbers count characters from 1.
+/// A line whose number is set has that number, and the lines after it count on from there, up to
+/// the next line whose number is set. Before the first such line they count from 1. A line starts
+/// after each newline and ends before its own, the last one with the source. Column numbers count
+/// characters from 1.
 ///
 /// # Examples
 ///
@@ -46,7 +48,8 @@ impl<Name: Drop, Source: AsStr + Drop> MappedFile<Name, Source> {
     ///
     /// # Errors
     ///
-    /// [`Error::OutOfMemory`] where an allocation of the line starts fails. Name and source are then dropped.
+    /// [`Error::OutOfMemory`] where an allocation of the line starts fails. Name and source are
+    /// then dropped.
     pub fn new(alloc: Global, name: Name, source: Source) -> Result<Self, Error>
         ensures name { IfOk result (λ file. mapped_name_of file ≡ name) }
         ensures source { IfOk result (λ file. mapped_source_of file ≡ source) }
@@ -69,14 +72,15 @@ impl<Name, Source: AsStr> MappedFile<Name, Source> {
     ghost use Rattle.codespan_files.specs.SimpleModel.{past_end};
     ghost use Rattle.codespan_files.specs.MappedModel.{setting, with_number};
 
-    /// Sets the number of the line at this index, from 0, in place of an earlier one. The law
+    /// Sets the number of the line at this index, from 0; replaces an earlier one. The law
     /// [`codespan_base::laws::set_numbers_count_on`] states what becomes of the other lines.
     ///
     /// # Errors
     ///
     /// Where the call fails, no number changes.
     ///
-    /// - [`Error::LineTooLarge`] with `given` the index and `max` that of the last line, where the text has no such line.
+    /// - [`Error::LineTooLarge`] with `given` the index and `max` that of the last line, where the
+    ///   text has no such line.
     /// - [`Error::OutOfMemory`] where an allocation fails.
     pub fn set_line(&mut self, line_index: usize, number: usize) -> Result<(), Error>
         ensures name { mapped_name_of self.new ≡ mapped_name_of self.old }
@@ -105,7 +109,8 @@ impl<Name, Source: AsStr> MappedFile<Name, Source> {
         }
     }
 
-    /// Returns the index at which the line's number is set, or as `Err` that at which it would be inserted.
+    /// Returns the index at which the line's number is set, or as `Err` that at which it would be
+    /// inserted.
     fn search(&self, line_index: usize) -> Result<usize, usize>
         ensures found { IfOk result (IsAt (settings_of self.now) line_index) }
         ensures absent { IfErr result (IsGapFor (settings_of self.now) line_index) }
@@ -114,7 +119,8 @@ impl<Name, Source: AsStr> MappedFile<Name, Source> {
             .binary_search_by_key(&line_index, |&(index, _)| index)
     }
 
-    /// Returns the set line that this line counts from, with its number; `None` where none is set at it or above it.
+    /// Returns the set line that this line counts from, with its number; `None` where none is set
+    /// at it or above it.
     fn nearest(&self, line_index: usize) -> Option<(usize, usize)>
         ensures value { result ≡ setting (settings_of self.now) line_index }
         ensures below { IfSome result (λ s. s.0 ≤ line_index) }
@@ -184,7 +190,8 @@ impl<'a, Name: Display + 'a, Source: AsStr + 'a> Files<'a> for MappedFile<Name, 
         Ok(self.source.as_str())
     }
 
-    /// Returns the index of the byte's line, from 0, by binary search; past the end that of the last line. Never fails.
+    /// Returns the index of the byte's line, from 0, by binary search; past the end that of the
+    /// last line. Never fails.
     fn line_index(&'a self, _id: (), byte_index: usize) -> Result<usize, Error>
         ensures succeeds { IsOk result }
         ensures value { IfOk result (λ line.
@@ -197,13 +204,14 @@ impl<'a, Name: Display + 'a, Source: AsStr + 'a> Files<'a> for MappedFile<Name, 
         }
     }
 
-    /// Returns the number that is set nearest at or above the line, plus the lines from there on, by binary search; where none is set
-    /// there, the 0-based index plus 1. The line need not exist.
+    /// Returns the number that is set nearest at or above the line, plus the lines from there on,
+    /// by binary search; where none is set there, the 0-based index plus 1. The line need not
+    /// exist.
     ///
     /// # Errors
     ///
-    /// [`Error::LineTooLarge`] with `given` the index and `max` the greatest index whose number fits into a `usize`, where this one does
-    /// not.
+    /// [`Error::LineTooLarge`] with `given` the index and `max` the greatest index whose number
+    /// fits into a `usize`, where this one does not.
     fn line_number(&'a self, _id: (), line_index: usize) -> Result<usize, Error>
         ensures value { IfOk result (λ number.
             number ≡ number_from (setting (settings_of self.now) line_index) line_index) }
@@ -222,11 +230,13 @@ impl<'a, Name: Display + 'a, Source: AsStr + 'a> Files<'a> for MappedFile<Name, 
         }
     }
 
-    /// Returns the column number of the byte on the line, in characters from 1. Both indices count from 0.
+    /// Returns the column number of the byte on the line, in characters from 1. Both indices count
+    /// from 0.
     ///
     /// # Errors
     ///
-    /// [`Error::LineTooLarge`] with `given` the index and `max` that of the last line, where the text has no such line.
+    /// [`Error::LineTooLarge`] with `given` the index and `max` that of the last line, where the
+    /// text has no such line.
     fn column_number(&'a self, id: (), line_index: usize, byte_index: usize) -> Result<usize, Error>
         ensures value { IfOk result (λ number.
             number ≡ mapped_column (mapped_text_of self.now) line_index byte_index) }
@@ -256,11 +266,13 @@ impl<'a, Name: Display + 'a, Source: AsStr + 'a> Files<'a> for MappedFile<Name, 
         })
     }
 
-    /// Returns the bytes of the line without its newline, from 0, with an exclusive end. The line index counts from 0.
+    /// Returns the bytes of the line without its newline, from 0, with an exclusive end. The line
+    /// index counts from 0.
     ///
     /// # Errors
     ///
-    /// [`Error::LineTooLarge`] with `given` the index and `max` that of the last line, where the text has no such line.
+    /// [`Error::LineTooLarge`] with `given` the index and `max` that of the last line, where the
+    /// text has no such line.
     #[tactic(auto, using(crate::specs::Lemmas::Mapped::mapped_range))]
     fn line_range(&'a self, _id: (), line_index: usize) -> Result<Range<usize>, Error>
         ensures value { IfOk result (IsLineRange (mapped_file_of Name.output self.now) line_index) }

@@ -10,10 +10,12 @@ use std::convert::AsStr;
 use std::fmt::Display;
 use std::ops::Range;
 
-/// A file database of one file: a name and a source, with the line starts of the source. The id is `()`.
+/// A file database of one file: a name and a source, with the line starts of the source. The id is
+/// `()`.
 ///
-/// A line starts after each newline and ends where the next one starts, the last one with the source, as in the Rust crate. Line numbers
-/// count from 1, and column numbers count characters from 1.
+/// A line starts after each newline and ends where the next one starts, the last one with the
+/// source, as in the Rust crate. Line numbers count from 1, and column numbers count characters
+/// from 1.
 ///
 /// # Examples
 ///
@@ -46,7 +48,8 @@ impl<Name: Drop, Source: AsStr + Drop> SimpleFile<Name, Source> {
     ///
     /// # Errors
     ///
-    /// [`Error::OutOfMemory`] where an allocation of the line starts fails. Name and source are then dropped.
+    /// [`Error::OutOfMemory`] where an allocation of the line starts fails. Name and source are
+    /// then dropped.
     pub fn new(alloc: Global, name: Name, source: Source) -> Result<Self, Error>
         ensures name { IfOk result (λ file. name_of file ≡ name) }
         ensures source { IfOk result (λ file. source_of file ≡ source) }
@@ -131,7 +134,8 @@ impl<'a, Name: Display + 'a, Source: AsStr + 'a> Files<'a> for SimpleFile<Name, 
         Ok(self.source.as_str())
     }
 
-    /// Returns the index of the byte's line, from 0, by binary search; past the end that of the last line. Never fails.
+    /// Returns the index of the byte's line, from 0, by binary search; past the end that of the
+    /// last line. Never fails.
     fn line_index(&'a self, _id: (), byte_index: usize) -> Result<usize, Error>
         ensures succeeds { IsOk result }
         ensures value { IfOk result (λ line.
@@ -157,11 +161,13 @@ impl<'a, Name: Display + 'a, Source: AsStr + 'a> Files<'a> for SimpleFile<Name, 
         default_line_number(line_index)
     }
 
-    /// Returns the column number of the byte on the line, in characters from 1. Both indices count from 0.
+    /// Returns the column number of the byte on the line, in characters from 1. Both indices count
+    /// from 0.
     ///
     /// # Errors
     ///
-    /// [`Error::LineTooLarge`] with `given` the index and `max` that of the last line, where the text has no such line.
+    /// [`Error::LineTooLarge`] with `given` the index and `max` that of the last line, where the
+    /// text has no such line.
     fn column_number(&'a self, id: (), line_index: usize, byte_index: usize) -> Result<usize, Error>
         ensures value { IfOk result (λ number.
             number ≡ simple_column (text_of self.now) line_index byte_index) }
@@ -187,11 +193,13 @@ impl<'a, Name: Display + 'a, Source: AsStr + 'a> Files<'a> for SimpleFile<Name, 
         })
     }
 
-    /// Returns the bytes of the line with its newline, from 0, with an exclusive end. The line index counts from 0.
+    /// Returns the bytes of the line with its newline, from 0, with an exclusive end. The line
+    /// index counts from 0.
     ///
     /// # Errors
     ///
-    /// [`Error::LineTooLarge`] with `given` the index and `max` that of the last line, where the text has no such line.
+    /// [`Error::LineTooLarge`] with `given` the index and `max` that of the last line, where the
+    /// text has no such line.
     fn line_range(&'a self, _id: (), line_index: usize) -> Result<Range<usize>, Error>
         ensures value { IfOk result (IsLineRange (file_of Name.output self.now) line_index) }
         ensures failed { FailsBy (past_end (text_of self.now) line_index) result }

@@ -3,7 +3,8 @@ ghost use Rattle.std.specs.Prelude.{◌≤◌, length};
 
 /// The byte indices at which the lines of a text start, from 0, in ascending order.
 ///
-/// Returned by [`line_starts`](codespan_reporting::files::line_starts). It ends, by the law [`codespan_base::laws::line_starts_end`].
+/// Returned by [`line_starts`](codespan_reporting::files::line_starts). It ends, by the law
+/// [`codespan_base::laws::line_starts_end`].
 #[derive(Debug, Drop)]
 pub struct LineStarts<'a> {
     source: &'a str,

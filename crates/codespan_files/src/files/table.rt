@@ -9,7 +9,8 @@ use std::convert::AsStr;
 use std::fmt::Display;
 use std::ops::Range;
 
-/// A file database of many files, each a [`SimpleFile`]. Ids count from 0, in the order in which the files are added.
+/// A file database of many files, each a [`SimpleFile`]. Ids count from 0, in the order in which
+/// the files are added.
 ///
 /// # Examples
 ///
@@ -39,7 +40,8 @@ impl<Name: Drop, Source: AsStr + Drop> SimpleFiles<Name, Source> {
     ///
     /// # Errors
     ///
-    /// [`Error::OutOfMemory`] where an allocation fails. The database is then unchanged, and name and source are dropped.
+    /// [`Error::OutOfMemory`] where an allocation fails. The database is then unchanged, and name
+    /// and source are dropped.
     pub fn add(&mut self, name: Name, source: Source) -> Result<usize, Error>
         ensures id { IfOk result (λ id. id ≡ length (entries self.old)) }
         ensures ok { OnOk result (entries self.new ≡ entries self.old ++ (name, source) ∷ []) }
@@ -141,7 +143,8 @@ impl<'a, Name: Display + 'a, Source: AsStr + 'a> Files<'a> for SimpleFiles<Name,
         Ok(self.get(id)?.source().as_str())
     }
 
-    /// Returns the index of the byte's line, from 0, by binary search; past the end that of the last line.
+    /// Returns the index of the byte's line, from 0, by binary search; past the end that of the
+    /// last line.
     ///
     /// # Errors
     ///
@@ -155,7 +158,8 @@ impl<'a, Name: Display + 'a, Source: AsStr + 'a> Files<'a> for SimpleFiles<Name,
         self.get(id)?.line_index((), byte_index)
     }
 
-    /// Returns the 0-based index plus 1, as [`default_line_number`] does. Neither the file nor the line need exist.
+    /// Returns the 0-based index plus 1, as [`default_line_number`] does. Neither the file nor the
+    /// line need exist.
     ///
     /// # Errors
     ///
@@ -171,12 +175,14 @@ impl<'a, Name: Display + 'a, Source: AsStr + 'a> Files<'a> for SimpleFiles<Name,
         default_line_number(line_index)
     }
 
-    /// Returns the column number of the byte on the line, in characters from 1. Both indices count from 0.
+    /// Returns the column number of the byte on the line, in characters from 1. Both indices count
+    /// from 0.
     ///
     /// # Errors
     ///
     /// - [`Error::FileMissing`] where the id is not below the number of files.
-    /// - [`Error::LineTooLarge`] with `given` the index and `max` that of the last line, where the file has no such line.
+    /// - [`Error::LineTooLarge`] with `given` the index and `max` that of the last line, where the
+    ///   file has no such line.
     fn column_number(
         &'a self,
         id: usize,
@@ -206,12 +212,14 @@ impl<'a, Name: Display + 'a, Source: AsStr + 'a> Files<'a> for SimpleFiles<Name,
         self.get(id)?.location((), byte_index)
     }
 
-    /// Returns the bytes of the line with its newline, from 0, with an exclusive end. The line index counts from 0.
+    /// Returns the bytes of the line with its newline, from 0, with an exclusive end. The line
+    /// index counts from 0.
     ///
     /// # Errors
     ///
     /// - [`Error::FileMissing`] where the id is not below the number of files.
-    /// - [`Error::LineTooLarge`] with `given` the index and `max` that of the last line, where the file has no such line.
+    /// - [`Error::LineTooLarge`] with `given` the index and `max` that of the last line, where the
+    ///   file has no such line.
     fn line_range(&'a self, id: usize, line_index: usize) -> Result<Range<usize>, Error>
         ensures value { IfOk result (IsLineRange (file_in Name.output self.now id) line_index) }
         ensures failed { FailsBy (error_in self.now id (LineRange line_index)) result }

@@ -6,7 +6,7 @@ use Rattle.codespan_picture.specs.declared.cells.Cell.{Cell}
 use Rattle.codespan_renderer.specs.declared.term.renderer.cells.Cells.{Cells}
 use Rattle.codespan_picture.specs.Cells.{cells_then, placeholder}
 
--- what comes after the last character, by the byte index and the column there
+-- what is after the last character, by the byte index and the column there
 abbrev pub Afters : Type 0
 Afters = ℕ → ℕ → List Cell
 
@@ -19,7 +19,7 @@ abbrev pub after_last : Bool → Afters
 after_last true = placeholder
 after_last false = no_more
 
--- the cells of the characters that are still to come, and what comes after the last one
+-- the cells of the characters that are left, and what is after the last one
 abbrev pub cells_from : Afters → Cells → List Cell
 cells_from after s = cells_then after s.tab_width s.place s.column (chars (chars_rest s.chars))
 

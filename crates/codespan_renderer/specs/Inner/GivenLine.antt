@@ -42,7 +42,7 @@ lane_row_view given.Plain = Plain
 lane_row_view given.Below = Below
 lane_row_view (given.Underline turning style part) = Underline (mark_view (turning, style, part))
 
--- one lane of a kind of row, from the mark in it
+-- one lane of a kind of row, from the multi-line label mark in it
 unfoldable pub given_lane : Look → ℕ → GivenRow → ℕ → Option GivenMark → Stream
 given_lane look leading row lane mark =
     lane_of look (row_crossing (lane_row_view row) lane)

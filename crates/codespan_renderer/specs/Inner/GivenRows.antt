@@ -37,7 +37,7 @@ given_source_lanes x row =
     ++ row_lanes (look_view x) (leading_of (line_view row)) Source (lanes_of_given row.lanes)
     ++ space
 
--- the start of a mark's underline row: up to its lanes
+-- the start of an underline row: up to its lanes
 abbrev pub given_underline_lanes : look.Look → line.Line → GivenMark → Stream
 given_underline_lanes x row mark =
     gutter x.padding ++ border x.chars.now

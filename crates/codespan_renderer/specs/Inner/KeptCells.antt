@@ -9,11 +9,11 @@ use Rattle.codespan_renderer.specs.declared.term.renderer.cells.Cells.{Cells}
 use Rattle.codespan_renderer.specs.declared.term.renderer.by_cells.kept_cells.KeptCells.{KeptCells}
 use Rattle.codespan_renderer.specs.Inner.CellsLeft.{Afters, cells_from, cells_left, no_more}
 
--- the characters that are still to come: the kept ones, and then those of the scan
+-- the characters that are left: the kept ones, and then those of the scan
 abbrev pub kept_left : KeptCells → List Cell
 kept_left s = s.kept.now ++ cells_left s.rest
 
--- the kept characters of a text and those of the scan are all of them, whatever comes after the
+-- the kept characters of a text and those of the scan are all of them, whatever is after the
 -- last one
 abbrev pub AreKept : ℕ → List ℕ → List Cell → Cells → Type 0
 AreKept tab text kept rest =
@@ -33,7 +33,7 @@ abbrev pub farther : Option ℕ → ℕ → Option ℕ
 farther None place = Some place
 farther (Some reach) place = Some (max reach place)
 
--- the byte index at which an underline's caret stands, or before which it does
+-- the byte index at which an underline's caret is, or before which it is
 abbrev pub farther_mark : Option ℕ → MultiLabel → Option ℕ
 farther_mark reach (Top start) = farther reach start
 farther_mark reach Left = reach

@@ -28,11 +28,11 @@ pointer_under c style = record {
 abbrev pub pointers_in : List Labelled → List Cell → List Pointer
 pointers_in hanging cs = filter_map (λ c. option_map (pointer_under c) (pointer_found hanging c)) cs
 
--- the pointers of characters that begin before a place
+-- the pointers of characters that begin before a byte index
 abbrev pub pointers_before : ℕ → List Pointer → List Pointer
 pointers_before place ps = filter (λ (p : Pointer). nat_lt p.place place) ps
 
--- pointers from a column on, with blanks between them and up to the edge
+-- pointers from a column on, with spaces between them and up to the edge
 abbrev pub spaced : Look → ℕ → ℕ → List Pointer → Stream
 spaced look edge column [] = blanks (edge - column)
 spaced look edge column (p ∷ ps) =
@@ -43,7 +43,8 @@ spaced look edge column (p ∷ ps) =
 abbrev pub starts_left : Starts → List Labelled
 starts_left s = single_label_views (drop s.next s.labels.now)
 
--- a walk has met the labels that begin before this place: none of them starts in a later character
+-- the cursor has passed the labels that start before this byte index: none of them starts in a
+-- later character
 pub record HasPassed (place : ℕ) (s : Starts) : Type 0 where
   pub is : (c : Cell) (found : Option LabelStyle) → place ≤ c.place
       → best_from (starts_in c) found (filter has_message (single_label_views s.labels.now))

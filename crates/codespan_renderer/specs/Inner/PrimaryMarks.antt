@@ -11,11 +11,12 @@ abbrev pub is_from : Option ℕ → ℕ → Bool
 is_from None place = false
 is_from (Some start) place = nat_le start place
 
--- the label of one of the marks covers the character
+-- the label of one of the multi-line label marks covers the character
 abbrev pub is_marked : PrimaryMarks → Cell → Bool
 is_marked m c = is_from m.from c.place || nat_le (c.place + c.bytes) m.to
 
--- they cover the characters that the labels of the primary ones of these marks cover
+-- they cover the characters that the labels of the primary ones of these multi-line label marks
+-- cover
 abbrev pub AreMarksOf : List LaneMark → PrimaryMarks → Type 0
 AreMarksOf marks given =
     (c : Cell) → 1 ≤ c.bytes → is_marked given c

@@ -12,7 +12,7 @@ abbrev pub starts_from : ℕ → List Labelled → Bool
 starts_from least [] = true
 starts_from least (x ∷ xs) = nat_le least x.start && starts_from x.start xs
 
--- the labels stand in the order of their starts
+-- the labels are in the order of their starts
 abbrev pub starts_in_order : List Labelled → Bool
 starts_in_order xs = starts_from 0 xs
 

@@ -7,7 +7,7 @@ use Rattle.codespan_picture.specs.declared.cells.Cell.{Cell}
 use Rattle.codespan_picture.specs.Cells.{width_of}
 use Rattle.codespan_picture.specs.RowParts.{cells_before, cells_up_to, end_caret, start_caret, underline_message}
 
--- how many cells the underline of a mark has between its corner and its caret
+-- how many cells an underline has between its corner and its caret
 abbrev pub run_width : List Cell → MultiLabel → ℕ
 run_width cs (Top start) = width_of (cells_up_to start cs)
 run_width cs Left = 0

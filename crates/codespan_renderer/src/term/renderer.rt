@@ -36,7 +36,8 @@ use source::write_line;
 use std::io;
 use std::io::Write;
 
-/// Returns whether the lanes, which count from 0, ascend strictly and are below their number: what the calls with lanes require.
+/// Returns whether the lanes, which count from 0, ascend strictly and are below their number: what
+/// the calls with lanes require.
 ///
 /// `lanes_in_order(2, &[(1, Primary, Left), (0, Primary, Left)])` is false.
 pub fn lanes_in_order(
@@ -55,13 +56,16 @@ pub fn lanes_in_order(
     true
 }
 
-/// Renders rows to a writer. `codespan_reporting::term::renderer` has a picture that names their parts, and an example.
+/// Renders rows to a writer. `codespan_reporting::term::renderer` has an annotated output, and an
+/// example.
 ///
-/// Each `render_` call writes whole rows, style marks included. It neither flushes nor allocates. `outer_padding` is the padding width in
-/// characters, of any size; a line number with more digits is written in full. As a [`WriteStyle`] a renderer passes on to its writer.
+/// Each `render_` call writes whole rows, style marks included. It neither flushes nor allocates.
+/// `outer_padding` is the padding width in characters, of any size; a line number with more digits
+/// is written in full. As a [`WriteStyle`] a renderer passes on to its writer.
 ///
 /// # Errors
-/// Each `render_` call fails with [`Error::Io`] alone: the writer fails or takes no bytes. A prefix of its rows has then been written.
+/// Each `render_` call fails with [`Error::Io`] alone: the writer fails or takes no bytes. A prefix
+/// of its rows has then been written.
 #[derive(Drop)]
 pub struct Renderer<'writer, 'config, W> {
     writer: &'writer mut W,
@@ -78,7 +82,7 @@ impl<'writer, 'config, W: WriteStyle> Renderer<'writer, 'config, W> {
     ghost use Rattle.codespan_renderer.specs.Renderers.{rendered_break, rendered_note};
     ghost use Rattle.codespan_renderer.specs.Renderers.{rendered_source, source_line};
 
-    /// Makes a renderer that writes to `writer` with the characters, the tab width (in cells) and the layout of `config`.
+    /// Returns a renderer over `writer` with the characters, tab width and layout of `config`.
     pub fn new(
         writer: &'writer mut W,
         config: &'config Config<'config>,
@@ -104,7 +108,7 @@ impl<'writer, 'config, W: WriteStyle> Renderer<'writer, 'config, W> {
         }
     }
 
-    /// Writes a header: the locus, the severity, the code in brackets and the message. An empty code is left out.
+    /// Writes a header: locus, severity, code in brackets and message. An empty code is left out.
     pub fn render_header(
         &mut self,
         locus: Option<&Locus>,
@@ -139,14 +143,16 @@ impl<'writer, 'config, W: WriteStyle> Renderer<'writer, 'config, W> {
 
     /// Writes a line of the source with the carets, messages and underlines of its labels.
     ///
-    /// `line_number` is written as it is. Line feeds, carriage returns and NULs at the end of `source` are not rendered, as in the Rust
-    /// crate. A tab is rendered as the spaces up to the next tab stop; any other character has the cells of `unicode_width`.
+    /// `line_number` is written as it is. Line feeds, carriage returns and NULs at the end of
+    /// `source` are not rendered, as in the Rust crate. A tab is rendered as the spaces up to the
+    /// next tab stop; any other character has the cells of `unicode_width`.
     ///
-    /// Ranges are in bytes of `source`, from 0, the end exclusive. They may be in any order, reversed, past the end, or off character
-    /// boundaries; one without a byte has no caret. `num_multi_labels` is the number of the file's lanes.
+    /// Ranges are in bytes of `source`, from 0, the end exclusive. They may be in any order,
+    /// reversed, past the end, or off character boundaries; one without a byte has no caret.
+    /// `num_multi_labels` is the number of the file's lanes.
     ///
     /// # Requires
-    /// The lanes of `multi_labels` ascend strictly and are below `num_multi_labels`, as [`lanes_in_order`] tests.
+    /// [`lanes_in_order`] is true of `num_multi_labels` and `multi_labels`.
     pub fn render_snippet_source<'row, 'd>(
         &mut self,
         outer_padding: usize,
@@ -181,7 +187,7 @@ impl<'writer, 'config, W: WriteStyle> Renderer<'writer, 'config, W> {
     /// Writes a row with the border and the lanes alone.
     ///
     /// # Requires
-    /// The lanes of `multi_labels` ascend strictly and are below `num_multi_labels`, as [`lanes_in_order`] tests.
+    /// [`lanes_in_order`] is true of `num_multi_labels` and `multi_labels`.
     pub fn render_snippet_empty(
         &mut self,
         outer_padding: usize,
@@ -202,10 +208,11 @@ impl<'writer, 'config, W: WriteStyle> Renderer<'writer, 'config, W> {
         Ok(())
     }
 
-    /// Writes a break, for lines that are left out. The views pass the multi-line label marks of the next line, as the Rust crate does.
+    /// Writes a break, for lines that are left out. The views pass the multi-line label marks of
+    /// the next line, as the Rust crate does.
     ///
     /// # Requires
-    /// The lanes of `multi_labels` ascend strictly and are below `num_multi_labels`, as [`lanes_in_order`] tests.
+    /// [`lanes_in_order`] is true of `num_multi_labels` and `multi_labels`.
     pub fn render_snippet_break(
         &mut self,
         outer_padding: usize,
@@ -226,7 +233,7 @@ impl<'writer, 'config, W: WriteStyle> Renderer<'writer, 'config, W> {
         Ok(())
     }
 
-    /// Writes a note: a row for each line of the message, the first one after the note bullet. An empty message writes nothing.
+    /// Writes a note: a row for each line, the first after the note bullet; none if it is empty.
     pub fn render_snippet_note(&mut self, outer_padding: usize, message: &str) -> Result<(), Error>
         ensures { Renders W.sink (rendered_note (config_of self.old) outer_padding message.now)
             self.old result self.new }

@@ -21,7 +21,7 @@ line_view (given.Filled index number annotations) = Filled index
     (map annotation_view annotations.now)
 line_view (given.Break next) = Break (map annotation_view next.now)
 
--- what stands in a gap before a line with these annotations, where the line between has those
+-- what is in a gap before a line with these annotations, where the line between has those
 abbrev pub gap_lines : List Annotation → List Annotation → Gap → List SnippetLine
 gap_lines hidden next Nothing = []
 gap_lines hidden next (Line l) = Filled l hidden ∷ []

@@ -44,12 +44,12 @@ abbrev pub are_shown : List Annotation → Bool
 are_shown [] = false
 are_shown (x ∷ xs) = shows_line x
 
--- what stands between two shown lines: the one line between them, with its annotations, a break,
+-- what is between two shown lines: the one line between them, with its annotations, a break,
 -- with those of the line after it, or nothing
 abbrev pub lines_between : List Annotation → List Annotation → ℕ → ℕ → List SnippetLine
 lines_between hidden next = gap_between (λ l. Filled l hidden ∷ []) (λ d. Break next ∷ [])
 
--- a shown line, after what stands before it
+-- a shown line, after what is before it
 abbrev pub lines_to : Option ℕ → List Annotation → ℕ → List Annotation → List SnippetLine
 lines_to was hidden d es = before_line (lines_between hidden es) was d ++ Labeled d es ∷ []
 

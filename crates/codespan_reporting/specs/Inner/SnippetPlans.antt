@@ -23,7 +23,7 @@ use Rattle.codespan_reporting.specs.Inner.TextLoci.{IsTextLocus}
 abbrev pub lines_at : List Annotation → ℕ → List SnippetLine
 lines_at es k = lines_of (filter (is_of_file k) es)
 
--- what the ids give, each at its index, which is counted from k on
+-- the images of the ids, each with its index, which is counted from k on
 abbrev pub by_index : {Id A : Type 0} → (ℕ → Id → List A) → ℕ → List Id → List A
 by_index give k [] = []
 by_index give k (id ∷ ids) = give k id ++ by_index give (k + 1) ids

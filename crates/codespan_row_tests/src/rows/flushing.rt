@@ -11,7 +11,7 @@ use std::io::Write;
 use std::process::Abort;
 use std::test::Fail;
 
-/// Rows by each call.
+/// Renders rows by each call.
 fn draw_rows<W: WriteStyle>(
     rt: &impl Abort,
     renderer: &mut Renderer<'_, '_, W>,
@@ -26,7 +26,7 @@ fn draw_rows<W: WriteStyle>(
     renderer.render_empty()
 }
 
-/// Every mark, and some text.
+/// Writes every style mark, and some text.
 fn send_marks<W: WriteStyle>(w: &mut W) -> io::Result<()> {
     w.set_header(Severity::Error)?;
     w.set_header_message()?;
@@ -38,7 +38,7 @@ fn send_marks<W: WriteStyle>(w: &mut W) -> io::Result<()> {
     w.write_all(b"text")
 }
 
-/// A flush comes through a renderer, and no other call flushes.
+/// A renderer passes on a flush, and no other call flushes.
 #[test]
 fn only_flush_flushes(rt: HostRuntime) -> Result<(), Fail> {
     let config = Config::default();

@@ -10,8 +10,8 @@ use std::alloc::Global;
 use std::process::Abort;
 use std::test::Fail;
 
-/// Rows fail with `Io` wherever their writer stops, plain and by escape sequences; what was written is a beginning, and no write
-/// follows the failed one.
+/// Asserts that rows fail with `Io` wherever their writer stops, plain and by escape sequences;
+/// that a prefix has then been written, and that no write follows the failed one.
 pub fn assert_rows_stop<R: Rows>(
     rt: &impl Abort,
     alloc: Global,
@@ -52,12 +52,13 @@ pub fn assert_rows_stop<R: Rows>(
     Ok(())
 }
 
-/// Whether a call told what its writer did, which holds what it should of the whole text.
+/// Returns whether a call failed exactly where its writer stopped, and the writer has what it
+/// should of the whole text.
 fn is_known(inner: &Stopping, answer: &Result<(), Error>, whole: &[u8]) -> bool {
     is_failed(answer) == Some(inner.has_stopped()) && inner.is_right(answer.is_ok(), whole)
 }
 
-/// The rows of `coloured_label` without their colours.
+/// The rows of `coloured_label` without their colors.
 const PLAIN: &str = "1 │ abc\n  │  ^ m\n";
 
 /// More writes than any of these rows makes.

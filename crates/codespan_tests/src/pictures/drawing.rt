@@ -1,4 +1,4 @@
-//! Files of tables, and a view drawn plain and in colours.
+//! File databases of names and texts, and a view rendered plain and in colors.
 
 use codespan_base_tests::writers::sequences::without_sequences;
 use codespan_reporting::files::{Error, Files, SimpleFiles};
@@ -8,7 +8,7 @@ use codespan_reporting::term::{
 use std::alloc::Global;
 use std::process::Abort;
 
-/// The files of these names and texts.
+/// Returns the files of these names and texts.
 pub fn files_of<'text>(
     alloc: Global,
     given: &[(&'text str, &'text str)],
@@ -20,8 +20,8 @@ pub fn files_of<'text>(
     Ok(files)
 }
 
-/// A view writes this text: plain, in no colours, and by escape sequences, once they are taken out. What it answers, which is
-/// `Ok` in colours where it is in plain text.
+/// Asserts that a view writes this text: plain, over [`NoColor`], and over [`Ansi`] once the escape
+/// sequences are taken out. Returns the plain result; in colors it is `Ok` exactly where that is.
 pub fn assert_view_writes<'files, F: Files<'files>>(
     rt: &impl Abort,
     alloc: Global,
@@ -50,7 +50,7 @@ pub fn assert_view_writes<'files, F: Files<'files>>(
     Ok(answer)
 }
 
-/// Draws a view to a writer, by a renderer with this configuration.
+/// Renders a view to a writer, by a renderer with this configuration.
 fn draw_view<'files, F: Files<'files>, W: WriteStyle>(
     writer: &mut W,
     config: &Config<'_>,

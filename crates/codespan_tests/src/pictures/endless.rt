@@ -1,4 +1,4 @@
-//! A tab and contexts that are as great as can be.
+//! A tab width and contexts of the greatest `usize`.
 
 use crate::pictures::drawing::assert_view_writes;
 use codespan_base_tests::writers::stopping::{Stop, Stopping};
@@ -10,7 +10,7 @@ use codespan_reporting::term::{
 };
 use std::test::Fail;
 
-/// A tab that is as wide as can be is drawn blank by blank until the writer fails.
+/// A tab of the greatest width is written as spaces until the writer fails.
 #[test]
 fn endless_tab(rt: HostRuntime) -> Result<(), Fail> {
     let alloc = rt.alloc();
@@ -35,7 +35,7 @@ fn endless_tab(rt: HostRuntime) -> Result<(), Fail> {
     Ok(())
 }
 
-/// Context lines end with the file, however many are asked for.
+/// Context lines end with the file, however many the configuration has.
 #[test]
 fn endless_context(rt: HostRuntime) -> Result<(), Fail> {
     let alloc = rt.alloc();

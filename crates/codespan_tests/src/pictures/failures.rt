@@ -1,4 +1,4 @@
-//! Pictures that fail.
+//! Rendering that fails.
 
 use crate::pictures::drawing::assert_view_writes;
 use crate::pictures::listing::{Failed, Listing};
@@ -14,7 +14,7 @@ use std::process::Abort;
 use std::test::Fail;
 use std::{fmt, io};
 
-/// A lookup of the table.
+/// A lookup of a [`Listing`].
 #[derive(Clone, Copy)]
 enum Asked {
     Name,
@@ -26,7 +26,8 @@ enum Asked {
 }
 
 impl Asked {
-    /// These errors, and that of this lookup. With the line of a byte those of later bytes fail too.
+    /// Returns these failures and that of this lookup. With the line of a byte those of later bytes
+    /// fail too.
     fn failed_beside(self, failed: Failed) -> Failed {
         match self {
             Asked::Name => Failed {
@@ -56,7 +57,7 @@ impl Asked {
         }
     }
 
-    /// Whether the error that was told is that of this lookup.
+    /// Returns whether the error is that of this lookup.
     fn is_known(self, answer: &Result<(), Error>) -> bool {
         let told = match self {
             Asked::Name => (1, 0),
@@ -73,7 +74,8 @@ impl Asked {
     }
 }
 
-/// A failed lookup is told, and comes before anything is written; that of the source comes after the header.
+/// The error of a failed lookup is returned before anything is written; that of the source, after
+/// the header.
 #[test]
 fn failed_lookups(rt: HostRuntime) -> Result<(), Fail> {
     let alloc = rt.alloc();
@@ -100,8 +102,8 @@ fn failed_lookups(rt: HostRuntime) -> Result<(), Fail> {
     Ok(())
 }
 
-/// The lookups of a label over the lines 1 to 3, of one inside line 7, and of the line 5, which is filled in between those around
-/// them, in their order.
+/// Returns, in their order, the lookups of a label over the lines 1 to 3, of one inside line 7, and
+/// of the line 5, which is filled in between those around them.
 fn lookups_in_order(alloc: Global, layout: Layout) -> Result<Vec<Asked>, Error> {
     let mut order = Vec::new(alloc);
     for (start, end, lines) in [(2, 7, 0..5), (14, 15, 6..9)] {
@@ -125,7 +127,7 @@ fn lookups_in_order(alloc: Global, layout: Layout) -> Result<Vec<Asked>, Error> 
     Ok(order)
 }
 
-/// What is written before this lookup of those two labels and of the line between them.
+/// Returns what is written before this lookup of those.
 fn written_before(asked: Asked, layout: Layout) -> &'static str {
     let lines_before = "error: \n\
                         \x20 ┌─ f:1:1\n\
@@ -144,7 +146,8 @@ fn written_before(asked: Asked, layout: Layout) -> &'static str {
     }
 }
 
-/// Of two lookups that fail the first is told. Each lookup of a picture fails in turn, and the next one with it.
+/// Of two lookups that fail the first one's error is returned. Each lookup of an output fails in
+/// turn, together with the next one.
 #[test]
 fn first_error(rt: HostRuntime) -> Result<(), Fail> {
     let alloc = rt.alloc();
@@ -172,7 +175,8 @@ fn first_error(rt: HostRuntime) -> Result<(), Fail> {
     Ok(())
 }
 
-/// In the classic layout the number of a line that is filled in is asked for with the line, in the unbroken one before the header.
+/// The number of a filled line is looked up with the line in the classic layout, and before the
+/// header in the unbroken one.
 #[test]
 fn failed_number_of_filled_line(rt: HostRuntime) -> Result<(), Fail> {
     let alloc = rt.alloc();
@@ -209,7 +213,7 @@ impl Display for Unprintable {
     }
 }
 
-/// A name that can not be printed is told, and nothing is written.
+/// A name whose `Display` fails leads to `FormatError`, and nothing is written.
 #[test]
 fn unprintable_name(rt: HostRuntime) -> Result<(), Fail> {
     let files = SimpleFile::new(rt.alloc(), Unprintable, "ab")?;
@@ -227,7 +231,7 @@ fn unprintable_name(rt: HostRuntime) -> Result<(), Fail> {
     Ok(())
 }
 
-/// A writer that takes three bytes at most at a time, and fails after so many writes.
+/// A writer that takes at most three bytes at a time, and fails after so many writes.
 #[derive(Drop)]
 struct Stopping {
     text: Vec<u8>,
@@ -250,8 +254,8 @@ impl Write for Stopping {
     }
 }
 
-/// Draws to a writer that fails after so many writes, and answers whether the whole picture came. Where it did not, the
-/// answer is `Io`, and the writer holds a beginning.
+/// Renders to a writer that fails after so many writes, and returns whether the whole output was
+/// written. If it was not, the error is `Io`, and the writer has a prefix of it.
 fn is_whole_after(
     rt: &impl Abort,
     alloc: Global,

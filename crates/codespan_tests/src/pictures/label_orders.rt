@@ -1,4 +1,4 @@
-//! A picture of many labels, given in three orders.
+//! An output of many labels, in three orders.
 
 use crate::pictures::drawing::assert_view_writes;
 use codespan_reporting::diagnostic::{Diagnostic, Label, LabelStyle};
@@ -7,7 +7,7 @@ use codespan_reporting::term::{Config, RichDiagnostic, emit_into_string};
 use std::alloc::Global;
 use std::test::Fail;
 
-/// The text: fifty equal lines.
+/// Returns the text: fifty equal lines.
 fn source_of(alloc: Global) -> Result<String, Error> {
     let mut source = String::new(alloc);
     for _ in 0..50 {
@@ -16,7 +16,8 @@ fn source_of(alloc: Global) -> Result<String, Error> {
     Ok(source)
 }
 
-/// A label on the line that its place says, with its place as its message. Those of a line have ranges that overlap.
+/// Returns a label on the line that its index says, with its index as its message. Those of a line
+/// have ranges that overlap.
 fn label_of(alloc: Global, place: usize) -> Result<Label<()>, Error> {
     let style = if place % 2 == 0 {
         LabelStyle::Primary
@@ -27,7 +28,7 @@ fn label_of(alloc: Global, place: usize) -> Result<Label<()>, Error> {
     Label::new(alloc, style, (), start..start + 2).with_message(format_args!("m{place}"))
 }
 
-/// The picture: on each line its labels hang from the last to the first.
+/// Returns the output: on each line its labels hang from the last to the first.
 fn picture(alloc: Global) -> Result<String, Error> {
     let mut text = String::new(alloc);
     text.push_str("error: \n   ┌─ f:1:1\n   │\n")?;
@@ -47,7 +48,7 @@ fn picture(alloc: Global) -> Result<String, Error> {
     Ok(text)
 }
 
-/// In the order of their places, in reverse order, and odd ones before even ones.
+/// In the order of their indices, in reverse order, and odd ones before even ones.
 fn place_at(order: usize, index: usize) -> usize {
     match order {
         0 => index,

@@ -1,4 +1,5 @@
-//! A table of files as users write their own: one text, whose lines are numbered by their indices, and some of whose lookups fail.
+//! A file database as users write their own: one text, whose lines are numbered by their indices,
+//! and some of whose lookups fail.
 
 ghost use Rattle.std.specs.Prelude.{◌≡◌, refl, None, Some};
 ghost use Rattle.codespan_tests.specs.Listings.{is_at, is_from};
@@ -7,20 +8,21 @@ use codespan_reporting::files::{Error, Files, Location, SimpleFile};
 use std::alloc::Global;
 use std::ops::Range;
 
-/// Which lookups fail. Each fails with a column of its kind, and with the line or the byte that was asked for.
+/// Which lookups fail. Each fails with a `given` of its kind, and with the line or the byte that
+/// was looked up as `max`.
 #[derive(Clone, Copy, Default)]
 pub struct Failed {
-    /// The name: column 1.
+    /// The name: 1.
     pub name: bool,
-    /// The source: column 2.
+    /// The source: 2.
     pub source: bool,
-    /// The location of any byte: column 3.
+    /// The location of any byte: 3.
     pub location: bool,
-    /// The line of this byte, and of those after it: column 4.
+    /// The line of this byte, and of those after it: 4.
     pub line_index: Option<usize>,
-    /// The number of this line: column 5.
+    /// The number of this line: 5.
     pub line_number: Option<usize>,
-    /// The range of this line: column 6. A line past the end fails as such.
+    /// The range of this line: 6. A line past the end fails with `LineTooLarge`.
     pub line_range: Option<usize>,
 }
 
@@ -32,7 +34,7 @@ pub struct Listing<'text> {
 }
 
 impl<'text> Listing<'text> {
-    /// The text of this name, which fails these lookups. Fails with `OutOfMemory`.
+    /// Returns the text under this name, with these failing lookups; fails with `OutOfMemory`.
     pub fn new(
         alloc: Global,
         name: &'text str,
@@ -46,7 +48,7 @@ impl<'text> Listing<'text> {
     }
 }
 
-/// What a lookup of this kind fails with.
+/// Returns the error of a lookup of this kind.
 fn failure(kind: usize, place: usize) -> Error
     ensures { result ≡ Error.ColumnTooLarge kind place }
 {
@@ -56,7 +58,7 @@ fn failure(kind: usize, place: usize) -> Error
     }
 }
 
-/// Whether the lookup of this place is the one that fails.
+/// Returns whether the lookup of this index is the one that fails.
 fn is_at(failed: Option<usize>, place: usize) -> bool
     ensures { result ≡ is_at failed place }
 {
@@ -66,7 +68,7 @@ fn is_at(failed: Option<usize>, place: usize) -> bool
     }
 }
 
-/// Whether the lookup of this place is one of those that fail.
+/// Returns whether the lookup of this index is one of those that fail.
 fn is_from(failed: Option<usize>, place: usize) -> bool
     ensures { result ≡ is_from failed place }
 {
@@ -151,7 +153,7 @@ impl<'a, 'text: 'a> Files<'a> for Listing<'text> {
         self.file.column_number((), line_index, byte_index)
     }
 
-    // The byte's line is a line, so its column is told.
+    // The byte's line is a line of the file, so the lookup of its column succeeds.
     #[tactic(auto, using(codespan_base::specs::Lemmas::Lines::line_of_below))]
     fn location(&'a self, _id: (), byte_index: usize) -> Result<Location, Error> {
         if self.failed.location {
@@ -184,7 +186,7 @@ impl<'a, 'text: 'a> Files<'a> for Listing<'text> {
 
     ghost same_is = { λ s. refl };
 
-    // A line past the last fails as there.
+    // A line past the last one fails as there.
     ghost past_end = { λ s _ i.
         let text = (source_of s.file).now in
         let name = Some (name_of s.file).now in

@@ -9,8 +9,8 @@ use codespan_reporting::term::{Config, Layout, RichDiagnostic};
 use std::ops::Range;
 use std::test::Fail;
 
-/// A text of newlines that is as long as a text can be. Its lines are empty and numbered by their indices, and its
-/// source fails.
+/// A text of newlines that is as long as a text can be. Its lines are empty and numbered by their
+/// indices, and its source fails.
 #[derive(Drop)]
 struct LongestFile<'text> {
     name: &'text str,
@@ -78,7 +78,8 @@ impl<'a, 'text: 'a> Files<'a> for LongestFile<'text> {
     ghost past_end = { λ s _ i. longest_past_end s.name.now i };
 }
 
-/// A context ends with the greatest index, and the picture goes on: its header comes, and then its source is asked for.
+/// A context ends with the greatest index, and rendering goes on: the header is written, and then
+/// the source is looked up.
 #[test]
 fn context_past_all_indices(rt: HostRuntime) -> Result<(), Fail> {
     let alloc = rt.alloc();

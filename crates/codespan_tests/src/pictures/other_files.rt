@@ -1,4 +1,4 @@
-//! A failed number, a missing file, and a view and a renderer of two configurations.
+//! A failed line number, a missing file, and a view and a renderer of two configurations.
 
 use crate::pictures::drawing::{assert_view_writes, files_of};
 use codespan_reporting::diagnostic::{Diagnostic, Label};
@@ -10,7 +10,7 @@ use std::alloc::Global;
 use std::process::Abort;
 use std::test::Fail;
 
-/// A line around a label whose number fails does not end the lines that are shown.
+/// A context line whose number fails fails the call; it does not end the context.
 #[test]
 fn mapped_overflow(rt: HostRuntime) -> Result<(), Fail> {
     let mut file = MappedFile::new(rt.alloc(), "m", "a\nb\nc\nd")?;
@@ -26,7 +26,7 @@ fn mapped_overflow(rt: HostRuntime) -> Result<(), Fail> {
     Ok(())
 }
 
-/// A file that is not there is told, and nothing is written.
+/// A missing file fails with its error, and nothing is written.
 #[test]
 fn missing_file(rt: HostRuntime) -> Result<(), Fail> {
     let alloc = rt.alloc();
@@ -46,8 +46,8 @@ fn missing_file(rt: HostRuntime) -> Result<(), Fail> {
     Ok(())
 }
 
-/// Draws lines with a label over several of them, where the configurations of the view and of the renderer differ in all that
-/// shows.
+/// Renders a multi-line label where the configurations of the view and of the renderer differ in
+/// all that the output shows.
 fn assert_drawn_by_two(
     rt: &impl Abort,
     alloc: Global,
@@ -77,8 +77,8 @@ fn assert_drawn_by_two(
     assert_view_writes(rt, alloc, &renderer_config, view, &file, picture)?
 }
 
-/// The view's configuration chooses the lines and the room for their numbers; the renderer's chooses the characters, the tab stops
-/// and whether a lane goes on below its corner.
+/// The view's configuration chooses the lines and the padding width; the renderer's chooses the
+/// characters, the tab stops and whether a lane goes on below its corner.
 #[test]
 fn two_configurations(rt: HostRuntime) -> Result<(), Fail> {
     let unbroken_numbers = "error: \n\

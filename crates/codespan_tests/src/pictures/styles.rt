@@ -1,4 +1,4 @@
-//! Short and medium style, and the calls that emit.
+//! Tests of short and medium style, and of the calls that emit.
 
 use crate::pictures::drawing::files_of;
 use codespan_base_tests::writers::example::TagWriter;
@@ -12,7 +12,7 @@ use codespan_reporting::term::{
 use std::alloc::Global;
 use std::test::Fail;
 
-/// The default configuration in a style.
+/// Returns the default configuration in a style.
 fn in_style<'chars>(display_style: DisplayStyle) -> Config<'chars> {
     Config {
         display_style,
@@ -20,7 +20,7 @@ fn in_style<'chars>(display_style: DisplayStyle) -> Config<'chars> {
     }
 }
 
-/// Each call that emits draws, and what a string or a vector holds stays before it.
+/// Each call that emits renders, and appends to what a string or a vector holds.
 #[test]
 fn bare_bug(rt: HostRuntime) -> Result<(), Fail> {
     let alloc = rt.alloc();
@@ -51,7 +51,7 @@ fn bare_bug(rt: HostRuntime) -> Result<(), Fail> {
     Ok(())
 }
 
-/// The views draw the same.
+/// The views render the same.
 #[test]
 fn bare_views(rt: HostRuntime) -> Result<(), Fail> {
     let alloc = rt.alloc();
@@ -70,7 +70,7 @@ fn bare_views(rt: HostRuntime) -> Result<(), Fail> {
     Ok(())
 }
 
-/// What is taken out of coloured text is its escape sequences.
+/// What is taken out of colored text is its escape sequences.
 #[test]
 fn colours_change_no_text(rt: HostRuntime) -> Result<(), Fail> {
     let coloured = b"\x1b[0m\x1b[1m\x1b[38;5;9merror\x1b[0m\x1b[1m: m\x1b[0m\n";
@@ -79,7 +79,7 @@ fn colours_change_no_text(rt: HostRuntime) -> Result<(), Fail> {
     Ok(())
 }
 
-/// A writer of one's own, in short and in medium style.
+/// A custom `WriteStyle`, in short and in medium style.
 #[test]
 fn tags_of_styles(rt: HostRuntime) -> Result<(), Fail> {
     let alloc = rt.alloc();
@@ -102,7 +102,8 @@ fn tags_of_styles(rt: HostRuntime) -> Result<(), Fail> {
     Ok(())
 }
 
-/// A cause in a file that is there, and one in a file that is not.
+/// Returns a diagnostic with a primary label in a file that exists, and one in a file that does
+/// not.
 fn half_missing(alloc: Global) -> Result<Diagnostic<usize>, Error> {
     Diagnostic::error(alloc)
         .with_message("m")?
@@ -110,7 +111,7 @@ fn half_missing(alloc: Global) -> Result<Diagnostic<usize>, Error> {
         .with_label(Label::primary(alloc, 7, 0..1))
 }
 
-/// The string stays as it was; a writer has the headers before the error, or in rich style nothing.
+/// The string is unchanged; a writer has the headers before the error, or in rich style nothing.
 #[test]
 fn missing_file(rt: HostRuntime) -> Result<(), Fail> {
     let alloc = rt.alloc();

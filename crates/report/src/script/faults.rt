@@ -1,4 +1,4 @@
-//! What is wrong with a script.
+//! The errors of scripts.
 
 ghost use Rattle.std.specs.Prelude.{◌≡◌, [], map};
 ghost use Rattle.report.specs.ScriptLines.{line_view};
@@ -12,7 +12,7 @@ use super::{Fault, FaultNumber};
 use crate::request::parse_number;
 use std::ops::Range;
 
-/// The first fault of lines that are a script's.
+/// Returns the first error in the lines of a script.
 pub(super) fn first_fault(lines: &[Line<'_>]) -> Option<Fault>
     ensures { result ≡ fault_from [] (map line_view lines.now) }
 {
@@ -24,7 +24,7 @@ pub(super) fn first_fault(lines: &[Line<'_>]) -> Option<Fault>
     None
 }
 
-/// The first fault of a line, by the lines before it.
+/// Returns the first error of a line; `before` are the lines before it.
 fn line_fault(before: &[Line<'_>], line: &Line<'_>) -> Option<Fault>
     ensures { result ≡ line_fault (map line_view before.now) (line_view line.now) }
 {
@@ -46,7 +46,7 @@ fn line_fault(before: &[Line<'_>], line: &Line<'_>) -> Option<Fault>
     }
 }
 
-/// A fault that has no earlier place.
+/// Returns an error with one range.
 fn fault(number: FaultNumber, range: Range<usize>) -> Fault
     ensures { result ≡ record { number = number; range = range; first = None } }
 {
@@ -57,7 +57,7 @@ fn fault(number: FaultNumber, range: Range<usize>) -> Fault
     }
 }
 
-/// The fault of a line whose word an earlier line has, if one has.
+/// Returns the error of a line whose word an earlier line has.
 #[tactic(auto, unfolding(crate::specs::ScriptFaults::repetition))]
 fn repetition(before: &[Line<'_>], line: &Line<'_>) -> Option<Fault>
     ensures { result ≡ repetition (map line_view before.now) (line_view line.now) }
@@ -70,7 +70,7 @@ fn repetition(before: &[Line<'_>], line: &Line<'_>) -> Option<Fault>
     })
 }
 
-/// The fault of a `severity` line, if its rest is no severity.
+/// Returns the error of a `severity` line whose rest is no severity.
 #[tactic(auto, unfolding(crate::specs::ScriptFaults::severity_fault))]
 fn severity_fault(line: &Line<'_>) -> Option<Fault>
     ensures { result ≡ severity_fault (line_view line.now) }
@@ -84,7 +84,7 @@ fn severity_fault(line: &Line<'_>) -> Option<Fault>
     }
 }
 
-/// The fault of a label's line, if its start or its end is no number.
+/// Returns the error of a label's line whose start or end is no number.
 #[tactic(auto, unfolding(crate::specs::ScriptFaults::number_fault))]
 fn number_fault(line: &Line<'_>) -> Option<Fault>
     ensures { result ≡ number_fault (line_view line.now) }

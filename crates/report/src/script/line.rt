@@ -8,11 +8,11 @@ use std::ops::Range;
 /// A line of a script.
 #[derive(Clone, Copy, Debug)]
 pub(super) struct Line<'input> {
-    /// The byte of the input at which it starts.
+    /// The byte index in the input at which it starts.
     pub(super) start: usize,
-    /// Its text, without its end.
+    /// Its text, without the newline and a carriage return before that.
     pub(super) text: &'input str,
-    /// The byte of the input at which the next line starts, or the input's length.
+    /// The byte index in the input at which the next line starts, or the input's length.
     pub(super) next: usize,
     ghost fits: { start + length text.now < 2 ^ 64 },
 }
@@ -21,7 +21,7 @@ impl<'input> Line<'input> {
     ghost use Rattle.std.specs.Prelude.{◌≡◌, ◌≤◌};
     ghost use Rattle.report.specs.ScriptLines.{line_view, range_at, word_of, rest_of, is_ignored};
 
-    /// What stands before the first blank.
+    /// Returns the text before the first space.
     pub(super) fn word(&self) -> &'input str
         ensures word { result.now ≡ word_of (line_view self.now) }
         ensures short { length result.now ≤ length self.now.text.now }
@@ -29,7 +29,7 @@ impl<'input> Line<'input> {
         cut(self.text).0
     }
 
-    /// What follows the first blank.
+    /// Returns the text after the first space.
     pub(super) fn rest(&self) -> &'input str
         ensures rest { result.now ≡ rest_of (line_view self.now) }
         ensures short { length result.now ≤ length self.now.text.now }
@@ -37,7 +37,7 @@ impl<'input> Line<'input> {
         cut(self.text).1
     }
 
-    /// Whether the line is empty or begins with `#`.
+    /// Returns whether the line is empty or begins with `#`.
     pub(super) fn is_ignored(&self) -> bool
         ensures { result ≡ is_ignored (line_view self.now) }
     {
@@ -47,7 +47,7 @@ impl<'input> Line<'input> {
         }
     }
 
-    /// The range in the input of a field that begins the end `from` of the line.
+    /// Returns the range in the input of a field with which `from`, a suffix of the line, begins.
     pub(super) fn range_at(&self, from: &str, field: &str) -> Range<usize>
         requires { (length field.now ≤ length from.now)
             × (length from.now ≤ length self.now.text.now) }

@@ -9,7 +9,7 @@ ghost use Rattle.report.specs.ScriptLines.{is_blank, line_view, lines_of, lines_
 use super::line::Line;
 use std::alloc::{AllocError, Global};
 
-/// What stands before the first blank of a text, and what follows it; all and nothing where there is none.
+/// Splits a text at its first space, which is left out; without one the second part is empty.
 pub(super) fn cut(text: &str) -> (&str, &str)
     ensures before { result.0.now ≡ before_first is_blank text.now }
     ensures after { result.1.now ≡ after_first is_blank text.now }
@@ -22,7 +22,7 @@ pub(super) fn cut(text: &str) -> (&str, &str)
     }
 }
 
-/// The text without a carriage return at its end.
+/// Returns the text without a carriage return at its end.
 fn without_return(text: &str) -> &str
     ensures text { result.now ≡ strip_carriage_return text.now }
     ensures short { length result.now ≤ length text.now }
@@ -33,7 +33,8 @@ fn without_return(text: &str) -> &str
     }
 }
 
-/// The first line of what is left of an input of so many bytes, and what follows its newline, if there is one.
+/// Returns the first line of `left`, the rest of an input of `size` bytes, and what follows its
+/// newline, if it has one.
 fn first_line(size: usize, left: &str) -> (Line<'_>, Option<&str>)
     requires { length left.now ≤ size }
     ensures line { lines_left size (Some left.now)
@@ -64,7 +65,7 @@ fn first_line(size: usize, left: &str) -> (Line<'_>, Option<&str>)
     }
 }
 
-/// The lines before the first `---`, and the source that follows that line, if there is one.
+/// Returns the lines before the first `---`, and the source after that line, if there is one.
 pub(super) fn read_lines(
     alloc: Global,
     input: &str,

@@ -1,4 +1,4 @@
-//! What the lines of a script say.
+//! What the lines of a script state.
 
 ghost use Rattle.std.specs.Prelude.{◌≡◌, map, IfOk};
 ghost use Rattle.std.specs.Option.{option_map};
@@ -14,7 +14,7 @@ use crate::request::parse_number;
 use codespan_reporting::diagnostic::{LabelStyle, Severity};
 use std::alloc::{AllocError, Global};
 
-/// The first line that begins with the word.
+/// Returns the first line that begins with the word.
 pub(super) fn given<'a, 'input>(word: &str, lines: &'a [Line<'input>]) -> Option<Line<'input>>
     ensures { option_map line_view result ≡ given_line word.now (map line_view lines.now) }
 {
@@ -26,7 +26,7 @@ pub(super) fn given<'a, 'input>(word: &str, lines: &'a [Line<'input>]) -> Option
     None
 }
 
-/// The rest of the first line that begins with the word.
+/// Returns the rest of the first line that begins with the word.
 pub(super) fn rest_given<'input>(word: &str, lines: &[Line<'input>]) -> Option<&'input str>
     ensures { option_map (λ rest. rest.now) result ≡ rest_given word.now (map line_view lines.now) }
 {
@@ -34,7 +34,7 @@ pub(super) fn rest_given<'input>(word: &str, lines: &[Line<'input>]) -> Option<&
     Some(line.rest())
 }
 
-/// The severity that the lines give; an error where they give none.
+/// Returns the severity that the lines state; an error if they state none.
 #[tactic(auto, unfolding(crate::specs::Scripts::severity_given))]
 pub(super) fn severity_given(lines: &[Line<'_>]) -> Severity
     ensures { result ≡ severity_given (map line_view lines.now) }
@@ -45,7 +45,7 @@ pub(super) fn severity_given(lines: &[Line<'_>]) -> Severity
     }
 }
 
-/// The label that a line gives, if it gives one.
+/// Returns the label that a line states, if it states one.
 #[tactic(auto, unfolding(crate::specs::Scripts::label_given))]
 fn label_given<'input>(line: &Line<'input>) -> Option<Labelled<'input>>
     ensures { option_map labelled_view result ≡ label_given (line_view line.now) }
@@ -57,7 +57,7 @@ fn label_given<'input>(line: &Line<'input>) -> Option<Labelled<'input>>
     }
 }
 
-/// The label of a style that a rest gives: where it starts, where it ends, and its message.
+/// Parses the rest of a label's line: its start, its end, and its message.
 fn labelled(style: LabelStyle, rest: &str) -> Option<Labelled<'_>>
     ensures { option_map labelled_view result ≡ labelled style rest.now }
 {
@@ -66,7 +66,7 @@ fn labelled(style: LabelStyle, rest: &str) -> Option<Labelled<'_>>
     Some((style, parse_number(start)?..parse_number(end)?, message))
 }
 
-/// The labels that the lines give, in their order.
+/// Returns the labels that the lines state, in their order.
 pub(super) fn labels<'input>(
     alloc: Global,
     lines: &[Line<'input>],
@@ -83,7 +83,7 @@ pub(super) fn labels<'input>(
     Ok(labels)
 }
 
-/// The notes that the lines give, in their order.
+/// Returns the notes that the lines state, in their order.
 pub(super) fn notes<'input>(
     alloc: Global,
     lines: &[Line<'input>],

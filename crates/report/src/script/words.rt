@@ -5,24 +5,24 @@ ghost use Rattle.report.specs.ScriptWords.{word_named, severity_named};
 
 use codespan_reporting::diagnostic::Severity;
 
-/// What a line begins with.
+/// The word with which a line begins.
 #[derive(Clone, Copy, Debug, PartialEq, Eq)]
 pub enum Word {
-    /// The rest says how bad it is.
+    /// The rest is the severity.
     Severity,
     /// The rest is the code.
     Code,
     /// The rest is the message.
     Message,
-    /// The rest is a label of a cause.
+    /// The rest is a primary label.
     Primary,
-    /// The rest is a label of what helps to see why.
+    /// The rest is a secondary label.
     Secondary,
     /// The rest is a note.
     Note,
 }
 
-/// The word that is spelled so; `None` for any other text.
+/// Parses a word; `None` for any other text.
 #[tactic(auto, unfolding(crate::specs::ScriptWords::word_named))]
 pub(super) fn parse_word(text: &str) -> Option<Word>
     ensures { result ≡ word_named text.now }
@@ -38,7 +38,7 @@ pub(super) fn parse_word(text: &str) -> Option<Word>
     }
 }
 
-/// The severity that is called so; `None` for any other text.
+/// Parses the name of a severity; `None` for any other text.
 #[tactic(auto, unfolding(crate::specs::ScriptWords::severity_named))]
 pub(super) fn parse_severity(text: &str) -> Option<Severity>
     ensures { result ≡ severity_named text.now }

@@ -14,9 +14,10 @@ const ESCAPE: u8 = 0x1b;
 
 /// A [`WriteColor`] of escape sequences.
 ///
-/// The sequences are this project's own. A style is ESC `[0m`, then ESC `[1m` for bold, then its colors: ESC `[3` for the text and ESC
-/// `[4` for the background, each with the color's number from 0 to 7 or, where it is intense, with `8;5;` and that number plus 8, and
-/// `m`. The reset is ESC `[0m`.
+/// The sequences are this project's own. A style is ESC `[0m`, then ESC `[1m` for bold, then its
+/// colors: ESC `[3` for the text and ESC `[4` for the background, each with the color's number from
+/// 0 to 7 or, where it is intense, with `8;5;` and that number plus 8, and `m`. The reset is ESC
+/// `[0m`.
 #[derive(Debug, Drop)]
 pub struct Ansi<W> {
     inner: W,
@@ -91,7 +92,8 @@ fn send_bold<W: Write>(w: &mut W, bold: bool) -> io::Result<()>
     }
 }
 
-/// Writes the sequence that sets a color, where there is one; the plane is `3` for the text and `4` for the background.
+/// Writes the sequence that sets a color, where there is one; the plane is `3` for the text and `4`
+/// for the background.
 #[tactic(auto, using(crate::proofs::AppendsBytes::paintings, crate::proofs::AnsiLemmas::sequences))]
 fn send_color<W: Write>(w: &mut W, plane: u8, intense: bool, color: Option<Color>) -> io::Result<()>
     ensures { AppendsBytes (W.contents w.old) (ansi_color (plane ∷ []) intense color)

@@ -106,7 +106,8 @@ impl<'chars> Chars<'chars> {
     ghost use Rattle.codespan_base.specs.Lookalikes.{IsChars};
     ghost use Rattle.codespan_base.specs.Characters.{box_drawing, ascii};
 
-    /// Returns the characters of box drawing, which are the default, with a text before a locus that is `Fixed`.
+    /// Returns the characters of box drawing, which are the default, with a text before a locus
+    /// that is `Fixed`.
     pub fn box_drawing() -> Chars<'chars>
         ensures alike { IsChars box_drawing result }
         ensures fixed { IsTrue (is_fixed result.snippet_start) }
@@ -160,7 +161,8 @@ impl<'chars> Chars<'chars> {
     ///
     /// # Errors
     ///
-    /// [`Error::OutOfMemory`] where an allocation fails; never where the text before a locus is [`SnippetStart::Fixed`].
+    /// [`Error::OutOfMemory`] where an allocation fails; never where the text before a locus is
+    /// [`SnippetStart::Fixed`].
     pub fn clone(&self) -> Result<Chars<'chars>, Error>
         ensures same { IfOk result (IsChars self.now) }
         ensures kind { IfOk result (λ c.

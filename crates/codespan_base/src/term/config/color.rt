@@ -66,7 +66,8 @@ impl Default for ColorSpec {
     }
 }
 
-/// A writer with fixed bytes for each style and for the reset. [`StylesWriter`](codespan_reporting::term::StylesWriter) makes a
+/// A writer with fixed bytes for each style and for the reset.
+/// [`StylesWriter`](codespan_reporting::term::StylesWriter) makes a
 /// [`WriteStyle`](codespan_reporting::term::WriteStyle) of it.
 ///
 /// `docs/WRITERS.md` implements one.
@@ -84,7 +85,8 @@ pub trait WriteColor: Write {
     ///
     /// # Errors
     ///
-    /// An [`io::Error`] where a write fails or takes none of its bytes; a prefix of the bytes has then been written.
+    /// An [`io::Error`] where a write fails or takes none of its bytes; a prefix of the bytes has
+    /// then been written.
     fn set_color(&mut self, spec: &ColorSpec) -> io::Result<()>
         ensures { AppendsBytes (Self.contents self.old) (color_bytes spec.now)
             result (Self.contents self.new) };
@@ -93,7 +95,8 @@ pub trait WriteColor: Write {
     ///
     /// # Errors
     ///
-    /// An [`io::Error`] where a write fails or takes none of its bytes; a prefix of the bytes has then been written.
+    /// An [`io::Error`] where a write fails or takes none of its bytes; a prefix of the bytes has
+    /// then been written.
     fn reset(&mut self) -> io::Result<()>
         ensures { AppendsBytes (Self.contents self.old) reset_bytes result
             (Self.contents self.new) };

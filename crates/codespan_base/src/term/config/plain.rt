@@ -11,7 +11,8 @@ use codespan_files::diagnostic::{LabelStyle, Severity};
 use std::io;
 use std::io::Write;
 
-/// A [`WriteStyle`] of plain text: each style mark has no bytes, and succeeds. It is this project's own.
+/// A [`WriteStyle`] of plain text: each style mark has no bytes, and succeeds. It is this project's
+/// own.
 ///
 /// # Examples
 ///

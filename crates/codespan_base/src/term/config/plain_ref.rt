@@ -8,10 +8,12 @@ use codespan_files::diagnostic::{LabelStyle, Severity};
 use std::io;
 use std::io::Write;
 
-/// A [`WriteStyle`] of plain text over a borrowed writer: each style mark has no bytes, and succeeds. It is this project's own.
+/// A [`WriteStyle`] of plain text over a borrowed writer: each style mark has no bytes, and
+/// succeeds. It is this project's own.
 ///
-/// [`PlainWriter`](codespan_reporting::term::PlainWriter) is the same over an owned writer. This one has the name of the reference in its
-/// sink besides, so that contracts state what the borrowed writer has afterwards.
+/// [`PlainWriter`](codespan_reporting::term::PlainWriter) is the same over an owned writer. This
+/// one has the name of the reference in its sink besides, so that contracts state what the borrowed
+/// writer has afterwards.
 #[derive(Drop)]
 pub struct PlainWriterRef<'writer, W> {
     writer: &'writer mut W,

@@ -8,8 +8,8 @@ use codespan_files::diagnostic::{LabelStyle, Severity};
 
 /// The styles of the parts of the output.
 ///
-/// The default styles are this project's own: those that the Rust crate documents, with cyan for secondary labels, line numbers, borders
-/// and bullets, as the crate has it on Windows.
+/// The default styles are this project's own: those that the Rust crate documents, with cyan for
+/// secondary labels, line numbers, borders and bullets, as the crate has it on Windows.
 ///
 /// # Examples
 ///
@@ -98,7 +98,8 @@ impl Styles {
         &self.source_border
     }
 
-    /// Borrows the style of a label in a diagnostic of this severity. Secondary labels have one style in all severities.
+    /// Borrows the style of a label in a diagnostic of this severity. Secondary labels have one
+    /// style in all severities.
     pub fn label(&self, severity: Severity, label_style: LabelStyle) -> &ColorSpec
         ensures { result.now ≡ style_of_label self.now severity label_style }
     {

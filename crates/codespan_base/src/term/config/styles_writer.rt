@@ -12,7 +12,8 @@ use codespan_files::diagnostic::{LabelStyle, Severity};
 use std::io;
 use std::io::Write;
 
-/// A [`WriteStyle`] over a [`WriteColor`]: each style mark has the bytes of its style in [`Styles`], and the reset those of the reset.
+/// A [`WriteStyle`] over a [`WriteColor`]: each style mark has the bytes of its style in
+/// [`Styles`], and the reset those of the reset.
 ///
 /// # Examples
 ///

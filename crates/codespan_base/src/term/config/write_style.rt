@@ -11,13 +11,15 @@ use std::io::Write;
 /// The result of a style mark.
 pub type GeneralWriteResult = io::Result<()>;
 
-/// A writer of bytes and style marks. It has a spelling: fixed bytes for each style mark, which no call changes.
+/// A writer of bytes and style marks. It has a spelling: fixed bytes for each style mark, which no
+/// call changes.
 ///
-/// A style mark that succeeds appends its spelling, and one that fails a prefix of it. The writer keeps a flag of whether it has failed:
-/// a style mark or a `put` that fails, and a `put` of some bytes that takes none, set it, and nothing else does. The rules are this
-/// project's own.
+/// A style mark that succeeds appends its spelling, and one that fails a prefix of it. The writer
+/// keeps a flag of whether it has failed: a style mark or a `put` that fails, and a `put` of some
+/// bytes that takes none, set it, and nothing else does. The rules are this project's own.
 ///
-/// Rendering writes bytes by `put` and never by the calls of `Write`, and it never flushes. `docs/WRITERS.md` goes through the example.
+/// Rendering writes bytes by `put` and never by the calls of `Write`, and it never flushes.
+/// `docs/WRITERS.md` goes through the example.
 ///
 /// # Examples
 ///
@@ -77,11 +79,13 @@ pub trait WriteStyle: Write {
     ///
     /// # Errors
     ///
-    /// An [`io::Error`] where a write fails or takes none of its bytes; a prefix of the mark's spelling has then been written.
+    /// An [`io::Error`] if a write fails or takes none of its bytes; a prefix of the style mark's
+    /// spelling has then been written.
     fn set_header(&mut self, severity: Severity) -> io::Result<()>
         ensures { Sends (sink self.old) (one_mark (Header severity)) result (sink self.new) };
 
-    /// Writes the style mark before the message of a header. Fails as [`set_header`](Self::set_header) does.
+    /// Writes the style mark before the message of a header. Fails as
+    /// [`set_header`](Self::set_header) does.
     fn set_header_message(&mut self) -> io::Result<()>
         ensures { Sends (sink self.old) (one_mark HeaderMessage) result (sink self.new) };
 
@@ -89,21 +93,24 @@ pub trait WriteStyle: Write {
     fn set_line_number(&mut self) -> io::Result<()>
         ensures { Sends (sink self.old) (one_mark LineNumber) result (sink self.new) };
 
-    /// Writes the style mark before the bullet of a note. Fails as [`set_header`](Self::set_header) does.
+    /// Writes the style mark before the bullet of a note. Fails as [`set_header`](Self::set_header)
+    /// does.
     fn set_note_bullet(&mut self) -> io::Result<()>
         ensures { Sends (sink self.old) (one_mark NoteBullet) result (sink self.new) };
 
-    /// Writes the style mark before the border left of the source, and before the start of a snippet. Fails as
-    /// [`set_header`](Self::set_header) does.
+    /// Writes the style mark before the border left of the source, and before the start of a
+    /// snippet. Fails as [`set_header`](Self::set_header) does.
     fn set_source_border(&mut self) -> io::Result<()>
         ensures { Sends (sink self.old) (one_mark SourceBorder) result (sink self.new) };
 
-    /// Writes the style mark before a label's carets, lanes and message. Fails as [`set_header`](Self::set_header) does.
+    /// Writes the style mark before a label's carets, lanes and message. Fails as
+    /// [`set_header`](Self::set_header) does.
     fn set_label(&mut self, severity: Severity, label_style: LabelStyle) -> io::Result<()>
         ensures { Sends (sink self.old) (one_mark (LabelMark severity label_style))
             result (sink self.new) };
 
-    /// Writes the style mark after a part, which ends its style. Fails as [`set_header`](Self::set_header) does.
+    /// Writes the style mark after a part, which ends its style. Fails as
+    /// [`set_header`](Self::set_header) does.
     fn reset(&mut self) -> io::Result<()>
         ensures { Sends (sink self.old) (one_mark Reset) result (sink self.new) };
 

@@ -1,4 +1,5 @@
-//! Writing whole texts, characters, spaces and numbers, to a [`WriteStyle`] or to the inner writer of one.
+//! Writing whole texts, characters, spaces and numbers, to a [`WriteStyle`] or to the inner writer
+//! of one.
 //!
 //! These functions are this project's own. They do not allocate.
 
@@ -31,7 +32,8 @@ const DIGITS: usize = 20;
 ///
 /// # Errors
 ///
-/// That of a `put` that fails, and [`ErrorKind::WriteZero`] where a `put` takes none of some bytes. A prefix has then been written.
+/// That of a `put` that fails, and [`ErrorKind::WriteZero`] where a `put` takes none of some bytes.
+/// A prefix has then been written.
 pub fn put_all<W: WriteStyle>(w: &mut W, text: &[u8]) -> io::Result<()>
     ensures { Sends (W.sink w.old) (bytes text.now) result (W.sink w.new) }
 {
@@ -168,7 +170,8 @@ fn write_digits(digits: &mut [u8; DIGITS], number: usize) -> usize
 ///
 /// # Errors
 ///
-/// That of a write that fails, and [`ErrorKind::WriteZero`] where a write takes none of some bytes. A prefix has then been written.
+/// That of a write that fails, and [`ErrorKind::WriteZero`] where a write takes none of some bytes.
+/// A prefix has then been written.
 pub fn write_all<W: Write>(w: &mut W, bytes: &[u8]) -> io::Result<()>
     ensures paints { AppendsBytes (W.contents w.old) bytes.now result (W.contents w.new) }
     ensures nothing { bytes.now ≡ [] → WritesNothing w.old result w.new }
@@ -179,7 +182,8 @@ pub fn write_all<W: Write>(w: &mut W, bytes: &[u8]) -> io::Result<()>
     put_all(&mut PlainWriterRef::new(w), bytes)
 }
 
-/// Writes once to the inner writer and returns how many bytes it took: the body of the `put` of a writer that keeps its flag in `failed`.
+/// Writes once to the inner writer and returns how many bytes it took: the body of the `put` of a
+/// writer that keeps its flag in `failed`.
 ///
 /// A failed write sets the flag, and so does a write of some bytes that takes none.
 ///
@@ -205,7 +209,8 @@ pub fn forward_put<W: Write>(writer: &mut W, failed: &mut bool, bytes: &[u8]) ->
     }
 }
 
-/// Writes all the bytes to the inner writer: the body of a style mark of a writer that keeps its flag in `failed`.
+/// Writes all the bytes to the inner writer: the body of a style mark of a writer that keeps its
+/// flag in `failed`.
 ///
 /// # Errors
 ///

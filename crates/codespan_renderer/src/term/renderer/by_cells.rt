@@ -1,7 +1,8 @@
-//! The rows of a line, drawn from a list of its characters that is made once for all of them.
+//! The rows of a line, written from a cache of its characters that is made once for all of them.
 //!
-//! The list reaches as far as the rows under the line do. The labels of the line stand in the order of their starts, so that each is met
-//! once in a walk over the characters. The rows are those that [`Renderer::render_snippet_source`] draws; only the time differs.
+//! The cache reaches as far as the rows under the line do. The labels of the line are in the order
+//! of their starts, so that a cursor over the characters passes each of them once. The rows are
+//! those of [`Renderer::render_snippet_source`]; only the time differs.
 //!
 //! [`Renderer::render_snippet_source`]: crate::term::renderer::Renderer::render_snippet_source
 

@@ -112,7 +112,8 @@ pub fn end_caret_run<W: WriteStyle>(
     change_style(w, look.severity, was, style)
 }
 
-/// Writes the carets under the characters of a line, the last of which is the position after the text.
+/// Writes the carets under the characters of a line, the last of which is the position after the
+/// text.
 fn write_carets<W: WriteStyle, C: CharCursor>(
     w: &mut W,
     look: Look<'_>,

@@ -9,8 +9,8 @@ pub use codespan_picture::cells::Cell;
 use std::str::Chars;
 use unicode_width::UnicodeWidthChar;
 
-/// An iterator over the characters of a line, from left to right; by [`Cells::to_end`] also over the position after the last one, which
-/// counts as one more character of one byte and one cell.
+/// An iterator over the characters of a line, from left to right; by [`Cells::to_end`] also over
+/// the position after the last one, which counts as one more character of one byte and one cell.
 #[derive(Drop)]
 pub struct Cells<'text> {
     text: &'text str,
@@ -109,7 +109,7 @@ impl<'text> Cells<'text> {
         }
     }
 
-    /// Returns the column after those of the characters to come that begin at this byte index or
+    /// Returns the column after those of the remaining characters that begin at this byte index or
     /// before it.
     pub fn column_past(&self, place: usize) -> u128
         ensures { result
@@ -125,9 +125,9 @@ impl<'text> Cells<'text> {
     }
 }
 
-/// Returns how many cells a character takes at a column, counted from 0: a tab as many as there are up to the next tab stop, any other
-/// character its width by `unicode_width`, or 0 where that is `None`. Printable ASCII takes one cell each, and is tested first, since
-/// most text is of it.
+/// Returns how many cells a character takes at a column, counted from 0: a tab as many as there are
+/// up to the next tab stop, any other character its width by `unicode_width`, or 0 where that is
+/// `None`. Printable ASCII takes one cell each, and is tested first, since most text is of it.
 #[inline(always)]
 fn width_at(tab_width: usize, column: u128, c: char) -> usize
     ensures { result ≡ width_at tab_width column c }

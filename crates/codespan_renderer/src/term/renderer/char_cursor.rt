@@ -31,8 +31,8 @@ pub trait CharCursor: Drop {
         ensures returned { IfSome result (λ c. has_returned c self.new) }
         ensures labels { labels self.new ≡ labels self.old };
 
-    /// Returns the style of the caret under the character that it has just returned: primary where a
-    /// primary label is over it, secondary where only others are, and `None` where no label is.
+    /// Returns the style of the caret under the character that it has just returned: primary where
+    /// a primary label is over it, secondary where only others are, and `None` where no label is.
     fn style_under(&mut self, cell: Cell) -> Option<LabelStyle>
         requires { has_returned cell self.old }
         ensures left { left self.new ≡ left self.old }

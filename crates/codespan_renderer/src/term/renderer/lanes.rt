@@ -27,11 +27,11 @@ pub enum LaneRow<'d> {
     Plain,
     /// A caret, pointer or hanging row.
     Below,
-    /// The underline row of a mark: its lane, its style, and its part.
+    /// The underline row of a multi-line label mark: its lane, its style, and its part.
     Underline(usize, LabelStyle, MultiLabel<'d>),
 }
 
-/// What a mark shows in a row of the kind.
+/// Returns what a multi-line label mark shows in a row of this kind.
 fn shape_in(
     layout: Layout,
     leading: usize,
@@ -54,7 +54,7 @@ fn shape_in(
     }
 }
 
-/// Whether the lane of a label with its corner in the source row goes on below it.
+/// Returns whether a lane with its corner in the source row goes on below it.
 fn goes_on(layout: Layout, leading: usize, start: usize) -> bool
     ensures { result ≡ is_unbroken layout && turns_early leading start }
 {
@@ -64,7 +64,7 @@ fn goes_on(layout: Layout, leading: usize, start: usize) -> bool
     }
 }
 
-/// What a mark shows in the underline row of the lane `turning`.
+/// Returns what a multi-line label mark shows in the underline row of the lane `turning`.
 fn underline_shape(
     layout: Layout,
     leading: usize,
@@ -86,7 +86,7 @@ fn underline_shape(
     }
 }
 
-/// The mark whose corner stands left of the lane in its own underline row.
+/// Returns the multi-line label mark of an underline row whose corner is left of the lane.
 fn crossing<'d>(row: LaneRow<'d>, lane: usize) -> Option<(usize, LabelStyle, MultiLabel<'d>)>
     ensures { option_map mark_view result ≡ row_crossing (lane_row_view row.entry) lane }
 {
@@ -96,7 +96,7 @@ fn crossing<'d>(row: LaneRow<'d>, lane: usize) -> Option<(usize, LabelStyle, Mul
     }
 }
 
-/// The character of the line that runs right from a corner.
+/// Returns the character of the line that runs right from a corner.
 fn corner_line(chars: &Chars<'_>, part: MultiLabel<'_>) -> char
     ensures { result ≡ corner_line chars.now (multi_label_view part.entry) }
 {
@@ -106,7 +106,7 @@ fn corner_line(chars: &Chars<'_>, part: MultiLabel<'_>) -> char
     }
 }
 
-/// A lane's part before its own character: blanks, or the line of a corner that stands to the left.
+/// Writes what precedes a lane's own character: spaces, or the line of a corner to the left.
 #[inline(always)]
 fn write_filling<W: WriteStyle>(
     w: &mut W,
@@ -128,7 +128,7 @@ fn write_filling<W: WriteStyle>(
     }
 }
 
-/// The two characters of a lane that is no gap: what fills it, and its own character.
+/// Writes the two characters of a lane that is no gap: what fills it, and its own character.
 #[inline(always)]
 fn write_filled<W: WriteStyle>(
     w: &mut W,
@@ -144,7 +144,7 @@ fn write_filled<W: WriteStyle>(
     write_label_glyph(w, look.severity, style, own)
 }
 
-/// The two characters of a lane.
+/// Writes the two characters of a lane.
 #[tactic(auto, unfolding(codespan_picture::specs::Lanes::lane_cells))]
 #[inline(always)]
 fn write_lane_cells<W: WriteStyle>(
@@ -166,7 +166,7 @@ fn write_lane_cells<W: WriteStyle>(
     }
 }
 
-/// One lane, from the mark in it.
+/// Writes one lane, from the multi-line label mark in it.
 #[tactic(auto, unfolding(codespan_picture::specs::RowParts::lane_of, crate::specs::Inner::GivenLine::given_lane))]
 fn inner_gutter_column<W: WriteStyle>(
     w: &mut W,
@@ -190,7 +190,7 @@ fn inner_gutter_column<W: WriteStyle>(
     }
 }
 
-/// The mark in the lane, if the next one is in it, and the place of the one after.
+/// Returns the next multi-line label mark, if it is in the lane, and the index of the one after it.
 #[tactic(auto, using(crate::proofs::LaneWalk::taking))]
 fn take_mark<'d>(
     marks: &[(usize, LabelStyle, MultiLabel<'d>)],
@@ -209,7 +209,7 @@ fn take_mark<'d>(
     (None, next)
 }
 
-/// The lane of the next mark, or the number of lanes where no mark is left.
+/// Returns the lane of the next multi-line label mark, or the number of lanes where none is left.
 fn next_lane(lanes: Lanes<'_, '_>, next: usize) -> usize
     ensures bare { (lane : ℕ) → lane < result
         → mark_here (drop next lanes.entry.marks.now) lane ≡ None }
@@ -222,11 +222,11 @@ fn next_lane(lanes: Lanes<'_, '_>, next: usize) -> usize
     }
 }
 
-/// How many blank lanes are sent at once at most.
+/// The greatest number of empty lanes that are written at once.
 const MAX_BLANK_LANES: usize = 32;
 
-/// How many lanes from one on, up to that of the next mark, are blank: no line runs through them from a corner. No more than are sent at
-/// once.
+/// Returns how many lanes from this one on, up to that of the next multi-line label mark, are
+/// empty: no line runs through them from a corner. At most as many as are written at once.
 fn blank_lanes(row: LaneRow<'_>, lane: usize, until: usize) -> usize
     ensures bare { (other : ℕ) → lane ≤ other → other < lane + result
         → row_crossing (lane_row_view row.entry) other ≡ None }
@@ -240,7 +240,8 @@ fn blank_lanes(row: LaneRow<'_>, lane: usize, until: usize) -> usize
     end.saturating_sub(lane).min(MAX_BLANK_LANES)
 }
 
-/// The lanes of a row, from left to right. Most rows have none, which is found before any call.
+/// Writes the lanes of a row, from left to right. Most rows have none, which is tested before any
+/// call.
 #[inline(always)]
 pub fn inner_gutter<W: WriteStyle>(
     w: &mut W,
@@ -260,7 +261,7 @@ pub fn inner_gutter<W: WriteStyle>(
     }
 }
 
-/// Each lane of a row.
+/// Writes each lane of a row.
 fn inner_gutter_columns<W: WriteStyle>(
     w: &mut W,
     look: Look<'_>,

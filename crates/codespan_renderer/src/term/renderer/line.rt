@@ -29,7 +29,7 @@ pub struct Look<'config> {
 pub struct Lanes<'row, 'd> {
     /// The number of lanes.
     pub count: usize,
-    /// The lane of each mark, counted from 0, its style, and what the label does on the line.
+    /// The lane of each, counted from 0, its style, and what the label does on the line.
     pub marks: &'row [(usize, LabelStyle, MultiLabel<'d>)],
     ghost in_order: { IsTrue (lanes_in_order count marks.now) },
 }
@@ -98,7 +98,8 @@ fn is_line_end(byte: u8) -> bool
     matches!(byte, b'\n' | b'\r' | b'\0')
 }
 
-/// Returns the length in bytes of the white space that the text begins with: characters with the Unicode property `White_Space`.
+/// Returns the length in bytes of the white space that the text begins with: characters with the
+/// Unicode property `White_Space`.
 pub fn leading_whitespace(text: &str) -> usize
     ensures { result ≡ leading_whitespace text.now }
 {

@@ -65,8 +65,8 @@ pub trait LineSource {
             (given_pointers look.entry line.entry (given_cells look.entry line.entry))
             result (W.sink w.new) };
 
-    /// Writes the pointers of the characters that begin before this byte index, which is at most the
-    /// greatest start of a label.
+    /// Writes the pointers of the characters that begin before this byte index, which is at most
+    /// the greatest start of a label.
     fn caret_pointers_before<W: WriteStyle>(
         &self,
         w: &mut W,

@@ -21,8 +21,8 @@ pub struct Messages<'row, 'd> {
 }
 
 impl<'row, 'd> Messages<'row, 'd> {
-    /// Finds the trailing label: the last of those with the greatest end, where it has a message and overlaps no other label. Each other
-    /// label with a message hangs.
+    /// Finds the trailing label: the last of those with the greatest end, where it has a message
+    /// and overlaps no other label. Each other label with a message hangs.
     pub fn of(labels: &'row [SingleLabel<'d>]) -> Messages<'row, 'd>
         ensures trailing { given_label result.trailing ≡ trailing (single_label_views labels.now) }
         ensures hanging { AreHanging labels.now result.before.now result.after.now }
@@ -57,7 +57,8 @@ fn last_with_end(labels: &[SingleLabel<'_>], end: usize) -> Option<usize>
     None
 }
 
-/// Returns whether the message of the label at this index trails: it has one, and overlaps no other label of the line.
+/// Returns whether the message of the label at this index trails: it has one, and overlaps no other
+/// label of the line.
 fn does_trail(labels: &[SingleLabel<'_>], place: usize) -> bool
     requires { place < length labels.now }
     ensures { result ≡ option_map_or (does_trail (single_label_views labels.now))

@@ -54,7 +54,8 @@ pub fn count_digits(number: usize) -> usize
     digits
 }
 
-/// Writes the outer gutter with a line number: aligned to the right in the padding, or in full where it is wider.
+/// Writes the outer gutter with a line number: aligned to the right in the padding, or in full
+/// where it is wider.
 #[inline(always)]
 pub fn outer_gutter_number<W: WriteStyle>(
     w: &mut W,

@@ -49,7 +49,8 @@ fn starts_in(cell: Cell, label: &SingleLabel<'_>) -> bool
     }
 }
 
-/// Returns the best style of the one found so far and those of the labels with a message that start in the character.
+/// Returns the best style of the one found so far and those of the labels with a message that start
+/// in the character.
 fn best_start(
     found: Option<LabelStyle>,
     labels: &[SingleLabel<'_>],
@@ -67,7 +68,8 @@ fn best_start(
     best
 }
 
-/// Returns the style of the pointer under a character, where a label hangs from it: a primary one takes precedence.
+/// Returns the style of the pointer under a character, where a label hangs from it: a primary one
+/// takes precedence.
 fn pointer_in(
     labels: &[SingleLabel<'_>],
     messages: Messages<'_, '_>,
@@ -99,7 +101,8 @@ pub fn caret_pointer<W: WriteStyle>(
     write_label_glyph(w, look.severity, style, look.chars.pointer_left)
 }
 
-/// Writes the pointers of the characters of a line that begin before a byte index. It tests each label at each of them.
+/// Writes the pointers of the characters of a line that begin before a byte index. It tests each
+/// label at each of them.
 pub fn scanned_caret_pointers<W: WriteStyle>(
     w: &mut W,
     look: Look<'_>,

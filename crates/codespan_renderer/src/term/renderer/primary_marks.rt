@@ -10,7 +10,8 @@ use crate::term::renderer::MultiLabel;
 use crate::term::renderer::cells::Cell;
 use codespan_base::diagnostic::LabelStyle;
 
-/// What the primary multi-line labels cover of a line: all from one byte index on, and all before another.
+/// What the primary multi-line labels cover of a line: all from one byte index on, and all before
+/// another.
 #[derive(Clone, Copy)]
 pub struct PrimaryMarks {
     /// The least start of those that start on the line; 0 where one covers the whole line.
@@ -20,7 +21,7 @@ pub struct PrimaryMarks {
 }
 
 impl PrimaryMarks {
-    /// Returns what the labels of these marks cover.
+    /// Returns what the labels of these multi-line label marks cover.
     pub fn of(marks: &[(usize, LabelStyle, MultiLabel<'_>)]) -> PrimaryMarks
         ensures { AreMarksOf (map mark_view marks.now) result }
     {
@@ -33,7 +34,7 @@ impl PrimaryMarks {
         found
     }
 
-    /// Adds what the label of one more mark covers.
+    /// Adds what the label of one more multi-line label mark covers.
     fn with(self, part: MultiLabel<'_>) -> PrimaryMarks
         ensures { (c : cell.Cell) → 1 ≤ c.bytes → is_marked result c
             ≡ (is_marked self c || takes_in c (multi_label_view part.entry)) }

@@ -48,7 +48,8 @@ pub fn has_primary_label(labels: &[SingleLabel<'_>], cell: Cell) -> bool
     false
 }
 
-/// Returns the style of a character of the source: primary where a primary label covers it, inside the line or by these marks.
+/// Returns the style of a character of the source: primary where a primary label covers it, inside
+/// the line or by these multi-line label marks.
 fn text_style<C: CharCursor>(
     characters: &mut C,
     marks: PrimaryMarks,
@@ -82,7 +83,7 @@ fn has_primary(labels: &[SingleLabel<'_>]) -> bool
     false
 }
 
-/// Returns whether one of these marks is primary.
+/// Returns whether one of these multi-line label marks is primary.
 fn has_primary_mark(marks: &[(usize, LabelStyle, MultiLabel<'_>)]) -> bool
     ensures { result
         ≡ list_any (λ (m : LaneMark). is_primary_style m.style) (map mark_view marks.now) }
@@ -102,7 +103,8 @@ fn has_tab(text: &str) -> bool
     text.as_bytes().contains(&b'\t')
 }
 
-/// Returns whether the text of a line is plainly rendered as it is: it has no tab, and no label of the line is primary.
+/// Returns whether the text of a line is written unchanged: it has no tab, and no label of the line
+/// is primary.
 #[inline(always)]
 pub fn is_plain(line: Line<'_, '_>) -> bool
     ensures { result ≡ true → (look : LookWord)
@@ -111,7 +113,8 @@ pub fn is_plain(line: Line<'_, '_>) -> bool
     !has_primary(line.labels) && !has_primary_mark(line.lanes.marks) && !has_tab(line.text)
 }
 
-/// Writes the text of a line, which has these characters, with tabs as spaces, and with style marks where its style changes.
+/// Writes the text of a line, which has these characters, with tabs as spaces, and with style marks
+/// where its style changes.
 fn write_colored_text<W: WriteStyle, C: CharCursor>(
     w: &mut W,
     look: Look<'_>,
@@ -248,7 +251,8 @@ fn write_caret_rows<W: WriteStyle, S: LineSource>(
     Ok(())
 }
 
-/// Writes all rows of a line: its source, its carets, pointers and hanging messages, and its underlines.
+/// Writes all rows of a line: its source, its carets, pointers and hanging messages, and its
+/// underlines.
 pub fn write_line<W: WriteStyle, S: LineSource>(
     w: &mut W,
     look: Look<'_>,

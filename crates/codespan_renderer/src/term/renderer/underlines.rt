@@ -24,7 +24,7 @@ use codespan_base::term::config::writing::{put_all, put_char};
 use codespan_base::term::{Chars, WriteStyle};
 use std::io;
 
-/// The caret under the start of a label.
+/// Returns the caret under the start of a label.
 fn start_caret(chars: &Chars<'_>, style: LabelStyle) -> char
     ensures { result ≡ start_caret chars.now style }
 {
@@ -56,7 +56,7 @@ fn write_underline_message<W: WriteStyle>(w: &mut W, message: &str) -> io::Resul
     put_all(w, message.as_bytes())
 }
 
-/// Returns how many cells the underline of a mark has between its corner and its caret.
+/// Returns how many cells an underline has between its corner and its caret.
 fn run_width<S: LineSource>(source: &S, part: MultiLabel<'_>) -> u128
     ensures { result ≡ run_width (characters_of (S.of source.now)) (multi_label_view part.entry) }
 {
@@ -67,7 +67,7 @@ fn run_width<S: LineSource>(source: &S, part: MultiLabel<'_>) -> u128
     }
 }
 
-/// Writes the underline of a mark from its corner on: `width` cells, the caret, and the message.
+/// Writes an underline from its corner on: `width` cells, the caret, and the message.
 #[tactic(auto, using(codespan_base::proofs::Sends::sendings), unfolding(crate::specs::Inner::Underlines::run_underline))]
 fn label_multi_caret<W: WriteStyle>(
     w: &mut W,
@@ -115,7 +115,8 @@ fn write_underline_lanes<W: WriteStyle>(
     )
 }
 
-/// Writes the underline row of a mark, with `width` cells between its corner and its caret.
+/// Writes the underline row of a multi-line label mark, with `width` cells between its corner and
+/// its caret.
 fn write_underline_row<W: WriteStyle>(
     w: &mut W,
     look: Look<'_>,
@@ -136,7 +137,8 @@ fn write_underline_row<W: WriteStyle>(
     write_newline(w)
 }
 
-/// Returns whether a mark has an underline row: one whose corner is in the source row has none.
+/// Returns whether a multi-line label mark has an underline row: one whose corner is in the source
+/// row has none.
 fn has_underline(leading: usize, part: MultiLabel<'_>) -> bool
     ensures { result ≡ has_underline leading (multi_label_view part.entry) }
 {

@@ -7,7 +7,7 @@ use Rattle.gallery.specs.Inks.{all_told, ink_number, ink_of, plain_ink, told}
 use Rattle.gallery.proofs.Painting.{drawn_stream, told_after, fresh_told}
 use Rattle.gallery.proofs.drawing.paint_over.Goals as goal
 
--- how marks are told in some styles
+-- the spelling of style marks in some styles
 abbrev inked : Styles → Spelling
 inked styles = spelling_by styles (λ spec. ink_number (ink_of spec) ∷ []) (ink_number plain_ink ∷ [])
 

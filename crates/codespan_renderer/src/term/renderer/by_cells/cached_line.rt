@@ -85,12 +85,12 @@ impl<'cells, 'row, 'd> CachedLine<'cells, 'row, 'd> {
     ghost use Rattle.codespan_renderer.specs.Inner.GivenLine.{line_view};
     ghost use Rattle.codespan_renderer.specs.Renderers.{config_of, rendered_source, Renders};
 
-    /// Draws the line with its carets, its messages and its underlines. `outer_padding` is the padding
-    /// width of line numbers, in characters.
+    /// Renders the line with its carets, its messages and its underlines. `outer_padding` is the
+    /// padding width, in characters.
     ///
     /// # Errors
     ///
-    /// `Io` alone, where the writer fails. A prefix of the rows is written then.
+    /// `Io` alone: the writer fails or takes no bytes. A prefix of the rows has then been written.
     pub fn render<W: WriteStyle>(
         &self,
         renderer: &mut Renderer<'_, '_, W>,
@@ -106,7 +106,8 @@ impl<'cells, 'row, 'd> CachedLine<'cells, 'row, 'd> {
         Ok(())
     }
 
-    /// Returns a cursor over its characters, and the position after the last one where `to_end` is set.
+    /// Returns a cursor over its characters, and the position after the last one where `to_end` is
+    /// set.
     #[inline(always)]
     fn cursor(&self, to_end: bool) -> CachedCursor<'cells, 'row, 'd>
         ensures left { kept_left result.characters

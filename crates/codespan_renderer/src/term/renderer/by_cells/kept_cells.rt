@@ -6,7 +6,7 @@ use crate::term::renderer::cells::{Cell, Cells};
 /// goes on with.
 #[derive(Drop)]
 pub struct KeptCells<'cells, 'text> {
-    /// The kept ones that are still to come.
+    /// The kept ones that are left.
     pub kept: &'cells [Cell],
     /// The scan of those after them.
     pub rest: Cells<'text>,

@@ -18,9 +18,9 @@ use codespan_base::files::Error;
 use codespan_base::term::WriteStyle;
 use std::alloc::Global;
 
-/// The memory for the characters of a line and the pointers under them, found once for all its rows.
+/// The characters of a line and the pointers under them, cached for all its rows.
 ///
-/// One value serves many lines, so that its memory is taken once.
+/// One value serves many lines, so that its memory is allocated once.
 #[derive(Drop)]
 pub struct LineCells {
     /// The first characters, from left to right, as far as the rows reach.
@@ -30,7 +30,7 @@ pub struct LineCells {
 }
 
 impl LineCells {
-    /// Nothing yet. It takes no memory.
+    /// Returns an empty cache. It allocates nothing.
     pub fn new(alloc: Global) -> LineCells {
         LineCells {
             kept: Vec::new(alloc),
@@ -38,9 +38,8 @@ impl LineCells {
         }
     }
 
-    /// Takes the characters of a line, as the renderer draws them, as far as its rows need them, and the
-    /// pointers of its labels, in place of those before. Nothing is allocated for a line that has neither
-    /// labels nor underlines.
+    /// Replaces the cached characters and pointers by those of a line, as far as its rows need
+    /// them. Nothing is allocated for a line that has neither labels nor underlines.
     ///
     /// # Errors
     ///
@@ -75,8 +74,8 @@ impl LineCells {
     }
 }
 
-/// Takes the characters of a text in place of those before, up to the first one that begins past the
-/// reach, and returns the scan of those after it. Nothing is taken where there is no reach.
+/// Replaces the cached characters by those of a text, up to the first one that begins past the
+/// reach, and returns the scan of those after it. Without a reach none is cached.
 ///
 /// # Errors
 ///

@@ -1,4 +1,4 @@
-//! The pointers under the carets of a line, and the messages that hang from them, from a list of pointers that is made once for a line.
+//! The pointers under the carets of a line, cached for its pointer row and its hanging messages.
 
 ghost use Rattle.std.specs.Prelude.{◌≡◌, ◌+◌, ◌^◌, ◌++◌, ◌<◌, ◌≤◌, IfOk, IsErrOf, IsTrue, OnErr};
 ghost use Rattle.codespan_base.specs.Streams.{newline};
@@ -33,17 +33,18 @@ use std::io;
 /// A character from which labels hang.
 #[derive(Clone, Copy, Debug)]
 pub struct Pointer {
-    /// The byte of the line at which the character begins.
+    /// The byte index in the line at which the character begins.
     pub place: usize,
-    /// The cell in which the pointer stands: the first one of the character.
+    /// The cell of the pointer: the first one of the character.
     pub column: u128,
-    /// The cell from which blanks go on after it: the next one, or the same where the character owns none.
+    /// The cell after the pointer: the next one, or the same where the character owns none.
     pub after: u128,
     /// The best style of the labels that hang from it.
     pub style: LabelStyle,
 }
 
-/// The pointers of the characters that begin before a place, with blanks between them and up to a column.
+/// Writes the pointers of the characters that begin before a byte index, with spaces between them
+/// and up to the column `edge`.
 #[inline(always)]
 pub fn write_spaced<W: WriteStyle>(
     w: &mut W,
@@ -67,8 +68,8 @@ pub fn write_spaced<W: WriteStyle>(
     write_spaces(w, edge.saturating_sub(column))
 }
 
-/// Takes the pointers of the labels of a line that hang in place of those before. Where none hangs no character is looked at. Fails with
-/// `OutOfMemory`.
+/// Replaces the pointers by those of the labels of a line that hang. If none hangs, no character is
+/// read. Fails with `OutOfMemory`.
 #[inline(always)]
 pub fn find_pointers(
     pointers: &mut Vec<Pointer>,
@@ -105,7 +106,7 @@ pub fn find_pointers(
     Ok(())
 }
 
-/// The pointer under a character.
+/// Returns the pointer under a character.
 fn pointer_under(cell: Cell, style: LabelStyle) -> Pointer
     requires { cell.column + cell.width < 2 ^ 128 }
     ensures { result ≡ pointer_under cell style }

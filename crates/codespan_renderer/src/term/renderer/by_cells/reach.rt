@@ -7,8 +7,8 @@ ghost use Rattle.codespan_renderer.specs.Inner.KeptCells.{farther, farther_mark,
 use crate::term::renderer::MultiLabel;
 use crate::term::renderer::line::Line;
 
-/// Returns the greatest byte index that a row under the line needs: the greatest start or end of its
-/// labels, and of what underlines have; `None` where it has neither labels nor underlines.
+/// Returns the greatest byte index that a row under the line needs: the greatest start or end of
+/// its labels, and of what underlines have; `None` where it has neither labels nor underlines.
 pub fn reach_of(line: Line<'_, '_>) -> Option<usize>
     ensures { result ≡ reach_of (single_label_views line.entry.labels.now)
         (map mark_view line.entry.lanes.marks.now) }
@@ -23,7 +23,8 @@ pub fn reach_of(line: Line<'_, '_>) -> Option<usize>
     reach
 }
 
-/// Returns the greater of a reach and what a mark has of the line.
+/// Returns the greater of a reach and the byte index that the underline of a multi-line label mark
+/// needs.
 fn farther_mark(reach: Option<usize>, part: MultiLabel<'_>) -> Option<usize>
     ensures { result ≡ farther_mark reach (multi_label_view part.entry) }
 {

@@ -1,4 +1,4 @@
-//! A walk over the characters of a line that meets its labels as they begin.
+//! Cursors over the labels of a line, in the order of their starts.
 
 ghost use Rattle.std.specs.Prelude.{◌≡◌, ◌+◌, ◌<◌, ◌≤◌, ◌&&◌, IsTrue, nat_lt, true, max, filter};
 ghost use Rattle.codespan_base.specs.Labels.{has_message, is_primary};
@@ -14,21 +14,21 @@ use crate::term::renderer::carets::better;
 use crate::term::renderer::cells::Cell;
 use codespan_base::diagnostic::LabelStyle;
 
-/// The labels of a line, as a walk over its characters meets them.
+/// A cursor over the labels of a line, which passes a label once a character is under it.
 #[derive(Clone, Copy)]
 pub struct Sweep<'row, 'd> {
     /// The labels of the line, in the order of their starts.
     labels: &'row [SingleLabel<'d>],
-    /// How many of them have begun.
+    /// How many of them it has passed.
     next: usize,
-    /// The greatest end of the primary ones that have begun, 0 where there is none.
+    /// The greatest end of the primary ones that it has passed, 0 where there is none.
     primary_end: usize,
-    /// The greatest end of all that have begun, 0 where there is none.
+    /// The greatest end of all that it has passed, 0 where there is none.
     end: usize,
 }
 
 impl<'row, 'd> Sweep<'row, 'd> {
-    /// A walk that is at the line's start.
+    /// Returns a cursor before the first label.
     pub fn new(labels: &'row [SingleLabel<'d>]) -> Sweep<'row, 'd>
         requires { IsTrue (starts_in_order (single_label_views labels.now)) }
         ensures met { HasMet 0 result }
@@ -42,7 +42,7 @@ impl<'row, 'd> Sweep<'row, 'd> {
         }
     }
 
-    /// The labels that begin before the character's end come to those that were met.
+    /// Passes the labels that start before the character's end.
     pub fn meet(&mut self, cell: Cell)
         requires some { 1 ≤ cell.bytes }
         requires met { HasMet cell.place self.old }
@@ -60,7 +60,8 @@ impl<'row, 'd> Sweep<'row, 'd> {
         }
     }
 
-    /// The style of the labels over the character, once those that begin before its end are met: a primary one goes first.
+    /// Passes the labels that start before the character's end, and returns the style of those over
+    /// it: a primary one takes precedence.
     pub fn style_under(&mut self, cell: Cell) -> Option<LabelStyle>
         requires some { 1 ≤ cell.bytes }
         requires met { HasMet cell.place self.old }
@@ -78,7 +79,8 @@ impl<'row, 'd> Sweep<'row, 'd> {
         }
     }
 
-    /// Whether a primary label has a byte of the character, once those that begin before its end are met.
+    /// Passes the labels that start before the character's end, and returns whether a primary one
+    /// has a byte of it.
     pub fn has_primary(&mut self, cell: Cell) -> bool
         requires some { 1 ≤ cell.bytes }
         requires met { HasMet cell.place self.old }
@@ -91,7 +93,7 @@ impl<'row, 'd> Sweep<'row, 'd> {
         cell.place < self.primary_end
     }
 
-    /// A label comes to those that have begun: one with no byte is over no character.
+    /// Passes a label: one without a byte is over no character.
     fn admit(&mut self, label: &SingleLabel<'_>)
         ensures primary { self.new.primary_end
             ≡ end_with (is_primary (single_label_view label.now)) self.old.primary_end
@@ -109,17 +111,18 @@ impl<'row, 'd> Sweep<'row, 'd> {
     }
 }
 
-/// Labels of a line that have messages or none, as a walk over its characters meets their starts.
+/// A cursor over labels of a line that have messages or none, which passes a label once a character
+/// is under its start.
 #[derive(Clone, Copy)]
 pub struct Starts<'row, 'd> {
     /// The labels, in the order of their starts.
     labels: &'row [SingleLabel<'d>],
-    /// How many of them have begun.
+    /// How many of them it has passed.
     next: usize,
 }
 
 impl<'row, 'd> Starts<'row, 'd> {
-    /// A walk that is at the line's start.
+    /// Returns a cursor before the first label.
     pub fn new(labels: &'row [SingleLabel<'d>]) -> Starts<'row, 'd>
         requires { IsTrue (starts_in_order (single_label_views labels.now)) }
         ensures passed { HasPassed 0 result }
@@ -128,7 +131,8 @@ impl<'row, 'd> Starts<'row, 'd> {
         Starts { labels, next: 0 }
     }
 
-    /// The best style of what was found and of the labels with a message that start in the character.
+    /// Passes the labels that start before the character's end, and returns the best style of
+    /// `found` and of those with a message that start in it.
     pub fn best_start(&mut self, found: Option<LabelStyle>, cell: Cell) -> Option<LabelStyle>
         requires some { 1 ≤ cell.bytes }
         requires passed { HasPassed cell.place self.old }
@@ -150,7 +154,7 @@ impl<'row, 'd> Starts<'row, 'd> {
     }
 }
 
-/// Whether the label begins before the character's end.
+/// Returns whether the label starts before the character's end.
 fn begins_by(label: &SingleLabel<'_>, cell: Cell) -> bool
     requires { 1 ≤ cell.bytes }
     ensures { result ≡ nat_lt (single_label_view label.now).start (cell.place + cell.bytes) }

@@ -40,7 +40,7 @@ pub enum SnippetLine<'e, 'd, FileId> {
     },
 }
 
-/// What stands between a shown line and the one before it.
+/// What is between a shown line and the one before it.
 #[derive(Clone, Copy)]
 pub enum Gap {
     /// Nothing, or the line is the first shown one.
@@ -51,7 +51,7 @@ pub enum Gap {
     Lines,
 }
 
-/// Returns what stands before the shown line of this index, where `last` is the index of the shown
+/// Returns what is before the shown line of this index, where `last` is the index of the shown
 /// line before it.
 pub fn gap_before(last: Option<usize>, index: usize) -> Gap
     ensures { IsGapBefore last index result }
@@ -98,7 +98,7 @@ impl<'files, F: Files<'files>> LinePlanner<'files, F> {
         }
     }
 
-    /// Appends what stands between two shown lines: the one line between them, which has the
+    /// Appends what is between two shown lines: the one line between them, which has the
     /// annotations `hidden`, or a break, where `next` are those of the shown line after it.
     ///
     /// # Errors
@@ -135,7 +135,7 @@ impl<'files, F: Files<'files>> LinePlanner<'files, F> {
         Ok(())
     }
 
-    /// Appends a shown line with its annotations, after what stands before it. `hidden` are the
+    /// Appends a shown line with its annotations, after what is before it. `hidden` are the
     /// annotations of the line before it, where that is hidden.
     ///
     /// # Errors

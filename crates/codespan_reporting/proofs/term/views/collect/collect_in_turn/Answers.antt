@@ -67,7 +67,7 @@ returns-in_err-lines-clause-failed g c =
     let p = err_from_is_err_and c.from_residual-in_err-lines.result c.from_residual-in_err-lines.ensures.1 in
     rw (p.1 ∙ ap Err p.2) (λ told. collected-failed lawful at c.loop-index.invariant _ (c.in_err-lines.ensures.failed told))
 
--- its place is one of the files'
+-- its index is one of the files'
 place_inside : (g : Over) (c : In_ok-file g) → StandsAt c.args.labels.now c.loop-index.index c.index-labels-index.result → c.in_ok-file.file < length c.file_index.new.files.items
 place_inside g c at =
     let lawful = are_files g c.lifetimes (search rules) c.args.files.now in

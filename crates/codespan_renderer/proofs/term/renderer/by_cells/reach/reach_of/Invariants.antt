@@ -4,13 +4,13 @@ use Rattle.codespan_picture.specs.Given.{mark_view, single_label_views}
 use Rattle.codespan_renderer.specs.Inner.KeptCells.{farther, farther_mark, reach_of}
 use Rattle.codespan_renderer.proofs.term.renderer.by_cells.reach.reach_of.Given as goal
 
--- the labels that are left, and then the marks, are still to count
+-- the labels that are left, and then the multi-line label marks, are still to count
 abbrev pub invariant-loop-label : goal.invariant-loop-label
 invariant-loop-label l =
     fold (λ reach (x : Labelled). farther (farther reach x.start) x.end) l.reach (single_label_views (drop l.label-index l.line.labels.now))
     ≡ reach_of (single_label_views l.line.labels.now) []
 
--- the marks that are left are
+-- the multi-line label marks that are left are
 abbrev pub invariant-loop-mark : goal.invariant-loop-mark
 invariant-loop-mark l =
     fold (λ reach (m : LaneMark). farther_mark reach m.part) l.reach (map mark_view (drop l.mark-index l.line.lanes.marks.now))

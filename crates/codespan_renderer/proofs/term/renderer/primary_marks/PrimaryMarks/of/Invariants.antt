@@ -7,7 +7,7 @@ use Rattle.codespan_renderer.specs.Inner.PrimaryMarks.{is_marked}
 use Rattle.codespan_picture.specs.RowParts.{takes_in}
 use Rattle.codespan_renderer.proofs.term.renderer.primary_marks.PrimaryMarks.of.Given as goal
 
--- what was found and the remaining marks cover what all marks cover
+-- what was found and the remaining multi-line label marks cover what all of them cover
 abbrev pub invariant-loop-mark : goal.invariant-loop-mark
 invariant-loop-mark l =
     (c : Cell) → 1 ≤ c.bytes

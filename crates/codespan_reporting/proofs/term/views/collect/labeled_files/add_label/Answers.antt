@@ -10,7 +10,7 @@ use Rattle.codespan_reporting.proofs.term.views.collect.labeled_files.add_label.
 use Rattle.codespan_reporting.proofs.term.views.collect.labeled_files.add_label.Goals.{After-add}
 use Rattle.codespan_reporting.proofs.term.views.collect.labeled_files.add_label.Goals as goal
 
--- the file at the place
+-- the file at the index
 at : (g : Over) (c : After-add g) → StandsAt c.args.files.now.items c.args.index c.index_mut.result.now
 at g c = record { inside = c.requires.index; is = c.index_mut.ensures.value }
 

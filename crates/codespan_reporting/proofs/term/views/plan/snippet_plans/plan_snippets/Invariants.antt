@@ -4,7 +4,8 @@ use Rattle.codespan_reporting.proofs.FileParts.{from_file}
 use Rattle.codespan_reporting.proofs.PlansFound.{ArePlanned}
 use Rattle.codespan_reporting.proofs.term.views.plan.snippet_plans.plan_snippets.Given as goal
 
--- the annotations from here on are those of this file and later ones, and the files before it are planned
+-- the annotations from here on are those of this file and later ones, and the files before it are
+-- planned
 abbrev pub invariant-loop-index : goal.invariant-loop-index
 invariant-loop-index g l = record {
   inside : l.start ≤ length l.collected.annotations.items;

@@ -4,7 +4,8 @@ use Rattle.codespan_reporting.specs.Views.{diagnostic_of, view_config_of}
 use Rattle.codespan_reporting.proofs.OutputPlanRendering.{AreFilesFrom, SnippetsLeft}
 use Rattle.codespan_reporting.proofs.term.views.rich.RichDiagnostic.render_snippets.Given as goal
 
--- the files before this one have been rendered, and these snippet lines are those of it and of later ones
+-- the files before this one have been rendered, and these snippet lines are those of it and of
+-- later ones
 abbrev pub invariant-loop-index : goal.invariant-loop-index
 invariant-loop-index g l = record {
   same : SameRenderer l.initial.renderer l.renderer;

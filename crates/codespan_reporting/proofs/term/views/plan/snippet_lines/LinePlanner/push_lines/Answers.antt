@@ -13,7 +13,7 @@ use Rattle.codespan_reporting.proofs.term.views.plan.snippet_lines.LinePlanner.p
 counted : (g : Over) (c : After-shows_line g) → IsCounted c.args.annotations.now c.loop-at.at c.line_len.result c.index-annotations-at.result
 counted g c = record { inside = c.loop-at-test.true; is = c.line_len.ensures.value; within = c.line_len.ensures.within }
 
--- the first of them tells whether the line is shown
+-- the first of them determines whether the line is shown
 is_shown : (g : Over) (c : After-shows_line g) {b : Bool} → shows_line (annotation_view c.index-annotations-at-in-loop-at.result) ≡ b
     → shows_line (annotation_view (get_or c.args.annotations.now c.loop-at.at c.index-annotations-at.result)) ≡ b
 is_shown g c is =
