@@ -94,7 +94,7 @@ fn keep_cells<'row>(
     kept.clear();
     let mut rest = Cells::new(text, tab_width);
     if let Some(reach) = reach {
-        kept.reserve(reach.min(text.len()) + 1)?;
+        kept.reserve(reach.saturating_add(2).min(text.len()))?;
         while let Some(cell) = rest.next_character() {
             kept.push(cell)?;
             if cell.place > reach {
