@@ -1,6 +1,7 @@
 //! Worked lookups, errors, and file databases called through the trait alone.
 
 mod example;
+mod keys;
 
 use crate::files::example::Listing;
 use codespan_base::files::{

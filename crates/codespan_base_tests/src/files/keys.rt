@@ -1,0 +1,38 @@
+//! Labels for ids of more than one type. `docs/FILES.md` has this code.
+
+use codespan_base::diagnostic::Label;
+use std::alloc::Global;
+use std::ops::Range;
+use std::test::Fail;
+
+/// The ids of a file database.
+trait Key: Copy + Eq {
+    /// Returns the id of the file at an index, counted from 0.
+    fn of(index: usize) -> Self;
+}
+
+impl Key for usize {
+    fn of(index: usize) -> usize {
+        index
+    }
+}
+
+impl Key for () {
+    fn of(_index: usize) {}
+}
+
+/// Returns a primary label in the file at an index, counted from 0. The range is in bytes.
+fn label<FileId: Key>(alloc: Global, index: usize, range: Range<usize>) -> Label<FileId> {
+    Label::primary(alloc, FileId::of(index), range)
+}
+
+/// A number is an id as it is, and the unit is the id of the only file.
+#[test]
+fn ids_of_two_types(rt: HostRuntime) -> Result<(), Fail> {
+    let numbered: Label<usize> = label(rt.alloc(), 3, 1..2);
+    assert_eq!(rt; numbered.file_id, 3);
+    assert_eq!(rt; numbered.range.start, 1);
+    let only: Label<()> = label(rt.alloc(), 0, 4..7);
+    assert_eq!(rt; only.range.end, 7);
+    Ok(())
+}
