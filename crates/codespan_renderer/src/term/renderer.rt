@@ -16,6 +16,7 @@ mod notes;
 mod parts;
 mod pointers;
 mod primary_marks;
+mod row_writer;
 mod runs;
 mod scanned_line;
 mod source;
@@ -31,6 +32,7 @@ pub use line::{Lanes, Line};
 use notes::{write_break, write_empty, write_note};
 pub use parts::count_digits;
 use parts::write_newline;
+use row_writer::RowWriter;
 use scanned_line::ScannedLine;
 use source::write_line;
 use std::io;
@@ -64,7 +66,7 @@ pub fn lanes_in_order(
 /// Each `render_` call fails with [`Error::Io`] alone: the writer fails or takes no bytes. A prefix of its rows has then been written.
 #[derive(Drop)]
 pub struct Renderer<'writer, 'config, W> {
-    writer: &'writer mut W,
+    writer: RowWriter<'writer, W>,
     config: &'config Config<'config>,
 }
 
@@ -87,7 +89,10 @@ impl<'writer, 'config, W: WriteStyle> Renderer<'writer, 'config, W> {
         ensures writer { writer_of result ≡ writer.old }
         ensures config { config_of result ≡ config.now }
     {
-        Renderer { writer, config }
+        Renderer {
+            writer: RowWriter::new(writer),
+            config,
+        }
     }
 
     /// Returns what all rows of one call share.
@@ -115,16 +120,16 @@ impl<'writer, 'config, W: WriteStyle> Renderer<'writer, 'config, W> {
         ensures { Renders W.sink (rendered_header locus.entry severity code.entry message.now)
             self.old result self.new }
     {
-        write_header(self.writer, locus, severity, code, message)?;
-        Ok(())
+        let written = write_header(&mut self.writer, locus, severity, code, message);
+        self.writer.with_error(written)
     }
 
     /// Writes an empty line.
     pub fn render_empty(&mut self) -> Result<(), Error>
         ensures { Renders W.sink newline self.old result self.new }
     {
-        write_newline(self.writer)?;
-        Ok(())
+        let written = write_newline(&mut self.writer);
+        self.writer.with_error(written)
     }
 
     /// Writes the start of a snippet: `snippet_start` of the configuration, and the locus.
@@ -133,8 +138,8 @@ impl<'writer, 'config, W: WriteStyle> Renderer<'writer, 'config, W> {
             self.old result self.new }
     {
         let config = self.config;
-        write_start(self.writer, &config.chars, outer_padding, locus)?;
-        Ok(())
+        let written = write_start(&mut self.writer, &config.chars, outer_padding, locus);
+        self.writer.with_error(written)
     }
 
     /// Writes a line of the source with the carets, messages and underlines of its labels.
@@ -174,8 +179,8 @@ impl<'writer, 'config, W: WriteStyle> Renderer<'writer, 'config, W> {
             text: line.text,
             labels: single_labels,
         };
-        write_line(self.writer, look, line, &scanned)?;
-        Ok(())
+        let written = write_line(&mut self.writer, look, line, &scanned);
+        self.writer.with_error(written)
     }
 
     /// Writes a row with the border and the lanes alone.
@@ -198,8 +203,8 @@ impl<'writer, 'config, W: WriteStyle> Renderer<'writer, 'config, W> {
             count: num_multi_labels,
             marks: multi_labels,
         };
-        write_empty(self.writer, look, lanes)?;
-        Ok(())
+        let written = write_empty(&mut self.writer, look, lanes);
+        self.writer.with_error(written)
     }
 
     /// Writes a break, for lines that are left out. The views pass the multi-line label marks of the next line, as the Rust crate does.
@@ -222,8 +227,8 @@ impl<'writer, 'config, W: WriteStyle> Renderer<'writer, 'config, W> {
             count: num_multi_labels,
             marks: multi_labels,
         };
-        write_break(self.writer, look, lanes)?;
-        Ok(())
+        let written = write_break(&mut self.writer, look, lanes);
+        self.writer.with_error(written)
     }
 
     /// Writes a note: a row for each line of the message, the first one after the note bullet. An empty message writes nothing.
@@ -232,8 +237,8 @@ impl<'writer, 'config, W: WriteStyle> Renderer<'writer, 'config, W> {
             self.old result self.new }
     {
         let config = self.config;
-        write_note(self.writer, &config.chars, outer_padding, message)?;
-        Ok(())
+        let written = write_note(&mut self.writer, &config.chars, outer_padding, message);
+        self.writer.with_error(written)
     }
 }
 
@@ -243,11 +248,11 @@ impl<W: WriteStyle> Write for Renderer<'_, '_, W> {
     ghost contents = { λ r. W.contents (writer_of r) };
 
     fn write(&mut self, buf: &[u8]) -> io::Result<usize> {
-        self.writer.write(buf)
+        self.writer.inner.write(buf)
     }
 
     fn flush(&mut self) -> io::Result<()> {
-        self.writer.flush()
+        self.writer.inner.flush()
     }
 }
 
@@ -257,35 +262,35 @@ impl<W: WriteStyle> WriteStyle for Renderer<'_, '_, W> {
     ghost sink = { λ r. renderer_sink W.sink r };
 
     fn set_header(&mut self, severity: Severity) -> io::Result<()> {
-        self.writer.set_header(severity)
+        self.writer.inner.set_header(severity)
     }
 
     fn set_header_message(&mut self) -> io::Result<()> {
-        self.writer.set_header_message()
+        self.writer.inner.set_header_message()
     }
 
     fn set_line_number(&mut self) -> io::Result<()> {
-        self.writer.set_line_number()
+        self.writer.inner.set_line_number()
     }
 
     fn set_note_bullet(&mut self) -> io::Result<()> {
-        self.writer.set_note_bullet()
+        self.writer.inner.set_note_bullet()
     }
 
     fn set_source_border(&mut self) -> io::Result<()> {
-        self.writer.set_source_border()
+        self.writer.inner.set_source_border()
     }
 
     fn set_label(&mut self, severity: Severity, label_style: LabelStyle) -> io::Result<()> {
-        self.writer.set_label(severity, label_style)
+        self.writer.inner.set_label(severity, label_style)
     }
 
     fn reset(&mut self) -> io::Result<()> {
-        self.writer.reset()
+        self.writer.inner.reset()
     }
 
     fn put(&mut self, bytes: &[u8]) -> io::Result<usize> {
-        self.writer.put(bytes)
+        self.writer.inner.put(bytes)
     }
 
     ghost holds_contents = { λ r. W.holds_contents (writer_of r) };
