@@ -8,9 +8,10 @@ use Rattle.codespan_base.specs.WriterLaw.{Sink, Frame, is_known, with_written, S
 use Rattle.codespan_picture.specs.Rows.{Line, Look, rows_of}
 use Rattle.codespan_picture.specs.RowStreams.{stream_of_rows}
 use Rattle.codespan_picture.specs.Types.{Error}
-use Rattle.codespan_renderer.specs.Inner.RowWriters.{SameOutcome, row_writer_sink}
-use Rattle.codespan_renderer.specs.Renderers.{Renders, sink_behind, writer_of, reference_of, config_of, renderer_sink}
+use Rattle.codespan_renderer.specs.Inner.RowWriters.{SameOutcome, inner_reference, inner_writer, row_writer_sink}
+use Rattle.codespan_renderer.specs.Renderers.{Renders, SameRenderer, sink_behind, writer_of}
 use Rattle.codespan_renderer.specs.declared.term.renderer.Renderer.{Renderer}
+use Rattle.codespan_renderer.specs.declared.term.renderer.row_writer.RowWriter.{RowWriter}
 
 -- the same of another result with the same outcome
 pub sends_as : {E F : Type 0} (s : Sink) (items : Stream) (r : Result (Unit {0}) E) (q : Result (Unit {0}) F) (t : Sink) → SameOutcome r q → Sends s items r t → Sends s items q t
@@ -49,15 +50,19 @@ same_reference n m s items (Err x) t p = let e : (m ∷ t.frame.through) ≡ (n 
 pub same_rows : (look other : Look) (line second : Line) → look ≡ other → line ≡ second → stream_of_rows look (rows_of line) ≡ stream_of_rows other (rows_of second)
 same_rows look other line second e h = ap (λ (l : Look). stream_of_rows l (rows_of line)) e ∙ ap (λ (x : Line). stream_of_rows other (rows_of x)) h
 
--- a renderer whose row writer has written a stream has rendered it
-pub renders : {W E : Type 0} (sink : W → Sink) (items others : Stream) (old written new : Renderer W) (r : Result (Unit {0}) E) (q : Result (Unit {0}) Error)
-    → items ≡ others → Sends (row_writer_sink sink old.writer) items r (row_writer_sink sink written.writer)
-    → SameOutcome r q → IfErr q IsIo → new.writer.inner ≡ written.writer.inner → config_of new ≡ config_of old → Renders sink others old q new
-renders {W} {E} sink items others old written new r q equal p same io inner config =
-    let at : Sends (renderer_sink sink old) others r (renderer_sink sink new) =
-    rw (sym equal, inner) p in
+-- the writer comes back from the row writer that has written a stream, and has received it
+pub renders : {W E : Type 0} (sink : W → Sink) (items others : Stream) (old new : Renderer W) (before after : RowWriter W) (name : GName) (r : Result (Unit {0}) E) (q : Result (Unit {0}) Error)
+    → items ≡ others → inner_reference before ≡ name → inner_writer before ≡ writer_of old
+    → Sends (row_writer_sink sink before) items r (row_writer_sink sink after) → SameOutcome r q → IfErr q IsIo
+    → (name ≡ inner_reference after → writer_of new ≡ inner_writer after) → SameRenderer old new → Renders sink others old q new
+renders {W} {E} sink items others old new before after name r q equal called was p same io back kept =
+    let through : inner_reference after ≡ inner_reference before =
+    same_reference (inner_reference before) (inner_reference after) (sink (inner_writer before)) items r (sink (inner_writer after)) p in
+    let now : writer_of new ≡ inner_writer after = back (sym (through ∙ called)) in
+    let sent : Sends (sink (inner_writer before)) items r (sink (inner_writer after)) =
+    sends_before (inner_reference before) (inner_reference after) (sink (inner_writer before)) items r (sink (inner_writer after)) p in
     record {
-      same = record { reference = same_reference (reference_of old) (reference_of new) (sink (writer_of old)) others r (sink (writer_of new)) at; config = config };
-      sends = sends_as (sink (writer_of old)) others r q (sink (writer_of new)) same (sends_before (reference_of old) (reference_of new) (sink (writer_of old)) others r (sink (writer_of new)) at);
+      same = kept;
+      sends = rw (now, sym was, sym equal) (sends_as (sink (inner_writer before)) items r q (sink (inner_writer after)) same sent);
       io = io;
     }

@@ -18,11 +18,11 @@ use Rattle.codespan_renderer.specs.declared.term.renderer.Renderer.{Renderer}
 
 -- the writer that it renders to
 abbrev pub writer_of : {W : Type 0} → Renderer W → W
-writer_of r = r.writer.inner.now
+writer_of r = r.writer.now
 
 -- the reference that it renders through
 abbrev pub reference_of : {W : Type 0} → Renderer W → GName
-reference_of r = r.writer.inner.ghost_name
+reference_of r = r.writer.ghost_name
 
 -- the configuration that it renders by
 abbrev pub config_of : {W : Type 0} → Renderer W → Config

@@ -32,9 +32,10 @@ pub use line::{Lanes, Line};
 use notes::{write_break, write_empty, write_note};
 pub use parts::count_digits;
 use parts::write_newline;
-use row_writer::RowWriter;
+use row_writer::{RowWriter, no_write, with_error};
 use scanned_line::ScannedLine;
 use source::write_line;
+use std::cell::Cell;
 use std::io;
 use std::io::Write;
 
@@ -66,7 +67,8 @@ pub fn lanes_in_order(
 /// Each `render_` call fails with [`Error::Io`] alone: the writer fails or takes no bytes. A prefix of its rows has then been written.
 #[derive(Drop)]
 pub struct Renderer<'writer, 'config, W> {
-    writer: RowWriter<'writer, W>,
+    writer: &'writer mut W,
+    saved: Cell<io::Error>,
     config: &'config Config<'config>,
 }
 
@@ -90,7 +92,8 @@ impl<'writer, 'config, W: WriteStyle> Renderer<'writer, 'config, W> {
         ensures config { config_of result ≡ config.now }
     {
         Renderer {
-            writer: RowWriter::new(writer),
+            writer,
+            saved: Cell::new(no_write()),
             config,
         }
     }
@@ -120,16 +123,18 @@ impl<'writer, 'config, W: WriteStyle> Renderer<'writer, 'config, W> {
         ensures { Renders W.sink (rendered_header locus.entry severity code.entry message.now)
             self.old result self.new }
     {
-        let written = write_header(&mut self.writer, locus, severity, code, message);
-        self.writer.with_error(written)
+        let mut rows = RowWriter::new(self.writer, &self.saved);
+        let written = write_header(&mut rows, locus, severity, code, message);
+        with_error(written, &self.saved)
     }
 
     /// Writes an empty line.
     pub fn render_empty(&mut self) -> Result<(), Error>
         ensures { Renders W.sink newline self.old result self.new }
     {
-        let written = write_newline(&mut self.writer);
-        self.writer.with_error(written)
+        let mut rows = RowWriter::new(self.writer, &self.saved);
+        let written = write_newline(&mut rows);
+        with_error(written, &self.saved)
     }
 
     /// Writes the start of a snippet: `snippet_start` of the configuration, and the locus.
@@ -138,8 +143,9 @@ impl<'writer, 'config, W: WriteStyle> Renderer<'writer, 'config, W> {
             self.old result self.new }
     {
         let config = self.config;
-        let written = write_start(&mut self.writer, &config.chars, outer_padding, locus);
-        self.writer.with_error(written)
+        let mut rows = RowWriter::new(self.writer, &self.saved);
+        let written = write_start(&mut rows, &config.chars, outer_padding, locus);
+        with_error(written, &self.saved)
     }
 
     /// Writes a line of the source with the carets, messages and underlines of its labels.
@@ -179,8 +185,9 @@ impl<'writer, 'config, W: WriteStyle> Renderer<'writer, 'config, W> {
             text: line.text,
             labels: single_labels,
         };
-        let written = write_line(&mut self.writer, look, line, &scanned);
-        self.writer.with_error(written)
+        let mut rows = RowWriter::new(self.writer, &self.saved);
+        let written = write_line(&mut rows, look, line, &scanned);
+        with_error(written, &self.saved)
     }
 
     /// Writes a row with the border and the lanes alone.
@@ -203,8 +210,9 @@ impl<'writer, 'config, W: WriteStyle> Renderer<'writer, 'config, W> {
             count: num_multi_labels,
             marks: multi_labels,
         };
-        let written = write_empty(&mut self.writer, look, lanes);
-        self.writer.with_error(written)
+        let mut rows = RowWriter::new(self.writer, &self.saved);
+        let written = write_empty(&mut rows, look, lanes);
+        with_error(written, &self.saved)
     }
 
     /// Writes a break, for lines that are left out. The views pass the multi-line label marks of the next line, as the Rust crate does.
@@ -227,8 +235,9 @@ impl<'writer, 'config, W: WriteStyle> Renderer<'writer, 'config, W> {
             count: num_multi_labels,
             marks: multi_labels,
         };
-        let written = write_break(&mut self.writer, look, lanes);
-        self.writer.with_error(written)
+        let mut rows = RowWriter::new(self.writer, &self.saved);
+        let written = write_break(&mut rows, look, lanes);
+        with_error(written, &self.saved)
     }
 
     /// Writes a note: a row for each line of the message, the first one after the note bullet. An empty message writes nothing.
@@ -237,8 +246,9 @@ impl<'writer, 'config, W: WriteStyle> Renderer<'writer, 'config, W> {
             self.old result self.new }
     {
         let config = self.config;
-        let written = write_note(&mut self.writer, &config.chars, outer_padding, message);
-        self.writer.with_error(written)
+        let mut rows = RowWriter::new(self.writer, &self.saved);
+        let written = write_note(&mut rows, &config.chars, outer_padding, message);
+        with_error(written, &self.saved)
     }
 }
 
@@ -248,11 +258,11 @@ impl<W: WriteStyle> Write for Renderer<'_, '_, W> {
     ghost contents = { λ r. W.contents (writer_of r) };
 
     fn write(&mut self, buf: &[u8]) -> io::Result<usize> {
-        self.writer.inner.write(buf)
+        self.writer.write(buf)
     }
 
     fn flush(&mut self) -> io::Result<()> {
-        self.writer.inner.flush()
+        self.writer.flush()
     }
 }
 
@@ -262,35 +272,35 @@ impl<W: WriteStyle> WriteStyle for Renderer<'_, '_, W> {
     ghost sink = { λ r. renderer_sink W.sink r };
 
     fn set_header(&mut self, severity: Severity) -> io::Result<()> {
-        self.writer.inner.set_header(severity)
+        self.writer.set_header(severity)
     }
 
     fn set_header_message(&mut self) -> io::Result<()> {
-        self.writer.inner.set_header_message()
+        self.writer.set_header_message()
     }
 
     fn set_line_number(&mut self) -> io::Result<()> {
-        self.writer.inner.set_line_number()
+        self.writer.set_line_number()
     }
 
     fn set_note_bullet(&mut self) -> io::Result<()> {
-        self.writer.inner.set_note_bullet()
+        self.writer.set_note_bullet()
     }
 
     fn set_source_border(&mut self) -> io::Result<()> {
-        self.writer.inner.set_source_border()
+        self.writer.set_source_border()
     }
 
     fn set_label(&mut self, severity: Severity, label_style: LabelStyle) -> io::Result<()> {
-        self.writer.inner.set_label(severity, label_style)
+        self.writer.set_label(severity, label_style)
     }
 
     fn reset(&mut self) -> io::Result<()> {
-        self.writer.inner.reset()
+        self.writer.reset()
     }
 
     fn put(&mut self, bytes: &[u8]) -> io::Result<usize> {
-        self.writer.inner.put(bytes)
+        self.writer.put(bytes)
     }
 
     ghost holds_contents = { λ r. W.holds_contents (writer_of r) };

@@ -22,6 +22,7 @@ use crate::term::renderer::line::{Line, Look};
 use crate::term::renderer::line_source::LineSource;
 use crate::term::renderer::messages::Messages;
 use crate::term::renderer::pointers::greatest_start;
+use crate::term::renderer::row_writer::{RowWriter, with_error};
 use crate::term::renderer::source::write_line;
 use codespan_base::diagnostic::{LabelStyle, Severity};
 use codespan_base::files::Error;
@@ -102,8 +103,9 @@ impl<'cells, 'row, 'd> CachedLine<'cells, 'row, 'd> {
             (line_view self.now.line)) renderer.old result renderer.new }
     {
         let look = renderer.look(severity, outer_padding);
-        let written = write_line(&mut renderer.writer, look, self.line, self);
-        renderer.writer.with_error(written)
+        let mut rows = RowWriter::new(renderer.writer, &renderer.saved);
+        let written = write_line(&mut rows, look, self.line, self);
+        with_error(written, &renderer.saved)
     }
 
     /// Returns a cursor over its characters, and the position after the last one where `to_end` is set.

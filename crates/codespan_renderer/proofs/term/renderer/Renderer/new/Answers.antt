@@ -1,4 +1,5 @@
+use Rattle.std.proofs.Common.{refl}
 use Rattle.codespan_renderer.proofs.term.renderer.Renderer.new.Goals as goal
 
 pub returns-clause-writer : goal.returns-clause-writer
-returns-clause-writer g c = c.new.ensures.inner
+returns-clause-writer g c = refl

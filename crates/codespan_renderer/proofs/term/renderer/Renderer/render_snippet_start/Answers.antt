@@ -1,8 +1,8 @@
-use Rattle.std.proofs.Common.{refl}
+use Rattle.std.proofs.Common.{refl, rules}
 use Rattle.codespan_renderer.proofs.RowWriters.{renders}
 use Rattle.codespan_renderer.proofs.term.renderer.Renderer.render_snippet_start.Goals as goal
 
 pub returns : goal.returns
 returns g c =
-    renders _ _ _ _ (record c.args.self.now { writer = c.write_start-written.new.w }) _ _ _ refl
-    c.write_start-written.ensures c.with_error.ensures.same c.with_error.ensures.io c.with_error.ensures.inner refl
+    renders _ _ _ _ _ c.new-rows.result c.write_start-written.new.w _ _ _ refl
+    c.new-rows.ensures.reference c.new-rows.ensures.writer c.write_start-written.ensures c.with_error.ensures.same c.with_error.ensures.io (search rules) (search rules)
