@@ -1,6 +1,8 @@
 //! Writers of bytes and style marks with an error type of their own.
 
+ghost use Rattle.std.specs.Prelude.{◌≡◌};
 ghost use Rattle.std.specs.Io.{WritesAtMost};
+ghost use Rattle.std.specs.IoError.{error_kind};
 ghost use Rattle.codespan_base.specs.Streams.{Header, HeaderMessage, LineNumber, NoteBullet, SourceBorder, LabelMark, Reset, one_mark};
 ghost use Rattle.codespan_base.specs.WriterLaw.{Sends, Puts};
 
@@ -66,7 +68,9 @@ impl<W: WriteStyle> PutStyle for W {
 
     ghost sink = { W.sink };
 
-    fn write_zero() -> io::Error {
+    fn write_zero() -> io::Error
+        ensures { error_kind result ≡ ErrorKind.WriteZero }
+    {
         io::Error::from(ErrorKind::WriteZero)
     }
 

@@ -122,13 +122,13 @@ fn put_runs<W: PutStyle>(w: &mut W, c: char, count: usize) -> Result<(), W::Erro
     put_all(w, &run[..left * glyph.len()])
 }
 
-/// Writes `count` copies of the bytes, one after another.
+/// Writes `count` copies of the bytes of a character, one after another.
 #[inline(always)]
 fn put_copies<W: PutStyle>(w: &mut W, text: &[u8], count: usize) -> Result<(), W::Error>
     ensures { Sends (W.sink w.old) (repeat count (bytes text.now)) result (W.sink w.new) }
 {
     for _ in 0..count {
-        put_all(w, text)?;
+        put_glyph(w, text)?;
     }
     Ok(())
 }
