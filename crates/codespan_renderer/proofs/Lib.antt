@@ -2,6 +2,7 @@ pub mod CellSteps
 pub mod LaneWalk
 pub mod RowWords
 pub mod Passing
+pub mod RowWriters
 pub mod Best
 pub mod CaretRuns
 pub mod Hanging

@@ -8,6 +8,7 @@ pub mod LineSources
 pub mod MarksLeft
 pub mod PointerLists
 pub mod PrimaryMarks
+pub mod RowWriters
 pub mod Runs
 pub mod Sweeps
 pub mod Underlines

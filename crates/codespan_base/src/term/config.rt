@@ -11,6 +11,7 @@ pub mod color;
 pub mod no_color;
 pub mod plain;
 pub mod plain_ref;
+pub mod put_style;
 pub mod styles;
 pub mod styles_writer;
 pub mod write_style;

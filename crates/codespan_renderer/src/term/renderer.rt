@@ -16,6 +16,7 @@ mod notes;
 mod parts;
 mod pointers;
 mod primary_marks;
+mod row_writer;
 mod runs;
 mod scanned_line;
 mod source;
@@ -31,8 +32,10 @@ pub use line::{Lanes, Line};
 use notes::{write_break, write_empty, write_note};
 pub use parts::count_digits;
 use parts::write_newline;
+use row_writer::{RowWriter, no_write, with_error};
 use scanned_line::ScannedLine;
 use source::write_line;
+use std::cell::Cell;
 use std::io;
 use std::io::Write;
 
@@ -69,6 +72,7 @@ pub fn lanes_in_order(
 #[derive(Drop)]
 pub struct Renderer<'writer, 'config, W> {
     writer: &'writer mut W,
+    saved: Cell<io::Error>,
     config: &'config Config<'config>,
 }
 
@@ -91,7 +95,11 @@ impl<'writer, 'config, W: WriteStyle> Renderer<'writer, 'config, W> {
         ensures writer { writer_of result ≡ writer.old }
         ensures config { config_of result ≡ config.now }
     {
-        Renderer { writer, config }
+        Renderer {
+            writer,
+            saved: Cell::new(no_write()),
+            config,
+        }
     }
 
     /// Returns what all rows of one call share.
@@ -119,16 +127,18 @@ impl<'writer, 'config, W: WriteStyle> Renderer<'writer, 'config, W> {
         ensures { Renders W.sink (rendered_header locus.entry severity code.entry message.now)
             self.old result self.new }
     {
-        write_header(self.writer, locus, severity, code, message)?;
-        Ok(())
+        let mut rows = RowWriter::new(self.writer, &self.saved);
+        let written = write_header(&mut rows, locus, severity, code, message);
+        with_error(written, &self.saved)
     }
 
     /// Writes an empty line.
     pub fn render_empty(&mut self) -> Result<(), Error>
         ensures { Renders W.sink newline self.old result self.new }
     {
-        write_newline(self.writer)?;
-        Ok(())
+        let mut rows = RowWriter::new(self.writer, &self.saved);
+        let written = write_newline(&mut rows);
+        with_error(written, &self.saved)
     }
 
     /// Writes the start of a snippet: `snippet_start` of the configuration, and the locus.
@@ -137,8 +147,9 @@ impl<'writer, 'config, W: WriteStyle> Renderer<'writer, 'config, W> {
             self.old result self.new }
     {
         let config = self.config;
-        write_start(self.writer, &config.chars, outer_padding, locus)?;
-        Ok(())
+        let mut rows = RowWriter::new(self.writer, &self.saved);
+        let written = write_start(&mut rows, &config.chars, outer_padding, locus);
+        with_error(written, &self.saved)
     }
 
     /// Writes a line of the source with the carets, messages and underlines of its labels.
@@ -180,8 +191,9 @@ impl<'writer, 'config, W: WriteStyle> Renderer<'writer, 'config, W> {
             text: line.text,
             labels: single_labels,
         };
-        write_line(self.writer, look, line, &scanned)?;
-        Ok(())
+        let mut rows = RowWriter::new(self.writer, &self.saved);
+        let written = write_line(&mut rows, look, line, &scanned);
+        with_error(written, &self.saved)
     }
 
     /// Writes a row with the border and the lanes alone.
@@ -204,8 +216,9 @@ impl<'writer, 'config, W: WriteStyle> Renderer<'writer, 'config, W> {
             count: num_multi_labels,
             marks: multi_labels,
         };
-        write_empty(self.writer, look, lanes)?;
-        Ok(())
+        let mut rows = RowWriter::new(self.writer, &self.saved);
+        let written = write_empty(&mut rows, look, lanes);
+        with_error(written, &self.saved)
     }
 
     /// Writes a break, for lines that are left out. The views pass the multi-line label marks of
@@ -229,8 +242,9 @@ impl<'writer, 'config, W: WriteStyle> Renderer<'writer, 'config, W> {
             count: num_multi_labels,
             marks: multi_labels,
         };
-        write_break(self.writer, look, lanes)?;
-        Ok(())
+        let mut rows = RowWriter::new(self.writer, &self.saved);
+        let written = write_break(&mut rows, look, lanes);
+        with_error(written, &self.saved)
     }
 
     /// Writes a note: a row for each line, the first after the note bullet; none if it is empty.
@@ -239,8 +253,9 @@ impl<'writer, 'config, W: WriteStyle> Renderer<'writer, 'config, W> {
             self.old result self.new }
     {
         let config = self.config;
-        write_note(self.writer, &config.chars, outer_padding, message)?;
-        Ok(())
+        let mut rows = RowWriter::new(self.writer, &self.saved);
+        let written = write_note(&mut rows, &config.chars, outer_padding, message);
+        with_error(written, &self.saved)
     }
 }
 

@@ -12,9 +12,9 @@ ghost use Rattle.codespan_base.specs.WriterLaw.{Frame, Puts, Sends, with_flag};
 ghost use Rattle.codespan_base.specs.Writers.{WritesNothing};
 
 use crate::term::config::plain_ref::PlainWriterRef;
-use crate::term::config::write_style::WriteStyle;
+use crate::term::config::put_style::PutStyle;
 use std::io;
-use std::io::{ErrorKind, Write};
+use std::io::Write;
 
 /// The number of bytes that are written at once of many spaces, or of many copies of a character.
 const CHUNK_LEN: usize = 64;
@@ -32,16 +32,16 @@ const DIGITS: usize = 20;
 ///
 /// # Errors
 ///
-/// That of a `put` that fails, and [`ErrorKind::WriteZero`] where a `put` takes none of some bytes.
+/// That of a `put` that fails, and `ErrorKind::WriteZero` where a `put` takes none of some bytes.
 /// A prefix has then been written.
-pub fn put_all<W: WriteStyle>(w: &mut W, text: &[u8]) -> io::Result<()>
+pub fn put_all<W: PutStyle>(w: &mut W, text: &[u8]) -> Result<(), W::Error>
     ensures { Sends (W.sink w.old) (bytes text.now) result (W.sink w.new) }
 {
     let mut rest = text;
     while !rest.is_empty() {
         let n = w.put(rest)?;
         if n == 0 {
-            return Err(io::Error::from(ErrorKind::WriteZero));
+            return Err(W::write_zero());
         }
         rest = &rest[n..];
     }
@@ -54,12 +54,24 @@ pub fn put_all<W: WriteStyle>(w: &mut W, text: &[u8]) -> io::Result<()>
 ///
 /// Those of [`put_all`].
 #[inline(always)]
-pub fn put_char<W: WriteStyle>(w: &mut W, c: char) -> io::Result<()>
+pub fn put_char<W: PutStyle>(w: &mut W, c: char) -> Result<(), W::Error>
     ensures { Sends (W.sink w.old) (glyph c) result (W.sink w.new) }
 {
     let mut buffer = [0u8; 4];
     let text = c.encode_utf8(&mut buffer);
-    put_all(w, text.as_bytes())
+    put_glyph(w, text.as_bytes())
+}
+
+/// Writes the bytes of a character. Those of box drawing have three, which are written as an array: a `put` of a known number of bytes
+/// needs no call to copy them.
+#[inline(always)]
+fn put_glyph<W: PutStyle>(w: &mut W, text: &[u8]) -> Result<(), W::Error>
+    ensures { Sends (W.sink w.old) (bytes text.now) result (W.sink w.new) }
+{
+    match *text {
+        [first, second, third] => put_all(w, &[first, second, third]),
+        _ => put_all(w, text),
+    }
 }
 
 /// Writes `count` spaces.
@@ -67,7 +79,7 @@ pub fn put_char<W: WriteStyle>(w: &mut W, c: char) -> io::Result<()>
 /// # Errors
 ///
 /// Those of [`put_all`].
-pub fn put_spaces<W: WriteStyle>(w: &mut W, count: usize) -> io::Result<()>
+pub fn put_spaces<W: PutStyle>(w: &mut W, count: usize) -> Result<(), W::Error>
     ensures { Sends (W.sink w.old) (blanks count) result (W.sink w.new) }
 {
     let mut left = count;
@@ -84,20 +96,19 @@ pub fn put_spaces<W: WriteStyle>(w: &mut W, count: usize) -> io::Result<()>
 ///
 /// Those of [`put_all`].
 #[inline(always)]
-pub fn put_repeated<W: WriteStyle>(w: &mut W, c: char, count: usize) -> io::Result<()>
+pub fn put_repeated<W: PutStyle>(w: &mut W, c: char, count: usize) -> Result<(), W::Error>
     ensures { Sends (W.sink w.old) (repeated count c) result (W.sink w.new) }
 {
     if count <= INLINE_COPIES {
         let mut buffer = [0u8; 4];
-        put_copies(w, c.encode_utf8(&mut buffer).as_bytes(), count)?;
+        put_copies(w, c.encode_utf8(&mut buffer).as_bytes(), count)
     } else {
-        put_runs(w, c, count)?;
+        put_runs(w, c, count)
     }
-    Ok(())
 }
 
 /// Writes `count` copies of a character, as many at once as fit into a chunk.
-fn put_runs<W: WriteStyle>(w: &mut W, c: char, count: usize) -> io::Result<()>
+fn put_runs<W: PutStyle>(w: &mut W, c: char, count: usize) -> Result<(), W::Error>
     ensures { Sends (W.sink w.old) (repeated count c) result (W.sink w.new) }
 {
     let mut buffer = [0u8; 4];
@@ -113,13 +124,13 @@ fn put_runs<W: WriteStyle>(w: &mut W, c: char, count: usize) -> io::Result<()>
     put_all(w, &run[..left * glyph.len()])
 }
 
-/// Writes `count` copies of the bytes, one after another.
+/// Writes `count` copies of the bytes of a character, one after another.
 #[inline(always)]
-fn put_copies<W: WriteStyle>(w: &mut W, text: &[u8], count: usize) -> io::Result<()>
+fn put_copies<W: PutStyle>(w: &mut W, text: &[u8], count: usize) -> Result<(), W::Error>
     ensures { Sends (W.sink w.old) (repeat count (bytes text.now)) result (W.sink w.new) }
 {
     for _ in 0..count {
-        put_all(w, text)?;
+        put_glyph(w, text)?;
     }
     Ok(())
 }
@@ -141,7 +152,7 @@ fn fill(run: &mut [u8], bytes: &[u8], copies: usize)
 /// # Errors
 ///
 /// Those of [`put_all`].
-pub fn put_number<W: WriteStyle>(w: &mut W, number: usize) -> io::Result<()>
+pub fn put_number<W: PutStyle>(w: &mut W, number: usize) -> Result<(), W::Error>
     ensures { Sends (W.sink w.old) (bytes (decimal number)) result (W.sink w.new) }
 {
     let mut digits = [0u8; DIGITS];
@@ -170,7 +181,7 @@ fn write_digits(digits: &mut [u8; DIGITS], number: usize) -> usize
 ///
 /// # Errors
 ///
-/// That of a write that fails, and [`ErrorKind::WriteZero`] where a write takes none of some bytes.
+/// That of a write that fails, and `ErrorKind::WriteZero` where a write takes none of some bytes.
 /// A prefix has then been written.
 pub fn write_all<W: Write>(w: &mut W, bytes: &[u8]) -> io::Result<()>
     ensures paints { AppendsBytes (W.contents w.old) bytes.now result (W.contents w.new) }

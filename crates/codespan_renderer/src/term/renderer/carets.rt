@@ -23,9 +23,9 @@ use crate::term::renderer::messages::Messages;
 use crate::term::renderer::parts::{change_style, write_newline, write_row_start, write_space};
 use crate::term::renderer::runs::{write_repeated, write_spaces};
 use codespan_base::diagnostic::{LabelStyle, Severity};
+use codespan_base::term::Chars;
+use codespan_base::term::config::put_style::PutStyle;
 use codespan_base::term::config::writing::put_all;
-use codespan_base::term::{Chars, WriteStyle};
-use std::io;
 
 /// Returns whether the label has a byte from `start` to before `end`.
 pub fn covers_part(label: &SingleLabel<'_>, start: usize, end: usize) -> bool
@@ -79,12 +79,12 @@ pub fn style_under(labels: &[SingleLabel<'_>], cell: Cell) -> Option<LabelStyle>
 /// Writes `count` carets of a style, or spaces.
 #[tactic(auto, unfolding(crate::specs::Inner::Runs::caret_run))]
 #[inline(always)]
-fn write_caret_run<W: WriteStyle>(
+fn write_caret_run<W: PutStyle>(
     w: &mut W,
     chars: &Chars<'_>,
     style: Option<LabelStyle>,
     count: u128,
-) -> io::Result<()>
+) -> Result<(), W::Error>
     ensures { Sends (W.sink w.old) (caret_run chars.now style count) result (W.sink w.new) }
 {
     match style {
@@ -97,13 +97,13 @@ fn write_caret_run<W: WriteStyle>(
 
 /// Writes the end of a run of carets of one style, and the style mark of the next.
 #[inline(always)]
-pub fn end_caret_run<W: WriteStyle>(
+pub fn end_caret_run<W: PutStyle>(
     w: &mut W,
     look: Look<'_>,
     was: Option<LabelStyle>,
     count: u128,
     style: Option<LabelStyle>,
-) -> io::Result<()>
+) -> Result<(), W::Error>
     ensures { Sends (W.sink w.old)
         (caret_run look.entry.chars.now was count ++ change look.entry.severity was style)
         result (W.sink w.new) }
@@ -114,12 +114,12 @@ pub fn end_caret_run<W: WriteStyle>(
 
 /// Writes the carets under the characters of a line, the last of which is the position after the
 /// text.
-fn write_carets<W: WriteStyle, C: CharCursor>(
+fn write_carets<W: PutStyle, C: CharCursor>(
     w: &mut W,
     look: Look<'_>,
     line: Line<'_, '_>,
     mut characters: C,
-) -> io::Result<()>
+) -> Result<(), W::Error>
     requires left { C.left characters ≡ cells_to_end look.tab_width line.text.now }
     requires labels { C.labels characters ≡ line.labels.now }
     ensures { Sends (W.sink w.old)
@@ -145,11 +145,11 @@ fn write_carets<W: WriteStyle, C: CharCursor>(
 }
 
 /// Writes a label's message in its style.
-pub fn write_message<W: WriteStyle>(
+pub fn write_message<W: PutStyle>(
     w: &mut W,
     severity: Severity,
     label: &SingleLabel<'_>,
-) -> io::Result<()>
+) -> Result<(), W::Error>
     ensures { Sends (W.sink w.old) (given_label_message severity label.now)
         result (W.sink w.new) }
 {
@@ -161,29 +161,31 @@ pub fn write_message<W: WriteStyle>(
 /// Writes a space and the trailing message, where there is one.
 #[tactic(auto, using(codespan_base::proofs::Sends::sendings), unfolding(codespan_picture::specs::RowParts::trailing_message))]
 #[inline(always)]
-pub fn write_trailing<W: WriteStyle>(
+pub fn write_trailing<W: PutStyle>(
     w: &mut W,
     severity: Severity,
     trailing: Option<&SingleLabel<'_>>,
-) -> io::Result<()>
+) -> Result<(), W::Error>
     ensures { Sends (W.sink w.old) (trailing_message severity (given_label trailing.entry))
         result (W.sink w.new) }
 {
-    if let Some(label) = trailing {
-        write_space(w)?;
-        write_message(w, severity, label)?;
+    match trailing {
+        Some(label) => {
+            write_space(w)?;
+            write_message(w, severity, label)
+        }
+        None => Ok(()),
     }
-    Ok(())
 }
 
 /// Writes the carets under a line, and the message that trails them.
-pub fn write_caret_row<W: WriteStyle, S: LineSource>(
+pub fn write_caret_row<W: PutStyle, S: LineSource>(
     w: &mut W,
     look: Look<'_>,
     line: Line<'_, '_>,
     source: &S,
     messages: Messages<'_, '_>,
-) -> io::Result<()>
+) -> Result<(), W::Error>
     requires of { S.of source.now ≡ sourced_line look line }
     requires trailing { given_label messages.trailing
         ≡ trailing (single_label_views line.labels.now) }

@@ -14,9 +14,9 @@ ghost use Rattle.codespan_renderer.specs.Renderers.{rendered_header};
 use crate::term::renderer::Locus;
 use crate::term::renderer::parts::{outer_gutter, snippet_locus, write_newline, write_space};
 use codespan_base::diagnostic::Severity;
+use codespan_base::term::config::put_style::PutStyle;
 use codespan_base::term::config::writing::put_all;
-use codespan_base::term::{Chars, SnippetStart, WriteStyle};
-use std::io;
+use codespan_base::term::{Chars, SnippetStart};
 
 /// Returns the word for a severity.
 fn severity_name(severity: Severity) -> &'static str
@@ -33,7 +33,7 @@ fn severity_name(severity: Severity) -> &'static str
 
 /// Writes the locus before a header, where there is one.
 #[tactic(auto, using(codespan_base::proofs::Sends::sendings), unfolding(codespan_picture::specs::RowStreams::leading_locus))]
-fn write_leading_locus<W: WriteStyle>(w: &mut W, locus: Option<&Locus>) -> io::Result<()>
+fn write_leading_locus<W: PutStyle>(w: &mut W, locus: Option<&Locus>) -> Result<(), W::Error>
     ensures { Sends (W.sink w.old)
         (leading_locus (option_map (λ at. locus_view at.now) locus.entry)) result (W.sink w.new) }
 {
@@ -46,7 +46,7 @@ fn write_leading_locus<W: WriteStyle>(w: &mut W, locus: Option<&Locus>) -> io::R
 
 /// Writes the code in brackets, where there is one that is not empty.
 #[tactic(auto, using(codespan_base::proofs::Sends::sendings), unfolding(codespan_picture::specs::RowStreams::bracketed))]
-fn write_code<W: WriteStyle>(w: &mut W, code: Option<&str>) -> io::Result<()>
+fn write_code<W: PutStyle>(w: &mut W, code: Option<&str>) -> Result<(), W::Error>
     ensures { Sends (W.sink w.old) (bracketed (option_map text_now code.entry))
         result (W.sink w.new) }
 {
@@ -54,20 +54,19 @@ fn write_code<W: WriteStyle>(w: &mut W, code: Option<&str>) -> io::Result<()>
         Some(code) if !code.is_empty() => {
             put_all(w, b"[")?;
             put_all(w, code.as_bytes())?;
-            put_all(w, b"]")?;
+            put_all(w, b"]")
         }
-        _ => {}
+        _ => Ok(()),
     }
-    Ok(())
 }
 
 /// Writes a header up to its message.
-fn write_heading<W: WriteStyle>(
+fn write_heading<W: PutStyle>(
     w: &mut W,
     locus: Option<&Locus>,
     severity: Severity,
     code: Option<&str>,
-) -> io::Result<()>
+) -> Result<(), W::Error>
     ensures { Sends (W.sink w.old) (given_heading locus.entry severity code.entry)
         result (W.sink w.new) }
 {
@@ -78,13 +77,13 @@ fn write_heading<W: WriteStyle>(
 }
 
 /// Writes the header of a diagnostic.
-pub fn write_header<W: WriteStyle>(
+pub fn write_header<W: PutStyle>(
     w: &mut W,
     locus: Option<&Locus>,
     severity: Severity,
     code: Option<&str>,
     message: &str,
-) -> io::Result<()>
+) -> Result<(), W::Error>
     ensures { Sends (W.sink w.old) (rendered_header locus.entry severity code.entry message.now)
         result (W.sink w.new) }
 {
@@ -107,12 +106,12 @@ fn start_text<'a>(chars: &'a Chars<'_>) -> &'a str
 }
 
 /// Writes the start of a file's snippet.
-pub fn write_start<W: WriteStyle>(
+pub fn write_start<W: PutStyle>(
     w: &mut W,
     chars: &Chars<'_>,
     padding: usize,
     locus: &Locus,
-) -> io::Result<()>
+) -> Result<(), W::Error>
     ensures { Sends (W.sink w.old) (start_row chars.now padding (locus_view locus.now) ++ newline)
         result (W.sink w.new) }
 {

@@ -13,10 +13,10 @@ use crate::term::renderer::MultiLabel;
 use crate::term::renderer::line::{Lanes, Look};
 use crate::term::renderer::parts::write_label_glyph;
 use codespan_base::diagnostic::LabelStyle;
+use codespan_base::term::config::put_style::PutStyle;
 use codespan_base::term::config::writing::{put_repeated, put_spaces};
-use codespan_base::term::{Chars, Layout, WriteStyle};
+use codespan_base::term::{Chars, Layout};
 pub use codespan_picture::lanes::Shape;
-use std::io;
 
 /// The kind of a row, as far as its lanes go.
 #[derive(Clone, Copy)]
@@ -108,12 +108,12 @@ fn corner_line(chars: &Chars<'_>, part: MultiLabel<'_>) -> char
 
 /// Writes what precedes a lane's own character: spaces, or the line of a corner to the left.
 #[inline(always)]
-fn write_filling<W: WriteStyle>(
+fn write_filling<W: PutStyle>(
     w: &mut W,
     look: Look<'_>,
     crossing: Option<(usize, LabelStyle, MultiLabel<'_>)>,
     count: usize,
-) -> io::Result<()>
+) -> Result<(), W::Error>
     ensures { Sends (W.sink w.old)
         (filling look.entry.severity look.entry.chars.now (option_map mark_view crossing.entry)
         count) result (W.sink w.new) }
@@ -130,13 +130,13 @@ fn write_filling<W: WriteStyle>(
 
 /// Writes the two characters of a lane that is no gap: what fills it, and its own character.
 #[inline(always)]
-fn write_filled<W: WriteStyle>(
+fn write_filled<W: PutStyle>(
     w: &mut W,
     look: Look<'_>,
     crossing: Option<(usize, LabelStyle, MultiLabel<'_>)>,
     style: LabelStyle,
     own: char,
-) -> io::Result<()>
+) -> Result<(), W::Error>
     ensures { Sends (W.sink w.old) (given_filled look.entry crossing.entry style own)
         result (W.sink w.new) }
 {
@@ -147,13 +147,13 @@ fn write_filled<W: WriteStyle>(
 /// Writes the two characters of a lane.
 #[tactic(auto, unfolding(codespan_picture::specs::Lanes::lane_cells))]
 #[inline(always)]
-fn write_lane_cells<W: WriteStyle>(
+fn write_lane_cells<W: PutStyle>(
     w: &mut W,
     look: Look<'_>,
     crossing: Option<(usize, LabelStyle, MultiLabel<'_>)>,
     style: LabelStyle,
     shape: Shape,
-) -> io::Result<()>
+) -> Result<(), W::Error>
     ensures { Sends (W.sink w.old)
         (lane_cells look.entry.severity look.entry.chars.now (option_map mark_view crossing.entry)
         style shape) result (W.sink w.new) }
@@ -168,14 +168,14 @@ fn write_lane_cells<W: WriteStyle>(
 
 /// Writes one lane, from the multi-line label mark in it.
 #[tactic(auto, unfolding(codespan_picture::specs::RowParts::lane_of, crate::specs::Inner::GivenLine::given_lane))]
-fn inner_gutter_column<W: WriteStyle>(
+fn inner_gutter_column<W: PutStyle>(
     w: &mut W,
     look: Look<'_>,
     leading: usize,
     row: LaneRow<'_>,
     lane: usize,
     mark: Option<(usize, LabelStyle, MultiLabel<'_>)>,
-) -> io::Result<()>
+) -> Result<(), W::Error>
     ensures { Sends (W.sink w.old)
         (given_lane (look_view look.entry) leading row.entry lane mark.entry)
         result (W.sink w.new) }
@@ -243,13 +243,13 @@ fn blank_lanes(row: LaneRow<'_>, lane: usize, until: usize) -> usize
 /// Writes the lanes of a row, from left to right. Most rows have none, which is tested before any
 /// call.
 #[inline(always)]
-pub fn inner_gutter<W: WriteStyle>(
+pub fn inner_gutter<W: PutStyle>(
     w: &mut W,
     look: Look<'_>,
     leading: usize,
     row: LaneRow<'_>,
     lanes: Lanes<'_, '_>,
-) -> io::Result<()>
+) -> Result<(), W::Error>
     ensures { Sends (W.sink w.old)
         (given_lanes (look_view look.entry) leading row.entry (lanes_of_given lanes.entry))
         result (W.sink w.new) }
@@ -262,13 +262,13 @@ pub fn inner_gutter<W: WriteStyle>(
 }
 
 /// Writes each lane of a row.
-fn inner_gutter_columns<W: WriteStyle>(
+fn inner_gutter_columns<W: PutStyle>(
     w: &mut W,
     look: Look<'_>,
     leading: usize,
     row: LaneRow<'_>,
     lanes: Lanes<'_, '_>,
-) -> io::Result<()>
+) -> Result<(), W::Error>
     ensures { Sends (W.sink w.old)
         (given_lanes (look_view look.entry) leading row.entry (lanes_of_given lanes.entry))
         result (W.sink w.new) }

@@ -12,8 +12,7 @@ ghost use Rattle.codespan_renderer.specs.Inner.LineSources.{SourcedLine, sourced
 use crate::term::renderer::char_cursor::CharCursor;
 use crate::term::renderer::line::{Line, Look};
 use crate::term::renderer::messages::Messages;
-use codespan_base::term::WriteStyle;
-use std::io;
+use codespan_base::term::config::put_style::PutStyle;
 
 /// A line whose rows are to be rendered: the source of its characters, their widths and its
 /// pointers.
@@ -52,13 +51,13 @@ pub trait LineSource {
     }
 
     /// Writes all pointers of the line.
-    fn caret_pointers<W: WriteStyle>(
+    fn caret_pointers<W: PutStyle>(
         &self,
         w: &mut W,
         look: Look<'_>,
         line: Line<'_, '_>,
         messages: Messages<'_, '_>,
-    ) -> io::Result<()>
+    ) -> Result<(), W::Error>
         requires of { of self.now ≡ sourced_line look line }
         requires hanging { AreHanging line.labels.now messages.before.now messages.after.now }
         ensures { Sends (W.sink w.old)
@@ -67,14 +66,14 @@ pub trait LineSource {
 
     /// Writes the pointers of the characters that begin before this byte index, which is at most
     /// the greatest start of a label.
-    fn caret_pointers_before<W: WriteStyle>(
+    fn caret_pointers_before<W: PutStyle>(
         &self,
         w: &mut W,
         look: Look<'_>,
         line: Line<'_, '_>,
         messages: Messages<'_, '_>,
         before: usize,
-    ) -> io::Result<()>
+    ) -> Result<(), W::Error>
         requires of { of self.now ≡ sourced_line look line }
         requires hanging { AreHanging line.labels.now messages.before.now messages.after.now }
         requires near { before ≤ greatest_start (single_label_views line.labels.now) }

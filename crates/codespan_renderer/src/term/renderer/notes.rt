@@ -13,12 +13,16 @@ use crate::term::renderer::line::{Lanes, Look};
 use crate::term::renderer::parts::{
     border_left, border_left_break, outer_gutter, write_newline, write_space,
 };
+use codespan_base::term::Chars;
+use codespan_base::term::config::put_style::PutStyle;
 use codespan_base::term::config::writing::{put_all, put_char};
-use codespan_base::term::{Chars, WriteStyle};
-use std::io;
 
 /// Writes a row of a snippet without source.
-pub fn write_empty<W: WriteStyle>(w: &mut W, look: Look<'_>, lanes: Lanes<'_, '_>) -> io::Result<()>
+pub fn write_empty<W: PutStyle>(
+    w: &mut W,
+    look: Look<'_>,
+    lanes: Lanes<'_, '_>,
+) -> Result<(), W::Error>
     ensures { Sends (W.sink w.old)
         (empty_row (look_view look.entry) (lanes_of_given lanes.entry) ++ newline)
         result (W.sink w.new) }
@@ -30,7 +34,11 @@ pub fn write_empty<W: WriteStyle>(w: &mut W, look: Look<'_>, lanes: Lanes<'_, '_
 }
 
 /// Writes the row of a break.
-pub fn write_break<W: WriteStyle>(w: &mut W, look: Look<'_>, lanes: Lanes<'_, '_>) -> io::Result<()>
+pub fn write_break<W: PutStyle>(
+    w: &mut W,
+    look: Look<'_>,
+    lanes: Lanes<'_, '_>,
+) -> Result<(), W::Error>
     ensures { Sends (W.sink w.old)
         (break_row (look_view look.entry) (lanes_of_given lanes.entry) ++ newline)
         result (W.sink w.new) }
@@ -42,12 +50,12 @@ pub fn write_break<W: WriteStyle>(w: &mut W, look: Look<'_>, lanes: Lanes<'_, '_
 }
 
 /// Writes the first row of a note.
-fn write_first_piece<W: WriteStyle>(
+fn write_first_piece<W: PutStyle>(
     w: &mut W,
     chars: &Chars<'_>,
     padding: usize,
     piece: &str,
-) -> io::Result<()>
+) -> Result<(), W::Error>
     ensures { Sends (W.sink w.old) (first_note_row chars.now padding piece.now ++ newline)
         result (W.sink w.new) }
 {
@@ -61,7 +69,7 @@ fn write_first_piece<W: WriteStyle>(
 }
 
 /// Writes a later row of a note.
-fn write_later_piece<W: WriteStyle>(w: &mut W, padding: usize, piece: &str) -> io::Result<()>
+fn write_later_piece<W: PutStyle>(w: &mut W, padding: usize, piece: &str) -> Result<(), W::Error>
     ensures { Sends (W.sink w.old) (later_note_row padding piece.now ++ newline)
         result (W.sink w.new) }
 {
@@ -73,12 +81,12 @@ fn write_later_piece<W: WriteStyle>(w: &mut W, padding: usize, piece: &str) -> i
 }
 
 /// Writes the rows of a note: one for each of its lines.
-pub fn write_note<W: WriteStyle>(
+pub fn write_note<W: PutStyle>(
     w: &mut W,
     chars: &Chars<'_>,
     padding: usize,
     message: &str,
-) -> io::Result<()>
+) -> Result<(), W::Error>
     ensures { Sends (W.sink w.old) (note_stream chars.now padding (lines message.now))
         result (W.sink w.new) }
 {

@@ -14,19 +14,19 @@ use crate::term::renderer::lanes::{LaneRow, inner_gutter};
 use crate::term::renderer::line::{Line, Look};
 use crate::term::renderer::runs::write_spaces;
 use codespan_base::diagnostic::{LabelStyle, Severity};
+use codespan_base::term::Chars;
+use codespan_base::term::config::put_style::PutStyle;
 use codespan_base::term::config::writing::{put_all, put_char, put_number, put_spaces};
-use codespan_base::term::{Chars, WriteStyle};
-use std::io;
 
 /// Writes the end of a row: a line feed.
-pub fn write_newline<W: WriteStyle>(w: &mut W) -> io::Result<()>
+pub fn write_newline<W: PutStyle>(w: &mut W) -> Result<(), W::Error>
     ensures { Sends (W.sink w.old) newline result (W.sink w.new) }
 {
     put_all(w, b"\n")
 }
 
 /// Writes a space.
-pub fn write_space<W: WriteStyle>(w: &mut W) -> io::Result<()>
+pub fn write_space<W: PutStyle>(w: &mut W) -> Result<(), W::Error>
     ensures { Sends (W.sink w.old) space result (W.sink w.new) }
 {
     put_all(w, b" ")
@@ -34,7 +34,7 @@ pub fn write_space<W: WriteStyle>(w: &mut W) -> io::Result<()>
 
 /// Writes the outer gutter without a line number: the padding and one space more.
 #[inline(always)]
-pub fn outer_gutter<W: WriteStyle>(w: &mut W, padding: usize) -> io::Result<()>
+pub fn outer_gutter<W: PutStyle>(w: &mut W, padding: usize) -> Result<(), W::Error>
     ensures { Sends (W.sink w.old) (gutter padding) result (W.sink w.new) }
 {
     write_spaces(w, padding as u128 + 1)
@@ -57,11 +57,11 @@ pub fn count_digits(number: usize) -> usize
 /// Writes the outer gutter with a line number: aligned to the right in the padding, or in full
 /// where it is wider.
 #[inline(always)]
-pub fn outer_gutter_number<W: WriteStyle>(
+pub fn outer_gutter_number<W: PutStyle>(
     w: &mut W,
     padding: usize,
     number: usize,
-) -> io::Result<()>
+) -> Result<(), W::Error>
     ensures { Sends (W.sink w.old) (numbered_gutter padding number) result (W.sink w.new) }
 {
     w.set_line_number()?;
@@ -73,7 +73,7 @@ pub fn outer_gutter_number<W: WriteStyle>(
 
 /// Writes the left border.
 #[inline(always)]
-pub fn border_left<W: WriteStyle>(w: &mut W, chars: &Chars<'_>) -> io::Result<()>
+pub fn border_left<W: PutStyle>(w: &mut W, chars: &Chars<'_>) -> Result<(), W::Error>
     ensures { Sends (W.sink w.old) (border chars.now) result (W.sink w.new) }
 {
     w.set_source_border()?;
@@ -82,7 +82,7 @@ pub fn border_left<W: WriteStyle>(w: &mut W, chars: &Chars<'_>) -> io::Result<()
 }
 
 /// Writes the left border of a break row.
-pub fn border_left_break<W: WriteStyle>(w: &mut W, chars: &Chars<'_>) -> io::Result<()>
+pub fn border_left_break<W: PutStyle>(w: &mut W, chars: &Chars<'_>) -> Result<(), W::Error>
     ensures { Sends (W.sink w.old) (break_border chars.now) result (W.sink w.new) }
 {
     w.set_source_border()?;
@@ -92,12 +92,12 @@ pub fn border_left_break<W: WriteStyle>(w: &mut W, chars: &Chars<'_>) -> io::Res
 
 /// Writes one character in a label's style.
 #[inline(always)]
-pub fn write_label_glyph<W: WriteStyle>(
+pub fn write_label_glyph<W: PutStyle>(
     w: &mut W,
     severity: Severity,
     style: LabelStyle,
     c: char,
-) -> io::Result<()>
+) -> Result<(), W::Error>
     ensures { Sends (W.sink w.old) (label_glyph severity style c) result (W.sink w.new) }
 {
     w.set_label(severity, style)?;
@@ -107,12 +107,12 @@ pub fn write_label_glyph<W: WriteStyle>(
 
 /// Writes the style mark where the style changes, and the reset where it ends.
 #[tactic(auto, using(codespan_base::proofs::Sends::sendings), unfolding(codespan_picture::specs::RowParts::change))]
-pub fn change_style<W: WriteStyle>(
+pub fn change_style<W: PutStyle>(
     w: &mut W,
     severity: Severity,
     was: Option<LabelStyle>,
     style: Option<LabelStyle>,
-) -> io::Result<()>
+) -> Result<(), W::Error>
     ensures { Sends (W.sink w.old) (change severity was style) result (W.sink w.new) }
 {
     match (was, style) {
@@ -126,7 +126,7 @@ pub fn change_style<W: WriteStyle>(
 
 /// Writes a locus: name, line number and column number.
 #[inline(always)]
-pub fn snippet_locus<W: WriteStyle>(w: &mut W, at: &Locus) -> io::Result<()>
+pub fn snippet_locus<W: PutStyle>(w: &mut W, at: &Locus) -> Result<(), W::Error>
     ensures { Sends (W.sink w.old) (locus (locus_view at.now)) result (W.sink w.new) }
 {
     put_all(w, at.name.as_bytes())?;
@@ -139,11 +139,11 @@ pub fn snippet_locus<W: WriteStyle>(w: &mut W, at: &Locus) -> io::Result<()>
 
 /// Writes the start of each row under a line: outer gutter, left border, inner gutter and a space.
 #[inline(always)]
-pub fn write_row_start<W: WriteStyle>(
+pub fn write_row_start<W: PutStyle>(
     w: &mut W,
     look: Look<'_>,
     line: Line<'_, '_>,
-) -> io::Result<()>
+) -> Result<(), W::Error>
     ensures { Sends (W.sink w.old) (opening (look_view look.entry) (line_view line.entry))
         result (W.sink w.new) }
 {

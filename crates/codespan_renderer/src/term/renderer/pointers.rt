@@ -25,8 +25,7 @@ use crate::term::renderer::messages::Messages;
 use crate::term::renderer::parts::{write_label_glyph, write_newline, write_row_start};
 use crate::term::renderer::runs::write_spaces;
 use codespan_base::diagnostic::LabelStyle;
-use codespan_base::term::WriteStyle;
-use std::io;
+use codespan_base::term::config::put_style::PutStyle;
 
 /// Returns the greatest start of the labels, or 0 where there is none.
 pub fn greatest_start(labels: &[SingleLabel<'_>]) -> usize
@@ -87,12 +86,12 @@ fn pointer_in(
 
 /// Writes the spaces before a pointer, and the pointer.
 #[inline(always)]
-pub fn caret_pointer<W: WriteStyle>(
+pub fn caret_pointer<W: PutStyle>(
     w: &mut W,
     look: Look<'_>,
     blank: u128,
     style: LabelStyle,
-) -> io::Result<()>
+) -> Result<(), W::Error>
     ensures { Sends (W.sink w.old)
         (blanks blank ++ label_glyph look.entry.severity style look.entry.chars.now.pointer_left)
         result (W.sink w.new) }
@@ -103,13 +102,13 @@ pub fn caret_pointer<W: WriteStyle>(
 
 /// Writes the pointers of the characters of a line that begin before a byte index. It tests each
 /// label at each of them.
-pub fn scanned_caret_pointers<W: WriteStyle>(
+pub fn scanned_caret_pointers<W: PutStyle>(
     w: &mut W,
     look: Look<'_>,
     line: Line<'_, '_>,
     messages: Messages<'_, '_>,
     before: usize,
-) -> io::Result<()>
+) -> Result<(), W::Error>
     requires { AreHanging line.labels.now messages.before.now messages.after.now }
     ensures { Sends (W.sink w.old) (given_pointers_before look.entry line.entry before)
         result (W.sink w.new) }
@@ -134,13 +133,13 @@ pub fn scanned_caret_pointers<W: WriteStyle>(
 }
 
 /// Writes the row of the pointers under a line.
-fn write_pointer_row<W: WriteStyle, S: LineSource>(
+fn write_pointer_row<W: PutStyle, S: LineSource>(
     w: &mut W,
     look: Look<'_>,
     line: Line<'_, '_>,
     source: &S,
     messages: Messages<'_, '_>,
-) -> io::Result<()>
+) -> Result<(), W::Error>
     requires of { S.of source.now ≡ sourced_line look line }
     requires hanging { AreHanging line.labels.now messages.before.now messages.after.now }
     ensures { Sends (W.sink w.old)
@@ -153,14 +152,14 @@ fn write_pointer_row<W: WriteStyle, S: LineSource>(
 }
 
 /// Writes a hanging message under its pointer.
-fn write_hanging_row<W: WriteStyle, S: LineSource>(
+fn write_hanging_row<W: PutStyle, S: LineSource>(
     w: &mut W,
     look: Look<'_>,
     line: Line<'_, '_>,
     source: &S,
     messages: Messages<'_, '_>,
     label: &SingleLabel<'_>,
-) -> io::Result<()>
+) -> Result<(), W::Error>
     requires of { S.of source.now ≡ sourced_line look line }
     requires hanging { AreHanging line.labels.now messages.before.now messages.after.now }
     requires near { (single_label_view label.now).start
@@ -176,14 +175,14 @@ fn write_hanging_row<W: WriteStyle, S: LineSource>(
 }
 
 /// Writes the rows of the hanging messages of these labels, the last one first.
-fn write_hanging_rows<W: WriteStyle, S: LineSource>(
+fn write_hanging_rows<W: PutStyle, S: LineSource>(
     w: &mut W,
     look: Look<'_>,
     line: Line<'_, '_>,
     source: &S,
     messages: Messages<'_, '_>,
     labels: &[SingleLabel<'_>],
-) -> io::Result<()>
+) -> Result<(), W::Error>
     requires of { S.of source.now ≡ sourced_line look line }
     requires hanging { AreHanging line.labels.now messages.before.now messages.after.now }
     requires near { greatest_start (single_label_views labels.now)
@@ -201,13 +200,13 @@ fn write_hanging_rows<W: WriteStyle, S: LineSource>(
 }
 
 /// Writes the pointers, and a row for each hanging message.
-fn write_pointers_and_messages<W: WriteStyle, S: LineSource>(
+fn write_pointers_and_messages<W: PutStyle, S: LineSource>(
     w: &mut W,
     look: Look<'_>,
     line: Line<'_, '_>,
     source: &S,
     messages: Messages<'_, '_>,
-) -> io::Result<()>
+) -> Result<(), W::Error>
     requires of { S.of source.now ≡ sourced_line look line }
     requires hanging { AreHanging line.labels.now messages.before.now messages.after.now }
     requires pieces { ArePieces line.labels.now messages.before.now messages.after.now }
@@ -232,13 +231,13 @@ pub fn has_any_message(labels: &[SingleLabel<'_>]) -> bool
 }
 
 /// Writes the pointers and a row for each hanging message, where there is one.
-pub fn write_hanging<W: WriteStyle, S: LineSource>(
+pub fn write_hanging<W: PutStyle, S: LineSource>(
     w: &mut W,
     look: Look<'_>,
     line: Line<'_, '_>,
     source: &S,
     messages: Messages<'_, '_>,
-) -> io::Result<()>
+) -> Result<(), W::Error>
     requires of { S.of source.now ≡ sourced_line look line }
     requires hanging { AreHanging line.labels.now messages.before.now messages.after.now }
     requires pieces { ArePieces line.labels.now messages.before.now messages.after.now }

@@ -3,16 +3,15 @@
 ghost use Rattle.codespan_base.specs.Streams.{blanks, repeated};
 ghost use Rattle.codespan_base.specs.WriterLaw.{Sends};
 
-use codespan_base::term::WriteStyle;
+use codespan_base::term::config::put_style::PutStyle;
 use codespan_base::term::config::writing::{put_repeated, put_spaces};
-use std::io;
 
 /// The longest run that is written by one call.
 const MAX_COUNT: u128 = usize::MAX as u128;
 
 /// Writes `count` spaces.
 #[inline(always)]
-pub fn write_spaces<W: WriteStyle>(w: &mut W, count: u128) -> io::Result<()>
+pub fn write_spaces<W: PutStyle>(w: &mut W, count: u128) -> Result<(), W::Error>
     ensures { Sends (W.sink w.old) (blanks count) result (W.sink w.new) }
 {
     let mut left = count;
@@ -24,7 +23,7 @@ pub fn write_spaces<W: WriteStyle>(w: &mut W, count: u128) -> io::Result<()>
 }
 
 /// Writes one character `count` times.
-pub fn write_repeated<W: WriteStyle>(w: &mut W, c: char, count: u128) -> io::Result<()>
+pub fn write_repeated<W: PutStyle>(w: &mut W, c: char, count: u128) -> Result<(), W::Error>
     ensures { Sends (W.sink w.old) (repeated count c) result (W.sink w.new) }
 {
     let mut left = count;

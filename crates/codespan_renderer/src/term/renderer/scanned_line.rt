@@ -13,8 +13,7 @@ use crate::term::renderer::messages::Messages;
 use crate::term::renderer::pointers::scanned_caret_pointers;
 use crate::term::renderer::source::has_primary_label;
 use codespan_base::diagnostic::LabelStyle;
-use codespan_base::term::WriteStyle;
-use std::io;
+use codespan_base::term::config::put_style::PutStyle;
 
 /// A cursor that scans the text of a line. It tests all labels at each character, so they may be in
 /// any order.
@@ -89,25 +88,25 @@ impl<'row, 'd> LineSource for ScannedLine<'row, 'd> {
     }
 
     #[inline(always)]
-    fn caret_pointers<W: WriteStyle>(
+    fn caret_pointers<W: PutStyle>(
         &self,
         w: &mut W,
         look: Look<'_>,
         line: Line<'_, '_>,
         messages: Messages<'_, '_>,
-    ) -> io::Result<()> {
+    ) -> Result<(), W::Error> {
         scanned_caret_pointers(w, look, line, messages, usize::MAX)
     }
 
     #[inline(always)]
-    fn caret_pointers_before<W: WriteStyle>(
+    fn caret_pointers_before<W: PutStyle>(
         &self,
         w: &mut W,
         look: Look<'_>,
         line: Line<'_, '_>,
         messages: Messages<'_, '_>,
         before: usize,
-    ) -> io::Result<()> {
+    ) -> Result<(), W::Error> {
         scanned_caret_pointers(w, look, line, messages, before)
     }
 }

@@ -32,9 +32,8 @@ use crate::term::renderer::primary_marks::PrimaryMarks;
 use crate::term::renderer::underlines::write_underlines;
 use crate::term::renderer::{MultiLabel, SingleLabel};
 use codespan_base::diagnostic::LabelStyle;
-use codespan_base::term::WriteStyle;
+use codespan_base::term::config::put_style::PutStyle;
 use codespan_base::term::config::writing::{put_all, put_spaces};
-use std::io;
 
 /// Returns whether a primary label has a byte of the character.
 pub fn has_primary_label(labels: &[SingleLabel<'_>], cell: Cell) -> bool
@@ -115,12 +114,12 @@ pub fn is_plain(line: Line<'_, '_>) -> bool
 
 /// Writes the text of a line, which has these characters, with tabs as spaces, and with style marks
 /// where its style changes.
-fn write_colored_text<W: WriteStyle, C: CharCursor>(
+fn write_colored_text<W: PutStyle, C: CharCursor>(
     w: &mut W,
     look: Look<'_>,
     line: Line<'_, '_>,
     mut characters: C,
-) -> io::Result<()>
+) -> Result<(), W::Error>
     requires left { C.left characters ≡ cells look.tab_width line.text.now }
     requires labels { C.labels characters ≡ line.labels.now }
     ensures { Sends (W.sink w.old) (coloured_text (look_view look.entry) (line_view line.entry))
@@ -149,12 +148,12 @@ fn write_colored_text<W: WriteStyle, C: CharCursor>(
 }
 
 /// Writes the text of a line: at once where it is plain.
-fn write_text<W: WriteStyle, S: LineSource>(
+fn write_text<W: PutStyle, S: LineSource>(
     w: &mut W,
     look: Look<'_>,
     line: Line<'_, '_>,
     source: &S,
-) -> io::Result<()>
+) -> Result<(), W::Error>
     requires of { S.of source.now ≡ sourced_line look line }
     ensures { Sends (W.sink w.old) (coloured_text (look_view look.entry) (line_view line.entry))
         result (W.sink w.new) }
@@ -168,13 +167,13 @@ fn write_text<W: WriteStyle, S: LineSource>(
 }
 
 /// Writes the end of a run of text of one style, and the style mark of the next.
-pub fn end_text_run<W: WriteStyle>(
+pub fn end_text_run<W: PutStyle>(
     w: &mut W,
     look: Look<'_>,
     text: &[u8],
     was: Option<LabelStyle>,
     style: Option<LabelStyle>,
-) -> io::Result<()>
+) -> Result<(), W::Error>
     ensures { Sends (W.sink w.old) (bytes text.now ++ change look.entry.severity was style)
         result (W.sink w.new) }
 {
@@ -183,14 +182,14 @@ pub fn end_text_run<W: WriteStyle>(
 }
 
 /// Writes the end of a run of text before a tab, and the tab's spaces.
-pub fn write_tab<W: WriteStyle>(
+pub fn write_tab<W: PutStyle>(
     w: &mut W,
     look: Look<'_>,
     text: &[u8],
     was: Option<LabelStyle>,
     style: Option<LabelStyle>,
     width: usize,
-) -> io::Result<()>
+) -> Result<(), W::Error>
     ensures { Sends (W.sink w.old)
         (bytes text.now ++ change look.entry.severity was style ++ blanks width)
         result (W.sink w.new) }
@@ -201,11 +200,11 @@ pub fn write_tab<W: WriteStyle>(
 
 /// Writes a line number, the left border, the lanes and a space.
 #[inline(always)]
-pub fn write_source_lanes<W: WriteStyle>(
+pub fn write_source_lanes<W: PutStyle>(
     w: &mut W,
     look: Look<'_>,
     line: Line<'_, '_>,
-) -> io::Result<()>
+) -> Result<(), W::Error>
     ensures { Sends (W.sink w.old) (given_source_lanes look.entry line.entry)
         result (W.sink w.new) }
 {
@@ -216,12 +215,12 @@ pub fn write_source_lanes<W: WriteStyle>(
 }
 
 /// Writes the source row of a line.
-fn write_source_row<W: WriteStyle, S: LineSource>(
+fn write_source_row<W: PutStyle, S: LineSource>(
     w: &mut W,
     look: Look<'_>,
     line: Line<'_, '_>,
     source: &S,
-) -> io::Result<()>
+) -> Result<(), W::Error>
     requires of { S.of source.now ≡ sourced_line look line }
     ensures { Sends (W.sink w.old)
         (source_row (look_view look.entry) (line_view line.entry) ++ newline)
@@ -233,32 +232,33 @@ fn write_source_row<W: WriteStyle, S: LineSource>(
 }
 
 /// Writes the caret row of a line, where it has labels.
-fn write_caret_rows<W: WriteStyle, S: LineSource>(
+fn write_caret_rows<W: PutStyle, S: LineSource>(
     w: &mut W,
     look: Look<'_>,
     line: Line<'_, '_>,
     source: &S,
     messages: Messages<'_, '_>,
-) -> io::Result<()>
+) -> Result<(), W::Error>
     requires of { S.of source.now ≡ sourced_line look line }
     requires trailing { given_label messages.trailing
         ≡ trailing (single_label_views line.labels.now) }
     ensures { Sends (W.sink w.old) (given_caret_rows look.entry line.entry) result (W.sink w.new) }
 {
-    if !line.labels.is_empty() {
-        write_caret_row(w, look, line, source, messages)?;
+    if line.labels.is_empty() {
+        Ok(())
+    } else {
+        write_caret_row(w, look, line, source, messages)
     }
-    Ok(())
 }
 
 /// Writes all rows of a line: its source, its carets, pointers and hanging messages, and its
 /// underlines.
-pub fn write_line<W: WriteStyle, S: LineSource>(
+pub fn write_line<W: PutStyle, S: LineSource>(
     w: &mut W,
     look: Look<'_>,
     line: Line<'_, '_>,
     source: &S,
-) -> io::Result<()>
+) -> Result<(), W::Error>
     requires of { S.of source.now ≡ sourced_line look line }
     ensures { Sends (W.sink w.old)
         (stream_of_rows (look_view look.entry) (rows_of (line_view line.entry)))

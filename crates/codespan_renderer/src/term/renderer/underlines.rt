@@ -20,9 +20,9 @@ use crate::term::renderer::line_source::LineSource;
 use crate::term::renderer::parts::{border_left, outer_gutter, write_newline, write_space};
 use crate::term::renderer::runs::write_repeated;
 use codespan_base::diagnostic::LabelStyle;
+use codespan_base::term::Chars;
+use codespan_base::term::config::put_style::PutStyle;
 use codespan_base::term::config::writing::{put_all, put_char};
-use codespan_base::term::{Chars, WriteStyle};
-use std::io;
 
 /// Returns the caret under the start of a label.
 fn start_caret(chars: &Chars<'_>, style: LabelStyle) -> char
@@ -46,7 +46,7 @@ fn end_caret(chars: &Chars<'_>, style: LabelStyle) -> char
 
 /// Writes a space and the message, where there is one.
 #[tactic(auto, using(codespan_base::proofs::Sends::sendings, crate::proofs::Underlines::underline_messages))]
-fn write_underline_message<W: WriteStyle>(w: &mut W, message: &str) -> io::Result<()>
+fn write_underline_message<W: PutStyle>(w: &mut W, message: &str) -> Result<(), W::Error>
     ensures { Sends (W.sink w.old) (underline_message (bytes message.now)) result (W.sink w.new) }
 {
     if message.is_empty() {
@@ -69,13 +69,13 @@ fn run_width<S: LineSource>(source: &S, part: MultiLabel<'_>) -> u128
 
 /// Writes an underline from its corner on: `width` cells, the caret, and the message.
 #[tactic(auto, using(codespan_base::proofs::Sends::sendings), unfolding(crate::specs::Inner::Underlines::run_underline))]
-fn label_multi_caret<W: WriteStyle>(
+fn label_multi_caret<W: PutStyle>(
     w: &mut W,
     chars: &Chars<'_>,
     style: LabelStyle,
     part: MultiLabel<'_>,
     width: u128,
-) -> io::Result<()>
+) -> Result<(), W::Error>
     ensures { Sends (W.sink w.old)
         (run_underline chars.now style width (multi_label_view part.entry)) result (W.sink w.new) }
 {
@@ -94,12 +94,12 @@ fn label_multi_caret<W: WriteStyle>(
 }
 
 /// Writes the start of an underline row: up to its lanes.
-fn write_underline_lanes<W: WriteStyle>(
+fn write_underline_lanes<W: PutStyle>(
     w: &mut W,
     look: Look<'_>,
     line: Line<'_, '_>,
     mark: (usize, LabelStyle, MultiLabel<'_>),
-) -> io::Result<()>
+) -> Result<(), W::Error>
     ensures { Sends (W.sink w.old) (given_underline_lanes look.entry line.entry mark.entry)
         result (W.sink w.new) }
 {
@@ -117,13 +117,13 @@ fn write_underline_lanes<W: WriteStyle>(
 
 /// Writes the underline row of a multi-line label mark, with `width` cells between its corner and
 /// its caret.
-fn write_underline_row<W: WriteStyle>(
+fn write_underline_row<W: PutStyle>(
     w: &mut W,
     look: Look<'_>,
     line: Line<'_, '_>,
     mark: (usize, LabelStyle, MultiLabel<'_>),
     width: u128,
-) -> io::Result<()>
+) -> Result<(), W::Error>
     requires { width ≡ run_width (cells look.tab_width line.text.now) (multi_label_view mark.2) }
     ensures { Sends (W.sink w.old)
         (underline_row (look_view look.entry) (line_view line.entry) (mark_view mark.entry)
@@ -150,12 +150,12 @@ fn has_underline(leading: usize, part: MultiLabel<'_>) -> bool
 }
 
 /// Writes the underline rows of a line, in the order of the lanes.
-pub fn write_underlines<W: WriteStyle, S: LineSource>(
+pub fn write_underlines<W: PutStyle, S: LineSource>(
     w: &mut W,
     look: Look<'_>,
     line: Line<'_, '_>,
     source: &S,
-) -> io::Result<()>
+) -> Result<(), W::Error>
     requires of { S.of source.now ≡ sourced_line look line }
     ensures { Sends (W.sink w.old)
         (stream_of_rows (look_view look.entry) (underline_rows (line_view line.entry)))

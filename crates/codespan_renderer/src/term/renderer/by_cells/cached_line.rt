@@ -22,11 +22,12 @@ use crate::term::renderer::line::{Line, Look};
 use crate::term::renderer::line_source::LineSource;
 use crate::term::renderer::messages::Messages;
 use crate::term::renderer::pointers::greatest_start;
+use crate::term::renderer::row_writer::{RowWriter, with_error};
 use crate::term::renderer::source::write_line;
 use codespan_base::diagnostic::{LabelStyle, Severity};
 use codespan_base::files::Error;
 use codespan_base::term::WriteStyle;
-use std::io;
+use codespan_base::term::config::put_style::PutStyle;
 
 /// A cursor over cached characters. It goes through the labels in the order of their starts, each
 /// of them once.
@@ -102,8 +103,9 @@ impl<'cells, 'row, 'd> CachedLine<'cells, 'row, 'd> {
             (line_view self.now.line)) renderer.old result renderer.new }
     {
         let look = renderer.look(severity, outer_padding);
-        write_line(renderer.writer, look, self.line, self)?;
-        Ok(())
+        let mut rows = RowWriter::new(renderer.writer, &renderer.saved);
+        let written = write_line(&mut rows, look, self.line, self);
+        with_error(written, &renderer.saved)
     }
 
     /// Returns a cursor over its characters, and the position after the last one where `to_end` is
@@ -153,26 +155,26 @@ impl<'cells, 'row, 'd> LineSource for CachedLine<'cells, 'row, 'd> {
     }
 
     #[inline(always)]
-    fn caret_pointers<W: WriteStyle>(
+    fn caret_pointers<W: PutStyle>(
         &self,
         w: &mut W,
         look: Look<'_>,
         _line: Line<'_, '_>,
         _messages: Messages<'_, '_>,
-    ) -> io::Result<()> {
+    ) -> Result<(), W::Error> {
         let edge = self.width_up_to(greatest_start(self.line.labels));
         write_spaced(w, look, self.pointers, usize::MAX, edge)
     }
 
     #[inline(always)]
-    fn caret_pointers_before<W: WriteStyle>(
+    fn caret_pointers_before<W: PutStyle>(
         &self,
         w: &mut W,
         look: Look<'_>,
         _line: Line<'_, '_>,
         _messages: Messages<'_, '_>,
         before: usize,
-    ) -> io::Result<()> {
+    ) -> Result<(), W::Error> {
         let edge = self.width_before(before);
         write_spaced(w, look, self.pointers, before, edge)
     }

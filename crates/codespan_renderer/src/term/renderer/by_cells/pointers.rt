@@ -27,8 +27,7 @@ use crate::term::renderer::pointers::{caret_pointer, greatest_start, has_any_mes
 use crate::term::renderer::runs::write_spaces;
 use codespan_base::diagnostic::LabelStyle;
 use codespan_base::files::Error;
-use codespan_base::term::WriteStyle;
-use std::io;
+use codespan_base::term::config::put_style::PutStyle;
 
 /// A character from which labels hang.
 #[derive(Clone, Copy, Debug)]
@@ -46,13 +45,13 @@ pub struct Pointer {
 /// Writes the pointers of the characters that begin before a byte index, with spaces between them
 /// and up to the column `edge`.
 #[inline(always)]
-pub fn write_spaced<W: WriteStyle>(
+pub fn write_spaced<W: PutStyle>(
     w: &mut W,
     look: Look<'_>,
     found: &[Pointer],
     before: usize,
     edge: u128,
-) -> io::Result<()>
+) -> Result<(), W::Error>
     ensures { Sends (W.sink w.old)
         (spaced (look_view look.entry) edge 0 (pointers_before before found.now))
         result (W.sink w.new) }

@@ -6,6 +6,6 @@ use Rattle.codespan_renderer.proofs.term.renderer.lanes.inner_gutter.Goals as go
 
 pub returns-then-lanes-eq0 : goal.returns-then-lanes-eq0
 returns-then-lanes-eq0 g c =
-    let s = g.W.WriteStyle.sink c.args.w.now in
+    let s = g.W.PutStyle.sink c.args.w.now in
     let none = sym (walk-end _ _ _ 0 c.args.lanes.count _ (let zero = c.if-lanes-eq0.true in omega (arith, zero))) ∙ walk-lanes _ _ _ c.args.lanes.count c.args.lanes.marks.now c.args.lanes.in_order in
     (refl, λ told. sym (with_written-nil s) ∙ ap (with_written s) none)

@@ -13,6 +13,6 @@ use Rattle.codespan_renderer.proofs.term.renderer.pointers.scanned_caret_pointer
 abbrev pub invariant-loop-cell : goal.invariant-loop-cell
 invariant-loop-cell g l = record {
   laying : Laying (length l.line.text.now) l.blank (cells_left l.cell-iterator);
-  with_written : StillToCome (g.W.WriteStyle.sink l.fn.w) (pointers (look_view l.look) (single_label_views l.line.labels.now) (cells_before l.before (cells l.look.tab_width l.line.text.now)))
-      (blanks l.blank ++ pointers (look_view l.look) (single_label_views l.line.labels.now) (cells_before l.before (cells_left l.cell-iterator))) (g.W.WriteStyle.sink l.w);
+  with_written : StillToCome (g.W.PutStyle.sink l.fn.w) (pointers (look_view l.look) (single_label_views l.line.labels.now) (cells_before l.before (cells l.look.tab_width l.line.text.now)))
+      (blanks l.blank ++ pointers (look_view l.look) (single_label_views l.line.labels.now) (cells_before l.before (cells_left l.cell-iterator))) (g.W.PutStyle.sink l.w);
 }

@@ -10,7 +10,7 @@ use Rattle.codespan_renderer.proofs.term.renderer.pointers.write_hanging_rows.Gi
 -- the remaining labels are the first ones
 abbrev pub invariant-loop-label : goal.invariant-loop-label
 invariant-loop-label g l = record {
-  with_written : StillToCome (g.W.WriteStyle.sink l.fn.w) (hanging_stream (look_view l.look) (line_view l.line) (filter has_message (single_label_views l.labels)))
-      (hanging_stream (look_view l.look) (line_view l.line) (filter has_message (single_label_views l.label-iterator.iter.rest.now))) (g.W.WriteStyle.sink l.w);
+  with_written : StillToCome (g.W.PutStyle.sink l.fn.w) (hanging_stream (look_view l.look) (line_view l.line) (filter has_message (single_label_views l.labels)))
+      (hanging_stream (look_view l.look) (line_view l.line) (filter has_message (single_label_views l.label-iterator.iter.rest.now))) (g.W.PutStyle.sink l.w);
   near : greatest_start (single_label_views l.label-iterator.iter.rest.now) ≤ greatest_start (single_label_views l.line.labels.now);
 }

@@ -82,5 +82,5 @@ loop-cell-preserved g c =
 pub returns : goal.returns
 returns g c =
     let none = text-end (look_view c.args.look) (line_view c.args.line) c.loop-cell.was (piece c.as_bytes-text.result.now c.loop-cell.start c.loop-cell.end) _ c.in_default.ensures.next.0 in
-    let coming = subst (λ (l : Stream). StillToCome (g.W.WriteStyle.sink c.args.w.now) (coloured_text (look_view c.args.look) (line_view c.args.line)) l (g.W.WriteStyle.sink c.loop-cell.w)) (sym none) c.loop-cell.invariant.coming in
+    let coming = subst (λ (l : Stream). StillToCome (g.W.PutStyle.sink c.args.w.now) (coloured_text (look_view c.args.look) (line_view c.args.line)) l (g.W.PutStyle.sink c.loop-cell.w)) (sym none) c.loop-cell.invariant.coming in
     StillToCome-last _ _ _ _ _ _ coming c.end_text_run-2.ensures

@@ -7,8 +7,8 @@ use Rattle.codespan_renderer.proofs.term.renderer.source.write_colored_text.Give
 
 abbrev pub invariant-loop-cell : goal.invariant-loop-cell
 invariant-loop-cell g l = record {
-  coming : StillToCome (g.W.WriteStyle.sink l.fn.w) (coloured_text (look_view l.look) (line_view l.line))
-      (text_rest (look_view l.look) (line_view l.line) l.was (piece l.text l.start l.end) (g.C.CharCursor.left l.characters)) (g.W.WriteStyle.sink l.w);
+  coming : StillToCome (g.W.PutStyle.sink l.fn.w) (coloured_text (look_view l.look) (line_view l.line))
+      (text_rest (look_view l.look) (line_view l.line) l.was (piece l.text l.start l.end) (g.C.CharCursor.left l.characters)) (g.W.PutStyle.sink l.w);
   over : IsOver l.look.tab_width l.line.text.now l.end (g.C.CharCursor.left l.characters);
   same : g.C.CharCursor.labels l.characters ≡ l.line.labels.now;
   ordered : l.start ≤ l.end;

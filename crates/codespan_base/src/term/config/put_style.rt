@@ -1,0 +1,116 @@
+//! Writers of bytes and style marks with an error type of their own.
+
+ghost use Rattle.std.specs.Prelude.{◌≡◌};
+ghost use Rattle.std.specs.Io.{WritesAtMost};
+ghost use Rattle.std.specs.IoError.{error_kind};
+ghost use Rattle.codespan_base.specs.Streams.{Header, HeaderMessage, LineNumber, NoteBullet, SourceBorder, LabelMark, Reset, one_mark};
+ghost use Rattle.codespan_base.specs.WriterLaw.{Sends, Puts};
+
+use crate::term::config::write_style::WriteStyle;
+use codespan_files::diagnostic::{LabelStyle, Severity};
+use std::io;
+use std::io::ErrorKind;
+
+/// A [`WriteStyle`], or a writer that keeps the law of one and fails with an error of its own.
+///
+/// Each [`WriteStyle`] is one, by the `impl` below, and fails with its [`io::Error`]. The calls that write whole texts and rows are generic over
+/// this trait: an `io::Error` takes 88 bytes, which each call that may fail with it fills and copies, so rows are written by a writer that
+/// saves it and fails with an error of no size.
+pub trait PutStyle {
+    ghost use Rattle.codespan_base.specs.WriterLaw.{Sink};
+
+    /// The error of a call.
+    type Error;
+
+    /// The spelling, the flag and the bytes of the writer, as contracts see them.
+    ghost sink: { Self → Sink };
+
+    /// Returns the error of a text of which a `put` has taken nothing.
+    fn write_zero() -> Self::Error;
+
+    /// Does what [`WriteStyle::set_header`] does.
+    fn set_header(&mut self, severity: Severity) -> Result<(), Self::Error>
+        ensures { Sends (sink self.old) (one_mark (Header severity)) result (sink self.new) };
+
+    /// Does what [`WriteStyle::set_header_message`] does.
+    fn set_header_message(&mut self) -> Result<(), Self::Error>
+        ensures { Sends (sink self.old) (one_mark HeaderMessage) result (sink self.new) };
+
+    /// Does what [`WriteStyle::set_line_number`] does.
+    fn set_line_number(&mut self) -> Result<(), Self::Error>
+        ensures { Sends (sink self.old) (one_mark LineNumber) result (sink self.new) };
+
+    /// Does what [`WriteStyle::set_note_bullet`] does.
+    fn set_note_bullet(&mut self) -> Result<(), Self::Error>
+        ensures { Sends (sink self.old) (one_mark NoteBullet) result (sink self.new) };
+
+    /// Does what [`WriteStyle::set_source_border`] does.
+    fn set_source_border(&mut self) -> Result<(), Self::Error>
+        ensures { Sends (sink self.old) (one_mark SourceBorder) result (sink self.new) };
+
+    /// Does what [`WriteStyle::set_label`] does.
+    fn set_label(&mut self, severity: Severity, label_style: LabelStyle) -> Result<(), Self::Error>
+        ensures { Sends (sink self.old) (one_mark (LabelMark severity label_style))
+            result (sink self.new) };
+
+    /// Does what [`WriteStyle::reset`] does.
+    fn reset(&mut self) -> Result<(), Self::Error>
+        ensures { Sends (sink self.old) (one_mark Reset) result (sink self.new) };
+
+    /// Does what [`WriteStyle::put`] does.
+    fn put(&mut self, bytes: &[u8]) -> Result<usize, Self::Error>
+        ensures bound { WritesAtMost result bytes.now }
+        ensures took { Puts (sink self.old) bytes.now result (sink self.new) };
+}
+
+impl<W: WriteStyle> PutStyle for W {
+    type Error = io::Error;
+
+    ghost sink = { W.sink };
+
+    fn write_zero() -> io::Error
+        ensures { error_kind result ≡ ErrorKind.WriteZero }
+    {
+        io::Error::from(ErrorKind::WriteZero)
+    }
+
+    #[inline(always)]
+    fn set_header(&mut self, severity: Severity) -> io::Result<()> {
+        WriteStyle::set_header(self, severity)
+    }
+
+    #[inline(always)]
+    fn set_header_message(&mut self) -> io::Result<()> {
+        WriteStyle::set_header_message(self)
+    }
+
+    #[inline(always)]
+    fn set_line_number(&mut self) -> io::Result<()> {
+        WriteStyle::set_line_number(self)
+    }
+
+    #[inline(always)]
+    fn set_note_bullet(&mut self) -> io::Result<()> {
+        WriteStyle::set_note_bullet(self)
+    }
+
+    #[inline(always)]
+    fn set_source_border(&mut self) -> io::Result<()> {
+        WriteStyle::set_source_border(self)
+    }
+
+    #[inline(always)]
+    fn set_label(&mut self, severity: Severity, label_style: LabelStyle) -> io::Result<()> {
+        WriteStyle::set_label(self, severity, label_style)
+    }
+
+    #[inline(always)]
+    fn reset(&mut self) -> io::Result<()> {
+        WriteStyle::reset(self)
+    }
+
+    #[inline(always)]
+    fn put(&mut self, bytes: &[u8]) -> io::Result<usize> {
+        WriteStyle::put(self, bytes)
+    }
+}

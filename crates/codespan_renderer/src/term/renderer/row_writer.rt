@@ -1,0 +1,131 @@
+//! The writer that rows are written through, which saves its error.
+
+ghost use Rattle.std.specs.Prelude.{◌≡◌, IfErr};
+ghost use Rattle.codespan_base.specs.Errors.{IsIo};
+ghost use Rattle.codespan_renderer.specs.Inner.RowWriters.{SameOutcome};
+
+use codespan_base::diagnostic::{LabelStyle, Severity};
+use codespan_base::files::Error;
+use codespan_base::term::WriteStyle;
+use codespan_base::term::config::put_style::PutStyle;
+use std::cell::Cell;
+use std::io;
+use std::io::ErrorKind;
+
+/// A write failed, or a `put` of some bytes took none. The [`RowWriter`] has saved the error.
+#[derive(Clone, Copy, Debug)]
+pub struct Failed;
+
+/// A borrowed writer that saves the error of a call that fails, so that rows pass on an error of no size.
+#[derive(Drop)]
+pub struct RowWriter<'row, W> {
+    inner: &'row mut W,
+    saved: &'row Cell<io::Error>,
+}
+
+impl<'row, W: WriteStyle> RowWriter<'row, W> {
+    ghost use Rattle.codespan_renderer.specs.Inner.RowWriters.{inner_writer, inner_reference};
+
+    /// Returns a writer to `inner` that saves its error in `saved`.
+    #[inline(always)]
+    pub fn new(inner: &'row mut W, saved: &'row Cell<io::Error>) -> RowWriter<'row, W>
+        ensures reference { inner_reference result ≡ inner.entry.ghost_name }
+        ensures writer { inner_writer result ≡ inner.old }
+    {
+        RowWriter { inner, saved }
+    }
+}
+
+/// Returns the error of a text of which a `put` has taken nothing: what is saved before a call fails.
+pub fn no_write() -> io::Error {
+    io::Error::from(ErrorKind::WriteZero)
+}
+
+/// Returns what a call that writes rows returned, with the saved error where it failed.
+#[inline(always)]
+pub fn with_error(written: Result<(), Failed>, saved: &Cell<io::Error>) -> Result<(), Error>
+    ensures same { SameOutcome written result }
+    ensures io { IfErr result IsIo }
+{
+    match written {
+        Ok(()) => Ok(()),
+        Err(Failed) => Err(take_error(saved)),
+    }
+}
+
+/// Takes the saved error.
+#[cold]
+fn take_error(saved: &Cell<io::Error>) -> Error
+    ensures { IsIo result }
+{
+    Error::Io(saved.replace(no_write()))
+}
+
+/// Saves the error of a call that failed.
+#[inline(always)]
+fn save<T>(saved: &Cell<io::Error>, outcome: io::Result<T>) -> Result<T, Failed>
+    ensures { SameOutcome outcome result }
+{
+    match outcome {
+        Ok(value) => Ok(value),
+        Err(error) => {
+            saved.set(error);
+            Err(Failed)
+        }
+    }
+}
+
+impl<W: WriteStyle> PutStyle for RowWriter<'_, W> {
+    ghost use Rattle.codespan_renderer.specs.Inner.RowWriters.{row_writer_sink};
+
+    type Error = Failed;
+
+    ghost sink = { λ p. row_writer_sink W.sink p };
+
+    fn write_zero() -> Failed {
+        Failed
+    }
+
+    #[inline(always)]
+    fn set_header(&mut self, severity: Severity) -> Result<(), Failed> {
+        save(self.saved, WriteStyle::set_header(self.inner, severity))
+    }
+
+    #[inline(always)]
+    fn set_header_message(&mut self) -> Result<(), Failed> {
+        save(self.saved, WriteStyle::set_header_message(self.inner))
+    }
+
+    #[inline(always)]
+    fn set_line_number(&mut self) -> Result<(), Failed> {
+        save(self.saved, WriteStyle::set_line_number(self.inner))
+    }
+
+    #[inline(always)]
+    fn set_note_bullet(&mut self) -> Result<(), Failed> {
+        save(self.saved, WriteStyle::set_note_bullet(self.inner))
+    }
+
+    #[inline(always)]
+    fn set_source_border(&mut self) -> Result<(), Failed> {
+        save(self.saved, WriteStyle::set_source_border(self.inner))
+    }
+
+    #[inline(always)]
+    fn set_label(&mut self, severity: Severity, label_style: LabelStyle) -> Result<(), Failed> {
+        save(
+            self.saved,
+            WriteStyle::set_label(self.inner, severity, label_style),
+        )
+    }
+
+    #[inline(always)]
+    fn reset(&mut self) -> Result<(), Failed> {
+        save(self.saved, WriteStyle::reset(self.inner))
+    }
+
+    #[inline(always)]
+    fn put(&mut self, bytes: &[u8]) -> Result<usize, Failed> {
+        save(self.saved, WriteStyle::put(self.inner, bytes))
+    }
+}
