@@ -246,11 +246,11 @@ enum {
     CODESPAN_OK = 0,            /* out[0..*written) is the output */
     CODESPAN_TOO_SMALL = 1,     /* *written is the length of the output, in bytes */
     CODESPAN_OUT_OF_MEMORY = 2, /* an allocation failed */
-    CODESPAN_FILE_MISSING = 3,  /* `file` of a label is no index in the files */
-    CODESPAN_INVALID = 4        /* an argument is invalid; `detail` says which */
+    CODESPAN_FILE_MISSING = 3,  /* `detail` names a label whose `file` is no index in the files */
+    CODESPAN_INVALID = 4        /* `detail` names another argument that is invalid */
 };
 
-/* Arguments, for codespan_detail. */
+/* Arguments, for codespan_detail, by the order in which they are looked at. */
 enum {
     CODESPAN_ARGUMENT_NONE = 0,
     CODESPAN_ARGUMENT_ABI = 1,
@@ -271,11 +271,11 @@ enum {
     CODESPAN_ARGUMENT_MESSAGE = 15,       /* not UTF-8 */
     CODESPAN_ARGUMENT_LABEL_STYLE = 16,   /* index: the label */
     CODESPAN_ARGUMENT_LABEL_MESSAGE = 17, /* not UTF-8; index: the label */
-    CODESPAN_ARGUMENT_LABEL_FILE = 18,    /* with CODESPAN_FILE_MISSING alone; index: the label */
+    CODESPAN_ARGUMENT_LABEL_FILE = 18,    /* with CODESPAN_FILE_MISSING; index: the label */
     CODESPAN_ARGUMENT_NOTE = 19           /* not UTF-8; index: the note */
 };
 
-/* What was wrong. */
+/* Which argument is invalid. */
 typedef struct codespan_detail {
     uint32_t argument; /* CODESPAN_ARGUMENT_NONE unless the status is CODESPAN_INVALID or
                         * CODESPAN_FILE_MISSING */
@@ -290,8 +290,10 @@ typedef struct codespan_detail {
  * unchanged. Call again with as much room: the output is the same.
  * Any other status: *written is 0, and `out` is unchanged.
  *
- * An ABI number that is not the library's is reported first, then a missing file; of several other
- * invalid arguments any may be reported. */
+ * The arguments are looked at before anything is allocated. Where one is invalid the status is
+ * CODESPAN_INVALID, or CODESPAN_FILE_MISSING for the file of a label. Of several, `detail` names the
+ * one with the lowest number, and of those with one number the one with the lowest index. Where all
+ * are valid the status is one of the first three. */
 uint32_t codespan_emit(const codespan_file *files, size_t files_length,
                        const codespan_diagnostic *diagnostic, const codespan_config *config,
                        uint8_t *out, size_t out_length, size_t *written, codespan_detail *detail);

@@ -1,10 +1,12 @@
 //! What C calls: the functions of `native/include/codespan.h`, each a call of `codespan_native`.
 #![tactic(auto)]
 
-ghost use Rattle.std.specs.Prelude.{◌≡◌, ◌≤◌, length};
-ghost use Rattle.codespan_native.specs.Meaning.{Means, output_bytes};
+ghost use Rattle.std.specs.Prelude.{◌≡◌, ◌≢◌, ◌≤◌, ◌↔◌};
+ghost use Rattle.codespan_native.specs.declared.error.Argument.TheVariants.{LabelFile};
+ghost use Rattle.codespan_native.specs.Meaning.{Means, NoLookupFails, output_bytes};
 ghost use Rattle.codespan_native.specs.Results.{IsTooSmall, IsUntouched, IsWritten};
-ghost use Rattle.codespan_native.specs.Validity.{IsOfNoFile, IsValid, IsWrongAt};
+ghost use Rattle.codespan_native.specs.StatusTexts.{text_for};
+ghost use Rattle.codespan_native.specs.Validity.{AreValid, FirstInvalidIs, NamesFirstInvalid, no_detail};
 
 use codespan_native::emit::emit;
 use codespan_native::raw::{ABI, Detail, RawConfig, RawDiagnostic, RawFile};
@@ -29,9 +31,15 @@ pub extern "C" fn codespan_emit(
         → IsTooSmall (output_bytes files.now diagnostic.now config.now)
         out.old out.new written.new }
     ensures untouched { 2 ≤ result → IsUntouched out.old out.new written.new }
-    ensures valid { IsValid files.now diagnostic.now config.now → result ≤ 2 }
-    ensures missing { result ≡ 3
-        → IsWrongAt (IsOfNoFile (length files.now)) diagnostic.now.labels.now detail.new.index }
+    ensures valid { (result ≤ 2) ↔ AreValid files.now diagnostic.now config.now }
+    ensures missing { (result ≡ 3)
+        ↔ FirstInvalidIs files.now diagnostic.now config.now (λ a. a ≡ LabelFile) }
+    ensures invalid { (result ≡ 4)
+        ↔ FirstInvalidIs files.now diagnostic.now config.now (λ a. a ≢ LabelFile) }
+    ensures named { 3 ≤ result
+        → NamesFirstInvalid files.now diagnostic.now config.now detail.new }
+    ensures none_named { result ≤ 2 → detail.new ≡ no_detail }
+    ensures found { result ≤ 2 → NoLookupFails files.now diagnostic.now }
     ensures means { result ≤ 1 → config.now.display_style ≡ 0
         → Means files.now diagnostic.now config.now }
     ensures status { result ≤ 4 }
@@ -55,6 +63,10 @@ pub extern "C" fn codespan_status_text(
     text: &mut [u8],
     written: &mut usize,
 ) -> u32
+    ensures ok { result ≡ 0
+        → IsWritten (text_for status argument) text.old text.new written.new }
+    ensures too_small { result ≡ 1
+        → IsTooSmall (text_for status argument) text.old text.new written.new }
     ensures status { result ≤ 1 }
 {
     write_status(status, argument, text, written)

@@ -23,7 +23,7 @@ use Rattle.codespan_picture.specs.Picture.{heading_of, label_of, labels_of, note
 use Rattle.codespan_picture.specs.Snippets.{InFile, labelled_files}
 use Rattle.codespan_picture.specs.StatedPicture.{stated_locus}
 use Rattle.codespan_reporting.specs.WriteCalls.{WritesStyled}
-use Rattle.codespan_native.specs.declared.error.EmitError.{EmitError}
+use Rattle.codespan_native.specs.declared.error.OutOfMemory.{OutOfMemory}
 use Rattle.codespan_native.specs.declared.raw.RawConfig.{RawConfig}
 use Rattle.codespan_native.specs.declared.raw.RawDiagnostic.{RawDiagnostic}
 use Rattle.codespan_native.specs.declared.raw.RawFile.{RawFile}
@@ -70,7 +70,7 @@ unfolding is_known are_known
 fresh_known spelling old first fresh = ap (λ (s : Sink). is_known s) fresh
 
 -- labels as outputs read them are those of their views
-labels_alike : (xs : List (Label ℕ)) → map label_of xs ≡ map label_in (map label_view xs)
+pub labels_alike : (xs : List (Label ℕ)) → map label_of xs ≡ map label_in (map label_view xs)
 labels_alike [] = refl
 labels_alike (x ∷ xs) = ap (λ rest. label_of x ∷ rest) (labels_alike xs)
 
@@ -112,7 +112,7 @@ bytes_are spelling config ss d files diagnostic raw bytes are spells alike same 
 -- the same of a call that returns the bytes
 pub result_is : (spelling : Spelling) (config : Config) (ss : List SourceView) (d : Diagnostic ℕ)
     (files : List RawFile) (diagnostic : RawDiagnostic) (raw : RawConfig)
-    (r : Result (Vec ℕ Global) EmitError)
+    (r : Result (Vec ℕ Global) OutOfMemory)
     → IfOk r (λ output. output.items ≡ spelled spelling (picture_of config ss d))
     → spelling ≡ spelling_of raw → IsConfig (config_of raw) config → ss ≡ map source_in files
     → diagnostic_view d ≡ view_of files diagnostic
@@ -123,7 +123,7 @@ result_is spelling config ss d files diagnostic raw (Err e) are spells alike sam
 
 -- what the output means, of the structs
 pub means_is : {T : Type 0} (config : Config) (ss : List SourceView) (d : Diagnostic ℕ)
-    (files : List RawFile) (diagnostic : RawDiagnostic) (raw : RawConfig) (r : Result T EmitError)
+    (files : List RawFile) (diagnostic : RawDiagnostic) (raw : RawConfig) (r : Result T OutOfMemory)
     → IfOk r (λ _. config.display_style ≡ Rich → MeansLabels config config (database_of ss) d)
     → IsConfig (config_of raw) config → ss ≡ map source_in files
     → diagnostic_view d ≡ view_of files diagnostic

@@ -2,6 +2,7 @@
 -- style marks in band
 pub mod MarkBytes
 -- files
+pub mod GivenLines
 pub mod SourceTexts
 pub mod Lemmas
 pub mod SourceModel
@@ -9,4 +10,7 @@ pub mod SourceModel
 pub mod Meaning
 pub mod Spellings
 pub mod Validity
+pub mod ValidParts
 pub mod Results
+-- texts of statuses
+pub mod StatusTexts

@@ -25,6 +25,7 @@ use Rattle.codespan_base.specs.declared.term.config.color.Color.TheVariants.{Bla
 use Rattle.codespan_base.specs.declared.term.config.color.ColorSpec.{ColorSpec}
 use Rattle.codespan_base.specs.declared.term.config.styles.Styles.{Styles}
 use Rattle.codespan_laws.specs.Meanings.{MeansLabels}
+use Rattle.codespan_picture.specs.Lookups.{AllSucceed, lookups_in}
 use Rattle.codespan_picture.specs.Picture.{rendered, starts}
 use Rattle.codespan_picture.specs.Rows.{Heading}
 use Rattle.codespan_picture.specs.Snippets.{InFile, labelled_files}
@@ -39,7 +40,8 @@ use Rattle.codespan_native.specs.declared.raw.RawLine.{RawLine}
 use Rattle.codespan_native.specs.declared.raw.RawStyles.{RawStyles}
 use Rattle.codespan_native.specs.declared.raw.RawText.{RawText}
 use Rattle.codespan_native.specs.MarkBytes.{mark_spelling}
-use Rattle.codespan_native.specs.SourceTexts.{CutText, SourceView, database_of, lined_text, locus_at, numbered_text}
+use Rattle.codespan_native.specs.GivenLines.{locus_at}
+use Rattle.codespan_native.specs.SourceTexts.{CutText, SourceView, database_of, lined_text, numbered_text}
 
 -- ---- numbers
 
@@ -242,3 +244,11 @@ pub record Means (files : List RawFile) (diagnostic : RawDiagnostic) (config : R
   pub is_diagnostic : diagnostic_view d ≡ view_of files diagnostic
   pub is_config : IsConfig (config_of config) c
   pub means : MeansLabels c c (files_of files) d
+
+-- no lookup of an output of the structs fails: whatever the configuration is, and whichever
+-- diagnostic of Rust the struct stands for
+abbrev pub NoLookupFails : List RawFile → RawDiagnostic → Type 0
+NoLookupFails files diagnostic =
+    (d : Diagnostic ℕ) (config : Config) → diagnostic_view d ≡ view_of files diagnostic
+    → AllSucceed (files_of files).failure
+    (lookups_in config.display_style config (files_of files) d)

@@ -11,13 +11,14 @@ use Rattle.codespan_base.specs.FileTables.{name_of, source_of as simple_source_o
 use Rattle.codespan_base.specs.Lemmas.Simple.{past_end_is, text_fits, text_is_utf8}
 use Rattle.codespan_base.specs.Lemmas.Lines.{line_of_below}
 use Rattle.codespan_base.specs.Lemmas.Missing.{past_end_or, table_lawful}
-use Rattle.codespan_native.specs.declared.source_file.LinedText.{LinedText}
-use Rattle.codespan_native.specs.declared.source_file.NumberedText.{NumberedText}
+use Rattle.codespan_native.specs.declared.source_file.lined.LinedText.{LinedText}
+use Rattle.codespan_native.specs.declared.source_file.numbered.NumberedText.{NumberedText}
 use Rattle.codespan_native.specs.declared.source_file.SourceFile.{SourceFile}
-use Rattle.codespan_native.specs.declared.source_file.SourceText.{SourceText}
-use Rattle.codespan_native.specs.declared.source_file.SourceText.TheVariants.{Numbered, Lined}
+use Rattle.codespan_native.specs.declared.source_file.text.SourceText.{SourceText}
+use Rattle.codespan_native.specs.declared.source_file.text.SourceText.TheVariants.{Numbered, Lined}
 use Rattle.codespan_native.specs.declared.source_files.SourceFiles.{SourceFiles}
-use Rattle.codespan_native.specs.SourceTexts.{CutText, SourceView, database_of, failure_of, file_of, lined_text, locus_at, numbered_text, past_last}
+use Rattle.codespan_native.specs.GivenLines.{locus_at}
+use Rattle.codespan_native.specs.SourceTexts.{CutText, SourceView, database_of, failure_of, file_of, lined_text, numbered_text, past_last}
 use Rattle.codespan_native.specs.Lemmas.{lined_lawful, numbered_lawful}
 
 -- a text cut at newlines
@@ -41,13 +42,22 @@ source_of f = record { cut = cut_of f.text; set = locus_at f.first_byte f.loci.n
 abbrev pub sources_of : SourceFiles → List SourceView
 sources_of files = map source_of files.files.items
 
+-- a text of given lines makes a lawful file, whatever its loci are
+lined_lawful_with : (t : LinedText) (set : ℕ → Option Location)
+    → IsLawful (file_of (record { cut = lined_of t; set = set }))
+lined_lawful_with t set =
+    lined_lawful _ _ t.first_byte t.lines.now set (IsUtf8-had _ t.utf8) t.fits t.cut
+
+pub lined_is_lawful : (t : LinedText)
+    → IsLawful (file_of (record { cut = lined_of t; set = λ _. None }))
+lined_is_lawful t = lined_lawful_with t (λ _. None)
+
 -- a text makes a lawful file
 text_is_lawful : (t : SourceText) (set : ℕ → Option Location)
     → IsLawful (file_of (record { cut = cut_of t; set = set }))
 text_is_lawful (Numbered t) set =
     numbered_lawful _ _ t.first_line set (text_is_utf8 t.file) (text_fits t.file)
-text_is_lawful (Lined t) set =
-    lined_lawful _ _ t.first_byte t.lines.now set (IsUtf8-had _ t.utf8) t.fits t.cut
+text_is_lawful (Lined t) set = lined_lawful_with t set
 
 -- the line of a byte is there
 pub byte_has_line : (f : SourceFile) (byte : ℕ)

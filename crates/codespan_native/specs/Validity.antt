@@ -1,9 +1,11 @@
--- Which arguments are valid.
-use Rattle.std.specs.Prelude.{◌≡◌, ◌<◌, ◌≤◌, ℕ, All, true, List, [], ◌∷◌, length, slice_get, Some}
+-- Which arguments are valid, and which invalid one is named.
+use Rattle.std.specs.Prelude.{◌≡◌, ◌<◌, ◌≤◌, ℕ, true, List, [], ◌∷◌, length, Option, MatchOption}
+use Rattle.std.specs.List.{slice_index_or, HoldsAt, AllWithin}
 use Rattle.std.specs.Char.{InScalarRange}
 use Rattle.std.specs.Str.{IsUtf8}
-use Rattle.codespan_native.specs.declared.error.EmitError.{EmitError}
-use Rattle.codespan_native.specs.declared.error.EmitError.TheVariants.{Invalid, OutOfMemory}
+use Rattle.codespan_native.specs.declared.error.Argument.{Argument}
+use Rattle.codespan_native.specs.declared.error.Argument.TheVariants.{Abi, DisplayStyle, Layout, Spelling, Characters, SnippetStart, Character, Color, FileName, FileSource, FileLines, FileLoci, Severity, Code, Message, LabelStyle, LabelMessage, LabelFile, Note}
+use Rattle.codespan_native.specs.declared.raw.Detail.{Detail}
 use Rattle.codespan_native.specs.declared.raw.RawChars.{RawChars}
 use Rattle.codespan_native.specs.declared.raw.RawColorSpec.{RawColorSpec}
 use Rattle.codespan_native.specs.declared.raw.RawConfig.{RawConfig}
@@ -13,124 +15,156 @@ use Rattle.codespan_native.specs.declared.raw.RawLabel.{RawLabel}
 use Rattle.codespan_native.specs.declared.raw.RawLine.{RawLine}
 use Rattle.codespan_native.specs.declared.raw.RawStyles.{RawStyles}
 use Rattle.codespan_native.specs.declared.raw.RawText.{RawText}
-use Rattle.codespan_native.specs.SourceTexts.{are_lines, ascends}
+use Rattle.codespan_native.specs.GivenLines.{are_lines, ascends}
 
--- ---- the configuration
+-- ---- values
 
--- the caller's characters
-pub record AreOwnChars (c : RawChars) : Type 0 where
-  pub snippet_start : IsUtf8 c.snippet_start.now
-  pub source_border_left : InScalarRange c.source_border_left
-  pub source_border_left_break : InScalarRange c.source_border_left_break
-  pub note_bullet : InScalarRange c.note_bullet
-  pub single_primary_caret : InScalarRange c.single_primary_caret
-  pub single_secondary_caret : InScalarRange c.single_secondary_caret
-  pub multi_primary_caret_start : InScalarRange c.multi_primary_caret_start
-  pub multi_primary_caret_end : InScalarRange c.multi_primary_caret_end
-  pub multi_secondary_caret_start : InScalarRange c.multi_secondary_caret_start
-  pub multi_secondary_caret_end : InScalarRange c.multi_secondary_caret_end
-  pub multi_top_left : InScalarRange c.multi_top_left
-  pub multi_top : InScalarRange c.multi_top
-  pub multi_bottom_left : InScalarRange c.multi_bottom_left
-  pub multi_bottom : InScalarRange c.multi_bottom
-  pub multi_left : InScalarRange c.multi_left
-  pub pointer_left : InScalarRange c.pointer_left
+-- the caller's characters, by their code points
+abbrev pub codes_of : RawChars → List ℕ
+codes_of c =
+    c.source_border_left ∷ c.source_border_left_break ∷ c.note_bullet ∷ c.single_primary_caret
+    ∷ c.single_secondary_caret ∷ c.multi_primary_caret_start ∷ c.multi_primary_caret_end
+    ∷ c.multi_secondary_caret_start ∷ c.multi_secondary_caret_end ∷ c.multi_top_left ∷ c.multi_top
+    ∷ c.multi_bottom_left ∷ c.multi_bottom ∷ c.multi_left ∷ c.pointer_left ∷ []
 
--- the choice of characters, and the caller's where they are chosen
-pub record AreValidChars (c : RawConfig) : Type 0 where
-  pub choice : c.characters ≤ 2
-  pub own : c.characters ≡ 2 → AreOwnChars c.chars
+-- the caller's styles
+abbrev pub color_specs_of : RawStyles → List RawColorSpec
+color_specs_of s =
+    s.header_bug ∷ s.header_error ∷ s.header_warning ∷ s.header_note ∷ s.header_help
+    ∷ s.header_message ∷ s.primary_label_bug ∷ s.primary_label_error ∷ s.primary_label_warning
+    ∷ s.primary_label_note ∷ s.primary_label_help ∷ s.secondary_label ∷ s.line_number
+    ∷ s.source_border ∷ s.note_bullet ∷ []
 
--- a style
+-- the colors of a style
 pub record IsColorSpec (s : RawColorSpec) : Type 0 where
   pub fg : s.fg ≤ 8
   pub bg : s.bg ≤ 8
-
--- the caller's styles
-pub record AreOwnStyles (s : RawStyles) : Type 0 where
-  pub header_bug : IsColorSpec s.header_bug
-  pub header_error : IsColorSpec s.header_error
-  pub header_warning : IsColorSpec s.header_warning
-  pub header_note : IsColorSpec s.header_note
-  pub header_help : IsColorSpec s.header_help
-  pub header_message : IsColorSpec s.header_message
-  pub primary_label_bug : IsColorSpec s.primary_label_bug
-  pub primary_label_error : IsColorSpec s.primary_label_error
-  pub primary_label_warning : IsColorSpec s.primary_label_warning
-  pub primary_label_note : IsColorSpec s.primary_label_note
-  pub primary_label_help : IsColorSpec s.primary_label_help
-  pub secondary_label : IsColorSpec s.secondary_label
-  pub line_number : IsColorSpec s.line_number
-  pub source_border : IsColorSpec s.source_border
-  pub note_bullet : IsColorSpec s.note_bullet
-
--- the configuration
-pub record IsValidConfig (c : RawConfig) : Type 0 where
-  pub abi : c.abi ≡ 1
-  pub display_style : c.display_style ≤ 2
-  pub layout : c.layout ≤ 1
-  pub spelling : c.spelling ≤ 3
-  pub chars : AreValidChars c
-  pub styles : c.spelling ≡ 2 → AreOwnStyles c.styles
-
--- ---- the files
 
 -- lines of a text, or none
 abbrev pub AreValidLines : List ℕ → ℕ → List RawLine → Type 0
 AreValidLines text first [] = Unit {0}
 AreValidLines text first (l ∷ ls) = are_lines text first (l ∷ ls) ≡ true
 
--- a file
-pub record IsValidFile (f : RawFile) : Type 0 where
-  pub name : IsUtf8 f.name.now
-  pub source : IsUtf8 f.source.now
-  pub lines : AreValidLines f.source.now f.first_byte f.lines.now
-  pub loci : ascends f.first_byte f.loci.now ≡ true
+-- facts of a file, of a label and of a note
+abbrev pub HasTextName : RawFile → Type 0
+HasTextName f = IsUtf8 f.name.now
 
--- ---- the diagnostic
+abbrev pub HasTextSource : RawFile → Type 0
+HasTextSource f = IsUtf8 f.source.now
 
--- a label
-pub record IsValidLabel (l : RawLabel) : Type 0 where
-  pub style : l.style ≤ 1
-  pub message : IsUtf8 l.message.now
+abbrev pub HasValidLines : RawFile → Type 0
+HasValidLines f = AreValidLines f.source.now f.first_byte f.lines.now
 
--- a text
+abbrev pub HasValidLoci : RawFile → Type 0
+HasValidLoci f = ascends f.first_byte f.loci.now ≡ true
+
+abbrev pub HasLabelStyle : RawLabel → Type 0
+HasLabelStyle l = l.style ≤ 1
+
+abbrev pub HasTextMessage : RawLabel → Type 0
+HasTextMessage l = IsUtf8 l.message.now
+
 abbrev pub IsValidText : RawText → Type 0
 IsValidText t = IsUtf8 t.bytes.now
 
--- the diagnostic
-pub record IsValidDiagnostic (d : RawDiagnostic) : Type 0 where
-  pub severity : d.severity ≤ 4
-  pub code : IsUtf8 d.code.now
-  pub message : IsUtf8 d.message.now
-  pub labels : All IsValidLabel d.labels.now
-  pub notes : All IsValidText d.notes.now
-
--- the label is of one of so many files, or of none
+-- the label is of one of so many files
 abbrev pub IsOfAFile : ℕ → RawLabel → Type 0
 IsOfAFile count l = l.file < count
 
-abbrev pub IsOfNoFile : ℕ → RawLabel → Type 0
-IsOfNoFile count l = count ≤ l.file
+-- ---- arguments
 
--- ---- all arguments
+-- the number of an argument
+abbrev pub number_of : Argument → ℕ
+number_of Abi = 1
+number_of DisplayStyle = 2
+number_of Layout = 3
+number_of Spelling = 4
+number_of Characters = 5
+number_of SnippetStart = 6
+number_of Character = 7
+number_of Color = 8
+number_of FileName = 9
+number_of FileSource = 10
+number_of FileLines = 11
+number_of FileLoci = 12
+number_of Severity = 13
+number_of Code = 14
+number_of Message = 15
+number_of LabelStyle = 16
+number_of LabelMessage = 17
+number_of LabelFile = 18
+number_of Note = 19
 
-pub record IsValid (files : List RawFile) (diagnostic : RawDiagnostic) (config : RawConfig)
-    : Type 0 where
-  pub valid_files : All IsValidFile files
-  pub valid_diagnostic : IsValidDiagnostic diagnostic
-  pub valid_config : IsValidConfig config
-  pub known_files : All (IsOfAFile (length files)) diagnostic.labels.now
+-- the fact holds of the value at this index, where there is one
+abbrev pub HoldsIfAt : {X : Type 0} → (X → Type 0) → List X → ℕ → Type 0
+HoldsIfAt {X} P xs i = (d : X) → i < length xs → P (slice_index_or xs i d)
 
--- ---- errors
+-- the first of these values of which the fact does not hold has this index
+abbrev pub IsFirstWithout : {X : Type 0} → (X → Type 0) → List X → ℕ → Type 0
+IsFirstWithout P xs i = (i < length xs) × HoldsAt (λ x. ¬ P x) xs i × AllWithin P xs 0 i
 
--- one of a list is wrong: that at this index
-pub record IsWrongAt {T : Type 0} (Wrong : T → Type 0) (xs : List T) (index : ℕ) : Type 0 where
-  pub x : T
-  pub is_there : slice_get xs index ≡ Some x
-  pub wrong : Wrong x
+-- that index, or the fact holds of all values
+abbrev pub FindsWithout : {X : Type 0} → (X → Type 0) → List X → Option ℕ → Type 0
+FindsWithout P xs r = MatchOption r (AllWithin P xs 0 (length xs)) (IsFirstWithout P xs)
 
--- no argument is invalid
-abbrev pub IsOutOfMemory : EmitError → Type 0
-IsOutOfMemory (Invalid argument index) = ⊥
-IsOutOfMemory OutOfMemory = Unit {0}
+-- the first index at which the fact does not hold
+pub record IsFirstInvalidIndex (Valid : ℕ → Type 0) (i : ℕ) : Type 0 where
+  pub invalid : ¬ Valid i
+  pub before : (j : ℕ) → j < i → Valid j
+
+-- that index, or the fact holds at all indices
+abbrev pub FindsInvalid : (ℕ → Type 0) → Option ℕ → Type 0
+FindsInvalid Valid r = MatchOption r ((i : ℕ) → Valid i) (IsFirstInvalidIndex Valid)
+
+module _ (files : List RawFile) (d : RawDiagnostic) (c : RawConfig) where
+  -- the argument is valid; of several, the one of this index
+  abbrev pub IsValidAt : Argument → ℕ → Type 0
+  IsValidAt Abi i = c.abi ≡ 1
+  IsValidAt DisplayStyle i = c.display_style ≤ 2
+  IsValidAt Layout i = c.layout ≤ 1
+  IsValidAt Spelling i = c.spelling ≤ 3
+  IsValidAt Characters i = c.characters ≤ 2
+  IsValidAt SnippetStart i = c.characters ≡ 2 → IsUtf8 c.chars.snippet_start.now
+  IsValidAt Character i = c.characters ≡ 2 → HoldsIfAt InScalarRange (codes_of c.chars) i
+  IsValidAt Color i = c.spelling ≡ 2 → HoldsIfAt IsColorSpec (color_specs_of c.styles) i
+  IsValidAt FileName i = HoldsIfAt HasTextName files i
+  IsValidAt FileSource i = HoldsIfAt HasTextSource files i
+  IsValidAt FileLines i = HoldsIfAt HasValidLines files i
+  IsValidAt FileLoci i = HoldsIfAt HasValidLoci files i
+  IsValidAt Severity i = d.severity ≤ 4
+  IsValidAt Code i = IsUtf8 d.code.now
+  IsValidAt Message i = IsUtf8 d.message.now
+  IsValidAt LabelStyle i = HoldsIfAt HasLabelStyle d.labels.now i
+  IsValidAt LabelMessage i = HoldsIfAt HasTextMessage d.labels.now i
+  IsValidAt LabelFile i = HoldsIfAt (IsOfAFile (length files)) d.labels.now i
+  IsValidAt Note i = HoldsIfAt IsValidText d.notes.now i
+
+  -- every argument is valid
+  abbrev pub AreValid : Type 0
+  AreValid = (a : Argument) (i : ℕ) → IsValidAt a i
+
+  -- the argument, of several the one of this index, is invalid, and each one before it is valid:
+  -- those of lower indices, and arguments of lower numbers
+  pub record IsFirstInvalid (a : Argument) (i : ℕ) : Type 0 where
+    pub invalid : ¬ IsValidAt a i
+    pub before : (j : ℕ) → j < i → IsValidAt a j
+    pub arguments_before : (b : Argument) (j : ℕ) → number_of b < number_of a → IsValidAt b j
+
+  -- there is an invalid argument, and the first one is such an argument
+  abbrev pub FirstInvalidIs : (Argument → Type 0) → Type 0
+  FirstInvalidIs Such = (a : Argument) × (i : ℕ) × Such a × IsFirstInvalid a i
+
+  -- the detail names the first invalid argument, by its number and its index
+  pub record NamesFirstInvalid (detail : Detail) : Type 0 where
+    pub argument : Argument
+    pub number_is : detail.argument ≡ number_of argument
+    pub first : IsFirstInvalid argument detail.index
+
+-- the detail that names no argument
+abbrev pub no_detail : Detail
+no_detail = record { argument = 0; index = 0 }
+
+-- the status of a call whose first invalid argument is this one
+abbrev pub status_for : Argument → ℕ
+status_for LabelFile = 3
+status_for _ = 4

@@ -1,4 +1,4 @@
-//! The structs of C, checked and converted to the types of `codespan_reporting`.
+//! The structs of C, which are valid, converted to the types of `codespan_reporting`.
 
 mod chars;
 mod config;
@@ -8,5 +8,5 @@ mod styles;
 mod text;
 
 pub use config::{Settings, Spelling, convert_config};
-pub use diagnostic::{convert_diagnostic, label_without_file};
+pub use diagnostic::convert_diagnostic;
 pub use files::convert_files;

@@ -1,23 +1,24 @@
 //! The call.
 
-ghost use Rattle.std.specs.Prelude.{◌≡◌, ◌≤◌, length, IfErr, IfOk};
-ghost use Rattle.codespan_native.specs.Meaning.{Means, output_bytes};
+ghost use Rattle.std.specs.Prelude.{◌≡◌, ◌≢◌, ◌≤◌, ◌↔◌, IfOk};
+ghost use Rattle.codespan_native.specs.declared.error.Argument.TheVariants.{LabelFile};
+ghost use Rattle.codespan_native.specs.Meaning.{Means, NoLookupFails, output_bytes};
 ghost use Rattle.codespan_native.specs.Results.{IsTooSmall, IsUntouched, IsWritten};
-ghost use Rattle.codespan_native.specs.Validity.{IsOfNoFile, IsOutOfMemory, IsValid, IsWrongAt};
+ghost use Rattle.codespan_native.specs.Validity.{AreValid, FirstInvalidIs, NamesFirstInvalid, no_detail};
 
-use crate::convert::{convert_config, convert_diagnostic, convert_files, label_without_file};
-use crate::error::{Argument, EmitError};
-use crate::raw::{ABI, Detail, RawConfig, RawDiagnostic, RawFile};
+use crate::convert::{convert_config, convert_diagnostic, convert_files};
+use crate::error::OutOfMemory;
+use crate::raw::{Detail, RawConfig, RawDiagnostic, RawFile};
 use crate::render::render;
-use crate::status::{
-    FILE_MISSING, INVALID, LABEL_FILE, NO_ARGUMENT, OK, OUT_OF_MEMORY, TOO_SMALL, argument_number,
-};
+use crate::status::{NO_ARGUMENT, OK, OUT_OF_MEMORY, TOO_SMALL, status_for};
+use crate::validate::first_invalid;
 use std::alloc::Global;
 
 /// Renders a diagnostic over files into `out`, and returns a status, a constant of [`crate::status`].
 ///
-/// Where the output fits it is the first `written` bytes of `out`; otherwise `out` is unchanged. If it is too small, `written` is the
-/// length of the output. `detail` says which argument is invalid, or which label is of no file.
+/// The arguments are looked at first, in the order of their numbers. Where one is invalid nothing is rendered, and `detail` names the first
+/// such; otherwise it names none. Where the output fits it is the first `written` bytes of `out`; otherwise `out` is unchanged. If it is too
+/// small, `written` is the length of the output.
 pub fn emit(
     alloc: Global,
     files: &[RawFile<'_>],
@@ -34,50 +35,47 @@ pub fn emit(
         → IsTooSmall (output_bytes files.now diagnostic.now config.now)
         out.old out.new written.new }
     ensures untouched { 2 ≤ result → IsUntouched out.old out.new written.new }
-    ensures valid { IsValid files.now diagnostic.now config.now → result ≤ 2 }
-    ensures missing { result ≡ 3
-        → IsWrongAt (IsOfNoFile (length files.now)) diagnostic.now.labels.now detail.new.index }
+    ensures valid { (result ≤ 2) ↔ AreValid files.now diagnostic.now config.now }
+    ensures missing { (result ≡ 3)
+        ↔ FirstInvalidIs files.now diagnostic.now config.now (λ a. a ≡ LabelFile) }
+    ensures invalid { (result ≡ 4)
+        ↔ FirstInvalidIs files.now diagnostic.now config.now (λ a. a ≢ LabelFile) }
+    ensures named { 3 ≤ result
+        → NamesFirstInvalid files.now diagnostic.now config.now detail.new }
+    ensures none_named { result ≤ 2 → detail.new ≡ no_detail }
+    ensures found { result ≤ 2 → NoLookupFails files.now diagnostic.now }
     ensures means { result ≤ 1 → config.now.display_style ≡ 0
         → Means files.now diagnostic.now config.now }
     ensures status { result ≤ 4 }
 {
     *written = 0;
+    if let Some(invalid) = first_invalid(files, diagnostic, config) {
+        detail.argument = invalid.argument.number();
+        detail.index = invalid.index;
+        return status_for(invalid.argument);
+    }
     detail.argument = NO_ARGUMENT;
     detail.index = 0;
-    if config.abi != ABI {
-        detail.argument = argument_number(Argument::Abi);
-        return INVALID;
-    }
-    if let Some(index) = label_without_file(files.len(), diagnostic.labels) {
-        detail.argument = LABEL_FILE;
-        detail.index = index;
-        return FILE_MISSING;
-    }
     match output_of(alloc, files, diagnostic, config) {
         Ok(output) => copy_out(output.as_slice(), out, written),
-        Err(EmitError::Invalid(argument, index)) => {
-            detail.argument = argument_number(argument);
-            detail.index = index;
-            INVALID
-        }
-        Err(EmitError::OutOfMemory) => OUT_OF_MEMORY,
+        Err(OutOfMemory) => OUT_OF_MEMORY,
     }
 }
 
-/// Returns the bytes of the output that the arguments ask for.
+/// Returns the bytes of the output that valid arguments ask for.
 fn output_of(
     alloc: Global,
     files: &[RawFile<'_>],
     diagnostic: &RawDiagnostic<'_>,
     config: &RawConfig<'_>,
-) -> Result<Vec<u8>, EmitError>
+) -> Result<Vec<u8>, OutOfMemory>
+    requires { AreValid files.now diagnostic.now config.now }
     ensures value { IfOk result (λ output.
         output.items ≡ output_bytes files.now diagnostic.now config.now) }
-    ensures valid { IsValid files.now diagnostic.now config.now → IfErr result IsOutOfMemory }
     ensures means { IfOk result (λ _. config.now.display_style ≡ 0
         → Means files.now diagnostic.now config.now) }
 {
-    let settings = convert_config(config)?;
+    let settings = convert_config(config);
     let database = convert_files(alloc, files)?;
     let diagnostic = convert_diagnostic(alloc, files, diagnostic)?;
     render(alloc, &settings, &database, &diagnostic)

@@ -1,82 +1,82 @@
-//! Which arguments are invalid.
-
-ghost use Rattle.std.specs.Prelude.{◌≡◌};
-ghost use Rattle.codespan_native.specs.declared.error.EmitError.TheVariants.{OutOfMemory};
+//! Arguments that are invalid, and failed allocations.
 
 use codespan_reporting::files::Error;
 use std::alloc::{AllocError, AllocFailed};
 
-/// An argument that can be invalid.
+/// An argument that can be invalid, by its number in the header.
 #[derive(Clone, Copy, Debug, PartialEq, Eq)]
 pub enum Argument {
     /// The number of the layouts is another one.
-    Abi,
+    Abi = 1,
     /// The style of the output is none.
-    DisplayStyle,
+    DisplayStyle = 2,
     /// The layout is none.
-    Layout,
+    Layout = 3,
     /// The spelling of style marks is none.
-    Spelling,
+    Spelling = 4,
     /// The choice of characters is none.
-    Characters,
+    Characters = 5,
     /// The text before a locus is not UTF-8.
-    SnippetStart,
+    SnippetStart = 6,
     /// A character is no Unicode scalar value.
-    Character,
+    Character = 7,
     /// A color is none.
-    Color,
+    Color = 8,
     /// A file's name is not UTF-8.
-    FileName,
+    FileName = 9,
     /// A file's source is not UTF-8.
-    FileSource,
+    FileSource = 10,
     /// A file's lines are not those of a text.
-    FileLines,
+    FileLines = 11,
     /// A file's loci do not ascend.
-    FileLoci,
+    FileLoci = 12,
     /// The severity is none.
-    Severity,
+    Severity = 13,
     /// The code is not UTF-8.
-    Code,
+    Code = 14,
     /// The message is not UTF-8.
-    Message,
+    Message = 15,
     /// A label's style is none.
-    LabelStyle,
+    LabelStyle = 16,
     /// A label's message is not UTF-8.
-    LabelMessage,
+    LabelMessage = 17,
+    /// A label's file is none of the files.
+    LabelFile = 18,
     /// A note is not UTF-8.
-    Note,
+    Note = 19,
 }
 
-/// Why nothing is rendered.
-#[derive(Debug, Drop)]
-pub enum EmitError {
-    /// An argument is invalid; of several, the one at this index.
-    Invalid(Argument, usize),
-    /// An allocation failed.
-    OutOfMemory,
+impl Argument {
+    ghost use Rattle.std.specs.Prelude.{◌≡◌};
+    ghost use Rattle.codespan_native.specs.Validity.{number_of};
+
+    /// Returns the number.
+    pub fn number(self) -> u32
+        ensures { result ≡ number_of self }
+    {
+        self as u32
+    }
 }
+
+/// An allocation failed.
+#[derive(Clone, Copy, Debug, PartialEq, Eq)]
+pub struct OutOfMemory;
 
 /// An error of a file database: all that the calls of this crate return are out of memory.
-impl From<Error> for EmitError {
-    ghost from_gives = { λ _ error. error ≡ OutOfMemory };
-
-    fn from(_error: Error) -> EmitError {
-        EmitError::OutOfMemory
+impl From<Error> for OutOfMemory {
+    fn from(_error: Error) -> OutOfMemory {
+        OutOfMemory
     }
 }
 
-impl From<AllocError> for EmitError {
-    ghost from_gives = { λ _ error. error ≡ OutOfMemory };
-
-    fn from(_error: AllocError) -> EmitError {
-        EmitError::OutOfMemory
+impl From<AllocError> for OutOfMemory {
+    fn from(_error: AllocError) -> OutOfMemory {
+        OutOfMemory
     }
 }
 
-impl<T: Drop> From<AllocFailed<T>> for EmitError {
-    ghost from_gives = { λ _ error. error ≡ OutOfMemory };
-
-    fn from(_error: AllocFailed<T>) -> EmitError {
-        EmitError::OutOfMemory
+impl<T: Drop> From<AllocFailed<T>> for OutOfMemory {
+    fn from(_error: AllocFailed<T>) -> OutOfMemory {
+        OutOfMemory
     }
 }

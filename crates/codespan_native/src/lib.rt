@@ -14,3 +14,4 @@ pub mod source_file;
 pub mod source_files;
 pub mod status;
 mod tests;
+pub mod validate;

@@ -129,7 +129,7 @@ pub struct RawChars<'a> {
 }
 
 /// A style of text.
-#[derive(Drop)]
+#[derive(Clone, Copy)]
 #[repr(C)]
 pub struct RawColorSpec {
     /// 0: none, 1 to 8: black, red, green, yellow, blue, magenta, cyan, white.

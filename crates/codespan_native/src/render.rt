@@ -1,9 +1,8 @@
 //! The bytes of the output.
 
-ghost use Rattle.std.specs.Prelude.{◌≡◌, ◌++◌, true, IfOk, OnOk, OnErr, IsErrOf};
+ghost use Rattle.std.specs.Prelude.{◌≡◌, ◌++◌, true, IfOk, OnOk};
 ghost use Rattle.codespan_base.specs.Streams.{no_marks, spelled};
 ghost use Rattle.codespan_base.specs.WriterLaw.{is_known, with_written};
-ghost use Rattle.codespan_native.specs.declared.error.EmitError.TheVariants.{OutOfMemory};
 ghost use Rattle.codespan_base.specs.declared.term.config.DisplayStyle.TheVariants.{Rich};
 ghost use Rattle.codespan_laws.specs.Meanings.{MeansLabels};
 ghost use Rattle.codespan_native.specs.MarkBytes.{mark_spelling};
@@ -13,7 +12,7 @@ ghost use Rattle.codespan_native.specs.SourceTexts.{database_of};
 ghost use Rattle.codespan_native.specs.Spellings.{picture_of, spelling_by_kind};
 
 use crate::convert::{Settings, Spelling};
-use crate::error::EmitError;
+use crate::error::OutOfMemory;
 use crate::mark_writer::MarkWriter;
 use crate::source_files::SourceFiles;
 use codespan_reporting::diagnostic::Diagnostic;
@@ -30,20 +29,19 @@ const INITIAL_CAPACITY: usize = 1024;
 ///
 /// # Errors
 ///
-/// [`EmitError::OutOfMemory`] where an allocation fails.
+/// [`OutOfMemory`] where an allocation fails.
 pub fn render(
     alloc: Global,
     settings: &Settings<'_>,
     files: &SourceFiles<'_>,
     diagnostic: &Diagnostic<usize>,
-) -> Result<Vec<u8>, EmitError>
+) -> Result<Vec<u8>, OutOfMemory>
     ensures value { IfOk result (λ bytes. bytes.items ≡ spelled
         (spelling_by_kind settings.now.spelling)
         (picture_of settings.now.config (sources_of files.now) diagnostic.now)) }
     ensures means { IfOk result (λ _. settings.now.config.display_style ≡ Rich
         → MeansLabels settings.now.config settings.now.config
         (database_of (sources_of files.now)) diagnostic.now) }
-    ensures failed { OnErr result (IsErrOf result OutOfMemory) }
 {
     let room = Vec::with_capacity(alloc, INITIAL_CAPACITY)?;
     match &settings.spelling {
@@ -59,12 +57,11 @@ fn render_plain(
     config: &Config<'_>,
     files: &SourceFiles<'_>,
     diagnostic: &Diagnostic<usize>,
-) -> Result<Vec<u8>, EmitError>
+) -> Result<Vec<u8>, OutOfMemory>
     ensures value { IfOk result (λ bytes. bytes.items ≡ room.items ++ spelled no_marks
         (picture_of config.now (sources_of files.now) diagnostic.now)) }
     ensures means { IfOk result (λ _. config.now.display_style ≡ Rich
         → MeansLabels config.now config.now (database_of (sources_of files.now)) diagnostic.now) }
-    ensures failed { OnErr result (IsErrOf result OutOfMemory) }
 {
     let mut writer = PlainWriter::new(room);
     write_to(&mut writer, config, files, diagnostic)?;
@@ -78,13 +75,12 @@ fn render_ansi(
     config: &Config<'_>,
     files: &SourceFiles<'_>,
     diagnostic: &Diagnostic<usize>,
-) -> Result<Vec<u8>, EmitError>
+) -> Result<Vec<u8>, OutOfMemory>
     ensures value { IfOk result (λ bytes. bytes.items ≡ room.items
         ++ spelled (ansi_spelling styles.now)
         (picture_of config.now (sources_of files.now) diagnostic.now)) }
     ensures means { IfOk result (λ _. config.now.display_style ≡ Rich
         → MeansLabels config.now config.now (database_of (sources_of files.now)) diagnostic.now) }
-    ensures failed { OnErr result (IsErrOf result OutOfMemory) }
 {
     let mut writer = StylesWriter::new(Ansi::new(room), styles);
     write_to(&mut writer, config, files, diagnostic)?;
@@ -97,12 +93,11 @@ fn render_marked(
     config: &Config<'_>,
     files: &SourceFiles<'_>,
     diagnostic: &Diagnostic<usize>,
-) -> Result<Vec<u8>, EmitError>
+) -> Result<Vec<u8>, OutOfMemory>
     ensures value { IfOk result (λ bytes. bytes.items ≡ room.items ++ spelled mark_spelling
         (picture_of config.now (sources_of files.now) diagnostic.now)) }
     ensures means { IfOk result (λ _. config.now.display_style ≡ Rich
         → MeansLabels config.now config.now (database_of (sources_of files.now)) diagnostic.now) }
-    ensures failed { OnErr result (IsErrOf result OutOfMemory) }
 {
     let mut writer = MarkWriter::new(room);
     write_to(&mut writer, config, files, diagnostic)?;
@@ -113,22 +108,21 @@ fn render_marked(
 ///
 /// # Errors
 ///
-/// [`EmitError::OutOfMemory`]. The vector fails for want of memory alone, the names are texts, and no lookup of a file that exists fails.
+/// [`OutOfMemory`]. The vector fails for want of memory alone, the names are texts, and no lookup of a file that exists fails.
 fn write_to<W: WriteStyle>(
     writer: &mut W,
     config: &Config<'_>,
     files: &SourceFiles<'_>,
     diagnostic: &Diagnostic<usize>,
-) -> Result<(), EmitError>
+) -> Result<(), OutOfMemory>
     ensures value { is_known (W.sink writer.old) ≡ true → OnOk result (W.sink writer.new
         ≡ with_written (W.sink writer.old)
         (picture_of config.now (sources_of files.now) diagnostic.now)) }
     ensures means { IfOk result (λ _. config.now.display_style ≡ Rich
         → MeansLabels config.now config.now (database_of (sources_of files.now)) diagnostic.now) }
-    ensures failed { OnErr result (IsErrOf result OutOfMemory) }
 {
     match emit_to_write_style(writer, config, files, diagnostic) {
         Ok(()) => Ok(()),
-        Err(_) => Err(EmitError::OutOfMemory),
+        Err(_) => Err(OutOfMemory),
     }
 }

@@ -1,6 +1,9 @@
-//! Statuses and arguments by their numbers, and their texts.
+//! Statuses by their numbers, and the texts of statuses and arguments.
 
-ghost use Rattle.std.specs.Prelude.{◌≤◌};
+ghost use Rattle.std.specs.Prelude.{◌≡◌, ◌≤◌};
+ghost use Rattle.codespan_native.specs.Results.{IsTooSmall, IsWritten};
+ghost use Rattle.codespan_native.specs.StatusTexts.{argument_text, status_text, text_for};
+ghost use Rattle.codespan_native.specs.Validity.{status_for};
 
 use crate::emit::copy_out;
 use crate::error::Argument;
@@ -14,7 +17,7 @@ pub const TOO_SMALL: u32 = 1;
 /// An allocation failed.
 pub const OUT_OF_MEMORY: u32 = 2;
 
-/// A label is of no file.
+/// A label is of no file, and each argument before is valid.
 pub const FILE_MISSING: u32 = 3;
 
 /// An argument is invalid.
@@ -23,30 +26,13 @@ pub const INVALID: u32 = 4;
 /// The number of no argument.
 pub const NO_ARGUMENT: u32 = 0;
 
-/// The number of a label's file.
-pub const LABEL_FILE: u32 = 18;
-
-/// Returns the number of an argument.
-pub fn argument_number(argument: Argument) -> u32 {
+/// Returns the status of a call whose first invalid argument is this one.
+pub fn status_for(argument: Argument) -> u32
+    ensures { result ≡ status_for argument }
+{
     match argument {
-        Argument::Abi => 1,
-        Argument::DisplayStyle => 2,
-        Argument::Layout => 3,
-        Argument::Spelling => 4,
-        Argument::Characters => 5,
-        Argument::SnippetStart => 6,
-        Argument::Character => 7,
-        Argument::Color => 8,
-        Argument::FileName => 9,
-        Argument::FileSource => 10,
-        Argument::FileLines => 11,
-        Argument::FileLoci => 12,
-        Argument::Severity => 13,
-        Argument::Code => 14,
-        Argument::Message => 15,
-        Argument::LabelStyle => 16,
-        Argument::LabelMessage => 17,
-        Argument::Note => 19,
+        Argument::LabelFile => FILE_MISSING,
+        _ => INVALID,
     }
 }
 
@@ -54,6 +40,9 @@ pub fn argument_number(argument: Argument) -> u32 {
 ///
 /// Of [`INVALID`] it says what the argument must be.
 pub fn write_status(status: u32, argument: u32, out: &mut [u8], written: &mut usize) -> u32
+    ensures ok { result ≡ 0 → IsWritten (text_for status argument) out.old out.new written.new }
+    ensures too_small { result ≡ 1
+        → IsTooSmall (text_for status argument) out.old out.new written.new }
     ensures status { result ≤ 1 }
 {
     let text = if status == INVALID {
@@ -65,7 +54,9 @@ pub fn write_status(status: u32, argument: u32, out: &mut [u8], written: &mut us
 }
 
 /// Returns what a status means.
-fn status_text(status: u32) -> &'static str {
+fn status_text(status: u32) -> &'static str
+    ensures { result.now ≡ status_text status }
+{
     match status {
         0 => "the output was written",
         1 => "the output does not fit into the room",
@@ -76,7 +67,9 @@ fn status_text(status: u32) -> &'static str {
 }
 
 /// Returns what an argument must be.
-fn argument_text(argument: u32) -> &'static str {
+fn argument_text(argument: u32) -> &'static str
+    ensures { result.now ≡ argument_text argument }
+{
     match argument {
         1 => "the number of the layouts must be that of the library",
         2 => "the display style must be one of those of the header",

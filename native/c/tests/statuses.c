@@ -98,7 +98,7 @@ static void set_label_file(struct sample *s) { s->labels[1].file = 2; }
 static void set_greatest_file(struct sample *s) { s->labels[0].file = SIZE_MAX; }
 static void set_note(struct sample *s) { s->notes[1] = cut(); }
 
-/* Two things at once: a missing file is reported before others, and the ABI number before it. */
+/* Two things at once: the argument with the lower number is named, and the lower index. */
 static void set_file_and_severity(struct sample *s) {
     set_label_file(s);
     set_severity(s);
@@ -106,6 +106,22 @@ static void set_file_and_severity(struct sample *s) {
 static void set_abi_and_file(struct sample *s) {
     set_abi(s);
     set_label_file(s);
+}
+static void set_note_and_file(struct sample *s) {
+    set_note(s);
+    set_label_file(s);
+}
+static void set_source_and_later_name(struct sample *s) {
+    set_file_source(s);
+    set_file_name(s);
+}
+static void set_two_files(struct sample *s) {
+    set_label_file(s);
+    set_greatest_file(s);
+}
+static void set_two_notes(struct sample *s) {
+    set_note(s);
+    s->notes[0] = cut();
 }
 
 struct wrong {
@@ -141,8 +157,12 @@ static const struct wrong WRONG[] = {
     {set_label_file, CODESPAN_FILE_MISSING, {CODESPAN_ARGUMENT_LABEL_FILE, 1}},
     {set_greatest_file, CODESPAN_FILE_MISSING, {CODESPAN_ARGUMENT_LABEL_FILE, 0}},
     {set_note, CODESPAN_INVALID, {CODESPAN_ARGUMENT_NOTE, 1}},
-    {set_file_and_severity, CODESPAN_FILE_MISSING, {CODESPAN_ARGUMENT_LABEL_FILE, 1}},
+    {set_file_and_severity, CODESPAN_INVALID, {CODESPAN_ARGUMENT_SEVERITY, 0}},
     {set_abi_and_file, CODESPAN_INVALID, {CODESPAN_ARGUMENT_ABI, 0}},
+    {set_note_and_file, CODESPAN_FILE_MISSING, {CODESPAN_ARGUMENT_LABEL_FILE, 1}},
+    {set_source_and_later_name, CODESPAN_INVALID, {CODESPAN_ARGUMENT_FILE_NAME, 1}},
+    {set_two_files, CODESPAN_FILE_MISSING, {CODESPAN_ARGUMENT_LABEL_FILE, 0}},
+    {set_two_notes, CODESPAN_INVALID, {CODESPAN_ARGUMENT_NOTE, 0}},
 };
 
 enum { WRONG_LENGTH = sizeof WRONG / sizeof WRONG[0], ROOM = 4096 };

@@ -1,69 +1,59 @@
 //! The caller's styles.
 
-ghost use Rattle.std.specs.Prelude.{◌≡◌, ◌≤◌, IfErr, IfOk};
+ghost use Rattle.std.specs.Prelude.{◌≡◌};
 ghost use Rattle.codespan_native.specs.Meaning.{color_of, color_spec_of, own_styles};
-ghost use Rattle.codespan_native.specs.Validity.{AreOwnStyles, IsColorSpec, IsOutOfMemory};
 
-use crate::error::{Argument, EmitError};
 use crate::raw::{RawColorSpec, RawStyles};
 use codespan_reporting::term::{Color, ColorSpec, Styles};
 
 /// Returns the caller's styles.
-///
-/// # Errors
-///
-/// [`EmitError::Invalid`] where a color is none.
-pub fn convert_styles(raw: &RawStyles) -> Result<Styles, EmitError>
-    ensures value { IfOk result (λ styles. styles ≡ own_styles raw.now) }
-    ensures valid { AreOwnStyles raw.now → IfErr result IsOutOfMemory }
+pub fn convert_styles(raw: &RawStyles) -> Styles
+    ensures { result ≡ own_styles raw.now }
 {
-    Ok(Styles {
-        header_bug: color_spec_of(&raw.header_bug, 0)?,
-        header_error: color_spec_of(&raw.header_error, 1)?,
-        header_warning: color_spec_of(&raw.header_warning, 2)?,
-        header_note: color_spec_of(&raw.header_note, 3)?,
-        header_help: color_spec_of(&raw.header_help, 4)?,
-        header_message: color_spec_of(&raw.header_message, 5)?,
-        primary_label_bug: color_spec_of(&raw.primary_label_bug, 6)?,
-        primary_label_error: color_spec_of(&raw.primary_label_error, 7)?,
-        primary_label_warning: color_spec_of(&raw.primary_label_warning, 8)?,
-        primary_label_note: color_spec_of(&raw.primary_label_note, 9)?,
-        primary_label_help: color_spec_of(&raw.primary_label_help, 10)?,
-        secondary_label: color_spec_of(&raw.secondary_label, 11)?,
-        line_number: color_spec_of(&raw.line_number, 12)?,
-        source_border: color_spec_of(&raw.source_border, 13)?,
-        note_bullet: color_spec_of(&raw.note_bullet, 14)?,
-    })
+    Styles {
+        header_bug: color_spec_of(&raw.header_bug),
+        header_error: color_spec_of(&raw.header_error),
+        header_warning: color_spec_of(&raw.header_warning),
+        header_note: color_spec_of(&raw.header_note),
+        header_help: color_spec_of(&raw.header_help),
+        header_message: color_spec_of(&raw.header_message),
+        primary_label_bug: color_spec_of(&raw.primary_label_bug),
+        primary_label_error: color_spec_of(&raw.primary_label_error),
+        primary_label_warning: color_spec_of(&raw.primary_label_warning),
+        primary_label_note: color_spec_of(&raw.primary_label_note),
+        primary_label_help: color_spec_of(&raw.primary_label_help),
+        secondary_label: color_spec_of(&raw.secondary_label),
+        line_number: color_spec_of(&raw.line_number),
+        source_border: color_spec_of(&raw.source_border),
+        note_bullet: color_spec_of(&raw.note_bullet),
+    }
 }
 
-/// Returns the style of these numbers, which is that of this index.
-fn color_spec_of(raw: &RawColorSpec, index: usize) -> Result<ColorSpec, EmitError>
-    ensures value { IfOk result (λ spec. spec ≡ color_spec_of raw.now) }
-    ensures valid { IsColorSpec raw.now → IfErr result IsOutOfMemory }
+/// Returns the style of these numbers.
+fn color_spec_of(raw: &RawColorSpec) -> ColorSpec
+    ensures { result ≡ color_spec_of raw.now }
 {
-    Ok(ColorSpec {
-        fg: color_of(raw.fg, index)?,
-        bg: color_of(raw.bg, index)?,
+    ColorSpec {
+        fg: color_of(raw.fg),
+        bg: color_of(raw.bg),
         bold: raw.bold != 0,
         intense: raw.intense != 0,
-    })
+    }
 }
 
-/// Returns the color of this number, in the style of this index.
-fn color_of(number: u32, index: usize) -> Result<Option<Color>, EmitError>
-    ensures value { IfOk result (λ color. color ≡ color_of number) }
-    ensures valid { number ≤ 8 → IfErr result IsOutOfMemory }
+/// Returns the color of this number.
+fn color_of(number: u32) -> Option<Color>
+    ensures { result ≡ color_of number }
 {
     match number {
-        0 => Ok(None),
-        1 => Ok(Some(Color::Black)),
-        2 => Ok(Some(Color::Red)),
-        3 => Ok(Some(Color::Green)),
-        4 => Ok(Some(Color::Yellow)),
-        5 => Ok(Some(Color::Blue)),
-        6 => Ok(Some(Color::Magenta)),
-        7 => Ok(Some(Color::Cyan)),
-        8 => Ok(Some(Color::White)),
-        _ => Err(EmitError::Invalid(Argument::Color, index)),
+        0 => None,
+        1 => Some(Color::Black),
+        2 => Some(Color::Red),
+        3 => Some(Color::Green),
+        4 => Some(Color::Yellow),
+        5 => Some(Color::Blue),
+        6 => Some(Color::Magenta),
+        7 => Some(Color::Cyan),
+        _ => Some(Color::White),
     }
 }

@@ -59,6 +59,8 @@ static void check_outcome(const struct fuzz_case *made, const struct call *call,
         REQUIRE(outcome->detail.index < call->diagnostic->labels_length);
         REQUIRE(call->diagnostic->labels[outcome->detail.index].file >= call->files_length);
     }
+    if (outcome->status == CODESPAN_INVALID)
+        REQUIRE(outcome->detail.argument != CODESPAN_ARGUMENT_LABEL_FILE);
     if (made->is_valid && made->labels_unfiled > 0)
         REQUIRE(outcome->status == CODESPAN_FILE_MISSING);
     else if (made->is_valid)

@@ -8,5 +8,5 @@ pub loop-file-preserved : goal.loop-file-preserved
 loop-file-preserved c =
     c.in_ok-add.ensures.ok
     ∙ ap (λ xs. xs ++ source_of c.in_ok-file_of.field-0 ∷ []) c.loop-file.invariant
-    ∙ ap (λ s. map source_in (take c.loop-file.file-index c.args.raw.now) ++ s ∷ []) c.in_ok-file_of.ensures.value
+    ∙ ap (λ s. map source_in (take c.loop-file.file-index c.args.raw.now) ++ s ∷ []) c.in_ok-file_of.ensures
     ∙ sym (map_more source_in c.args.raw.now c.loop-file.file-index _ (omega arith))
