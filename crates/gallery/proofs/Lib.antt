@@ -5,11 +5,7 @@ pub mod LastCase
 pub mod LineByLine
 -- what holds over the tables of a case
 pub mod Alone
--- what a writer of inks tells
-pub mod Telling
--- glyphs one by one
-pub mod Texts
--- what is painted is the stream of a picture
-pub mod Painting
+-- the runs of a case are those of its output
+pub mod Runs
 -- what the outcome of a run tells
 pub mod Outcomes
