@@ -8,6 +8,7 @@ from inks import SHOWN, document, glyphs
 
 ROOT = pathlib.Path(__file__).resolve().parents[2]
 PICTURES = ROOT / 'docs/pictures'
+PAGE = PICTURES / 'gallery.html'
 GALLERY = ROOT / 'crates/gallery'
 
 LETTERS = {'n': '\n', 'r': '\r', 't': '\t', '0': '\0', '\\': '\\'}

@@ -1,5 +1,5 @@
 -- The streams of rows are texts.
-use Rattle.std.proofs.Common.{◌≡◌, ℕ, zero, suc, ◌+◌, ◌-◌, ◌<◌, ◌/◌, ◌%◌, Bool, true, false, ◌&&◌, ◌==◌, List, [], ◌∷◌, ◌++◌, flat_map, replicate, Option, Some, None, refl, sym, subst, arith}
+use Rattle.std.proofs.Common.{◌≡◌, ℕ, zero, suc, ◌+◌, ◌-◌, ◌<◌, ◌/◌, ◌%◌, Bool, true, false, ◌&&◌, ◌==◌, List, [], ◌∷◌, ◌++◌, flat_map, map, replicate, append_assoc, append-nil, Option, Some, None, refl, sym, subst, arith}
 use Rattle.std.specs.Prelude.{Contains, codes, decimal, nat_lt, nat_le, if◌then◌else◌, IfSome}
 use Rattle.std.specs.Char.{IsScalar, encode_utf8, len_utf8}
 use Rattle.std.specs.Fmt.{digits, digits_onto, digit_glyph}
@@ -18,7 +18,7 @@ use Rattle.codespan_base.specs.declared.diagnostic.Severity.TheVariants.{Bug, Er
 use Rattle.codespan_base.specs.declared.term.config.chars.Chars.{Chars}
 use Rattle.codespan_base.specs.SnippetStarts.{start_text}
 use Rattle.codespan_base.specs.Labels.{Labelled, LaneMark, MultiLabel, Top, Left, Bottom}
-use Rattle.codespan_base.specs.Streams.{Stream, StyleMark, Header, HeaderMessage, NoteBullet, SourceBorder, LabelMark, Reset, one_mark, glyph, bytes, blanks, space, repeated, newline, text_of}
+use Rattle.codespan_base.specs.Streams.{Stream, Byte, Mark, Slot, StyleMark, Header, HeaderMessage, NoteBullet, SourceBorder, LabelMark, Reset, one_mark, glyph, bytes, blanks, space, repeated, newline, text_of}
 use Rattle.codespan_picture.specs.declared.cells.Cell.{Cell}
 use Rattle.codespan_picture.specs.declared.lanes.Shape.{Shape}
 use Rattle.codespan_picture.specs.declared.lanes.Shape.TheVariants.{Gap, Bar, TopCorner, BottomCorner}
@@ -28,7 +28,7 @@ use Rattle.codespan_picture.specs.Lanes.{LaneRow, Source, Plain, Below, Underlin
 use Rattle.codespan_picture.specs.Rows.{Locus, Look, Lanes, Line, Row, HeaderRow, StartRow, EmptyRow, BreakRow, SourceRow, CaretRow, PointerRow, HangingRow, UnderlineRow, FirstNoteRow, LaterNoteRow, BlankRow, hanging, trailing}
 use Rattle.codespan_picture.specs.RowParts.{severity_name, locus, gutter, numbered_gutter, border, break_border, change, styled, label_message, lane_of, row_lanes, leading_of, line_cells, line_cells_to_end, source_style, source_glyph, coloured_text, caret_glyphs, carets, trailing_message, starts_in, greatest_start, blanks_up_to, pointer_style, pointer_at, pointers, cells_before, cells_up_to, start_caret, end_caret, underline_message, underline}
 use Rattle.codespan_picture.specs.RowStreams.{bracketed, leading_locus, header_row, start_row, empty_row, break_row, source_row, opening, caret_row, pointer_row, hanging_row, underline_row, first_note_row, later_note_row, stream_of, stream_of_rows}
-use Rattle.codespan_laws.specs.TextLaws.{IsText, AreCharacters}
+use Rattle.codespan_laws.specs.TextLaws.{AreTextsAfter, IsText, AreCharacters}
 use Rattle.codespan_laws.proofs.LaneLineLemmas.{each_all}
 use Rattle.codespan_picture.proofs.Rightmost.{Around, around_trails, around_rightmost, trailing_of, around_is, trailing_is}
 use Rattle.codespan_laws.proofs.SortedLists.{all-weaker}
@@ -36,13 +36,36 @@ use Rattle.codespan_laws.proofs.Texts.{text_of-append, text_of-bytes, text_of-on
 
 -- ---- streams
 
+-- a text before the first one
+after-front : (front text : List ℕ) (s : Stream) → IsUtf8 front → AreTextsAfter text s → AreTextsAfter (front ++ text) s
+after-front front text [] u h = IsUtf8-append front text u h
+after-front front text (Byte b ∷ s) u h =
+    subst (λ xs. AreTextsAfter xs s) (sym (append_assoc front text (b ∷ []))) (after-front front (text ++ b ∷ []) s u h)
+after-front front text (Mark m ∷ s) u h = (IsUtf8-append front text u h.0, h.1)
+after-front front text (Slot k ∷ s) u h = after-front front text s u h
+
+-- one stream after another
+after-both : (text : List ℕ) (s t : Stream) → AreTextsAfter text s → AreTextsAfter [] t → AreTextsAfter text (s ++ t)
+after-both text [] t h more = subst (λ xs. AreTextsAfter xs t) (append-nil text) (after-front text [] t h more)
+after-both text (Byte b ∷ s) t h more = after-both (text ++ b ∷ []) s t h more
+after-both text (Mark m ∷ s) t h more = (h.0, after-both [] s t h.1 more)
+after-both text (Slot k ∷ s) t h more = after-both text s t h more
+
+-- bytes
+after-bytes : (text bs : List ℕ) → IsUtf8 (text ++ bs) → AreTextsAfter text (map Byte bs)
+after-bytes text [] u = subst IsUtf8 (append-nil text) u
+after-bytes text (b ∷ bs) u = after-bytes (text ++ b ∷ []) bs (subst IsUtf8 (sym (append_assoc text (b ∷ []) bs)) u)
+
 -- nothing is a text
 pub text-none : IsText []
-text-none = record { utf8 = IsUtf8-nil }
+text-none = record { utf8 = IsUtf8-nil; between_marks = IsUtf8-nil }
 
 -- and so is one text after another
 pub text-both : (s t : Stream) → IsText s → IsText t → IsText (s ++ t)
-text-both s t a b = record { utf8 = subst IsUtf8 (sym (text_of-append s t)) (IsUtf8-append (text_of s) (text_of t) a.utf8 b.utf8) }
+text-both s t a b = record {
+  utf8 = subst IsUtf8 (sym (text_of-append s t)) (IsUtf8-append (text_of s) (text_of t) a.utf8 b.utf8);
+  between_marks = after-both [] s t a.between_marks b.between_marks;
+}
 
 -- the same, where antt finds the streams
 followed : {s t : Stream} → IsText s → IsText t → IsText (s ++ t)
@@ -50,11 +73,13 @@ followed {s} {t} a b = text-both s t a b
 
 -- bytes that are UTF-8
 pub text-bytes : (bs : List ℕ) → IsUtf8 bs → IsText (bytes bs)
-text-bytes bs u = record { utf8 = subst IsUtf8 (sym (text_of-bytes bs)) u }
+unfolding bytes
+text-bytes bs u = record { utf8 = subst IsUtf8 (sym (text_of-bytes bs)) u; between_marks = after-bytes [] bs u }
 
 -- a style mark
 text-mark : (m : StyleMark) → IsText (one_mark m)
-text-mark m = record { utf8 = subst IsUtf8 (sym (text_of-one_mark m)) IsUtf8-nil }
+unfolding one_mark
+text-mark m = record { utf8 = subst IsUtf8 (sym (text_of-one_mark m)) IsUtf8-nil; between_marks = (IsUtf8-nil, IsUtf8-nil) }
 
 -- a character
 text-glyph : (c : ℕ) → IsScalar c → IsText (glyph c)

@@ -1,19 +1,29 @@
--- The law of texts: an output is UTF-8, style marks aside.
-use Rattle.std.specs.Prelude.{List, IfSome}
+-- The law of texts: an output is UTF-8, style marks aside, and none is inside a character.
+use Rattle.std.specs.Prelude.{ℕ, List, [], ◌∷◌, ◌++◌, IfSome}
 use Rattle.std.specs.Char.{IsScalar}
 use Rattle.std.specs.Str.{IsUtf8}
 use Rattle.codespan_picture.specs.Types.{Diagnostic, Config, DisplayStyle, Chars}
 use Rattle.codespan_base.specs.SnippetStarts.{start_text}
 use Rattle.codespan_base.specs.FileModel.{FileDatabase}
 use Rattle.codespan_base.specs.LawfulFiles.{IsLawful}
-use Rattle.codespan_base.specs.Streams.{Stream, text_of}
+use Rattle.codespan_base.specs.Streams.{Stream, Byte, Mark, Slot, text_of}
 use Rattle.codespan_picture.specs.Picture.{NamesAreTexts, output}
 use Rattle.codespan_picture.specs.StatedPicture.{picture}
 use Rattle.codespan_picture.specs.Rows.{Locus}
 
--- what is written of the stream is UTF-8, style marks aside
+-- the stream after these bytes is UTF-8 up to its first style mark, between each two, and after
+-- its last one
+abbrev pub AreTextsAfter : List ℕ → Stream → Type 0
+AreTextsAfter text [] = IsUtf8 text
+AreTextsAfter text (Byte b ∷ s) = AreTextsAfter (text ++ b ∷ []) s
+AreTextsAfter text (Mark m ∷ s) = IsUtf8 text × AreTextsAfter [] s
+AreTextsAfter text (Slot k ∷ s) = AreTextsAfter text s
+
+-- what is written of the stream is UTF-8, style marks aside, and no style mark is inside a
+-- character
 pub record IsText (s : Stream) : Type 0 where
   pub utf8 : IsUtf8 (text_of s)
+  pub between_marks : AreTextsAfter [] s
 
 -- each of the characters is one, and the text before a locus is UTF-8
 pub record AreCharacters (chars : Chars) : Type 0 where

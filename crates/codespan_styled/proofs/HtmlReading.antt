@@ -22,10 +22,10 @@ use Rattle.codespan_styled.specs.Runs.{StyledRun, joined, run_view}
 -- ---- bytes of text
 
 -- the byte starts neither a tag nor an entity
-abbrev IsTextByte : ℕ → Type 0
+abbrev pub IsTextByte : ℕ → Type 0
 IsTextByte b = ((b == 60) ≡ false) × ((b == 38) ≡ false)
 
-bytes-read : (bs rest : List ℕ) → AllByRecursion IsTextByte bs → parts_from InText (bs ++ rest) ≡ map TextByte bs ++ parts_from InText rest
+pub bytes-read : (bs rest : List ℕ) → AllByRecursion IsTextByte bs → parts_from InText (bs ++ rest) ≡ map TextByte bs ++ parts_from InText rest
 bytes-read [] rest h = refl
 bytes-read (b ∷ bs) rest h =
     let tag = parts_from (InTag []) (bs ++ rest) in
@@ -40,7 +40,7 @@ outside-ascii : (b : ℕ) → 128 ≤ b → IsTextByte b
 outside-ascii b big = (grind (arith, nat_tests), grind (arith, nat_tests))
 
 -- the bytes of any character but the two
-character-bytes : (c : ℕ) → IsTextByte c → AllByRecursion IsTextByte (encode_utf8 c)
+pub character-bytes : (c : ℕ) → IsTextByte c → AllByRecursion IsTextByte (encode_utf8 c)
 unfolding encode_utf8
 character-bytes c h =
     let last : IsTextByte (128 + c % 64) = outside-ascii _ (omega arith) in
@@ -60,7 +60,7 @@ shown-text c h = cond_both (is_control c || is_noncharacter c) 65533 c IsTextByt
 
 -- ---- characters
 
-is_code : (c n : ℕ) → (c == n) ≡ true → c ≡ n
+pub is_code : (c n : ℕ) → (c == n) ≡ true → c ≡ n
 is_code c n t = grind (arith, nat_tests)
 
 module _ (c : ℕ) (rest : List ℕ) where
@@ -139,12 +139,12 @@ document-read runs =
 
 -- ---- the text of parts
 
-text_of-append : (parts others : List Part) → text_of_parts (parts ++ others) ≡ text_of_parts parts ++ text_of_parts others
+pub text_of-append : (parts others : List Part) → text_of_parts (parts ++ others) ≡ text_of_parts parts ++ text_of_parts others
 text_of-append [] others = refl
 text_of-append (TextByte b ∷ parts) others = ap (λ bs. b ∷ bs) (text_of-append parts others)
 text_of-append (Tag tag ∷ parts) others = text_of-append parts others
 
-text_of-bytes : (bs : List ℕ) → text_of_parts (map TextByte bs) ≡ bs
+pub text_of-bytes : (bs : List ℕ) → text_of_parts (map TextByte bs) ≡ bs
 text_of-bytes [] = refl
 text_of-bytes (b ∷ bs) = ap (λ xs. b ∷ xs) (text_of-bytes bs)
 
@@ -158,7 +158,7 @@ run-text run =
 
 -- ---- texts, one after another
 
-and_true : (a b : Bool) → (a && b) ≡ true → (a ≡ true) × (b ≡ true)
+pub and_true : (a b : Bool) → (a && b) ≡ true → (a ≡ true) × (b ≡ true)
 and_true true b e = (refl, e)
 and_true false b e = absurd (cc)
 

@@ -10,3 +10,6 @@ mod Sequences
 mod Readings
 mod AnsiStreams
 pub mod StyleSheets
+pub mod Glyphs
+pub mod SvgPieces
+pub mod SvgReading

@@ -20,10 +20,10 @@ use Rattle.codespan_base.specs.Ansi.{ansi_bold, ansi_color, ansi_reset, ansi_sty
 use Rattle.codespan_base.specs.StyleTables.{header_style, label_style}
 use Rattle.codespan_base.specs.Streams.{StyleMark, Header, HeaderMessage, LineNumber, NoteBullet, SourceBorder, LabelMark, Reset}
 use Rattle.codespan_styled.specs.declared.text.Run.{Run}
-use Rattle.codespan_styled.specs.Runs.{StyledRun, run_view}
+use Rattle.codespan_styled.specs.Runs.{AreTexts, StyledRun, characters_of, run_view}
 use Rattle.codespan_styled.specs.declared.style.Style.{Style}
 use Rattle.codespan_styled.specs.declared.style.Style.TheVariants as Kinds
-use Rattle.codespan_styled.specs.Terminal.{AreTexts, ansi_spelling, characters_of, columns, is_safe, mark_of, next_reading, opening, reading_after, run_bytes, runs_bytes, safe_characters, safe_text, shown, terminal_text, ShowsSafe, Text, Escape, Parameters, Unknown}
+use Rattle.codespan_styled.specs.Terminal.{ansi_spelling, columns, is_safe, mark_of, next_reading, opening, reading_after, run_bytes, runs_bytes, safe_characters, safe_text, shown, terminal_text, ShowsSafe, Text, Escape, Parameters, Unknown}
 use Rattle.codespan_styled.proofs.UnsafeCells.{columns_stay}
 
 -- ---- characters

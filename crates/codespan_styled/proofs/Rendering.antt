@@ -7,17 +7,18 @@ use Rattle.codespan_base.specs.declared.files.Error.TheVariants.{OutOfMemory}
 use Rattle.codespan_base.specs.declared.term.config.Config.{Config}
 use Rattle.codespan_base.specs.FileModel.{FileDatabase}
 use Rattle.codespan_base.specs.LawfulFiles.{IsLawful}
-use Rattle.codespan_base.specs.Streams.{Stream, Spelling, spelled}
+use Rattle.codespan_base.specs.Streams.{Stream, Byte, Mark, Slot, Spelling, spelled}
 use Rattle.codespan_base.specs.WriterLaw.{Sink, are_known, extended, is_known, with_written}
 use Rattle.codespan_base.specs.Writers.{fresh_sink}
-use Rattle.codespan_laws.specs.TextLaws.{AreCharacters}
+use Rattle.codespan_laws.specs.TextLaws.{AreCharacters, AreTextsAfter}
 use Rattle.codespan_laws.proofs.PictureTexts.{text-output}
 use Rattle.codespan_reporting.specs.WriteCalls.{WritesStyled}
+use Rattle.codespan_styled.specs.declared.style.Style.{Style}
 use Rattle.codespan_styled.specs.declared.style.Style.TheVariants.{Plain}
 use Rattle.codespan_styled.specs.declared.text.StyledText.{StyledText}
-use Rattle.codespan_styled.specs.Outputs.{AreRuns, EmitsRuns, output_at}
+use Rattle.codespan_styled.specs.Outputs.{AreRuns, EmitsRuns, RunsAreTexts, output_at}
 use Rattle.codespan_styled.specs.Recorded.{held_runs, style_number, style_spelling}
-use Rattle.codespan_styled.specs.Runs.{joined, styled_runs}
+use Rattle.codespan_styled.specs.Runs.{AreTexts, joined, runs_from, style_after, styled_runs}
 use Rattle.codespan_styled.proofs.Bytes.{runs-bytes, utf8-bytes}
 use Rattle.codespan_styled.proofs.Decoding.{joined_runs, runs_held}
 
@@ -56,3 +57,17 @@ module _ {Id : Type 0} {config : Config} {files : FileDatabase Id} {d : Diagnost
       → MatchResult r (λ text. held_runs (styled_runs text) ≡ last) (λ e. e ≡ OutOfMemory) → EmitsRuns config files d styled_runs r
   runs_emitted (Ok text) drawn fresh held characters lawful are = runs_rendered text drawn fresh held characters lawful are
   runs_emitted (Err e) drawn fresh held characters lawful is = inl is
+
+-- ---- texts
+
+-- the runs of a text are texts
+runs-texts : (style : Style) (text : List ℕ) (s : Stream) → AreTextsAfter text s → AreTexts (runs_from style text s)
+runs-texts style text [] h = (h, tt)
+runs-texts style text (Byte b ∷ s) h = runs-texts style (text ++ b ∷ []) s h
+runs-texts style text (Mark m ∷ s) h = (h.0, runs-texts (style_after m) [] s h.1)
+runs-texts style text (Slot k ∷ s) h = runs-texts style text s h
+
+-- so are those of an output
+pub runs_are_texts : {Id : Type 0} (config : Config) (files : FileDatabase Id) (d : Diagnostic Id) → RunsAreTexts config files d
+runs_are_texts config files d characters lawful loci named =
+    runs-texts Plain [] (output_at config files d loci) (text-output files d lawful config.display_style config config characters loci named).between_marks

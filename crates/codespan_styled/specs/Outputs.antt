@@ -2,12 +2,14 @@
 use Rattle.std.specs.Prelude.{◌≡◌, List, Result, MatchResult}
 use Rattle.codespan_picture.specs.Types.{Diagnostic, Error, Config, Rich}
 use Rattle.codespan_base.specs.FileModel.{FileDatabase}
+use Rattle.codespan_base.specs.LawfulFiles.{IsLawful}
 use Rattle.codespan_base.specs.Streams.{Stream, text_of}
 use Rattle.codespan_laws.specs.Meanings.{MeansLabels}
-use Rattle.codespan_picture.specs.Picture.{AreLoci, output}
+use Rattle.codespan_laws.specs.TextLaws.{AreCharacters}
+use Rattle.codespan_picture.specs.Picture.{AreLoci, NamesAreTexts, output}
 use Rattle.codespan_picture.specs.Rows.{Locus}
 use Rattle.codespan_reporting.specs.Output.{IsEmitError, Succeeds}
-use Rattle.codespan_styled.specs.Runs.{StyledRun, joined, runs_of}
+use Rattle.codespan_styled.specs.Runs.{AreTexts, StyledRun, joined, runs_of}
 
 module _ {Id : Type 0} (config : Config) (files : FileDatabase Id) (d : Diagnostic Id) where
   -- the output with these loci, in the configuration's style
@@ -23,6 +25,12 @@ module _ {Id : Type 0} (config : Config) (files : FileDatabase Id) (d : Diagnost
     pub text_is : joined runs ≡ text_of (output_at loci)
     pub succeeds : Succeeds config files d config.display_style loci
     pub means : config.display_style ≡ Rich → MeansLabels config config files d
+
+  -- the runs of the output are texts, where its characters are characters, its files are lawful,
+  -- and the names of the loci are texts: no style mark is inside a character
+  abbrev pub RunsAreTexts : Type 0
+  RunsAreTexts = AreCharacters config.chars → ((id : Id) → IsLawful (files.file id))
+      → (loci : List Locus) → NamesAreTexts loci → AreTexts (runs_of (output_at loci))
 
   -- the call returns the runs of the output, or fails as `emit_into_string` does
   abbrev pub EmitsRuns : {T : Type 0} → (T → List StyledRun) → Result T Error → Type 0

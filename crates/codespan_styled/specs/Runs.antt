@@ -1,6 +1,7 @@
 -- Styled text: the runs of a stream, which is its text cut at its style marks.
 use Rattle.std.specs.Prelude.{ℕ, List, [], ◌∷◌, ◌++◌, map, string_bytes}
-use Rattle.std.specs.List.{flat_map}
+use Rattle.std.specs.List.{AllByRecursion, flat_map}
+use Rattle.std.specs.Str.{IsUtf8, chars}
 use Rattle.codespan_base.specs.Streams.{Stream, StyleMark, Byte, Mark, Slot}
 use Rattle.codespan_base.specs.Streams.{Header, HeaderMessage, LineNumber, NoteBullet, SourceBorder, LabelMark, Reset}
 use Rattle.codespan_styled.specs.declared.style.Style.{Style}
@@ -39,6 +40,14 @@ runs_of s = runs_from Styles.Plain [] s
 -- the texts of runs, one after another
 abbrev pub joined : List StyledRun → List ℕ
 joined runs = flat_map (λ (run : StyledRun). run.text) runs
+
+-- the characters of the runs
+abbrev pub characters_of : List StyledRun → List ℕ
+characters_of runs = flat_map (λ (run : StyledRun). chars run.text) runs
+
+-- the text of each run is UTF-8
+abbrev pub AreTexts : List StyledRun → Type 0
+AreTexts runs = AllByRecursion (λ (run : StyledRun). IsUtf8 run.text) runs
 
 -- ---- the runs of a styled text
 

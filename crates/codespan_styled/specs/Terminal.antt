@@ -2,14 +2,14 @@
 use Rattle.std.specs.Prelude.{◌≡◌, ℕ, ◌+◌, Bool, not, ◌||◌, ◌==◌, List, [], ◌∷◌, ◌++◌, filter, if◌then◌else◌}
 use Rattle.std.specs.Char.{is_ascii_digit, is_control}
 use Rattle.std.specs.List.{AllByRecursion, flat_map}
-use Rattle.std.specs.Str.{IsUtf8, chars, encode_utf8_all}
+use Rattle.std.specs.Str.{chars, encode_utf8_all}
 use Rattle.ucd_props.specs.Binary.{is_bidi_control}
 use Rattle.codespan_base.specs.Ansi.{ansi_reset, ansi_style}
 use Rattle.codespan_base.specs.StyleTables.{spelling_by}
 use Rattle.codespan_base.specs.Streams.{Spelling, StyleMark, Header, HeaderMessage, LineNumber, NoteBullet, SourceBorder, LabelMark, Reset}
 use Rattle.codespan_base.specs.declared.term.config.styles.Styles.{Styles}
 use Rattle.codespan_picture.specs.Cells.{width_at}
-use Rattle.codespan_styled.specs.Runs.{StyledRun}
+use Rattle.codespan_styled.specs.Runs.{StyledRun, characters_of}
 use Rattle.codespan_styled.specs.declared.style.Style.{Style}
 use Rattle.codespan_styled.specs.declared.style.Style.TheVariants as Kinds
 
@@ -113,14 +113,6 @@ abbrev pub safe_columns : ℕ → ℕ → List ℕ → List InColumn
 safe_columns tab column cs = filter (λ (p : InColumn). is_safe p.0) (columns tab column cs)
 
 -- ---- the whole
-
--- the characters of the runs
-abbrev pub characters_of : List StyledRun → List ℕ
-characters_of runs = flat_map (λ (run : StyledRun). chars run.text) runs
-
--- the text of each run is UTF-8
-abbrev pub AreTexts : List StyledRun → Type 0
-AreTexts runs = AllByRecursion (λ (run : StyledRun). IsUtf8 run.text) runs
 
 -- what a terminal makes of a text for these runs
 pub record ShowsSafe (text : List ℕ) (runs : List StyledRun) : Type 0 where

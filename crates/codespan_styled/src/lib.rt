@@ -11,6 +11,7 @@ mod recorder;
 pub mod render;
 pub mod style;
 pub mod style_sheet;
+pub mod svg;
 pub mod terminal;
 pub mod text;
 
@@ -18,6 +19,7 @@ pub use html::to_html;
 pub use render::styled_text;
 pub use style::Style;
 pub use style_sheet::html_styles;
+pub use svg::to_svg;
 pub use terminal::to_terminal;
 pub use text::{Run, StyledText};
 

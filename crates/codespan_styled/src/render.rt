@@ -3,6 +3,8 @@
 ghost use Rattle.codespan_styled.specs.Outputs.{EmitsRuns};
 ghost use Rattle.codespan_styled.specs.Runs.{styled_runs};
 
+pub mod laws;
+
 use crate::characters::are_characters;
 use crate::recorder::Recorder;
 use crate::text::StyledText;
@@ -21,8 +23,7 @@ use std::alloc::Global;
 /// # Errors
 ///
 /// - [`Error::OutOfMemory`]: an allocation fails, or a lookup fails with it. The contract leaves
-///   open when; it would also be returned where a style mark is inside a character, which no output
-///   has (this is tested, not proved).
+///   open when. No style mark of an output is inside a character: see [`laws::runs_are_texts`].
 /// - [`Error::FormatError`]: the `Display` of a file's name fails, or a lookup fails with it. The
 ///   contract leaves open when, but it is not returned where nothing is looked up.
 /// - Any other error: that of the first lookup that fails.

@@ -3,6 +3,9 @@
 ghost use Rattle.std.specs.Prelude.{◌≡◌, ◌++◌, IfErr, IfOk, OnOk, flat_map, if◌then◌else◌, string_bytes};
 ghost use Rattle.codespan_styled.specs.StyleSheet.{bright_color, color_declaration, declarations, normal_color, rule, spec_of, style_sheet, weight_declaration};
 
+#[cfg(test)]
+mod tests;
+
 use crate::html::class_of;
 use crate::style::Style;
 use codespan_base::diagnostic::{LabelStyle, Severity};
@@ -159,7 +162,7 @@ fn bright_color(color: Color) -> &'static str
 }
 
 /// Returns the style of a terminal that a style has.
-fn spec_of(styles: &Styles, style: Style) -> ColorSpec
+pub(crate) fn spec_of(styles: &Styles, style: Style) -> ColorSpec
     ensures { result ≡ spec_of styles.now style }
 {
     match style {

@@ -5,11 +5,7 @@ pub mod LastCase
 pub mod LineByLine
 -- what holds over the file database of a case
 pub mod Alone
--- the stream of a writer of inks
-pub mod Telling
--- glyphs one by one
-pub mod Texts
--- what is painted is the stream of an output
-pub mod Painting
+-- the runs of a case are those of its output
+pub mod Runs
 -- what the outcome of a run says
 pub mod Outcomes

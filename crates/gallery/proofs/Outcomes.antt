@@ -79,7 +79,7 @@ pub failed : (wanted : Option Asked) (left : Option (List ℕ)) (request : Asked
     → wanted ≡ Some request → IfSome left (λ input. text ≡ input) → TakesLines (lines text) [] cases → FailsOf request cases fault → IfSome left (FaultTells wanted fault)
 failed wanted None request text cases fault wants read taken fails = tt
 failed wanted (Some input) request text cases (UnknownCase name) wants read taken fails =
-    (wants ∙ ap Some fails.0, (cases, subst (λ t. TakesLines (lines t) [] cases) read taken, fails.1))
+    (fails.0, wants ∙ ap Some fails.1, (cases, subst (λ t. TakesLines (lines t) [] cases) read taken, fails.2))
 failed wanted (Some input) request text cases (Undrawn error) wants read taken fails = tt
 failed wanted (Some input) request text cases OutOfMemory wants read taken fails = tt
 failed wanted (Some input) request text cases WrongArguments wants read taken fails = absurd fails

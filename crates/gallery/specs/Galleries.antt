@@ -6,7 +6,7 @@ use Rattle.codespan_base.specs.ErrorText.{error_text}
 use Rattle.gallery.specs.declared.case.Case.{Case}
 use Rattle.gallery.specs.declared.case.Colours.TheVariants.{Plain, Svg}
 use Rattle.gallery.specs.Pictures.{IsPicture}
-use Rattle.gallery.specs.Svg.{IsSvg}
+use Rattle.gallery.specs.Documents.{IsSvg}
 
 -- the heading of a case
 abbrev pub title : List ℕ → List ℕ

@@ -9,10 +9,8 @@ pub mod Cases
 -- the files of a case, and what is rendered over them
 pub mod Pictures
 pub mod Tables
--- text in inks, its characters and their positions, and SVG documents of these
-pub mod Inks
-pub mod Glyphs
-pub mod Svg
+-- documents in colors of a case
+pub mod Documents
 -- the output of every case
 pub mod Galleries
 -- what a run is to write, and what it returns

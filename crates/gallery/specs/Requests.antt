@@ -1,27 +1,32 @@
 -- What the arguments request, and what is returned for it.
 use Rattle.std.specs.Prelude.{◌≡◌, ℕ, List, [], ◌∷◌, codes, Option, Some, None, IsSomeAnd, Result, Ok, Err, string_bytes, if◌then◌else◌}
+use Rattle.std.specs.Option.{option_map}
 use Rattle.std.specs.Str.{bytes_eq}
 use Rattle.std.specs.Str.Lines.{lines}
+use Rattle.codespan_base.specs.StyleTables.{default_styles}
+use Rattle.codespan_styled.specs.StyleSheet.{style_sheet}
 use Rattle.gallery.specs.declared.case.Case.{Case}
+use Rattle.gallery.specs.declared.document.Format.{Format}
 use Rattle.gallery.specs.declared.fault.Fault.{Fault}
 use Rattle.gallery.specs.declared.fault.Fault.TheVariants.{Line, OutOfMemory, Undrawn, UnknownCase, WrongArguments}
 use Rattle.gallery.specs.declared.request.Request.{Request}
 use Rattle.gallery.specs.declared.request.Request.TheVariants as requests
 use Rattle.gallery.specs.Cases.{IsFirstMistake, TakesLines}
 use Rattle.gallery.specs.Galleries.{IsGallery}
-use Rattle.gallery.specs.Svg.{IsSvg}
+use Rattle.gallery.specs.Documents.{IsDocument, format_named}
 
--- a request: every case, or the document of the case of a name
+-- a request: every case, the style sheet of HTML documents, or a document of the case of a name
 pub data Asked : Type 0 where
   All : Asked
-  Svg : List ℕ → Asked
+  Styles : Asked
+  Document : Format → List ℕ → Asked
 
--- the request of the arguments: without any every case, and for `svg NAME` the document of that
--- case; nothing for any others
+-- the request of the arguments: without any every case, for `styles` the style sheet, and for
+-- `FORM NAME` that document of the case; nothing for any others
 abbrev pub asked_of : List (List ℕ) → Option Asked
 asked_of [] = Some All
-asked_of (word ∷ []) = None
-asked_of (word ∷ name ∷ []) = if bytes_eq word (codes "svg") then Some (Svg name) else None
+asked_of (word ∷ []) = if bytes_eq word (codes "styles") then Some Styles else None
+asked_of (word ∷ name ∷ []) = option_map (λ format. Document format name) (format_named word)
 asked_of (word ∷ name ∷ more ∷ rest) = None
 
 -- the first case of a name
@@ -33,12 +38,15 @@ case_named name (case ∷ cases) =
 -- the same of a request
 abbrev pub request_view : Request → Asked
 request_view requests.All = All
-request_view (requests.Svg name) = Svg name.now
+request_view requests.Styles = Styles
+request_view (requests.Document format name) = Document format name.now
 
 -- the bytes are what is requested of cases
 abbrev pub AnswersOf : Asked → List Case → List ℕ → Type 0
 AnswersOf All cases bytes = IsGallery cases bytes
-AnswersOf (Svg name) cases bytes = IsSomeAnd (case_named name cases) (λ case. IsSvg case bytes)
+AnswersOf Styles cases bytes = bytes ≡ style_sheet default_styles
+AnswersOf (Document format name) cases bytes =
+    IsSomeAnd (case_named name cases) (λ case. IsDocument format case bytes)
 
 -- the bytes are what is requested of an input
 abbrev pub Answers : Asked → List ℕ → List ℕ → Type 0
@@ -48,7 +56,8 @@ Answers asked input bytes =
 -- why a request of cases fails: no case has the name, rendering failed, or an allocation failed
 abbrev pub FailsOf : Asked → List Case → Fault → Type 0
 FailsOf asked cases (UnknownCase name) =
-    (asked ≡ Svg (string_bytes name)) × (case_named (string_bytes name) cases ≡ None)
+    (format : Format) × (asked ≡ Document format (string_bytes name))
+    × (case_named (string_bytes name) cases ≡ None)
 FailsOf asked cases (Undrawn error) = Unit {0}
 FailsOf asked cases OutOfMemory = Unit {0}
 FailsOf asked cases _ = ⊥
@@ -57,7 +66,7 @@ FailsOf asked cases _ = ⊥
 abbrev pub FaultTells : Option Asked → Fault → List ℕ → Type 0
 FaultTells asked (Line number mistake) input = IsFirstMistake (lines input) (Line number mistake)
 FaultTells asked (UnknownCase name) input =
-    (asked ≡ Some (Svg (string_bytes name)))
+    (format : Format) × (asked ≡ Some (Document format (string_bytes name)))
     × ((cases : List Case) × TakesLines (lines input) [] cases
     × (case_named (string_bytes name) cases ≡ None))
 FaultTells asked _ input = Unit {0}

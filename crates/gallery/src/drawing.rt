@@ -1,19 +1,19 @@
 //! The output of a case, by the calls of the library.
 
-ghost use Rattle.std.specs.Prelude.{◌≡◌, IfOk, OnOk, map};
+ghost use Rattle.std.specs.Prelude.{◌≡◌, IfOk, OnOk};
 ghost use Rattle.gallery.specs.declared.case.Colours.TheVariants.{Plain};
 ghost use Rattle.codespan_reporting.specs.Output.{IsAppended};
 ghost use Rattle.codespan_laws.specs.StatedNames.{NamesAreStated};
-ghost use Rattle.gallery.specs.Inks.{run_view};
+ghost use Rattle.codespan_styled.specs.Runs.{styled_runs};
+ghost use Rattle.gallery.specs.Documents.{AreRunsOf, AreRunsOver};
 ghost use Rattle.gallery.specs.Pictures.{AddsPicture};
-ghost use Rattle.gallery.specs.Svg.{IsPainted, IsPaintedOver};
 
 use crate::case::{Case, Colours};
-use crate::inks::{Inks, Run};
 use crate::tables::{Tables, tables_of};
 use codespan_reporting::diagnostic::Diagnostic;
 use codespan_reporting::files::{Error, Files};
 use codespan_reporting::term::{Ansi, Styles, StylesWriter, emit_into_string, emit_to_write_style};
+use codespan_styled::{StyledText, styled_text};
 use std::alloc::Global;
 
 /// Appends the rendered case over its files: as plain text, or in colors by escape sequences.
@@ -56,36 +56,33 @@ fn draw_over<'files, F: Files<'files>>(
     }
 }
 
-/// Renders a case over its files in the default styles, whatever colors it states, and returns its
-/// runs of text, each in one ink.
+/// Renders a case over its files, whatever colors it states, and returns its runs of text, each in
+/// one style.
 ///
 /// # Errors
 ///
 /// Those of [`draw`].
-pub fn paint(alloc: Global, case: &Case<'_>) -> Result<Vec<Run>, Error>
-    ensures { IfOk result (λ runs. IsPainted case.now (map run_view runs.items)) }
+pub fn runs_of_case(alloc: Global, case: &Case<'_>) -> Result<StyledText, Error>
+    ensures { IfOk result (λ text. AreRunsOf case.now (styled_runs text)) }
 {
     let tables = tables_of(alloc, case)?;
     match &tables {
-        Tables::One(files, said) => paint_over(alloc, case, files, said),
-        Tables::Several(files) => paint_over(alloc, case, files, &case.said),
-        Tables::Mapped(files, said) => paint_over(alloc, case, files, said),
+        Tables::One(files, said) => runs_over(alloc, case, files, said),
+        Tables::Several(files) => runs_over(alloc, case, files, &case.said),
+        Tables::Mapped(files, said) => runs_over(alloc, case, files, said),
     }
 }
 
 /// Returns the runs of text of a case over these files.
-fn paint_over<'files, F: Files<'files>>(
+fn runs_over<'files, F: Files<'files>>(
     alloc: Global,
     case: &Case<'_>,
     files: &'files F,
     said: &Diagnostic<F::FileId>,
-) -> Result<Vec<Run>, Error>
+) -> Result<StyledText, Error>
     ensures { NamesAreStated (F.database files.now) said.now
-        → IfOk result (λ runs. IsPaintedOver case.now.config (F.database files.now)
-        said.now (map run_view runs.items)) }
+        → IfOk result (λ text. AreRunsOver case.now.config (F.database files.now) said.now
+        (styled_runs text)) }
 {
-    let styles = Styles::default();
-    let mut writer = StylesWriter::new(Inks::new(alloc)?, &styles);
-    emit_to_write_style(&mut writer, &case.config, files, said)?;
-    Ok(writer.into_inner().into_runs())
+    styled_text(alloc, &case.config, files, said)
 }

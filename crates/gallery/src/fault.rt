@@ -102,7 +102,10 @@ impl fmt::Display for Mistake {
 impl fmt::Display for Fault {
     fn fmt<W: fmt::Write>(&self, f: &mut fmt::Formatter<W>) -> fmt::Result {
         match self {
-            Fault::WrongArguments => write!(f, "usage: gallery [svg NAME] < CASES"),
+            Fault::WrongArguments => write!(
+                f,
+                "usage: gallery [svg|html|terminal NAME | styles] < CASES"
+            ),
             Fault::CannotReadInput => write!(f, "gallery: cannot read input"),
             Fault::NotUtf8 => write!(f, "gallery: input is not UTF-8"),
             Fault::Line(number, mistake) => write!(f, "gallery: line {number}: {mistake}"),

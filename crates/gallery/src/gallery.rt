@@ -3,12 +3,12 @@
 ghost use Rattle.std.specs.Prelude.{◌≡◌, ℕ, List, ◌++◌, IfOk, OnOk};
 ghost use Rattle.gallery.specs.declared.case.Colours.TheVariants.{Plain, Svg};
 ghost use Rattle.gallery.specs.Pictures.{AddsPicture};
-ghost use Rattle.gallery.specs.Svg.{AddsSvg};
+ghost use Rattle.gallery.specs.Documents.{AddsSvg};
 ghost use Rattle.gallery.specs.Galleries.{title, shown, IsPictured, IsGallery, TellsFailure};
 
 use crate::case::{Case, Colours};
+use crate::document::{Format, document};
 use crate::drawing::draw;
-use crate::svg::svg;
 use codespan_reporting::files::Error;
 use std::alloc::{AllocError, Global};
 
@@ -49,7 +49,7 @@ fn add_picture(alloc: Global, gallery: &mut Vec<u8>, case: &Case<'_>) -> Result<
 ///
 /// # Errors
 ///
-/// Those of [`draw`] and of `svg`.
+/// Those of [`draw`] and of [`document`].
 fn draw_as_asked(alloc: Global, case: &Case<'_>, picture: &mut Vec<u8>) -> Result<(), Error>
     ensures plain { case.now.colours ≡ Plain
         → OnOk result (AddsPicture case.now picture.old.items picture.new.items) }
@@ -59,7 +59,7 @@ fn draw_as_asked(alloc: Global, case: &Case<'_>, picture: &mut Vec<u8>) -> Resul
     match case.colours {
         Colours::Plain | Colours::Ansi => draw(alloc, case, picture),
         Colours::Svg => {
-            let document = svg(alloc, case)?;
+            let document = document(alloc, case, Format::Svg)?;
             picture.extend_from_slice(document.as_bytes())?;
             Ok(())
         }

@@ -1,6 +1,7 @@
 //! `gallery < CASES` writes the rendered diagnostic of each case of a list, under its name.
 //! `gallery svg NAME < CASES` writes that of the first case of a name in colors, as an SVG
-//! document.
+//! document, `gallery html NAME` as an HTML element, and `gallery terminal NAME` as text that is
+//! safe to print on a terminal. `gallery styles < CASES` writes the style sheet of HTML documents.
 //!
 //! [`cases`] documents the input, and `tools/gallery/README.md` how the cases of the file `stdin`
 //! and their expected outputs were made.
@@ -15,19 +16,16 @@
 mod arguments;
 mod case;
 mod cases;
+mod document;
 mod drawing;
 mod escape;
 mod fault;
 mod fields;
 mod gallery;
-mod glyphs;
-mod inks;
-mod places;
 mod request;
 mod run;
 mod statement;
 mod streams;
-mod svg;
 mod tables;
 mod words;
 

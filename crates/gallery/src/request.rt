@@ -3,13 +3,17 @@
 ghost use Rattle.std.specs.Prelude.{◌≡◌, map, string_bytes};
 ghost use Rattle.std.specs.Option.{option_map};
 
+use crate::document::Format;
+
 /// What a run writes.
 #[derive(Clone, Copy, Debug)]
 pub enum Request<'args> {
     /// The output of every case.
     All,
-    /// `svg NAME`: the SVG document of the case of this name.
-    Svg(&'args str),
+    /// `styles`: the style sheet of HTML documents.
+    Styles,
+    /// `svg NAME`, `html NAME` or `terminal NAME`: a document of the case of this name.
+    Document(Format, &'args str),
 }
 
 impl<'args> Request<'args> {
@@ -21,7 +25,11 @@ impl<'args> Request<'args> {
     {
         match args {
             [] => Some(Request::All),
-            [word, name] if word.as_str() == "svg" => Some(Request::Svg(name.as_str())),
+            [word] if word.as_str() == "styles" => Some(Request::Styles),
+            [word, name] => match Format::named(word.as_str()) {
+                Some(format) => Some(Request::Document(format, name.as_str())),
+                None => None,
+            },
             _ => None,
         }
     }

@@ -1,17 +1,18 @@
 //! One run of the program.
 
-ghost use Rattle.std.specs.Prelude.{◌≡◌, ◌≢◌, ◌≤◌, ◌↔◌, ℕ, List, None, OnOk, IfErr, IfOk, IfSome, IsErrOf, map, string_bytes};
+ghost use Rattle.std.specs.Prelude.{◌≡◌, ◌≢◌, ◌≤◌, ◌↔◌, ℕ, List, MatchResult, None, OnOk, IfErr, IfOk, IfSome, IsErrAnd, IsErrOf, IsOkAnd, map, string_bytes};
 ghost use Rattle.std.specs.Io.KnownBytes.{Appends};
 ghost use Rattle.std.specs.Option.{option_copied};
 ghost use Rattle.gallery.specs.Requests.{Answers, AnswersOf, FaultTells, IsStatusOf, FailsOf, asked_of, case_named, request_view};
 
 use crate::case::Case;
 use crate::cases::parse_cases;
+use crate::document::{default_style_sheet, document};
 use crate::fault::Fault;
 use crate::gallery::draw_cases;
 use crate::request::Request;
 use crate::streams::{read_input, write_bytes};
-use crate::svg::svg;
+use codespan_reporting::files::Error;
 use std::alloc::Global;
 use std::io::{Read, Write};
 
@@ -91,15 +92,25 @@ fn answer(alloc: Global, request: Request<'_>, cases: &[Case<'_>]) -> Result<Vec
 {
     match request {
         Request::All => Ok(draw_cases(alloc, cases)?),
-        Request::Svg(name) => {
+        Request::Styles => bytes_of(default_style_sheet(alloc)),
+        Request::Document(format, name) => {
             let Some(case) = named(cases, name) else {
                 return Err(Fault::UnknownCase(String::from_str(alloc, name)?));
             };
-            match svg(alloc, case) {
-                Ok(document) => Ok(document.into_bytes()),
-                Err(error) => Err(Fault::Undrawn(error)),
-            }
+            bytes_of(document(alloc, case, format))
         }
+    }
+}
+
+/// Returns the bytes of a document.
+fn bytes_of(document: Result<String, Error>) -> Result<Vec<u8>, Fault>
+    ensures { MatchResult result
+        (λ bytes. IsOkAnd document (λ text. bytes.items ≡ string_bytes text))
+        (λ fault. IsErrAnd document (λ error. fault ≡ Fault.Undrawn error)) }
+{
+    match document {
+        Ok(document) => Ok(document.into_bytes()),
+        Err(error) => Err(Fault::Undrawn(error)),
     }
 }
 

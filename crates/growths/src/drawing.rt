@@ -148,7 +148,7 @@ fn draw_styled<'files, F: Files<'files>, W: WriteStyle>(
 }
 
 /// Judges a call that returns a string: it is the output, or an allocation failed.
-fn judge_string(answer: &Result<String, Error>, picture: &str) -> Outcome
+pub fn judge_string(answer: &Result<String, Error>, picture: &str) -> Outcome
     ensures done { result ≡ Outcome.Done
         → IfOk answer.now (λ text. string_bytes text ≡ picture.now) }
     ensures failed { result ≡ Outcome.Failed → IsErrOf answer.now Error.OutOfMemory }

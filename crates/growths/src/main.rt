@@ -18,6 +18,7 @@
 mod arguments;
 mod copying;
 mod data;
+mod documents;
 mod drawing;
 mod held;
 mod looks;

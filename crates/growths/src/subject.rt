@@ -1,6 +1,7 @@
 //! The subjects, and their names.
 
 use crate::data::{DiagnosticCall, LabelCall, judge_diagnostic, judge_label};
+use crate::documents::{DocumentCall, judge_document};
 use crate::drawing::{DrawCall, judge_drawing};
 use crate::looks::{Look, judge_look};
 use crate::outcome::{Outcome, prepared};
@@ -22,12 +23,14 @@ pub enum Subject {
     Table(TableCall),
     /// A call that renders, and what it renders.
     Drawing(DrawCall, Row),
+    /// A call of `codespan_styled` or `codespan_lsp`.
+    Document(DocumentCall),
     /// The calls that do not allocate.
     Quiet(Extent),
 }
 
 /// The subjects named by one word.
-pub const CALLS: [(&str, Subject); 20] = [
+pub const CALLS: [(&str, Subject); 27] = [
     (
         "Label::with_message",
         Subject::Label(LabelCall::WithMessage),
@@ -76,6 +79,16 @@ pub const CALLS: [(&str, Subject); 20] = [
     ("SimpleFiles::add", Subject::Table(TableCall::Add)),
     ("MappedFile::new", Subject::Table(TableCall::MappedFileNew)),
     ("MappedFile::set_line", Subject::Table(TableCall::SetLine)),
+    ("styled_text", Subject::Document(DocumentCall::StyledText)),
+    ("to_html", Subject::Document(DocumentCall::ToHtml)),
+    ("html_styles", Subject::Document(DocumentCall::HtmlStyles)),
+    ("to_svg", Subject::Document(DocumentCall::ToSvg)),
+    ("to_terminal", Subject::Document(DocumentCall::ToTerminal)),
+    ("safe_text", Subject::Document(DocumentCall::SafeText)),
+    (
+        "to_lsp_diagnostics",
+        Subject::Document(DocumentCall::ToLspDiagnostics),
+    ),
     ("no_memory_prepared", Subject::Quiet(Extent::Preparation)),
     ("no_memory", Subject::Quiet(Extent::Calls)),
 ];
@@ -123,6 +136,7 @@ impl Subject {
             Subject::Look(look) => judge_look(alloc, look),
             Subject::Table(call) => judge_table(alloc, call),
             Subject::Drawing(call, row) => judge_drawing(alloc, call, row),
+            Subject::Document(call) => judge_document(alloc, call),
             Subject::Quiet(extent) => judge_quiet(alloc, extent),
         })
     }

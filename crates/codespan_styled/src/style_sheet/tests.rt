@@ -1,0 +1,67 @@
+//! Style sheets against the colors of xterm, as its manual and `rgb.txt` have them: `red3` for red,
+//! `red` for bright red, and the like, but for its two blues.
+
+use crate::html_styles;
+use codespan_base::term::{Color, ColorSpec, Styles};
+use std::test::Fail;
+
+#[test]
+fn default_styles(rt: HostRuntime) -> Result<(), Fail> {
+    let want = ".diagnostic .header-bug { color: #ff0000; font-weight: bold; }\n\
+                .diagnostic .header-error { color: #ff0000; font-weight: bold; }\n\
+                .diagnostic .header-warning { color: #ffff00; font-weight: bold; }\n\
+                .diagnostic .header-note { color: #00ff00; font-weight: bold; }\n\
+                .diagnostic .header-help { color: #00ffff; font-weight: bold; }\n\
+                .diagnostic .header-message { font-weight: bold; }\n\
+                .diagnostic .primary-label-bug { color: #cd0000; }\n\
+                .diagnostic .primary-label-error { color: #cd0000; }\n\
+                .diagnostic .primary-label-warning { color: #cdcd00; }\n\
+                .diagnostic .primary-label-note { color: #00cd00; }\n\
+                .diagnostic .primary-label-help { color: #00cdcd; }\n\
+                .diagnostic .secondary-label { color: #00cdcd; }\n\
+                .diagnostic .line-number { color: #00cdcd; }\n\
+                .diagnostic .source-border { color: #00cdcd; }\n\
+                .diagnostic .note-bullet { color: #00cdcd; }\n";
+    assert_eq!(rt; html_styles(rt.alloc(), &Styles::default())?.as_str(), want);
+    Ok(())
+}
+
+#[test]
+fn each_color(rt: HostRuntime) -> Result<(), Fail> {
+    let table = [
+        (Color::Black, "#000000", "#7f7f7f"),
+        (Color::Red, "#cd0000", "#ff0000"),
+        (Color::Green, "#00cd00", "#00ff00"),
+        (Color::Yellow, "#cdcd00", "#ffff00"),
+        (Color::Blue, "#0000ee", "#5c5cff"),
+        (Color::Magenta, "#cd00cd", "#ff00ff"),
+        (Color::Cyan, "#00cdcd", "#00ffff"),
+        (Color::White, "#e5e5e5", "#ffffff"),
+    ];
+    for (color, normal, bright) in table {
+        let mut styles = Styles::no_color();
+        styles.header_bug = ColorSpec {
+            fg: None,
+            bg: Some(color),
+            bold: false,
+            intense: false,
+        };
+        styles.note_bullet = ColorSpec {
+            fg: Some(color),
+            bg: None,
+            bold: true,
+            intense: true,
+        };
+        let css = html_styles(rt.alloc(), &styles)?;
+        let first = format!(in rt.alloc();
+            ".diagnostic .header-bug {{ background-color: {normal}; }}\n\
+             .diagnostic .header-error {{ }}\n"
+        )?;
+        let last = format!(in rt.alloc();
+            ".diagnostic .note-bullet {{ color: {bright}; font-weight: bold; }}\n"
+        )?;
+        assert!(rt; css.as_str().starts_with(first.as_str()));
+        assert!(rt; css.as_str().ends_with(last.as_str()));
+    }
+    Ok(())
+}

@@ -1,0 +1,51 @@
+//! A document against one that another program made by the rules of the format, in Python:
+//! `document` of `tools/gallery/inks.py`.
+
+use crate::{Run, Style, StyledText, to_svg};
+use codespan_base::diagnostic::{LabelStyle, Severity};
+use codespan_base::term::Styles;
+use std::alloc::{AllocError, Global};
+use std::test::Fail;
+
+/// Makes a styled text.
+fn text_of(alloc: Global, parts: &[(Style, &str)]) -> Result<StyledText, AllocError> {
+    let mut runs = Vec::new(alloc);
+    for (style, text) in parts {
+        runs.push(Run {
+            style: *style,
+            text: text.to_string(alloc)?,
+        })?;
+    }
+    Ok(StyledText { runs })
+}
+
+#[test]
+fn inks_and_cells(rt: HostRuntime) -> Result<(), Fail> {
+    let parts = [
+        (Style::Plain, ""),
+        (Style::Label(Severity::Error, LabelStyle::Primary), "a<"),
+        (Style::Label(Severity::Bug, LabelStyle::Primary), "b"),
+        (Style::Plain, "\n"),
+        (Style::Header(Severity::Error), "世e\u{301}"),
+        (Style::Plain, " & \"\x1b[\x07"),
+        (Style::SourceBorder, "│"),
+    ];
+    let text = text_of(rt.alloc(), &parts)?;
+    let want = "<svg xmlns=\"http://www.w3.org/2000/svg\" width=\"105\" height=\"42\" \
+                viewBox=\"0 0 105 42\" \
+                font-family=\"DejaVu Sans Mono, Menlo, Consolas, monospace\" font-size=\"15\" \
+                fill=\"#e6edf3\" xml:space=\"preserve\">\n\
+                <rect width=\"100%\" height=\"100%\" rx=\"6\" fill=\"#161b22\"/>\n\
+                <text x=\"12\" y=\"25\" textLength=\"27\" fill=\"#ff7b72\">a&lt;b</text>\n\
+                <text x=\"12\" y=\"43\" textLength=\"18\" fill=\"#ff7b72\" font-weight=\"bold\">世\
+                </text>\
+                <text x=\"30\" y=\"43\" textLength=\"9\" fill=\"#ff7b72\" font-weight=\"bold\">\
+                e\u{301}</text>\
+                <text x=\"39\" y=\"43\" textLength=\"45\"> &amp; \"\\e[\u{fffd}</text>\
+                <text x=\"84\" y=\"43\" textLength=\"9\" fill=\"#56d4dd\">│</text></svg>\n";
+    assert_eq!(rt;
+        to_svg(rt.alloc(), &text, &Styles::default())?.as_str(),
+        want
+    );
+    Ok(())
+}
