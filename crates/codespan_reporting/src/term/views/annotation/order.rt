@@ -12,13 +12,12 @@ use std::cmp::Ordering;
 fn compare<FileId>(left: &Annotation<'_, FileId>, right: &Annotation<'_, FileId>) -> Ordering
     ensures { result ≡ annotation_cmp (annotation_view left.now) (annotation_view right.now) }
 {
-    let places = left
-        .file
-        .cmp(&right.file)
-        .then(left.line.index.cmp(&right.line.index));
-    match places {
-        Ordering::Equal => compare_kinds(left, right),
-        _ => places,
+    match left.file.cmp(&right.file) {
+        Ordering::Equal => match left.line.index.cmp(&right.line.index) {
+            Ordering::Equal => compare_kinds(left, right),
+            by_line => by_line,
+        },
+        by_file => by_file,
     }
 }
 
@@ -32,7 +31,7 @@ fn compare_kinds<FileId>(left: &Annotation<'_, FileId>, right: &Annotation<'_, F
         (
             AnnotationKind::Single { index, label },
             AnnotationKind::Single {
-                index: other_place,
+                index: other_index,
                 label: other_label,
             },
         ) => {
@@ -40,7 +39,7 @@ fn compare_kinds<FileId>(left: &Annotation<'_, FileId>, right: &Annotation<'_, F
             let other = range_in_line(*other_label, right.line.start);
             let starts = range.start.cmp(&other.start);
             match starts {
-                Ordering::Equal => range.end.cmp(&other.end).then(other_place.cmp(index)),
+                Ordering::Equal => range.end.cmp(&other.end).then(other_index.cmp(index)),
                 _ => starts,
             }
         }
