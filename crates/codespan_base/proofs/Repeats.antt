@@ -1,5 +1,5 @@
 -- Spaces, repeated characters and numbers, part by part.
-use Rattle.std.proofs.Common.{◌≡◌, ℕ, zero, suc, ◌+◌, ◌-◌, ◌*◌, ◌/◌, ◌%◌, ◌^◌, ◌<◌, ◌≤◌, List, [], ◌∷◌, ◌++◌, length, take, drop, replicate, refl, sym, ap, ◌∙◌, append_assoc, append-nil, arith, mul-le-mul_right}
+use Rattle.std.proofs.Common.{◌≡◌, ℕ, zero, suc, get_or, ◌+◌, ◌-◌, ◌*◌, ◌/◌, ◌%◌, ◌^◌, ◌<◌, ◌≤◌, List, [], ◌∷◌, ◌++◌, length, take, drop, replicate, refl, sym, ap, ◌∙◌, append_assoc, append-nil, arith, mul-le-mul_right}
 use Rattle.std.specs.Fmt.{decimal}
 use Rattle.std.specs.List.{repeat}
 use Rattle.std.specs.Char.{encode_utf8}
@@ -35,10 +35,6 @@ repeat-add {A = A} (suc k) n xs =
     let e : suc k + n ≡ suc (k + n) = omega arith in
     ap (λ (m : ℕ). repeat m xs) e ∙ ap (λ (l : List A). xs ++ l) (repeat-add k n xs) ∙ sym (append_assoc xs (repeat k xs) (repeat n xs))
 
--- one copy, and then the others that are left
-pub repeat-left : {A : Type 0} (i n : ℕ) (xs : List A) → i < n → repeat (n - i) xs ≡ xs ++ repeat (n - (i + 1)) xs
-repeat-left i n xs h = let e : n - i ≡ suc (n - (i + 1)) = omega arith in ap (λ (m : ℕ). repeat m xs) e
-
 -- no bytes
 bytes-nil : bytes [] ≡ []
 unfolding bytes
@@ -61,10 +57,25 @@ take-repeat k n bs h =
     let f : repeat n bs ≡ repeat k bs ++ repeat (n - k) bs = ap (λ (m : ℕ). repeat m bs) e ∙ repeat-add k (n - k) bs in
     ap (take (k * length bs)) f ∙ ap (λ (m : ℕ). take m (repeat k bs ++ repeat (n - k) bs)) (sym (length-repeat k bs)) ∙ take-append_seam (repeat k bs) (repeat (n - k) bs)
 
--- copies of a character's bytes are the character many times
-pub repeated-copies : (n c : ℕ) (bs : List ℕ) → bs ≡ encode_utf8 c → repeated n c ≡ repeat n (bytes bs)
-unfolding repeated glyph
-repeated-copies n c bs is = ap (λ (l : List ℕ). repeat n (bytes l)) (sym is)
+-- a character once
+pub repeated-one : (c : ℕ) → repeated 1 c ≡ glyph c
+unfolding repeated
+repeated-one c = append-nil (glyph c)
+
+-- and twice
+pub repeated-two : (c : ℕ) → repeated 2 c ≡ glyph c ++ glyph c
+unfolding repeated
+repeated-two c = ap (λ (l : Stream). glyph c ++ l) (append-nil (glyph c))
+
+-- a character of three bytes twice
+pub repeated-pair : (c : ℕ) (xs : List ℕ) → length xs ≡ 3 → xs ≡ encode_utf8 c
+    → bytes (get_or xs 0 0 ∷ get_or xs 1 0 ∷ get_or xs 2 0 ∷ get_or xs 0 0 ∷ get_or xs 1 0 ∷ get_or xs 2 0 ∷ []) ≡ repeated 2 c
+unfolding repeated
+repeated-pair c (x ∷ y ∷ z ∷ []) e is = bytes-repeat 2 (x ∷ y ∷ z ∷ []) ∙ ap (λ (l : List ℕ). repeat 2 (bytes l)) is
+repeated-pair c [] e is = absurd (omega (arith, e))
+repeated-pair c (x ∷ []) e is = absurd (omega (arith, e))
+repeated-pair c (x ∷ y ∷ []) e is = absurd (omega (arith, e))
+repeated-pair c (x ∷ y ∷ z ∷ w ∷ xs) e is = absurd (omega (arith, e))
 
 -- a run that begins with k copies holds the first k of them
 pub repeated-next : (k n c : ℕ) (g run : List ℕ) → g ≡ encode_utf8 c → k ≤ n → take (k * length g) run ≡ repeat k g → repeated n c ≡ bytes (take (k * length g) run) ++ repeated (n - k) c

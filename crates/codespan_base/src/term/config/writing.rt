@@ -22,9 +22,6 @@ const CHUNK_LEN: usize = 64;
 /// The spaces that are written at once.
 static BLANKS: [u8; CHUNK_LEN] = [b' '; CHUNK_LEN];
 
-/// The greatest number of copies of a character that are written one by one.
-const INLINE_COPIES: usize = 2;
-
 /// The number of digits of `usize::MAX`.
 const DIGITS: usize = 20;
 
@@ -99,11 +96,25 @@ pub fn put_spaces<W: PutStyle>(w: &mut W, count: usize) -> Result<(), W::Error>
 pub fn put_repeated<W: PutStyle>(w: &mut W, c: char, count: usize) -> Result<(), W::Error>
     ensures { Sends (W.sink w.old) (repeated count c) result (W.sink w.new) }
 {
-    if count <= INLINE_COPIES {
-        let mut buffer = [0u8; 4];
-        put_copies(w, c.encode_utf8(&mut buffer).as_bytes(), count)
-    } else {
-        put_runs(w, c, count)
+    match count {
+        1 => put_char(w, c),
+        2 => put_pair(w, c),
+        _ => put_runs(w, c, count),
+    }
+}
+
+/// Writes two copies of a character. Those of box drawing are written as an array, as one is.
+#[inline(always)]
+fn put_pair<W: PutStyle>(w: &mut W, c: char) -> Result<(), W::Error>
+    ensures { Sends (W.sink w.old) (repeated 2 c) result (W.sink w.new) }
+{
+    let mut buffer = [0u8; 4];
+    match *c.encode_utf8(&mut buffer).as_bytes() {
+        [first, second, third] => put_all(w, &[first, second, third, first, second, third]),
+        _ => {
+            put_char(w, c)?;
+            put_char(w, c)
+        }
     }
 }
 
@@ -122,17 +133,6 @@ fn put_runs<W: PutStyle>(w: &mut W, c: char, count: usize) -> Result<(), W::Erro
         left -= copies;
     }
     put_all(w, &run[..left * glyph.len()])
-}
-
-/// Writes `count` copies of the bytes of a character, one after another.
-#[inline(always)]
-fn put_copies<W: PutStyle>(w: &mut W, text: &[u8], count: usize) -> Result<(), W::Error>
-    ensures { Sends (W.sink w.old) (repeat count (bytes text.now)) result (W.sink w.new) }
-{
-    for _ in 0..count {
-        put_glyph(w, text)?;
-    }
-    Ok(())
 }
 
 /// Fills the front of `run` with copies of the bytes. Requires that they fit.
