@@ -21,6 +21,7 @@ mod runs;
 mod scanned_line;
 mod source;
 mod underlines;
+mod write_style;
 
 use codespan_base::diagnostic::{LabelStyle, Severity};
 use codespan_base::files::Error;
@@ -37,7 +38,6 @@ use scanned_line::ScannedLine;
 use source::write_line;
 use std::cell::Cell;
 use std::io;
-use std::io::Write;
 
 /// Returns whether the lanes, which count from 0, ascend strictly and are below their number: what
 /// the calls with lanes require.
@@ -65,13 +65,10 @@ pub fn lanes_in_order(
 /// Each `render_` call writes whole rows, style marks included. It neither flushes nor allocates.
 /// `outer_padding` is the padding width in characters, of any size; a line number with more digits
 /// is written in full. As a [`WriteStyle`] a renderer passes on to its writer.
-///
-/// # Errors
-/// Each `render_` call fails with [`Error::Io`] alone: the writer fails or takes no bytes. A prefix
-/// of its rows has then been written.
 #[derive(Drop)]
 pub struct Renderer<'writer, 'config, W> {
     writer: &'writer mut W,
+    /// The last error of the writer.
     saved: Cell<io::Error>,
     config: &'config Config<'config>,
 }
@@ -117,6 +114,9 @@ impl<'writer, 'config, W: WriteStyle> Renderer<'writer, 'config, W> {
     }
 
     /// Writes a header: locus, severity, code in brackets and message. An empty code is left out.
+    ///
+    /// # Errors
+    /// `Io` alone: the writer fails or takes no bytes. A prefix has then been written.
     pub fn render_header(
         &mut self,
         locus: Option<&Locus>,
@@ -133,6 +133,9 @@ impl<'writer, 'config, W: WriteStyle> Renderer<'writer, 'config, W> {
     }
 
     /// Writes an empty line.
+    ///
+    /// # Errors
+    /// `Io` alone: the writer fails or takes no bytes. A prefix has then been written.
     pub fn render_empty(&mut self) -> Result<(), Error>
         ensures { Renders W.sink newline self.old result self.new }
     {
@@ -142,6 +145,9 @@ impl<'writer, 'config, W: WriteStyle> Renderer<'writer, 'config, W> {
     }
 
     /// Writes the start of a snippet: `snippet_start` of the configuration, and the locus.
+    ///
+    /// # Errors
+    /// `Io` alone: the writer fails or takes no bytes. A prefix has then been written.
     pub fn render_snippet_start(&mut self, outer_padding: usize, locus: &Locus) -> Result<(), Error>
         ensures { Renders W.sink (rendered_start (config_of self.old) outer_padding locus.now)
             self.old result self.new }
@@ -161,6 +167,9 @@ impl<'writer, 'config, W: WriteStyle> Renderer<'writer, 'config, W> {
     /// Ranges are in bytes of `source`, from 0, the end exclusive. They may be in any order,
     /// reversed, past the end, or off character boundaries; one without a byte has no caret.
     /// `num_multi_labels` is the number of the file's lanes.
+    ///
+    /// # Errors
+    /// `Io` alone: the writer fails or takes no bytes. A prefix has then been written.
     ///
     /// # Requires
     /// [`lanes_in_order`] is true of `num_multi_labels` and `multi_labels`.
@@ -198,6 +207,9 @@ impl<'writer, 'config, W: WriteStyle> Renderer<'writer, 'config, W> {
 
     /// Writes a row with the border and the lanes alone.
     ///
+    /// # Errors
+    /// `Io` alone: the writer fails or takes no bytes. A prefix has then been written.
+    ///
     /// # Requires
     /// [`lanes_in_order`] is true of `num_multi_labels` and `multi_labels`.
     pub fn render_snippet_empty(
@@ -224,6 +236,9 @@ impl<'writer, 'config, W: WriteStyle> Renderer<'writer, 'config, W> {
     /// Writes a break, for lines that are left out. The views pass the multi-line label marks of
     /// the next line, as the Rust crate does.
     ///
+    /// # Errors
+    /// `Io` alone: the writer fails or takes no bytes. A prefix has then been written.
+    ///
     /// # Requires
     /// [`lanes_in_order`] is true of `num_multi_labels` and `multi_labels`.
     pub fn render_snippet_break(
@@ -248,6 +263,9 @@ impl<'writer, 'config, W: WriteStyle> Renderer<'writer, 'config, W> {
     }
 
     /// Writes a note: a row for each line, the first after the note bullet; none if it is empty.
+    ///
+    /// # Errors
+    /// `Io` alone: the writer fails or takes no bytes. A prefix has then been written.
     pub fn render_snippet_note(&mut self, outer_padding: usize, message: &str) -> Result<(), Error>
         ensures { Renders W.sink (rendered_note (config_of self.old) outer_padding message.now)
             self.old result self.new }
@@ -257,58 +275,4 @@ impl<'writer, 'config, W: WriteStyle> Renderer<'writer, 'config, W> {
         let written = write_note(&mut rows, &config.chars, outer_padding, message);
         with_error(written, &self.saved)
     }
-}
-
-impl<W: WriteStyle> Write for Renderer<'_, '_, W> {
-    ghost use Rattle.codespan_renderer.specs.Renderers.{writer_of};
-
-    ghost contents = { λ r. W.contents (writer_of r) };
-
-    fn write(&mut self, buf: &[u8]) -> io::Result<usize> {
-        self.writer.write(buf)
-    }
-
-    fn flush(&mut self) -> io::Result<()> {
-        self.writer.flush()
-    }
-}
-
-impl<W: WriteStyle> WriteStyle for Renderer<'_, '_, W> {
-    ghost use Rattle.codespan_renderer.specs.Renderers.{writer_of, renderer_sink};
-
-    ghost sink = { λ r. renderer_sink W.sink r };
-
-    fn set_header(&mut self, severity: Severity) -> io::Result<()> {
-        self.writer.set_header(severity)
-    }
-
-    fn set_header_message(&mut self) -> io::Result<()> {
-        self.writer.set_header_message()
-    }
-
-    fn set_line_number(&mut self) -> io::Result<()> {
-        self.writer.set_line_number()
-    }
-
-    fn set_note_bullet(&mut self) -> io::Result<()> {
-        self.writer.set_note_bullet()
-    }
-
-    fn set_source_border(&mut self) -> io::Result<()> {
-        self.writer.set_source_border()
-    }
-
-    fn set_label(&mut self, severity: Severity, label_style: LabelStyle) -> io::Result<()> {
-        self.writer.set_label(severity, label_style)
-    }
-
-    fn reset(&mut self) -> io::Result<()> {
-        self.writer.reset()
-    }
-
-    fn put(&mut self, bytes: &[u8]) -> io::Result<usize> {
-        self.writer.put(bytes)
-    }
-
-    ghost holds_contents = { λ r. W.holds_contents (writer_of r) };
 }
