@@ -67,6 +67,7 @@ pub extern "C" fn codespan_status_text(
         → IsWritten (text_for status argument) text.old text.new written.new }
     ensures too_small { result ≡ 1
         → IsTooSmall (text_for status argument) text.old text.new written.new }
+    ensures short { written.new ≤ 128 }
     ensures status { result ≤ 1 }
 {
     write_status(status, argument, text, written)

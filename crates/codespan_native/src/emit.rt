@@ -1,6 +1,6 @@
 //! The call.
 
-ghost use Rattle.std.specs.Prelude.{◌≡◌, ◌≢◌, ◌≤◌, ◌↔◌, IfOk};
+ghost use Rattle.std.specs.Prelude.{◌≡◌, ◌≢◌, ◌≤◌, ◌↔◌, IfOk, length};
 ghost use Rattle.codespan_native.specs.declared.error.Argument.TheVariants.{LabelFile};
 ghost use Rattle.codespan_native.specs.Meaning.{Means, NoLookupFails, output_bytes};
 ghost use Rattle.codespan_native.specs.Results.{IsTooSmall, IsUntouched, IsWritten};
@@ -85,6 +85,7 @@ fn output_of(
 pub fn copy_out(bytes: &[u8], out: &mut [u8], written: &mut usize) -> u32
     ensures ok { result ≡ 0 → IsWritten bytes.now out.old out.new written.new }
     ensures too_small { result ≡ 1 → IsTooSmall bytes.now out.old out.new written.new }
+    ensures set { written.new ≡ length bytes.now }
     ensures status { result ≤ 1 }
 {
     let length = bytes.len();

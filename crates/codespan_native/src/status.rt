@@ -1,6 +1,6 @@
 //! Statuses by their numbers, and the texts of statuses and arguments.
 
-ghost use Rattle.std.specs.Prelude.{◌≡◌, ◌≤◌};
+ghost use Rattle.std.specs.Prelude.{◌≡◌, ◌≤◌, length};
 ghost use Rattle.codespan_native.specs.Results.{IsTooSmall, IsWritten};
 ghost use Rattle.codespan_native.specs.StatusTexts.{argument_text, status_text, text_for};
 ghost use Rattle.codespan_native.specs.Validity.{status_for};
@@ -43,6 +43,7 @@ pub fn write_status(status: u32, argument: u32, out: &mut [u8], written: &mut us
     ensures ok { result ≡ 0 → IsWritten (text_for status argument) out.old out.new written.new }
     ensures too_small { result ≡ 1
         → IsTooSmall (text_for status argument) out.old out.new written.new }
+    ensures short { written.new ≤ 128 }
     ensures status { result ≤ 1 }
 {
     let text = if status == INVALID {
@@ -55,7 +56,8 @@ pub fn write_status(status: u32, argument: u32, out: &mut [u8], written: &mut us
 
 /// Returns what a status means.
 fn status_text(status: u32) -> &'static str
-    ensures { result.now ≡ status_text status }
+    ensures value { result.now ≡ status_text status }
+    ensures short { length result.now ≤ 128 }
 {
     match status {
         0 => "the output was written",
@@ -68,7 +70,8 @@ fn status_text(status: u32) -> &'static str
 
 /// Returns what an argument must be.
 fn argument_text(argument: u32) -> &'static str
-    ensures { result.now ≡ argument_text argument }
+    ensures value { result.now ≡ argument_text argument }
+    ensures short { length result.now ≤ 128 }
 {
     match argument {
         1 => "the number of the layouts must be that of the library",

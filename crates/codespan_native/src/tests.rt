@@ -7,7 +7,7 @@ mod calls {
         Detail, RawChars, RawColorSpec, RawConfig, RawDiagnostic, RawFile, RawLabel, RawLine,
         RawLocus, RawStyles, RawText,
     };
-    use std::alloc::Global;
+    use crate::status::write_status;
 
     fn color(fg: u32) -> RawColorSpec {
         RawColorSpec {
@@ -202,5 +202,75 @@ mod calls {
             &out[..written],
             b"help: bad\n  --> f.txt:70:80\n  |\n9 | two\n  | ^^^\n\n".as_slice()
         );
+    }
+
+    #[test]
+    fn an_invalid_argument_before_others(rt: HostRuntime) {
+        let mut out = [7u8; 4];
+        let mut written = 9;
+        let mut detail = Detail {
+            argument: 9,
+            index: 9,
+        };
+        let status = emit(
+            rt.alloc(),
+            &[],
+            &RawDiagnostic {
+                severity: 0,
+                code: b"",
+                message: b"bad",
+                labels: &[label(0, 0, 1, b""), label(0, 0, 1, b"\xff")],
+                notes: &[RawText { bytes: b"\xff" }],
+            },
+            &config(),
+            &mut out,
+            &mut written,
+            &mut detail,
+        );
+        // INVALID, for the message of the label 1: the file of a label and a note come after it
+        assert_eq!(rt; (status, detail.argument, detail.index), (4, 17, 1));
+        assert_eq!(rt; written, 0);
+        assert_eq!(rt; out, [7, 7, 7, 7]);
+    }
+
+    #[test]
+    fn a_missing_file_before_a_note(rt: HostRuntime) {
+        let mut out = [7u8; 4];
+        let mut written = 9;
+        let mut detail = Detail {
+            argument: 9,
+            index: 9,
+        };
+        let status = emit(
+            rt.alloc(),
+            &[],
+            &RawDiagnostic {
+                severity: 0,
+                code: b"",
+                message: b"bad",
+                labels: &[label(0, 0, 1, b"")],
+                notes: &[RawText { bytes: b"\xff" }],
+            },
+            &config(),
+            &mut out,
+            &mut written,
+            &mut detail,
+        );
+        // FILE_MISSING, for the label 0: the note comes after it
+        assert_eq!(rt; (status, detail.argument, detail.index), (3, 18, 0));
+        assert_eq!(rt; written, 0);
+        assert_eq!(rt; out, [7, 7, 7, 7]);
+    }
+
+    #[test]
+    fn texts_of_statuses(rt: HostRuntime) {
+        let mut text = [0u8; 100];
+        let mut written = 0;
+        assert_eq!(rt; write_status(2, 0, &mut text, &mut written), 0);
+        assert_eq!(rt; &text[..written], b"out of memory".as_slice());
+        assert_eq!(rt; write_status(4, 14, &mut text, &mut written), 0);
+        assert_eq!(rt; &text[..written], b"the code must be UTF-8".as_slice());
+        assert_eq!(rt; write_status(2, 0, &mut text[..12], &mut written), 1);
+        assert_eq!(rt; written, 13);
     }
 }
