@@ -22,6 +22,7 @@ mod documents;
 mod drawing;
 mod held;
 mod looks;
+mod native;
 mod outcome;
 mod quiet;
 mod rows;

@@ -4,6 +4,7 @@ use crate::data::{DiagnosticCall, LabelCall, judge_diagnostic, judge_label};
 use crate::documents::{DocumentCall, judge_document};
 use crate::drawing::{DrawCall, judge_drawing};
 use crate::looks::{Look, judge_look};
+use crate::native::judge_native;
 use crate::outcome::{Outcome, prepared};
 use crate::quiet::{Extent, judge_quiet};
 use crate::rows::Row;
@@ -25,12 +26,14 @@ pub enum Subject {
     Drawing(DrawCall, Row),
     /// A call of `codespan_styled` or `codespan_lsp`.
     Document(DocumentCall),
+    /// The call of `codespan_native`.
+    Native,
     /// The calls that do not allocate.
     Quiet(Extent),
 }
 
 /// The subjects named by one word.
-pub const CALLS: [(&str, Subject); 27] = [
+pub const CALLS: [(&str, Subject); 28] = [
     (
         "Label::with_message",
         Subject::Label(LabelCall::WithMessage),
@@ -89,6 +92,7 @@ pub const CALLS: [(&str, Subject); 27] = [
         "to_lsp_diagnostics",
         Subject::Document(DocumentCall::ToLspDiagnostics),
     ),
+    ("codespan_emit", Subject::Native),
     ("no_memory_prepared", Subject::Quiet(Extent::Preparation)),
     ("no_memory", Subject::Quiet(Extent::Calls)),
 ];
@@ -137,6 +141,7 @@ impl Subject {
             Subject::Table(call) => judge_table(alloc, call),
             Subject::Drawing(call, row) => judge_drawing(alloc, call, row),
             Subject::Document(call) => judge_document(alloc, call),
+            Subject::Native => Ok(judge_native(alloc)),
             Subject::Quiet(extent) => judge_quiet(alloc, extent),
         })
     }
