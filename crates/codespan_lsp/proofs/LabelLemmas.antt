@@ -1,4 +1,5 @@
--- Facts on a loop that makes something of each label that passes a test, for the clauses of `diagnostics`.
+-- Facts on a loop that makes something of each label that passes a test, for the clauses of
+-- `diagnostics`.
 use Rattle.std.proofs.Common.{◌≡◌, ℕ, ◌+◌, ◌<◌, true, false, Bool, List, [], ◌∷◌, ◌++◌, length, get_or, drop, map, Option, Some, None, ap, sym, ◌∙◌, refl, append_assoc}
 use Rattle.std.specs.Prelude.{filter, string_bytes}
 use Rattle.std.proofs.lemmas.List.{drop_more, map_push}

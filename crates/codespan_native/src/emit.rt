@@ -14,11 +14,13 @@ use crate::status::{NO_ARGUMENT, OK, OUT_OF_MEMORY, TOO_SMALL, status_for};
 use crate::validate::first_invalid;
 use std::alloc::Global;
 
-/// Renders a diagnostic over files into `out`, and returns a status, a constant of [`crate::status`].
+/// Renders a diagnostic over files into `out`, and returns a status, a constant of
+/// [`crate::status`].
 ///
-/// The arguments are looked at first, in the order of their numbers. Where one is invalid nothing is rendered, and `detail` names the first
-/// such; otherwise it names none. Where the output fits it is the first `written` bytes of `out`; otherwise `out` is unchanged. If it is too
-/// small, `written` is the length of the output.
+/// The arguments are looked at first, in the order of their numbers. Where one is invalid nothing
+/// is rendered, and `detail` names the first such; otherwise it names none. Where the output fits
+/// it is the first `written` bytes of `out`; otherwise `out` is unchanged. If it is too small,
+/// `written` is the length of the output.
 pub fn emit(
     alloc: Global,
     files: &[RawFile<'_>],

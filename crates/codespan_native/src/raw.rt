@@ -1,6 +1,7 @@
 //! The structs that cross from C, field by field those of `native/include/codespan.h`.
 //!
-//! Numbers stand for enumerations and bytes for texts, so any value can be passed. [`crate::convert`] checks them.
+//! Numbers stand for enumerations and bytes for texts, so any value can be passed.
+//! [`crate::convert`] checks them.
 
 /// The number of the layouts of these structs.
 pub const ABI: u32 = 1;
@@ -188,7 +189,8 @@ pub struct RawConfig<'a> {
     pub display_style: u32,
     /// 0: classic, 1: unbroken.
     pub layout: u32,
-    /// How style marks are spelled. 0: as nothing, 1: as escape sequences of the default styles, 2: as those of `styles`, 3: in band.
+    /// How style marks are spelled. 0: as nothing, 1: as escape sequences of the default styles, 2:
+    /// as those of `styles`, 3: in band.
     pub spelling: u32,
     /// 0: box drawing, 1: ASCII, 2: those of `chars`.
     pub characters: u32,

@@ -36,7 +36,8 @@ pub fn status_for(argument: Argument) -> u32
     }
 }
 
-/// Writes what a status means to `out`, as [`emit`](crate::emit::emit) writes an output, and returns [`OK`] or [`TOO_SMALL`].
+/// Writes what a status means to `out`, as [`emit`](crate::emit::emit) writes an output, and
+/// returns [`OK`] or [`TOO_SMALL`].
 ///
 /// Of [`INVALID`] it says what the argument must be.
 pub fn write_status(status: u32, argument: u32, out: &mut [u8], written: &mut usize) -> u32

@@ -49,7 +49,8 @@ const ARGUMENTS: [Argument; 19] = [
     Argument::Note,
 ];
 
-/// Returns the invalid argument with the lowest number, and of several the one with the lowest index.
+/// Returns the invalid argument with the lowest number, and of several the one with the lowest
+/// index.
 pub fn first_invalid(
     files: &[RawFile<'_>],
     diagnostic: &RawDiagnostic<'_>,

@@ -1,4 +1,5 @@
--- For `Renders` of the `render_` calls: what rows wrote through the row writer came to the renderer's writer.
+-- For `Renders` of the `render_` calls: what rows wrote through the row writer came to the
+-- renderer's writer.
 use Rattle.std.proofs.Common.{◌≡◌, ℕ, List, [], ◌∷◌, ap, sym, ◌∙◌, Result, Ok, Err}
 use Rattle.std.specs.Prelude.{IfErr}
 use Rattle.std.specs.Borrow.{GName}

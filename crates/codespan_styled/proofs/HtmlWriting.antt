@@ -1,4 +1,5 @@
--- Texts and runs that are appended to a document one by one: for the clause `document` of `to_html`.
+-- Texts and runs that are appended to a document one by one: for the clause `document` of
+-- `to_html`.
 use Rattle.std.proofs.Common.{◌≡◌, ℕ, ◌+◌, ◌<◌, ◌≤◌, List, [], ◌∷◌, ◌++◌, drop, get_or, length, map, sym, ap, ◌∙◌, append_assoc, append-nil, arith, codes, false, refl, string_bytes}
 use Rattle.std.specs.Char.{encode_utf8}
 use Rattle.std.specs.List.{flat_map}

@@ -1,4 +1,5 @@
--- An SVG document reads back as its tags and its text: for the clauses `parts` and `text` of `to_svg`.
+-- An SVG document reads back as its tags and its text: for the clauses `parts` and `text` of
+-- `to_svg`.
 use Rattle.std.proofs.Common.{◌≡◌, ℕ, ◌+◌, ◌/◌, ◌%◌, true, false, List, [], ◌∷◌, ◌++◌, map, codes, decimal, refl, sym, subst, ap, ◌∙◌, append_assoc, append-nil, ◌*◌, arith, zero, suc, None, Some, Option}
 use Rattle.std.specs.Prelude.{Bool, ◌==◌, ◌&&◌, not, nat_lt, if◌then◌else◌}
 use Rattle.std.specs.Char.{encode_utf8}

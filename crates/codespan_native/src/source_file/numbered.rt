@@ -10,7 +10,8 @@ use codespan_reporting::files::{Error, Files, SimpleFile};
 use std::alloc::Global;
 use std::ops::Range;
 
-/// A text whose lines start after newlines, and whose line numbers count on from those of the lines before it.
+/// A text whose lines start after newlines, and whose line numbers count on from those of the lines
+/// before it.
 #[derive(Drop)]
 pub struct NumberedText<'a> {
     file: SimpleFile<&'a str, &'a str>,

@@ -33,7 +33,8 @@ pub fn character_index(config: &RawConfig<'_>) -> Option<usize>
     code_index(&codes_of(&config.chars))
 }
 
-/// Returns the index of the first of the caller's styles with a color that is none, where they are chosen.
+/// Returns the index of the first of the caller's styles with a color that is none, where they are
+/// chosen.
 pub fn color_index(config: &RawConfig<'_>) -> Option<usize>
     ensures { FindsInvalid (λ i. config.now.spelling ≡ 2
         → HoldsIfAt IsColorSpec (color_specs_of config.now.styles) i) result }

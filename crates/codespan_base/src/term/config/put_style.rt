@@ -13,8 +13,9 @@ use std::io::ErrorKind;
 
 /// A [`WriteStyle`], or a writer that keeps the law of one and fails with an error of its own.
 ///
-/// Each [`WriteStyle`] is one, by the `impl` below, and fails with its [`io::Error`]. The calls that write whole texts and rows are generic over
-/// this trait: an `io::Error` takes 88 bytes, which each call that may fail with it fills and copies, so rows are written by a writer that
+/// Each [`WriteStyle`] is one, by the `impl` below, and fails with its [`io::Error`]. The calls
+/// that write whole texts and rows are generic over this trait: an `io::Error` takes 88 bytes,
+/// which each call that may fail with it fills and copies, so rows are written by a writer that
 /// saves it and fails with an error of no size.
 pub trait PutStyle {
     ghost use Rattle.codespan_base.specs.WriterLaw.{Sink};

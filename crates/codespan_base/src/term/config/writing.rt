@@ -59,8 +59,8 @@ pub fn put_char<W: PutStyle>(w: &mut W, c: char) -> Result<(), W::Error>
     put_glyph(w, text.as_bytes())
 }
 
-/// Writes the bytes of a character. Those of box drawing have three, which are written as an array: a `put` of a known number of bytes
-/// needs no call to copy them.
+/// Writes the bytes of a character. Those of box drawing have three, which are written as an array:
+/// a `put` of a known number of bytes needs no call to copy them.
 #[inline(always)]
 fn put_glyph<W: PutStyle>(w: &mut W, text: &[u8]) -> Result<(), W::Error>
     ensures { Sends (W.sink w.old) (bytes text.now) result (W.sink w.new) }

@@ -16,7 +16,8 @@ use std::io::ErrorKind;
 #[derive(Clone, Copy, Debug)]
 pub struct Failed;
 
-/// A borrowed writer that saves the error of a call that fails, so that rows pass on an error of no size.
+/// A borrowed writer that saves the error of a call that fails, so that rows pass on an error of no
+/// size.
 #[derive(Drop)]
 pub struct RowWriter<'row, W> {
     inner: &'row mut W,
@@ -36,7 +37,8 @@ impl<'row, W: WriteStyle> RowWriter<'row, W> {
     }
 }
 
-/// Returns the error of a text of which a `put` has taken nothing: what is saved before a call fails.
+/// Returns the error of a text of which a `put` has taken nothing: what is saved before a call
+/// fails.
 pub fn no_write() -> io::Error {
     io::Error::from(ErrorKind::WriteZero)
 }

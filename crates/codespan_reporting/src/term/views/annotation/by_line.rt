@@ -1,8 +1,8 @@
 //! Annotations brought into the order of their lines, before they are sorted.
 //!
 //! Labels that cross each other, or that return to the same lines in turn, leave many short runs of
-//! annotations. Once each annotation is moved to its line, the sort meets one run, or nearly so, and
-//! takes time in proportion to it.
+//! annotations. Once each annotation is moved to its line, the sort meets one run, or nearly so,
+//! and takes time in proportion to it.
 
 ghost use Rattle.std.specs.Prelude.{OnErr, IsErrOf};
 ghost use Rattle.std.specs.List.Sorted.{IsPermutation};
@@ -15,11 +15,11 @@ use std::ops::Range;
 /// The least number of annotations that are worth moving: fewer are sorted by insertion.
 const MIN_LEN: usize = 32;
 
-/// Moves annotations to the order of their lines, and on a line to that of the ranks of their kinds.
-/// Those of one line and one rank keep their order.
+/// Moves annotations to the order of their lines, and on a line to that of the ranks of their
+/// kinds. Those of one line and one rank keep their order.
 ///
-/// They stay as they are where they are in that order already, are of several files, are few, or are
-/// fewer than the lines from the first to the last. The time is in proportion to their number.
+/// They stay as they are where they are in that order already, are of several files, are few, or
+/// are fewer than the lines from the first to the last. The time is in proportion to their number.
 ///
 /// # Errors
 ///
