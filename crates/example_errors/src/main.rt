@@ -1,14 +1,11 @@
 //! `example_errors` reports three errors of an application's error type, over one text of settings.
 #![tactic(auto)]
 
-mod render;
 mod settings;
 
-use codespan_reporting::files::{Error, SimpleFiles};
-use codespan_reporting::term::Config;
-use render::render_all;
+use codespan_reporting::files::{Error, SimpleFile};
+use codespan_reporting::term::{Config, emit_to_io_write};
 use settings::{Key, SettingsError};
-use std::io::Write;
 
 /// The settings, with three errors.
 const SETTINGS: &str = "\
@@ -20,8 +17,8 @@ port = 80
 
 fn main(rt: HostRuntime) -> Result<(), Error> {
     let alloc = rt.alloc();
-    let mut files = SimpleFiles::new(alloc);
-    let id = files.add("server.conf", SETTINGS)?;
+    let config = Config::default();
+    let file = SimpleFile::new(alloc, "server.conf", SETTINGS)?;
     let errors = [
         SettingsError::NotANumber {
             key: Key::Workers,
@@ -37,11 +34,9 @@ fn main(rt: HostRuntime) -> Result<(), Error> {
             again: 39..43,
         },
     ];
-    let mut diagnostics = Vec::new(alloc);
     for error in &errors {
-        diagnostics.push(error.diagnostic(alloc, id)?)?;
+        let diagnostic = error.diagnostic(alloc, ())?;
+        emit_to_io_write(&mut rt.stdout(), &config, &file, &diagnostic)?;
     }
-    let text = render_all(alloc, &Config::default(), &files, &diagnostics)?;
-    rt.stdout().write_all(text.as_bytes())?;
     Ok(())
 }

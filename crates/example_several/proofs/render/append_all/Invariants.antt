@@ -1,6 +1,6 @@
 use Rattle.std.proofs.Common.{ℕ, List, drop, string_bytes}
-use Rattle.example_errors.specs.Outputs.{AreAppended}
-use Rattle.example_errors.proofs.render.append_all.Given as goal
+use Rattle.example_several.specs.Outputs.{AreAppended}
+use Rattle.example_several.proofs.render.append_all.Given as goal
 
 -- what is appended from here on completes the outputs of all
 abbrev pub invariant-loop-diagnostic : goal.invariant-loop-diagnostic

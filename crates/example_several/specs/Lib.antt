@@ -1,0 +1,2 @@
+-- several outputs, one after another
+pub mod Outputs
