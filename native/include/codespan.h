@@ -11,8 +11,8 @@
  *  - nothing that is passed changes while the call runs.
  *
  * Lengths and indices of bytes are in bytes, indices start at 0, and ends are exclusive. Texts are
- * UTF-8 without a final NUL. Enumerations are passed as uint32_t; an unknown number is
- * CODESPAN_INVALID.
+ * UTF-8 without a final NUL; control characters in them reach the output. Enumerations are passed as
+ * uint32_t; an unknown number is CODESPAN_INVALID.
  *
  * C11 and C++11. The layout of the structs is fixed by CODESPAN_ABI: a library with other layouts
  * has another number, and returns CODESPAN_INVALID where `abi` of the configuration is not its own.
@@ -84,7 +84,8 @@ typedef struct codespan_file {
 
 /* ---- diagnostics ---- */
 
-/* The style of a label. */
+/* The style of a label: a primary one is marked by ^ in the color of the severity, a secondary one
+ * by - or '. */
 enum { CODESPAN_PRIMARY = 0, CODESPAN_SECONDARY = 1 };
 
 /* A label: a range of bytes of a file, with a message. */
@@ -287,7 +288,8 @@ typedef struct codespan_detail {
  *
  * CODESPAN_OK: out[0..*written) is the output, and the rest of `out` is unchanged.
  * CODESPAN_TOO_SMALL: *written is the length of the output, more than out_length, and `out` is
- * unchanged. Call again with as much room: the output is the same.
+ * unchanged. Call again with as much room: the output is the same. So a call with an out_length of
+ * 0, and any `out` but NULL, asks for the length.
  * Any other status: *written is 0, and `out` is unchanged.
  *
  * The arguments are looked at before anything is allocated. Where one is invalid the status is
@@ -346,7 +348,7 @@ static inline codespan_file codespan_new_file(codespan_text name, codespan_text 
     return file;
 }
 
-/* Returns a label. */
+/* Returns a label of the bytes from start to end of files[file]. */
 static inline codespan_label codespan_new_label(uint32_t style, size_t file, size_t start,
                                                 size_t end, codespan_text message) {
     codespan_label label = {style, file, start, end, message};

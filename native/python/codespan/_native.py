@@ -132,7 +132,7 @@ def choice(value):
 
 
 def text_of(text):
-    data = text.encode() if isinstance(text, str) else bytes(text)
+    data = text.encode() if isinstance(text, str) else bytes(memoryview(text))
     return Text(data, len(data))
 
 
