@@ -15,7 +15,7 @@ fn main() {
             eprintln!(
                 "codespan-reporting-proved: {problem}\n\
                  Make the archive by `rt lib` in crates/codespan_c, \
-                 or set CODESPAN_ARCHIVE to the path of one."
+                 or set CODESPAN_ARCHIVE to the absolute path of one."
             );
             std::process::exit(1);
         }
@@ -25,6 +25,9 @@ fn main() {
 /// Returns the path of the archive.
 fn archive() -> Result<PathBuf, String> {
     let path = match env::var_os("CODESPAN_ARCHIVE") {
+        Some(path) if Path::new(&path).is_relative() => {
+            return Err(format!("CODESPAN_ARCHIVE is {path:?}: no absolute path"))
+        }
         Some(path) => PathBuf::from(path),
         None => Path::new(env!("CARGO_MANIFEST_DIR")).join(ARCHIVE),
     };

@@ -33,6 +33,11 @@
 //! # Ok::<(), codespan_reporting::files::Error>(())
 //! ```
 //!
+//! # Building
+//!
+//! The library is linked from an archive: the file whose absolute path is the environment variable
+//! `CODESPAN_ARCHIVE`, or the one that `rt lib` makes in the repository of this crate.
+//!
 //! # Features
 //!
 //! - `termcolor` (default): colors, by [`Styles`](term::Styles) and any `termcolor::WriteColor`. It

@@ -83,6 +83,9 @@ pub fn emit_to_io_write<'files, F: Files<'files> + ?Sized, W: std::io::Write + ?
 
 /// Writes the output of a diagnostic, with styles.
 ///
+/// `ColorChoice::Auto` of termcolor looks at `TERM` and `NO_COLOR`, not at whether the stream is a
+/// terminal: pass `ColorChoice::Never` where `std::io::IsTerminal` says that it is none.
+///
 /// ```
 /// use codespan_reporting::diagnostic::{Diagnostic, Label};
 /// use codespan_reporting::files::SimpleFile;
