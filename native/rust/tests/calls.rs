@@ -6,7 +6,7 @@ use std::ops::Range;
 use std::thread;
 
 use codespan_reporting::diagnostic::{Diagnostic, Label, LabelStyle, Severity};
-use codespan_reporting::files::{Error, Files, Location, SimpleFile, SimpleFiles};
+use codespan_reporting::files::{line_starts, Error, Files, Location, SimpleFile, SimpleFiles};
 use codespan_reporting::term::{emit_into_string, emit_to_string, Chars, Config};
 
 #[test]
@@ -92,6 +92,15 @@ fn errors_say_what_is_wrong() {
     let error = Error::from(io::Error::other("disk full"));
     assert_eq!(error.to_string(), "disk full");
     assert_eq!(error.source().unwrap().to_string(), "disk full");
+}
+
+#[test]
+fn lines_contain_their_line_breaks() {
+    let source = "one\ntwo\r\n\nsix";
+    assert_eq!(line_starts(source).collect::<Vec<_>>(), [0, 4, 9, 10]);
+    let file = SimpleFile::new("numbers", source);
+    let lines = (0..4).map(|line| &source[file.line_range((), line).unwrap()]);
+    assert_eq!(lines.collect::<Vec<_>>(), ["one\n", "two\r\n", "\n", "six"]);
 }
 
 #[test]

@@ -1,10 +1,16 @@
 //! This crate beside the original one.
 //!
 //! `beside check SEED COUNT` renders random diagnostics by both, and fails where one differs that
-//! should not. `beside bench` prints the time that each takes for some diagnostics.
+//! should not. `beside bench` prints the time that each takes for some diagnostics, and
+//! `beside outputs` what the original renders of the groups in `tests/original`.
+
+// The name by which the groups use a crate.
+extern crate original as codespan_reporting;
 
 mod bench;
 mod case;
+#[path = "../../tests/original/groups.rs"]
+mod groups;
 mod random;
 mod sides;
 
@@ -26,12 +32,18 @@ fn main() -> ExitCode {
             bench::run();
             ExitCode::SUCCESS
         }
+        ["outputs"] => {
+            for (name, output) in groups::outputs() {
+                println!("== {name}\n{output}");
+            }
+            ExitCode::SUCCESS
+        }
         _ => usage(),
     }
 }
 
 fn usage() -> ExitCode {
-    eprintln!("usage: beside check SEED COUNT, or beside bench");
+    eprintln!("usage: beside check SEED COUNT, beside bench, or beside outputs");
     ExitCode::from(2)
 }
 

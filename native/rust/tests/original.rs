@@ -1,0 +1,31 @@
+//! The groups of diagnostics of the original crate's test, in each of its configurations: each
+//! output is the one that the original rendered, byte by byte.
+//!
+//! The stored outputs, `tests/original/outputs`, are none of this crate's: `./test outputs` has the
+//! original write them. None of them shows what differs from the original.
+
+use std::collections::BTreeMap;
+
+#[path = "original/groups.rs"]
+mod groups;
+
+#[test]
+fn outputs_are_those_of_the_original() {
+    let stored = stored();
+    let outputs = groups::outputs();
+    for (name, output) in &outputs {
+        assert_eq!(output, stored[name.as_str()], "{name}");
+    }
+    let in_color = if cfg!(feature = "termcolor") { 30 } else { 0 };
+    assert_eq!((outputs.len(), stored.len()), (62 + in_color, 92));
+}
+
+/// Returns the stored outputs by their names.
+fn stored() -> BTreeMap<&'static str, &'static str> {
+    let text = include_str!("original/outputs");
+    let sections = text.strip_prefix("== ").unwrap().strip_suffix('\n');
+    let sections = sections.unwrap().split("\n== ");
+    sections
+        .map(|section| section.split_once('\n').unwrap())
+        .collect()
+}
