@@ -108,7 +108,7 @@ fn render_marked(
 ///
 /// # Errors
 ///
-/// [`OutOfMemory`]. The vector fails for want of memory alone, the names are texts, and no lookup
+/// [`OutOfMemory`]. The vector fails only where an allocation fails, the names are texts, and no lookup
 /// of a file that exists fails.
 fn write_to<W: WriteStyle>(
     writer: &mut W,
