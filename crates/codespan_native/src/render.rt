@@ -108,8 +108,8 @@ fn render_marked(
 ///
 /// # Errors
 ///
-/// [`OutOfMemory`]. The vector fails only where an allocation fails, the names are texts, and no lookup
-/// of a file that exists fails.
+/// [`OutOfMemory`]. The vector fails only where an allocation fails, the names are texts, and no
+/// lookup of a file that exists fails.
 fn write_to<W: WriteStyle>(
     writer: &mut W,
     config: &Config<'_>,
