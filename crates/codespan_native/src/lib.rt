@@ -14,5 +14,4 @@ pub mod render;
 pub mod source_file;
 pub mod source_files;
 pub mod status;
-mod tests;
 pub mod validate;

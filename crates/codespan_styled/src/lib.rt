@@ -22,6 +22,3 @@ pub use style_sheet::html_styles;
 pub use svg::to_svg;
 pub use terminal::to_terminal;
 pub use text::{Run, StyledText};
-
-#[cfg(test)]
-mod tests;

@@ -3,9 +3,6 @@
 ghost use Rattle.std.specs.Prelude.{◌≡◌, ◌++◌, IfErr, IfOk, OnOk, flat_map, if◌then◌else◌, string_bytes};
 ghost use Rattle.codespan_styled.specs.StyleSheet.{bright_color, color_declaration, declarations, normal_color, rule, spec_of, style_sheet, weight_declaration};
 
-#[cfg(test)]
-mod tests;
-
 use crate::html::class_of;
 use crate::style::Style;
 use codespan_base::diagnostic::{LabelStyle, Severity};

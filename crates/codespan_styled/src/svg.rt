@@ -11,8 +11,6 @@ mod glyph;
 mod ink;
 pub mod laws;
 mod position;
-#[cfg(test)]
-mod tests;
 
 use crate::text::StyledText;
 use codespan_base::files::Error;

@@ -7,8 +7,6 @@ ghost use Rattle.codespan_styled.specs.Runs.{run_view, styled_runs};
 ghost use Rattle.codespan_styled.specs.Terminal.{ShowsSafe, ansi_spelling, is_safe, mark_of, runs_bytes, safe_text, terminal_text};
 
 pub mod laws;
-#[cfg(test)]
-mod tests;
 
 use crate::style::Style;
 use crate::text::{Run, StyledText};

@@ -1,8 +1,8 @@
 //! Style sheets against the colors of xterm, as its manual and `rgb.txt` have them: `red3` for red,
 //! `red` for bright red, and the like, but for its two blues.
 
-use crate::html_styles;
 use codespan_base::term::{Color, ColorSpec, Styles};
+use codespan_styled::html_styles;
 use std::test::Fail;
 
 #[test]

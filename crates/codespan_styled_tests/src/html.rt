@@ -1,10 +1,10 @@
 //! Tests of what no contract says: whole documents, against HTML's own entities.
 
-use crate::{Run, Style, StyledText, styled_text, to_html};
 use codespan_base::diagnostic::{Diagnostic, Label, LabelStyle, Severity};
 use codespan_base::files::SimpleFile;
 use codespan_base::term::{Config, DisplayStyle};
 use codespan_reporting::term::emit_into_string;
+use codespan_styled::{Run, Style, StyledText, styled_text, to_html};
 use std::alloc::{AllocError, Global};
 use std::test::Fail;
 

@@ -1,13 +1,13 @@
 //! What is left out of hostile texts, and which sequences a terminal receives.
 
-use crate::render::styled_text;
-use crate::style::Style;
-use crate::terminal::{is_safe, safe_text, to_terminal};
-use crate::text::{Run, StyledText};
 use codespan_base::diagnostic::{Diagnostic, Label, LabelStyle, Severity};
 use codespan_base::files::SimpleFiles;
 use codespan_base::term::{Ansi, Config, Styles, StylesWriter};
 use codespan_reporting::term::emit_to_write_style;
+use codespan_styled::render::styled_text;
+use codespan_styled::style::Style;
+use codespan_styled::terminal::{is_safe, safe_text, to_terminal};
+use codespan_styled::text::{Run, StyledText};
 use std::alloc::{AllocError, Global};
 use std::test::Fail;
 

@@ -1,9 +1,9 @@
 //! A document against one that another program made by the rules of the format, in Python:
 //! `document` of `tools/gallery/inks.py`.
 
-use crate::{Run, Style, StyledText, to_svg};
 use codespan_base::diagnostic::{LabelStyle, Severity};
 use codespan_base::term::Styles;
+use codespan_styled::{Run, Style, StyledText, to_svg};
 use std::alloc::{AllocError, Global};
 use std::test::Fail;
 
