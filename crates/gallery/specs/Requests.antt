@@ -8,12 +8,16 @@ use Rattle.codespan_styled.specs.StyleSheet.{style_sheet}
 use Rattle.gallery.specs.declared.case.Case.{Case}
 use Rattle.gallery.specs.declared.document.Format.{Format}
 use Rattle.gallery.specs.declared.fault.Fault.{Fault}
-use Rattle.gallery.specs.declared.fault.Fault.TheVariants.{Line, OutOfMemory, Undrawn, UnknownCase, WrongArguments}
+use Rattle.gallery.specs.declared.fault.Fault.TheVariants.{CannotReadInput, Line, NotUtf8, OutOfMemory, Undrawn, UnknownCase, WrongArguments}
 use Rattle.gallery.specs.declared.request.Request.{Request}
 use Rattle.gallery.specs.declared.request.Request.TheVariants as requests
 use Rattle.gallery.specs.Cases.{IsFirstMistake, TakesLines}
 use Rattle.gallery.specs.Galleries.{IsGallery}
 use Rattle.gallery.specs.Documents.{IsDocument, format_named}
+use Rattle.program_io.specs.declared.arguments.ArgumentsError.{ArgumentsError}
+use Rattle.program_io.specs.declared.arguments.ArgumentsError.TheVariants as arguments
+use Rattle.program_io.specs.declared.input.InputError.{InputError}
+use Rattle.program_io.specs.declared.input.InputError.TheVariants as input
 
 -- a request: every case, the style sheet of HTML documents, or a document of the case of a name
 pub data Asked : Type 0 where
@@ -70,6 +74,15 @@ FaultTells asked (UnknownCase name) input =
     × ((cases : List Case) × TakesLines (lines input) [] cases
     × (case_named (string_bytes name) cases ≡ None))
 FaultTells asked _ input = Unit {0}
+
+-- the error of arguments that are not known, and of an input that is no text
+abbrev pub arguments_fault : ArgumentsError → Fault
+arguments_fault arguments.NotUtf8 = WrongArguments
+arguments_fault arguments.OutOfMemory = OutOfMemory
+
+abbrev pub input_fault : InputError → Fault
+input_fault input.Unreadable = CannotReadInput
+input_fault input.NotUtf8 = NotUtf8
 
 -- the status of an outcome
 abbrev pub IsStatusOf : Result (Unit {0}) Fault → ℕ → Type 0

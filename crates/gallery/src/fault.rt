@@ -5,6 +5,8 @@ ghost use Rattle.gallery.specs.declared.fault.Mistake.TheVariants as mistakes;
 ghost use Rattle.gallery.specs.declared.fault.Fault.TheVariants as faults;
 
 use codespan_reporting::files::Error;
+use program_io::arguments::ArgumentsError;
+use program_io::input::InputError;
 use std::alloc::{AllocError, AllocFailed};
 use std::io::Write;
 use std::{fmt, io};
@@ -71,6 +73,34 @@ impl<T: Drop> From<AllocFailed<T>> for Mistake {
 
     fn from(_error: AllocFailed<T>) -> Mistake {
         Mistake::OutOfMemory
+    }
+}
+
+/// Arguments that are not UTF-8 are wrong.
+impl From<ArgumentsError> for Fault {
+    ghost use Rattle.gallery.specs.Requests.{arguments_fault};
+
+    ghost from_gives = { λ error fault. fault ≡ arguments_fault error };
+
+    fn from(error: ArgumentsError) -> Fault {
+        match error {
+            ArgumentsError::NotUtf8 => Fault::WrongArguments,
+            ArgumentsError::OutOfMemory => Fault::OutOfMemory,
+        }
+    }
+}
+
+/// An input that is no text.
+impl From<InputError> for Fault {
+    ghost use Rattle.gallery.specs.Requests.{input_fault};
+
+    ghost from_gives = { λ error fault. fault ≡ input_fault error };
+
+    fn from(error: InputError) -> Fault {
+        match error {
+            InputError::Unreadable => Fault::CannotReadInput,
+            InputError::NotUtf8 => Fault::NotUtf8,
+        }
     }
 }
 

@@ -13,7 +13,6 @@
 //! | 2 | nothing: the arguments are wrong | one line: the usage |
 #![tactic(auto)]
 
-mod arguments;
 mod case;
 mod cases;
 mod document;
@@ -25,11 +24,10 @@ mod gallery;
 mod request;
 mod run;
 mod statement;
-mod streams;
 mod tables;
 mod words;
 
-use arguments::arguments;
+use program_io::arguments::arguments;
 use run::{conclude, run};
 use std::process::ExitCode;
 
@@ -42,7 +40,7 @@ fn main(rt: HostRuntime) -> ExitCode {
             &mut rt.stdout(),
             &mut rt.stderr(),
         ),
-        Err(fault) => conclude(Err(fault), &mut rt.stderr()),
+        Err(error) => conclude(Err(error.into()), &mut rt.stderr()),
     };
     ExitCode::from(status)
 }

@@ -11,8 +11,9 @@ use crate::document::{default_style_sheet, document};
 use crate::fault::Fault;
 use crate::gallery::draw_cases;
 use crate::request::Request;
-use crate::streams::{read_input, write_bytes};
 use codespan_reporting::files::Error;
+use program_io::input::read_text;
+use program_io::output::write_and_flush;
 use std::alloc::Global;
 use std::io::{Read, Write};
 
@@ -78,10 +79,22 @@ fn show<R: Read, W: Write>(
         → output.new ≡ output.old) }
 {
     let request = Request::from_arguments(args).ok_or(Fault::WrongArguments)?;
-    let text = read_input(alloc, input)?;
+    let text = read_text(alloc, input)?;
     let cases = parse_cases(alloc, text.as_str())?;
     let answer = answer(alloc, request, cases.as_slice())?;
     write_bytes(output, answer.as_slice())
+}
+
+/// Writes the bytes to the output and flushes it.
+fn write_bytes<W: Write>(output: &mut W, bytes: &[u8]) -> Result<(), Fault>
+    ensures written { OnOk result (Appends (W.contents output.old)
+        (W.contents output.new) bytes.now) }
+    ensures failed { IfErr result (λ fault. fault ≡ Fault.CannotWriteOutput) }
+{
+    match write_and_flush(output, bytes) {
+        Ok(()) => Ok(()),
+        Err(_) => Err(Fault::CannotWriteOutput),
+    }
 }
 
 /// Renders what is requested of cases.

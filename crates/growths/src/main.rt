@@ -15,7 +15,6 @@
 //! | 2 | nothing: no subject has this name |
 #![tactic(auto)]
 
-mod arguments;
 mod copying;
 mod data;
 mod documents;
@@ -30,14 +29,23 @@ mod run;
 mod subject;
 mod tables;
 
-use arguments::arguments;
+use outcome::Outcome;
+use program_io::arguments::{ArgumentsError, arguments};
 use run::{conclude, run};
 use std::process::ExitCode;
 
 fn main(rt: HostRuntime) -> ExitCode {
     let status = match arguments(&rt) {
         Ok(args) => run(rt.alloc(), args.as_slice(), &mut rt.stdout()),
-        Err(outcome) => conclude(outcome, &mut rt.stdout()),
+        Err(error) => conclude(unknown_arguments(error), &mut rt.stdout()),
     };
     ExitCode::from(status)
+}
+
+/// Returns the outcome without arguments: those that are not UTF-8 name no subject.
+fn unknown_arguments(error: ArgumentsError) -> Outcome {
+    match error {
+        ArgumentsError::NotUtf8 => Outcome::Unknown,
+        ArgumentsError::OutOfMemory => Outcome::Unprepared,
+    }
 }

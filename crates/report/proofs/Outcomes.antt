@@ -4,7 +4,8 @@ use Rattle.std.specs.Str.{IsUtf8}
 use Rattle.report.specs.declared.fault.Fault.{Fault}
 use Rattle.report.specs.declared.fault.Fault.TheVariants.{WrongArguments, CannotReadInput, NotUtf8, Drawing, BadScript, CannotWriteOutput}
 use Rattle.report.specs.Drawings.{drawing_of}
-use Rattle.report.specs.Faults.{AppendsPrefix, FaultTells, IfBadScript, IsStatusOf, StaysUnlessDrawn, failed_output_line}
+use Rattle.program_io.specs.Output.{AppendsPrefix}
+use Rattle.report.specs.Faults.{FaultTells, IfBadScript, IsStatusOf, StaysUnlessDrawn, failed_output_line}
 use Rattle.report.specs.Requests.{AskedView, WhereKnown, asked_of}
 
 -- the status is one of four

@@ -4,9 +4,13 @@ use Rattle.std.specs.Global.{Global}
 use Rattle.std.specs.Option.{option_map}
 use Rattle.std.specs.declared.string.String.{String}
 use Rattle.std.specs.Str.{IsUtf8}
-use Rattle.std.specs.Io.{StartsWith}
-use Rattle.std.specs.Io.KnownBytes.{Appends}
 use Rattle.codespan_base.specs.ErrorText.{error_text}
+use Rattle.codespan_base.specs.declared.files.Error.TheVariants.{OutOfMemory}
+use Rattle.program_io.specs.Output.{AppendsPrefix}
+use Rattle.program_io.specs.declared.arguments.ArgumentsError.{ArgumentsError}
+use Rattle.program_io.specs.declared.arguments.ArgumentsError.TheVariants as arguments
+use Rattle.program_io.specs.declared.input.InputError.{InputError}
+use Rattle.program_io.specs.declared.input.InputError.TheVariants as input
 use Rattle.report.specs.declared.fault.Fault.{Fault}
 use Rattle.report.specs.declared.fault.Fault.TheVariants.{WrongArguments, CannotReadInput, NotUtf8, Drawing, BadScript, CannotWriteOutput}
 use Rattle.report.specs.Drawings.{drawing_of}
@@ -33,6 +37,15 @@ fault_text (Drawing error) = option_map (λ text. codes "report: " ++ text) (err
 fault_text (BadScript picture) = Some (string_bytes picture)
 fault_text CannotWriteOutput = Some (codes "report: cannot write output")
 
+-- the error of arguments that are not known, and of an input that is no text
+abbrev pub arguments_fault : ArgumentsError → Fault
+arguments_fault arguments.NotUtf8 = WrongArguments
+arguments_fault arguments.OutOfMemory = Drawing OutOfMemory
+
+abbrev pub input_fault : InputError → Fault
+input_fault input.Unreadable = CannotReadInput
+input_fault input.NotUtf8 = NotUtf8
+
 -- what an error says of the request and of the input
 abbrev pub FaultTells : Fault → AskedView → List ℕ → Type 0
 FaultTells WrongArguments asked input = ⊥
@@ -51,10 +64,6 @@ IfBadScript _ P = Unit {0}
 -- the line of a failed output, with its newline
 abbrev pub failed_output_line : List ℕ
 failed_output_line = codes "report: cannot write output\n"
-
--- a prefix of bs is appended to known bytes: none of it, some of its first bytes, or all
-abbrev pub AppendsPrefix : Option (List ℕ) → Option (List ℕ) → List ℕ → Type 0
-AppendsPrefix old new bs = (front : List ℕ) × StartsWith bs front × Appends old new front
 
 -- the output is unchanged, or all of it was rendered: the status is 0, or it is 1 and what `faults`
 -- has received is a prefix of the line of a failed output

@@ -5,8 +5,10 @@ ghost use Rattle.std.specs.Fmt.{with_newline};
 ghost use Rattle.std.specs.Io.KnownBytes.{Appends};
 ghost use Rattle.report.specs.declared.fault.Fault.TheVariants.{CannotWriteOutput, Drawing};
 
-use crate::streams::write_whole;
 use codespan_reporting::files::Error;
+use program_io::arguments::ArgumentsError;
+use program_io::input::InputError;
+use program_io::output::write_whole;
 use std::io::Write;
 use std::{fmt, io};
 
@@ -28,7 +30,8 @@ pub enum Fault {
 }
 
 impl Fault {
-    ghost use Rattle.report.specs.Faults.{AppendsPrefix, fault_text, failed_output_line};
+    ghost use Rattle.program_io.specs.Output.{AppendsPrefix};
+    ghost use Rattle.report.specs.Faults.{fault_text, failed_output_line};
 
     /// Writes the error's line.
     ///
@@ -46,6 +49,34 @@ impl Fault {
             // The contract of `writeln!` leaves open what a failed one has written.
             Fault::CannotWriteOutput => write_whole(faults, b"report: cannot write output\n"),
             _ => writeln!(faults, "{self}"),
+        }
+    }
+}
+
+/// Arguments that are not UTF-8 are wrong.
+impl From<ArgumentsError> for Fault {
+    ghost use Rattle.report.specs.Faults.{arguments_fault};
+
+    ghost from_gives = { λ error fault. fault ≡ arguments_fault error };
+
+    fn from(error: ArgumentsError) -> Fault {
+        match error {
+            ArgumentsError::NotUtf8 => Fault::WrongArguments,
+            ArgumentsError::OutOfMemory => Fault::Drawing(Error::OutOfMemory),
+        }
+    }
+}
+
+/// An input that is no text.
+impl From<InputError> for Fault {
+    ghost use Rattle.report.specs.Faults.{input_fault};
+
+    ghost from_gives = { λ error fault. fault ≡ input_fault error };
+
+    fn from(error: InputError) -> Fault {
+        match error {
+            InputError::Unreadable => Fault::CannotReadInput,
+            InputError::NotUtf8 => Fault::NotUtf8,
         }
     }
 }

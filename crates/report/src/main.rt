@@ -17,7 +17,6 @@
 //! not UTF-8 are wrong; where memory for them runs out, the status is 1.
 #![tactic(auto)]
 
-mod arguments;
 mod drawing;
 mod fault;
 mod laws;
@@ -27,11 +26,10 @@ mod saying;
 mod script;
 #[cfg(test)]
 mod script_tests;
-mod streams;
 #[cfg(test)]
 mod tests;
 
-use arguments::arguments;
+use program_io::arguments::arguments;
 use run::{conclude, run};
 use std::process::ExitCode;
 
@@ -44,7 +42,7 @@ fn main(rt: HostRuntime) -> ExitCode {
             &mut rt.stdout(),
             &mut rt.stderr(),
         ),
-        Err(fault) => conclude(Err(fault), &mut rt.stderr()),
+        Err(error) => conclude(Err(error.into()), &mut rt.stderr()),
     };
     ExitCode::from(status)
 }

@@ -4,13 +4,15 @@ ghost use Rattle.std.specs.Prelude.{◌≡◌, ◌≢◌, ◌≤◌, ◌↔◌, 
 ghost use Rattle.std.specs.Io.KnownBytes.{Appends, IsAtEnd};
 ghost use Rattle.std.specs.Str.{IsUtf8};
 ghost use Rattle.report.specs.Drawings.{drawing_of};
-ghost use Rattle.report.specs.Faults.{AppendsPrefix, FaultTells, IfBadScript, IsStatusOf, StaysUnlessDrawn, failed_output_line};
+ghost use Rattle.program_io.specs.Output.{AppendsPrefix};
+ghost use Rattle.report.specs.Faults.{FaultTells, IfBadScript, IsStatusOf, StaysUnlessDrawn, failed_output_line};
 ghost use Rattle.report.specs.Requests.{WhereKnown, asked_of};
 
 use crate::drawing::draw;
 use crate::fault::Fault;
 use crate::request::Asked;
-use crate::streams::{read_source, write_text};
+use program_io::input::read_text;
+use program_io::output::write_and_flush;
 use std::alloc::Global;
 use std::io::{Read, Write};
 
@@ -75,7 +77,7 @@ pub fn conclude<E: Write>(outcome: Result<(), Fault>, faults: &mut E) -> u8
 {
     match outcome {
         Ok(()) => 0,
-        Err(Fault::BadScript(picture)) => match write_text(faults, picture.as_str()) {
+        Err(Fault::BadScript(picture)) => match write_and_flush(faults, picture.as_bytes()) {
             Ok(()) => 3,
             Err(_) => 1,
         },
@@ -116,7 +118,20 @@ fn report<R: Read, W: Write>(
         × AppendsPrefix (W.contents output.old) (W.contents output.new) picture) }
 {
     let asked = Asked::from_arguments(args).ok_or(Fault::WrongArguments)?;
-    let source = read_source(alloc, input)?;
+    let source = read_text(alloc, input)?;
     let text = draw(alloc, &asked, source.as_str())?;
     write_text(output, text.as_str())
+}
+
+/// Writes the text to the output and flushes it.
+fn write_text<W: Write>(output: &mut W, text: &str) -> Result<(), Fault>
+    ensures written { OnOk result (Appends (W.contents output.old)
+        (W.contents output.new) text.now) }
+    ensures prefix { AppendsPrefix (W.contents output.old) (W.contents output.new) text.now }
+    ensures failed { IfErr result (λ fault. fault ≡ Fault.CannotWriteOutput) }
+{
+    match write_and_flush(output, text.as_bytes()) {
+        Ok(()) => Ok(()),
+        Err(_) => Err(Fault::CannotWriteOutput),
+    }
 }

@@ -6,4 +6,4 @@ returns-in-CannotWriteOutput-clause-written g c =
     line_of_fault _ _ _ c.write_whole.result c.in-CannotWriteOutput.is c.write_whole.ensures.written
 
 pub returns-in-CannotWriteOutput-clause-begun : goal.returns-in-CannotWriteOutput-clause-begun
-returns-in-CannotWriteOutput-clause-begun g c = λ _. c.write_whole.ensures.begun
+returns-in-CannotWriteOutput-clause-begun g c = λ _. c.write_whole.ensures.prefix

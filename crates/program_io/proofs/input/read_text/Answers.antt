@@ -2,12 +2,12 @@ use Rattle.std.proofs.Common.{◌≡◌, ℕ, false, List, [], ◌++◌, Option,
 use Rattle.std.specs.Result.{is_err}
 use Rattle.std.specs.Str.{IsUtf8}
 use Rattle.std.proofs.lemmas.Str.{IsUtf8-had}
-use Rattle.report.proofs.streams.read_source.Goals as goal
+use Rattle.program_io.proofs.input.read_text.Goals as goal
 
 -- what was read to the end and is no text was no text
-no_text : {E : Type 0} (held : Option (List ℕ)) (read : Result ℕ E) (old new : List ℕ) → is_err read ≡ false
-    → OnOk read (IfSome held (λ bytes. new ≡ old ++ bytes)) → old ≡ [] → ¬ (IsUtf8 new) → IfSome held (λ bytes. ¬ (IsUtf8 bytes))
-no_text held (Err e) old new done all empty odd = absurd (cc done)
+no_text : {E : Type 0} (left : Option (List ℕ)) (read : Result ℕ E) (old new : List ℕ) → is_err read ≡ false
+    → OnOk read (IfSome left (λ bytes. new ≡ old ++ bytes)) → old ≡ [] → ¬ (IsUtf8 new) → IfSome left (λ bytes. ¬ (IsUtf8 bytes))
+no_text left (Err e) old new done all empty odd = absurd (cc done)
 no_text None (Ok n) old new done all empty odd = tt
 no_text (Some bytes) (Ok n) old new done all empty odd = λ text. odd (subst IsUtf8 (sym (all ∙ ap (λ front. front ++ bytes) empty)) text)
 
@@ -22,4 +22,4 @@ returns-clause-odd g c =
     (λ text. not_both _ _ c.in-Err.is (c.from_utf8.ensures.succeeds text))
 
 pub returns-in-Ok-clause-text : goal.returns-in-Ok-clause-text
-returns-in-Ok-clause-text g c = IsUtf8-had _ c.in-Ok.source.ok
+returns-in-Ok-clause-text g c = IsUtf8-had _ c.in-Ok.text.ok

@@ -1,0 +1,17 @@
+use Rattle.std.proofs.Common.{[], ◌++◌, take, refl}
+use Rattle.std.proofs.KnownBytes.{Appends-kept, Appends-nil, Appends-trans}
+use Rattle.program_io.proofs.Received.{moved_range}
+use Rattle.program_io.proofs.output.write_whole.Goals as goal
+use Rattle.program_io.proofs.output.write_whole.Goals.{in-Ok, in-Err}
+
+pub loop-init : goal.loop-init
+loop-init g c = ([], refl, Appends-nil _)
+
+pub loop-preserved : goal.loop-preserved
+loop-preserved g c =
+    let (done, split, received) = c.loop.invariant in
+    let rest = c.loop.rest.now in
+    elim c.match-write.branch [
+      | in-Ok w ↦ (done ++ take w.in-Ok.count rest, rw w.rest-is (moved_range _ done rest w.in-Ok.count split), Appends-trans _ _ _ _ _ received w.in-Ok.ensures.bytes)
+      | in-Err w ↦ (done, rw w.rest-is split, Appends-kept _ _ _ _ received w.in-Err.ensures.bytes)
+    ]

@@ -1,0 +1,2 @@
+-- what a writer has received
+pub mod Output

@@ -1,0 +1,41 @@
+//! The input, as text.
+
+ghost use Rattle.std.specs.Prelude.{◌≡◌, IfOk, IfSome, OnOk, IsErrOf, string_bytes};
+ghost use Rattle.std.specs.Io.KnownBytes.{IsAtEnd};
+ghost use Rattle.std.specs.Str.{IsUtf8};
+
+use std::alloc::Global;
+use std::io::Read;
+
+/// Why the input is no text.
+#[derive(Clone, Copy, Debug, PartialEq, Eq)]
+pub enum InputError {
+    /// Reading it failed, or an allocation for it.
+    Unreadable,
+    /// It is not UTF-8.
+    NotUtf8,
+}
+
+/// Reads the whole input, as text.
+///
+/// # Errors
+///
+/// - `Unreadable`: a read fails, or an allocation for what is read.
+/// - `NotUtf8`: the input is not UTF-8.
+pub fn read_text<R: Read>(alloc: Global, input: &mut R) -> Result<String, InputError>
+    ensures bytes { IfOk result (λ text.
+        IfSome (R.remaining input.old) (λ bytes. string_bytes text ≡ bytes)) }
+    ensures text { IfOk result (λ text. IsUtf8 (string_bytes text)) }
+    ensures end { OnOk result (IsAtEnd (R.remaining input.new)) }
+    ensures odd { IsErrOf result InputError.NotUtf8
+        → IfSome (R.remaining input.old) (λ bytes. ¬ (IsUtf8 bytes)) }
+{
+    let mut bytes = Vec::new(alloc);
+    if input.read_to_end(&mut bytes).is_err() {
+        return Err(InputError::Unreadable);
+    }
+    match String::from_utf8(bytes) {
+        Ok(text) => Ok(text),
+        Err(_) => Err(InputError::NotUtf8),
+    }
+}

@@ -1,0 +1,52 @@
+//! The output.
+
+ghost use Rattle.std.specs.Prelude.{OnOk};
+ghost use Rattle.std.specs.Io.KnownBytes.{Appends};
+ghost use Rattle.program_io.specs.Output.{AppendsPrefix};
+
+use std::io;
+use std::io::{ErrorKind, Write};
+
+/// Writes all the bytes to the output and flushes it.
+///
+/// # Errors
+///
+/// What the writer returns; `WriteZero` where it takes nothing. A prefix of the bytes has then
+/// been written.
+pub fn write_and_flush<W: Write>(output: &mut W, bytes: &[u8]) -> io::Result<()>
+    ensures written { OnOk result (Appends (W.contents output.old)
+        (W.contents output.new) bytes.now) }
+    ensures prefix { AppendsPrefix (W.contents output.old) (W.contents output.new) bytes.now }
+{
+    write_whole(output, bytes)?;
+    output.flush()
+}
+
+/// Writes all the bytes. An interrupted write is tried again.
+///
+/// `write_all` does the same, but its contract leaves open what has been written if it fails.
+///
+/// # Errors
+///
+/// What the writer returns; `WriteZero` where it takes nothing. A prefix of the bytes has then
+/// been written.
+pub fn write_whole<W: Write>(writer: &mut W, bytes: &[u8]) -> io::Result<()>
+    ensures written { OnOk result (Appends (W.contents writer.old)
+        (W.contents writer.new) bytes.now) }
+    ensures prefix { AppendsPrefix (W.contents writer.old) (W.contents writer.new) bytes.now }
+{
+    let mut rest = bytes;
+    // More writes than any run makes.
+    for _ in 0..u64::MAX {
+        if rest.is_empty() {
+            return Ok(());
+        }
+        match writer.write(rest) {
+            Ok(0) => return Err(io::Error::from(ErrorKind::WriteZero)),
+            Ok(count) => rest = &rest[count..],
+            Err(error) if error.kind() == ErrorKind::Interrupted => {}
+            Err(error) => return Err(error),
+        }
+    }
+    Err(io::Error::from(ErrorKind::Other))
+}
