@@ -3,16 +3,13 @@
 //! Constructors do not allocate and do not fail. The calls that begin with `with_` take a value and
 //! return it with one field changed; where such a call fails, the value is dropped.
 
-ghost use Rattle.std.specs.Prelude.{◌≡◌, ◌++◌, ◌∷◌, [], IfOk, IfSome, IfErr, OnErr, IsErrOf, IsSome, String, string_bytes, map, Some, None};
+ghost use Rattle.std.specs.Prelude.{◌≡◌, [], IfOk, IfSome, IfErr, string_bytes, None};
 ghost use Rattle.std.specs.Global.{Global};
-ghost use Rattle.std.specs.Option.{option_map};
-ghost use Rattle.std.specs.Iterator.{IsFinite};
-ghost use Rattle.std.specs.Iterator.Runs.{WholeRun};
 
+mod builders;
 mod clones;
 pub mod text;
 
-use crate::diagnostic::clones::{clone_labels, clone_notes};
 use crate::diagnostic::text::display_text;
 use crate::files::Error;
 use std::alloc::Global;
@@ -143,27 +140,6 @@ impl<FileId: Drop> Label<FileId> {
     }
 }
 
-impl<FileId: Copy> Label<FileId> {
-    ghost use Rattle.codespan_files.specs.Diagnostics.{label_view};
-
-    /// Returns an equal label.
-    ///
-    /// # Errors
-    ///
-    /// [`Error::OutOfMemory`] where an allocation fails.
-    pub fn clone(&self) -> Result<Self, Error>
-        ensures same { IfOk result (λ label. label_view label ≡ label_view self.now) }
-        ensures failed { OnErr result (IsErrOf result Error.OutOfMemory) }
-    {
-        Ok(Label {
-            style: self.style,
-            file_id: self.file_id,
-            range: self.range.start..self.range.end,
-            message: self.message.clone()?,
-        })
-    }
-}
-
 /// A diagnostic: what a compiler, or any program that reads texts, reports.
 ///
 /// The order of its labels decides the order of files, of lanes and of equal ranges in rich style,
@@ -270,191 +246,5 @@ impl<FileId> Diagnostic<FileId> {
         ensures notes { result.notes.items ≡ [] }
     {
         Diagnostic::new(alloc, Severity::Help)
-    }
-}
-
-impl<FileId: Drop> Diagnostic<FileId> {
-    ghost use Rattle.codespan_files.specs.Diagnostics.{IsTextFailure};
-
-    /// Returns the diagnostic with the text that `code` displays as its code.
-    ///
-    /// # Errors
-    ///
-    /// - [`Error::FormatError`] where the `Display` fails.
-    /// - [`Error::OutOfMemory`] where an allocation fails.
-    pub fn with_code<D: Display + Drop>(mut self, code: D) -> Result<Self, Error>
-        ensures code { IfOk result (λ d.
-            IfSome (D.output code) (λ bytes. option_map string_bytes d.code ≡ Some bytes)) }
-        ensures set { IfOk result (λ d. IsSome d.code) }
-        ensures others { IfOk result (λ d. d ≡ record self { code = d.code }) }
-        ensures failed { IfErr result IsTextFailure }
-    {
-        self.code = Some(display_text(*self.message.allocator(), code)?);
-        Ok(self)
-    }
-
-    /// Returns the diagnostic with the text that `message` displays as its message.
-    ///
-    /// # Errors
-    ///
-    /// - [`Error::FormatError`] where the `Display` fails.
-    /// - [`Error::OutOfMemory`] where an allocation fails.
-    pub fn with_message<D: Display + Drop>(mut self, message: D) -> Result<Self, Error>
-        ensures message { IfOk result (λ d.
-            IfSome (D.output message) (λ bytes. string_bytes d.message ≡ bytes)) }
-        ensures others { IfOk result (λ d. d ≡ record self { message = d.message }) }
-        ensures failed { IfErr result IsTextFailure }
-    {
-        self.message = display_text(*self.message.allocator(), message)?;
-        Ok(self)
-    }
-
-    /// Returns the diagnostic with one more label at the end.
-    ///
-    /// # Errors
-    ///
-    /// [`Error::OutOfMemory`] where an allocation fails.
-    pub fn with_label(mut self, label: Label<FileId>) -> Result<Self, Error>
-        ensures labels { IfOk result (λ d. d.labels.items ≡ self.labels.items ++ label ∷ []) }
-        ensures others { IfOk result (λ d. d ≡ record self { labels = d.labels }) }
-        ensures failed { OnErr result (IsErrOf result Error.OutOfMemory) }
-    {
-        self.labels.push(label)?;
-        Ok(self)
-    }
-
-    /// Returns the diagnostic with these labels at the end, in their order.
-    ///
-    /// # Errors
-    ///
-    /// [`Error::OutOfMemory`] where an allocation fails.
-    pub fn with_labels(mut self, mut labels: Vec<Label<FileId>>) -> Result<Self, Error>
-        ensures labels { IfOk result (λ d. d.labels.items ≡ self.labels.items ++ labels.items) }
-        ensures others { IfOk result (λ d. d ≡ record self { labels = d.labels }) }
-        ensures failed { OnErr result (IsErrOf result Error.OutOfMemory) }
-    {
-        self.labels.append(&mut labels)?;
-        Ok(self)
-    }
-
-    /// Returns the diagnostic with the labels of an iterator at the end, in their order.
-    ///
-    /// # Errors
-    ///
-    /// [`Error::OutOfMemory`] where an allocation fails.
-    ///
-    /// # Requires
-    ///
-    /// Whichever iterator `into_iter` returns: its `next` may be called, and its items come to an
-    /// end.
-    pub fn with_labels_iter<I: IntoIterator<Item = Label<FileId>>>(
-        mut self,
-        labels: I,
-    ) -> Result<Self, Error>
-    where
-        I::IntoIter: Drop,
-        requires { (it : I.IntoIter) → I.into_iter_gives labels it →
-            I.IntoIter.can_next it × IsFinite (I.IntoIter.remaining it) }
-        ensures labels { IfOk result (λ d.
-            (it : I.IntoIter) × I.into_iter_gives labels it
-            × WholeRun I.IntoIter.next_gives it (λ run.
-            d.labels.items ≡ self.labels.items ++ run.items)) }
-        ensures others { IfOk result (λ d. d ≡ record self { labels = d.labels }) }
-        ensures failed { OnErr result (IsErrOf result Error.OutOfMemory) }
-    {
-        let mut more: Vec<Label<FileId>> = labels.into_iter().collect(*self.labels.allocator())?;
-        self.labels.append(&mut more)?;
-        Ok(self)
-    }
-
-    /// Returns the diagnostic with the text that `note` displays as one more note at the end.
-    ///
-    /// # Errors
-    ///
-    /// - [`Error::FormatError`] where the `Display` fails.
-    /// - [`Error::OutOfMemory`] where an allocation fails.
-    pub fn with_note<D: Display + Drop>(mut self, note: D) -> Result<Self, Error>
-        ensures note { IfOk result (λ d.
-            IfSome (D.output note) (λ bytes.
-            map string_bytes d.notes.items
-            ≡ map string_bytes self.notes.items ++ bytes ∷ [])) }
-        ensures added { IfOk result (λ d.
-            (added : String Global) × (d.notes.items ≡ self.notes.items ++ added ∷ [])) }
-        ensures others { IfOk result (λ d. d ≡ record self { notes = d.notes }) }
-        ensures failed { IfErr result IsTextFailure }
-    {
-        let text = display_text(*self.message.allocator(), note)?;
-        self.notes.push(text)?;
-        Ok(self)
-    }
-
-    /// Returns the diagnostic with these notes at the end, in their order.
-    ///
-    /// # Errors
-    ///
-    /// [`Error::OutOfMemory`] where an allocation fails.
-    pub fn with_notes(mut self, mut notes: Vec<String>) -> Result<Self, Error>
-        ensures notes { IfOk result (λ d. d.notes.items ≡ self.notes.items ++ notes.items) }
-        ensures others { IfOk result (λ d. d ≡ record self { notes = d.notes }) }
-        ensures failed { OnErr result (IsErrOf result Error.OutOfMemory) }
-    {
-        self.notes.append(&mut notes)?;
-        Ok(self)
-    }
-
-    /// Returns the diagnostic with the notes of an iterator at the end, in their order.
-    ///
-    /// # Errors
-    ///
-    /// [`Error::OutOfMemory`] where an allocation fails.
-    ///
-    /// # Requires
-    ///
-    /// Whichever iterator `into_iter` returns: its `next` may be called, and its items come to an
-    /// end.
-    pub fn with_notes_iter<I: IntoIterator<Item = String>>(
-        mut self,
-        notes: I,
-    ) -> Result<Self, Error>
-    where
-        I::IntoIter: Drop,
-        requires { (it : I.IntoIter) → I.into_iter_gives notes it →
-            I.IntoIter.can_next it × IsFinite (I.IntoIter.remaining it) }
-        ensures notes { IfOk result (λ d.
-            (it : I.IntoIter) × I.into_iter_gives notes it
-            × WholeRun I.IntoIter.next_gives it (λ run.
-            d.notes.items ≡ self.notes.items ++ run.items)) }
-        ensures others { IfOk result (λ d. d ≡ record self { notes = d.notes }) }
-        ensures failed { OnErr result (IsErrOf result Error.OutOfMemory) }
-    {
-        let mut more: Vec<String> = notes.into_iter().collect(*self.notes.allocator())?;
-        self.notes.append(&mut more)?;
-        Ok(self)
-    }
-}
-
-impl<FileId: Copy> Diagnostic<FileId> {
-    ghost use Rattle.codespan_files.specs.Diagnostics.{diagnostic_view};
-
-    /// Returns an equal diagnostic.
-    ///
-    /// # Errors
-    ///
-    /// [`Error::OutOfMemory`] where an allocation fails.
-    pub fn clone(&self) -> Result<Self, Error>
-        ensures same { IfOk result (λ d. diagnostic_view d ≡ diagnostic_view self.now) }
-        ensures failed { OnErr result (IsErrOf result Error.OutOfMemory) }
-    {
-        let code = match &self.code {
-            Some(code) => Some(code.clone()?),
-            None => None,
-        };
-        Ok(Diagnostic {
-            severity: self.severity,
-            code,
-            message: self.message.clone()?,
-            labels: clone_labels(&self.labels)?,
-            notes: clone_notes(&self.notes)?,
-        })
     }
 }
