@@ -8,7 +8,7 @@ ghost use Rattle.codespan_reporting.specs.Inner.OutputPlans.{IsCollected, IsColl
 
 use crate::term::views::annotation::Annotation;
 use crate::term::views::annotation::by_line::group_by_line;
-use crate::term::views::annotation::order::sort;
+use crate::term::views::annotation::order::{are_in_order, sort};
 use crate::term::views::collect::label_annotations::{
     FoundAnnotations, LabelIndices, collect_label,
 };
@@ -56,8 +56,10 @@ pub fn collect<'files, 'd, F: Files<'files>>(
         (map label_of labels.now)) result }
 {
     let mut collected = collect_in_turn(alloc, files, config, labels)?;
-    group_by_line(&mut collected.annotations)?;
-    sort(&mut collected.annotations);
+    if !are_in_order(&collected.annotations) {
+        group_by_line(&mut collected.annotations)?;
+        sort(&mut collected.annotations);
+    }
     Ok(collected)
 }
 

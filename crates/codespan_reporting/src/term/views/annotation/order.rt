@@ -1,6 +1,6 @@
 //! The order of annotations.
 
-ghost use Rattle.std.specs.Prelude.{◌≡◌, map};
+ghost use Rattle.std.specs.Prelude.{◌≡◌, map, true};
 ghost use Rattle.std.specs.List.Sorted.{IsPermutation, IsSortedBy};
 ghost use Rattle.codespan_reporting.specs.Inner.Annotations.{annotation_cmp, is_below, rank_of, kind_cmp};
 ghost use Rattle.codespan_reporting.specs.Inner.AnnotationViews.{annotation_view};
@@ -68,10 +68,39 @@ pub fn rank<FileId>(annotation: &Annotation<'_, FileId>) -> usize
     }
 }
 
-/// Sorts annotations.
+/// Returns whether one annotation is before another in the order of [`compare`]. Of two marks of
+/// one line, as most are that are compared, it is found by few instructions.
+#[inline(always)]
+fn is_before<FileId>(left: &Annotation<'_, FileId>, right: &Annotation<'_, FileId>) -> bool
+    ensures { result ≡ is_below (annotation_view left.now) (annotation_view right.now) }
+{
+    if left.file != right.file {
+        return left.file < right.file;
+    }
+    if left.line.index != right.line.index {
+        return left.line.index < right.line.index;
+    }
+    match (&left.kind, &right.kind) {
+        (AnnotationKind::Multi { lane: one, .. }, AnnotationKind::Multi { lane: other, .. }) => {
+            *one < *other
+        }
+        _ => compare_kinds(left, right).is_lt(),
+    }
+}
+
+/// Returns whether annotations are found to be in order.
+pub fn are_in_order<FileId>(annotations: &[Annotation<'_, FileId>]) -> bool
+    ensures { result ≡ true → IsSortedBy is_below (map annotation_view annotations.now) }
+{
+    annotations.is_sorted_by(|left, right| !is_before(right, left))
+}
+
+/// Sorts annotations, unless they are in order.
 pub fn sort<FileId>(annotations: &mut Vec<Annotation<'_, FileId>>)
     ensures permutation { IsPermutation annotations.old.items annotations.new.items }
     ensures sorted { IsSortedBy is_below (map annotation_view annotations.new.items) }
 {
-    annotations.sort_unstable_by(|left, right| compare(left, right));
+    if !are_in_order(annotations) {
+        annotations.sort_unstable_by(|left, right| compare(left, right));
+    }
 }

@@ -87,9 +87,9 @@ impl<'a, 'c, 'files, F: Files<'files>> LabelCollector<'a, 'c, 'files, F> {
         match self.lines.part_on(line.index) {
             None => None,
             Some(part) => Some(AnnotationKind::Multi {
+                part,
                 lane: self.at.lane,
                 label,
-                part,
             }),
         }
     }
