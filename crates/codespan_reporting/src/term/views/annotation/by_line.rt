@@ -19,20 +19,22 @@ const MIN_LEN: usize = 32;
 /// kinds. Those of one line and one rank keep their order.
 ///
 /// They stay as they are where they are of several files, are few, or are fewer than the lines from
-/// the first to the last. The time is in proportion to their number.
+/// the first to the last. Returns whether they were moved. The time is in proportion to their
+/// number.
 ///
 /// # Errors
 ///
 /// `OutOfMemory`: an allocation fails.
-pub fn group_by_line<FileId>(annotations: &mut Vec<Annotation<'_, FileId>>) -> Result<(), Error>
+pub fn group_by_line<FileId>(annotations: &mut Vec<Annotation<'_, FileId>>) -> Result<bool, Error>
     ensures permutation { IsPermutation annotations.old.items annotations.new.items }
     ensures failed { OnErr result (IsErrOf result Error.OutOfMemory) }
 {
-    if let Some(lines) = lines_to_group(annotations) {
-        let mut targets = targets_by_line(annotations, lines)?;
-        move_to_targets(annotations, &mut targets);
-    }
-    Ok(())
+    let Some(lines) = lines_to_group(annotations) else {
+        return Ok(false);
+    };
+    let mut targets = targets_by_line(annotations, lines)?;
+    move_to_targets(annotations, &mut targets);
+    Ok(true)
 }
 
 /// Returns the indices of the lines, from the first to the last, of annotations that are worth
@@ -69,11 +71,10 @@ fn targets_by_line<FileId>(
     let alloc = *annotations.allocator();
     let line_total = lines.end.saturating_sub(lines.start);
     let mut next = vec![in alloc; 0; line_total.saturating_mul(RANKS)]?;
-    let mut targets = Vec::with_capacity(alloc, annotations.len())?;
-    for annotation in annotations {
-        let group = group_of(annotation, lines.start);
-        count(&mut next, group);
-        targets.push(group)?;
+    let mut targets = vec![in alloc; 0; annotations.len()]?;
+    for (target, annotation) in targets.iter_mut().zip(annotations) {
+        *target = group_of(annotation, lines.start);
+        count(&mut next, *target);
     }
     add_up(&mut next);
     for target in &mut targets {

@@ -7,8 +7,8 @@ use Rattle.codespan_reporting.proofs.AnnotationOrder.{below_order}
 use Rattle.codespan_laws.proofs.SortedLists.{sorted-map}
 use Rattle.codespan_reporting.proofs.term.views.annotation.order.sort.Goals as goal
 
-pub returns-then-not-are_in_order-clause-sorted : goal.returns-then-not-are_in_order-clause-sorted
-returns-then-not-are_in_order-clause-sorted g c =
+pub returns-clause-sorted : goal.returns-clause-sorted
+returns-clause-sorted g c =
     sorted-map annotation_view is_below _
     (c.sort_unstable_by.ensures.sorted (λ x y. is_below (annotation_view x) (annotation_view y))
     (record { one_way = λ x y. below_order.one_way (annotation_view x) (annotation_view y); chain = λ x y z. below_order.chain (annotation_view x) (annotation_view y) (annotation_view z) })
