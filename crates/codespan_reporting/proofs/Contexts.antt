@@ -144,7 +144,7 @@ module _ {Id : Type 0} (x : CollectedLabel Id) where
   pub record GathersLines (old new : FoundAnnotations Id) (n : ℕ) : Type 0 where
     pub within : n ≤ line_count x.file
     pub added : AddsOf x.file old.annotations.items new.annotations.items (entries_below n)
-    pub counted : new.padding ≡ fold max old.padding (digits_below n)
+    pub counted : new.padding.digits ≡ fold max old.padding.digits (digits_below n)
     pub answered : failed (lookups_below n) ≡ None
 
   -- all lines are done with
@@ -160,7 +160,7 @@ module _ {Id : Type 0} {x : CollectedLabel Id} where
   collected-start {xs} {n} there low far = record {
     within = omega (arith, there.last);
     added = Adds-as (gives_none (annotations_on x.config x.file x.label x.at) 0 n (λ l _ high. no_entries x l (too_far l (omega arith)))) Adds-none;
-    counted = sym (ap (fold max xs.padding) (gives_none (digits_on x.file x.label) 0 n (λ l _ high. no_digits x l (too_far l (omega arith)))));
+    counted = sym (ap (fold max xs.padding.digits) (gives_none (digits_on x.file x.label) 0 n (λ l _ high. no_digits x l (too_far l (omega arith)))));
     answered = ap (failed x) (gives_none (lookups_on x.config x.file x.label) 0 n (λ l _ high. no_lookups x l (too_far l (omega arith))));
   }
     where
@@ -176,7 +176,7 @@ module _ {Id : Type 0} {x : CollectedLabel Id} where
     collected-snippet_line there near inside adds counts none = record {
       within = ⊎_elim (λ asked. let k = inside asked in omega arith) (λ skipped. further skipped) (cases_Bool (is_asked x.config x.file x.label n));
       added = Adds-as (gives_more (annotations_on x.config x.file x.label x.at) n) (Adds-both g.added adds);
-      counted = counts ∙ ap (λ k. fold max k (digits_on x.file x.label n)) g.counted ∙ sym (greatest-append xs.padding (digits_below x n) (digits_on x.file x.label n)) ∙ sym (ap (fold max xs.padding) (gives_more (digits_on x.file x.label) n));
+      counted = counts ∙ ap (λ k. fold max k (digits_on x.file x.label n)) g.counted ∙ sym (greatest-append xs.padding.digits (digits_below x n) (digits_on x.file x.label n)) ∙ sym (ap (fold max xs.padding.digits) (gives_more (digits_on x.file x.label) n));
       answered = ap (failed x) (gives_more (lookups_on x.config x.file x.label) n) ∙ answered_then x (lookups_below x n) (lookups_on x.config x.file x.label n) g.answered ∙ none;
     }
       where
@@ -203,7 +203,7 @@ module _ {Id : Type 0} {x : CollectedLabel Id} where
         → label_digits x.file x.label ≡ digits_below x n → lookup_past_end x.config x.file (x.failure x.id) x.label ≡ [] → GathersLabel x xs ys
     collected-up annotation_if_any asked digits no_probe = record {
       added = Adds-as annotation_if_any g.added;
-      counted = g.counted ∙ sym (ap (fold max xs.padding) digits);
+      counted = g.counted ∙ sym (ap (fold max xs.padding.digits) digits);
       answered = ap (failed x) (ap (λ (ls : List Lookup). flat_map of_line (asked_lines x.config x.file x.label) ++ ls) no_probe ∙ append-nil _ ∙ asked) ∙ g.answered;
     }
 

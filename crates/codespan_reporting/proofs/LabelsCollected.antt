@@ -44,7 +44,7 @@ pub record AreCollected {Id : Type 0} (table : FileDatabase Id) (config : Config
   pub starts_are : starts_view files ≡ map (file_start table.same done) ids
   pub lanes_are : lanes_view files ≡ map (lanes_in table.same table.file done) ids
   pub added : Adds (IsOfFiles table.file ids) [] found.annotations.items (annotations_after table.same table.file config ids [] done)
-  pub counted : found.padding ≡ fold max 0 (all_digits table.file done)
+  pub counted : found.padding.digits ≡ fold max 0 (all_digits table.file done)
   pub answered : labels_failure config table done ≡ None
 
 -- the annotations of a label were added, the padding fits the lines that it spans, and no lookup of
@@ -151,7 +151,7 @@ module _ {Id : Type 0} {table : FileDatabase Id} (lawful : AreFiles table) {labe
         (Adds-both g.added widened)
 
     -- the padding fits the lines that it spans
-    counted-more : (more : FoundAnnotations Id) → more.padding ≡ fold max found.padding (label_digits (file label.file_id) (label_of label).label) → more.padding ≡ fold max 0 (all_digits file (before labels (index + 1)))
+    counted-more : (more : FoundAnnotations Id) → more.padding.digits ≡ fold max found.padding.digits (label_digits (file label.file_id) (label_of label).label) → more.padding.digits ≡ fold max 0 (all_digits file (before labels (index + 1)))
     counted-more more counts =
         let digits : InFile Id → List ℕ = λ x. label_digits (file x.id) x.label in
         counts ∙ ap (λ n. fold max n (digits (label_of label))) g.counted

@@ -30,7 +30,7 @@ abbrev pub kind_view : {Id : Type 0} → ℕ → RustKind Id → AnnotationKind
 kind_view start given.Shown = Shown
 kind_view start (given.Single index label) =
     Single index (from_line_start start (label_of label.now).label)
-kind_view start (given.Multi lane label part) =
+kind_view start (given.Multi part lane label) =
     Multi (record {
       lane = lane;
       style = label.now.style;

@@ -86,7 +86,7 @@ module _ {Id : Type 0} (x : CollectedLabel Id) where
 
   -- the padding has grown as far as the number of a line needs, where it spans the line
   abbrev pub MakesRoomForLine : FoundAnnotations Id → FoundAnnotations Id → ℕ → Type 0
-  MakesRoomForLine old new l = new.padding ≡ fold max old.padding (digits_on x.file x.label l)
+  MakesRoomForLine old new l = new.padding.digits ≡ fold max old.padding.digits (digits_on x.file x.label l)
 
   -- what the lookups of a line fail with, where it is looked up
   abbrev pub failure_on : ℕ → Option Error
@@ -102,7 +102,7 @@ module _ {Id : Type 0} (x : CollectedLabel Id) where
 
   -- the padding has grown as far as the numbers of the lines that it spans need
   abbrev pub MakesRoom : FoundAnnotations Id → FoundAnnotations Id → Type 0
-  MakesRoom old new = new.padding ≡ fold max old.padding (label_digits x.file x.label)
+  MakesRoom old new = new.padding.digits ≡ fold max old.padding.digits (label_digits x.file x.label)
 
   -- what the lookups of its lines fail with
   abbrev pub lines_failure : Option Error

@@ -53,12 +53,12 @@ pub enum AnnotationKind<'d, FileId> {
     /// The label is a multi-line label, and the line is between its start and its end, or one of
     /// them. It may be hidden.
     Multi {
+        /// The label's part that is on the line. It comes first, where it takes no word of its own.
+        part: MultiPart,
         /// The label's lane: the number of the file's multi-line labels before it.
         lane: usize,
         /// The label.
         label: &'d Label<FileId>,
-        /// Its part that is on the line.
-        part: MultiPart,
     },
 }
 

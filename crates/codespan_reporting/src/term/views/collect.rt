@@ -7,12 +7,12 @@ ghost use Rattle.codespan_reporting.specs.Inner.CollectedLabels.{labels_failure}
 ghost use Rattle.codespan_reporting.specs.Inner.OutputPlans.{IsCollected, IsCollectedInTurn};
 
 use crate::term::views::annotation::Annotation;
-use crate::term::views::annotation::by_line::group_by_line;
-use crate::term::views::annotation::order::sort;
+use crate::term::views::annotation::order::put_in_order;
 use crate::term::views::collect::label_annotations::{
     FoundAnnotations, LabelIndices, collect_label,
 };
 use crate::term::views::collect::labeled_files::{LabeledFile, add_label, file_index};
+use crate::term::views::collect::padding::PaddingWidth;
 use codespan_base::diagnostic::Label;
 use codespan_base::files::{Error, Files};
 use codespan_base::term::Config;
@@ -56,8 +56,7 @@ pub fn collect<'files, 'd, F: Files<'files>>(
         (map label_of labels.now)) result }
 {
     let mut collected = collect_in_turn(alloc, files, config, labels)?;
-    group_by_line(&mut collected.annotations)?;
-    sort(&mut collected.annotations);
+    put_in_order(&mut collected.annotations)?;
     Ok(collected)
 }
 
@@ -81,7 +80,7 @@ fn collect_in_turn<'files, 'd, F: Files<'files>>(
     let mut labeled = Vec::new(alloc);
     let mut found = FoundAnnotations {
         annotations: Vec::with_capacity(alloc, labels.len())?,
-        padding: 0,
+        padding: PaddingWidth::with_digits(0),
     };
     let mut previous = 0;
     for (index, label) in labels.iter().enumerate() {
@@ -96,6 +95,6 @@ fn collect_in_turn<'files, 'd, F: Files<'files>>(
         labels,
         files: labeled,
         annotations: found.annotations,
-        padding: found.padding,
+        padding: found.padding.digits,
     })
 }

@@ -5,7 +5,6 @@ ghost use Rattle.codespan_reporting.specs.Inner.FileLookups.{FailsByOrFormat};
 ghost use Rattle.codespan_picture.specs.Picture.{label_of};
 ghost use Rattle.codespan_reporting.specs.Inner.OutputPlans.{IsCollected, IsOutputPlan, output_plan_failure};
 
-use crate::term::views::annotation::groups::shown_count;
 use crate::term::views::collect::Collected;
 use crate::term::views::plan::padding::padding_of_lines;
 use crate::term::views::plan::snippet_lines::SnippetLine;
@@ -27,6 +26,19 @@ pub struct OutputPlan<'e, 'd, FileId> {
     pub snippet_lines: Vec<SnippetLine<'e, 'd, FileId>>,
     /// The padding width, in characters.
     pub padding: usize,
+}
+
+/// Returns a number that is not below that of the shown lines: each has an annotation, and each
+/// label makes its ends shown, and context lines.
+fn shown_limit<FileId>(config: &Config<'_>, collected: &Collected<'_, FileId>) -> usize {
+    let of_one_label = config
+        .before_label_lines
+        .saturating_add(config.after_label_lines)
+        .saturating_add(config.start_context_lines)
+        .saturating_add(config.end_context_lines)
+        .saturating_add(2);
+    let of_labels = collected.labels.len().saturating_mul(of_one_label);
+    of_labels.min(collected.annotations.len())
 }
 
 /// Plans an output: looks up the numbers of filled lines where the padding width depends on them,
@@ -52,7 +64,7 @@ pub fn plan_output<'files, 'e, 'd, F: Files<'files>>(
     ensures failed { FailsByOrFormat (output_plan_failure config.now (F.database files.now)
         (map label_of collected.now.labels.now)) result }
 {
-    let mut snippet_lines = Vec::with_capacity(alloc, shown_count(&collected.annotations))?;
+    let mut snippet_lines = Vec::with_capacity(alloc, shown_limit(config, collected))?;
     let files = plan_snippets(alloc, files, config.layout, collected, &mut snippet_lines)?;
     let padding = match config.layout {
         Layout::Classic => collected.padding,

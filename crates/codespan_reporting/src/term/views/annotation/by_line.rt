@@ -18,49 +18,38 @@ const MIN_LEN: usize = 32;
 /// Moves annotations to the order of their lines, and on a line to that of the ranks of their
 /// kinds. Those of one line and one rank keep their order.
 ///
-/// They stay as they are where they are in that order already, are of several files, are few, or
-/// are fewer than the lines from the first to the last. The time is in proportion to their number.
+/// They stay as they are where they are of several files, are few, or are fewer than the lines from
+/// the first to the last. Returns whether they were moved. The time is in proportion to their
+/// number.
 ///
 /// # Errors
 ///
 /// `OutOfMemory`: an allocation fails.
-pub fn group_by_line<FileId>(annotations: &mut Vec<Annotation<'_, FileId>>) -> Result<(), Error>
+pub fn group_by_line<FileId>(annotations: &mut Vec<Annotation<'_, FileId>>) -> Result<bool, Error>
     ensures permutation { IsPermutation annotations.old.items annotations.new.items }
     ensures failed { OnErr result (IsErrOf result Error.OutOfMemory) }
 {
-    if let Some(lines) = lines_to_group(annotations) {
-        let mut targets = targets_by_line(annotations, lines)?;
-        move_to_targets(annotations, &mut targets);
-    }
-    Ok(())
-}
-
-/// Returns whether the indices of the lines never decrease.
-fn are_in_line_order<FileId>(annotations: &[Annotation<'_, FileId>]) -> bool {
-    let mut last = 0;
-    for annotation in annotations {
-        if annotation.line.index < last {
-            return false;
-        }
-        last = annotation.line.index;
-    }
-    true
+    let Some(lines) = lines_to_group(annotations) else {
+        return Ok(false);
+    };
+    let mut targets = targets_by_line(annotations, lines)?;
+    move_to_targets(annotations, &mut targets);
+    Ok(true)
 }
 
 /// Returns the indices of the lines, from the first to the last, of annotations that are worth
-/// moving: those of one file, not in order, not few, and no fewer than the lines.
+/// moving: those of one file, not few, and no fewer than the lines.
 fn lines_to_group<FileId>(annotations: &[Annotation<'_, FileId>]) -> Option<Range<usize>> {
-    if annotations.len() < MIN_LEN || are_in_line_order(annotations) {
+    if annotations.len() < MIN_LEN {
         return None;
     }
+    let file = annotations[0].file;
     let mut first = usize::MAX;
     let mut last = 0;
-    let mut file = None;
     for annotation in annotations {
-        if file.is_some_and(|known| known != annotation.file) {
+        if annotation.file != file {
             return None;
         }
-        file = Some(annotation.file);
         first = first.min(annotation.line.index);
         last = last.max(annotation.line.index);
     }
@@ -82,22 +71,23 @@ fn targets_by_line<FileId>(
     let alloc = *annotations.allocator();
     let line_total = lines.end.saturating_sub(lines.start);
     let mut next = vec![in alloc; 0; line_total.saturating_mul(RANKS)]?;
-    for annotation in annotations {
-        count(&mut next, group_of(annotation, lines.start));
+    let mut targets = vec![in alloc; 0; annotations.len()]?;
+    for (target, annotation) in targets.iter_mut().zip(annotations) {
+        *target = group_of(annotation, lines.start);
+        count(&mut next, *target);
     }
     add_up(&mut next);
-    let mut targets = Vec::with_capacity(alloc, annotations.len())?;
-    for annotation in annotations {
-        targets.push(count(&mut next, group_of(annotation, lines.start)))?;
+    for target in &mut targets {
+        *target = count(&mut next, *target);
     }
     Ok(targets)
 }
 
 /// Returns the number of groups before that of the annotation: each line from the first one on has
-/// one for each rank.
+/// one for each rank. No number wraps, since the line is not before the first one.
 fn group_of<FileId>(annotation: &Annotation<'_, FileId>, first_line: usize) -> usize {
-    let line = annotation.line.index.saturating_sub(first_line);
-    line.saturating_mul(RANKS).saturating_add(rank(annotation))
+    let line = annotation.line.index.wrapping_sub(first_line);
+    line.wrapping_mul(RANKS).wrapping_add(rank(annotation))
 }
 
 /// Adds one to the number at this index, and returns what it was.

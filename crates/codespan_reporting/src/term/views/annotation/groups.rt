@@ -15,14 +15,6 @@ pub fn shows_line<FileId>(annotation: &Annotation<'_, FileId>) -> bool
     !matches!(annotation.kind, AnnotationKind::Multi { .. })
 }
 
-/// Returns how many annotations make their lines shown: at least as many as there are shown lines.
-pub fn shown_count<FileId>(annotations: &[Annotation<'_, FileId>]) -> usize {
-    annotations
-        .iter()
-        .filter(|annotation| shows_line(*annotation))
-        .count()
-}
-
 /// Returns how many annotations at the start are of the line.
 pub fn line_len<FileId>(annotations: &[Annotation<'_, FileId>], line: usize) -> usize
     ensures value { result ≡ prefix_len (λ e. is_on_line line (annotation_view e)) annotations.now }

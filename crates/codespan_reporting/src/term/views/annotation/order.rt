@@ -1,11 +1,13 @@
 //! The order of annotations.
 
-ghost use Rattle.std.specs.Prelude.{◌≡◌, map};
+ghost use Rattle.std.specs.Prelude.{◌≡◌, map, true, IfOk, OnErr, IsErrOf};
 ghost use Rattle.std.specs.List.Sorted.{IsPermutation, IsSortedBy};
 ghost use Rattle.codespan_reporting.specs.Inner.Annotations.{annotation_cmp, is_below, rank_of, kind_cmp};
 ghost use Rattle.codespan_reporting.specs.Inner.AnnotationViews.{annotation_view};
 
+use crate::term::views::annotation::by_line::group_by_line;
 use crate::term::views::annotation::{Annotation, AnnotationKind, range_in_line};
+use codespan_base::files::Error;
 use std::cmp::Ordering;
 
 /// Compares two annotations: by file, by line, and by kind. Only equal annotations are `Equal`.
@@ -68,10 +70,60 @@ pub fn rank<FileId>(annotation: &Annotation<'_, FileId>) -> usize
     }
 }
 
+/// Returns whether one annotation is before another in the order of [`compare`]. Of two marks of
+/// one line, as most are that are compared, it is found by few instructions.
+#[inline(always)]
+fn is_before<FileId>(left: &Annotation<'_, FileId>, right: &Annotation<'_, FileId>) -> bool
+    ensures { result ≡ is_below (annotation_view left.now) (annotation_view right.now) }
+{
+    if left.file != right.file {
+        return left.file < right.file;
+    }
+    if left.line.index != right.line.index {
+        return left.line.index < right.line.index;
+    }
+    match (&left.kind, &right.kind) {
+        (AnnotationKind::Multi { lane: one, .. }, AnnotationKind::Multi { lane: other, .. }) => {
+            *one < *other
+        }
+        _ => compare_kinds(left, right).is_lt(),
+    }
+}
+
+/// Returns whether annotations are found to be in order.
+fn are_in_order<FileId>(annotations: &[Annotation<'_, FileId>]) -> bool
+    ensures { result ≡ true → IsSortedBy is_below (map annotation_view annotations.now) }
+{
+    annotations.is_sorted_by(|left, right| !is_before(right, left))
+}
+
 /// Sorts annotations.
-pub fn sort<FileId>(annotations: &mut Vec<Annotation<'_, FileId>>)
+fn sort<FileId>(annotations: &mut Vec<Annotation<'_, FileId>>)
     ensures permutation { IsPermutation annotations.old.items annotations.new.items }
     ensures sorted { IsSortedBy is_below (map annotation_view annotations.new.items) }
 {
     annotations.sort_unstable_by(|left, right| compare(left, right));
+}
+
+/// Puts annotations in order. Those that are in order already, or once they are grouped by line,
+/// are not sorted.
+///
+/// # Errors
+///
+/// `OutOfMemory`: an allocation fails.
+pub fn put_in_order<FileId>(annotations: &mut Vec<Annotation<'_, FileId>>) -> Result<(), Error>
+    ensures permutation { IsPermutation annotations.old.items annotations.new.items }
+    ensures sorted { IfOk result (λ _.
+        IsSortedBy is_below (map annotation_view annotations.new.items)) }
+    ensures failed { OnErr result (IsErrOf result Error.OutOfMemory) }
+{
+    if are_in_order(annotations) {
+        return Ok(());
+    }
+    let is_grouped = group_by_line(annotations)?;
+    if is_grouped && are_in_order(annotations) {
+        return Ok(());
+    }
+    sort(annotations);
+    Ok(())
 }

@@ -13,7 +13,7 @@ ghost use Rattle.codespan_reporting.specs.Inner.LabelSpans.{line_of_end, line_of
 
 use crate::term::views::annotation::{Annotation, AnnotationKind, LineInfo};
 use crate::term::views::collect::label_span::{LabelSpan, label_lines};
-use crate::term::views::collect::padding::padding_with;
+use crate::term::views::collect::padding::PaddingWidth;
 use crate::term::views::source_file::SourceFile;
 use codespan_base::diagnostic::Label;
 use codespan_base::files::{Error, Files};
@@ -35,9 +35,8 @@ pub struct LabelIndices {
 pub struct FoundAnnotations<'d, FileId> {
     /// The annotations.
     pub annotations: Vec<Annotation<'d, FileId>>,
-    /// The number of digits of the longest number of a line that a label spans; 0 without such a
-    /// line.
-    pub padding: usize,
+    /// The width for the numbers of the lines that labels span.
+    pub padding: PaddingWidth,
 }
 
 /// Looks up the lines of a label and makes its annotations.
@@ -87,9 +86,9 @@ impl<'a, 'c, 'files, F: Files<'files>> LabelCollector<'a, 'c, 'files, F> {
         match self.lines.part_on(line.index) {
             None => None,
             Some(part) => Some(AnnotationKind::Multi {
+                part,
                 lane: self.at.lane,
                 label,
-                part,
             }),
         }
     }
@@ -169,7 +168,7 @@ impl<'a, 'c, 'files, F: Files<'files>> LabelCollector<'a, 'c, 'files, F> {
             return Ok(false);
         };
         if is_spanned {
-            found.padding = padding_with(found.padding, line.number);
+            found.padding.fit(line.number);
         }
         self.push_line(label, line, &mut found.annotations)?;
         Ok(true)

@@ -34,14 +34,15 @@ impl LabelSpan {
     pub fn part_on(self, index: usize) -> Option<MultiPart>
         ensures { result ≡ part_of self.first self.last index }
     {
-        if self.is_single() {
+        // Most lines of a long label are inside it.
+        if self.first < index && index < self.last {
+            Some(MultiPart::Left)
+        } else if self.is_single() {
             None
         } else if self.first == index {
             Some(MultiPart::Top)
         } else if self.last == index {
             Some(MultiPart::Bottom)
-        } else if self.first < index && index < self.last {
-            Some(MultiPart::Left)
         } else {
             None
         }
@@ -51,7 +52,7 @@ impl LabelSpan {
     pub fn spans(self, index: usize) -> bool
         ensures { result ≡ spans_line self.first self.last index }
     {
-        index == self.first || index == self.last || (self.first <= index && index <= self.last)
+        (self.first <= index && index <= self.last) || index == self.first || index == self.last
     }
 
     /// Returns how many annotations the spanned lines make at most: a part of a multi-line label on
@@ -83,10 +84,12 @@ impl LabelSpan {
     pub fn shows(self, config: &Config<'_>, index: usize) -> bool
         ensures { result ≡ shows config.now self.first self.last index }
     {
-        index == self.first
-            || index == self.last
-            || self.is_around(config, index)
-            || self.is_near_end(config, index)
+        // Most lines of a long label are inside it.
+        if self.first < index && index < self.last {
+            self.is_near_end(config, index)
+        } else {
+            index == self.first || index == self.last || self.is_around(config, index)
+        }
     }
 
     /// Returns whether the line is between the first line and the last one, within the context

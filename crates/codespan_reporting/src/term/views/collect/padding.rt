@@ -1,34 +1,43 @@
 //! The padding width for the numbers of collected lines.
 
-ghost use Rattle.std.specs.Prelude.{◌≡◌, ◌≤◌, decimal, length, max, true};
+ghost use Rattle.std.specs.Prelude.{◌≡◌, ◌<◌, ◌≤◌, ℕ, decimal, length, max};
 
 use codespan_renderer::term::renderer::count_digits;
 
-/// Returns the greater of a padding width and the number of digits of a line number. Of most
-/// numbers it is found without a division that they fit.
-#[inline(always)]
-pub fn padding_with(padding: usize, number: usize) -> usize
-    ensures { result ≡ max (length (decimal number)) padding }
-{
-    if fits(padding, number) {
-        padding
-    } else {
-        count_digits(number).max(padding)
-    }
+/// The number of digits of the longest of some numbers.
+#[derive(Clone, Copy)]
+pub struct PaddingWidth {
+    /// The number of digits; 0 without a number.
+    pub digits: usize,
+    /// Numbers below this one are known to have no more digits.
+    limit: usize,
+    ghost fits: { (n : ℕ) → n < limit → length (decimal n) ≤ digits },
 }
 
-/// Returns whether a number is found to have no more digits than this.
-#[inline(always)]
-fn fits(digits: usize, number: usize) -> bool
-    ensures { result ≡ true → length (decimal number) ≤ digits }
-{
-    match digits {
-        1 => number < 10,
-        2 => number < 100,
-        3 => number < 1_000,
-        4 => number < 10_000,
-        5 => number < 100_000,
-        6 => number < 1_000_000,
-        _ => false,
+impl PaddingWidth {
+    /// Returns the width without a number, or that of a number with this many digits.
+    pub fn with_digits(digits: usize) -> PaddingWidth
+        ensures { result.digits ≡ digits }
+    {
+        let limit = match digits {
+            1 => 10,
+            2 => 100,
+            3 => 1_000,
+            4 => 10_000,
+            5 => 100_000,
+            6 => 1_000_000,
+            _ => 0,
+        };
+        PaddingWidth { digits, limit }
+    }
+
+    /// Makes room for a number. Most numbers are found to fit by one comparison.
+    #[inline(always)]
+    pub fn fit(&mut self, number: usize)
+        ensures { self.new.digits ≡ max (length (decimal number)) self.old.digits }
+    {
+        if number >= self.limit {
+            *self = PaddingWidth::with_digits(count_digits(number).max(self.digits));
+        }
     }
 }

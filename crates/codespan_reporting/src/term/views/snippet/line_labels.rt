@@ -76,7 +76,7 @@ pub fn fill_multi_labels<'d, FileId>(
         match annotation.kind {
             AnnotationKind::Shown => {}
             AnnotationKind::Single { .. } => {}
-            AnnotationKind::Multi { lane, label, part } => {
+            AnnotationKind::Multi { part, lane, label } => {
                 let mark = multi_label(label, part, annotation.line.start);
                 multi_labels.push((lane, label.style, mark))?;
             }

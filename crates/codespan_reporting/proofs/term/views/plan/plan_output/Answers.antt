@@ -36,7 +36,7 @@ returns-clause-prepared g c =
     let labeled = labelled_files (g.F.Files.database c.args.files.now).same (((g.F.Files.database c.args.files.now).file)) (map label_of c.args.collected.now.labels.now) in
     let room : c.match-config.padding ≡ padding_of c.args.config.now labeled = elim c.match-config.branch [
       | in-Classic w ↦ spanned-padding lawful c.requires plans snippet_lines found w.in-Classic.is w.padding-is
-      | in-Unbroken w ↦ drawn-padding lawful c.requires plans snippet_lines found w.in-Unbroken.is (w.padding-is ∙ w.padding_of_lines-padding.ensures ∙ ap (λ ss. fold max 0 (flat_map line_digits ss)) w.deref-in-Unbroken.ensures.value)
+      | in-Unbroken w ↦ drawn-padding lawful c.requires plans snippet_lines found w.in-Unbroken.is (w.padding-is ∙ w.padding_of_lines-padding.ensures ∙ ap (λ ss. fold max 0 (flat_map line_digits ss)) w.deref.ensures.value)
     ] in
     output_plan-prepared lawful c.requires found room
 
