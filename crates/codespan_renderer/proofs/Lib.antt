@@ -17,3 +17,4 @@ pub mod PointerWalks
 pub mod WidthSearch
 pub mod KeptScans
 pub mod Pieces
+pub mod SkippedCells

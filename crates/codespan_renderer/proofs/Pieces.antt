@@ -14,9 +14,9 @@ use Rattle.codespan_renderer.specs.Inner.Sweeps.{starts_from, starts_in_order}
 use Rattle.codespan_renderer.proofs.Sweeping.{starts-lower}
 
 -- the elements before an index of a list and those from there on make the list
-pub taken-dropped : (n : ℕ) (xs : List GivenLabel) → take n xs ++ take (length xs - n) (drop n xs) ≡ xs
+pub taken-dropped : {X : Type 0} (n : ℕ) (xs : List X) → take n xs ++ take (length xs - n) (drop n xs) ≡ xs
 taken-dropped n xs =
-    ap (λ (l : List GivenLabel). take n xs ++ l) (ap (λ k. take k (drop n xs)) (sym (length-drop n xs)) ∙ take-length (drop n xs)) ∙ take-append-drop n xs
+    ap (λ l. take n xs ++ l) (ap (λ k. take k (drop n xs)) (sym (length-drop n xs)) ∙ take-length (drop n xs)) ∙ take-append-drop n xs
 
 -- ---- their order
 

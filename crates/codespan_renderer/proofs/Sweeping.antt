@@ -1,7 +1,7 @@
 -- A walk over the characters of a line that meets its labels as they begin.
 use Rattle.std.proofs.Props.{props}
 use Rattle.std.proofs.Math.Logic.{∥∥₁_elim}
-use Rattle.std.proofs.Common.{◌≡◌, ℕ, ◌+◌, ◌<◌, ◌≤◌, max, Bool, true, false, ◌&&◌, ◌||◌, nat_lt, nat_le, List, [], ◌∷◌, length, drop, get_or, drop-cons, add-one, refl, sym, ap, subst, ◌∙◌, arith, Option, Some, None}
+use Rattle.std.proofs.Common.{◌≡◌, ℕ, ◌+◌, ◌<◌, ◌≤◌, max, Bool, true, false, ◌&&◌, ◌||◌, nat_lt, nat_le, List, [], ◌∷◌, ◌++◌, length, drop, get_or, drop-cons, add-one, refl, sym, ap, subst, ◌∙◌, arith, Option, Some, None}
 use Rattle.std.specs.Prelude.{if◌then◌else◌, IfSome}
 use Rattle.std.specs.Iterator.{YieldsFirst}
 use Rattle.std.proofs.lemmas.Bool.{and_parts}
@@ -146,16 +146,25 @@ cells-step cs i d h = rw (drop-cons cs i d h, add-one) refl
 met-prop : (place : ℕ) (s : Sweep) → IsProp (HasMet place s)
 met-prop place s = Prim.hlevel props
 
--- at the line's start
-pub cursor-start : (s : Sweep) (cs : List Cell) → HasMet 0 s → Follow 0 cs → ∥ IsBefore s cs ∥₁
-cursor-start s cs met follow = ∣ record { place = 0; met = met; follow = follow } ∣₁
-
 met-later : (s : Sweep) (p q : ℕ) → p ≤ q → HasMet p s → HasMet q s
 met-later s p q h m = record {
   primary = record { is = λ c low some. m.primary.is c (omega arith) some };
   any = record { is = λ c low some. m.any.is c (omega arith) some };
   ordered = m.ordered;
 }
+
+-- the characters after some of those that follow one another
+follow-rest : (place : ℕ) (before left : List Cell) → Follow place (before ++ left) → (q : ℕ) × (place ≤ q) × Follow q left
+follow-rest place [] left follow = (place, omega arith, follow)
+follow-rest place (c ∷ cs) left follow =
+    let later = follow-rest (place + c.bytes) cs left follow.2 in
+    (later.0, omega (arith, later.1), later.2)
+
+-- before some characters of a line, the first ones left out
+pub cursor-start : (s : Sweep) (before left : List Cell) → HasMet 0 s → Follow 0 (before ++ left) → ∥ IsBefore s left ∥₁
+cursor-start s before left met follow =
+    let later = follow-rest 0 before left follow in
+    ∣ record { place = later.0; met = met-later s 0 later.0 later.1 met; follow = later.2 } ∣₁
 
 module _ (s : Sweep) (left rest : List Cell) (c : Cell) (step : left ≡ c ∷ rest) where
   here : (w : IsBefore s left) → Follow w.place (c ∷ rest)

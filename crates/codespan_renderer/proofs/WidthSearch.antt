@@ -25,7 +25,7 @@ blank_cell = record { code = 0; place = 0; bytes = 0; column = 0; width = 0 }
 -- ---- how characters lie
 
 -- no character begins before the first byte index
-spread-low : (place column : ℕ) (cs : List Cell) (j : ℕ) (d : Cell) → AreSpread place column cs → j < length cs → place ≤ (get_or cs j d).place
+pub spread-low : (place column : ℕ) (cs : List Cell) (j : ℕ) (d : Cell) → AreSpread place column cs → j < length cs → place ≤ (get_or cs j d).place
 spread-low place column [] j d laid h = absurd (omega arith)
 spread-low place column (c ∷ cs) zero d laid h = let here = laid.0 in omega arith
 spread-low place column (c ∷ cs) (suc j) d laid h =

@@ -1,5 +1,5 @@
 -- Words of the loops that write rows: runs of one character, and the best style found so far.
-use Rattle.std.specs.Prelude.{◌≡◌, ℕ, Bool, List, ◌++◌, map, filter, fold, reverse, slice_get, Option, Some, None, if◌then◌else◌}
+use Rattle.std.specs.Prelude.{◌≡◌, ℕ, Bool, List, ◌++◌, map, filter, fold, min, reverse, slice_get, Option, Some, None, if◌then◌else◌}
 use Rattle.std.specs.List.{list_any}
 use Rattle.std.specs.Option.{option_map}
 use Rattle.std.specs.Borrow.{Bor}
@@ -32,6 +32,10 @@ best_from passes found xs =
 abbrev pub pointer_found : List Labelled → Cell → Option LabelStyle
 pointer_found hanging c =
     if list_any (starts_in c) hanging then Some (pointer_style hanging c) else None
+
+-- the least start of the labels, or this byte index where all start past it or there is none
+abbrev pub least_start : ℕ → List Labelled → ℕ
+least_start end xs = fold (λ m (x : Labelled). min x.start m) end xs
 
 -- a label that may be there
 abbrev pub given_label : Option (Bor GivenLabel) → Option Labelled

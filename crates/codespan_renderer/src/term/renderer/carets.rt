@@ -4,7 +4,6 @@ ghost use Rattle.std.specs.Prelude.{◌≡◌, ◌+◌, ◌++◌, None};
 ghost use Rattle.codespan_base.specs.Streams.{newline};
 ghost use Rattle.codespan_base.specs.WriterLaw.{Sends};
 ghost use Rattle.codespan_picture.specs.Carets.{covers, covers_part, style_under, greatest_end};
-ghost use Rattle.codespan_picture.specs.Cells.{cells_to_end};
 ghost use Rattle.codespan_picture.specs.Given.{single_label_view, single_label_views};
 ghost use Rattle.codespan_renderer.specs.Inner.Runs.{better, caret_run, given_label};
 ghost use Rattle.codespan_renderer.specs.Inner.GivenLine.{look_view, line_view};
@@ -114,21 +113,20 @@ pub fn end_caret_run<W: PutStyle>(
 
 /// Writes the carets under the characters of a line, the last of which is the position after the
 /// text.
-fn write_carets<W: PutStyle, C: CharCursor>(
+fn write_carets<W: PutStyle, S: LineSource>(
     w: &mut W,
     look: Look<'_>,
     line: Line<'_, '_>,
-    mut characters: C,
+    source: &S,
 ) -> Result<(), W::Error>
-    requires left { C.left characters ≡ cells_to_end look.tab_width line.text.now }
-    requires labels { C.labels characters ≡ line.labels.now }
+    requires of { S.of source.now ≡ sourced_line look line }
     ensures { Sends (W.sink w.old)
         (given_carets look.entry line.entry.labels.now (given_cells_to_end look.entry line.entry))
         result (W.sink w.new) }
 {
     let end = greatest_end(line.labels);
+    let (mut run, mut characters) = source.characters_from_labels(end);
     let mut was = None;
-    let mut run = 0u128;
     while let Some(cell) = characters.next_cell() {
         if cell.place >= end {
             break;
@@ -193,7 +191,7 @@ pub fn write_caret_row<W: PutStyle, S: LineSource>(
         (caret_row (look_view look.entry) (line_view line.entry) ++ newline) result (W.sink w.new) }
 {
     write_row_start(w, look, line)?;
-    write_carets(w, look, line, source.characters_to_end())?;
+    write_carets(w, look, line, source)?;
     write_trailing(w, look.severity, messages.trailing)?;
     write_newline(w)
 }

@@ -6,8 +6,8 @@ ghost use Rattle.codespan_picture.specs.Cells.{width_of};
 ghost use Rattle.codespan_picture.specs.Given.{single_label_views};
 ghost use Rattle.codespan_picture.specs.RowParts.{cells_before, cells_up_to, greatest_start};
 ghost use Rattle.codespan_renderer.specs.Inner.GivenRows.{given_cells, given_pointers, given_pointers_before};
-ghost use Rattle.codespan_renderer.specs.Inner.Runs.{AreHanging};
-ghost use Rattle.codespan_renderer.specs.Inner.LineSources.{SourcedLine, sourced_line, characters_of, characters_to_end_of};
+ghost use Rattle.codespan_renderer.specs.Inner.Runs.{AreHanging, least_start};
+ghost use Rattle.codespan_renderer.specs.Inner.LineSources.{LeavesOut, SourcedLine, sourced_line, characters_of, characters_to_end_of};
 
 use crate::term::renderer::char_cursor::CharCursor;
 use crate::term::renderer::line::{Line, Look};
@@ -30,10 +30,13 @@ pub trait LineSource {
         ensures left { Self.Cursor.left result ≡ characters_of (of self.now) }
         ensures labels { Self.Cursor.labels result ≡ (of self.now).labels };
 
-    /// Returns a cursor over the characters of the line and the position after the last one.
-    fn characters_to_end(&self) -> Self::Cursor
-        ensures left { Self.Cursor.left result ≡ characters_to_end_of (of self.now) }
-        ensures labels { Self.Cursor.labels result ≡ (of self.now).labels };
+    /// Returns a cursor over the characters of the line and the position after the last one, and
+    /// the column at which it begins. It may leave out characters that end before all labels start
+    /// and before the byte index `end`.
+    fn characters_from_labels(&self, end: usize) -> (u128, Self::Cursor)
+        ensures left { LeavesOut (least_start end (single_label_views (of self.now).labels))
+            (characters_to_end_of (of self.now)) result.0 (Self.Cursor.left result.1) }
+        ensures labels { Self.Cursor.labels result.1 ≡ (of self.now).labels };
 
     /// Returns how many cells the characters take that begin at this byte index or before it.
     fn width_up_to(&self, place: usize) -> u128

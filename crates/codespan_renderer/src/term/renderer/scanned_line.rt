@@ -75,11 +75,12 @@ impl<'row, 'd> LineSource for ScannedLine<'row, 'd> {
     }
 
     #[inline(always)]
-    fn characters_to_end(&self) -> ScanCursor<'row, 'd> {
-        ScanCursor {
+    fn characters_from_labels(&self, _end: usize) -> (u128, ScanCursor<'row, 'd>) {
+        let cursor = ScanCursor {
             cells: Cells::to_end(self.text, self.tab_width),
             labels: self.labels,
-        }
+        };
+        (0, cursor)
     }
 
     #[inline(always)]

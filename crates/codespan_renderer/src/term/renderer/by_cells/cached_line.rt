@@ -1,15 +1,17 @@
 //! A line whose characters and pointers are cached, and whose labels are in the order of their
 //! starts.
 
-ghost use Rattle.std.specs.Prelude.{◌≡◌, IsTrue, map};
+ghost use Rattle.std.specs.Prelude.{◌≡◌, ◌≤◌, ◌++◌, IsTrue, length, map, take};
 ghost use Rattle.std.specs.Str.{chars};
-ghost use Rattle.codespan_picture.specs.Cells.{cells, cells_then};
+ghost use Rattle.codespan_picture.specs.Cells.{cells, cells_then, width_of};
 ghost use Rattle.codespan_picture.specs.Given.{mark_view, single_label_views};
 ghost use Rattle.codespan_picture.specs.Rows.{hanging};
 ghost use Rattle.codespan_renderer.specs.Inner.CellsLeft.{after_last};
 ghost use Rattle.codespan_renderer.specs.Inner.CursorStates.{IsBefore, HasReturned};
 ghost use Rattle.codespan_renderer.specs.Inner.KeptCells.{AreKept, ReachesPast, kept_left, reach_of};
+ghost use Rattle.codespan_renderer.specs.Inner.LineSources.{EndBy};
 ghost use Rattle.codespan_renderer.specs.Inner.PointerLists.{pointers_in};
+ghost use Rattle.codespan_renderer.specs.Inner.Runs.{least_start};
 ghost use Rattle.codespan_renderer.specs.Inner.Sweeps.{starts_in_order};
 
 use crate::term::renderer::Renderer;
@@ -108,17 +110,43 @@ impl<'cells, 'row, 'd> CachedLine<'cells, 'row, 'd> {
         with_error(written, &renderer.saved)
     }
 
-    /// Returns a cursor over its characters, and the position after the last one where `to_end` is
-    /// set.
+    /// Returns the least start of its labels, or `end` where all start past it or there is none.
     #[inline(always)]
-    fn cursor(&self, to_end: bool) -> CachedCursor<'cells, 'row, 'd>
-        ensures left { kept_left result.characters
+    fn least_start(&self, end: usize) -> usize
+        ensures { result ≡ least_start end (single_label_views self.now.line.labels.now) }
+    {
+        match self.line.labels.first() {
+            Some(label) => label.1.start.min(end),
+            None => end,
+        }
+    }
+
+    /// Returns how many cells the characters before a byte index take, and how many they are, where
+    /// each has one byte, so that the one there is found without a search; else two zeros.
+    #[inline(always)]
+    fn skipped_before(&self, place: usize) -> (u128, usize)
+        ensures within { result.1 ≤ length self.now.kept.now }
+        ensures ended { EndBy place (take result.1 self.now.kept.now) }
+        ensures width { result.0 ≡ width_of (take result.1 self.now.kept.now) }
+    {
+        match self.kept.get(place) {
+            Some(cell) if cell.place == place => (cell.column, place),
+            _ => (0, 0),
+        }
+    }
+
+    /// Returns a cursor over its characters without the first `skipped` ones of the cache, and over
+    /// the position after the last one where `to_end` is set.
+    #[inline(always)]
+    fn cursor(&self, skipped: usize, to_end: bool) -> CachedCursor<'cells, 'row, 'd>
+        requires { skipped ≤ length self.now.kept.now }
+        ensures left { take skipped self.now.kept.now ++ kept_left result.characters
             ≡ cells_then (after_last to_end) self.now.tab_width 0 0 (chars self.now.line.text.now) }
         ensures labels { result.sweep.labels.now ≡ self.now.line.labels.now }
     {
         CachedCursor {
             characters: KeptCells {
-                kept: self.kept,
+                kept: &self.kept[skipped..],
                 rest: self.rest.fork(to_end),
             },
             sweep: Sweep::new(self.line.labels),
@@ -137,12 +165,13 @@ impl<'cells, 'row, 'd> LineSource for CachedLine<'cells, 'row, 'd> {
 
     #[inline(always)]
     fn characters(&self) -> CachedCursor<'cells, 'row, 'd> {
-        self.cursor(false)
+        self.cursor(0, false)
     }
 
     #[inline(always)]
-    fn characters_to_end(&self) -> CachedCursor<'cells, 'row, 'd> {
-        self.cursor(true)
+    fn characters_from_labels(&self, end: usize) -> (u128, CachedCursor<'cells, 'row, 'd>) {
+        let (column, skipped) = self.skipped_before(self.least_start(end));
+        (column, self.cursor(skipped, true))
     }
 
     #[inline(always)]
