@@ -1,18 +1,26 @@
 -- Text of a line that is rendered as it is.
-use Rattle.std.proofs.Common.{◌≡◌, ℕ, ◌+◌, Bool, true, false, ◌&&◌, ◌||◌, ◌==◌, List, [], ◌∷◌, None, refl, sym, ap, ◌∙◌}
+use Rattle.std.proofs.Common.{◌≡◌, ℕ, ◌+◌, ◌-◌, ◌<◌, ◌≤◌, Option, length, take, drop, length-append, length-drop, append_assoc, append-nil, arith, ◌++◌, Bool, true, false, ◌&&◌, ◌||◌, ◌==◌, List, [], ◌∷◌, None, refl, sym, ap, ◌∙◌}
 use Rattle.std.specs.Char.{encode_utf8, len_utf8}
 use Rattle.std.specs.Prelude.{not}
 use Rattle.std.specs.List.{list_any}
 use Rattle.std.specs.Str.{IsUtf8, chars}
 use Rattle.std.proofs.lemmas.Bool.{false≢true, ne_eqb}
 use Rattle.std.proofs.lemmas.List.Folds.{list_any-append}
-use Rattle.std.proofs.lemmas.Str.{encodes-chars}
+use Rattle.std.proofs.Math.Seq.{take-length}
+use Rattle.std.proofs.lemmas.List.{drop-drop, take-append-drop}
+use Rattle.std.proofs.lemmas.Str.{encodes-chars, length-encode, len_utf8_bounds}
 use lib.Utf8.{encodes}
 use Rattle.codespan_base.specs.Labels.{Labelled, LaneMark, is_primary, is_primary_style}
 use Rattle.codespan_base.specs.Streams.{bytes, glyph}
 use Rattle.codespan_base.proofs.Sends.{bytes-append}
 use Rattle.codespan_picture.specs.declared.cells.Cell.{Cell}
-use Rattle.codespan_picture.specs.Carets.{covers}
+use Rattle.codespan_picture.specs.Carets.{covers, greatest_end}
+use Rattle.codespan_picture.specs.Types.{LabelStyle, Primary}
+use Rattle.codespan_picture.proofs.CaretEnds.{style_under-below}
+use Rattle.codespan_renderer.specs.declared.term.renderer.primary_marks.PrimaryMarks.{PrimaryMarks}
+use Rattle.codespan_renderer.specs.Inner.PrimaryMarks.{AreMarksOf, is_marked}
+use Rattle.codespan_renderer.proofs.RowWords.{change-same}
+use Rattle.codespan_renderer.proofs.TextRuns.{IsOver, text-end, text_rest}
 use Rattle.codespan_picture.specs.Cells.{cells_then, width_at}
 use Rattle.codespan_picture.specs.Rows.{Line, Look}
 use Rattle.codespan_picture.specs.RowParts.{change, coloured_text, source_glyph, source_style, styled, takes_in}
@@ -92,3 +100,73 @@ pub coloured-seen : (look : Look) (line : Line) (labels marks tab : Bool) → la
     → labels ≡ false → not marks ≡ true → not tab ≡ true → coloured_text look line ≡ bytes line.text
 coloured-seen look line labels marks tab l m t u no_label no_mark no_tab =
     coloured-plain look line (sym l ∙ no_label) (sym m ∙ not_true marks no_mark) (sym t ∙ not_true tab no_tab) u
+
+-- ---- the end of a text
+
+-- past the greatest end of the labels none of them has a byte of a character
+no-label-past : (labels : List Labelled) (c : Cell) → greatest_end labels ≤ c.place → list_any (λ x. is_primary x && covers x c) labels ≡ false
+no-label-past labels c past = by_test (list_any (λ x. is_primary x && covers x c) labels) refl
+  where
+    by_test : (b : Bool) → list_any (λ x. is_primary x && covers x c) labels ≡ b → list_any (λ x. is_primary x && covers x c) labels ≡ false
+    by_test true is = let low = style_under-below labels c Primary (rw is refl) in absurd (omega arith)
+    by_test false is = is
+
+-- past that and what marks cover no character is primary
+pub no-style-past : (line : Line) (given : PrimaryMarks) (c : Cell) → AreMarksOf line.lanes.marks given → is_marked given c ≡ false
+    → greatest_end line.labels ≤ c.place → 1 ≤ c.bytes → source_style line c ≡ None
+no-style-past line given c are none past some = rw (no-label-past line.labels c past, ← are c some, none) refl
+
+-- the text from one byte index on has no tab where that from an earlier one has none
+pub no-tab-later : (from place : ℕ) (text : List ℕ) → from ≤ place → list_any (λ b. b == 9) (drop from text) ≡ false → list_any (λ b. b == 9) (drop place text) ≡ false
+no-tab-later from place text h none =
+    let step : drop (place - from) (drop from text) ≡ drop place text = drop-drop (place - from) from text ∙ (let i : from + (place - from) ≡ place = omega arith in ap (λ k. drop k text) i) in
+    let rest = drop from text in
+    let parts = or_parts (list_any (λ b. b == 9) (take (place - from) rest)) (list_any (λ b. b == 9) (drop (place - from) rest))
+    (sym (list_any-append (λ b. b == 9) (take (place - from) rest) (drop (place - from) rest)) ∙ ap (list_any (λ b. b == 9)) (take-append-drop (place - from) rest) ∙ none) in
+    ap (list_any (λ b. b == 9)) (sym step) ∙ parts.1
+
+-- such characters are shown as they are, after the style before them ends
+plain-past : (look : Look) (line : Line) (tab place column from top : ℕ) (was : Option LabelStyle) (cs : List ℕ) → from ≤ place → place + length (encodes cs) ≤ top
+    → ((c : Cell) → from ≤ c.place → c.place < top → 1 ≤ c.bytes → source_style line c ≡ None) → list_any (λ b. b == 9) (encodes cs) ≡ false
+    → styled look.severity (source_style line) source_glyph was (cells_then (λ _ _. []) tab place column cs) ≡ change look.severity was None ++ bytes (encodes cs)
+unfolding bytes
+plain-past look line tab place column from top was [] low high none e = sym (append-nil (change look.severity was None))
+plain-past look line tab place column from top was (c ∷ cs) low high none e =
+    let here : Cell = record { code = c; place = place; bytes = len_utf8 c; column = column; width = width_at tab column c } in
+    let parts = no-tab c cs e in
+    let some = (len_utf8_bounds c).0 in
+    let size = length-append (encode_utf8 c) (encodes cs) in
+    let bare = none here low (omega (arith, high, size, some, length-encode c)) some in
+    let rest = plain-past look line tab (place + len_utf8 c) (column + width_at tab column c) from top None cs (omega arith) (omega (arith, high, size, length-encode c)) none parts.1 in
+    rw (bare, as_is here parts.0, rest, change-same look.severity None)
+    (append_assoc (change look.severity was None) (glyph c) (bytes (encodes cs))
+    ∙ ap (λ l. change look.severity was None ++ l) (sym (bytes-append (encode_utf8 c) (encodes cs))))
+
+-- what is left of a text after a run
+pub text-past : (look : Look) (line : Line) (was : Option LabelStyle) (run : List ℕ) (from place : ℕ) (left : List Cell) → IsOver look.tab_width line.text place left
+    → from ≤ place → ((c : Cell) → from ≤ c.place → c.place < length line.text → 1 ≤ c.bytes → source_style line c ≡ None)
+    → list_any (λ b. b == 9) (drop from line.text) ≡ false
+    → (bytes run ++ change look.severity was None) ++ bytes (drop place line.text) ≡ text_rest look line was run left
+text-past look line was run from place left over low none tab =
+    let rest = plain-past look line look.tab_width place over.column from (length line.text) was over.codes low
+    (omega (arith, ap length over.text_left, length-drop place line.text, over.within)) none
+    (ap (list_any (λ b. b == 9)) (sym over.text_left) ∙ no-tab-later from place line.text low tab) in
+    append_assoc (bytes run) (change look.severity was None) (bytes (drop place line.text))
+    ∙ ap (λ l. bytes run ++ (change look.severity was None ++ bytes l)) over.text_left
+    ∙ ap (λ l. bytes run ++ l) (sym rest)
+    ∙ ap (λ cs. bytes run ++ styled look.severity (source_style line) source_glyph was cs) (sym over.cells)
+
+-- nothing is left
+pub text-over : (look : Look) (line : Line) (was : Option LabelStyle) (run : List ℕ) (place : ℕ) (left : List Cell) → IsOver look.tab_width line.text place left → left ≡ []
+    → (bytes run ++ change look.severity was None) ++ bytes (drop place line.text) ≡ text_rest look line was run left
+unfolding bytes
+text-over look line was run place left over ends = by_codes over.codes (sym over.cells ∙ ends) over.text_left
+  where
+    by_codes : (codes : List ℕ) → cells_then (λ _ _. []) look.tab_width place over.column codes ≡ [] → drop place line.text ≡ encodes codes
+        → (bytes run ++ change look.severity was None) ++ bytes (drop place line.text) ≡ text_rest look line was run left
+    by_codes [] none rest = rw rest (append-nil (bytes run ++ change look.severity was None)) ∙ text-end look line was run left ends
+    by_codes (c ∷ cs) none rest = absurd (omega (arith, ap length none))
+
+-- the text from a byte index on, as it is borrowed
+pub tail-taken : (n : ℕ) (text bs : List ℕ) → bs ≡ text → take (length bs - n) (drop n bs) ≡ drop n text
+tail-taken n text bs same = ap (λ k. take k (drop n bs)) (sym (length-drop n bs)) ∙ take-length (drop n bs) ∙ ap (drop n) same

@@ -1,6 +1,6 @@
 //! What primary multi-line labels cover of one line.
 
-ghost use Rattle.std.specs.Prelude.{◌≡◌, ◌||◌, ◌≤◌, ℕ, map, nat_le};
+ghost use Rattle.std.specs.Prelude.{◌≡◌, ◌||◌, ◌+◌, ◌^◌, ◌<◌, ◌≤◌, ℕ, false, map, nat_le};
 ghost use Rattle.codespan_picture.specs.declared.cells.Cell as cell;
 ghost use Rattle.codespan_picture.specs.Given.{mark_view, multi_label_view};
 ghost use Rattle.codespan_picture.specs.RowParts.{takes_in};
@@ -52,6 +52,17 @@ impl PrimaryMarks {
                 from: self.from,
                 to: self.to.max(end),
             },
+        }
+    }
+
+    /// Returns the byte index from which on they cover no character of a text, whatever its length.
+    pub fn end(self) -> usize
+        ensures { (c : cell.Cell) → result ≤ c.place → c.place + 1 < 2 ^ 64 → 1 ≤ c.bytes
+            → is_marked self c ≡ false }
+    {
+        match self.from {
+            Some(_) => usize::MAX,
+            None => self.to,
         }
     }
 

@@ -1,11 +1,12 @@
 //! The source row of a line, and all rows of a line.
 
-ghost use Rattle.std.specs.Prelude.{◌≡◌, ◌≤◌, ◌++◌, ◌==◌, map, true};
+ghost use Rattle.std.specs.Prelude.{◌≡◌, ◌<◌, ◌≤◌, ◌++◌, ◌==◌, None, drop, false, length, map, true};
 ghost use Rattle.std.specs.List.{list_any};
 ghost use Rattle.codespan_base.specs.Labels.{LaneMark, is_primary, is_primary_style};
 ghost use Rattle.codespan_base.specs.Streams.{blanks, bytes, newline};
 ghost use Rattle.codespan_base.specs.WriterLaw.{Sends};
 ghost use Rattle.codespan_picture.specs.Cells.{cells};
+ghost use Rattle.codespan_picture.specs.declared.cells.Cell as cell;
 ghost use Rattle.codespan_picture.specs.Given.{single_label_views, mark_view};
 ghost use Rattle.codespan_renderer.specs.Inner.GivenLine.{look_view, line_view};
 ghost use Rattle.codespan_renderer.specs.Inner.GivenRows.{given_caret_rows, given_source_lanes};
@@ -17,7 +18,7 @@ ghost use Rattle.codespan_picture.specs.Rows.{Look as LookWord, rows_of, trailin
 ghost use Rattle.codespan_picture.specs.RowParts.{border, change, coloured_text, source_style};
 ghost use Rattle.codespan_picture.specs.RowStreams.{source_row, stream_of_rows};
 
-use crate::term::renderer::carets::{covers, write_caret_row};
+use crate::term::renderer::carets::{covers, greatest_end, write_caret_row};
 use crate::term::renderer::cells::Cell;
 use crate::term::renderer::char_cursor::CharCursor;
 use crate::term::renderer::lanes::{LaneRow, inner_gutter};
@@ -112,6 +113,25 @@ pub fn is_plain(line: Line<'_, '_>) -> bool
     !has_primary(line.labels) && !has_primary_mark(line.lanes.marks) && !has_tab(line.text)
 }
 
+/// Returns the byte index from which on the text of a line is written unchanged: no primary label
+/// covers it, inside the line or by these multi-line label marks, and it has no tab. It is the end
+/// of the text where there is no other.
+#[inline(always)]
+fn plain_from(line: Line<'_, '_>, marks: PrimaryMarks) -> usize
+    requires marks { AreMarksOf (map mark_view line.lanes.marks.now) marks }
+    ensures style { (c : cell.Cell) → result ≤ c.place → c.place < length line.entry.text.now
+        → 1 ≤ c.bytes → source_style (line_view line.entry) c ≡ None }
+    ensures tab { list_any (λ b. b == 9) (drop result line.entry.text.now) ≡ false }
+{
+    let text = line.text.as_bytes();
+    let end = marks.end().max(greatest_end(line.labels)).min(text.len());
+    if text[end..].contains(&b'\t') {
+        text.len()
+    } else {
+        end
+    }
+}
+
 /// Writes the text of a line, which has these characters, with tabs as spaces, and with style marks
 /// where its style changes.
 fn write_colored_text<W: PutStyle, C: CharCursor>(
@@ -127,10 +147,14 @@ fn write_colored_text<W: PutStyle, C: CharCursor>(
 {
     let text = line.text.as_bytes();
     let marks = PrimaryMarks::of(line.lanes.marks);
+    let plain = plain_from(line, marks);
     let mut was = None;
     let mut start = 0;
     let mut end = 0;
     while let Some(cell) = characters.next_cell() {
+        if end >= plain {
+            break;
+        }
         let style = text_style(&mut characters, marks, line, cell);
         let next = end + cell.bytes;
         if cell.code == '\t' {
@@ -144,7 +168,8 @@ fn write_colored_text<W: PutStyle, C: CharCursor>(
         }
         end = next;
     }
-    end_text_run(w, look, &text[start..end], was, None)
+    end_text_run(w, look, &text[start..end], was, None)?;
+    put_all(w, &text[end..])
 }
 
 /// Writes the text of a line: at once where it is plain.

@@ -1,12 +1,14 @@
-use Rattle.std.proofs.Common.{rules, ◌≡◌, ◌+◌, ◌-◌, sym, subst, ◌∙◌, arith}
+use Rattle.std.proofs.Common.{rules, None, drop, ◌≡◌, ◌+◌, ◌-◌, ◌++◌, ap, sym, ◌∙◌, arith}
 use Rattle.std.specs.Char.{encode_utf8}
 use Rattle.std.proofs.lemmas.Result.{err_from_is_err_and}
 use Rattle.std.proofs.lemmas.Str.{IsUtf8-had, length-encode, len_utf8_bounds}
-use Rattle.codespan_base.specs.Streams.{Stream}
-use Rattle.codespan_base.proofs.Loops.{StillToCome, StillToCome-start, StillToCome-more, StillToCome-failed, StillToCome-last}
+use Rattle.codespan_base.specs.Streams.{bytes}
+use Rattle.codespan_base.proofs.Loops.{StillToCome-start, StillToCome-more, StillToCome-failed, StillToCome-last}
 use Rattle.codespan_renderer.specs.Inner.GivenLine.{look_view, line_view}
-use Rattle.codespan_picture.specs.RowParts.{coloured_text}
-use Rattle.codespan_renderer.proofs.TextRuns.{over-start, over-next, piece, piece-grows, text-start, text-turn, text-same, text-tab, text-end}
+use Rattle.codespan_picture.specs.RowParts.{change}
+use Rattle.codespan_renderer.proofs.TextRuns.{over-start, over-next, piece, piece-grows, text-start, text-turn, text-same, text-tab, text_rest}
+use Rattle.codespan_renderer.proofs.PlainText.{tail-taken, text-over, text-past}
+use Rattle.codespan_renderer.proofs.term.renderer.source.write_colored_text.Goals.{in-Some+then-end-plain, in_default}
 use Rattle.codespan_renderer.proofs.term.renderer.source.write_colored_text.Goals as goal
 
 pub loop-cell-init : goal.loop-cell-init
@@ -79,8 +81,32 @@ loop-cell-preserved g c =
       within = n.over.within;
     }
 
+-- where the loop ends, the rest is written unchanged
 pub returns : goal.returns
 returns g c =
-    let none = text-end (look_view c.args.look) (line_view c.args.line) c.loop-cell.was (piece c.as_bytes-text.result.now c.loop-cell.start c.loop-cell.end) _ c.in_default.ensures.next.0 in
-    let coming = subst (λ (l : Stream). StillToCome (g.W.PutStyle.sink c.args.w.now) (coloured_text (look_view c.args.look) (line_view c.args.line)) l (g.W.PutStyle.sink c.loop-cell.w)) (sym none) c.loop-cell.invariant.coming in
-    StillToCome-last _ _ _ _ _ _ coming c.end_text_run-2.ensures
+    let at = c.loop-cell in
+    let look = look_view c.args.look in
+    let line = line_view c.args.line in
+    let run = piece c.as_bytes-text.result.now at.start at.end in
+    let rest : (bytes run ++ change look.severity at.was None) ++ bytes (drop at.end line.text) ≡ text_rest look line at.was run (g.C.CharCursor.left at.characters) =
+    elim c.match-next_cell.branch [
+      | in_default w ↦ text-over look line at.was run at.end _ at.invariant.over w.in_default.ensures.next.0
+      | in-Some+then-end-plain w ↦ text-past look line at.was run c.plain_from-plain.result at.end _ at.invariant.over w.if-end-plain.true c.plain_from-plain.ensures.style c.plain_from-plain.ensures.tab
+    ] in
+    let taken = tail-taken at.end line.text c.as_bytes-text.result.now c.as_bytes-text.ensures.value in
+    let last = ap (λ l. (bytes run ++ change look.severity at.was None) ++ bytes l) taken ∙ rest in
+    StillToCome-last _ _ _ _ _ _ (StillToCome-more _ _ _ _ _ _ _ at.invariant.coming c.in_ok-end_text_run-2.ensures (sym last)) c.put_all.ensures
+
+pub returns-in_err-end_text_run-2 : goal.returns-in_err-end_text_run-2
+returns-in_err-end_text_run-2 g c =
+    let at = c.loop-cell in
+    let look = look_view c.args.look in
+    let line = line_view c.args.line in
+    let run = piece c.as_bytes-text.result.now at.start at.end in
+    let rest : (bytes run ++ change look.severity at.was None) ++ bytes (drop at.end line.text) ≡ text_rest look line at.was run (g.C.CharCursor.left at.characters) =
+    elim c.match-next_cell.branch [
+      | in_default w ↦ text-over look line at.was run at.end _ at.invariant.over w.in_default.ensures.next.0
+      | in-Some+then-end-plain w ↦ text-past look line at.was run c.plain_from-plain.result at.end _ at.invariant.over w.if-end-plain.true c.plain_from-plain.ensures.style c.plain_from-plain.ensures.tab
+    ] in
+    let p = err_from_is_err_and c.from_residual-in_err-end_text_run-2.result c.from_residual-in_err-end_text_run-2.ensures.1 in
+    rw p.1 (StillToCome-failed _ _ _ _ _ _ _ at.invariant.coming c.in_err-end_text_run-2.ensures (sym rest))
