@@ -1,10 +1,9 @@
 -- Labels whose lines are looked up, one after another.
-use Rattle.std.specs.Prelude.{◌≡◌, ℕ, ◌<◌, ◌≤◌, Bool, true, false, List, ◌++◌, flat_map, fold, max, Option, Some, IfOk, Result, ◌&&◌, nat_lt, None, if◌then◌else◌}
+use Rattle.std.specs.Prelude.{◌≡◌, ℕ, ◌<◌, Bool, true, false, List, ◌++◌, flat_map, fold, max, Option, Some, IfOk, Result}
 use Rattle.codespan_picture.specs.Types.{Label, Error, Config}
-use Rattle.codespan_base.specs.FileModel.{FileDatabase, FileModel, line_count, Lookup, or_failure}
-use Rattle.codespan_base.specs.FileModel.Lookup.{LineRange, LineNumber}
+use Rattle.codespan_base.specs.FileModel.{FileDatabase, FileModel, line_count, Lookup}
 use Rattle.codespan_base.specs.Labels.{Labelled}
-use Rattle.codespan_picture.specs.Lookups.{Failures, asked_lines, asked_of, ends_context, first_error, is_asked, label_lookups, of_label, of_line, lookup_past_end}
+use Rattle.codespan_picture.specs.Lookups.{Failures, asked_lines, asked_of, first_error, is_asked, label_lookups, of_label, of_line, lookup_past_end}
 use Rattle.codespan_picture.specs.Picture.{label_of}
 use Rattle.codespan_picture.specs.Snippets.{InFile}
 use Rattle.codespan_reporting.specs.declared.term.views.annotation.Annotation.{Annotation as RustAnnotation}

@@ -17,6 +17,10 @@ pub mod padding;
 pub mod snippet_lines;
 pub mod snippet_plans;
 
+/// The number of lines that a label makes shown, at most, with the default context lines: its ends,
+/// three lines after its start and one before its end.
+const LINES_OF_LABEL: usize = 6;
+
 /// The plan of an output.
 #[derive(Drop)]
 pub struct OutputPlan<'e, 'd, FileId> {
@@ -28,16 +32,10 @@ pub struct OutputPlan<'e, 'd, FileId> {
     pub padding: usize,
 }
 
-/// Returns a number that is not below that of the shown lines: each has an annotation, and each
-/// label makes its ends shown, and context lines.
-fn shown_limit<FileId>(config: &Config<'_>, collected: &Collected<'_, FileId>) -> usize {
-    let of_one_label = config
-        .before_label_lines
-        .saturating_add(config.after_label_lines)
-        .saturating_add(config.start_context_lines)
-        .saturating_add(config.end_context_lines)
-        .saturating_add(2);
-    let of_labels = collected.labels.len().saturating_mul(of_one_label);
+/// Returns how many snippet lines memory is reserved for: one for each annotation, or fewer where
+/// labels have many.
+fn line_capacity<FileId>(collected: &Collected<'_, FileId>) -> usize {
+    let of_labels = collected.labels.len().saturating_mul(LINES_OF_LABEL);
     of_labels.min(collected.annotations.len())
 }
 
@@ -64,7 +62,7 @@ pub fn plan_output<'files, 'e, 'd, F: Files<'files>>(
     ensures failed { FailsByOrFormat (output_plan_failure config.now (F.database files.now)
         (map label_of collected.now.labels.now)) result }
 {
-    let mut snippet_lines = Vec::with_capacity(alloc, shown_limit(config, collected))?;
+    let mut snippet_lines = Vec::with_capacity(alloc, line_capacity(collected))?;
     let files = plan_snippets(alloc, files, config.layout, collected, &mut snippet_lines)?;
     let padding = match config.layout {
         Layout::Classic => collected.padding,

@@ -71,10 +71,11 @@ fn targets_by_line<FileId>(
     let alloc = *annotations.allocator();
     let line_total = lines.end.saturating_sub(lines.start);
     let mut next = vec![in alloc; 0; line_total.saturating_mul(RANKS)]?;
-    let mut targets = vec![in alloc; 0; annotations.len()]?;
-    for (target, annotation) in targets.iter_mut().zip(annotations) {
-        *target = group_of(annotation, lines.start);
-        count(&mut next, *target);
+    let mut targets = Vec::with_capacity(alloc, annotations.len())?;
+    for annotation in annotations {
+        let group = group_of(annotation, lines.start);
+        count(&mut next, group);
+        targets.push(group)?;
     }
     add_up(&mut next);
     for target in &mut targets {
@@ -110,22 +111,20 @@ fn add_up(numbers: &mut [usize]) {
     }
 }
 
-/// Moves each annotation to its target. Each turn moves one there, or goes on to the next.
+/// Moves each annotation to its target: those whose targets follow one another from an index in one
+/// turn of the outer loop.
 fn move_to_targets<FileId>(annotations: &mut [Annotation<'_, FileId>], targets: &mut [usize])
     ensures { IsPermutation annotations.old annotations.new }
 {
     let len = annotations.len().min(targets.len());
-    let mut index = 0;
-    for _ in 0..len.saturating_mul(2) {
-        if index >= len {
-            return;
-        }
-        let target = targets[index];
-        if target != index && target < len {
+    for index in 0..len {
+        for _ in 0..len {
+            let target = targets[index];
+            if target == index || target >= len {
+                break;
+            }
             annotations.swap(index, target);
             targets.swap(index, target);
-        } else {
-            index += 1;
         }
     }
 }

@@ -1,6 +1,6 @@
 //! The lines of a label: which it spans, and which it makes shown.
 
-ghost use Rattle.std.specs.Prelude.{◌≡◌, ◌==◌, IfOk};
+ghost use Rattle.std.specs.Prelude.{◌≡◌, ◌==◌, ◌&&◌, nat_lt, IfOk};
 ghost use Rattle.codespan_base.specs.LawfulFiles.{FailsBy};
 ghost use Rattle.codespan_picture.specs.Lines.{shows};
 ghost use Rattle.codespan_picture.specs.Lookups.{is_around};
@@ -30,12 +30,19 @@ impl LabelSpan {
         self.first == self.last
     }
 
+    /// Returns whether the line is after the first line and before the last one.
+    fn is_inside(self, index: usize) -> bool
+        ensures { result ≡ nat_lt self.first index && nat_lt index self.last }
+    {
+        self.first < index && index < self.last
+    }
+
     /// Returns the label's part on a line, if it is a multi-line label that has one.
     pub fn part_on(self, index: usize) -> Option<MultiPart>
         ensures { result ≡ part_of self.first self.last index }
     {
         // Most lines of a long label are inside it.
-        if self.first < index && index < self.last {
+        if self.is_inside(index) {
             Some(MultiPart::Left)
         } else if self.is_single() {
             None
@@ -52,7 +59,7 @@ impl LabelSpan {
     pub fn spans(self, index: usize) -> bool
         ensures { result ≡ spans_line self.first self.last index }
     {
-        (self.first <= index && index <= self.last) || index == self.first || index == self.last
+        self.is_inside(index) || index == self.first || index == self.last
     }
 
     /// Returns how many annotations the spanned lines make at most: a part of a multi-line label on
@@ -85,7 +92,7 @@ impl LabelSpan {
         ensures { result ≡ shows config.now self.first self.last index }
     {
         // Most lines of a long label are inside it.
-        if self.first < index && index < self.last {
+        if self.is_inside(index) {
             self.is_near_end(config, index)
         } else {
             index == self.first || index == self.last || self.is_around(config, index)
@@ -97,8 +104,7 @@ impl LabelSpan {
     fn is_near_end(self, config: &Config<'_>, index: usize) -> bool
         ensures { result ≡ is_near_end config.now self.first self.last index }
     {
-        self.first < index
-            && index < self.last
+        self.is_inside(index)
             && (index - self.first <= config.start_context_lines
                 || self.last - index <= config.end_context_lines)
     }
