@@ -8,11 +8,11 @@ sys.path.insert(0, str(HERE.parent / 'gallery'))
 
 from cases import ROOT, escaped, line, text_lines  # noqa: E402
 
-ROWS = ROOT / 'crates/writer_runs/src/rows'
+ROWS = ROOT / 'crates/writer_runs/src/cases'
 TOKEN = re.compile(r'\s*("(?:[^"\\]|\\.)*"|\d+|[\w:]+|\.\.\w+|[&()\[\],{}])', re.S)
 LETTERS = {'n': '\n', 'r': '\r', 't': '\t', '0': '\0', '\\': '\\', '"': '"'}
-LEAST = {'table': 'Several', 'look': 'Boxes', 'layout': 'Classic', 'tab_width': 4, 'context': [3, 1, 0, 0], 'severity': 'Error',
-         'code': None, 'message': '', 'labels': [], 'notes': [], 'files': [], 'colours': ('End', '')}
+LEAST = {'table': 'Several', 'character_set': 'Boxes', 'layout': 'Classic', 'tab_width': 4, 'context': [3, 1, 0, 0], 'severity': 'Error',
+         'code': None, 'message': '', 'labels': [], 'notes': [], 'files': [], 'colors': ('End', '')}
 CHARACTERS = {'Boxes': ['characters box'], 'Ascii': ['characters ascii'], 'OtherTops': ['character multi_top %'],
               'OtherBottoms': ['character multi_bottom =', 'character multi_primary_caret_end *', 'character multi_secondary_caret_end "']}
 STYLES = ('rich', 'medium', 'short')
@@ -74,7 +74,7 @@ class Reader:
         """The fields of a row, whose word and bracket are read."""
         fields = dict(LEAST)
         while (token := self.next()) != '}':
-            if token not in (',', '..ROW'):
+            if token not in (',', '..EMPTY_CASE'):
                 fields[token.rstrip(':')] = self.value()
         return fields
 
@@ -83,9 +83,9 @@ def rows(path):
     """The rows of a file."""
     text = re.sub(r'^\s*//.*$', '', path.read_text(), flags=re.M)
     known = {name: Reader(value, {}).value() for name, value in re.findall(r'const (\w+): [^=]*= (&\[.*?\]);', text, re.S)}
-    reader = Reader(text[text.index('static ROWS'):].split('= ', 1)[1], known)
+    reader = Reader(text[text.index('static CASES'):].split('= ', 1)[1], known)
     while reader.at < len(reader.tokens):
-        if reader.next() == 'Row':
+        if reader.next() == 'Case':
             reader.at += 1
             yield reader.row()
 
@@ -94,7 +94,7 @@ def case(name, row, style, colours):
     """The lines of the case that a row is in a style."""
     yield from ('case ' + name, 'style ' + style, 'layout ' + row['layout'].lower(), 'colours ' + colours)
     yield from ('tab %d' % row['tab_width'], 'context %d %d %d %d' % tuple(row['context']))
-    yield from CHARACTERS[row['look']]
+    yield from CHARACTERS[row['character_set']]
     if row['table'] != 'Several':
         yield 'table mapped'
     for file, source in row['files']:

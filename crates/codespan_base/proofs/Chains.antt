@@ -3,8 +3,8 @@ use Rattle.std.proofs.Common.{◌≡◌, true, ◌++◌, ap, sym, subst, ◌∙�
 use Rattle.std.specs.Result.{IsErrAnd}
 use Rattle.std.proofs.lemmas.Result.{err_from_is_err_and}
 use Rattle.codespan_base.specs.Streams.{Stream}
-use Rattle.codespan_base.specs.WriterLaw.{Sink, with_written, is_known, PrefixWritten, Sends, failing}
-use Rattle.codespan_base.proofs.Sends.{is_known-with_written, with_written-append, PrefixWritten-first, PrefixWritten-last}
+use Rattle.codespan_base.specs.WriterLaw.{Sink, with_written, is_known, PrefixWritten, Writes, failing}
+use Rattle.codespan_base.proofs.Writes.{is_known-with_written, with_written-append, PrefixWritten-first, PrefixWritten-last}
 
 -- the stream was written
 abbrev pub WroteStream : Sink → Stream → Sink → Type 0
@@ -15,32 +15,32 @@ abbrev pub WrotePrefix : Sink → Stream → Sink → Type 0
 WrotePrefix s items t = (t.frame ≡ failing s.frame) × (is_known s ≡ true → PrefixWritten s items t)
 
 -- known bytes stay known
-pub told-after : (s t : Sink) (a : Stream) → is_known s ≡ true → t ≡ with_written s a → is_known t ≡ true
-told-after s t a told e = ap is_known e ∙ is_known-with_written s a ∙ told
+pub known-after : (s t : Sink) (a : Stream) → is_known s ≡ true → t ≡ with_written s a → is_known t ≡ true
+known-after s t a known e = ap is_known e ∙ is_known-with_written s a ∙ known
 
 -- another stream was written after it
-pub came-then : (s : Sink) (a b : Stream) {t u : Sink} → WroteStream s a t → WroteStream t b u → WroteStream s (a ++ b) u
-came-then s a b {t} {u} p q = (
+pub written-then : (s : Sink) (a b : Stream) {t u : Sink} → WroteStream s a t → WroteStream t b u → WroteStream s (a ++ b) u
+written-then s a b {t} {u} p q = (
   q.0 ∙ p.0,
-  λ told. let e = p.1 told in q.1 (told-after s t a told e) ∙ ap (λ (x : Sink). with_written x b) e ∙ sym (with_written-append s a b),
+  λ known. let e = p.1 known in q.1 (known-after s t a known e) ∙ ap (λ (x : Sink). with_written x b) e ∙ sym (with_written-append s a b),
 )
 
 -- the call failed in the stream after it
-pub stopped-then : (a : Stream) {s t u : Sink} {b : Stream} → WroteStream s a t → WrotePrefix t b u → WrotePrefix s (a ++ b) u
-stopped-then a {s} {t} {u} {b} p q = (
+pub failed-then : (a : Stream) {s t u : Sink} {b : Stream} → WroteStream s a t → WrotePrefix t b u → WrotePrefix s (a ++ b) u
+failed-then a {s} {t} {u} {b} p q = (
   q.0 ∙ ap failing p.0,
-  λ told. let e = p.1 told in PrefixWritten-last s a b u (subst (λ (x : Sink). PrefixWritten x b u) e (q.1 (told-after s t a told e))),
+  λ known. let e = p.1 known in PrefixWritten-last s a b u (subst (λ (x : Sink). PrefixWritten x b u) e (q.1 (known-after s t a known e))),
 )
 
 -- the call failed before the stream after it
-pub stopped-before : (b : Stream) {s t : Sink} {a : Stream} → WrotePrefix s a t → WrotePrefix s (a ++ b) t
-stopped-before b {s} {t} {a} p = (p.0, λ told. PrefixWritten-first s a t b (p.1 told))
+pub failed-before : (b : Stream) {s t : Sink} {a : Stream} → WrotePrefix s a t → WrotePrefix s (a ++ b) t
+failed-before b {s} {t} {a} p = (p.0, λ known. PrefixWritten-first s a t b (p.1 known))
 
 -- from the last call follows the clause of all
-pub sends-last : {E : Type 0} (s : Sink) (a b : Stream) {t : Sink} (u : Sink) (r : Result (Unit {0}) E) → WroteStream s a t → Sends t b r u → Sends s (a ++ b) r u
-sends-last s a b u (Ok x) p q = came-then s a b p q
-sends-last s a b u (Err x) p q = stopped-then a p q
+pub writes-last : {E : Type 0} (s : Sink) (a b : Stream) {t : Sink} (u : Sink) (r : Result (Unit {0}) E) → WroteStream s a t → Writes t b r u → Writes s (a ++ b) r u
+writes-last s a b u (Ok x) p q = written-then s a b p q
+writes-last s a b u (Err x) p q = failed-then a p q
 
 -- from the call that failed follows the clause of all
-pub failed : {E : Type 0} (Q : E → Type 0) (s : Sink) (a : Stream) (t : Sink) (r : Result (Unit {0}) E) → IsErrAnd r Q → WrotePrefix s a t → Sends s a r t
+pub failed : {E : Type 0} (Q : E → Type 0) (s : Sink) (a : Stream) (t : Sink) (r : Result (Unit {0}) E) → IsErrAnd r Q → WrotePrefix s a t → Writes s a r t
 failed Q s a t r h p = let e = (err_from_is_err_and r h).1 in rw e p

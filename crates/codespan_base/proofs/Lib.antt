@@ -1,9 +1,9 @@
-pub mod HeldBytes
-pub mod Sends
+pub mod KnownBytes
+pub mod Writes
 pub mod Put
 pub mod Loops
 pub mod Chains
 pub mod Repeats
-pub mod Marks
+pub mod StyleMarks
 pub mod AppendsBytes
 pub mod AnsiLemmas

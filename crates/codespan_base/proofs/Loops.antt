@@ -1,58 +1,58 @@
 -- A loop that writes a stream piece by piece.
 use Rattle.std.proofs.Common.{◌≡◌, true, [], ◌++◌, refl, sym, ap, subst, ◌∙◌, append_assoc, append-nil, Result, Ok, Err}
 use Rattle.codespan_base.specs.Streams.{Stream}
-use Rattle.codespan_base.specs.WriterLaw.{Sink, with_written, is_known, PrefixWritten, Sends, failing}
-use Rattle.codespan_base.proofs.Sends.{is_known-with_written, with_written-append, with_written-nil, PrefixWritten-first, PrefixWritten-last}
+use Rattle.codespan_base.specs.WriterLaw.{Sink, with_written, is_known, PrefixWritten, Writes, failing}
+use Rattle.codespan_base.proofs.Writes.{is_known-with_written, with_written-append, with_written-nil, PrefixWritten-first, PrefixWritten-last}
 
 -- of the whole stream, which began at s, the rest is still to be written
-pub record Coming (s : Sink) (whole rest : Stream) (t : Sink) : Type 0 where
+pub record WrittenSoFar (s : Sink) (whole rest : Stream) (t : Sink) : Type 0 where
   pub done : Stream
   pub is_whole : done ++ rest ≡ whole
   pub is : t ≡ with_written s done
 
 -- the same where the writer's bytes are known; it has not failed since
-pub record StillToCome (s : Sink) (whole rest : Stream) (t : Sink) : Type 0 where
+pub record StillToWrite (s : Sink) (whole rest : Stream) (t : Sink) : Type 0 where
   pub frame : t.frame ≡ s.frame
-  pub told : is_known s ≡ true → Coming s whole rest t
+  pub known : is_known s ≡ true → WrittenSoFar s whole rest t
 
 -- nothing has been written yet
-pub StillToCome-start : (s : Sink) (whole rest : Stream) → rest ≡ whole → StillToCome s whole rest s
-StillToCome-start s whole rest e = record { frame = refl; told = λ h. record { done = []; is_whole = e; is = sym (with_written-nil s) } }
+pub StillToWrite-start : (s : Sink) (whole rest : Stream) → rest ≡ whole → StillToWrite s whole rest s
+StillToWrite-start s whole rest e = record { frame = refl; known = λ h. record { done = []; is_whole = e; is = sym (with_written-nil s) } }
 
-told_then : (s : Sink) (whole rest : Stream) (t : Sink) → is_known s ≡ true → StillToCome s whole rest t → is_known t ≡ true
-told_then s whole rest t h p = ap is_known (p.told h).is ∙ is_known-with_written s (p.told h).done ∙ h
+known_then : (s : Sink) (whole rest : Stream) (t : Sink) → is_known s ≡ true → StillToWrite s whole rest t → is_known t ≡ true
+known_then s whole rest t h p = ap is_known (p.known h).is ∙ is_known-with_written s (p.known h).done ∙ h
 
 -- the next piece was written
-pub StillToCome-more : (s : Sink) (whole rest : Stream) (t u : Sink) (piece next : Stream) → StillToCome s whole rest t → (u.frame ≡ t.frame) × (is_known t ≡ true → u ≡ with_written t piece) → rest ≡ piece ++ next → StillToCome s whole next u
-StillToCome-more s whole rest t u piece next p e r = record {
+pub StillToWrite-more : (s : Sink) (whole rest : Stream) (t u : Sink) (piece next : Stream) → StillToWrite s whole rest t → (u.frame ≡ t.frame) × (is_known t ≡ true → u ≡ with_written t piece) → rest ≡ piece ++ next → StillToWrite s whole next u
+StillToWrite-more s whole rest t u piece next p e r = record {
   frame = e.0 ∙ p.frame;
-  told = λ h. let q : Coming s whole rest t = p.told h in record {
+  known = λ h. let q : WrittenSoFar s whole rest t = p.known h in record {
     done = q.done ++ piece;
     is_whole = append_assoc q.done piece next ∙ ap (λ (l : Stream). q.done ++ l) (sym r) ∙ q.is_whole;
-    is = e.1 (told_then s whole rest t h p) ∙ ap (λ (x : Sink). with_written x piece) q.is ∙ sym (with_written-append s q.done piece);
+    is = e.1 (known_then s whole rest t h p) ∙ ap (λ (x : Sink). with_written x piece) q.is ∙ sym (with_written-append s q.done piece);
   };
 }
 
 -- the next piece failed
-pub StillToCome-failed : (s : Sink) (whole rest : Stream) (t u : Sink) (piece next : Stream) → StillToCome s whole rest t → (u.frame ≡ failing t.frame) × (is_known t ≡ true → PrefixWritten t piece u) → rest ≡ piece ++ next → (u.frame ≡ failing s.frame) × (is_known s ≡ true → PrefixWritten s whole u)
-StillToCome-failed s whole rest t u piece next p e r = (
+pub StillToWrite-failed : (s : Sink) (whole rest : Stream) (t u : Sink) (piece next : Stream) → StillToWrite s whole rest t → (u.frame ≡ failing t.frame) × (is_known t ≡ true → PrefixWritten t piece u) → rest ≡ piece ++ next → (u.frame ≡ failing s.frame) × (is_known s ≡ true → PrefixWritten s whole u)
+StillToWrite-failed s whole rest t u piece next p e r = (
   e.0 ∙ ap failing p.frame,
-  λ h. let q : Coming s whole rest t = p.told h in
+  λ h. let q : WrittenSoFar s whole rest t = p.known h in
       subst (λ (l : Stream). PrefixWritten s l u) (ap (λ (l : Stream). q.done ++ l) (sym r) ∙ q.is_whole)
-      (PrefixWritten-last s q.done (piece ++ next) u (PrefixWritten-first (with_written s q.done) piece u next (subst (λ (x : Sink). PrefixWritten x piece u) q.is (e.1 (told_then s whole rest t h p))))),
+      (PrefixWritten-last s q.done (piece ++ next) u (PrefixWritten-first (with_written s q.done) piece u next (subst (λ (x : Sink). PrefixWritten x piece u) q.is (e.1 (known_then s whole rest t h p))))),
 )
 
 -- the same is still to be written, in other words
-pub StillToCome-same : (s : Sink) (whole rest other : Stream) (t : Sink) → rest ≡ other → StillToCome s whole rest t → StillToCome s whole other t
-StillToCome-same s whole rest other t e p = subst (λ (l : Stream). StillToCome s whole l t) e p
+pub StillToWrite-same : (s : Sink) (whole rest other : Stream) (t : Sink) → rest ≡ other → StillToWrite s whole rest t → StillToWrite s whole other t
+StillToWrite-same s whole rest other t e p = subst (λ (l : Stream). StillToWrite s whole l t) e p
 
 -- nothing is left
-pub StillToCome-end : (s : Sink) (whole rest : Stream) (t : Sink) → StillToCome s whole rest t → rest ≡ [] → (t.frame ≡ s.frame) × (is_known s ≡ true → t ≡ with_written s whole)
-StillToCome-end s whole rest t p e =
-    (p.frame, λ h. let q : Coming s whole rest t = p.told h in q.is ∙ ap (with_written s) (sym (append-nil q.done) ∙ ap (λ (l : Stream). q.done ++ l) (sym e) ∙ q.is_whole))
+pub StillToWrite-end : (s : Sink) (whole rest : Stream) (t : Sink) → StillToWrite s whole rest t → rest ≡ [] → (t.frame ≡ s.frame) × (is_known s ≡ true → t ≡ with_written s whole)
+StillToWrite-end s whole rest t p e =
+    (p.frame, λ h. let q : WrittenSoFar s whole rest t = p.known h in q.is ∙ ap (with_written s) (sym (append-nil q.done) ∙ ap (λ (l : Stream). q.done ++ l) (sym e) ∙ q.is_whole))
 
 -- the last call writes all that is left
-pub StillToCome-last : {E : Type 0} (s : Sink) (whole rest : Stream) (t : Sink) (r : Result (Unit {0}) E) (u : Sink) → StillToCome s whole rest t → Sends t rest r u → Sends s whole r u
-StillToCome-last s whole rest t (Ok x) u p e =
-    StillToCome-end s whole [] u (StillToCome-more s whole rest t u rest [] p e (sym (append-nil rest))) refl
-StillToCome-last s whole rest t (Err x) u p e = StillToCome-failed s whole rest t u rest [] p e (sym (append-nil rest))
+pub StillToWrite-last : {E : Type 0} (s : Sink) (whole rest : Stream) (t : Sink) (r : Result (Unit {0}) E) (u : Sink) → StillToWrite s whole rest t → Writes t rest r u → Writes s whole r u
+StillToWrite-last s whole rest t (Ok x) u p e =
+    StillToWrite-end s whole [] u (StillToWrite-more s whole rest t u rest [] p e (sym (append-nil rest))) refl
+StillToWrite-last s whole rest t (Err x) u p e = StillToWrite-failed s whole rest t u rest [] p e (sym (append-nil rest))

@@ -6,9 +6,9 @@ use Rattle.std.proofs.lemmas.Bool.Decides.{nat_tests}
 use Rattle.std.proofs.lemmas.List.{take-append-drop}
 use Rattle.codespan_base.specs.Streams.{bytes}
 use Rattle.codespan_base.specs.WriterLaw.{Frame, Sink, failing, after_put, with_written, is_known, are_known, extended, PrefixWritten}
-use Rattle.codespan_base.proofs.Marks.{sink-by}
-use Rattle.codespan_base.proofs.HeldBytes.{append_known-nil}
-use Rattle.codespan_base.proofs.Sends.{spelled-bytes, bytes-append}
+use Rattle.codespan_base.proofs.StyleMarks.{sink-by}
+use Rattle.codespan_base.proofs.KnownBytes.{append_known-nil}
+use Rattle.codespan_base.proofs.Writes.{spelled-bytes, bytes-append}
 
 -- to take none of some bytes sets the flag
 pub after_put-none : (f : Frame) (bs : List ℕ) (n : ℕ) → n ≡ 0 → 0 < length bs → after_put f bs n ≡ failing f
@@ -21,22 +21,22 @@ after_put-some f (b ∷ bs) zero h = absurd (omega (arith, h refl))
 after_put-some f bs (suc n) h = rw (ne_eqb (suc n) 0 (λ e. omega (arith, e))) refl
 
 -- what one `put` did, as a stream
-pub put-with_written : (s : Sink) (bs : List ℕ) (n : ℕ) (t : Sink) → (n ≡ 0 → ⊥) → (t.frame ≡ after_put s.frame bs n) × (is_known s ≡ true → t.held ≡ append_known s.held (take n bs)) → (t.frame ≡ s.frame) × (is_known s ≡ true → t ≡ with_written s (bytes (take n bs)))
+pub put-with_written : (s : Sink) (bs : List ℕ) (n : ℕ) (t : Sink) → (n ≡ 0 → ⊥) → (t.frame ≡ after_put s.frame bs n) × (is_known s ≡ true → t.contents ≡ append_known s.contents (take n bs)) → (t.frame ≡ s.frame) × (is_known s ≡ true → t ≡ with_written s (bytes (take n bs)))
 unfolding with_written extended
 put-with_written s bs n t h p = let f : t.frame ≡ s.frame = p.0 ∙ after_put-some s.frame bs n (λ e. absurd (h e)) in
-    (f, λ told. sink-by s t _ _ f (p.1 told ∙ ap (append_known s.held) (sym (spelled-bytes s.frame.spelling (take n bs)))))
+    (f, λ known. sink-by s t _ _ f (p.1 known ∙ ap (append_known s.contents) (sym (spelled-bytes s.frame.spelling (take n bs)))))
 
 -- a `put` that took none of some bytes, as a failed stream
-pub put-none : (s : Sink) (bs : List ℕ) (n : ℕ) (t : Sink) → n ≡ 0 → 0 < length bs → (t.frame ≡ after_put s.frame bs n) × (is_known s ≡ true → t.held ≡ append_known s.held (take n bs)) → (t.frame ≡ failing s.frame) × (is_known s ≡ true → PrefixWritten s (bytes bs) t)
+pub put-none : (s : Sink) (bs : List ℕ) (n : ℕ) (t : Sink) → n ≡ 0 → 0 < length bs → (t.frame ≡ after_put s.frame bs n) × (is_known s ≡ true → t.contents ≡ append_known s.contents (take n bs)) → (t.frame ≡ failing s.frame) × (is_known s ≡ true → PrefixWritten s (bytes bs) t)
 unfolding extended
 put-none s bs n t e h p = let f : t.frame ≡ failing s.frame = p.0 ∙ after_put-none s.frame bs n e h in
-    (f, λ told. record { begun = []; rest = bs; whole = sym (spelled-bytes s.frame.spelling bs); held = p.1 told ∙ ap (λ (k : ℕ). append_known s.held (take k bs)) e })
+    (f, λ known. record { prefix = []; rest = bs; whole = sym (spelled-bytes s.frame.spelling bs); contents = p.1 known ∙ ap (λ (k : ℕ). append_known s.contents (take k bs)) e })
 
 -- a `put` that failed, as a failed stream
-pub put-failed : (s : Sink) (bs : List ℕ) (t : Sink) → (t.frame ≡ failing s.frame) × (is_known s ≡ true → t.held ≡ s.held) → (t.frame ≡ failing s.frame) × (is_known s ≡ true → PrefixWritten s (bytes bs) t)
+pub put-failed : (s : Sink) (bs : List ℕ) (t : Sink) → (t.frame ≡ failing s.frame) × (is_known s ≡ true → t.contents ≡ s.contents) → (t.frame ≡ failing s.frame) × (is_known s ≡ true → PrefixWritten s (bytes bs) t)
 unfolding extended
 put-failed s bs t p =
-    (p.0, λ told. record { begun = []; rest = bs; whole = sym (spelled-bytes s.frame.spelling bs); held = p.1 told ∙ sym (append_known-nil s.held) })
+    (p.0, λ known. record { prefix = []; rest = bs; whole = sym (spelled-bytes s.frame.spelling bs); contents = p.1 known ∙ sym (append_known-nil s.contents) })
 
 -- the bytes that were taken, and those that are left
 pub bytes-take : (n : ℕ) (bs : List ℕ) → bytes bs ≡ bytes (take n bs) ++ bytes (drop n bs)
@@ -55,14 +55,14 @@ Keeps-some (Some xs) None h a = absurd a
 Keeps-some (Some xs) (Some ys) h a = ap (λ (l : List ℕ). Some l) a
 
 -- a write to the writer inside
-pub told-appends : (s : Sink) (m : Option (List ℕ)) (bs : List ℕ) → is_known s ≡ true → Appends s.held m bs → m ≡ append_known s.held bs
+pub known-appends : (s : Sink) (m : Option (List ℕ)) (bs : List ℕ) → is_known s ≡ true → Appends s.contents m bs → m ≡ append_known s.contents bs
 unfolding is_known are_known
-told-appends s m bs h a = Appends-some s.held m bs h a
+known-appends s m bs h a = Appends-some s.contents m bs h a
 
 -- a write to the writer inside that failed
-pub told-keeps : (s : Sink) (m : Option (List ℕ)) → is_known s ≡ true → Keeps s.held m → m ≡ s.held
+pub known-keeps : (s : Sink) (m : Option (List ℕ)) → is_known s ≡ true → Keeps s.contents m → m ≡ s.contents
 unfolding is_known are_known
-told-keeps s m h a = Keeps-some s.held m h a
+known-keeps s m h a = Keeps-some s.contents m h a
 
 -- one `put`
-pub ruleset writing = (after_put-none, after_put-some, told-appends, told-keeps)
+pub ruleset writing = (after_put-none, after_put-some, known-appends, known-keeps)

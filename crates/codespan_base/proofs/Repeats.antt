@@ -8,23 +8,23 @@ use Rattle.std.proofs.lemmas.Grind.{common_steps}
 use Rattle.std.proofs.Math.Seq.{take-append_seam}
 use Rattle.std.proofs.lemmas.List.{drop-set, length-append, length-drop, replicate-append-replicate, take-replicate, take-take}
 use Rattle.std.specs.Prelude.{slice_set}
-use Rattle.codespan_base.specs.Streams.{Stream, bytes, blanks, repeated, glyph}
-use Rattle.codespan_base.proofs.Sends.{bytes-append}
+use Rattle.codespan_base.specs.Streams.{Stream, bytes, spaces, repeated, glyph}
+use Rattle.codespan_base.proofs.Writes.{bytes-append}
 
 -- ---- spaces
 
 -- the first k of them
-pub blanks-next : (k n : ℕ) → k ≤ n → blanks n ≡ bytes (replicate k 32) ++ blanks (n - k)
-unfolding blanks
-blanks-next k n h =
+pub spaces-next : (k n : ℕ) → k ≤ n → spaces n ≡ bytes (replicate k 32) ++ spaces (n - k)
+unfolding spaces
+spaces-next k n h =
     let e : n ≡ k + (n - k) = omega arith in
     let f : replicate {A = ℕ} n 32 ≡ replicate k 32 ++ replicate (n - k) 32 = ap (λ (m : ℕ). replicate {A = ℕ} m 32) e ∙ sym (replicate-append-replicate k (n - k) 32) in
     ap bytes f ∙ bytes-append (replicate k 32) (replicate (n - k) 32)
 
 -- the first n of k spaces
-pub blanks-front : (k n : ℕ) → n ≤ k → bytes (take n (replicate k 32)) ≡ blanks n
-unfolding blanks
-blanks-front k n h = let e : take n (replicate {A = ℕ} k 32) ≡ replicate n 32 = take-replicate n k 32 h in ap bytes e
+pub spaces-front : (k n : ℕ) → n ≤ k → bytes (take n (replicate k 32)) ≡ spaces n
+unfolding spaces
+spaces-front k n h = let e : take n (replicate {A = ℕ} k 32) ≡ replicate n 32 = take-replicate n k 32 h in ap bytes e
 
 -- ---- one character many times
 

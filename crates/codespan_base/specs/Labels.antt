@@ -8,20 +8,20 @@ use Rattle.codespan_files.specs.FileModel.{FileModel, line_of, line_start}
 
 -- a label: its range counts from the start of the file or of its line; its message is a stream, so
 -- that a slot can stand for it
-pub record Labelled : Type 0 where
+pub record LabelModel : Type 0 where
   pub style : LabelStyle
   pub start : ℕ
   pub end : ℕ
   pub message : Stream
 
 -- the stream is empty
-abbrev pub is_blank : Stream → Bool
-is_blank [] = true
-is_blank _ = false
+abbrev pub is_empty_stream : Stream → Bool
+is_empty_stream [] = true
+is_empty_stream _ = false
 
 -- the label has a message
-abbrev pub has_message : Labelled → Bool
-has_message x = not (is_blank x.message)
+abbrev pub has_message : LabelModel → Bool
+has_message x = not (is_empty_stream x.message)
 
 -- the style is `Primary`
 abbrev pub is_primary_style : LabelStyle → Bool
@@ -29,33 +29,33 @@ is_primary_style Primary = true
 is_primary_style Secondary = false
 
 -- the label is primary
-abbrev pub is_primary : Labelled → Bool
+abbrev pub is_primary : LabelModel → Bool
 is_primary x = is_primary_style x.style
 
 -- ---- one label and the lines of its file
 
 -- the line of a label's start
-abbrev pub first_line : FileModel → Labelled → ℕ
+abbrev pub first_line : FileModel → LabelModel → ℕ
 first_line f x = line_of f.starts x.start
 
 -- the line of a label's end
-abbrev pub last_line : FileModel → Labelled → ℕ
+abbrev pub last_line : FileModel → LabelModel → ℕ
 last_line f x = line_of f.starts x.end
 
 -- the label ends on the line that it begins on
-abbrev pub is_single : FileModel → Labelled → Bool
+abbrev pub is_single : FileModel → LabelModel → Bool
 is_single f x = first_line f x == last_line f x
 
 -- the label with its drawn range, where its line starts at this byte: at least one byte long, and
 -- counted from there
-abbrev pub from_line_start : ℕ → Labelled → Labelled
+abbrev pub from_line_start : ℕ → LabelModel → LabelModel
 from_line_start start x = record x {
   start = x.start - start;
   end = min (2 ^ 64 - 1) (max (x.end - start) (x.start - start + 1));
 }
 
 -- the label with its drawn range
-abbrev pub drawn_label : FileModel → Labelled → Labelled
+abbrev pub drawn_label : FileModel → LabelModel → LabelModel
 drawn_label f x = from_line_start (line_start f (first_line f x)) x
 
 -- ---- the labels of a file, in the list's order
@@ -66,27 +66,27 @@ first_seen same [] = []
 first_seen same (id ∷ ids) = id ∷ filter (λ other. not (same id other)) (first_seen same ids)
 
 -- the labels that end on another line than they begin on; each one's index in this list is its lane
-abbrev pub multi_labels : FileModel → List Labelled → List Labelled
+abbrev pub multi_labels : FileModel → List LabelModel → List LabelModel
 multi_labels f labels = filter (λ x. not (is_single f x)) labels
 
 -- by their starts, and by their ends where these are equal
-abbrev pub stands_before : Labelled → Labelled → Bool
-stands_before x y = nat_lt x.start y.start || (x.start == y.start && nat_lt x.end y.end)
+abbrev pub range_precedes : LabelModel → LabelModel → Bool
+range_precedes x y = nat_lt x.start y.start || (x.start == y.start && nat_lt x.end y.end)
 
 -- labels in order with one more, before those of its range
-abbrev pub put_in : Labelled → List Labelled → List Labelled
-put_in x [] = x ∷ []
-put_in x (y ∷ ys) = if stands_before y x then y ∷ put_in x ys else x ∷ y ∷ ys
+abbrev pub insert_sorted : LabelModel → List LabelModel → List LabelModel
+insert_sorted x [] = x ∷ []
+insert_sorted x (y ∷ ys) = if range_precedes y x then y ∷ insert_sorted x ys else x ∷ y ∷ ys
 
 -- labels in the order of their ranges, those of one range in the order given
-abbrev pub sorted : List Labelled → List Labelled
+abbrev pub sorted : List LabelModel → List LabelModel
 sorted [] = []
-sorted (x ∷ xs) = put_in x (sorted xs)
+sorted (x ∷ xs) = insert_sorted x (sorted xs)
 
 -- the single-line labels of a line by their drawn ranges; of equal ranges the last given is first.
--- `sorted xs` is the only permutation of `xs` that is sorted by `stands_before` and stable: the law
--- `labels_are_sorted`
-abbrev pub single_labels : FileModel → List Labelled → ℕ → List Labelled
+-- `sorted xs` is the only permutation of `xs` that is sorted by `range_precedes` and stable: the
+-- law `labels_are_sorted`
+abbrev pub single_labels : FileModel → List LabelModel → ℕ → List LabelModel
 single_labels f labels l =
     sorted (reverse (map (drawn_label f)
     (filter (λ x. is_single f x && (first_line f x == l)) labels)))
@@ -107,7 +107,7 @@ pub record LaneMark : Type 0 where
 
 -- what a label from line `s` to line `e` does on line `l`, which starts at this byte: it begins
 -- there, ends there, goes through, or does nothing
-abbrev pub part_at : ℕ → ℕ → ℕ → ℕ → Labelled → Option MultiLabel
+abbrev pub part_at : ℕ → ℕ → ℕ → ℕ → LabelModel → Option MultiLabel
 part_at s e l start x =
     if s == l then Some (Top (x.start - start))
     else if e == l then Some (Bottom (x.end - start) x.message)
@@ -115,16 +115,16 @@ part_at s e l start x =
     else None
 
 -- what the label does on a line of its file
-abbrev pub part_on : FileModel → ℕ → Labelled → Option MultiLabel
+abbrev pub part_on : FileModel → ℕ → LabelModel → Option MultiLabel
 part_on f l x = part_at (first_line f x) (last_line f x) l (line_start f l) x
 
 -- the multi-line label mark, where the label has one
-abbrev pub mark_of : ℕ → Labelled → Option MultiLabel → Option LaneMark
-mark_of lane x None = None
-mark_of lane x (Some part) = Some (record { lane = lane; style = x.style; part = part })
+abbrev pub lane_mark_of : ℕ → LabelModel → Option MultiLabel → Option LaneMark
+lane_mark_of lane x None = None
+lane_mark_of lane x (Some part) = Some (record { lane = lane; style = x.style; part = part })
 
 -- the multi-line label marks of a line, in the order of the lanes
-abbrev pub marks_on : FileModel → List Labelled → ℕ → List LaneMark
-marks_on f labels l =
-    filter_map (λ (entry : ℕ × Labelled). mark_of entry.0 entry.1 (part_on f l entry.1))
+abbrev pub lane_marks_on : FileModel → List LabelModel → ℕ → List LaneMark
+lane_marks_on f labels l =
+    filter_map (λ (entry : ℕ × LabelModel). lane_mark_of entry.0 entry.1 (part_on f l entry.1))
     (enumerate_from 0 (multi_labels f labels))

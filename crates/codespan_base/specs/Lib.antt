@@ -10,7 +10,7 @@ pub use Rattle.codespan_files.specs.Settings
 pub use Rattle.codespan_files.specs.ErrorText
 pub use Rattle.codespan_files.specs.Errors
 pub use Rattle.codespan_files.specs.FileLaws
-pub use Rattle.codespan_files.specs.FileTables
+pub use Rattle.codespan_files.specs.DatabaseViews
 pub mod Lemmas
 -- labels
 pub mod Labels
@@ -25,4 +25,4 @@ pub mod Characters
 pub mod StyleTables
 pub mod Ansi
 pub mod Defaults
-pub mod Lookalikes
+pub mod ConfigEquality

@@ -31,12 +31,12 @@ unfoldable pub bytes : List ℕ → Stream
 bytes bs = map Byte bs
 
 -- one style mark as a stream
-unfoldable pub one_mark : StyleMark → Stream
-one_mark m = Mark m ∷ []
+unfoldable pub style_mark : StyleMark → Stream
+style_mark m = Mark m ∷ []
 
 -- that many spaces
-unfoldable pub blanks : ℕ → Stream
-blanks n = bytes (replicate n 32)
+unfoldable pub spaces : ℕ → Stream
+spaces n = bytes (replicate n 32)
 
 -- one space
 abbrev pub space : Stream
@@ -66,12 +66,12 @@ spelled spelling (Mark m ∷ s) = spelling m ++ spelled spelling s
 spelled spelling (Slot k ∷ s) = spelled spelling s
 
 -- every style mark is spelled as nothing
-abbrev pub no_marks : Spelling
-no_marks _ = []
+abbrev pub no_style_marks : Spelling
+no_style_marks _ = []
 
 -- the text of a stream: its bytes
 abbrev pub text_of : Stream → List ℕ
-text_of s = spelled no_marks s
+text_of s = spelled no_style_marks s
 
 -- the stream with each slot filled by its label's message
 abbrev pub filled : (ℕ → List ℕ) → Stream → Stream

@@ -4,23 +4,23 @@ use Rattle.std.specs.Io.KnownBytes.{append_known}
 use Rattle.std.specs.Borrow.{GName}
 use Rattle.codespan_base.specs.Streams.{Stream, Spelling, spelled}
 
--- ---- the bytes that a writer holds, where they are known
+-- ---- the bytes that a writer has, where they are known
 
 -- the bytes are known
 unfoldable pub are_known : Option (List ℕ) → Bool
-are_known held = is_some held
+are_known contents = is_some contents
 
 -- the bytes with these appended, where they are known
 unfoldable pub extended : Option (List ℕ) → List ℕ → Option (List ℕ)
-extended held bs = append_known held bs
+extended contents bs = append_known contents bs
 
 -- the bytes with a prefix of these appended
 pub record PrefixAppended (old : Option (List ℕ)) (bs : List ℕ) (new : Option (List ℕ))
     : Type 0 where
-  pub begun : List ℕ
+  pub prefix : List ℕ
   pub rest : List ℕ
-  pub whole : begun ++ rest ≡ bs
-  pub held : new ≡ extended old begun
+  pub whole : prefix ++ rest ≡ bs
+  pub contents : new ≡ extended old prefix
 
 -- ---- a writer
 
@@ -36,11 +36,11 @@ pub record Frame : Type 0 where
 -- a writer, as a contract sees it; the bytes of some writers are not known
 pub record Sink : Type 0 where
   pub frame : Frame
-  pub held : Option (List ℕ)
+  pub contents : Option (List ℕ)
 
 -- the writer's bytes are known
 unfoldable pub is_known : Sink → Bool
-is_known s = are_known s.held
+is_known s = are_known s.contents
 
 -- the frame once the writer has failed
 abbrev pub failing : Frame → Frame
@@ -48,14 +48,14 @@ failing f = record f { failed = true }
 
 -- the writer with the stream appended, its style marks spelled
 unfoldable pub with_written : Sink → Stream → Sink
-with_written s items = record s { held = extended s.held (spelled s.frame.spelling items) }
+with_written s items = record s { contents = extended s.contents (spelled s.frame.spelling items) }
 
 -- a prefix of the stream has been appended to the bytes of the writer
 pub record PrefixWritten (s : Sink) (items : Stream) (t : Sink) : Type 0 where
-  pub begun : List ℕ
+  pub prefix : List ℕ
   pub rest : List ℕ
-  pub whole : begun ++ rest ≡ spelled s.frame.spelling items
-  pub held : t.held ≡ extended s.held begun
+  pub whole : prefix ++ rest ≡ spelled s.frame.spelling items
+  pub contents : t.contents ≡ extended s.contents prefix
 
 -- a call that fails sets the flag, and nothing else of the frame changes
 abbrev pub KeepsFrame : {T E : Type 0} → Frame → Result T E → Frame → Type 0
@@ -68,8 +68,8 @@ WritesOrPrefix old items r new =
     → MatchResult r (λ _. new ≡ with_written old items) (λ _. PrefixWritten old items new)
 
 -- the call writes the stream
-abbrev pub Sends : {E : Type 0} → Sink → Stream → Result (Unit {0}) E → Sink → Type 0
-Sends old items r new = KeepsFrame old.frame r new.frame × WritesOrPrefix old items r new
+abbrev pub Writes : {E : Type 0} → Sink → Stream → Result (Unit {0}) E → Sink → Type 0
+Writes old items r new = KeepsFrame old.frame r new.frame × WritesOrPrefix old items r new
 
 -- the frame after `put` took n of these bytes: to take none of some is an error
 abbrev pub after_put : Frame → List ℕ → ℕ → Frame
@@ -80,8 +80,8 @@ abbrev pub Puts : {E : Type 0} → Sink → List ℕ → Result ℕ E → Sink �
 Puts old bs r new =
     MatchResult r (λ n. new.frame ≡ after_put old.frame bs n) (λ _. new.frame ≡ failing old.frame)
     × (is_known old ≡ true → MatchResult r
-    (λ n. new.held ≡ append_known old.held (take n bs)) (λ _. new.held ≡ old.held))
+    (λ n. new.contents ≡ append_known old.contents (take n bs)) (λ _. new.contents ≡ old.contents))
 
 -- a writer of this frame, but for whether it has failed, and with these bytes
 abbrev pub with_flag : Frame → Bool → Option (List ℕ) → Sink
-with_flag f flag bytes = record { frame = record f { failed = flag }; held = bytes }
+with_flag f flag bytes = record { frame = record f { failed = flag }; contents = bytes }

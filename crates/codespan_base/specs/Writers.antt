@@ -7,7 +7,7 @@ use Rattle.codespan_base.specs.declared.term.config.plain_ref.PlainWriterRef.{Pl
 use Rattle.codespan_base.specs.declared.term.config.no_color.NoColor.{NoColor}
 use Rattle.codespan_base.specs.declared.term.config.plain.PlainWriter.{PlainWriter}
 use Rattle.codespan_base.specs.declared.term.config.styles_writer.StylesWriter.{StylesWriter}
-use Rattle.codespan_base.specs.Streams.{Spelling, no_marks}
+use Rattle.codespan_base.specs.Streams.{Spelling, no_style_marks}
 use Rattle.codespan_base.specs.WriterLaw.{Sink}
 use Rattle.codespan_base.specs.StyleTables.{spelling_by}
 
@@ -39,19 +39,19 @@ pub record WritesNothing {T E : Type 0} (old : T) (result : Result (Unit {0}) E)
 
 -- ---- the two that take style marks
 
--- a writer that spells style marks so and holds these bytes, owns what it writes to, and has not
+-- a writer that spells style marks so and has these bytes, owns what it writes to, and has not
 -- failed
 abbrev pub fresh_sink : Spelling → Option (List ℕ) → Sink
 fresh_sink spelling bytes = record {
   frame = record { spelling = spelling; failed = false; through = [] };
-  held = bytes;
+  contents = bytes;
 }
 
 -- a plain writer spells every style mark as nothing
 abbrev pub plain_sink : {W : Type 0} → (W → Option (List ℕ)) → PlainWriter W → Sink
 plain_sink contents p = record {
-  frame = record { spelling = no_marks; failed = p.failed; through = [] };
-  held = contents p.inner;
+  frame = record { spelling = no_style_marks; failed = p.failed; through = [] };
+  contents = contents p.inner;
 }
 
 -- a writer of styles spells each style mark as the bytes of its style
@@ -63,7 +63,7 @@ styles_sink contents color reset p = record {
     failed = p.failed;
     through = [];
   };
-  held = contents p.inner;
+  contents = contents p.inner;
 }
 
 -- ---- plain text over a borrowed writer
@@ -79,13 +79,13 @@ borrow_name l = l.writer.ghost_name
 -- a plain writer that writes through the reference
 abbrev pub plain_ref_sink : {W : Type 0} → (W → Option (List ℕ)) → PlainWriterRef W → Sink
 plain_ref_sink contents l = record {
-  frame = record { spelling = no_marks; failed = l.failed; through = borrow_name l ∷ [] };
-  held = contents (borrowed_writer l);
+  frame = record { spelling = no_style_marks; failed = l.failed; through = borrow_name l ∷ [] };
+  contents = contents (borrowed_writer l);
 }
 
 -- one that has not failed
 abbrev pub fresh_plain_ref : GName → Option (List ℕ) → Sink
 fresh_plain_ref name bytes = record {
-  frame = record { spelling = no_marks; failed = false; through = name ∷ [] };
-  held = bytes;
+  frame = record { spelling = no_style_marks; failed = false; through = name ∷ [] };
+  contents = bytes;
 }

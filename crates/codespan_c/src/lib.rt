@@ -4,7 +4,7 @@
 ghost use Rattle.std.specs.Prelude.{◌≡◌, ◌≢◌, ◌≤◌, ◌↔◌};
 ghost use Rattle.codespan_native.specs.declared.error.Argument.TheVariants.{LabelFile};
 ghost use Rattle.codespan_native.specs.Meaning.{Means, NoLookupFails, output_bytes};
-ghost use Rattle.codespan_native.specs.Results.{IsTooSmall, IsUntouched, IsWritten};
+ghost use Rattle.codespan_native.specs.Results.{IsTooSmall, IsUnchanged, IsWritten};
 ghost use Rattle.codespan_native.specs.StatusTexts.{text_for};
 ghost use Rattle.codespan_native.specs.Validity.{AreValid, FirstInvalidIs, NamesFirstInvalid, no_detail};
 
@@ -30,7 +30,7 @@ pub extern "C" fn codespan_emit(
     ensures too_small { result ≡ 1
         → IsTooSmall (output_bytes files.now diagnostic.now config.now)
         out.old out.new written.new }
-    ensures untouched { 2 ≤ result → IsUntouched out.old out.new written.new }
+    ensures unchanged { 2 ≤ result → IsUnchanged out.old out.new written.new }
     ensures valid { (result ≤ 2) ↔ AreValid files.now diagnostic.now config.now }
     ensures missing { (result ≡ 3)
         ↔ FirstInvalidIs files.now diagnostic.now config.now (λ a. a ≡ LabelFile) }

@@ -11,7 +11,7 @@ pub mod Settings
 pub mod ErrorText
 pub mod Errors
 pub mod FileLaws
-pub mod FileTables
+pub mod DatabaseViews
 pub mod Lemmas
 -- how worked files are written down
 pub mod Worked

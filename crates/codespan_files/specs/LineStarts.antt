@@ -6,5 +6,5 @@ use Rattle.codespan_files.specs.declared.files.starts.LineStarts.{LineStarts}
 -- the starts that are left
 abbrev pub starts_left : LineStarts → List ℕ
 starts_left s =
-    if s.begun then starts_after s.at (drop s.at s.source.now)
+    if s.started then starts_after s.at (drop s.at s.source.now)
     else 0 ∷ starts_after s.at (drop s.at s.source.now)

@@ -71,15 +71,15 @@ missing_failure (LineNumber i) = line_number_failure i
 missing_failure _ = Some FileMissing
 
 -- the file of an id, in a database of names and sources
-abbrev pub table_file : {Name Source : Type 0} → (Name → Option (List ℕ)) → (Source → List ℕ)
+abbrev pub database_file : {Name Source : Type 0} → (Name → Option (List ℕ)) → (Source → List ℕ)
     → List (Name × Source) → ℕ → FileModel
-table_file output text entries id =
+database_file output text entries id =
     option_map_or (λ entry. simple_file (output entry.0) (text entry.1))
     (slice_get entries id) missing_file
 
 -- what a lookup fails with there
-abbrev pub table_failure : {Name Source : Type 0} → (Source → List ℕ) → List (Name × Source) → ℕ
+abbrev pub database_failure : {Name Source : Type 0} → (Source → List ℕ) → List (Name × Source) → ℕ
     → Lookup → Option Error
-table_failure text entries id lookup =
+database_failure text entries id lookup =
     option_map_or (λ entry. simple_failure (text entry.1) lookup) (slice_get entries id)
     (missing_failure lookup)

@@ -11,14 +11,15 @@
 ghost use Rattle.std.specs.Prelude.{◌≡◌, true, Option, IfOk, ℕ};
 ghost use Rattle.codespan_files.specs.LawfulFiles.{FailsBy};
 
+mod database;
 mod defaults;
 mod error;
 mod lines;
 mod mapped;
 mod simple;
 mod starts;
-mod table;
 
+pub use database::SimpleFiles;
 pub use defaults::default_line_number;
 pub use error::Error;
 pub use lines::{column_index, line_starts};
@@ -28,7 +29,6 @@ pub use starts::LineStarts;
 use std::convert::AsStr;
 use std::fmt::Display;
 use std::ops::Range;
-pub use table::SimpleFiles;
 
 /// A location in a file, as users count. Returned by [`Files::location`].
 #[derive(Clone, Copy, Debug, PartialEq, Eq)]

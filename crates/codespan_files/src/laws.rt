@@ -76,7 +76,7 @@ pub fn columns_rise()
 pub fn line_starts_end()
     ensures ends { (starts : LineStarts) →
         IsFinite (⟦<LineStarts<'static> as Iterator>⟧.remaining starts) }
-    ensures gives { (starts : LineStarts) (given : List ℕ) →
-        Drains ⟦<LineStarts<'static> as Iterator>⟧.next_gives starts given →
-        given ≡ starts_left starts }
+    ensures drained { (starts : LineStarts) (items : List ℕ) →
+        Drains ⟦<LineStarts<'static> as Iterator>⟧.next_gives starts items →
+        items ≡ starts_left starts }
 {}

@@ -4,58 +4,58 @@ use Rattle.std.specs.List.{enumerate_from, cons_option}
 use Rattle.std.proofs.lemmas.Bool.Decides.{nat_tests}
 use Rattle.codespan_base.specs.FileModel.{FileModel, line_start, line_text}
 use Rattle.codespan_base.specs.declared.term.config.Layout.{Layout}
-use Rattle.codespan_base.specs.Labels.{Labelled, first_line, last_line, part_on, mark_of, marks_on, multi_labels, LaneMark, MultiLabel, Top, Left, Bottom}
+use Rattle.codespan_base.specs.Labels.{LabelModel, first_line, last_line, part_on, lane_mark_of, lane_marks_on, multi_labels, LaneMark, MultiLabel, Top, Left, Bottom}
 use Rattle.codespan_picture.specs.declared.lanes.Shape.{Shape}
 use Rattle.codespan_picture.specs.declared.lanes.Shape.TheVariants.{Gap, Bar, TopCorner}
-use Rattle.codespan_picture.specs.Lanes.{source_shape, plain_shape, mark_in, shape_of}
+use Rattle.codespan_picture.specs.Lanes.{source_shape, plain_shape, lane_mark_in, shape_of}
 use Rattle.codespan_laws.specs.LaneLaws.{shape_in, HasLane, IsCovered}
 use Rattle.codespan_picture.specs.Rows.{SourceRow, BreakRow}
-use Rattle.codespan_picture.specs.Cells.{leading_whitespace, drawn_text}
+use Rattle.codespan_picture.specs.CharMetrics.{leading_whitespace, drawn_text}
 use Rattle.codespan_base.specs.Streams.{Stream}
-use Rattle.codespan_picture.specs.Snippets.{LabelledFile, line_at}
+use Rattle.codespan_picture.specs.Snippets.{LabeledFileModel, line_at}
 
 -- ---- the multi-line label mark of a lane
 
-abbrev pub mark_for : FileModel → ℕ → ℕ → Option Labelled → Option LaneMark
-mark_for f l lane None = None
-mark_for f l lane (Some x) = mark_of lane x (part_on f l x)
+abbrev pub lane_mark_for : FileModel → ℕ → ℕ → Option LabelModel → Option LaneMark
+lane_mark_for f l lane None = None
+lane_mark_for f l lane (Some x) = lane_mark_of lane x (part_on f l x)
 
-abbrev pub marks_from : FileModel → ℕ → ℕ → List Labelled → List LaneMark
-marks_from f l n xs = filter_map (λ (entry : ℕ × Labelled). mark_of entry.0 entry.1 (part_on f l entry.1)) (enumerate_from n xs)
+abbrev pub marks_from : FileModel → ℕ → ℕ → List LabelModel → List LaneMark
+marks_from f l n xs = filter_map (λ (entry : ℕ × LabelModel). lane_mark_of entry.0 entry.1 (part_on f l entry.1)) (enumerate_from n xs)
 
 -- a multi-line label mark of another lane is passed over
-pass_by : (lane n : ℕ) (x : Labelled) (part : Option MultiLabel) (marks : List LaneMark) → (n == lane) ≡ false
-    → mark_in (cons_option (mark_of n x part) marks) lane ≡ mark_in marks lane
+pass_by : (lane n : ℕ) (x : LabelModel) (part : Option MultiLabel) (marks : List LaneMark) → (n == lane) ≡ false
+    → lane_mark_in (cons_option (lane_mark_of n x part) marks) lane ≡ lane_mark_in marks lane
 pass_by lane n x None marks h = refl
 pass_by lane n x (Some part) marks h = simp h
 
 -- later lanes have other numbers
-none_before : (f : FileModel) (l n lane : ℕ) (xs : List Labelled) → lane < n → mark_in (marks_from f l n xs) lane ≡ None
+none_before : (f : FileModel) (l n lane : ℕ) (xs : List LabelModel) → lane < n → lane_mark_in (marks_from f l n xs) lane ≡ None
 none_before f l n lane [] low = refl
 none_before f l n lane (x ∷ xs) low =
     pass_by lane n x (part_on f l x) (marks_from f l (n + 1) xs) (grind (arith, nat_tests)) ∙ none_before f l (n + 1) lane xs (omega arith)
 
-found : (lane : ℕ) (x : Labelled) (part : Option MultiLabel) (marks : List LaneMark) → mark_in marks lane ≡ None
-    → mark_in (cons_option (mark_of lane x part) marks) lane ≡ mark_of lane x part
+found : (lane : ℕ) (x : LabelModel) (part : Option MultiLabel) (marks : List LaneMark) → lane_mark_in marks lane ≡ None
+    → lane_mark_in (cons_option (lane_mark_of lane x part) marks) lane ≡ lane_mark_of lane x part
 found lane x None marks none = none
 found lane x (Some part) marks none = let same : (lane == lane) ≡ true = grind (arith, nat_tests) in simp same
 
-pub mark_in-from : (f : FileModel) (l n k : ℕ) (xs : List Labelled) → mark_in (marks_from f l n xs) (n + k) ≡ mark_for f l (n + k) (slice_get xs k)
-mark_in-from f l n k [] = refl
-mark_in-from f l n zero (x ∷ xs) =
+pub lane_mark_in-from : (f : FileModel) (l n k : ℕ) (xs : List LabelModel) → lane_mark_in (marks_from f l n xs) (n + k) ≡ lane_mark_for f l (n + k) (slice_get xs k)
+lane_mark_in-from f l n k [] = refl
+lane_mark_in-from f l n zero (x ∷ xs) =
     rw add-zero (found n x (part_on f l x) (marks_from f l (n + 1) xs) (none_before f l (n + 1) n xs (omega arith)))
-mark_in-from f l n (suc k) (x ∷ xs) =
+lane_mark_in-from f l n (suc k) (x ∷ xs) =
     let e : n + suc k ≡ (n + 1) + k = omega arith in
     pass_by (n + suc k) n x (part_on f l x) (marks_from f l (n + 1) xs) (grind (arith, nat_tests))
-    ∙ rw e (mark_in-from f l (n + 1) k xs)
+    ∙ rw e (lane_mark_in-from f l (n + 1) k xs)
 
 -- ---- bars
 
 -- a kind of row that shows no bar at a label's first line and one at its other lines
 module _ (shape : MultiLabel → Shape) (at_top : (start : ℕ) → shape (Top start) ≡ Bar → ⊥) (at_left : shape Left ≡ Bar)
     (at_bottom : (end : ℕ) (message : Stream) → shape (Bottom end message) ≡ Bar) where
-  bar_of : (f : FileModel) (l lane : ℕ) (x : Labelled) → first_line f x < last_line f x
-      → (shape_of shape (mark_of lane x (part_on f l x)) ≡ Bar) ↔ IsCovered f x l
+  bar_of : (f : FileModel) (l lane : ℕ) (x : LabelModel) → first_line f x < last_line f x
+      → (shape_of shape (lane_mark_of lane x (part_on f l x)) ≡ Bar) ↔ IsCovered f x l
   bar_of f l lane x order = by_first (first_line f x == l) refl
     where
       between : Option MultiLabel
@@ -65,7 +65,7 @@ module _ (shape : MultiLabel → Shape) (at_top : (start : ℕ) → shape (Top s
       bottom = Some (Bottom (x.end - line_start f l) x.message)
 
       by_between : (first_line f x == l) ≡ false → (last_line f x == l) ≡ false → (b : Bool) → (nat_lt (first_line f x) l && nat_lt l (last_line f x)) ≡ b
-          → (shape_of shape (mark_of lane x (if b then Some Left else None)) ≡ Bar) ↔ IsCovered f x l
+          → (shape_of shape (lane_mark_of lane x (if b then Some Left else None)) ≡ Bar) ↔ IsCovered f x l
       by_between not_first not_last true is =
           let low : first_line f x < l = grind (arith, nat_tests) in
           let high : l < last_line f x = grind (arith, nat_tests) in
@@ -73,14 +73,14 @@ module _ (shape : MultiLabel → Shape) (at_top : (start : ℕ) → shape (Top s
       by_between not_first not_last false is = (λ bar. cc, λ covered. absurd (grind (arith, nat_tests)))
 
       by_last : (first_line f x == l) ≡ false → (b : Bool) → (last_line f x == l) ≡ b
-          → (shape_of shape (mark_of lane x (if b then bottom else between)) ≡ Bar) ↔ IsCovered f x l
+          → (shape_of shape (lane_mark_of lane x (if b then bottom else between)) ≡ Bar) ↔ IsCovered f x l
       by_last not_first true is =
           let same : last_line f x ≡ l = grind (arith, nat_tests) in
           (λ _. (omega arith, omega arith), λ _. at_bottom (x.end - line_start f l) x.message)
       by_last not_first false is = by_between not_first is (nat_lt (first_line f x) l && nat_lt l (last_line f x)) refl
 
       by_first : (b : Bool) → (first_line f x == l) ≡ b
-          → (shape_of shape (mark_of lane x (if b then Some (Top (x.start - line_start f l)) else if last_line f x == l then bottom else between)) ≡ Bar)
+          → (shape_of shape (lane_mark_of lane x (if b then Some (Top (x.start - line_start f l)) else if last_line f x == l then bottom else between)) ≡ Bar)
           ↔ IsCovered f x l
       by_first true is =
           let same : first_line f x ≡ l = grind (arith, nat_tests) in
@@ -95,15 +95,15 @@ no_bar_in_top leading start bar = by_test (nat_le start leading) bar
     by_test false bar = cc
 
 -- on its own lane a label has a bar on each line that it covers
-pub bars_are_labels : (layout : Layout) (s : LabelledFile) (l lane : ℕ) (x : Labelled) → HasLane s lane x → first_line s.file x < last_line s.file x
+pub bars_are_labels : (layout : Layout) (s : LabeledFileModel) (l lane : ℕ) (x : LabelModel) → HasLane s lane x → first_line s.file x < last_line s.file x
     → ((shape_in layout (SourceRow (line_at s l)) lane ≡ Bar) ↔ IsCovered s.file x l)
     × ((shape_in layout (BreakRow (line_at s l).lanes) lane ≡ Bar) ↔ IsCovered s.file x l)
 bars_are_labels layout s l lane x has several = (
-  rw mark_is (bar_of (source_shape (leading_whitespace (drawn_text (line_text s.file l)))) (no_bar_in_top _) refl (λ _ _. refl) s.file l lane x several),
-  rw mark_is (bar_of plain_shape (λ start bar. cc) refl (λ _ _. refl) s.file l lane x several),
+  rw lane_mark_is (bar_of (source_shape (leading_whitespace (drawn_text (line_text s.file l)))) (no_bar_in_top _) refl (λ _ _. refl) s.file l lane x several),
+  rw lane_mark_is (bar_of plain_shape (λ start bar. cc) refl (λ _ _. refl) s.file l lane x several),
 )
   where
-    mark_is : mark_in (marks_on s.file s.labels l) lane ≡ mark_of lane x (part_on s.file l x)
-    mark_is =
-        ap (mark_in (marks_on s.file s.labels l)) (sym (zero-add lane))
-        ∙ mark_in-from s.file l 0 lane (multi_labels s.file s.labels) ∙ rw (zero-add, has)
+    lane_mark_is : lane_mark_in (lane_marks_on s.file s.labels l) lane ≡ lane_mark_of lane x (part_on s.file l x)
+    lane_mark_is =
+        ap (lane_mark_in (lane_marks_on s.file s.labels l)) (sym (zero-add lane))
+        ∙ lane_mark_in-from s.file l 0 lane (multi_labels s.file s.labels) ∙ rw (zero-add, has)

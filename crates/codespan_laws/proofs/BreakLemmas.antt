@@ -3,12 +3,12 @@ use Rattle.std.proofs.Common.{◌≡◌, ℕ, ◌+◌, Bool, true, false, cond, 
 use Rattle.std.proofs.lemmas.List.Elements.{filter_map-append}
 use Rattle.std.proofs.lemmas.Bool.Decides.{nat_tests}
 use Rattle.codespan_base.specs.declared.term.config.Config.{Config}
-use Rattle.codespan_base.specs.Labels.{Labelled, LaneMark}
-use Rattle.codespan_picture.specs.Cells.{leading_whitespace}
+use Rattle.codespan_base.specs.Labels.{LabelModel, LaneMark}
+use Rattle.codespan_picture.specs.CharMetrics.{leading_whitespace}
 use Rattle.codespan_picture.specs.Rows.{Row, Lanes, Line, SourceRow, HangingRow, UnderlineRow, BreakRow, caret_rows, hanging_rows, underline_rows, rows_of, hanging, has_underline}
 use Rattle.codespan_picture.specs.Sequences.{gap_between}
-use Rattle.codespan_picture.specs.Snippets.{LabelledFile, line_at, line_rows, break_rows, drawing}
-use Rattle.codespan_laws.specs.LineLaws.{broken_line, broken_before, shown_lines, BreaksAreGaps, DrawingOfShown}
+use Rattle.codespan_picture.specs.Snippets.{LabeledFileModel, line_at, line_rows, break_rows, rows_of_shown}
+use Rattle.codespan_laws.specs.LineLaws.{broken_line, broken_before, shown_lines, BreaksAreGaps, RowsOfShown}
 
 -- ---- rows that break nothing
 
@@ -19,11 +19,11 @@ breaks-map : {X : Type 0} (f : X → Row) (xs : List X) → ((x : X) → broken_
 breaks-map f [] h = refl
 breaks-map f (x ∷ xs) h = simp (h x) (breaks-map f xs h)
 
-no_break_caret : (line : Line) (labels : List Labelled) → filter_map broken_line (caret_rows line labels) ≡ []
+no_break_caret : (line : Line) (labels : List LabelModel) → filter_map broken_line (caret_rows line labels) ≡ []
 no_break_caret line [] = refl
 no_break_caret line (x ∷ xs) = refl
 
-no_break_hanging : (line : Line) (labels : List Labelled) → filter_map broken_line (hanging_rows line labels) ≡ []
+no_break_hanging : (line : Line) (labels : List LabelModel) → filter_map broken_line (hanging_rows line labels) ≡ []
 no_break_hanging line [] = refl
 no_break_hanging line (x ∷ xs) = breaks-map (HangingRow line) (reverse (x ∷ xs)) (λ y. refl)
 
@@ -38,10 +38,10 @@ no_break_line line =
 -- ---- the breaks between drawn lines
 
 breaks_of : (line : ℕ → Line) (c : ℕ) (ls : List ℕ)
-    → filter_map broken_line (drawing line (Some c) ls) ≡ map (λ l. (line l).lanes) (broken_before (c ∷ ls))
+    → filter_map broken_line (rows_of_shown line (Some c) ls) ≡ map (λ l. (line l).lanes) (broken_before (c ∷ ls))
 breaks_of line c [] = refl
 breaks_of line c (d ∷ more) =
-    breaks-append (gap c d ++ rows_of (line d)) (drawing line (Some d) more)
+    breaks-append (gap c d ++ rows_of (line d)) (rows_of_shown line (Some d) more)
     ∙ ap₂ (λ s t. s ++ t)
     (breaks-append (gap c d) (rows_of (line d)) ∙ ap (λ t. filter_map broken_line (gap c d) ++ t) (no_break_line (line d)))
     (breaks_of line d more)
@@ -61,11 +61,11 @@ breaks_of line c (d ∷ more) =
     by_tests false true other far = refl
     by_tests false false other near = refl
 
-breaks_from_start : (line : ℕ → Line) (ls : List ℕ) → filter_map broken_line (drawing line None ls) ≡ map (λ l. (line l).lanes) (broken_before ls)
+breaks_from_start : (line : ℕ → Line) (ls : List ℕ) → filter_map broken_line (rows_of_shown line None ls) ≡ map (λ l. (line l).lanes) (broken_before ls)
 breaks_from_start line [] = refl
 breaks_from_start line (d ∷ more) =
-    breaks-append (rows_of (line d)) (drawing line (Some d) more)
+    breaks-append (rows_of (line d)) (rows_of_shown line (Some d) more)
     ∙ ap₂ (λ s t. s ++ t) (no_break_line (line d)) (breaks_of line d more)
 
-pub breaks_are_gaps : (config : Config) (s : LabelledFile) → DrawingOfShown config s → BreaksAreGaps config s
+pub breaks_are_gaps : (config : Config) (s : LabeledFileModel) → RowsOfShown config s → BreaksAreGaps config s
 breaks_are_gaps config s drawn = λ locus. ap (filter_map broken_line) drawn ∙ breaks_from_start (line_at s) (shown_lines config s)

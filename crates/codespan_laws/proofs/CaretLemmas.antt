@@ -9,31 +9,31 @@ use Rattle.codespan_base.specs.declared.diagnostic.Severity.{Severity}
 use Rattle.codespan_base.specs.declared.diagnostic.LabelStyle.{LabelStyle}
 use Rattle.codespan_base.specs.declared.diagnostic.LabelStyle.TheVariants.{Primary, Secondary}
 use Rattle.codespan_base.specs.declared.term.config.chars.Chars.{Chars}
-use Rattle.codespan_base.specs.Labels.{Labelled}
-use Rattle.codespan_base.specs.Streams.{Stream, blanks, text_of}
-use Rattle.codespan_picture.specs.declared.cells.Cell.{Cell}
-use Rattle.codespan_picture.specs.Cells.{cells_then, placeholder, width_of, width_at}
+use Rattle.codespan_base.specs.Labels.{LabelModel}
+use Rattle.codespan_base.specs.Streams.{Stream, spaces, text_of}
+use Rattle.codespan_picture.specs.declared.char_metrics.Metrics.{Metrics}
+use Rattle.codespan_picture.specs.CharMetrics.{metrics_then, placeholder, width_of, width_at}
 use Rattle.codespan_picture.proofs.CaretEnds.{style_under-below}
 use Rattle.codespan_picture.specs.Carets.{style_under, caret_for, greatest_end, owns, style_at, caret_cells}
-use Rattle.codespan_laws.proofs.Texts.{text_of-append, encode_utf8_all-append, encode_utf8_all-blanks, text_of-blanks, text_of-one_mark, text_of-repeated}
-use Rattle.codespan_picture.specs.Rows.{Look, Line}
-use Rattle.codespan_picture.specs.RowParts.{line_cells_to_end, change, styled, caret_glyphs, carets}
+use Rattle.codespan_laws.proofs.Texts.{text_of-append, encode_utf8_all-append, encode_utf8_all-spaces, text_of-spaces, text_of-style_mark, text_of-repeated}
+use Rattle.codespan_picture.specs.Rows.{RowContext, Line}
+use Rattle.codespan_picture.specs.RowParts.{line_metrics_to_end, change, styled, caret_glyphs, carets}
 
-pub text_of-change : (severity : Severity) (was now : Option LabelStyle) → text_of (change severity was now) ≡ []
+pub text_of-change : (severity : Severity) (previous now : Option LabelStyle) → text_of (change severity previous now) ≡ []
 unfolding change
 text_of-change severity None None = refl
-text_of-change severity None (Some style) = text_of-one_mark _
-text_of-change severity (Some style) None = text_of-one_mark _
+text_of-change severity None (Some style) = text_of-style_mark _
+text_of-change severity (Some style) None = text_of-style_mark _
 text_of-change severity (Some Primary) (Some Primary) = refl
-text_of-change severity (Some Primary) (Some Secondary) = text_of-one_mark _
-text_of-change severity (Some Secondary) (Some Primary) = text_of-one_mark _
+text_of-change severity (Some Primary) (Some Secondary) = text_of-style_mark _
+text_of-change severity (Some Secondary) (Some Primary) = text_of-style_mark _
 text_of-change severity (Some Secondary) (Some Secondary) = refl
 
 -- the styles leave the text alone
-pub text_of-styled : (severity : Severity) (style : Cell → Option LabelStyle) (shown : Cell → Stream) (was : Option LabelStyle) (cs : List Cell)
-    → text_of (styled severity style shown was cs) ≡ flat_map (λ c. text_of (shown c)) cs
-text_of-styled severity style shown was [] = text_of-change severity was None
-text_of-styled severity style shown was (c ∷ cs) =
+pub text_of-styled : (severity : Severity) (style : Metrics → Option LabelStyle) (shown : Metrics → Stream) (previous : Option LabelStyle) (cs : List Metrics)
+    → text_of (styled severity style shown previous cs) ≡ flat_map (λ c. text_of (shown c)) cs
+text_of-styled severity style shown previous [] = text_of-change severity previous None
+text_of-styled severity style shown previous (c ∷ cs) =
     simp (text_of-append, text_of-change) (ap (λ s. text_of (shown c) ++ s) (text_of-styled severity style shown (style c) cs))
 
 -- ---- numbers in a row
@@ -57,111 +57,111 @@ map-constant x a (suc n) = ap (λ xs. x ∷ xs) (map-constant x (a + 1) n)
 -- ---- cells in a row
 
 -- the cells begin at this byte index and this column, and each follows the one before
-abbrev pub AreLaid : ℕ → ℕ → List Cell → Type 0
-AreLaid place column [] = Unit {0}
-AreLaid place column (c ∷ cs) =
-    (c.place ≡ place) × (c.column ≡ column) × AreLaid (place + c.bytes) (column + c.width) cs
+abbrev pub AreAdjacent : ℕ → ℕ → List Metrics → Type 0
+AreAdjacent byte_index column [] = Unit {0}
+AreAdjacent byte_index column (c ∷ cs) =
+    (c.byte_index ≡ byte_index) × (c.column ≡ column) × AreAdjacent (byte_index + c.bytes) (column + c.width) cs
 
-pub cells_to_end-laid : (tab place column : ℕ) (codes : List ℕ) → AreLaid place column (cells_then placeholder tab place column codes)
-cells_to_end-laid tab place column [] = (refl, refl, tt)
-cells_to_end-laid tab place column (c ∷ cs) = (refl, refl, cells_to_end-laid tab (place + len_utf8 c) (column + width_at tab column c) cs)
+pub char_metrics_to_end-adjacent : (tab byte_index column : ℕ) (codes : List ℕ) → AreAdjacent byte_index column (metrics_then placeholder tab byte_index column codes)
+char_metrics_to_end-adjacent tab byte_index column [] = (refl, refl, tt)
+char_metrics_to_end-adjacent tab byte_index column (c ∷ cs) = (refl, refl, char_metrics_to_end-adjacent tab (byte_index + len_utf8 c) (column + width_at tab column c) cs)
 
 -- ---- what one character shows
 
 -- the codes that a character shows: as many carets as it has cells, if it begins before the end
-abbrev pub codes_of : Chars → ℕ → Option LabelStyle → Cell → List ℕ
-codes_of chars end style c = cond (nat_lt c.place end) (replicate c.width (caret_for chars style)) []
+abbrev pub codes_of : Chars → ℕ → Option LabelStyle → Metrics → List ℕ
+codes_of chars end style c = cond (nat_lt c.byte_index end) (replicate c.width (caret_for chars style)) []
 
-text_of-caret_glyphs : (chars : Chars) (end : ℕ) (style : Option LabelStyle) (c : Cell)
-    → ((s : LabelStyle) → style ≡ Some s → c.place < end)
+text_of-caret_glyphs : (chars : Chars) (end : ℕ) (style : Option LabelStyle) (c : Metrics)
+    → ((s : LabelStyle) → style ≡ Some s → c.byte_index < end)
     → text_of (caret_glyphs chars end style c) ≡ encode_utf8_all (codes_of chars end style c)
 unfolding caret_glyphs
-text_of-caret_glyphs chars end None c below = by_test (nat_lt c.place end)
+text_of-caret_glyphs chars end None c below = by_test (nat_lt c.byte_index end)
   where
-    by_test : (b : Bool) → text_of (cond b (blanks c.width) []) ≡ encode_utf8_all (cond b (replicate c.width 32) [])
-    by_test true = text_of-blanks c.width ∙ sym (encode_utf8_all-blanks c.width)
+    by_test : (b : Bool) → text_of (cond b (spaces c.width) []) ≡ encode_utf8_all (cond b (replicate c.width 32) [])
+    by_test true = text_of-spaces c.width ∙ sym (encode_utf8_all-spaces c.width)
     by_test false = refl
 text_of-caret_glyphs chars end (Some style) c below =
-    let low : c.place < end = below style refl in
+    let low : c.byte_index < end = below style refl in
     rw lt-ltb (text_of-repeated c.width (caret_for chars (Some style)))
 
 -- ---- the caret cells, from the characters
 
-encode_utf8_all-flat_map : (f : Cell → List ℕ) (cs : List Cell) → encode_utf8_all (flat_map f cs) ≡ flat_map (λ c. encode_utf8_all (f c)) cs
+encode_utf8_all-flat_map : (f : Metrics → List ℕ) (cs : List Metrics) → encode_utf8_all (flat_map f cs) ≡ flat_map (λ c. encode_utf8_all (f c)) cs
 encode_utf8_all-flat_map f [] = refl
 encode_utf8_all-flat_map f (c ∷ cs) =
     encode_utf8_all-append (f c) (flat_map f cs) ∙ ap (λ s. encode_utf8_all (f c) ++ s) (encode_utf8_all-flat_map f cs)
 
-owns-inside : (k : ℕ) (c : Cell) → c.column ≤ k → k < c.column + c.width → owns k c ≡ true
+owns-inside : (k : ℕ) (c : Metrics) → c.column ≤ k → k < c.column + c.width → owns k c ≡ true
 owns-inside k c low high = grind (arith, nat_tests)
 
-owns-after : (k : ℕ) (c : Cell) → c.column + c.width ≤ k → owns k c ≡ false
+owns-after : (k : ℕ) (c : Metrics) → c.column + c.width ≤ k → owns k c ≡ false
 owns-after k c high = grind (arith, nat_tests)
 
 -- from the greatest end on nothing is shown
-none-after : (chars : Chars) (labels : List Labelled) (end place column : ℕ) (cs : List Cell) → AreLaid place column cs → end ≤ place
-    → (width_of (filter (λ (c : Cell). nat_lt c.place end) cs) ≡ 0) × (flat_map (λ c. codes_of chars end (style_under labels c) c) cs ≡ [])
-none-after chars labels end place column [] laid after = (refl, refl)
-none-after chars labels end place column (c ∷ cs) laid after =
-    let past : nat_lt c.place end ≡ false = (let same = laid.0 in grind (arith, nat_tests)) in
-    let rest = none-after chars labels end (place + c.bytes) (column + c.width) cs laid.2 (omega arith) in
+none-after : (chars : Chars) (labels : List LabelModel) (end byte_index column : ℕ) (cs : List Metrics) → AreAdjacent byte_index column cs → end ≤ byte_index
+    → (width_of (filter (λ (c : Metrics). nat_lt c.byte_index end) cs) ≡ 0) × (flat_map (λ c. codes_of chars end (style_under labels c) c) cs ≡ [])
+none-after chars labels end byte_index column [] adjacent after = (refl, refl)
+none-after chars labels end byte_index column (c ∷ cs) adjacent after =
+    let past : nat_lt c.byte_index end ≡ false = (let same = adjacent.0 in grind (arith, nat_tests)) in
+    let rest = none-after chars labels end (byte_index + c.bytes) (column + c.width) cs adjacent.2 (omega arith) in
     (simp past rest.0, simp past rest.1)
 
-caret_codes : (chars : Chars) (labels : List Labelled) (place column : ℕ) (cs : List Cell) → AreLaid place column cs
-    → map (λ k. caret_for chars (style_at labels cs k)) (range_with_len column (width_of (filter (λ (c : Cell). nat_lt c.place (greatest_end labels)) cs)))
+caret_codes : (chars : Chars) (labels : List LabelModel) (byte_index column : ℕ) (cs : List Metrics) → AreAdjacent byte_index column cs
+    → map (λ k. caret_for chars (style_at labels cs k)) (range_with_len column (width_of (filter (λ (c : Metrics). nat_lt c.byte_index (greatest_end labels)) cs)))
     ≡ flat_map (λ c. codes_of chars (greatest_end labels) (style_under labels c) c) cs
-caret_codes chars labels place column [] laid = refl
-caret_codes chars labels place column (c ∷ cs) laid =
-    by_test (caret_codes chars labels (place + c.bytes) (column + c.width) cs laid.2) (nat_lt c.place (greatest_end labels)) refl
+caret_codes chars labels byte_index column [] adjacent = refl
+caret_codes chars labels byte_index column (c ∷ cs) adjacent =
+    by_test (caret_codes chars labels (byte_index + c.bytes) (column + c.width) cs adjacent.2) (nat_lt c.byte_index (greatest_end labels)) refl
   where
     at_cell : ℕ → ℕ
     at_cell k = caret_for chars (style_at labels (c ∷ cs) k)
 
-    later : List Cell
-    later = filter (λ (d : Cell). nat_lt d.place (greatest_end labels)) cs
+    later : List Metrics
+    later = filter (λ (d : Metrics). nat_lt d.byte_index (greatest_end labels)) cs
 
     by_test : map (λ k. caret_for chars (style_at labels cs k)) (range_with_len (column + c.width) (width_of later))
         ≡ flat_map (λ d. codes_of chars (greatest_end labels) (style_under labels d) d) cs
-        → (b : Bool) → nat_lt c.place (greatest_end labels) ≡ b
+        → (b : Bool) → nat_lt c.byte_index (greatest_end labels) ≡ b
         → map at_cell (range_with_len column (width_of (cond b (c ∷ later) later)))
         ≡ cond b (replicate c.width (caret_for chars (style_under labels c))) []
         ++ flat_map (λ d. codes_of chars (greatest_end labels) (style_under labels d) d) cs
     by_test rest true before =
-        ap (λ n. map at_cell (range_with_len column n)) (sum_by-cons (λ (d : Cell). d.width) c later)
+        ap (λ n. map at_cell (range_with_len column n)) (sum_by-cons (λ (d : Metrics). d.width) c later)
         ∙ ap (map at_cell) (range_with_len-append column c.width (width_of later))
         ∙ map-append at_cell (range_with_len column c.width) (range_with_len (column + c.width) (width_of later))
         ∙ ap₂ (λ xs ys. xs ++ ys)
         (map-range_with_len at_cell (λ _. caret_for chars (style_under labels c)) column c.width
-        (λ k low high. let same = laid.1 in simp (owns-inside k c (omega arith) (omega arith)))
+        (λ k low high. let same = adjacent.1 in simp (owns-inside k c (omega arith) (omega arith)))
         ∙ map-constant (caret_for chars (style_under labels c)) column c.width)
         (map-range_with_len at_cell (λ k. caret_for chars (style_at labels cs k)) (column + c.width) (width_of later)
-        (λ k low high. let same = laid.1 in simp (owns-after k c (omega arith)))
+        (λ k low high. let same = adjacent.1 in simp (owns-after k c (omega arith)))
         ∙ rest)
     by_test rest false after =
-        let none = none-after chars labels (greatest_end labels) place column (c ∷ cs) laid (let same = laid.0 in grind (arith, nat_tests)) in
+        let none = none-after chars labels (greatest_end labels) byte_index column (c ∷ cs) adjacent (let same = adjacent.0 in grind (arith, nat_tests)) in
         let gone : width_of later ≡ 0 = simp after at none.0 in
         rw gone (sym (simp after at none.1))
 
 -- the text of the carets is the line's caret cells
-pub text_of-carets : (look : Look) (labels : List Labelled) (cs : List Cell) → AreLaid 0 0 cs
-    → text_of (carets look labels cs) ≡ encode_utf8_all (caret_cells look.chars labels cs)
+pub text_of-carets : (context : RowContext) (labels : List LabelModel) (cs : List Metrics) → AreAdjacent 0 0 cs
+    → text_of (carets context labels cs) ≡ encode_utf8_all (caret_cells context.chars labels cs)
 unfolding carets
-text_of-carets look labels cs laid =
-    text_of-styled look.severity (style_under labels) (λ c. caret_glyphs look.chars (greatest_end labels) (style_under labels c) c) None cs
+text_of-carets context labels cs adjacent =
+    text_of-styled context.severity (style_under labels) (λ c. caret_glyphs context.chars (greatest_end labels) (style_under labels c) c) None cs
     ∙ same_text cs
-    ∙ sym (encode_utf8_all-flat_map (λ c. codes_of look.chars (greatest_end labels) (style_under labels c) c) cs)
-    ∙ ap encode_utf8_all (sym (caret_codes look.chars labels 0 0 cs laid))
+    ∙ sym (encode_utf8_all-flat_map (λ c. codes_of context.chars (greatest_end labels) (style_under labels c) c) cs)
+    ∙ ap encode_utf8_all (sym (caret_codes context.chars labels 0 0 cs adjacent))
   where
-    same_text : (ds : List Cell) → flat_map (λ c. text_of (caret_glyphs look.chars (greatest_end labels) (style_under labels c) c)) ds
-        ≡ flat_map (λ c. encode_utf8_all (codes_of look.chars (greatest_end labels) (style_under labels c) c)) ds
+    same_text : (ds : List Metrics) → flat_map (λ c. text_of (caret_glyphs context.chars (greatest_end labels) (style_under labels c) c)) ds
+        ≡ flat_map (λ c. encode_utf8_all (codes_of context.chars (greatest_end labels) (style_under labels c) c)) ds
     same_text [] = refl
     same_text (d ∷ ds) =
         ap₂ (λ s t. s ++ t)
-        (text_of-caret_glyphs look.chars (greatest_end labels) (style_under labels d) d (style_under-below labels d)) (same_text ds)
+        (text_of-caret_glyphs context.chars (greatest_end labels) (style_under labels d) d (style_under-below labels d)) (same_text ds)
 
 -- of a line, to the cell of the placeholder
-pub text_of-line_carets : (look : Look) (line : Line)
-    → text_of (carets look line.labels (line_cells_to_end look line))
-    ≡ encode_utf8_all (caret_cells look.chars line.labels (line_cells_to_end look line))
-text_of-line_carets look line =
-    text_of-carets look line.labels (line_cells_to_end look line) (cells_to_end-laid look.tab_width 0 0 (chars line.text))
+pub text_of-line_carets : (context : RowContext) (line : Line)
+    → text_of (carets context line.labels (line_metrics_to_end context line))
+    ≡ encode_utf8_all (caret_cells context.chars line.labels (line_metrics_to_end context line))
+text_of-line_carets context line =
+    text_of-carets context line.labels (line_metrics_to_end context line) (char_metrics_to_end-adjacent context.tab_width 0 0 (chars line.text))

@@ -6,23 +6,23 @@ use Rattle.std.proofs.lemmas.Bool.Decides.{nat_tests}
 use Rattle.codespan_base.specs.declared.term.config.Config.{Config}
 use Rattle.codespan_base.specs.FileModel.{line_count}
 use Rattle.codespan_picture.specs.Lines.{is_shown}
-use Rattle.codespan_laws.specs.LineLaws.{DrawingOfShown}
+use Rattle.codespan_laws.specs.LineLaws.{RowsOfShown}
 use Rattle.codespan_picture.specs.Rows.{Row}
 use Rattle.codespan_picture.specs.Sequences.{before_line, break_between}
-use Rattle.codespan_picture.specs.Snippets.{LabelledFile, line_at, line_rows, break_rows}
+use Rattle.codespan_picture.specs.Snippets.{LabeledFileModel, line_at, line_rows, break_rows}
 use Rattle.codespan_laws.proofs.Filling.{lines-shown}
 
 -- what is before a drawn line
-abbrev pub breaks_before : LabelledFile → Option ℕ → ℕ → List Row
+abbrev pub breaks_before : LabeledFileModel → Option ℕ → ℕ → List Row
 breaks_before s = before_line (break_between (break_rows (line_at s)))
 
 -- no line past the file's last one is shown
-pub none_past : (config : Config) (s : LabelledFile) (l : ℕ) → line_count s.file ≤ l → is_shown config s.file s.labels l ≡ false
+pub none_past : (config : Config) (s : LabeledFileModel) (l : ℕ) → line_count s.file ≤ l → is_shown config s.file s.labels l ≡ false
 none_past config s l h = let past : nat_lt l (line_count s.file) ≡ false = grind (arith, nat_tests) in simp past
 
 -- the drawn lines with their breaks are the shown lines with what is between them
-pub drawing_of_shown : (config : Config) (s : LabelledFile) → DrawingOfShown config s
-drawing_of_shown config s =
+pub rows_of_shown_lines : (config : Config) (s : LabeledFileModel) → RowsOfShown config s
+rows_of_shown_lines config s =
     let rows = line_rows (line_at s) in
     let shown = is_shown config s.file s.labels in
     lines-shown rows rows (break_rows (line_at s)) shown rows (λ l. one (rows l) (shown l)) (line_count s.file) (none_past config s)

@@ -59,8 +59,8 @@ module _ {X : Type 0} (drawn filled broken : ℕ → List X) where
   break-next c = let near : nat_le (c + 3) (c + 1) ≡ false = grind (arith, nat_tests) in ap (λ b. cond b (broken (c + 1)) []) near
 
   -- shown lines, with what is between them
-  abbrev shown_give : Option ℕ → List ℕ → List X
-  shown_give = in_sequence (λ l. l) (gap_between filled broken) drawn
+  abbrev expanded_shown : Option ℕ → List ℕ → List X
+  expanded_shown = in_sequence (λ l. l) (gap_between filled broken) drawn
 
   module _ (shown : ℕ → Bool) where
     -- the elements of a drawn line
@@ -68,40 +68,40 @@ module _ {X : Type 0} (drawn filled broken : ℕ → List X) where
     given l = if shown l then drawn l else filled l
 
     -- drawn lines, with the breaks between them
-    abbrev lines_give : Option ℕ → List ℕ → List X
-    lines_give = in_sequence (λ l. l) (break_between broken) given
+    abbrev expanded_lines : Option ℕ → List ℕ → List X
+    expanded_lines = in_sequence (λ l. l) (break_between broken) given
 
     -- so many lines from one on, by those of them that are drawn
     abbrev lines_from : Option ℕ → ℕ → ℕ → List X
-    lines_from was a n = lines_give was (filter (is_filled shown) (range_with_len a n))
+    lines_from previous a n = expanded_lines previous (filter (is_filled shown) (range_with_len a n))
 
     -- and by those that are shown
     abbrev shown_from : Option ℕ → ℕ → ℕ → List X
-    shown_from was a n = shown_give was (filter shown (range_with_len a n))
+    shown_from previous a n = expanded_shown previous (filter shown (range_with_len a n))
 
     -- no line is shown from here on
     abbrev NoneFrom : ℕ → Type 0
     NoneFrom a = (l : ℕ) → a ≤ l → shown l ≡ false
 
     -- a line that is not drawn has none
-    lines-skip : (was : Option ℕ) (a n : ℕ) → is_filled shown a ≡ false → lines_from was a (suc n) ≡ lines_from was (a + 1) n
-    lines-skip was a n h =
-        ap (λ b. lines_give was (cond b (a ∷ filter (is_filled shown) (range_with_len (a + 1) n)) (filter (is_filled shown) (range_with_len (a + 1) n)))) h
+    lines-skip : (previous : Option ℕ) (a n : ℕ) → is_filled shown a ≡ false → lines_from previous a (suc n) ≡ lines_from previous (a + 1) n
+    lines-skip previous a n h =
+        ap (λ b. expanded_lines previous (cond b (a ∷ filter (is_filled shown) (range_with_len (a + 1) n)) (filter (is_filled shown) (range_with_len (a + 1) n)))) h
 
     -- those of a drawn line are its own
-    lines-keep : (was : Option ℕ) (a n : ℕ) (b : Bool) → is_filled shown a ≡ true → shown a ≡ b
-        → lines_from was a (suc n) ≡ before_line (break_between broken) was a ++ cond b (drawn a) (filled a) ++ lines_from (Some a) (a + 1) n
-    lines-keep was a n b h k =
-        ap (λ t. lines_give was (cond t (a ∷ filter (is_filled shown) (range_with_len (a + 1) n)) (filter (is_filled shown) (range_with_len (a + 1) n)))) h
-        ∙ ap (λ t. before_line (break_between broken) was a ++ cond t (drawn a) (filled a) ++ lines_from (Some a) (a + 1) n) k
+    lines-keep : (previous : Option ℕ) (a n : ℕ) (b : Bool) → is_filled shown a ≡ true → shown a ≡ b
+        → lines_from previous a (suc n) ≡ before_line (break_between broken) previous a ++ cond b (drawn a) (filled a) ++ lines_from (Some a) (a + 1) n
+    lines-keep previous a n b h k =
+        ap (λ t. expanded_lines previous (cond t (a ∷ filter (is_filled shown) (range_with_len (a + 1) n)) (filter (is_filled shown) (range_with_len (a + 1) n)))) h
+        ∙ ap (λ t. before_line (break_between broken) previous a ++ cond t (drawn a) (filled a) ++ lines_from (Some a) (a + 1) n) k
 
     -- a line that is not shown is passed over
-    shown-skip : (was : Option ℕ) (a n : ℕ) → shown a ≡ false → shown_from was a (suc n) ≡ shown_from was (a + 1) n
-    shown-skip was a n h = ap (λ b. shown_give was (cond b (a ∷ filter shown (range_with_len (a + 1) n)) (filter shown (range_with_len (a + 1) n)))) h
+    shown-skip : (previous : Option ℕ) (a n : ℕ) → shown a ≡ false → shown_from previous a (suc n) ≡ shown_from previous (a + 1) n
+    shown-skip previous a n h = ap (λ b. expanded_shown previous (cond b (a ∷ filter shown (range_with_len (a + 1) n)) (filter shown (range_with_len (a + 1) n)))) h
 
     -- a shown line is taken
-    shown-keep : (was : Option ℕ) (a n : ℕ) → shown a ≡ true → shown_from was a (suc n) ≡ before_line (gap_between filled broken) was a ++ drawn a ++ shown_from (Some a) (a + 1) n
-    shown-keep was a n h = ap (λ b. shown_give was (cond b (a ∷ filter shown (range_with_len (a + 1) n)) (filter shown (range_with_len (a + 1) n)))) h
+    shown-keep : (previous : Option ℕ) (a n : ℕ) → shown a ≡ true → shown_from previous a (suc n) ≡ before_line (gap_between filled broken) previous a ++ drawn a ++ shown_from (Some a) (a + 1) n
+    shown-keep previous a n h = ap (λ b. expanded_shown previous (cond b (a ∷ filter shown (range_with_len (a + 1) n)) (filter shown (range_with_len (a + 1) n)))) h
 
     -- right after a shown line
     abbrev Next : ℕ → Type 0
@@ -157,13 +157,13 @@ module _ {X : Type 0} (drawn filled broken : ℕ → List X) where
 
     -- a shown line comes far after one
     far_step : (n : ℕ) → Next n → Far n → Far (suc n)
-    far_step n next far c a apart was none = by_test (shown a) refl
+    far_step n next far c a apart previous none = by_test (shown a) refl
       where
         by_test : (b : Bool) → shown a ≡ b → lines_from (Some c) a (suc n) ≡ shown_from (Some c) a (suc n)
         by_test true here =
             let other : (a == c + 2) ≡ false = grind (arith, nat_tests) in take-shown n next c a other here (λ l h. none l (omega arith))
         by_test false here =
-            lines-skip (Some c) a n (not_filled-after shown a here was)
+            lines-skip (Some c) a n (not_filled-after shown a here previous)
             ∙ far c (a + 1) (omega arith) (after-hidden shown a here) (λ l h. none l (omega arith))
             ∙ sym (shown-skip (Some c) a n here)
 
@@ -172,7 +172,7 @@ module _ {X : Type 0} (drawn filled broken : ℕ → List X) where
     all_steps zero = (
       λ c is none. refl,
       λ c is hidden none. lines-skip (Some c) (c + 1) 0 (not_filled-before shown (c + 1) hidden (none (c + 1 + 1) (omega arith))),
-      λ c a apart was none. refl,
+      λ c a apart previous none. refl,
     )
     all_steps (suc n) =
         let before = all_steps n in
@@ -180,8 +180,8 @@ module _ {X : Type 0} (drawn filled broken : ℕ → List X) where
 
     -- before the first shown line
     from_start : (a n : ℕ) → (nat_lt 0 a && shown (a - 1)) ≡ false → NoneFrom (a + n) → lines_from None a n ≡ shown_from None a n
-    from_start a zero was none = refl
-    from_start a (suc n) was none = by_test (λ here. from_start (a + 1) n (after-hidden shown a here) (λ l h. none l (omega arith))) (shown a) refl
+    from_start a zero previous none = refl
+    from_start a (suc n) previous none = by_test (λ here. from_start (a + 1) n (after-hidden shown a here) (λ l h. none l (omega arith))) (shown a) refl
       where
         by_test : (shown a ≡ false → lines_from None (a + 1) n ≡ shown_from None (a + 1) n) → (b : Bool) → shown a ≡ b → lines_from None a (suc n) ≡ shown_from None a (suc n)
         by_test later true here =
@@ -189,7 +189,7 @@ module _ {X : Type 0} (drawn filled broken : ℕ → List X) where
             ∙ ap (λ rest. drawn a ++ rest) ((all_steps n).0 a here (λ l h. none l (omega arith)))
             ∙ sym (shown-keep None a n here)
         by_test later false here =
-            lines-skip None a n (not_filled-after shown a here was) ∙ later here ∙ sym (shown-skip None a n here)
+            lines-skip None a n (not_filled-after shown a here previous) ∙ later here ∙ sym (shown-skip None a n here)
 
     -- the elements of the drawn lines are those of the shown lines with what is between them
     pub lines-shown : (own : ℕ → List X) → ((l : ℕ) → own l ≡ given l) → (n : ℕ) → NoneFrom n

@@ -4,12 +4,12 @@ use Rattle.std.specs.List.{AllByRecursion}
 use Rattle.std.specs.Option.{option_map}
 use Rattle.std.proofs.lemmas.List.{length-append}
 use Rattle.codespan_base.specs.declared.term.config.Layout.{Layout}
-use Rattle.codespan_base.specs.Labels.{Labelled, first_line}
+use Rattle.codespan_base.specs.Labels.{LabelModel, first_line}
 use Rattle.codespan_picture.specs.declared.lanes.Shape.{Shape}
 use Rattle.codespan_picture.specs.declared.lanes.Shape.TheVariants.{Gap, Bar, TopCorner, BottomCorner}
 use Rattle.codespan_picture.specs.Lanes.{is_unbroken}
 use Rattle.codespan_picture.specs.Rows.{Line, Row, SourceRow}
-use Rattle.codespan_picture.specs.Snippets.{LabelledFile, line_at}
+use Rattle.codespan_picture.specs.Snippets.{LabeledFileModel, line_at}
 use Rattle.codespan_laws.specs.LaneLaws.{shape_in, shape_at, line_of_row, MayLeaveOut, IsOneLine}
 use Rattle.codespan_laws.proofs.SortedLists.{all-append, all-weaker}
 
@@ -75,7 +75,7 @@ Shows layout lane shape row = shape_in layout row lane ≡ shape
 pub record LeftOut (layout : Layout) (lane : ℕ) (line : Line) (top row : Row) : Type 0 where
   pub is_gap : shape_in layout row lane ≡ Gap
   pub is_classic : is_unbroken layout ≡ false
-  pub turns_early : top ≡ SourceRow line
+  pub begins_in_source_row : top ≡ SourceRow line
   pub is_of_line : line_of_row row ≡ Some line
 
 -- a bar, or nothing that counts
@@ -89,7 +89,7 @@ pub record Begins (layout : Layout) (lane : ℕ) (line : Line) (rows : List Row)
   pub more : List Row
   pub rows_are : rows ≡ before ++ (top ∷ more)
   pub gaps : AllByRecursion (Shows layout lane Gap) before
-  pub turns : Shows layout lane TopCorner top
+  pub top_corner : Shows layout lane TopCorner top
   pub goes_on : AllByRecursion (GoesOn layout lane line top) more
 
 -- rows in which a lane from above ends
@@ -99,7 +99,7 @@ pub record Finishes (layout : Layout) (lane : ℕ) (rows : List Row) : Type 0 wh
   pub after : List Row
   pub rows_are : rows ≡ before ++ (bottom ∷ after)
   pub bars : AllByRecursion (Shows layout lane Bar) before
-  pub turns_back : Shows layout lane BottomCorner bottom
+  pub bottom_corner : Shows layout lane BottomCorner bottom
   pub gaps : AllByRecursion (Shows layout lane Gap) after
 
 -- rows with the whole lane
@@ -111,9 +111,9 @@ pub record Whole (layout : Layout) (lane : ℕ) (line : Line) (rows : List Row) 
   pub after : List Row
   pub rows_are : rows ≡ before ++ (top ∷ (middle ++ (bottom ∷ after)))
   pub gaps_before : AllByRecursion (Shows layout lane Gap) before
-  pub turns : Shows layout lane TopCorner top
+  pub top_corner : Shows layout lane TopCorner top
   pub goes_on : AllByRecursion (GoesOn layout lane line top) middle
-  pub turns_back : Shows layout lane BottomCorner bottom
+  pub bottom_corner : Shows layout lane BottomCorner bottom
   pub gaps_after : AllByRecursion (Shows layout lane Gap) after
 
 pub finishes_later : (layout : Layout) (lane : ℕ) (xs ys : List Row) → AllByRecursion (Shows layout lane Bar) xs → Finishes layout lane ys → Finishes layout lane (xs ++ ys)
@@ -123,7 +123,7 @@ finishes_later layout lane xs ys bars r = record {
   after = r.after;
   rows_are = ap (λ t. xs ++ t) r.rows_are ∙ sym (append_assoc xs r.before (r.bottom ∷ r.after));
   bars = all-append (Shows layout lane Bar) xs r.before bars r.bars;
-  turns_back = r.turns_back;
+  bottom_corner = r.bottom_corner;
   gaps = r.gaps;
 }
 
@@ -134,7 +134,7 @@ finishes_before layout lane xs ys r gaps = record {
   after = r.after ++ ys;
   rows_are = ap (λ t. t ++ ys) r.rows_are ∙ append_assoc r.before (r.bottom ∷ r.after) ys;
   bars = r.bars;
-  turns_back = r.turns_back;
+  bottom_corner = r.bottom_corner;
   gaps = all-append (Shows layout lane Gap) r.after ys r.gaps gaps;
 }
 
@@ -147,9 +147,9 @@ whole_later layout lane line xs ys gaps r = record {
   after = r.after;
   rows_are = ap (λ t. xs ++ t) r.rows_are ∙ sym (append_assoc xs r.before (r.top ∷ (r.middle ++ (r.bottom ∷ r.after))));
   gaps_before = all-append (Shows layout lane Gap) xs r.before gaps r.gaps_before;
-  turns = r.turns;
+  top_corner = r.top_corner;
   goes_on = r.goes_on;
-  turns_back = r.turns_back;
+  bottom_corner = r.bottom_corner;
   gaps_after = r.gaps_after;
 }
 
@@ -163,9 +163,9 @@ whole_before layout lane line xs ys r gaps = record {
   rows_are = ap (λ t. t ++ ys) r.rows_are ∙ append_assoc r.before (r.top ∷ (r.middle ++ (r.bottom ∷ r.after))) ys
       ∙ ap (λ t. r.before ++ (r.top ∷ t)) (append_assoc r.middle (r.bottom ∷ r.after) ys);
   gaps_before = r.gaps_before;
-  turns = r.turns;
+  top_corner = r.top_corner;
   goes_on = r.goes_on;
-  turns_back = r.turns_back;
+  bottom_corner = r.bottom_corner;
   gaps_after = all-append (Shows layout lane Gap) r.after ys r.gaps_after gaps;
 }
 
@@ -179,23 +179,23 @@ whole_joined layout lane line xs ys b r = record {
   rows_are = ap₂ (λ s t. s ++ t) b.rows_are r.rows_are ∙ append_assoc b.before (b.top ∷ b.more) (r.before ++ (r.bottom ∷ r.after))
       ∙ ap (λ t. b.before ++ (b.top ∷ t)) (sym (append_assoc b.more r.before (r.bottom ∷ r.after)));
   gaps_before = b.gaps;
-  turns = b.turns;
+  top_corner = b.top_corner;
   goes_on = all-append (GoesOn layout lane line b.top) b.more r.before b.goes_on
       (all-weaker (Shows layout lane Bar) (GoesOn layout lane line b.top) (λ row h. inl h) r.before r.bars);
-  turns_back = r.turns_back;
+  bottom_corner = r.bottom_corner;
   gaps_after = r.gaps;
 }
 
 -- ---- the same by indices
 
-pub one_line : (layout : Layout) (s : LabelledFile) (rows : List Row) (lane : ℕ) (x : Labelled)
+pub one_line : (layout : Layout) (s : LabeledFileModel) (rows : List Row) (lane : ℕ) (x : LabelModel)
     → Whole layout lane (line_at s (first_line s.file x)) rows → IsOneLine layout s rows lane x
 one_line layout s rows lane x w = record {
   top = at_top;
   bottom = at_bottom;
   in_order = omega arith;
-  turns = ap show top_is ∙ ap Some w.turns;
-  turns_back = ap show bottom_is ∙ ap Some w.turns_back;
+  top_corner = ap show top_is ∙ ap Some w.top_corner;
+  bottom_corner = ap show bottom_is ∙ ap Some w.bottom_corner;
   between = λ k low high.
       let j : ℕ = k - at_top - 1 in
       let r = each_at (GoesOn layout lane line w.top) w.middle j w.goes_on (omega arith) in
@@ -250,6 +250,6 @@ one_line layout s rows lane x w = record {
     by_kind k row is (inr out) = inr (record {
       is_classic = out.is_classic;
       is_gap = ap show is ∙ ap Some out.is_gap;
-      turns_early = top_is ∙ ap Some out.turns_early;
+      begins_in_source_row = top_is ∙ ap Some out.begins_in_source_row;
       is_of_line = λ other other_is. let same : row ≡ other = cc in ap line_of_row (sym same) ∙ out.is_of_line;
     })

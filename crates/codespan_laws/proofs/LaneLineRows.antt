@@ -7,10 +7,10 @@ use Rattle.codespan_base.specs.declared.term.config.Layout.{Layout}
 use Rattle.codespan_base.specs.declared.term.config.Layout.TheVariants.{Classic, Unbroken}
 use Rattle.codespan_base.specs.declared.diagnostic.LabelStyle.{LabelStyle}
 use Rattle.codespan_base.specs.Streams.{Stream}
-use Rattle.codespan_base.specs.Labels.{Labelled, LaneMark, MultiLabel, Top, Left, Bottom}
+use Rattle.codespan_base.specs.Labels.{LabelModel, LaneMark, MultiLabel, Top, Left, Bottom}
 use Rattle.codespan_picture.specs.declared.lanes.Shape.{Shape}
 use Rattle.codespan_picture.specs.declared.lanes.Shape.TheVariants.{Gap, Bar, TopCorner, BottomCorner}
-use Rattle.codespan_picture.specs.Lanes.{source_shape, below_shape, underline_shape, mark_in, is_unbroken, turns_early, shape_of}
+use Rattle.codespan_picture.specs.Lanes.{source_shape, below_shape, underline_shape, lane_mark_in, is_unbroken, begins_in_source_row, shape_of}
 use Rattle.codespan_laws.specs.LaneLaws.{shape_in}
 use Rattle.codespan_picture.specs.Rows.{Line, Row, SourceRow, CaretRow, PointerRow, HangingRow, UnderlineRow, caret_rows, hanging_rows, hanging, underline_rows, rows_of, has_underline}
 use Rattle.codespan_picture.specs.RowParts.{leading_of}
@@ -19,11 +19,11 @@ use Rattle.codespan_laws.proofs.SortedLists.{all-append, all-filter, all-weaker}
 
 -- ---- the rows of a line
 
-each_caret : (P : Row → Type 0) (line : Line) (labels : List Labelled) → P (CaretRow line) → AllByRecursion P (caret_rows line labels)
+each_caret : (P : Row → Type 0) (line : Line) (labels : List LabelModel) → P (CaretRow line) → AllByRecursion P (caret_rows line labels)
 each_caret P line [] a = tt
 each_caret P line (x ∷ xs) a = (a, tt)
 
-each_hanging : (P : Row → Type 0) (line : Line) (labels : List Labelled) → P (PointerRow line) → ((y : Labelled) → P (HangingRow line y))
+each_hanging : (P : Row → Type 0) (line : Line) (labels : List LabelModel) → P (PointerRow line) → ((y : LabelModel) → P (HangingRow line y))
     → AllByRecursion P (hanging_rows line labels)
 each_hanging P line [] a b = tt
 each_hanging P line (x ∷ xs) a b =
@@ -32,7 +32,7 @@ each_hanging P line (x ∷ xs) a b =
 abbrev below_rows : Line → List Row
 below_rows line = caret_rows line line.labels ++ hanging_rows line (hanging line.labels)
 
-each_below : (P : Row → Type 0) (line : Line) → P (CaretRow line) → P (PointerRow line) → ((y : Labelled) → P (HangingRow line y)) → AllByRecursion P (below_rows line)
+each_below : (P : Row → Type 0) (line : Line) → P (CaretRow line) → P (PointerRow line) → ((y : LabelModel) → P (HangingRow line y)) → AllByRecursion P (below_rows line)
 each_below P line a b d =
     all-append P (caret_rows line line.labels) (hanging_rows line (hanging line.labels)) (each_caret P line line.labels a)
     (each_hanging P line (hanging line.labels) b d)
@@ -45,7 +45,7 @@ each_under : (P : Row → Type 0) (line : Line) (marks : List LaneMark) → AllB
 each_under P line marks a =
     each_map P (UnderlineRow line) (filter (is_underlined line) marks) (all-filter (λ m. P (UnderlineRow line m)) (is_underlined line) marks a)
 
-each_after_source : (P : Row → Type 0) (line : Line) → P (CaretRow line) → P (PointerRow line) → ((y : Labelled) → P (HangingRow line y))
+each_after_source : (P : Row → Type 0) (line : Line) → P (CaretRow line) → P (PointerRow line) → ((y : LabelModel) → P (HangingRow line y))
     → ((m : LaneMark) → P (UnderlineRow line m)) → AllByRecursion P (below_rows line ++ underline_rows line)
 each_after_source P line a b d e =
     all-append P (below_rows line) (underline_rows line) (each_below P line a b d)
@@ -53,11 +53,11 @@ each_after_source P line a b d e =
 
 -- ---- a line on which the label neither begins nor ends
 
-abbrev pub mark_with : ℕ → LabelStyle → MultiLabel → LaneMark
-mark_with lane style part = record { lane = lane; style = style; part = part }
+abbrev pub lane_mark_with : ℕ → LabelStyle → MultiLabel → LaneMark
+lane_mark_with lane style part = record { lane = lane; style = style; part = part }
 
-pub no_mark : (layout : Layout) (lane : ℕ) (line : Line) → mark_in line.lanes.marks lane ≡ None → AllByRecursion (Shows layout lane Gap) (rows_of line)
-no_mark layout lane line none = (
+pub no_lane_mark : (layout : Layout) (lane : ℕ) (line : Line) → lane_mark_in line.lanes.marks lane ≡ None → AllByRecursion (Shows layout lane Gap) (rows_of line)
+no_lane_mark layout lane line none = (
   ap (shape_of (source_shape (leading_of line))) none,
   each_after_source (Shows layout lane Gap) line
       (ap (shape_of (below_shape layout (leading_of line))) none)
@@ -66,9 +66,9 @@ no_mark layout lane line none = (
       (λ m. ap (shape_of (underline_shape layout (leading_of line) m.lane lane)) none),
 )
 
-pub left_mark : (layout : Layout) (lane : ℕ) (line : Line) (style : LabelStyle) → mark_in line.lanes.marks lane ≡ Some (mark_with lane style Left)
+pub left_lane_mark : (layout : Layout) (lane : ℕ) (line : Line) (style : LabelStyle) → lane_mark_in line.lanes.marks lane ≡ Some (lane_mark_with lane style Left)
     → AllByRecursion (Shows layout lane Bar) (rows_of line)
-left_mark layout lane line style is = (
+left_lane_mark layout lane line style is = (
   ap (shape_of (source_shape (leading_of line))) is,
   each_after_source (Shows layout lane Bar) line
       (ap (shape_of (below_shape layout (leading_of line))) is)
@@ -97,11 +97,11 @@ rows_split lane line m r h =
     ∙ ap (λ t. SourceRow line ∷ (below_rows line ++ t)) (split_at (UnderlineRow line) (is_underlined line) r.low m r.high h)
     ∙ ap (λ t. SourceRow line ∷ t) (sym (append_assoc (below_rows line) (map (UnderlineRow line) (filter (is_underlined line) r.low)) (UnderlineRow line m ∷ map (UnderlineRow line) (filter (is_underlined line) r.high))))
 
-pub bottom_mark : (layout : Layout) (lane : ℕ) (line : Line) (style : LabelStyle) (end : ℕ) (message : Stream)
-    → mark_in line.lanes.marks lane ≡ Some (mark_with lane style (Bottom end message))
-    → Split lane (mark_with lane style (Bottom end message)) line.lanes.marks
+pub bottom_lane_mark : (layout : Layout) (lane : ℕ) (line : Line) (style : LabelStyle) (end : ℕ) (message : Stream)
+    → lane_mark_in line.lanes.marks lane ≡ Some (lane_mark_with lane style (Bottom end message))
+    → Split lane (lane_mark_with lane style (Bottom end message)) line.lanes.marks
     → Finishes layout lane (rows_of line)
-bottom_mark layout lane line style end message is r = record {
+bottom_lane_mark layout lane line style end message is r = record {
   before = SourceRow line ∷ (below_rows line ++ map (UnderlineRow line) (filter (is_underlined line) r.low));
   bottom = UnderlineRow line m;
   after = map (UnderlineRow line) (filter (is_underlined line) r.high);
@@ -116,7 +116,7 @@ bottom_mark layout lane line style end message is r = record {
         (each_under (Shows layout lane Bar) line r.low
         (all-weaker (λ (o : LaneMark). o.lane < lane) (λ o. Shows layout lane Bar (UnderlineRow line o)) on_low r.low r.below)),
   );
-  turns_back =
+  bottom_corner =
       let same : (lane == lane) ≡ true = grind (arith, nat_tests) in
       shown m ∙ ap (λ b. cond b BottomCorner (cond (nat_lt lane lane) Gap Bar)) same;
   gaps = each_under (Shows layout lane Gap) line r.high
@@ -124,7 +124,7 @@ bottom_mark layout lane line style end message is r = record {
 }
   where
     m : LaneMark
-    m = mark_with lane style (Bottom end message)
+    m = lane_mark_with lane style (Bottom end message)
 
     shown : (o : LaneMark) → shape_in layout (UnderlineRow line o) lane ≡ underline_shape layout (leading_of line) o.lane lane (Bottom end message)
     shown o = ap (shape_of (underline_shape layout (leading_of line) o.lane lane)) is
@@ -132,40 +132,40 @@ bottom_mark layout lane line style end message is r = record {
     on_low : (o : LaneMark) → o.lane < lane → Shows layout lane Bar (UnderlineRow line o)
     on_low o h = bottom_low layout lane (leading_of line) o.lane end message h (shown o)
       where
-        bottom_low : (layout : Layout) (lane leading turning end : ℕ) (message : Stream) {v : Shape} → turning < lane
-            → v ≡ underline_shape layout leading turning lane (Bottom end message) → v ≡ Bar
-        bottom_low layout lane leading turning end message h e =
-            let other : (lane == turning) ≡ false = grind (arith, nat_tests) in
-            let later : nat_lt lane turning ≡ false = grind (arith, nat_tests) in
+        bottom_low : (layout : Layout) (lane leading corner_lane end : ℕ) (message : Stream) {v : Shape} → corner_lane < lane
+            → v ≡ underline_shape layout leading corner_lane lane (Bottom end message) → v ≡ Bar
+        bottom_low layout lane leading corner_lane end message h e =
+            let other : (lane == corner_lane) ≡ false = grind (arith, nat_tests) in
+            let later : nat_lt lane corner_lane ≡ false = grind (arith, nat_tests) in
             e ∙ simp (other, later)
 
     on_high : (o : LaneMark) → lane < o.lane → Shows layout lane Gap (UnderlineRow line o)
     on_high o h = bottom_high layout lane (leading_of line) o.lane end message h (shown o)
       where
-        bottom_high : (layout : Layout) (lane leading turning end : ℕ) (message : Stream) {v : Shape} → lane < turning
-            → v ≡ underline_shape layout leading turning lane (Bottom end message) → v ≡ Gap
-        bottom_high layout lane leading turning end message h e =
-            let other : (lane == turning) ≡ false = grind (arith, nat_tests) in
-            let later : nat_lt lane turning ≡ true = grind (arith, nat_tests) in
+        bottom_high : (layout : Layout) (lane leading corner_lane end : ℕ) (message : Stream) {v : Shape} → lane < corner_lane
+            → v ≡ underline_shape layout leading corner_lane lane (Bottom end message) → v ≡ Gap
+        bottom_high layout lane leading corner_lane end message h e =
+            let other : (lane == corner_lane) ≡ false = grind (arith, nat_tests) in
+            let later : nat_lt lane corner_lane ≡ true = grind (arith, nat_tests) in
             e ∙ simp (other, later)
 
 -- an underline row left or right of the lane's own
-top_low : (lane turning : ℕ) {v : Shape} → turning < lane → v ≡ cond (lane == turning) TopCorner (cond (nat_lt lane turning) Bar Gap) → v ≡ Gap
-top_low lane turning h e =
-    let other : (lane == turning) ≡ false = grind (arith, nat_tests) in
-    let later : nat_lt lane turning ≡ false = grind (arith, nat_tests) in
+top_low : (lane corner_lane : ℕ) {v : Shape} → corner_lane < lane → v ≡ cond (lane == corner_lane) TopCorner (cond (nat_lt lane corner_lane) Bar Gap) → v ≡ Gap
+top_low lane corner_lane h e =
+    let other : (lane == corner_lane) ≡ false = grind (arith, nat_tests) in
+    let later : nat_lt lane corner_lane ≡ false = grind (arith, nat_tests) in
     e ∙ simp (other, later)
 
-top_high : (lane turning : ℕ) {v : Shape} → lane < turning → v ≡ cond (lane == turning) TopCorner (cond (nat_lt lane turning) Bar Gap) → v ≡ Bar
-top_high lane turning h e =
-    let other : (lane == turning) ≡ false = grind (arith, nat_tests) in
-    let later : nat_lt lane turning ≡ true = grind (arith, nat_tests) in
+top_high : (lane corner_lane : ℕ) {v : Shape} → lane < corner_lane → v ≡ cond (lane == corner_lane) TopCorner (cond (nat_lt lane corner_lane) Bar Gap) → v ≡ Bar
+top_high lane corner_lane h e =
+    let other : (lane == corner_lane) ≡ false = grind (arith, nat_tests) in
+    let later : nat_lt lane corner_lane ≡ true = grind (arith, nat_tests) in
     e ∙ simp (other, later)
 
 -- a corner in the source row
 top_early : (layout : Layout) (lane : ℕ) (line : Line) (style : LabelStyle) (start : ℕ)
-    → mark_in line.lanes.marks lane ≡ Some (mark_with lane style (Top start))
-    → Split lane (mark_with lane style (Top start)) line.lanes.marks → turns_early (leading_of line) start ≡ true
+    → lane_mark_in line.lanes.marks lane ≡ Some (lane_mark_with lane style (Top start))
+    → Split lane (lane_mark_with lane style (Top start)) line.lanes.marks → begins_in_source_row (leading_of line) start ≡ true
     → Begins layout lane line (rows_of line)
 top_early layout lane line style start is r early = record {
   before = [];
@@ -173,12 +173,12 @@ top_early layout lane line style start is r early = record {
   more = below_rows line ++ underline_rows line;
   rows_are = refl;
   gaps = tt;
-  turns = ap (shape_of (source_shape (leading_of line))) is ∙ ap (λ b. cond b TopCorner Gap) early;
+  top_corner = ap (shape_of (source_shape (leading_of line))) is ∙ ap (λ b. cond b TopCorner Gap) early;
   goes_on = by_layout layout;
 }
   where
     m : LaneMark
-    m = mark_with lane style (Top start)
+    m = lane_mark_with lane style (Top start)
 
     -- the underline rows without the lane's own
     without : underline_rows line
@@ -187,14 +187,14 @@ top_early layout lane line style start is r early = record {
         ap (λ t. map (UnderlineRow line) (filter (is_underlined line) t)) r.is
         ∙ split_off (UnderlineRow line) (is_underlined line) r.low m r.high (ap not early)
 
-    gap : shape_of (below_shape Classic (leading_of line)) (mark_in line.lanes.marks lane) ≡ Gap
+    gap : shape_of (below_shape Classic (leading_of line)) (lane_mark_in line.lanes.marks lane) ≡ Gap
     gap = ap (shape_of (below_shape Classic (leading_of line))) is
 
     shown : (o : LaneMark) → shape_in Classic (UnderlineRow line o) lane ≡ cond (lane == o.lane) TopCorner (cond (nat_lt lane o.lane) Bar Gap)
     shown o = ap (shape_of (underline_shape Classic (leading_of line) o.lane lane)) is
 
     on_low : (o : LaneMark) → o.lane < lane → GoesOn Classic lane line (SourceRow line) (UnderlineRow line o)
-    on_low o h = inr (record { is_gap = top_low lane o.lane h (shown o); is_classic = refl; turns_early = refl; is_of_line = refl })
+    on_low o h = inr (record { is_gap = top_low lane o.lane h (shown o); is_classic = refl; begins_in_source_row = refl; is_of_line = refl })
 
     on_high : (o : LaneMark) → lane < o.lane → GoesOn Classic lane line (SourceRow line) (UnderlineRow line o)
     on_high o h = inl (top_high lane o.lane h (shown o))
@@ -203,9 +203,9 @@ top_early layout lane line style start is r early = record {
     by_layout Classic =
         all-append (GoesOn Classic lane line (SourceRow line)) (below_rows line) (underline_rows line)
         (each_below (GoesOn Classic lane line (SourceRow line)) line
-        (inr (record { is_gap = gap; is_classic = refl; turns_early = refl; is_of_line = refl }))
-        (inr (record { is_gap = gap; is_classic = refl; turns_early = refl; is_of_line = refl }))
-        (λ y. inr (record { is_gap = gap; is_classic = refl; turns_early = refl; is_of_line = refl })))
+        (inr (record { is_gap = gap; is_classic = refl; begins_in_source_row = refl; is_of_line = refl }))
+        (inr (record { is_gap = gap; is_classic = refl; begins_in_source_row = refl; is_of_line = refl }))
+        (λ y. inr (record { is_gap = gap; is_classic = refl; begins_in_source_row = refl; is_of_line = refl })))
         (rw without (all-append (GoesOn Classic lane line (SourceRow line)) (map (UnderlineRow line) (filter (is_underlined line) r.low)) (map (UnderlineRow line) (filter (is_underlined line) r.high))
         (each_under (GoesOn Classic lane line (SourceRow line)) line r.low
         (all-weaker (λ (o : LaneMark). o.lane < lane) (λ o. GoesOn Classic lane line (SourceRow line) (UnderlineRow line o)) on_low r.low r.below))
@@ -220,21 +220,21 @@ top_early layout lane line style start is r early = record {
         ∙ ap (λ b. cond b Bar (cond (lane == m.lane) TopCorner (cond (nat_lt lane m.lane) Bar Gap))) early))
 
 -- nothing goes on from a corner that is not in the source row
-late : (layout : Layout) (leading start : ℕ) → turns_early leading start ≡ false → (is_unbroken layout && turns_early leading start) ≡ false
+late : (layout : Layout) (leading start : ℕ) → begins_in_source_row leading start ≡ false → (is_unbroken layout && begins_in_source_row leading start) ≡ false
 late layout leading start h = ap (λ b. is_unbroken layout && b) h ∙ and-false (is_unbroken layout)
 
-late_below : (layout : Layout) (leading start : ℕ) → turns_early leading start ≡ false → below_shape layout leading (Top start) ≡ Gap
+late_below : (layout : Layout) (leading start : ℕ) → begins_in_source_row leading start ≡ false → below_shape layout leading (Top start) ≡ Gap
 late_below layout leading start h = ap (λ b. cond b Bar Gap) (late layout leading start h)
 
-late_underline : (layout : Layout) (leading turning lane start : ℕ) → turns_early leading start ≡ false
-    → underline_shape layout leading turning lane (Top start) ≡ cond (lane == turning) TopCorner (cond (nat_lt lane turning) Bar Gap)
-late_underline layout leading turning lane start h =
-    ap (λ b. cond b Bar (cond (lane == turning) TopCorner (cond (nat_lt lane turning) Bar Gap))) (late layout leading start h)
+late_underline : (layout : Layout) (leading corner_lane lane start : ℕ) → begins_in_source_row leading start ≡ false
+    → underline_shape layout leading corner_lane lane (Top start) ≡ cond (lane == corner_lane) TopCorner (cond (nat_lt lane corner_lane) Bar Gap)
+late_underline layout leading corner_lane lane start h =
+    ap (λ b. cond b Bar (cond (lane == corner_lane) TopCorner (cond (nat_lt lane corner_lane) Bar Gap))) (late layout leading start h)
 
 -- a corner in a row of its own
 top_late : (layout : Layout) (lane : ℕ) (line : Line) (style : LabelStyle) (start : ℕ)
-    → mark_in line.lanes.marks lane ≡ Some (mark_with lane style (Top start))
-    → Split lane (mark_with lane style (Top start)) line.lanes.marks → turns_early (leading_of line) start ≡ false
+    → lane_mark_in line.lanes.marks lane ≡ Some (lane_mark_with lane style (Top start))
+    → Split lane (lane_mark_with lane style (Top start)) line.lanes.marks → begins_in_source_row (leading_of line) start ≡ false
     → Begins layout lane line (rows_of line)
 top_late layout lane line style start is r early = record {
   before = SourceRow line ∷ (below_rows line ++ map (UnderlineRow line) (filter (is_underlined line) r.low));
@@ -248,7 +248,7 @@ top_late layout lane line style start is r early = record {
         (each_under (Shows layout lane Gap) line r.low
         (all-weaker (λ (o : LaneMark). o.lane < lane) (λ o. Shows layout lane Gap (UnderlineRow line o)) on_low r.low r.below)),
   );
-  turns =
+  top_corner =
       let same : (lane == lane) ≡ true = grind (arith, nat_tests) in
       shown m ∙ ap (λ b. cond b TopCorner (cond (nat_lt lane lane) Bar Gap)) same;
   goes_on = each_under (GoesOn layout lane line (UnderlineRow line m)) line r.high
@@ -256,9 +256,9 @@ top_late layout lane line style start is r early = record {
 }
   where
     m : LaneMark
-    m = mark_with lane style (Top start)
+    m = lane_mark_with lane style (Top start)
 
-    under : shape_of (below_shape layout (leading_of line)) (mark_in line.lanes.marks lane) ≡ Gap
+    under : shape_of (below_shape layout (leading_of line)) (lane_mark_in line.lanes.marks lane) ≡ Gap
     under = ap (shape_of (below_shape layout (leading_of line))) is ∙ late_below layout (leading_of line) start early
 
     shown : (o : LaneMark) → shape_in layout (UnderlineRow line o) lane ≡ cond (lane == o.lane) TopCorner (cond (nat_lt lane o.lane) Bar Gap)
@@ -270,12 +270,12 @@ top_late layout lane line style start is r early = record {
     on_high : (o : LaneMark) → lane < o.lane → Shows layout lane Bar (UnderlineRow line o)
     on_high o h = top_high lane o.lane h (shown o)
 
-pub top_mark : (layout : Layout) (lane : ℕ) (line : Line) (style : LabelStyle) (start : ℕ)
-    → mark_in line.lanes.marks lane ≡ Some (mark_with lane style (Top start))
-    → Split lane (mark_with lane style (Top start)) line.lanes.marks
+pub top_lane_mark : (layout : Layout) (lane : ℕ) (line : Line) (style : LabelStyle) (start : ℕ)
+    → lane_mark_in line.lanes.marks lane ≡ Some (lane_mark_with lane style (Top start))
+    → Split lane (lane_mark_with lane style (Top start)) line.lanes.marks
     → Begins layout lane line (rows_of line)
-top_mark layout lane line style start is r = by_test (turns_early (leading_of line) start) refl
+top_lane_mark layout lane line style start is r = by_test (begins_in_source_row (leading_of line) start) refl
   where
-    by_test : (b : Bool) → turns_early (leading_of line) start ≡ b → Begins layout lane line (rows_of line)
+    by_test : (b : Bool) → begins_in_source_row (leading_of line) start ≡ b → Begins layout lane line (rows_of line)
     by_test true early = top_early layout lane line style start is r early
     by_test false early = top_late layout lane line style start is r early

@@ -7,48 +7,48 @@ use Rattle.std.proofs.lemmas.List.Sums.{count_by-le-length}
 use Rattle.codespan_base.specs.declared.term.config.Config.{Config}
 use Rattle.codespan_base.specs.declared.term.config.Layout.{Layout}
 use Rattle.codespan_base.specs.FileModel.{FileModel, line_start, line_of, line_count}
-use Rattle.codespan_base.specs.Labels.{Labelled, is_single, first_line, last_line, part_on, mark_of, marks_on, multi_labels, LaneMark, MultiLabel, Top, Left, Bottom}
+use Rattle.codespan_base.specs.Labels.{LabelModel, is_single, first_line, last_line, part_on, lane_mark_of, lane_marks_on, multi_labels, LaneMark, MultiLabel, Top, Left, Bottom}
 use Rattle.codespan_picture.specs.declared.lanes.Shape.TheVariants.{Gap, Bar}
-use Rattle.codespan_picture.specs.Lanes.{plain_shape, mark_in, shape_of}
+use Rattle.codespan_picture.specs.Lanes.{plain_shape, lane_mark_in, shape_of}
 use Rattle.codespan_picture.specs.Lines.{is_shown, is_drawn, drawn_lines, is_broken}
 use Rattle.codespan_picture.specs.Rows.{Row, BreakRow, StartRow, EmptyRow, rows_of}
-use Rattle.codespan_picture.specs.Snippets.{LabelledFile, line_at, rows_after, row_after, snippet, bare_lanes}
+use Rattle.codespan_picture.specs.Snippets.{LabeledFileModel, line_at, rows_after, row_after, snippet, empty_lanes}
 use Rattle.codespan_laws.proofs.FillLemmas.{breaks_before}
 use Rattle.codespan_laws.specs.LaneLaws.{HasLane, LanesAreLines}
-use Rattle.codespan_laws.specs.Meanings.{StartsBeforeEnds}
-use Rattle.codespan_laws.proofs.BarLemmas.{marks_from, mark_in-from}
+use Rattle.codespan_laws.specs.RichLaws.{StartsBeforeEnds}
+use Rattle.codespan_laws.proofs.BarLemmas.{marks_from, lane_mark_in-from}
 use Rattle.codespan_laws.proofs.RangeLemmas.{kept, has_lane-ordered, line_of-below, shown-by, shows-first, shows-last}
 use Rattle.codespan_laws.proofs.LaneLineLemmas.{Shows, Begins, Finishes, Whole, finishes_later, finishes_before, whole_before, whole_later, whole_joined, one_line}
-use Rattle.codespan_laws.proofs.LaneLineRows.{mark_with, Split, no_mark, left_mark, bottom_mark, top_mark}
+use Rattle.codespan_laws.proofs.LaneLineRows.{lane_mark_with, Split, no_lane_mark, left_lane_mark, bottom_lane_mark, top_lane_mark}
 use Rattle.codespan_laws.proofs.SortedLists.{all-append, all-weaker}
 
 -- ---- the multi-line label marks of a line in their order
 
-each_mark : (P : LaneMark → Type 0) (n : ℕ) (x : Labelled) (part : Option MultiLabel) (marks : List LaneMark)
-    → ((p : MultiLabel) → P (mark_with n x.style p)) → AllByRecursion P marks → AllByRecursion P (cons_option (mark_of n x part) marks)
-each_mark P n x None marks h a = a
-each_mark P n x (Some p) marks h a = (h p, a)
+each_lane_mark : (P : LaneMark → Type 0) (n : ℕ) (x : LabelModel) (part : Option MultiLabel) (marks : List LaneMark)
+    → ((p : MultiLabel) → P (lane_mark_with n x.style p)) → AllByRecursion P marks → AllByRecursion P (cons_option (lane_mark_of n x part) marks)
+each_lane_mark P n x None marks h a = a
+each_lane_mark P n x (Some p) marks h a = (h p, a)
 
-each_from : (f : FileModel) (l n : ℕ) (xs : List Labelled) → AllByRecursion (λ (o : LaneMark). n ≤ o.lane) (marks_from f l n xs)
+each_from : (f : FileModel) (l n : ℕ) (xs : List LabelModel) → AllByRecursion (λ (o : LaneMark). n ≤ o.lane) (marks_from f l n xs)
 each_from f l n [] = tt
 each_from f l n (x ∷ xs) =
-    each_mark (λ (o : LaneMark). n ≤ o.lane) n x (part_on f l x) (marks_from f l (n + 1) xs) (λ p. omega arith)
+    each_lane_mark (λ (o : LaneMark). n ≤ o.lane) n x (part_on f l x) (marks_from f l (n + 1) xs) (λ p. omega arith)
     (all-weaker (λ (o : LaneMark). n + 1 ≤ o.lane) (λ (o : LaneMark). n ≤ o.lane) (λ o h. omega arith) (marks_from f l (n + 1) xs) (each_from f l (n + 1) xs))
 
 -- one multi-line label mark more before the others
-split_later : (lane n : ℕ) (m : LaneMark) (x : Labelled) (part : Option MultiLabel) (marks : List LaneMark) → n < lane → Split lane m marks
-    → Split lane m (cons_option (mark_of n x part) marks)
+split_later : (lane n : ℕ) (m : LaneMark) (x : LabelModel) (part : Option MultiLabel) (marks : List LaneMark) → n < lane → Split lane m marks
+    → Split lane m (cons_option (lane_mark_of n x part) marks)
 split_later lane n m x None marks h r = r
 split_later lane n m x (Some p) marks h r = record {
-  low = mark_with n x.style p ∷ r.low;
+  low = lane_mark_with n x.style p ∷ r.low;
   high = r.high;
-  is = ap (λ t. mark_with n x.style p ∷ t) r.is;
+  is = ap (λ t. lane_mark_with n x.style p ∷ t) r.is;
   below = (h, r.below);
   above = r.above;
 }
 
-split_from : (f : FileModel) (l lane n k : ℕ) (xs : List Labelled) (x : Labelled) (part : MultiLabel) → n + k ≡ lane → slice_get xs k ≡ Some x → part_on f l x ≡ Some part
-    → Split lane (mark_with lane x.style part) (marks_from f l n xs)
+split_from : (f : FileModel) (l lane n k : ℕ) (xs : List LabelModel) (x : LabelModel) (part : MultiLabel) → n + k ≡ lane → slice_get xs k ≡ Some x → part_on f l x ≡ Some part
+    → Split lane (lane_mark_with lane x.style part) (marks_from f l n xs)
 split_from f l lane n k [] x part e h is = cc
 split_from f l lane n zero (y ∷ ys) x part e h is = record {
   low = [];
@@ -56,14 +56,14 @@ split_from f l lane n zero (y ∷ ys) x part e h is = record {
   is =
       let same : y ≡ x = cc in
       let here : n ≡ lane = omega arith in
-      ap (λ z. cons_option (mark_of n z (part_on f l z)) (marks_from f l (n + 1) ys)) same
-      ∙ ap (λ q. cons_option (mark_of n x q) (marks_from f l (n + 1) ys)) is
-      ∙ ap (λ v. mark_with v x.style part ∷ marks_from f l (n + 1) ys) here;
+      ap (λ z. cons_option (lane_mark_of n z (part_on f l z)) (marks_from f l (n + 1) ys)) same
+      ∙ ap (λ q. cons_option (lane_mark_of n x q) (marks_from f l (n + 1) ys)) is
+      ∙ ap (λ v. lane_mark_with v x.style part ∷ marks_from f l (n + 1) ys) here;
   below = tt;
   above = all-weaker (λ (o : LaneMark). n + 1 ≤ o.lane) (λ (o : LaneMark). lane < o.lane) (λ o h. omega arith) (marks_from f l (n + 1) ys) (each_from f l (n + 1) ys);
 }
 split_from f l lane n (suc k) (y ∷ ys) x part e h is =
-    split_later lane n (mark_with lane x.style part) y (part_on f l y) (marks_from f l (n + 1) ys) (omega arith)
+    split_later lane n (lane_mark_with lane x.style part) y (part_on f l y) (marks_from f l (n + 1) ys) (omega arith)
     (split_from f l lane (n + 1) k ys x part (omega arith) h is)
 
 -- ---- what a label does on a line
@@ -105,7 +105,7 @@ part_after a b l top bottom order high =
 
 -- ---- the rows of the drawn lines
 
-each_break : (P : Row → Type 0) (s : LabelledFile) (was : Option ℕ) (l : ℕ) → P (BreakRow (line_at s l).lanes) → AllByRecursion P (breaks_before s was l)
+each_break : (P : Row → Type 0) (s : LabeledFileModel) (previous : Option ℕ) (l : ℕ) → P (BreakRow (line_at s l).lanes) → AllByRecursion P (breaks_before s previous l)
 each_break P s None l h = tt
 each_break P s (Some c) l h = by_test (is_broken c l)
   where
@@ -113,7 +113,7 @@ each_break P s (Some c) l h = by_test (is_broken c l)
     by_test true = (h, tt)
     by_test false = tt
 
-module _ (layout : Layout) (s : LabelledFile) (lane : ℕ) (x : Labelled) (has : HasLane s lane x)
+module _ (layout : Layout) (s : LabeledFileModel) (lane : ℕ) (x : LabelModel) (has : HasLane s lane x)
     (several : first_line s.file x < last_line s.file x) (drawn : ℕ → Bool) where
   abbrev top_of : ℕ → MultiLabel
   top_of l = Top (x.start - line_start s.file l)
@@ -121,23 +121,23 @@ module _ (layout : Layout) (s : LabelledFile) (lane : ℕ) (x : Labelled) (has :
   abbrev bottom_of : ℕ → MultiLabel
   bottom_of l = Bottom (x.end - line_start s.file l) x.message
 
-  mark_at : (l : ℕ) (part : Option MultiLabel) → part_on s.file l x ≡ part → mark_in (marks_on s.file s.labels l) lane ≡ mark_of lane x part
-  mark_at l part is =
-      ap (mark_in (marks_on s.file s.labels l)) (sym (zero-add lane))
-      ∙ mark_in-from s.file l 0 lane (multi_labels s.file s.labels) ∙ rw (zero-add, has) (ap (mark_of lane x) is)
+  lane_mark_at : (l : ℕ) (part : Option MultiLabel) → part_on s.file l x ≡ part → lane_mark_in (lane_marks_on s.file s.labels l) lane ≡ lane_mark_of lane x part
+  lane_mark_at l part is =
+      ap (lane_mark_in (lane_marks_on s.file s.labels l)) (sym (zero-add lane))
+      ∙ lane_mark_in-from s.file l 0 lane (multi_labels s.file s.labels) ∙ rw (zero-add, has) (ap (lane_mark_of lane x) is)
 
-  split_on : (l : ℕ) (part : MultiLabel) → part_on s.file l x ≡ Some part → Split lane (mark_with lane x.style part) (marks_on s.file s.labels l)
+  split_on : (l : ℕ) (part : MultiLabel) → part_on s.file l x ≡ Some part → Split lane (lane_mark_with lane x.style part) (lane_marks_on s.file s.labels l)
   split_on l part is = split_from s.file l lane 0 lane (multi_labels s.file s.labels) x part (zero-add lane) has is
 
   -- the label has no multi-line label mark on the line
-  abbrev NoMark : ℕ → Type 0
-  NoMark l = mark_in (marks_on s.file s.labels l) lane ≡ None
+  abbrev NoLaneMark : ℕ → Type 0
+  NoLaneMark l = lane_mark_in (lane_marks_on s.file s.labels l) lane ≡ None
 
-  no_mark_before : (l : ℕ) → l < first_line s.file x → NoMark l
-  no_mark_before l h = mark_at l None (part_before (first_line s.file x) (last_line s.file x) l (top_of l) (bottom_of l) several h)
+  no_lane_mark_before : (l : ℕ) → l < first_line s.file x → NoLaneMark l
+  no_lane_mark_before l h = lane_mark_at l None (part_before (first_line s.file x) (last_line s.file x) l (top_of l) (bottom_of l) several h)
 
-  no_mark_after : (l : ℕ) → last_line s.file x < l → NoMark l
-  no_mark_after l h = mark_at l None (part_after (first_line s.file x) (last_line s.file x) l (top_of l) (bottom_of l) several h)
+  no_lane_mark_after : (l : ℕ) → last_line s.file x < l → NoLaneMark l
+  no_lane_mark_after l h = lane_mark_at l None (part_after (first_line s.file x) (last_line s.file x) l (top_of l) (bottom_of l) several h)
 
   top_at : (l : ℕ) → first_line s.file x ≡ l → part_on s.file l x ≡ Some (top_of l)
   top_at l h = part_top (first_line s.file x) (last_line s.file x) l (top_of l) (bottom_of l) h
@@ -150,111 +150,111 @@ module _ (layout : Layout) (s : LabelledFile) (lane : ℕ) (x : Labelled) (has :
 
   begins_line : (l : ℕ) → first_line s.file x ≡ l → Begins layout lane (line_at s l) (rows_of (line_at s l))
   begins_line l h =
-      top_mark layout lane (line_at s l) x.style (x.start - line_start s.file l) (mark_at l (Some (top_of l)) (top_at l h)) (split_on l (top_of l) (top_at l h))
+      top_lane_mark layout lane (line_at s l) x.style (x.start - line_start s.file l) (lane_mark_at l (Some (top_of l)) (top_at l h)) (split_on l (top_of l) (top_at l h))
 
   finishes_line : (l : ℕ) → last_line s.file x ≡ l → Finishes layout lane (rows_of (line_at s l))
   finishes_line l h =
-      bottom_mark layout lane (line_at s l) x.style (x.end - line_start s.file l) x.message (mark_at l (Some (bottom_of l)) (bottom_at l h))
+      bottom_lane_mark layout lane (line_at s l) x.style (x.end - line_start s.file l) x.message (lane_mark_at l (Some (bottom_of l)) (bottom_at l h))
       (split_on l (bottom_of l) (bottom_at l h))
 
   bars_line : (l : ℕ) → first_line s.file x < l → l < last_line s.file x → AllByRecursion (Shows layout lane Bar) (rows_of (line_at s l))
-  bars_line l low high = left_mark layout lane (line_at s l) x.style (mark_at l (Some Left) (left_at l low high))
+  bars_line l low high = left_lane_mark layout lane (line_at s l) x.style (lane_mark_at l (Some Left) (left_at l low high))
 
-  gaps_with : (was : Option ℕ) (l : ℕ) → NoMark l → AllByRecursion (Shows layout lane Gap) (breaks_before s was l ++ rows_of (line_at s l))
-  gaps_with was l none =
-      all-append (Shows layout lane Gap) (breaks_before s was l) (rows_of (line_at s l))
-      (each_break (Shows layout lane Gap) s was l (ap (shape_of plain_shape) none)) (no_mark layout lane (line_at s l) none)
+  gaps_with : (previous : Option ℕ) (l : ℕ) → NoLaneMark l → AllByRecursion (Shows layout lane Gap) (breaks_before s previous l ++ rows_of (line_at s l))
+  gaps_with previous l none =
+      all-append (Shows layout lane Gap) (breaks_before s previous l) (rows_of (line_at s l))
+      (each_break (Shows layout lane Gap) s previous l (ap (shape_of plain_shape) none)) (no_lane_mark layout lane (line_at s l) none)
 
-  gap_break : (was : Option ℕ) (l : ℕ) → first_line s.file x ≡ l → AllByRecursion (Shows layout lane Gap) (breaks_before s was l)
-  gap_break was l h = each_break (Shows layout lane Gap) s was l (ap (shape_of plain_shape) (mark_at l (Some (top_of l)) (top_at l h)))
+  gap_break : (previous : Option ℕ) (l : ℕ) → first_line s.file x ≡ l → AllByRecursion (Shows layout lane Gap) (breaks_before s previous l)
+  gap_break previous l h = each_break (Shows layout lane Gap) s previous l (ap (shape_of plain_shape) (lane_mark_at l (Some (top_of l)) (top_at l h)))
 
-  bar_break : (was : Option ℕ) (l : ℕ) (part : MultiLabel) → plain_shape part ≡ Bar → part_on s.file l x ≡ Some part → AllByRecursion (Shows layout lane Bar) (breaks_before s was l)
-  bar_break was l part bar is = each_break (Shows layout lane Bar) s was l (ap (shape_of plain_shape) (mark_at l (Some part) is) ∙ bar)
+  bar_break : (previous : Option ℕ) (l : ℕ) (part : MultiLabel) → plain_shape part ≡ Bar → part_on s.file l x ≡ Some part → AllByRecursion (Shows layout lane Bar) (breaks_before s previous l)
+  bar_break previous l part bar is = each_break (Shows layout lane Bar) s previous l (ap (shape_of plain_shape) (lane_mark_at l (Some part) is) ∙ bar)
 
   abbrev lines_from : ℕ → ℕ → List ℕ
   lines_from a n = filter drawn (range_with_len a n)
 
   abbrev rows_from : Option ℕ → ℕ → ℕ → List Row
-  rows_from was a n = rows_after s was (lines_from a n)
+  rows_from previous a n = rows_after s previous (lines_from a n)
 
-  skip : (was : Option ℕ) (a n : ℕ) → drawn a ≡ false → rows_from was a (suc n) ≡ rows_from was (a + 1) n
-  skip was a n h = ap (λ b. rows_after s was (cond b (a ∷ lines_from (a + 1) n) (lines_from (a + 1) n))) h
+  skip : (previous : Option ℕ) (a n : ℕ) → drawn a ≡ false → rows_from previous a (suc n) ≡ rows_from previous (a + 1) n
+  skip previous a n h = ap (λ b. rows_after s previous (cond b (a ∷ lines_from (a + 1) n) (lines_from (a + 1) n))) h
 
-  keep : (was : Option ℕ) (a n : ℕ) → drawn a ≡ true
-      → rows_from was a (suc n) ≡ breaks_before s was a ++ rows_of (line_at s a) ++ rows_from (Some a) (a + 1) n
-  keep was a n h = ap (λ b. rows_after s was (cond b (a ∷ lines_from (a + 1) n) (lines_from (a + 1) n))) h
+  keep : (previous : Option ℕ) (a n : ℕ) → drawn a ≡ true
+      → rows_from previous a (suc n) ≡ breaks_before s previous a ++ rows_of (line_at s a) ++ rows_from (Some a) (a + 1) n
+  keep previous a n h = ap (λ b. rows_after s previous (cond b (a ∷ lines_from (a + 1) n) (lines_from (a + 1) n))) h
 
   -- below the label
-  gaps_after : (was : Option ℕ) (a n : ℕ) → last_line s.file x < a → AllByRecursion (Shows layout lane Gap) (rows_from was a n)
-  gaps_after was a zero past = tt
-  gaps_after was a (suc n) past = by_test (λ w. gaps_after w (a + 1) n (omega arith)) (drawn a)
+  gaps_after : (previous : Option ℕ) (a n : ℕ) → last_line s.file x < a → AllByRecursion (Shows layout lane Gap) (rows_from previous a n)
+  gaps_after previous a zero past = tt
+  gaps_after previous a (suc n) past = by_test (λ w. gaps_after w (a + 1) n (omega arith)) (drawn a)
     where
       by_test : ((w : Option ℕ) → AllByRecursion (Shows layout lane Gap) (rows_from w (a + 1) n)) → (b : Bool)
-          → AllByRecursion (Shows layout lane Gap) (rows_after s was (cond b (a ∷ lines_from (a + 1) n) (lines_from (a + 1) n)))
+          → AllByRecursion (Shows layout lane Gap) (rows_after s previous (cond b (a ∷ lines_from (a + 1) n) (lines_from (a + 1) n)))
       by_test rest true =
-          all-append (Shows layout lane Gap) (breaks_before s was a ++ rows_of (line_at s a)) (rows_from (Some a) (a + 1) n)
-          (gaps_with was a (no_mark_after a past)) (rest (Some a))
-      by_test rest false = rest was
+          all-append (Shows layout lane Gap) (breaks_before s previous a ++ rows_of (line_at s a)) (rows_from (Some a) (a + 1) n)
+          (gaps_with previous a (no_lane_mark_after a past)) (rest (Some a))
+      by_test rest false = rest previous
 
   -- from below the first line on
-  finishes_from : (was : Option ℕ) (a n : ℕ) → first_line s.file x < a → a ≤ last_line s.file x → last_line s.file x < a + n → drawn (last_line s.file x) ≡ true
-      → Finishes layout lane (rows_from was a n)
-  finishes_from was a zero low high inside end = absurd (omega arith)
-  finishes_from was a (suc n) low high inside end =
+  finishes_from : (previous : Option ℕ) (a n : ℕ) → first_line s.file x < a → a ≤ last_line s.file x → last_line s.file x < a + n → drawn (last_line s.file x) ≡ true
+      → Finishes layout lane (rows_from previous a n)
+  finishes_from previous a zero low high inside end = absurd (omega arith)
+  finishes_from previous a (suc n) low high inside end =
       by_test (λ w further. finishes_from w (a + 1) n (omega arith) (omega arith) (omega arith) end) (drawn a) refl
     where
       by_test : ((w : Option ℕ) → a < last_line s.file x → Finishes layout lane (rows_from w (a + 1) n)) → (b : Bool) → drawn a ≡ b
-          → Finishes layout lane (rows_from was a (suc n))
+          → Finishes layout lane (rows_from previous a (suc n))
       by_test rest true is = ⊎_elim further ended (cases_lt a (last_line s.file x))
         where
-          further : a < last_line s.file x → Finishes layout lane (rows_from was a (suc n))
+          further : a < last_line s.file x → Finishes layout lane (rows_from previous a (suc n))
           further h =
-              rw (keep was a n is) (finishes_later layout lane (breaks_before s was a ++ rows_of (line_at s a)) (rows_from (Some a) (a + 1) n)
-              (all-append (Shows layout lane Bar) (breaks_before s was a) (rows_of (line_at s a)) (bar_break was a Left refl (left_at a low h)) (bars_line a low h))
+              rw (keep previous a n is) (finishes_later layout lane (breaks_before s previous a ++ rows_of (line_at s a)) (rows_from (Some a) (a + 1) n)
+              (all-append (Shows layout lane Bar) (breaks_before s previous a) (rows_of (line_at s a)) (bar_break previous a Left refl (left_at a low h)) (bars_line a low h))
               (rest (Some a) h))
 
-          ended : last_line s.file x ≤ a → Finishes layout lane (rows_from was a (suc n))
+          ended : last_line s.file x ≤ a → Finishes layout lane (rows_from previous a (suc n))
           ended h =
               let here : last_line s.file x ≡ a = omega arith in
-              rw (keep was a n is) (finishes_before layout lane (breaks_before s was a ++ rows_of (line_at s a)) (rows_from (Some a) (a + 1) n)
-              (finishes_later layout lane (breaks_before s was a) (rows_of (line_at s a)) (bar_break was a (bottom_of a) refl (bottom_at a here)) (finishes_line a here))
+              rw (keep previous a n is) (finishes_before layout lane (breaks_before s previous a ++ rows_of (line_at s a)) (rows_from (Some a) (a + 1) n)
+              (finishes_later layout lane (breaks_before s previous a) (rows_of (line_at s a)) (bar_break previous a (bottom_of a) refl (bottom_at a here)) (finishes_line a here))
               (gaps_after (Some a) (a + 1) n (omega arith)))
       by_test rest false is =
-          rw (skip was a n is) (rest was (⊎_elim (λ h. h)
+          rw (skip previous a n is) (rest previous (⊎_elim (λ h. h)
           (λ h. let here : last_line s.file x ≡ a = omega arith in let off : drawn (last_line s.file x) ≡ false = ap drawn here ∙ is in absurd cc)
           (cases_lt a (last_line s.file x))))
 
   -- from above the first line on
-  pub whole_from : (was : Option ℕ) (a n : ℕ) → a ≤ first_line s.file x → last_line s.file x < a + n
+  pub whole_from : (previous : Option ℕ) (a n : ℕ) → a ≤ first_line s.file x → last_line s.file x < a + n
       → drawn (first_line s.file x) ≡ true → drawn (last_line s.file x) ≡ true
-      → Whole layout lane (line_at s (first_line s.file x)) (rows_from was a n)
-  whole_from was a zero high inside start end = absurd (omega arith)
-  whole_from was a (suc n) high inside start end =
+      → Whole layout lane (line_at s (first_line s.file x)) (rows_from previous a n)
+  whole_from previous a zero high inside start end = absurd (omega arith)
+  whole_from previous a (suc n) high inside start end =
       by_test (λ w further. whole_from w (a + 1) n (omega arith) (omega arith) start end) (drawn a) refl
     where
       by_test : ((w : Option ℕ) → a < first_line s.file x → Whole layout lane (line_at s (first_line s.file x)) (rows_from w (a + 1) n)) → (b : Bool) → drawn a ≡ b
-          → Whole layout lane (line_at s (first_line s.file x)) (rows_from was a (suc n))
-      by_test rest true is = ⊎_elim further begun (cases_lt a (first_line s.file x))
+          → Whole layout lane (line_at s (first_line s.file x)) (rows_from previous a (suc n))
+      by_test rest true is = ⊎_elim further prefix (cases_lt a (first_line s.file x))
         where
-          further : a < first_line s.file x → Whole layout lane (line_at s (first_line s.file x)) (rows_from was a (suc n))
+          further : a < first_line s.file x → Whole layout lane (line_at s (first_line s.file x)) (rows_from previous a (suc n))
           further h =
-              rw (keep was a n is) (whole_later layout lane (line_at s (first_line s.file x)) (breaks_before s was a ++ rows_of (line_at s a)) (rows_from (Some a) (a + 1) n)
-              (gaps_with was a (no_mark_before a h)) (rest (Some a) h))
+              rw (keep previous a n is) (whole_later layout lane (line_at s (first_line s.file x)) (breaks_before s previous a ++ rows_of (line_at s a)) (rows_from (Some a) (a + 1) n)
+              (gaps_with previous a (no_lane_mark_before a h)) (rest (Some a) h))
 
           joined : first_line s.file x ≡ a → Whole layout lane (line_at s a) (rows_of (line_at s a) ++ rows_from (Some a) (a + 1) n)
           joined here =
               whole_joined layout lane (line_at s a) (rows_of (line_at s a)) (rows_from (Some a) (a + 1) n)
               (begins_line a here) (finishes_from (Some a) (a + 1) n (omega arith) (omega arith) (omega arith) end)
 
-          begun : first_line s.file x ≤ a → Whole layout lane (line_at s (first_line s.file x)) (rows_from was a (suc n))
-          begun h =
+          prefix : first_line s.file x ≤ a → Whole layout lane (line_at s (first_line s.file x)) (rows_from previous a (suc n))
+          prefix h =
               let here : first_line s.file x ≡ a = omega arith in
               let one : Whole layout lane (line_at s (first_line s.file x)) (rows_of (line_at s a) ++ rows_from (Some a) (a + 1) n) =
               rw here (joined here) in
-              rw (keep was a n is, append_assoc (breaks_before s was a) (rows_of (line_at s a)) (rows_from (Some a) (a + 1) n)) (whole_later layout lane (line_at s (first_line s.file x)) (breaks_before s was a) (rows_of (line_at s a) ++ rows_from (Some a) (a + 1) n)
-              (gap_break was a here) one)
+              rw (keep previous a n is, append_assoc (breaks_before s previous a) (rows_of (line_at s a)) (rows_from (Some a) (a + 1) n)) (whole_later layout lane (line_at s (first_line s.file x)) (breaks_before s previous a) (rows_of (line_at s a) ++ rows_from (Some a) (a + 1) n)
+              (gap_break previous a here) one)
       by_test rest false is =
-          rw (skip was a n is) (rest was (⊎_elim (λ h. h)
+          rw (skip previous a n is) (rest previous (⊎_elim (λ h. h)
           (λ h. let here : first_line s.file x ≡ a = omega arith in let off : drawn (first_line s.file x) ≡ false = ap drawn here ∙ is in absurd cc)
           (cases_lt a (first_line s.file x))))
 
@@ -268,7 +268,7 @@ some_line starts a b h = omega (arith, count_by-le-length (λ s. nat_le s b) sta
 shown_is_drawn : (b d : Bool) → b ≡ true → (b || d) ≡ true
 shown_is_drawn b d h = simp h
 
-pub lanes_are_lines : (config : Config) (layout : Layout) (s : LabelledFile) → StartsBeforeEnds s.labels → LanesAreLines config layout s
+pub lanes_are_lines : (config : Config) (layout : Layout) (s : LabeledFileModel) → StartsBeforeEnds s.labels → LanesAreLines config layout s
 lanes_are_lines config layout s ordered = λ locus is_followed lane x has.
     let several = has_lane-ordered s lane x ordered has in
     let inside = (kept (λ x. not (is_single s.file x)) s.labels lane x has).0 in
@@ -277,7 +277,7 @@ lanes_are_lines config layout s ordered = λ locus is_followed lane x has.
     let high = line_of-below s.file.starts x.end some in
     one_line layout s (snippet config locus s ++ row_after is_followed s) lane x
     (whole_before layout lane (line_at s (first_line s.file x)) (snippet config locus s) (end_rows is_followed)
-    (whole_later layout lane (line_at s (first_line s.file x)) (StartRow locus ∷ EmptyRow (bare_lanes s) ∷ []) (rows_after s None (drawn_lines config s.file s.labels))
+    (whole_later layout lane (line_at s (first_line s.file x)) (StartRow locus ∷ EmptyRow (empty_lanes s) ∷ []) (rows_after s None (drawn_lines config s.file s.labels))
     (refl, (refl, tt))
     (whole_from layout s lane x has several (is_drawn config s.file s.labels) None 0 (line_count s.file) (omega arith) (omega arith)
     (drawn (first_line s.file x) (shown-by config s x (first_line s.file x) inside low (shows-first config (first_line s.file x) (last_line s.file x))))
@@ -285,7 +285,7 @@ lanes_are_lines config layout s ordered = λ locus is_followed lane x has.
     (ended lane is_followed))
   where
     end_rows : Bool → List Row
-    end_rows is_followed = if is_followed then EmptyRow (bare_lanes s) ∷ [] else []
+    end_rows is_followed = if is_followed then EmptyRow (empty_lanes s) ∷ [] else []
 
     ended : (lane : ℕ) (is_followed : Bool) → AllByRecursion (Shows layout lane Gap) (end_rows is_followed)
     ended lane true = (refl, tt)

@@ -6,25 +6,25 @@ use Rattle.codespan_base.specs.declared.term.config.chars.Chars.{Chars}
 use Rattle.codespan_base.specs.declared.diagnostic.LabelStyle.TheVariants.{Primary}
 use Rattle.codespan_base.specs.Labels.{LaneMark, MultiLabel}
 use Rattle.std.specs.List.{range_with_len}
-use Rattle.codespan_base.specs.Streams.{Stream, StyleMark, LabelMark, Reset, one_mark, glyph, repeated}
+use Rattle.codespan_base.specs.Streams.{Stream, StyleMark, LabelMark, Reset, style_mark, glyph, repeated}
 use Rattle.codespan_laws.specs.RowLaws.{row_length}
 use Rattle.codespan_picture.specs.declared.lanes.Shape.{Shape}
 use Rattle.codespan_picture.specs.declared.lanes.Shape.TheVariants.{Gap, Bar, TopCorner, BottomCorner}
-use Rattle.codespan_picture.specs.Lanes.{corner_line, filling, label_glyph, mark_in, lane_cells}
-use Rattle.codespan_picture.specs.Rows.{Look, Lanes}
+use Rattle.codespan_picture.specs.Lanes.{corner_line, filling, label_glyph, lane_mark_in, lane_cells}
+use Rattle.codespan_picture.specs.Rows.{RowContext, Lanes}
 use Rattle.codespan_picture.specs.RowParts.{lane_of, lanes_in}
-use Rattle.codespan_laws.proofs.Texts.{row_length-append, row_length-glyph, row_length-one_mark, row_length-repeated, row_length-blanks}
+use Rattle.codespan_laws.proofs.Texts.{row_length-append, row_length-glyph, row_length-style_mark, row_length-repeated, row_length-spaces}
 
 -- a stream between two style marks is as long as it is alone
-between_marks : (m : StyleMark) (s : Stream) → row_length (one_mark m ++ s ++ one_mark Reset) ≡ row_length s
+between_marks : (m : StyleMark) (s : Stream) → row_length (style_mark m ++ s ++ style_mark Reset) ≡ row_length s
 between_marks m s =
-    row_length-append (one_mark m ++ s) (one_mark Reset)
-    ∙ omega (arith, row_length-append (one_mark m) s, row_length-one_mark m, row_length-one_mark Reset)
+    row_length-append (style_mark m ++ s) (style_mark Reset)
+    ∙ omega (arith, row_length-append (style_mark m) s, row_length-style_mark m, row_length-style_mark Reset)
 
 row_length-filling : (severity : Severity) (chars : Chars) (crossing : Option LaneMark) (n : ℕ)
     → row_length (filling severity chars crossing n) ≡ n
 unfolding filling
-row_length-filling severity chars None n = row_length-blanks n
+row_length-filling severity chars None n = row_length-spaces n
 row_length-filling severity chars (Some m) n =
     between_marks (LabelMark severity m.style) (repeated n (corner_line chars m.part)) ∙ row_length-repeated n (corner_line chars m.part)
 
@@ -47,11 +47,11 @@ row_length-lane_cells severity chars crossing style Bar = filled_and_own severit
 row_length-lane_cells severity chars crossing style TopCorner = filled_and_own severity chars crossing style chars.multi_top_left
 row_length-lane_cells severity chars crossing style BottomCorner = filled_and_own severity chars crossing style chars.multi_bottom_left
 
-pub row_length-lane_of : (look : Look) (crossing : Option LaneMark) (shape : MultiLabel → Shape) (mark : Option LaneMark)
-    → row_length (lane_of look crossing shape mark) ≡ 2
+pub row_length-lane_of : (context : RowContext) (crossing : Option LaneMark) (shape : MultiLabel → Shape) (lane_mark : Option LaneMark)
+    → row_length (lane_of context crossing shape lane_mark) ≡ 2
 unfolding lane_of
-row_length-lane_of look crossing shape None = row_length-lane_cells look.severity look.chars crossing Primary Gap
-row_length-lane_of look crossing shape (Some m) = row_length-lane_cells look.severity look.chars crossing m.style (shape m.part)
+row_length-lane_of context crossing shape None = row_length-lane_cells context.severity context.chars crossing Primary Gap
+row_length-lane_of context crossing shape (Some m) = row_length-lane_cells context.severity context.chars crossing m.style (shape m.part)
 
 twice : (f : ℕ → Stream) → ((k : ℕ) → row_length (f k) ≡ 2) → (a n : ℕ) → row_length (flat_map f (range_with_len a n)) ≡ 2 * n
 twice f two a zero = refl
@@ -59,8 +59,8 @@ twice f two a (suc n) =
     row_length-append (f a) (flat_map f (range_with_len (a + 1) n)) ∙ omega (arith, two a, twice f two (a + 1) n)
 
 -- the lanes of any row
-pub row_length-lanes_in : (look : Look) (crossing : ℕ → Option LaneMark) (shape : ℕ → MultiLabel → Shape) (lanes : Lanes)
-    → row_length (lanes_in look crossing shape lanes) ≡ 2 * lanes.count
-row_length-lanes_in look crossing shape lanes =
-    twice (λ lane. lane_of look (crossing lane) (shape lane) (mark_in lanes.marks lane))
-    (λ lane. row_length-lane_of look (crossing lane) (shape lane) (mark_in lanes.marks lane)) 0 lanes.count
+pub row_length-lanes_in : (context : RowContext) (crossing : ℕ → Option LaneMark) (shape : ℕ → MultiLabel → Shape) (lanes : Lanes)
+    → row_length (lanes_in context crossing shape lanes) ≡ 2 * lanes.count
+row_length-lanes_in context crossing shape lanes =
+    twice (λ lane. lane_of context (crossing lane) (shape lane) (lane_mark_in lanes.marks lane))
+    (λ lane. row_length-lane_of context (crossing lane) (shape lane) (lane_mark_in lanes.marks lane)) 0 lanes.count

@@ -1,7 +1,7 @@
 pub mod BarLemmas
 pub mod BreakLemmas
 pub mod CaretLemmas
-pub mod ColourLemmas
+pub mod ColorLemmas
 pub mod FillLemmas
 pub mod Filling
 pub mod Sequences
@@ -27,7 +27,7 @@ pub mod PictureTexts
 pub mod SlotLemmas
 pub mod SlotSums
 pub mod CharacterLemmas
-pub mod MeaningLemmas
+pub mod RichLemmas
 pub mod OrderMembers
 pub mod OrderPictures
 pub mod OrderSorts

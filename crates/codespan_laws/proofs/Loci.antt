@@ -13,7 +13,7 @@ use Rattle.codespan_base.specs.Labels.{first_seen, is_primary}
 use Rattle.codespan_picture.specs.Picture.{AreLoci, IsLocus, NamesAreTexts, label_start, labels_of, snippet_start, starts}
 use Rattle.codespan_picture.specs.StatedPicture.{stated_loci, stated_locus}
 use Rattle.codespan_picture.specs.Rows.{Locus}
-use Rattle.codespan_picture.specs.Snippets.{InFile, LabelledFile, file_ids, labelled_file, labelled_files, primary_of}
+use Rattle.codespan_picture.specs.Snippets.{InFile, LabeledFileModel, file_ids, labeled_file_model, labeled_file_models, primary_of}
 use Rattle.codespan_laws.proofs.LaneLineLemmas.{each_map}
 use Rattle.codespan_laws.proofs.SortedLists.{all-filter}
 
@@ -49,9 +49,9 @@ module _ {X : Type 0} where
   zip_weaker R S by (x ∷ xs) (p ∷ ps) h = (by x p h.0, zip_weaker R S by xs ps h.1)
 
   -- one for each
-  pub zip_each : (R : X → Locus → Type 0) (place : X → Locus) → ((x : X) → R x (place x)) → (xs : List X) → AllZip R xs (map place xs)
-  zip_each R place by [] = tt
-  zip_each R place by (x ∷ xs) = (by x, zip_each R place by xs)
+  pub zip_each : (R : X → Locus → Type 0) (to_locus : X → Locus) → ((x : X) → R x (to_locus x)) → (xs : List X) → AllZip R xs (map to_locus xs)
+  zip_each R to_locus by [] = tt
+  zip_each R to_locus by (x ∷ xs) = (by x, zip_each R to_locus by xs)
 
   -- they are as many
   pub zip_length : (R : X → Locus → Type 0) (xs : List X) (ps : List Locus) → AllZip R xs ps → length xs ≡ length ps
@@ -110,19 +110,19 @@ seen-each P same (j ∷ js) h = (h.0, all-filter P (λ other. not (same j other)
 
 module _ {Id : Type 0} (same : Id → Id → Bool) (file : Id → FileModel) (xs : List (InFile Id)) (P : FileModel → Type 0)
     (each : AllByRecursion (λ (x : InFile Id). P (file x.id)) xs) where
-  each_cause : AllByRecursion (λ (x : InFile Id). P (file x.id)) (primary_of xs)
-  each_cause = all-filter (λ (x : InFile Id). P (file x.id)) (λ (x : InFile Id). is_primary x.label) xs each
+  each_primary : AllByRecursion (λ (x : InFile Id). P (file x.id)) (primary_of xs)
+  each_primary = all-filter (λ (x : InFile Id). P (file x.id)) (λ (x : InFile Id). is_primary x.label) xs each
 
-  each_file : AllByRecursion (λ (s : LabelledFile). P s.file) (labelled_files same file xs)
+  each_file : AllByRecursion (λ (s : LabeledFileModel). P s.file) (labeled_file_models same file xs)
   each_file =
-      each_map (λ (s : LabelledFile). P s.file) (labelled_file same file xs) (file_ids same xs)
+      each_map (λ (s : LabeledFileModel). P s.file) (labeled_file_model same file xs) (file_ids same xs)
       (seen-each (λ id. P (file id)) same (map (λ (x : InFile Id). x.id) xs)
       (each_map (λ id. P (file id)) (λ (x : InFile Id). x.id) xs each))
 
   pub each_start : (style : DisplayStyle) → AllByRecursion (λ (at : FileModel × ℕ). P at.0) (starts same file xs style)
-  each_start Rich = each_map (λ (at : FileModel × ℕ). P at.0) snippet_start (labelled_files same file xs) each_file
-  each_start Medium = each_map (λ (at : FileModel × ℕ). P at.0) (label_start file) (primary_of xs) each_cause
-  each_start Short = each_map (λ (at : FileModel × ℕ). P at.0) (label_start file) (primary_of xs) each_cause
+  each_start Rich = each_map (λ (at : FileModel × ℕ). P at.0) snippet_start (labeled_file_models same file xs) each_file
+  each_start Medium = each_map (λ (at : FileModel × ℕ). P at.0) (label_start file) (primary_of xs) each_primary
+  each_start Short = each_map (λ (at : FileModel × ℕ). P at.0) (label_start file) (primary_of xs) each_primary
 
 -- ---- those of an output
 

@@ -1,7 +1,7 @@
 -- Each label with a message trails or hangs, and none does both.
 use Rattle.std.proofs.Common.{◌≡◌, ℕ, ◌+◌, Bool, true, false, cond, List, [], ◌∷◌, ◌++◌, filter, sum_by, Option, Some, None, if◌then◌else◌, refl, ap, ap₂, ◌∙◌, arith}
 use Rattle.std.proofs.lemmas.List.Sums.{sum_by-cons, sum_by-append}
-use Rattle.codespan_base.specs.Labels.{Labelled, has_message}
+use Rattle.codespan_base.specs.Labels.{LabelModel, has_message}
 use Rattle.codespan_picture.specs.Carets.{greatest_end}
 use Rattle.codespan_laws.specs.TrailingLaws.{weight_of}
 use Rattle.codespan_picture.specs.Rows.{trailing, hanging}
@@ -9,8 +9,8 @@ use Rattle.codespan_picture.proofs.Rightmost.{Around, others, around_trails, aro
 
 -- ---- sums over labels
 
-module _ (weight : Labelled → ℕ) (only_messages : (x : Labelled) → has_message x ≡ false → weight x ≡ 0) where
-  sum_of-filter : (xs : List Labelled) → sum_by weight (filter has_message xs) ≡ sum_by weight xs
+module _ (weight : LabelModel → ℕ) (only_messages : (x : LabelModel) → has_message x ≡ false → weight x ≡ 0) where
+  sum_of-filter : (xs : List LabelModel) → sum_by weight (filter has_message xs) ≡ sum_by weight xs
   sum_of-filter [] = refl
   sum_of-filter (x ∷ xs) = by_test (sum_of-filter xs) (has_message x) refl
     where
@@ -20,7 +20,7 @@ module _ (weight : Labelled → ℕ) (only_messages : (x : Labelled) → has_mes
       by_test rest false is = omega (arith, rest, only_messages x is, sum_by-cons weight x xs)
 
   -- what each label weighs by its message, trailing and hanging labels weigh together
-  pub trailing_and_hanging : (labels : List Labelled) → weight_of weight (trailing labels) + sum_by weight (hanging labels) ≡ sum_by weight labels
+  pub trailing_and_hanging : (labels : List LabelModel) → weight_of weight (trailing labels) + sum_by weight (hanging labels) ≡ sum_by weight labels
   trailing_and_hanging [] = refl
   trailing_and_hanging (x ∷ xs) =
       ap₂ (λ t h. weight_of weight t + sum_by weight h) (trailing_is (x ∷ xs)) (hanging_is (x ∷ xs))

@@ -15,14 +15,14 @@ use Rattle.std.specs.Option.{option_map_or}
 use Rattle.std.specs.List.{AllZip}
 use Rattle.std.proofs.lemmas.List.{length-map}
 use Rattle.codespan_base.specs.Streams.{Stream, Byte, Slot, bytes, text_of, filled}
-use Rattle.codespan_base.specs.Labels.{Labelled, has_message, is_blank, last_line, first_seen}
+use Rattle.codespan_base.specs.Labels.{LabelModel, has_message, is_empty_stream, last_line, first_seen}
 use Rattle.codespan_picture.specs.Lines.{drawn_lines}
-use Rattle.codespan_picture.specs.Rows.{Heading, Locus, Look}
+use Rattle.codespan_picture.specs.Rows.{Heading, Locus, RowContext}
 use Rattle.codespan_picture.specs.RowStreams.{stream_of_rows}
-use Rattle.codespan_picture.specs.Snippets.{LabelledFile, InFile, file_ids, labelled_file, labelled_files, rich_rows}
-use Rattle.codespan_picture.specs.Picture.{AreLoci, IsLocus, heading_of, label_of, labels_of, look_of, notes_of, rendered, snippet_start}
+use Rattle.codespan_picture.specs.Snippets.{LabeledFileModel, InFile, file_ids, labeled_file_model, labeled_file_models, rich_rows}
+use Rattle.codespan_picture.specs.Picture.{AreLoci, IsLocus, heading_of, label_of, labels_of, context_of, notes_of, rendered, snippet_start}
 use Rattle.codespan_picture.specs.Padding.{padding_of}
-use Rattle.codespan_laws.specs.MessageLaws.{slotted, all_slotted, message_text, slotted_output, MessagesStandOnce}
+use Rattle.codespan_laws.specs.MessageLaws.{slotted, all_slotted, message_text, slotted_output, MessagesAppearOnce}
 use Rattle.codespan_laws.proofs.Loci.{zip_length}
 use Rattle.codespan_laws.proofs.Texts.{text_of-bytes}
 use Rattle.codespan_laws.proofs.SlotLemmas.{slots, slots-rows}
@@ -36,7 +36,7 @@ at_most : (b : Bool) (n : ℕ) → cond b n 0 ≤ n
 at_most true n = omega arith
 at_most false n = omega arith
 
-snippet_zero : (k : ℕ) (config : Config) (s : LabelledFile) → sum_by (label_slots k) s.labels ≡ 0 → file_slots k config s ≡ 0
+snippet_zero : (k : ℕ) (config : Config) (s : LabeledFileModel) → sum_by (label_slots k) s.labels ≡ 0 → file_slots k config s ≡ 0
 snippet_zero k config s none =
     let ls = drawn_lines config s.file s.labels in
     omega (
@@ -48,13 +48,13 @@ snippet_zero k config s none =
 
 files_zero : {Id : Type 0} (k : ℕ) (config : Config) (same : Id → Id → Bool) (file : Id → FileModel) (xs : List (InFile Id))
     → sum_by (λ (x : InFile Id). label_slots k x.label) xs ≡ 0
-    → sum_by (file_slots k config) (labelled_files same file xs) ≡ 0
+    → sum_by (file_slots k config) (labeled_file_models same file xs) ≡ 0
 files_zero {Id = Id} k config same file xs none =
     let ids = first_seen same (map (λ (x : InFile Id). x.id) xs) in
-    sum-map (file_slots k config) (labelled_file same file xs) ids
-    ∙ sum-zero (λ id. file_slots k config (labelled_file same file xs id)) (λ id. snippet_zero k config (labelled_file same file xs id) (one id)) ids
+    sum-map (file_slots k config) (labeled_file_model same file xs) ids
+    ∙ sum-zero (λ id. file_slots k config (labeled_file_model same file xs id)) (λ id. snippet_zero k config (labeled_file_model same file xs id) (one id)) ids
   where
-    one : (id : Id) → sum_by (label_slots k) (labelled_file same file xs id).labels ≡ 0
+    one : (id : Id) → sum_by (label_slots k) (labeled_file_model same file xs id).labels ≡ 0
     one id =
         omega (
           arith,
@@ -102,18 +102,18 @@ nonempty (b ∷ bs) = b ∷ bs
 abbrev pub full_text : {Id : Type 0} → List (InFile Id) → ℕ → List ℕ
 full_text xs k = nonempty (message_text xs k)
 
-full : {Id : Type 0} (xs : List (InFile Id)) (k : ℕ) → is_blank (map Byte (full_text xs k)) ≡ false
+full : {Id : Type 0} (xs : List (InFile Id)) (k : ℕ) → is_empty_stream (map Byte (full_text xs k)) ≡ false
 full xs k = by_text (message_text xs k)
   where
-    by_text : (t : List ℕ) → is_blank (map Byte (nonempty t)) ≡ false
+    by_text : (t : List ℕ) → is_empty_stream (map Byte (nonempty t)) ≡ false
     by_text [] = refl
     by_text (b ∷ bs) = refl
 
-no_text : (x : Labelled) → x.message ≡ bytes (text_of x.message) → text_of x.message ≡ [] → ◌≡◌ {A = ℕ} (if has_message x then 1 else 0) 0
+no_text : (x : LabelModel) → x.message ≡ bytes (text_of x.message) → text_of x.message ≡ [] → ◌≡◌ {A = ℕ} (if has_message x then 1 else 0) 0
 unfolding bytes
 no_text x is none =
     let e : x.message ≡ [] = is ∙ ap bytes none in
-    ap {B = ℕ} (λ s. if not (is_blank s) then 1 else 0) e
+    ap {B = ℕ} (λ s. if not (is_empty_stream s) then 1 else 0) e
 
 unnamed : {Id : Type 0} (xs : List (InFile Id)) → IsPlain xs → (k : ℕ) → message_text xs k ≡ [] → slotted_sum k (slotted_from k 0 xs) ≡ 0
 unnamed {Id = Id} xs plain k none = by_label (slice_get xs k) refl none
@@ -123,15 +123,15 @@ unnamed {Id = Id} xs plain k none = by_label (slice_get xs k) refl none
     by_label (Some x) at e = one_here k 0 k xs x (omega arith) at ∙ no_text x.label (plain k x at) e
 
 refill_one : (m : ℕ → List ℕ) (k : ℕ) (t : List ℕ) (message : Stream) → message ≡ bytes t → m k ≡ nonempty t
-    → fill m (if is_blank message then [] else Slot k ∷ []) ≡ message
+    → fill m (if is_empty_stream message then [] else Slot k ∷ []) ≡ message
 unfolding fill bytes
-refill_one m k [] message is at = ap (λ (s : Stream). filled m (if is_blank s then [] else Slot k ∷ [])) is ∙ sym is
+refill_one m k [] message is at = ap (λ (s : Stream). filled m (if is_empty_stream s then [] else Slot k ∷ [])) is ∙ sym is
 refill_one m k (b ∷ bs) message is at =
-    ap (λ (s : Stream). filled m (if is_blank s then [] else Slot k ∷ [])) is
+    ap (λ (s : Stream). filled m (if is_empty_stream s then [] else Slot k ∷ [])) is
     ∙ append-nil (map Byte (m k)) ∙ ap (map Byte) at ∙ sym is
 
 refilled : {Id : Type 0} (φ : Stream → Stream) (k n : ℕ) (xs : List (InFile Id))
-    → ((j i : ℕ) (x : InFile Id) → n + j ≡ i → slice_get xs j ≡ Some x → φ (if is_blank x.label.message then [] else Slot i ∷ []) ≡ x.label.message)
+    → ((j i : ℕ) (x : InFile Id) → n + j ≡ i → slice_get xs j ≡ Some x → φ (if is_empty_stream x.label.message then [] else Slot i ∷ []) ≡ x.label.message)
     → map (re_in φ) (slotted_from k n xs) ≡ xs
 refilled φ k n [] h = refl
 refilled {Id = Id} φ k n (x ∷ xs) h =
@@ -145,35 +145,35 @@ ids_kept k n (x ∷ xs) = ap (λ ids. x.id ∷ ids) (ids_kept k (n + 1) xs)
 
 -- a locus for each file is one for each file with slots
 as_many : {Id : Type 0} (same : Id → Id → Bool) (file : Id → FileModel) (xs : List (InFile Id)) (loci : List Locus)
-    → AllZip IsLocus (map snippet_start (labelled_files same file xs)) loci → length loci ≡ length (labelled_files same file (all_slotted xs))
+    → AllZip IsLocus (map snippet_start (labeled_file_models same file xs)) loci → length loci ≡ length (labeled_file_models same file (all_slotted xs))
 as_many {Id} same file xs loci are =
-    sym (zip_length IsLocus (map snippet_start (labelled_files same file xs)) loci are)
-    ∙ length-map (labelled_files same file xs) snippet_start
-    ∙ length-map (file_ids same xs) (labelled_file same file xs)
+    sym (zip_length IsLocus (map snippet_start (labeled_file_models same file xs)) loci are)
+    ∙ length-map (labeled_file_models same file xs) snippet_start
+    ∙ length-map (file_ids same xs) (labeled_file_model same file xs)
     ∙ ap (λ ids. length (first_seen same ids)) (sym (ids_kept 0 0 xs))
-    ∙ sym (length-map (file_ids same (all_slotted xs)) (labelled_file same file (all_slotted xs)))
+    ∙ sym (length-map (file_ids same (all_slotted xs)) (labeled_file_model same file (all_slotted xs)))
 
 filled_output : {Id : Type 0} (renderer view : Config) (same : Id → Id → Bool) (file : Id → FileModel) (severity : Severity) (heading : Heading) (loci : List Locus) (notes : List (List ℕ)) (xs : List (InFile Id))
-    → length loci ≡ length (labelled_files same file (all_slotted xs)) → IsPlain xs
-    → fill (message_text xs) (rendered Rich renderer view severity heading loci (labelled_files same file (all_slotted xs)) notes)
-    ≡ rendered Rich renderer view severity heading loci (labelled_files same file xs) notes
+    → length loci ≡ length (labeled_file_models same file (all_slotted xs)) → IsPlain xs
+    → fill (message_text xs) (rendered Rich renderer view severity heading loci (labeled_file_models same file (all_slotted xs)) notes)
+    ≡ rendered Rich renderer view severity heading loci (labeled_file_models same file xs) notes
 filled_output {Id = Id} renderer view same file severity heading loci notes xs many plain =
     fill_same (message_text xs) (full_text xs) (rendered Rich renderer view severity heading loci ss notes) (λ k some. by_text k (message_text xs k) refl some)
-    ∙ fill-rows (full_text xs) (full xs) look (rich_rows view heading loci ss notes)
-    ∙ ap (stream_of_rows look) (rich-re φ kept view heading loci ss notes)
-    ∙ ap (λ n. stream_of_rows (look_of renderer severity n) (rich_rows view heading loci (map (re_file φ) ss) notes)) (sym (padding-re φ kept view ss))
-    ∙ ap (λ ts. rendered Rich renderer view severity heading loci ts notes) (sym (files-re φ kept same file (all_slotted xs)) ∙ ap (labelled_files same file) whole)
+    ∙ fill-rows (full_text xs) (full xs) context (rich_rows view heading loci ss notes)
+    ∙ ap (stream_of_rows context) (rich-re φ kept view heading loci ss notes)
+    ∙ ap (λ n. stream_of_rows (context_of renderer severity n) (rich_rows view heading loci (map (re_file φ) ss) notes)) (sym (padding-re φ kept view ss))
+    ∙ ap (λ ts. rendered Rich renderer view severity heading loci ts notes) (sym (files-re φ kept same file (all_slotted xs)) ∙ ap (labeled_file_models same file) whole)
   where
-    ss : List LabelledFile
-    ss = labelled_files same file (all_slotted xs)
+    ss : List LabeledFileModel
+    ss = labeled_file_models same file (all_slotted xs)
 
-    look : Look
-    look = look_of renderer severity (padding_of view ss)
+    context : RowContext
+    context = context_of renderer severity (padding_of view ss)
 
     φ : Stream → Stream
     φ = fill (full_text xs)
 
-    kept : (s : Stream) → is_blank (φ s) ≡ is_blank s
+    kept : (s : Stream) → is_empty_stream (φ s) ≡ is_empty_stream s
     kept = keeps (full_text xs) (full xs)
 
     whole : map (re_in φ) (all_slotted xs) ≡ xs
@@ -190,18 +190,18 @@ filled_output {Id = Id} renderer view same file severity heading loci notes xs m
         absurd (omega (
           arith,
           some,
-          slots-rows k look (rich_rows view heading loci ss notes),
+          slots-rows k context (rich_rows view heading loci ss notes),
           rich_sum k view heading loci ss notes many,
           files_zero k view same file (all_slotted xs) (unnamed xs plain k e),
         ))
     by_text k (b ∷ bs) e some = e ∙ ap nonempty (sym e)
 
-pub messages_stand_once : {Id : Type 0} (renderer view : Config) (files : FileDatabase Id) (d : Diagnostic Id) → IsEquivalence files.same → ((id : Id) → 0 < line_count (files.file id))
-    → (loci : List Locus) → AreLoci files d Rich loci → MessagesStandOnce renderer view files d loci
-messages_stand_once {Id = Id} renderer view files d equal some_line loci are =
+pub messages_appear_once : {Id : Type 0} (renderer view : Config) (files : FileDatabase Id) (d : Diagnostic Id) → IsEquivalence files.same → ((id : Id) → 0 < line_count (files.file id))
+    → (loci : List Locus) → AreLoci files d Rich loci → MessagesAppearOnce renderer view files d loci
+messages_appear_once {Id = Id} renderer view files d equal some_line loci are =
     let many = as_many files.same files.file (labels_of d) loci are in
     record {
-      once = each_once (look_of renderer d.severity (padding_of view (labelled_files files.same files.file (all_slotted (labels_of d))))) view files.same files.file (heading_of d) (notes_of d) (labels_of d) loci many equal some_line;
+      once = each_once (context_of renderer d.severity (padding_of view (labeled_file_models files.same files.file (all_slotted (labels_of d))))) view files.same files.file (heading_of d) (notes_of d) (labels_of d) loci many equal some_line;
       whole = fill-is (message_text (labels_of d)) (slotted_output renderer view files d loci)
           ∙ filled_output renderer view files.same files.file d.severity (heading_of d) loci (notes_of d) (labels_of d) many (plain d);
     }

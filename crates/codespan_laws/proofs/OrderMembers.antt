@@ -5,7 +5,7 @@ use Rattle.std.proofs.Math.Bool.{or-false, or_assoc}
 use Rattle.std.proofs.lemmas.Bool.{cases_Bool, eq-eqb, or_right}
 use Rattle.std.proofs.lemmas.Bool.Decides.{nat_tests}
 use Rattle.codespan_base.specs.FileModel.{FileModel}
-use Rattle.codespan_base.specs.Labels.{Labelled, is_primary, is_single, first_line, drawn_label, multi_labels, single_labels}
+use Rattle.codespan_base.specs.Labels.{LabelModel, is_primary, is_single, first_line, drawn_label, multi_labels, single_labels}
 use Rattle.codespan_laws.specs.OrderLaws.{is_drawn_at}
 use Rattle.codespan_picture.specs.Snippets.{least, if_any, locus_start}
 use Rattle.codespan_laws.proofs.OrderSorts.{has_range, sorted-same}
@@ -16,28 +16,28 @@ use Rattle.codespan_laws.proofs.SortedLists.{any-filtered, filter-filter, filter
 -- ---- the orders of one file
 
 -- the label is inside the line and has this drawn range there
-abbrev pub is_inside : FileModel → ℕ → ℕ → ℕ → Labelled → Bool
+abbrev pub is_inside : FileModel → ℕ → ℕ → ℕ → LabelModel → Bool
 is_inside f l start end x = is_single f x && (first_line f x == l) && is_drawn_at f start end x
 
 -- the orders of a file's labels that its snippet shows
-pub record AreAlike (f : FileModel) (xs ys : List Labelled) : Type 0 where
+pub record AreEqual (f : FileModel) (xs ys : List LabelModel) : Type 0 where
   pub several_lines : multi_labels f xs ≡ multi_labels f ys
   pub one_line : (l start end : ℕ) → filter (is_inside f l start end) xs ≡ filter (is_inside f l start end) ys
 
 -- ---- the same labels
 
 -- a label that passes a test, and that every filter keeps whose test it passes
-record Witness (p : Labelled → Bool) (xs : List Labelled) : Type 0 where
-  label : Labelled
+record Witness (p : LabelModel → Bool) (xs : List LabelModel) : Type 0 where
+  label : LabelModel
   passes : p label ≡ true
-  stays : (q : Labelled → Bool) → q label ≡ true → list_any p (filter q xs) ≡ true
+  stays : (q : LabelModel → Bool) → q label ≡ true → list_any p (filter q xs) ≡ true
 
 -- there is one where some label passes
-some_passes : (p : Labelled → Bool) (xs : List Labelled) → list_any p xs ≡ true → Witness p xs
+some_passes : (p : LabelModel → Bool) (xs : List LabelModel) → list_any p xs ≡ true → Witness p xs
 some_passes p [] h = cc
 some_passes p (x ∷ xs) h = by_test (some_passes p xs) (p x) refl h
   where
-    later : (q : Labelled → Bool) (b : Bool) → list_any p (filter q xs) ≡ true → list_any p (cond b (x ∷ filter q xs) (filter q xs)) ≡ true
+    later : (q : LabelModel → Bool) (b : Bool) → list_any p (filter q xs) ≡ true → list_any p (cond b (x ∷ filter q xs) (filter q xs)) ≡ true
     later q true h = or_right (p x) _ h
     later q false h = h
 
@@ -46,34 +46,34 @@ some_passes p (x ∷ xs) h = by_test (some_passes p xs) (p x) refl h
     by_test again false t h = let w = again h in record { label = w.label; passes = w.passes; stays = λ q k. later q (q x) (w.stays q k) }
 
 -- each test passes on both lists or on neither
-abbrev pub SameTests : List Labelled → List Labelled → Type 0
-SameTests xs ys = (p : Labelled → Bool) → list_any p xs ≡ list_any p ys
+abbrev pub SameTests : List LabelModel → List LabelModel → Type 0
+SameTests xs ys = (p : LabelModel → Bool) → list_any p xs ≡ list_any p ys
 
 -- a single-line label is inside its line with its drawn range
-inside : (f : FileModel) (x : Labelled) → is_single f x ≡ true
+inside : (f : FileModel) (x : LabelModel) → is_single f x ≡ true
     → is_inside f (first_line f x) (drawn_label f x).start (drawn_label f x).end x ≡ true
 inside f x h = rw (h, eq-eqb (first_line f x) (first_line f x) refl, eq-eqb (drawn_label f x).start (drawn_label f x).start refl, eq-eqb (drawn_label f x).end (drawn_label f x).end refl) refl
 
 -- a test that a label of the one list passes a label of the other passes
-passes-alike : (f : FileModel) (xs ys : List Labelled) → AreAlike f xs ys → (p : Labelled → Bool) → list_any p xs ≡ true → list_any p ys ≡ true
-passes-alike f xs ys alike p h =
+passes-equal : (f : FileModel) (xs ys : List LabelModel) → AreEqual f xs ys → (p : LabelModel → Bool) → list_any p xs ≡ true → list_any p ys ≡ true
+passes-equal f xs ys equal p h =
     let w = some_passes p xs h in
     ⊎_elim
     (λ (t : is_single f w.label ≡ true).
     let q = is_inside f (first_line f w.label) (drawn_label f w.label).start (drawn_label f w.label).end in
     any-filter p q ys
-    (ap (list_any p) (sym (alike.one_line (first_line f w.label) (drawn_label f w.label).start (drawn_label f w.label).end)) ∙ w.stays q (inside f w.label t)))
+    (ap (list_any p) (sym (equal.one_line (first_line f w.label) (drawn_label f w.label).start (drawn_label f w.label).end)) ∙ w.stays q (inside f w.label t)))
     (λ (t : is_single f w.label ≡ false).
-    any-filter p (λ x. not (is_single f x)) ys (ap (list_any p) (sym alike.several_lines) ∙ w.stays (λ x. not (is_single f x)) (ap not t)))
+    any-filter p (λ x. not (is_single f x)) ys (ap (list_any p) (sym equal.several_lines) ∙ w.stays (λ x. not (is_single f x)) (ap not t)))
     (cases_Bool (is_single f w.label))
 
 -- the other list shows the same orders
-alike-sym : (f : FileModel) (xs ys : List Labelled) → AreAlike f xs ys → AreAlike f ys xs
-alike-sym f xs ys alike = record { several_lines = sym alike.several_lines; one_line = λ l start end. sym (alike.one_line l start end) }
+equal-sym : (f : FileModel) (xs ys : List LabelModel) → AreEqual f xs ys → AreEqual f ys xs
+equal-sym f xs ys equal = record { several_lines = sym equal.several_lines; one_line = λ l start end. sym (equal.one_line l start end) }
 
 -- the lists pass the same tests
-pub same-tests : (f : FileModel) (xs ys : List Labelled) → AreAlike f xs ys → SameTests xs ys
-same-tests f xs ys alike p = by_tests (list_any p xs) (list_any p ys) (passes-alike f xs ys alike p) (passes-alike f ys xs (alike-sym f xs ys alike) p)
+pub same-tests : (f : FileModel) (xs ys : List LabelModel) → AreEqual f xs ys → SameTests xs ys
+same-tests f xs ys equal p = by_tests (list_any p xs) (list_any p ys) (passes-equal f xs ys equal p) (passes-equal f ys xs (equal-sym f xs ys equal) p)
   where
     by_tests : (b c : Bool) → (b ≡ true → c ≡ true) → (c ≡ true → b ≡ true) → b ≡ c
     by_tests true c there back = sym (there refl)
@@ -83,11 +83,11 @@ same-tests f xs ys alike p = by_tests (list_any p xs) (list_any p ys) (passes-al
 -- ---- the least start
 
 -- the labels that pass a test are the same too
-filter-tests : (xs ys : List Labelled) (q : Labelled → Bool) → SameTests xs ys → SameTests (filter q xs) (filter q ys)
+filter-tests : (xs ys : List LabelModel) (q : LabelModel → Bool) → SameTests xs ys → SameTests (filter q xs) (filter q ys)
 filter-tests xs ys q same p = any-filtered p q xs ∙ same (λ x. q x && p x) ∙ sym (any-filtered p q ys)
 
 -- and so are those instead of an empty list
-if_any-tests : (xs ys us vs : List Labelled) → SameTests xs ys → SameTests us vs → SameTests (if_any xs us) (if_any ys vs)
+if_any-tests : (xs ys us vs : List LabelModel) → SameTests xs ys → SameTests us vs → SameTests (if_any xs us) (if_any ys vs)
 if_any-tests [] [] us vs same others = others
 if_any-tests [] (y ∷ ys) us vs same others = let e = same (λ _. true) in cc
 if_any-tests (x ∷ xs) [] us vs same others = let e = same (λ _. true) in cc
@@ -110,36 +110,36 @@ same-number a b h =
     grind (arith, nat_tests)
 
 -- the least start of the same labels
-least-same : (xs ys : List Labelled) → SameTests xs ys → least (map (λ (x : Labelled). x.start) xs) ≡ least (map (λ (x : Labelled). x.start) ys)
+least-same : (xs ys : List LabelModel) → SameTests xs ys → least (map (λ (x : LabelModel). x.start) xs) ≡ least (map (λ (x : LabelModel). x.start) ys)
 least-same [] [] same = refl
 least-same [] (y ∷ ys) same = let e = same (λ _. true) in cc
 least-same (x ∷ xs) [] same = let e = same (λ _. true) in cc
 least-same (x ∷ xs) (y ∷ ys) same = same-number (least (starts (x ∷ xs))) (least (starts (y ∷ ys))) (λ k. at_most k x xs ∙ same (λ z. nat_le z.start k) ∙ sym (at_most k y ys))
   where
-    starts : List Labelled → List ℕ
-    starts = map (λ (z : Labelled). z.start)
+    starts : List LabelModel → List ℕ
+    starts = map (λ (z : LabelModel). z.start)
 
-    at_most : (k : ℕ) (z : Labelled) (zs : List Labelled) → nat_le (least (starts (z ∷ zs))) k ≡ list_any (λ (w : Labelled). nat_le w.start k) (z ∷ zs)
-    at_most k z zs = least-test k z.start (starts zs) ∙ ap (λ b. nat_le z.start k || b) (any-map (λ n. nat_le n k) (λ (w : Labelled). w.start) zs)
+    at_most : (k : ℕ) (z : LabelModel) (zs : List LabelModel) → nat_le (least (starts (z ∷ zs))) k ≡ list_any (λ (w : LabelModel). nat_le w.start k) (z ∷ zs)
+    at_most k z zs = least-test k z.start (starts zs) ∙ ap (λ b. nat_le z.start k || b) (any-map (λ n. nat_le n k) (λ (w : LabelModel). w.start) zs)
 
 -- where a snippet starts depends only on which labels there are
-pub locus-same : (xs ys : List Labelled) → SameTests xs ys → locus_start xs ≡ locus_start ys
+pub locus-same : (xs ys : List LabelModel) → SameTests xs ys → locus_start xs ≡ locus_start ys
 locus-same xs ys same = least-same (if_any (filter is_primary xs) xs) (if_any (filter is_primary ys) ys)
     (if_any-tests (filter is_primary xs) (filter is_primary ys) xs ys (filter-tests xs ys is_primary same) same)
 
 -- ---- the labels of a line
 
 -- the labels of a line with one drawn range
-line_range : (f : FileModel) (xs : List Labelled) (l start end : ℕ)
+line_range : (f : FileModel) (xs : List LabelModel) (l start end : ℕ)
     → filter (has_range start end) (reverse (map (drawn_label f) (filter (λ x. is_single f x && (first_line f x == l)) xs)))
     ≡ reverse (map (drawn_label f) (filter (is_inside f l start end) xs))
 line_range f xs l start end =
-    let on_line = λ (x : Labelled). is_single f x && (first_line f x == l) in
+    let on_line = λ (x : LabelModel). is_single f x && (first_line f x == l) in
     filter-reverse (has_range start end) (map (drawn_label f) (filter on_line xs))
     ∙ ap reverse (filter-map (has_range start end) (drawn_label f) (filter on_line xs))
     ∙ ap (λ ys. reverse (map (drawn_label f) ys)) (filter-filter (is_drawn_at f start end) on_line xs)
 
 -- the labels of a line are in the same order
-pub singles-same : (f : FileModel) (xs ys : List Labelled) → AreAlike f xs ys → (l : ℕ) → single_labels f xs l ≡ single_labels f ys l
-singles-same f xs ys alike l = sorted-same _ _
-    (λ start end. line_range f xs l start end ∙ ap (λ zs. reverse (map (drawn_label f) zs)) (alike.one_line l start end) ∙ sym (line_range f ys l start end))
+pub singles-same : (f : FileModel) (xs ys : List LabelModel) → AreEqual f xs ys → (l : ℕ) → single_labels f xs l ≡ single_labels f ys l
+singles-same f xs ys equal l = sorted-same _ _
+    (λ start end. line_range f xs l start end ∙ ap (λ zs. reverse (map (drawn_label f) zs)) (equal.one_line l start end) ∙ sym (line_range f ys l start end))

@@ -11,49 +11,49 @@ use Rattle.codespan_base.specs.declared.term.config.DisplayStyle.TheVariants.{Ri
 use Rattle.codespan_base.specs.declared.term.config.Layout.{Layout}
 use Rattle.codespan_base.specs.declared.term.config.Layout.TheVariants.{Classic, Unbroken}
 use Rattle.codespan_base.specs.FileModel.{FileModel, line_count, line_text}
-use Rattle.codespan_base.specs.Labels.{Labelled, first_line, last_line, first_seen, part_on, mark_of}
-use Rattle.codespan_picture.specs.Cells.{drawn_text}
+use Rattle.codespan_base.specs.Labels.{LabelModel, first_line, last_line, first_seen, part_on, lane_mark_of}
+use Rattle.codespan_picture.specs.CharMetrics.{drawn_text}
 use Rattle.codespan_laws.specs.LineLaws.{shown_lines}
 use Rattle.codespan_picture.specs.Lines.{shows, is_shown, drawn_lines}
 use Rattle.codespan_laws.specs.OrderLaws.{OrderIsFree}
 use Rattle.codespan_picture.specs.Padding.{spans, spanned_lines, numbered_lines, digits_of}
-use Rattle.codespan_picture.specs.Picture.{look_of, rendered, snippet_start}
+use Rattle.codespan_picture.specs.Picture.{context_of, rendered, snippet_start}
 use Rattle.codespan_picture.specs.RowStreams.{stream_of_rows}
 use Rattle.codespan_picture.specs.Rows.{Locus, Heading, Lanes, Line, HeaderRow, StartRow, EmptyRow, BlankRow}
-use Rattle.codespan_picture.specs.Snippets.{LabelledFile, InFile, labelled_file, bare_lanes, line_at, rows_after, drawing, labelled_files, snippet, has_any, row_after, snippets, note_rows}
-use Rattle.codespan_laws.proofs.FillLemmas.{drawing_of_shown}
-use Rattle.codespan_laws.proofs.OrderMembers.{AreAlike, SameTests, same-tests, locus-same, singles-same}
+use Rattle.codespan_picture.specs.Snippets.{LabeledFileModel, InFile, labeled_file_model, empty_lanes, line_at, rows_after, rows_of_shown, labeled_file_models, snippet, has_any, row_after, snippets, note_rows}
+use Rattle.codespan_laws.proofs.FillLemmas.{rows_of_shown_lines}
+use Rattle.codespan_laws.proofs.OrderMembers.{AreEqual, SameTests, same-tests, locus-same, singles-same}
 
 -- ---- one file
 
 -- two files with labels render the same
-record GiveTheSame (view : Config) (s t : LabelledFile) : Type 0 where
+record HaveSameRows (view : Config) (s t : LabeledFileModel) : Type 0 where
   rows : (locus : Locus) → snippet view locus s ≡ snippet view locus t
-  bare : bare_lanes s ≡ bare_lanes t
+  bare : empty_lanes s ≡ empty_lanes t
   digits : digits_of s (numbered_lines view s) ≡ digits_of t (numbered_lines view t)
 
-module _ (f : FileModel) (xs ys : List Labelled) (alike : AreAlike f xs ys) where
-  abbrev s : LabelledFile
+module _ (f : FileModel) (xs ys : List LabelModel) (equal : AreEqual f xs ys) where
+  abbrev s : LabeledFileModel
   s = record { file = f; labels = xs }
 
-  abbrev t : LabelledFile
+  abbrev t : LabeledFileModel
   t = record { file = f; labels = ys }
 
   tests : SameTests xs ys
-  tests = same-tests f xs ys alike
+  tests = same-tests f xs ys equal
 
   -- the multi-line label marks of a line depend on the multi-line labels alone
   lanes-same : (l : ℕ) → (line_at s l).lanes ≡ (line_at t l).lanes
   lanes-same l = ap {B = Lanes}
-      (λ zs. record { count = length zs; marks = filter_map (λ (entry : ℕ × Labelled). mark_of entry.0 entry.1 (part_on f l entry.1)) (enumerate_from 0 zs) })
-      alike.several_lines
+      (λ zs. record { count = length zs; marks = filter_map (λ (entry : ℕ × LabelModel). lane_mark_of entry.0 entry.1 (part_on f l entry.1)) (enumerate_from 0 zs) })
+      equal.several_lines
 
-  bare-same : bare_lanes s ≡ bare_lanes t
-  bare-same = ap {B = Lanes} (λ (zs : List Labelled). record { count = length zs; marks = [] }) alike.several_lines
+  bare-same : empty_lanes s ≡ empty_lanes t
+  bare-same = ap {B = Lanes} (λ (zs : List LabelModel). record { count = length zs; marks = [] }) equal.several_lines
 
   line-same : (l : ℕ) → line_at s l ≡ line_at t l
   line-same l = ap₂ {C = Line} (λ zs lanes. record { number = f.number l; text = drawn_text (line_text f l); labels = zs; lanes = lanes })
-      (singles-same f xs ys alike l) (lanes-same l)
+      (singles-same f xs ys equal l) (lanes-same l)
 
   -- which lines are shown goes by tests of the labels
   shown-same : (view : Config) (l : ℕ) → is_shown view f xs l ≡ is_shown view f ys l
@@ -72,7 +72,7 @@ module _ (f : FileModel) (xs ys : List Labelled) (alike : AreAlike f xs ys) wher
   -- the rows follow from the shown lines
   after-same : (view : Config) → rows_after s None (drawn_lines view f xs) ≡ rows_after t None (drawn_lines view f ys)
   after-same view =
-      drawing_of_shown view s ∙ ap₂ (λ line ls. drawing line None ls) (fun_ext line-same) (shown_lines-same view) ∙ sym (drawing_of_shown view t)
+      rows_of_shown_lines view s ∙ ap₂ (λ line ls. rows_of_shown line None ls) (fun_ext line-same) (shown_lines-same view) ∙ sym (rows_of_shown_lines view t)
 
   snippet-same : (view : Config) (locus : Locus) → snippet view locus s ≡ snippet view locus t
   snippet-same view locus =
@@ -88,16 +88,16 @@ module _ (f : FileModel) (xs ys : List Labelled) (alike : AreAlike f xs ys) wher
       by_layout Classic = spanned-same
       by_layout Unbroken = drawn-same view
 
-  gives-same : (view : Config) → GiveTheSame view s t
-  gives-same view = record { rows = snippet-same view; bare = bare-same; digits = ap (digits_of s) (numbered-same view) }
+  have_same_rows-same : (view : Config) → HaveSameRows view s t
+  have_same_rows-same view = record { rows = snippet-same view; bare = bare-same; digits = ap (digits_of s) (numbered-same view) }
 
 -- ---- all files
 
-module _ {Id : Type 0} (view : Config) (g h : Id → LabelledFile) (gives : (id : Id) → GiveTheSame view (g id) (h id)) where
+module _ {Id : Type 0} (view : Config) (g h : Id → LabeledFileModel) (have_same_rows : (id : Id) → HaveSameRows view (g id) (h id)) where
   -- a snippet and the row after it
   followed-same : (followed : Bool) (p : Locus) (id : Id) → snippet view p (g id) ++ row_after followed (g id) ≡ snippet view p (h id) ++ row_after followed (h id)
-  followed-same true p id = ap₂ (λ rows lanes. rows ++ (EmptyRow lanes ∷ [])) ((gives id).rows p) (gives id).bare
-  followed-same false p id = ap (λ rows. rows ++ []) ((gives id).rows p)
+  followed-same true p id = ap₂ (λ rows lanes. rows ++ (EmptyRow lanes ∷ [])) ((have_same_rows id).rows p) (have_same_rows id).bare
+  followed-same false p id = ap (λ rows. rows ++ []) ((have_same_rows id).rows p)
 
   is_followed-same : (b : Bool) (ids : List Id) → (has_any (map g ids) || b) ≡ (has_any (map h ids) || b)
   is_followed-same b [] = refl
@@ -113,15 +113,15 @@ module _ {Id : Type 0} (view : Config) (g h : Id → LabelledFile) (gives : (id 
       (snippets-same has_notes ps ids)
 
   digits-same : (ids : List Id)
-      → flat_map (λ (s : LabelledFile). digits_of s (numbered_lines view s)) (map g ids)
-      ≡ flat_map (λ (s : LabelledFile). digits_of s (numbered_lines view s)) (map h ids)
+      → flat_map (λ (s : LabeledFileModel). digits_of s (numbered_lines view s)) (map g ids)
+      ≡ flat_map (λ (s : LabeledFileModel). digits_of s (numbered_lines view s)) (map h ids)
   digits-same [] = refl
-  digits-same (i ∷ ids) = ap₂ (λ a b. a ++ b) (gives i).digits (digits-same ids)
+  digits-same (i ∷ ids) = ap₂ (λ a b. a ++ b) (have_same_rows i).digits (digits-same ids)
 
   rich-same : (renderer : Config) (severity : Severity) (heading : Heading) (ps : List Locus) (notes : List (List ℕ)) (ids : List Id)
       → rendered Rich renderer view severity heading ps (map g ids) notes ≡ rendered Rich renderer view severity heading ps (map h ids) notes
   rich-same renderer severity heading ps notes ids =
-      ap₂ (λ padding rows. stream_of_rows (look_of renderer severity padding) ((HeaderRow None heading ∷ rows) ++ note_rows notes ++ (BlankRow ∷ [])))
+      ap₂ (λ padding rows. stream_of_rows (context_of renderer severity padding) ((HeaderRow None heading ∷ rows) ++ note_rows notes ++ (BlankRow ∷ [])))
       (ap (fold max 0) (digits-same ids)) (snippets-same (has_any notes) ps ids)
 
 -- ---- equal ids
@@ -129,18 +129,18 @@ module _ {Id : Type 0} (view : Config) (g h : Id → LabelledFile) (gives : (id 
 module _ {Id : Type 0} (same : Id → Id → Bool) (file : Id → FileModel) (o : IsEquivalence same)
     (one_file : (i j : Id) → same i j ≡ true → file i ≡ file j) (xs : List (InFile Id)) where
   -- equal ids have one file with one list of labels
-  file-alike : (i j : Id) → same i j ≡ true → labelled_file same file xs i ≡ labelled_file same file xs j
-  file-alike i j t = ap₂ {C = LabelledFile}
+  file-equal : (i j : Id) → same i j ≡ true → labeled_file_model same file xs i ≡ labeled_file_model same file xs j
+  file-equal i j t = ap₂ {C = LabeledFileModel}
       (λ f (named : InFile Id → Bool). record { file = f; labels = map (λ (x : InFile Id). x.label) (filter named xs) })
       (one_file i j t) (fun_ext (λ (x : InFile Id). o.congr i j x.id t))
 
   -- ids that are equal one by one have the same files
-  files-alike : (is js : List Id) → pointwise same is js ≡ true → map (labelled_file same file xs) is ≡ map (labelled_file same file xs) js
-  files-alike [] [] h = refl
-  files-alike [] (j ∷ js) h = cc
-  files-alike (i ∷ is) [] h = cc
-  files-alike (i ∷ is) (j ∷ js) h =
-      ap₂ (λ s ss. s ∷ ss) (file-alike i j (first_so (same i j) (pointwise same is js) h)) (files-alike is js (second_so (same i j) (pointwise same is js) h))
+  files-equal : (is js : List Id) → pointwise same is js ≡ true → map (labeled_file_model same file xs) is ≡ map (labeled_file_model same file xs) js
+  files-equal [] [] h = refl
+  files-equal [] (j ∷ js) h = cc
+  files-equal (i ∷ is) [] h = cc
+  files-equal (i ∷ is) (j ∷ js) h =
+      ap₂ (λ s ss. s ∷ ss) (file-equal i j (first_so (same i j) (pointwise same is js) h)) (files-equal is js (second_so (same i j) (pointwise same is js) h))
 
 -- a reordering that keeps these orders changes nothing in a rich output, where equal ids have one
 -- file
@@ -148,23 +148,23 @@ pub order_is_free : {Id : Type 0} (same : Id → Id → Bool) (file : Id → Fil
 order_is_free {Id} same file xs ys o one_file orders = record {
   same_starts = starts-same ids ∙ ap (map snippet_start) others;
   same_stream = λ renderer view severity heading loci notes.
-      rich-same view (labelled_file same file xs) (labelled_file same file ys) (gives view) renderer severity heading loci notes ids
+      rich-same view (labeled_file_model same file xs) (labeled_file_model same file ys) (have_same_rows view) renderer severity heading loci notes ids
       ∙ ap (λ ss. rendered Rich renderer view severity heading loci ss notes) others;
 }
   where
     ids : List Id
     ids = first_seen same (map (λ (x : InFile Id). x.id) xs)
 
-    others : map (labelled_file same file ys) ids ≡ labelled_files same file ys
-    others = files-alike same file o one_file ys _ _ orders.files
+    others : map (labeled_file_model same file ys) ids ≡ labeled_file_models same file ys
+    others = files-equal same file o one_file ys _ _ orders.files
 
-    alike : (id : Id) → AreAlike (file id) (labelled_file same file xs id).labels (labelled_file same file ys id).labels
-    alike id = record { several_lines = orders.several_lines id; one_line = orders.one_line id }
+    equal : (id : Id) → AreEqual (file id) (labeled_file_model same file xs id).labels (labeled_file_model same file ys id).labels
+    equal id = record { several_lines = orders.several_lines id; one_line = orders.one_line id }
 
-    gives : (view : Config) (id : Id) → GiveTheSame view (labelled_file same file xs id) (labelled_file same file ys id)
-    gives view id = gives-same (file id) (labelled_file same file xs id).labels (labelled_file same file ys id).labels (alike id) view
+    have_same_rows : (view : Config) (id : Id) → HaveSameRows view (labeled_file_model same file xs id) (labeled_file_model same file ys id)
+    have_same_rows view id = have_same_rows-same (file id) (labeled_file_model same file xs id).labels (labeled_file_model same file ys id).labels (equal id) view
 
-    starts-same : (ids : List Id) → map snippet_start (map (labelled_file same file xs) ids) ≡ map snippet_start (map (labelled_file same file ys) ids)
+    starts-same : (ids : List Id) → map snippet_start (map (labeled_file_model same file xs) ids) ≡ map snippet_start (map (labeled_file_model same file ys) ids)
     starts-same [] = refl
     starts-same (i ∷ ids) =
-        ap₂ (λ a b. a ∷ b) (start-same (file i) (labelled_file same file xs i).labels (labelled_file same file ys i).labels (alike i)) (starts-same ids)
+        ap₂ (λ a b. a ∷ b) (start-same (file i) (labeled_file_model same file xs i).labels (labeled_file_model same file ys i).labels (equal i)) (starts-same ids)

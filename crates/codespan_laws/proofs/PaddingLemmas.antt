@@ -10,12 +10,12 @@ use Rattle.codespan_base.specs.declared.term.config.Config.{Config}
 use Rattle.codespan_base.specs.declared.term.config.Layout.{Layout}
 use Rattle.codespan_base.specs.declared.term.config.Layout.TheVariants.{Classic, Unbroken}
 use Rattle.codespan_base.specs.FileModel.{FileModel, line_count}
-use Rattle.codespan_base.specs.Labels.{Labelled, first_line, last_line}
+use Rattle.codespan_base.specs.Labels.{LabelModel, first_line, last_line}
 use Rattle.codespan_picture.specs.Lanes.{is_unbroken}
 use Rattle.codespan_picture.specs.Lines.{shows, is_shown, is_drawn, drawn_lines}
-use Rattle.codespan_picture.specs.Snippets.{LabelledFile}
+use Rattle.codespan_picture.specs.Snippets.{LabeledFileModel}
 use Rattle.codespan_picture.specs.Padding.{spans, spanned_lines, digit_count, numbered_lines, digits_of, padding_of}
-use Rattle.codespan_laws.specs.LineLaws.{NumbersAscend, PaddingHasRoom}
+use Rattle.codespan_laws.specs.LineLaws.{NumbersAscend, PaddingFits}
 use Rattle.codespan_laws.proofs.RangeLemmas.{line_of-below}
 use Rattle.codespan_laws.proofs.Greatest.{greatest-low}
 
@@ -109,10 +109,10 @@ contained-le a x (y ∷ xs) (zero, low, same) = omega (arith, greatest-low (max 
 contained-le a x (y ∷ xs) (suc k, low, same) = contained-le (max a y) x xs (k, omega arith, same)
 
 -- a numbered line fits
-pub numbered-fits : (config : Config) (ss : List LabelledFile) (s : LabelledFile) (l : ℕ) → Contains ss s → Contains (numbered_lines config s) l → digit_count (s.file.number l) ≤ padding_of config ss
+pub numbered-fits : (config : Config) (ss : List LabeledFileModel) (s : LabeledFileModel) (l : ℕ) → Contains ss s → Contains (numbered_lines config s) l → digit_count (s.file.number l) ≤ padding_of config ss
 numbered-fits config ss s l here c =
     contained-le 0 (digit_count (s.file.number l)) _
-    (contains-flat_map (λ (s : LabelledFile). digits_of s (numbered_lines config s)) s (digit_count (s.file.number l)) ss here
+    (contains-flat_map (λ (s : LabeledFileModel). digits_of s (numbered_lines config s)) s (digit_count (s.file.number l)) ss here
     (contains-map (λ l. digit_count (s.file.number l)) l (numbered_lines config s) c))
 
 -- ---- drawn lines and spanned ones
@@ -129,7 +129,7 @@ ascends f up i j h low =
     rw e (ascends-by f up i (j - i) (omega arith))
 
 -- a line that is not below this one and fits the padding
-abbrev Over : LabelledFile → ℕ → Type 0
+abbrev Over : LabeledFileModel → ℕ → Type 0
 Over s l = (m : ℕ) × (l ≤ m) × (m < line_count s.file) × Contains (spanned_lines s) m
 
 -- a label that shows a line, with no line after its last, spans a line not below it
@@ -137,15 +137,15 @@ shown-over : (s e l before start end : ℕ) → ((l == s) || (l == e) || (nat_lt
     → (l ≤ s) ⊎ ((l ≡ e) ⊎ ((s ≤ l) × (l ≤ e)))
 shown-over s e l before start end h = grind (arith, nat_tests)
 
-any-found : (p : Labelled → Bool) (xs : List Labelled) → list_any p xs ≡ true → (x : Labelled) × Contains xs x × (p x ≡ true)
+any-found : (p : LabelModel → Bool) (xs : List LabelModel) → list_any p xs ≡ true → (x : LabelModel) × Contains xs x × (p x ≡ true)
 any-found p [] h = absurd (false≢true h)
 any-found p (y ∷ ys) h = by_test (any-found p ys) (p y) refl h
   where
-    by_test : (list_any p ys ≡ true → (x : Labelled) × Contains ys x × (p x ≡ true)) → (b : Bool) → p y ≡ b → (b || list_any p ys) ≡ true → (x : Labelled) × Contains (y ∷ ys) x × (p x ≡ true)
+    by_test : (list_any p ys ≡ true → (x : LabelModel) × Contains ys x × (p x ≡ true)) → (b : Bool) → p y ≡ b → (b || list_any p ys) ≡ true → (x : LabelModel) × Contains (y ∷ ys) x × (p x ≡ true)
     by_test again true e k = (y, (zero, omega arith, refl), e)
     by_test again false e k = let r = again k in (r.0, there r.0 y ys r.1, r.2)
 
-spanned-over : (s : LabelledFile) (x : Labelled) (l m : ℕ) → Contains s.labels x → l ≤ m → m < line_count s.file → spans s.file x m ≡ true → Over s l
+spanned-over : (s : LabeledFileModel) (x : LabelModel) (l m : ℕ) → Contains s.labels x → l ≤ m → m < line_count s.file → spans s.file x m ≡ true → Over s l
 spanned-over s x l m has h low is = (
   m,
   h,
@@ -164,14 +164,14 @@ spans-last f e = grind (arith, nat_tests)
 spans-inside : (f e l : ℕ) → f ≤ l → l ≤ e → ((l == f) || (l == e) || (nat_le f l && nat_le l e)) ≡ true
 spans-inside f e l h k = grind (arith, nat_tests)
 
-over-shown : (config : Config) (s : LabelledFile) (l : ℕ) → config.after_label_lines ≡ 0 → is_shown config s.file s.labels l ≡ true → Over s l
+over-shown : (config : Config) (s : LabeledFileModel) (l : ℕ) → config.after_label_lines ≡ 0 → is_shown config s.file s.labels l ≡ true → Over s l
 over-shown config s l none h =
     let parts = and_parts (nat_lt l (line_count s.file)) (list_any (λ x. shows config (first_line s.file x) (last_line s.file x) l) s.labels) h in
     let test = parts.0 in
     let low : l < line_count s.file = grind (arith, nat_tests) in
     let some : 0 < line_count s.file = omega arith in
     let found = any-found (λ x. shows config (first_line s.file x) (last_line s.file x) l) s.labels parts.1 in
-    let x : Labelled = found.0 in
+    let x : LabelModel = found.0 in
     let first : ℕ = first_line s.file x in
     let last : ℕ = last_line s.file x in
     let shown : shows (record config { after_label_lines = 0 }) first last l ≡ true =
@@ -185,7 +185,7 @@ over-shown config s l none h =
     ]
 
 -- a drawn line is shown, or the line after it is
-drawn-shown : (config : Config) (f : FileModel) (labels : List Labelled) (l : ℕ) → is_drawn config f labels l ≡ true
+drawn-shown : (config : Config) (f : FileModel) (labels : List LabelModel) (l : ℕ) → is_drawn config f labels l ≡ true
     → (is_shown config f labels l ≡ true) ⊎ (is_shown config f labels (l + 1) ≡ true)
 drawn-shown config f labels l h = by_test (is_shown config f labels l) (nat_lt 0 l) (is_shown config f labels (l - 1)) (is_shown config f labels (l + 1)) h
   where
@@ -195,15 +195,15 @@ drawn-shown config f labels l h = by_test (is_shown config f labels l) (nat_lt 0
     by_test false true false d h = absurd (false≢true h)
     by_test false false c d h = absurd (false≢true h)
 
-over-drawn : (config : Config) (s : LabelledFile) (l : ℕ) → config.after_label_lines ≡ 0 → is_drawn config s.file s.labels l ≡ true → Over s l
+over-drawn : (config : Config) (s : LabeledFileModel) (l : ℕ) → config.after_label_lines ≡ 0 → is_drawn config s.file s.labels l ≡ true → Over s l
 over-drawn config s l none h =
     elim (drawn-shown config s.file s.labels l h) [
       | inl p ↦ over-shown config s l none p
       | inr p ↦ let o = over-shown config s (l + 1) none p in (o.0, omega (arith, o.1), o.2, o.3)
     ]
 
-pub padding_has_room : (config : Config) (ss : List LabelledFile) → PaddingHasRoom config ss
-padding_has_room config ss given s l here c = by_layout config.layout refl
+pub padding_fits : (config : Config) (ss : List LabeledFileModel) → PaddingFits config ss
+padding_fits config ss given s l here c = by_layout config.layout refl
   where
     numbered : (v : Layout) → config.layout ≡ v → numbered_lines config s ≡ numbered_lines (record config { layout = v }) s
     numbered v e = ap (λ v. numbered_lines (record config { layout = v }) s) e

@@ -20,17 +20,17 @@ use Rattle.codespan_base.specs.declared.term.config.DisplayStyle.{DisplayStyle}
 use Rattle.codespan_base.specs.declared.term.config.DisplayStyle.TheVariants.{Rich, Medium, Short}
 use Rattle.codespan_base.specs.FileModel.{FileDatabase, FileModel, line_text}
 use Rattle.codespan_base.specs.LawfulFiles.{IsLawful}
-use Rattle.codespan_base.specs.Labels.{Labelled, LaneMark, Top, Left, Bottom, drawn_label, first_line, has_message, is_single, mark_of, multi_labels, part_at, part_on, put_in, single_labels, sorted, stands_before}
-use Rattle.codespan_picture.specs.Cells.{drawn_text, is_line_end}
+use Rattle.codespan_base.specs.Labels.{LabelModel, LaneMark, Top, Left, Bottom, drawn_label, first_line, has_message, is_single, lane_mark_of, multi_labels, part_at, part_on, insert_sorted, single_labels, sorted, range_precedes}
+use Rattle.codespan_picture.specs.CharMetrics.{drawn_text, is_line_end}
 use Rattle.codespan_picture.specs.Lines.{drawn_lines}
 use Rattle.codespan_picture.specs.Padding.{padding_of}
-use Rattle.codespan_picture.specs.Picture.{NamesAreTexts, files_of, heading_of, label_of, labels_of, look_of, notes_of, output, starts}
+use Rattle.codespan_picture.specs.Picture.{NamesAreTexts, files_of, heading_of, label_of, labels_of, context_of, notes_of, output, starts}
 use Rattle.codespan_picture.specs.StatedPicture.{stated_loci, headers}
 use Rattle.codespan_picture.specs.Rows.{Line, Locus, Row, HeaderRow, EmptyRow, SourceRow, HangingRow, UnderlineRow, LaterNoteRow, BlankRow, caret_rows, hanging, hanging_rows, has_underline, rows_of, underline_rows}
-use Rattle.codespan_picture.specs.Cells.{leading_whitespace}
+use Rattle.codespan_picture.specs.CharMetrics.{leading_whitespace}
 use Rattle.codespan_picture.specs.Carets.{greatest_end}
 use Rattle.codespan_picture.specs.Sequences.{break_between}
-use Rattle.codespan_picture.specs.Snippets.{InFile, LabelledFile, bare_lanes, break_rows, has_any, header_rows, labelled_file, line_at, line_rows, note_rows, piece_rows, rich_rows, row_after, rows_after, snippet, snippets}
+use Rattle.codespan_picture.specs.Snippets.{InFile, LabeledFileModel, empty_lanes, break_rows, has_any, header_rows, labeled_file_model, line_at, line_rows, note_rows, piece_rows, rich_rows, row_after, rows_after, snippet, snippets}
 use Rattle.codespan_laws.proofs.Sequences.{all-break, all-sequence}
 use Rattle.codespan_laws.specs.TextLaws.{AreCharacters, IsText, OutputIsText, PictureIsText}
 use Rattle.codespan_laws.proofs.LaneLineLemmas.{each_all, each_map}
@@ -175,71 +175,71 @@ rows-notes (note ∷ notes) h =
 -- ---- the labels of a line
 
 -- the message of a label is a text
-abbrev SaysText : Labelled → Type 0
-SaysText x = IsText x.message
+abbrev HasTextMessage : LabelModel → Type 0
+HasTextMessage x = IsText x.message
 
-says-put : (x : Labelled) (ys : List Labelled) → SaysText x → AllByRecursion SaysText ys → AllByRecursion SaysText (put_in x ys)
-says-put x [] t h = (t, tt)
-says-put x (y ∷ ys) t h =
-    cond_both (stands_before y x) (y ∷ put_in x ys) (x ∷ y ∷ ys) (AllByRecursion SaysText) (λ _. (h.0, says-put x ys t h.1)) (λ _. (t, h))
+text_message-put : (x : LabelModel) (ys : List LabelModel) → HasTextMessage x → AllByRecursion HasTextMessage ys → AllByRecursion HasTextMessage (insert_sorted x ys)
+text_message-put x [] t h = (t, tt)
+text_message-put x (y ∷ ys) t h =
+    cond_both (range_precedes y x) (y ∷ insert_sorted x ys) (x ∷ y ∷ ys) (AllByRecursion HasTextMessage) (λ _. (h.0, text_message-put x ys t h.1)) (λ _. (t, h))
 
-says-sorted : (xs : List Labelled) → AllByRecursion SaysText xs → AllByRecursion SaysText (sorted xs)
-says-sorted [] h = tt
-says-sorted (x ∷ xs) h = says-put x (sorted xs) h.0 (says-sorted xs h.1)
+text_message-sorted : (xs : List LabelModel) → AllByRecursion HasTextMessage xs → AllByRecursion HasTextMessage (sorted xs)
+text_message-sorted [] h = tt
+text_message-sorted (x ∷ xs) h = text_message-put x (sorted xs) h.0 (text_message-sorted xs h.1)
 
-module _ (f : FileModel) (labels : List Labelled) (say : AllByRecursion SaysText labels) where
-  says-single : (l : ℕ) → AllByRecursion SaysText (single_labels f labels l)
-  says-single l =
-      let own : List Labelled = filter (λ x. is_single f x && (first_line f x == l)) labels in
-      says-sorted (reverse (map (drawn_label f) own))
-      (all-reverse SaysText (map (drawn_label f) own) (each_map SaysText (drawn_label f) own (all-filter SaysText (λ x. is_single f x && (first_line f x == l)) labels say)))
+module _ (f : FileModel) (labels : List LabelModel) (texts : AllByRecursion HasTextMessage labels) where
+  text_message-single : (l : ℕ) → AllByRecursion HasTextMessage (single_labels f labels l)
+  text_message-single l =
+      let own : List LabelModel = filter (λ x. is_single f x && (first_line f x == l)) labels in
+      text_message-sorted (reverse (map (drawn_label f) own))
+      (all-reverse HasTextMessage (map (drawn_label f) own) (each_map HasTextMessage (drawn_label f) own (all-filter HasTextMessage (λ x. is_single f x && (first_line f x == l)) labels texts)))
 
   -- the message of a multi-line label mark is that of its label
-  says-part : (s e l start : ℕ) (x : Labelled) (lane : ℕ) → SaysText x → IfSome (mark_of lane x (part_at s e l start x)) (λ m. IsTextPart m.part)
-  says-part s e l start x lane t = by (s == l) (e == l) (nat_lt s l && nat_lt l e)
+  text_message-part : (s e l start : ℕ) (x : LabelModel) (lane : ℕ) → HasTextMessage x → IfSome (lane_mark_of lane x (part_at s e l start x)) (λ m. IsTextPart m.part)
+  text_message-part s e l start x lane t = by (s == l) (e == l) (nat_lt s l && nat_lt l e)
     where
       by : (a b c : Bool)
-          → IfSome (mark_of lane x (if a then Some (Top (x.start - start)) else if b then Some (Bottom (x.end - start) x.message) else if c then Some Left else None)) (λ m. IsTextPart m.part)
+          → IfSome (lane_mark_of lane x (if a then Some (Top (x.start - start)) else if b then Some (Bottom (x.end - start) x.message) else if c then Some Left else None)) (λ m. IsTextPart m.part)
       by true b c = tt
       by false true c = t
       by false false true = tt
       by false false false = tt
 
-  says-marks : (l k : ℕ) (xs : List Labelled) → AllByRecursion SaysText xs
-      → AllByRecursion (λ (m : LaneMark). IsTextPart m.part) (filter_map (λ (entry : ℕ × Labelled). mark_of entry.0 entry.1 (part_on f l entry.1)) (enumerate_from k xs))
-  says-marks l k [] h = tt
-  says-marks l k (x ∷ xs) h = by (mark_of k x (part_on f l x)) (says-part _ _ l _ x k h.0) (says-marks l (k + 1) xs h.1)
+  text_message-marks : (l k : ℕ) (xs : List LabelModel) → AllByRecursion HasTextMessage xs
+      → AllByRecursion (λ (m : LaneMark). IsTextPart m.part) (filter_map (λ (entry : ℕ × LabelModel). lane_mark_of entry.0 entry.1 (part_on f l entry.1)) (enumerate_from k xs))
+  text_message-marks l k [] h = tt
+  text_message-marks l k (x ∷ xs) h = by (lane_mark_of k x (part_on f l x)) (text_message-part _ _ l _ x k h.0) (text_message-marks l (k + 1) xs h.1)
     where
       by : (o : Option LaneMark) → IfSome o (λ m. IsTextPart m.part)
-          → AllByRecursion (λ (m : LaneMark). IsTextPart m.part) (filter_map (λ (entry : ℕ × Labelled). mark_of entry.0 entry.1 (part_on f l entry.1)) (enumerate_from (k + 1) xs))
-          → AllByRecursion (λ (m : LaneMark). IsTextPart m.part) (cons_option o (filter_map (λ (entry : ℕ × Labelled). mark_of entry.0 entry.1 (part_on f l entry.1)) (enumerate_from (k + 1) xs)))
+          → AllByRecursion (λ (m : LaneMark). IsTextPart m.part) (filter_map (λ (entry : ℕ × LabelModel). lane_mark_of entry.0 entry.1 (part_on f l entry.1)) (enumerate_from (k + 1) xs))
+          → AllByRecursion (λ (m : LaneMark). IsTextPart m.part) (cons_option o (filter_map (λ (entry : ℕ × LabelModel). lane_mark_of entry.0 entry.1 (part_on f l entry.1)) (enumerate_from (k + 1) xs)))
       by None t rest = rest
       by (Some m) t rest = (t, rest)
 
 -- ---- the rows of a line
 
-says-hanging : (labels : List Labelled) → AllByRecursion SaysText labels → AllByRecursion SaysText (hanging labels)
-says-hanging [] h = tt
-says-hanging (x ∷ xs) h =
-    subst (AllByRecursion SaysText) (sym (hanging_is (x ∷ xs))) (by (around_rightmost (x ∷ xs)) refl)
+text_message-hanging : (labels : List LabelModel) → AllByRecursion HasTextMessage labels → AllByRecursion HasTextMessage (hanging labels)
+text_message-hanging [] h = tt
+text_message-hanging (x ∷ xs) h =
+    subst (AllByRecursion HasTextMessage) (sym (hanging_is (x ∷ xs))) (by (around_rightmost (x ∷ xs)) refl)
   where
-    around : (before : List Labelled) (y : Labelled) (after : List Labelled) → AllByRecursion SaysText (before ++ (y ∷ after)) → AllByRecursion SaysText (before ++ after)
+    around : (before : List LabelModel) (y : LabelModel) (after : List LabelModel) → AllByRecursion HasTextMessage (before ++ (y ∷ after)) → AllByRecursion HasTextMessage (before ++ after)
     around [] y after k = k.1
     around (z ∷ before) y after k = (k.0, around before y after k.1)
 
-    by : (r : Option Around) → around_rightmost (x ∷ xs) ≡ r → AllByRecursion SaysText (hanging_of (x ∷ xs) r)
+    by : (r : Option Around) → around_rightmost (x ∷ xs) ≡ r → AllByRecursion HasTextMessage (hanging_of (x ∷ xs) r)
     by None is = tt
     by (Some a) is =
-        cond_both (around_trails a) (others a) (x ∷ xs) (λ ys. AllByRecursion SaysText (filter has_message ys))
-        (λ _. all-filter SaysText has_message (others a)
-        (around a.before a.here a.after (subst (AllByRecursion SaysText) (sym (around_is (greatest_end (x ∷ xs)) (x ∷ xs) a is)) h)))
-        (λ _. all-filter SaysText has_message (x ∷ xs) h)
+        cond_both (around_trails a) (others a) (x ∷ xs) (λ ys. AllByRecursion HasTextMessage (filter has_message ys))
+        (λ _. all-filter HasTextMessage has_message (others a)
+        (around a.before a.here a.after (subst (AllByRecursion HasTextMessage) (sym (around_is (greatest_end (x ∷ xs)) (x ∷ xs) a is)) h)))
+        (λ _. all-filter HasTextMessage has_message (x ∷ xs) h)
 
-rows-hanging : (line : Line) (labels : List Labelled) → AllByRecursion SaysText labels → AllByRecursion IsTextRow (hanging_rows line labels)
+rows-hanging : (line : Line) (labels : List LabelModel) → AllByRecursion HasTextMessage labels → AllByRecursion IsTextRow (hanging_rows line labels)
 rows-hanging line [] h = tt
-rows-hanging line (x ∷ xs) h = (tt, each_map IsTextRow (HangingRow line) (reverse (x ∷ xs)) (all-reverse SaysText (x ∷ xs) h))
+rows-hanging line (x ∷ xs) h = (tt, each_map IsTextRow (HangingRow line) (reverse (x ∷ xs)) (all-reverse HasTextMessage (x ∷ xs) h))
 
-rows-caret : (line : Line) (labels : List Labelled) → AllByRecursion SaysText line.labels → AllByRecursion IsTextRow (caret_rows line labels)
+rows-caret : (line : Line) (labels : List LabelModel) → AllByRecursion HasTextMessage line.labels → AllByRecursion IsTextRow (caret_rows line labels)
 rows-caret line [] h = tt
 rows-caret line (x ∷ xs) h = (h, tt)
 
@@ -248,36 +248,36 @@ rows-line line t =
     let test : LaneMark → Bool = λ m. has_underline (leading_whitespace line.text) m.part in
     all-append IsTextRow ((SourceRow line ∷ caret_rows line line.labels) ++ hanging_rows line (hanging line.labels)) (underline_rows line)
     (all-append IsTextRow (SourceRow line ∷ caret_rows line line.labels) (hanging_rows line (hanging line.labels)) (t.text, rows-caret line line.labels t.labels)
-    (rows-hanging line (hanging line.labels) (says-hanging line.labels t.labels)))
+    (rows-hanging line (hanging line.labels) (text_message-hanging line.labels t.labels)))
     (each_map IsTextRow (UnderlineRow line) (filter test line.lanes.marks) (all-filter (λ (m : LaneMark). IsTextPart m.part) test line.lanes.marks t.marks))
 
 -- ---- the rows of a file
 
 -- a file that is lawful, with labels that say texts
-pub record IsTextFile (s : LabelledFile) : Type 0 where
+pub record IsTextFile (s : LabeledFileModel) : Type 0 where
   pub lawful : IsLawful s.file
-  pub labels : AllByRecursion SaysText s.labels
+  pub labels : AllByRecursion HasTextMessage s.labels
 
-module _ (s : LabelledFile) (ok : IsTextFile s) where
+module _ (s : LabeledFileModel) (ok : IsTextFile s) where
   line-text : (l : ℕ) → IsTextLine (line_at s l)
   line-text l = record {
     text = drawn-utf8 (line_text s.file l) (line-utf8 s.file ok.lawful l);
-    labels = says-single s.file s.labels ok.labels l;
-    marks = says-marks s.file s.labels ok.labels l 0 (multi_labels s.file s.labels) (all-filter SaysText (λ x. not (is_single s.file x)) s.labels ok.labels);
+    labels = text_message-single s.file s.labels ok.labels l;
+    marks = text_message-marks s.file s.labels ok.labels l 0 (multi_labels s.file s.labels) (all-filter HasTextMessage (λ x. not (is_single s.file x)) s.labels ok.labels);
   }
 
-  rows-lines : (was : Option ℕ) (ls : List ℕ) → AllByRecursion IsTextRow (rows_after s was ls)
-  rows-lines was ls =
+  rows-lines : (previous : Option ℕ) (ls : List ℕ) → AllByRecursion IsTextRow (rows_after s previous ls)
+  rows-lines previous ls =
       all-sequence IsTextRow (λ l. l) (break_between (break_rows (line_at s))) (line_rows (line_at s))
-      (all-break IsTextRow (break_rows (line_at s)) (λ d. (tt, tt))) (λ l. rows-line (line_at s l) (line-text l)) was ls
+      (all-break IsTextRow (break_rows (line_at s)) (λ d. (tt, tt))) (λ l. rows-line (line_at s l) (line-text l)) previous ls
 
-  rows-placed : (config : Config) (followed : Bool) (place : Locus) → IsUtf8 place.name → AllByRecursion IsTextRow (snippet config place s ++ row_after followed s)
-  rows-placed config followed place u =
-      all-append IsTextRow (snippet config place s) (row_after followed s)
+  rows-placed : (config : Config) (followed : Bool) (at : Locus) → IsUtf8 at.name → AllByRecursion IsTextRow (snippet config at s ++ row_after followed s)
+  rows-placed config followed at u =
+      all-append IsTextRow (snippet config at s) (row_after followed s)
       (u, (tt, rows-lines None (drawn_lines config s.file s.labels)))
-      (cond_both followed (EmptyRow (bare_lanes s) ∷ []) [] (AllByRecursion IsTextRow) (λ _. (tt, tt)) (λ _. tt))
+      (cond_both followed (EmptyRow (empty_lanes s) ∷ []) [] (AllByRecursion IsTextRow) (λ _. (tt, tt)) (λ _. tt))
 
-rows-snippets : (config : Config) (has_notes : Bool) (places : List Locus) (ss : List LabelledFile) → NamesAreTexts places → AllByRecursion IsTextFile ss
+rows-snippets : (config : Config) (has_notes : Bool) (places : List Locus) (ss : List LabeledFileModel) → NamesAreTexts places → AllByRecursion IsTextFile ss
     → AllByRecursion IsTextRow (snippets config has_notes places ss)
 rows-snippets config has_notes [] ss named ok = tt
 rows-snippets config has_notes (p ∷ ps) [] named ok = tt
@@ -292,27 +292,27 @@ code-utf8 None = tt
 code-utf8 (Some s) = IsUtf8-string_bytes s
 
 module _ {Id : Type 0} (files : FileDatabase Id) (d : Diagnostic Id) (lawful : (id : Id) → IsLawful (files.file id)) where
-  says-given : (ls : List (Label Id)) → AllByRecursion (λ (x : InFile Id). SaysText x.label) (map label_of ls)
-  says-given ls = each_map (λ (x : InFile Id). SaysText x.label) label_of ls
-      (each_all (λ (x : Label Id). SaysText (label_of x).label) ls (λ x. text-bytes (string_bytes x.message) (IsUtf8-string_bytes x.message)))
+  text_message-given : (ls : List (Label Id)) → AllByRecursion (λ (x : InFile Id). HasTextMessage x.label) (map label_of ls)
+  text_message-given ls = each_map (λ (x : InFile Id). HasTextMessage x.label) label_of ls
+      (each_all (λ (x : Label Id). HasTextMessage (label_of x).label) ls (λ x. text-bytes (string_bytes x.message) (IsUtf8-string_bytes x.message)))
 
-  text-file : (id : Id) → IsTextFile (labelled_file files.same files.file (labels_of d) id)
+  text-file : (id : Id) → IsTextFile (labeled_file_model files.same files.file (labels_of d) id)
   text-file id = record {
     lawful = lawful id;
-    labels = each_map SaysText (λ (x : InFile Id). x.label) (filter (λ (x : InFile Id). files.same id x.id) (labels_of d))
-        (all-filter (λ (x : InFile Id). SaysText x.label) (λ (x : InFile Id). files.same id x.id) (labels_of d) (says-given d.labels.items));
+    labels = each_map HasTextMessage (λ (x : InFile Id). x.label) (filter (λ (x : InFile Id). files.same id x.id) (labels_of d))
+        (all-filter (λ (x : InFile Id). HasTextMessage x.label) (λ (x : InFile Id). files.same id x.id) (labels_of d) (text_message-given d.labels.items));
   }
 
   text-files : AllByRecursion IsTextFile (files_of files d)
-  text-files = each_map IsTextFile (labelled_file files.same files.file (labels_of d)) _ (each_all (λ id. IsTextFile (labelled_file files.same files.file (labels_of d) id)) _ text-file)
+  text-files = each_map IsTextFile (labeled_file_model files.same files.file (labels_of d)) _ (each_all (λ id. IsTextFile (labeled_file_model files.same files.file (labels_of d) id)) _ text-file)
 
   text-notes : AllByRecursion IsUtf8 (notes_of d)
   text-notes = each_map IsUtf8 string_bytes d.notes.items (each_all (λ n. IsUtf8 (string_bytes n)) d.notes.items (λ n. IsUtf8-string_bytes n))
 
   -- ---- whatever the names
 
-  rows-heading : (place : Option Locus) → IfSome place (λ p. IsUtf8 p.name) → IsTextRow (HeaderRow place (heading_of d))
-  rows-heading place named = (named, code-utf8 d.code, IsUtf8-string_bytes d.message)
+  rows-heading : (at : Option Locus) → IfSome at (λ p. IsUtf8 p.name) → IsTextRow (HeaderRow at (heading_of d))
+  rows-heading at named = (named, code-utf8 d.code, IsUtf8-string_bytes d.message)
 
   rows-rich : (view : Config) (loci : List Locus) → NamesAreTexts loci
       → AllByRecursion IsTextRow (rich_rows view (heading_of d) loci (files_of files d) (notes_of d))
@@ -336,15 +336,15 @@ module _ {Id : Type 0} (files : FileDatabase Id) (d : Diagnostic Id) (lawful : (
   pub text-output : (style : DisplayStyle) (renderer view : Config) → AreCharacters renderer.chars
       → (loci : List Locus) → NamesAreTexts loci → IsText (output style renderer view files d loci)
   text-output Rich renderer view ok loci named =
-      text-rows (look_of renderer d.severity (padding_of view (files_of files d))) ok
+      text-rows (context_of renderer d.severity (padding_of view (files_of files d))) ok
       (rich_rows view (heading_of d) loci (files_of files d) (notes_of d))
       (rows-rich view loci named)
   text-output Medium renderer view ok loci named =
-      text-rows (look_of renderer d.severity 0) ok (header_rows (heading_of d) loci ++ note_rows (notes_of d))
+      text-rows (context_of renderer d.severity 0) ok (header_rows (heading_of d) loci ++ note_rows (notes_of d))
       (all-append IsTextRow (header_rows (heading_of d) loci) (note_rows (notes_of d))
       (rows-header_rows loci named) (rows-notes (notes_of d) text-notes))
   text-output Short renderer view ok loci named =
-      text-rows (look_of renderer d.severity 0) ok (header_rows (heading_of d) loci) (rows-header_rows loci named)
+      text-rows (context_of renderer d.severity 0) ok (header_rows (heading_of d) loci) (rows-header_rows loci named)
 
 module _ {Id : Type 0} (style : DisplayStyle) (renderer view : Config) (files : FileDatabase Id) (d : Diagnostic Id) where
   pub output_is_text : OutputIsText style renderer view files d

@@ -9,12 +9,12 @@ use Rattle.std.proofs.lemmas.List.Sums.{sum_by-le-sum_by, count_by-le-length}
 use Rattle.codespan_base.specs.declared.term.config.Layout.{Layout}
 use Rattle.codespan_base.specs.FileModel.{line_of, line_count}
 use Rattle.codespan_base.specs.declared.term.config.Config.{Config}
-use Rattle.codespan_base.specs.Labels.{Labelled, is_single, first_line, last_line}
-use Rattle.codespan_laws.specs.Meanings.{StartsBeforeEnds}
+use Rattle.codespan_base.specs.Labels.{LabelModel, is_single, first_line, last_line}
+use Rattle.codespan_laws.specs.RichLaws.{StartsBeforeEnds}
 use Rattle.codespan_laws.specs.LaneLaws.{HasLane, BarsAreLabels}
 use Rattle.codespan_laws.specs.LineLaws.{BreaksAreCovered}
 use Rattle.codespan_picture.specs.Lines.{shows, is_shown}
-use Rattle.codespan_picture.specs.Snippets.{LabelledFile}
+use Rattle.codespan_picture.specs.Snippets.{LabeledFileModel}
 use Rattle.codespan_laws.proofs.BarLemmas as bars
 
 -- a later byte lies on no earlier line
@@ -31,7 +31,7 @@ line_of-rises starts a b h =
     omega (arith, sum_by-le-sum_by (λ s. cond (nat_le s a) 1 0) (λ s. cond (nat_le s b) 1 0) starts (λ s. one-later s a b h))
 
 -- what a filter keeps is of the list and passes
-pub kept : (p : Labelled → Bool) (xs : List Labelled) (k : ℕ) (x : Labelled) → slice_get (filter p xs) k ≡ Some x → Contains xs x × (p x ≡ true)
+pub kept : (p : LabelModel → Bool) (xs : List LabelModel) (k : ℕ) (x : LabelModel) → slice_get (filter p xs) k ≡ Some x → Contains xs x × (p x ≡ true)
 kept p [] k x h = cc
 kept p (y ∷ ys) k x h = by_test (λ j g. kept p ys j x g) (p y) refl k h
   where
@@ -43,14 +43,14 @@ kept p (y ∷ ys) k x h = by_test (λ j g. kept p ys j x g) (p y) refl k h
     by_test again true is (suc j) h = later (again j h)
     by_test again false is j h = later (again j h)
 
-pub has_lane-ordered : (s : LabelledFile) (lane : ℕ) (x : Labelled) → StartsBeforeEnds s.labels → HasLane s lane x → first_line s.file x < last_line s.file x
+pub has_lane-ordered : (s : LabeledFileModel) (lane : ℕ) (x : LabelModel) → StartsBeforeEnds s.labels → HasLane s lane x → first_line s.file x < last_line s.file x
 has_lane-ordered s lane x ordered has =
     let r = kept (λ x. not (is_single s.file x)) s.labels lane x has in
     let low = line_of-rises s.file.starts x.start x.end (ordered x r.0) in
     let several = r.1 in
     grind (arith, nat_tests)
 
-pub bars_are_labels : (layout : Layout) (s : LabelledFile) → StartsBeforeEnds s.labels → BarsAreLabels layout s
+pub bars_are_labels : (layout : Layout) (s : LabeledFileModel) → StartsBeforeEnds s.labels → BarsAreLabels layout s
 bars_are_labels layout s ordered = λ l lane x has. bars.bars_are_labels layout s l lane x has (has_lane-ordered s lane x ordered has)
 
 -- ---- the labels over a break
@@ -60,7 +60,7 @@ unfolding line_of
 line_of-below starts b some = omega (arith, count_by-le-length (λ s. nat_le s b) starts)
 
 -- a label shows the line
-pub shown-by : (config : Config) (s : LabelledFile) (x : Labelled) (l : ℕ) → Contains s.labels x → l < line_count s.file
+pub shown-by : (config : Config) (s : LabeledFileModel) (x : LabelModel) (l : ℕ) → Contains s.labels x → l < line_count s.file
     → shows config (first_line s.file x) (last_line s.file x) l ≡ true → is_shown config s.file s.labels l ≡ true
 shown-by config s x l has low h =
     and_from (nat_lt l (line_count s.file)) (list_any (λ y. shows config (first_line s.file y) (last_line s.file y) l) s.labels)
@@ -75,12 +75,12 @@ pub shows-last : (config : Config) (s e : ℕ) → shows config s e e ≡ true
 shows-last config s e = grind (arith, nat_tests)
 
 -- a shown line is not between two with none between
-not_between : (config : Config) (s : LabelledFile) (c d l : ℕ) → ((k : ℕ) → c < k → k < d → is_shown config s.file s.labels k ≡ false)
+not_between : (config : Config) (s : LabeledFileModel) (c d l : ℕ) → ((k : ℕ) → c < k → k < d → is_shown config s.file s.labels k ≡ false)
     → is_shown config s.file s.labels l ≡ true → (l ≤ c) ⊎ (d ≤ l)
 not_between config s c d l none here =
     ⊎_elim (λ after. ⊎_elim (λ before. absurd (false≢true (sym (none l after before) ∙ here))) inr (cases_lt l d)) inl (cases_lt c l)
 
-pub breaks_are_covered : (config : Config) (layout : Layout) (s : LabelledFile) → StartsBeforeEnds s.labels → BreaksAreCovered config layout s
+pub breaks_are_covered : (config : Config) (layout : Layout) (s : LabeledFileModel) → StartsBeforeEnds s.labels → BreaksAreCovered config layout s
 breaks_are_covered config layout s ordered = λ c d lane x shown_c shown_d apart none has.
     let inside = (kept (λ x. not (is_single s.file x)) s.labels lane x has).0 in
     let several = has_lane-ordered s lane x ordered has in
@@ -101,7 +101,7 @@ breaks_are_covered config layout s ordered = λ c d lane x shown_c shown_d apart
           bar.1 (omega (arith, left.0), late),
     )
   where
-    shown-low : (config : Config) (s : LabelledFile) (c : ℕ) → is_shown config s.file s.labels c ≡ true → c < line_count s.file
+    shown-low : (config : Config) (s : LabeledFileModel) (c : ℕ) → is_shown config s.file s.labels c ≡ true → c < line_count s.file
     shown-low config s c h =
         let low = (and_parts (nat_lt c (line_count s.file)) (list_any (λ y. shows config (first_line s.file y) (last_line s.file y) c) s.labels) h).0 in
         grind (arith, nat_tests)

@@ -5,15 +5,15 @@ use Rattle.std.specs.List.{list_any, range_with_len}
 use Rattle.codespan_base.specs.declared.diagnostic.LabelStyle.{LabelStyle}
 use Rattle.codespan_base.specs.declared.diagnostic.LabelStyle.TheVariants.{Primary, Secondary}
 use Rattle.codespan_base.specs.Streams.{Stream}
-use Rattle.codespan_base.specs.Labels.{Labelled, has_message, is_blank, is_primary, is_primary_style, LaneMark, MultiLabel, Top, Left, Bottom}
-use Rattle.codespan_picture.specs.declared.cells.Cell.{Cell}
+use Rattle.codespan_base.specs.Labels.{LabelModel, has_message, is_empty_stream, is_primary, is_primary_style, LaneMark, MultiLabel, Top, Left, Bottom}
+use Rattle.codespan_picture.specs.declared.char_metrics.Metrics.{Metrics}
 use Rattle.codespan_picture.specs.Carets.{style_under, covers, greatest_end, covers_part}
 use Rattle.codespan_picture.specs.declared.lanes.Shape.{Shape}
 use Rattle.codespan_picture.specs.declared.lanes.Shape.TheVariants.{Gap, Bar, TopCorner, BottomCorner}
-use Rattle.codespan_picture.specs.Lanes.{source_shape, plain_shape, below_shape, underline_shape, mark_in, corner_line, filling, lane_cells, Source, Plain, Below, Underline}
-use Rattle.codespan_picture.specs.Rows.{Look, Lanes, Line, trailing, hanging}
+use Rattle.codespan_picture.specs.Lanes.{source_shape, plain_shape, below_shape, underline_shape, lane_mark_in, corner_line, filling, lane_cells, Source, Plain, Below, Underline}
+use Rattle.codespan_picture.specs.Rows.{RowContext, Lanes, Line, trailing, hanging}
 use Rattle.codespan_picture.proofs.Rightmost.{Around, others, behind, around_with_end, around_trails, around_rightmost, trailing_of, hanging_of, trailing_is, hanging_is}
-use Rattle.codespan_picture.specs.RowParts.{styled, lane_of, lanes_in, row_lanes, line_cells, takes_in, source_style, source_glyph, coloured_text, caret_glyphs, carets, pointer_style, pointer_at, pointers, starts_in, greatest_start}
+use Rattle.codespan_picture.specs.RowParts.{styled, lane_of, lanes_in, row_lanes, line_metrics, part_covers, source_style, source_glyph, colored_text, caret_glyphs, carets, pointer_style, pointer_at, pointers, starts_in, greatest_start}
 
 -- ---- lists
 
@@ -54,14 +54,14 @@ re_part φ (Top start) = Top start
 re_part φ Left = Left
 re_part φ (Bottom end message) = Bottom end (φ message)
 
-abbrev pub re : (Stream → Stream) → Labelled → Labelled
+abbrev pub re : (Stream → Stream) → LabelModel → LabelModel
 re φ x = record x { message = φ x.message }
 
-abbrev pub re_mark : (Stream → Stream) → LaneMark → LaneMark
-re_mark φ m = record m { part = re_part φ m.part }
+abbrev pub re_lane_mark : (Stream → Stream) → LaneMark → LaneMark
+re_lane_mark φ m = record m { part = re_part φ m.part }
 
 abbrev pub re_lanes : (Stream → Stream) → Lanes → Lanes
-re_lanes φ lanes = record lanes { marks = map (re_mark φ) lanes.marks }
+re_lanes φ lanes = record lanes { marks = map (re_lane_mark φ) lanes.marks }
 
 abbrev pub re_line : (Stream → Stream) → Line → Line
 re_line φ line = record line { labels = map (re φ) line.labels; lanes = re_lanes φ line.lanes }
@@ -69,16 +69,16 @@ re_line φ line = record line { labels = map (re φ) line.labels; lanes = re_lan
 abbrev pub re_around : (Stream → Stream) → Around → Around
 re_around φ a = record { before = map (re φ) a.before; here = re φ a.here; after = map (re φ) a.after }
 
-module _ (φ : Stream → Stream) (keeps : (s : Stream) → is_blank (φ s) ≡ is_blank s) where
+module _ (φ : Stream → Stream) (keeps : (s : Stream) → is_empty_stream (φ s) ≡ is_empty_stream s) where
   -- ---- trailing and hanging
 
-  pub kept_message : (x : Labelled) → has_message (re φ x) ≡ has_message x
+  pub kept_message : (x : LabelModel) → has_message (re φ x) ≡ has_message x
   kept_message x = ap not (keeps x.message)
 
-  greatest : (labels : List Labelled) → greatest_end (map (re φ) labels) ≡ greatest_end labels
-  greatest labels = fold-map (λ m (x : Labelled). max m x.end) (re φ) 0 labels
+  greatest : (labels : List LabelModel) → greatest_end (map (re φ) labels) ≡ greatest_end labels
+  greatest labels = fold-map (λ m (x : LabelModel). max m x.end) (re φ) 0 labels
 
-  around : (end : ℕ) (xs : List Labelled) → around_with_end end (map (re φ) xs) ≡ option_map (re_around φ) (around_with_end end xs)
+  around : (end : ℕ) (xs : List LabelModel) → around_with_end end (map (re φ) xs) ≡ option_map (re_around φ) (around_with_end end xs)
   around end [] = refl
   around end (x ∷ xs) = by_rest (around_with_end end xs) (x.end == end) (around end xs)
     where
@@ -95,13 +95,13 @@ module _ (φ : Stream → Stream) (keeps : (s : Stream) → is_blank (φ s) ≡ 
   trails : (a : Around) → around_trails (re_around φ a) ≡ around_trails a
   trails a =
       ap₂ (λ b c. b && not c) (kept_message a.here)
-      (ap (list_any (λ (x : Labelled). covers_part a.here x.start x.end)) (others-re a)
-      ∙ any-map (λ (x : Labelled). covers_part a.here x.start x.end) (re φ) (others a))
+      (ap (list_any (λ (x : LabelModel). covers_part a.here x.start x.end)) (others-re a)
+      ∙ any-map (λ (x : LabelModel). covers_part a.here x.start x.end) (re φ) (others a))
 
-  rightmost-re : (labels : List Labelled) → around_rightmost (map (re φ) labels) ≡ option_map (re_around φ) (around_rightmost labels)
+  rightmost-re : (labels : List LabelModel) → around_rightmost (map (re φ) labels) ≡ option_map (re_around φ) (around_rightmost labels)
   rightmost-re labels = ap (λ e. around_with_end e (map (re φ) labels)) (greatest labels) ∙ around (greatest_end labels) labels
 
-  pub trailing-re : (labels : List Labelled) → trailing (map (re φ) labels) ≡ option_map (re φ) (trailing labels)
+  pub trailing-re : (labels : List LabelModel) → trailing (map (re φ) labels) ≡ option_map (re φ) (trailing labels)
   trailing-re labels =
       trailing_is (map (re φ) labels)
       ∙ ap trailing_of (rightmost-re labels)
@@ -116,10 +116,10 @@ module _ (φ : Stream → Stream) (keeps : (s : Stream) → is_blank (φ s) ≡ 
           by_test true = refl
           by_test false = refl
 
-  with_message : (xs : List Labelled) → filter has_message (map (re φ) xs) ≡ map (re φ) (filter has_message xs)
+  with_message : (xs : List LabelModel) → filter has_message (map (re φ) xs) ≡ map (re φ) (filter has_message xs)
   with_message xs = filter-map has_message (re φ) xs ∙ ap (λ p. map (re φ) (filter p xs)) (fun_ext kept_message)
 
-  pub hanging-re : (labels : List Labelled) → hanging (map (re φ) labels) ≡ map (re φ) (hanging labels)
+  pub hanging-re : (labels : List LabelModel) → hanging (map (re φ) labels) ≡ map (re φ) (hanging labels)
   hanging-re labels =
       hanging_is (map (re φ) labels)
       ∙ ap (hanging_of (map (re φ) labels)) (rightmost-re labels)
@@ -142,36 +142,36 @@ module _ (φ : Stream → Stream) (keeps : (s : Stream) → is_blank (φ s) ≡ 
   corner chars Left = refl
   corner chars (Bottom end message) = refl
 
-  pub filling-re : (severity : _) (chars : _) (m : Option LaneMark) (n : ℕ) → filling severity chars (option_map (re_mark φ) m) n ≡ filling severity chars m n
+  pub filling-re : (severity : _) (chars : _) (m : Option LaneMark) (n : ℕ) → filling severity chars (option_map (re_lane_mark φ) m) n ≡ filling severity chars m n
   unfolding filling
   filling-re severity chars None n = refl
   filling-re severity chars (Some m) n = simp (corner chars m.part)
 
-  cells-re : (severity : _) (chars : _) (m : Option LaneMark) (style : LabelStyle) (shape : Shape)
-      → lane_cells severity chars (option_map (re_mark φ) m) style shape ≡ lane_cells severity chars m style shape
+  char_metrics-re : (severity : _) (chars : _) (m : Option LaneMark) (style : LabelStyle) (shape : Shape)
+      → lane_cells severity chars (option_map (re_lane_mark φ) m) style shape ≡ lane_cells severity chars m style shape
   unfolding lane_cells
-  cells-re severity chars m style Gap = filling-re severity chars m 2
-  cells-re severity chars m style Bar = simp (filling-re severity chars m 1)
-  cells-re severity chars m style TopCorner = simp (filling-re severity chars m 1)
-  cells-re severity chars m style BottomCorner = simp (filling-re severity chars m 1)
+  char_metrics-re severity chars m style Gap = filling-re severity chars m 2
+  char_metrics-re severity chars m style Bar = simp (filling-re severity chars m 1)
+  char_metrics-re severity chars m style TopCorner = simp (filling-re severity chars m 1)
+  char_metrics-re severity chars m style BottomCorner = simp (filling-re severity chars m 1)
 
-  lane-re : (look : Look) (c m : Option LaneMark) (shape : MultiLabel → Shape) → ((part : MultiLabel) → shape (re_part φ part) ≡ shape part)
-      → lane_of look (option_map (re_mark φ) c) shape (option_map (re_mark φ) m) ≡ lane_of look c shape m
+  lane-re : (context : RowContext) (c m : Option LaneMark) (shape : MultiLabel → Shape) → ((part : MultiLabel) → shape (re_part φ part) ≡ shape part)
+      → lane_of context (option_map (re_lane_mark φ) c) shape (option_map (re_lane_mark φ) m) ≡ lane_of context c shape m
   unfolding lane_of
-  lane-re look c None shape h = cells-re look.severity look.chars c Primary _
-  lane-re look c (Some m) shape h = simp (h m.part) (cells-re look.severity look.chars c m.style (shape m.part))
+  lane-re context c None shape h = char_metrics-re context.severity context.chars c Primary _
+  lane-re context c (Some m) shape h = simp (h m.part) (char_metrics-re context.severity context.chars c m.style (shape m.part))
 
-  lanes-re : (look : Look) (crossing crossing' : ℕ → Option LaneMark) (shape : ℕ → MultiLabel → Shape) (lanes : Lanes)
-      → ((lane : ℕ) → crossing' lane ≡ option_map (re_mark φ) (crossing lane))
+  lanes-re : (context : RowContext) (crossing crossing' : ℕ → Option LaneMark) (shape : ℕ → MultiLabel → Shape) (lanes : Lanes)
+      → ((lane : ℕ) → crossing' lane ≡ option_map (re_lane_mark φ) (crossing lane))
       → ((lane : ℕ) (part : MultiLabel) → shape lane (re_part φ part) ≡ shape lane part)
-      → lanes_in look crossing' shape (re_lanes φ lanes) ≡ lanes_in look crossing shape lanes
-  lanes-re look crossing crossing' shape lanes h same =
+      → lanes_in context crossing' shape (re_lanes φ lanes) ≡ lanes_in context crossing shape lanes
+  lanes-re context crossing crossing' shape lanes h same =
       ap (λ f. flat_map f (range_with_len 0 lanes.count)) (fun_ext each)
     where
-      each : (lane : ℕ) → lane_of look (crossing' lane) (shape lane) (mark_in (map (re_mark φ) lanes.marks) lane) ≡ lane_of look (crossing lane) (shape lane) (mark_in lanes.marks lane)
+      each : (lane : ℕ) → lane_of context (crossing' lane) (shape lane) (lane_mark_in (map (re_lane_mark φ) lanes.marks) lane) ≡ lane_of context (crossing lane) (shape lane) (lane_mark_in lanes.marks lane)
       each lane =
-          ap₂ (λ c m. lane_of look c (shape lane) m) (h lane) (find-map (λ (m : LaneMark). m.lane == lane) (re_mark φ) lanes.marks)
-          ∙ lane-re look (crossing lane) (mark_in lanes.marks lane) (shape lane) (same lane)
+          ap₂ (λ c m. lane_of context c (shape lane) m) (h lane) (find-map (λ (m : LaneMark). m.lane == lane) (re_lane_mark φ) lanes.marks)
+          ∙ lane-re context (crossing lane) (lane_mark_in lanes.marks lane) (shape lane) (same lane)
 
   source_shape-re : (leading : ℕ) (part : MultiLabel) → source_shape leading (re_part φ part) ≡ source_shape leading part
   source_shape-re leading (Top start) = refl
@@ -188,76 +188,76 @@ module _ (φ : Stream → Stream) (keeps : (s : Stream) → is_blank (φ s) ≡ 
   below_shape-re layout leading Left = refl
   below_shape-re layout leading (Bottom end message) = refl
 
-  underline_shape-re : (layout : _) (leading turning lane : ℕ) (part : MultiLabel)
-      → underline_shape layout leading turning lane (re_part φ part) ≡ underline_shape layout leading turning lane part
-  underline_shape-re layout leading turning lane (Top start) = refl
-  underline_shape-re layout leading turning lane Left = refl
-  underline_shape-re layout leading turning lane (Bottom end message) = refl
+  underline_shape-re : (layout : _) (leading corner_lane lane : ℕ) (part : MultiLabel)
+      → underline_shape layout leading corner_lane lane (re_part φ part) ≡ underline_shape layout leading corner_lane lane part
+  underline_shape-re layout leading corner_lane lane (Top start) = refl
+  underline_shape-re layout leading corner_lane lane Left = refl
+  underline_shape-re layout leading corner_lane lane (Bottom end message) = refl
 
-  pub source_lanes-re : (look : Look) (leading : ℕ) (lanes : Lanes) → row_lanes look leading Source (re_lanes φ lanes) ≡ row_lanes look leading Source lanes
+  pub source_lanes-re : (context : RowContext) (leading : ℕ) (lanes : Lanes) → row_lanes context leading Source (re_lanes φ lanes) ≡ row_lanes context leading Source lanes
   unfolding row_lanes
-  source_lanes-re look leading lanes = lanes-re look (λ _. None) (λ _. None) (λ _. source_shape leading) lanes (λ _. refl) (λ _. source_shape-re leading)
+  source_lanes-re context leading lanes = lanes-re context (λ _. None) (λ _. None) (λ _. source_shape leading) lanes (λ _. refl) (λ _. source_shape-re leading)
 
-  pub plain_lanes-re : (look : Look) (lanes : Lanes) → row_lanes look 0 Plain (re_lanes φ lanes) ≡ row_lanes look 0 Plain lanes
+  pub plain_lanes-re : (context : RowContext) (lanes : Lanes) → row_lanes context 0 Plain (re_lanes φ lanes) ≡ row_lanes context 0 Plain lanes
   unfolding row_lanes
-  plain_lanes-re look lanes = lanes-re look (λ _. None) (λ _. None) (λ _. plain_shape) lanes (λ _. refl) (λ _. plain_shape-re)
+  plain_lanes-re context lanes = lanes-re context (λ _. None) (λ _. None) (λ _. plain_shape) lanes (λ _. refl) (λ _. plain_shape-re)
 
-  pub below_lanes-re : (look : Look) (leading : ℕ) (lanes : Lanes) → row_lanes look leading Below (re_lanes φ lanes) ≡ row_lanes look leading Below lanes
+  pub below_lanes-re : (context : RowContext) (leading : ℕ) (lanes : Lanes) → row_lanes context leading Below (re_lanes φ lanes) ≡ row_lanes context leading Below lanes
   unfolding row_lanes
-  below_lanes-re look leading lanes = lanes-re look (λ _. None) (λ _. None) (λ _. below_shape look.layout leading) lanes (λ _. refl) (λ _. below_shape-re look.layout leading)
+  below_lanes-re context leading lanes = lanes-re context (λ _. None) (λ _. None) (λ _. below_shape context.layout leading) lanes (λ _. refl) (λ _. below_shape-re context.layout leading)
 
-  pub underline_lanes-re : (look : Look) (leading : ℕ) (m : LaneMark) (lanes : Lanes)
-      → row_lanes look leading (Underline (re_mark φ m)) (re_lanes φ lanes) ≡ row_lanes look leading (Underline m) lanes
+  pub underline_lanes-re : (context : RowContext) (leading : ℕ) (m : LaneMark) (lanes : Lanes)
+      → row_lanes context leading (Underline (re_lane_mark φ m)) (re_lanes φ lanes) ≡ row_lanes context leading (Underline m) lanes
   unfolding row_lanes
-  underline_lanes-re look leading m lanes =
-      lanes-re look (λ lane. if nat_lt m.lane lane then Some m else None) (λ lane. if nat_lt m.lane lane then Some (re_mark φ m) else None)
-      (underline_shape look.layout leading m.lane) lanes (λ lane. by_test (nat_lt m.lane lane)) (underline_shape-re look.layout leading m.lane)
+  underline_lanes-re context leading m lanes =
+      lanes-re context (λ lane. if nat_lt m.lane lane then Some m else None) (λ lane. if nat_lt m.lane lane then Some (re_lane_mark φ m) else None)
+      (underline_shape context.layout leading m.lane) lanes (λ lane. by_test (nat_lt m.lane lane)) (underline_shape-re context.layout leading m.lane)
     where
-      by_test : (b : Bool) → (if b then Some (re_mark φ m) else None) ≡ option_map (re_mark φ) (if b then Some m else None)
+      by_test : (b : Bool) → (if b then Some (re_lane_mark φ m) else None) ≡ option_map (re_lane_mark φ) (if b then Some m else None)
       by_test true = refl
       by_test false = refl
 
   -- ---- text, carets and pointers
 
-  takes_in-re : (c : Cell) (part : MultiLabel) → takes_in c (re_part φ part) ≡ takes_in c part
-  takes_in-re c (Top start) = refl
-  takes_in-re c Left = refl
-  takes_in-re c (Bottom end message) = refl
+  part_covers-re : (c : Metrics) (part : MultiLabel) → part_covers c (re_part φ part) ≡ part_covers c part
+  part_covers-re c (Top start) = refl
+  part_covers-re c Left = refl
+  part_covers-re c (Bottom end message) = refl
 
-  source_style-re : (line : Line) (c : Cell) → source_style (re_line φ line) c ≡ source_style line c
+  source_style-re : (line : Line) (c : Metrics) → source_style (re_line φ line) c ≡ source_style line c
   source_style-re line c =
       ap₂ (λ a b. if a || b then Some Primary else None)
       (any-map (λ x. is_primary x && covers x c) (re φ) line.labels)
-      (any-map (λ (m : LaneMark). is_primary_style m.style && takes_in c m.part) (re_mark φ) line.lanes.marks
-      ∙ ap (λ p. list_any p line.lanes.marks) (fun_ext (λ (m : LaneMark). ap (λ b. is_primary_style m.style && b) (takes_in-re c m.part))))
+      (any-map (λ (m : LaneMark). is_primary_style m.style && part_covers c m.part) (re_lane_mark φ) line.lanes.marks
+      ∙ ap (λ p. list_any p line.lanes.marks) (fun_ext (λ (m : LaneMark). ap (λ b. is_primary_style m.style && b) (part_covers-re c m.part))))
 
-  pub coloured_text-re : (look : Look) (line : Line) → coloured_text look (re_line φ line) ≡ coloured_text look line
-  unfolding coloured_text
-  coloured_text-re look line = ap (λ style. styled look.severity style source_glyph None (line_cells look line)) (fun_ext (source_style-re line))
+  pub colored_text-re : (context : RowContext) (line : Line) → colored_text context (re_line φ line) ≡ colored_text context line
+  unfolding colored_text
+  colored_text-re context line = ap (λ style. styled context.severity style source_glyph None (line_metrics context line)) (fun_ext (source_style-re line))
 
-  style_under-re : (labels : List Labelled) (c : Cell) → style_under (map (re φ) labels) c ≡ style_under labels c
+  style_under-re : (labels : List LabelModel) (c : Metrics) → style_under (map (re φ) labels) c ≡ style_under labels c
   style_under-re labels c =
       ap₂ (λ a b. if a then Some Primary else if b then Some Secondary else None)
       (any-map (λ x. is_primary x && covers x c) (re φ) labels)
       (any-map (λ x. covers x c) (re φ) labels)
 
-  pub carets-re : (look : Look) (labels : List Labelled) (cs : List Cell) → carets look (map (re φ) labels) cs ≡ carets look labels cs
+  pub carets-re : (context : RowContext) (labels : List LabelModel) (cs : List Metrics) → carets context (map (re φ) labels) cs ≡ carets context labels cs
   unfolding carets
-  carets-re look labels cs =
-      ap₂ (λ style end. styled look.severity style (λ c. caret_glyphs look.chars end (style c) c) None cs) (fun_ext (style_under-re labels)) (greatest labels)
+  carets-re context labels cs =
+      ap₂ (λ style end. styled context.severity style (λ c. caret_glyphs context.chars end (style c) c) None cs) (fun_ext (style_under-re labels)) (greatest labels)
 
-  greatest_start-re : (labels : List Labelled) → greatest_start (map (re φ) labels) ≡ greatest_start labels
-  greatest_start-re labels = fold-map (λ m (x : Labelled). max m x.start) (re φ) 0 labels
+  greatest_start-re : (labels : List LabelModel) → greatest_start (map (re φ) labels) ≡ greatest_start labels
+  greatest_start-re labels = fold-map (λ m (x : LabelModel). max m x.start) (re φ) 0 labels
 
-  pointer_style-re : (labels : List Labelled) (c : Cell) → pointer_style (map (re φ) labels) c ≡ pointer_style labels c
+  pointer_style-re : (labels : List LabelModel) (c : Metrics) → pointer_style (map (re φ) labels) c ≡ pointer_style labels c
   pointer_style-re labels c = ap (λ b. if b then Primary else Secondary) (any-map (λ x. is_primary x && starts_in c x) (re φ) labels)
 
-  pointer_at-re : (look : Look) (labels hangs : List Labelled) (c : Cell) → pointer_at look (map (re φ) labels) (map (re φ) hangs) c ≡ pointer_at look labels hangs c
+  pointer_at-re : (context : RowContext) (labels hangs : List LabelModel) (c : Metrics) → pointer_at context (map (re φ) labels) (map (re φ) hangs) c ≡ pointer_at context labels hangs c
   unfolding pointer_at
-  pointer_at-re look labels hangs c = rw (any-map (starts_in c) (re φ) hangs, pointer_style-re hangs c, greatest_start-re labels)
+  pointer_at-re context labels hangs c = rw (any-map (starts_in c) (re φ) hangs, pointer_style-re hangs c, greatest_start-re labels)
 
-  pub pointers-re : (look : Look) (labels : List Labelled) (cs : List Cell) → pointers look (map (re φ) labels) cs ≡ pointers look labels cs
+  pub pointers-re : (context : RowContext) (labels : List LabelModel) (cs : List Metrics) → pointers context (map (re φ) labels) cs ≡ pointers context labels cs
   unfolding pointers
-  pointers-re look labels cs =
-      ap (λ hangs. flat_map (pointer_at look (map (re φ) labels) hangs) cs) (hanging-re labels)
-      ∙ ap (λ f. flat_map f cs) (fun_ext (pointer_at-re look labels (hanging labels)))
+  pointers-re context labels cs =
+      ap (λ hangs. flat_map (pointer_at context (map (re φ) labels) hangs) cs) (hanging-re labels)
+      ∙ ap (λ f. flat_map f cs) (fun_ext (pointer_at-re context labels (hanging labels)))

@@ -9,14 +9,14 @@ use Rattle.codespan_base.specs.declared.term.config.Layout.{Layout}
 use Rattle.codespan_base.specs.declared.term.config.Layout.TheVariants.{Classic, Unbroken}
 use Rattle.codespan_base.specs.FileModel.{FileModel, line_count, line_start}
 use Rattle.codespan_base.specs.Streams.{Stream}
-use Rattle.codespan_base.specs.Labels.{Labelled, is_blank, LaneMark, MultiLabel, Top, Left, Bottom, first_line, last_line, is_single, drawn_label, first_seen, multi_labels, stands_before, put_in, sorted, single_labels, part_on, mark_of, marks_on}
-use Rattle.codespan_picture.specs.Cells.{leading_whitespace}
+use Rattle.codespan_base.specs.Labels.{LabelModel, is_empty_stream, LaneMark, MultiLabel, Top, Left, Bottom, first_line, last_line, is_single, drawn_label, first_seen, multi_labels, range_precedes, insert_sorted, sorted, single_labels, part_on, lane_mark_of, lane_marks_on}
+use Rattle.codespan_picture.specs.CharMetrics.{leading_whitespace}
 use Rattle.codespan_picture.specs.Lines.{shows, is_shown, drawn_lines, is_broken}
 use Rattle.codespan_picture.specs.Rows.{Locus, Heading, Lanes, Line, HeaderRow, StartRow, EmptyRow, BreakRow, SourceRow, PointerRow, HangingRow, UnderlineRow, FirstNoteRow, LaterNoteRow, BlankRow, hanging, has_underline, caret_rows, hanging_rows, underline_rows, rows_of}
-use Rattle.codespan_picture.specs.Snippets.{LabelledFile, InFile, labelled_file, labelled_files, lane_count, bare_lanes, line_at, rows_after, snippet, has_any, row_after, snippets, piece_rows, note_rows, rich_rows}
+use Rattle.codespan_picture.specs.Snippets.{LabeledFileModel, InFile, labeled_file_model, labeled_file_models, lane_count, empty_lanes, line_at, rows_after, snippet, has_any, row_after, snippets, piece_rows, note_rows, rich_rows}
 use Rattle.codespan_laws.proofs.FillLemmas.{breaks_before}
 use Rattle.codespan_picture.specs.Padding.{spans, spanned_lines, numbered_lines, digits_of, padding_of}
-use Rattle.codespan_laws.proofs.RefillLemmas.{any-map, filter-map, map-append', re, re_part, re_mark, re_lanes, re_line, hanging-re}
+use Rattle.codespan_laws.proofs.RefillLemmas.{any-map, filter-map, map-append', re, re_part, re_lane_mark, re_lanes, re_line, hanging-re}
 use Rattle.codespan_laws.proofs.RefillRows.{re_row}
 
 map-map : {X Y Z : Type 0} (g : Y → Z) (f : X → Y) (xs : List X) → map g (map f xs) ≡ map (λ x. g (f x)) xs
@@ -41,20 +41,20 @@ flat-map-map : {X Y Z : Type 0} (g : Y → List Z) (f : X → Y) (xs : List X) �
 flat-map-map g f [] = refl
 flat-map-map g f (x ∷ xs) = ap (λ ys. g (f x) ++ ys) (flat-map-map g f xs)
 
-abbrev pub re_file : (Stream → Stream) → LabelledFile → LabelledFile
+abbrev pub re_file : (Stream → Stream) → LabeledFileModel → LabeledFileModel
 re_file φ s = record s { labels = map (re φ) s.labels }
 
 abbrev pub re_in : {Id : Type 0} → (Stream → Stream) → InFile Id → InFile Id
 re_in φ x = record x { label = re φ x.label }
 
-module _ (φ : Stream → Stream) (keeps : (s : Stream) → is_blank (φ s) ≡ is_blank s) where
+module _ (φ : Stream → Stream) (keeps : (s : Stream) → is_empty_stream (φ s) ≡ is_empty_stream s) where
   -- ---- a line
 
-  caret-rows : (line : Line) (labels : List Labelled) → map (re_row φ) (caret_rows line labels) ≡ caret_rows (re_line φ line) (map (re φ) labels)
+  caret-rows : (line : Line) (labels : List LabelModel) → map (re_row φ) (caret_rows line labels) ≡ caret_rows (re_line φ line) (map (re φ) labels)
   caret-rows line [] = refl
   caret-rows line (x ∷ xs) = refl
 
-  hanging-rows : (line : Line) (labels : List Labelled) → map (re_row φ) (hanging_rows line labels) ≡ hanging_rows (re_line φ line) (map (re φ) labels)
+  hanging-rows : (line : Line) (labels : List LabelModel) → map (re_row φ) (hanging_rows line labels) ≡ hanging_rows (re_line φ line) (map (re φ) labels)
   hanging-rows line [] = refl
   hanging-rows line (x ∷ xs) =
       ap (λ rows. PointerRow (re_line φ line) ∷ rows)
@@ -71,9 +71,9 @@ module _ (φ : Stream → Stream) (keeps : (s : Stream) → is_blank (φ s) ≡ 
   underline-rows line =
       let p = λ (m : LaneMark). has_underline (leading_whitespace line.text) m.part in
       map-map (re_row φ) (UnderlineRow line) (filter p line.lanes.marks)
-      ∙ sym (map-map (UnderlineRow (re_line φ line)) (re_mark φ) (filter p line.lanes.marks))
-      ∙ ap (λ q. map (UnderlineRow (re_line φ line)) (map (re_mark φ) (filter q line.lanes.marks))) (fun_ext (λ (m : LaneMark). sym (has-underline (leading_whitespace line.text) m.part)))
-      ∙ ap (map (UnderlineRow (re_line φ line))) (sym (filter-map p (re_mark φ) line.lanes.marks))
+      ∙ sym (map-map (UnderlineRow (re_line φ line)) (re_lane_mark φ) (filter p line.lanes.marks))
+      ∙ ap (λ q. map (UnderlineRow (re_line φ line)) (map (re_lane_mark φ) (filter q line.lanes.marks))) (fun_ext (λ (m : LaneMark). sym (has-underline (leading_whitespace line.text) m.part)))
+      ∙ ap (map (UnderlineRow (re_line φ line))) (sym (filter-map p (re_lane_mark φ) line.lanes.marks))
 
   line-rows : (line : Line) → map (re_row φ) (rows_of line) ≡ rows_of (re_line φ line)
   line-rows line =
@@ -86,31 +86,31 @@ module _ (φ : Stream → Stream) (keeps : (s : Stream) → is_blank (φ s) ≡ 
 
   -- ---- the labels of a line
 
-  put-in : (x : Labelled) (ys : List Labelled) → put_in (re φ x) (map (re φ) ys) ≡ map (re φ) (put_in x ys)
+  put-in : (x : LabelModel) (ys : List LabelModel) → insert_sorted (re φ x) (map (re φ) ys) ≡ map (re φ) (insert_sorted x ys)
   put-in x [] = refl
-  put-in x (y ∷ ys) = by_test (put-in x ys) (stands_before y x)
+  put-in x (y ∷ ys) = by_test (put-in x ys) (range_precedes y x)
     where
-      by_test : put_in (re φ x) (map (re φ) ys) ≡ map (re φ) (put_in x ys) → (b : Bool)
-          → (if b then re φ y ∷ put_in (re φ x) (map (re φ) ys) else re φ x ∷ re φ y ∷ map (re φ) ys) ≡ map (re φ) (if b then y ∷ put_in x ys else x ∷ y ∷ ys)
+      by_test : insert_sorted (re φ x) (map (re φ) ys) ≡ map (re φ) (insert_sorted x ys) → (b : Bool)
+          → (if b then re φ y ∷ insert_sorted (re φ x) (map (re φ) ys) else re φ x ∷ re φ y ∷ map (re φ) ys) ≡ map (re φ) (if b then y ∷ insert_sorted x ys else x ∷ y ∷ ys)
       by_test rest true = ap (λ zs. re φ y ∷ zs) rest
       by_test rest false = refl
 
-  sorted-re : (xs : List Labelled) → sorted (map (re φ) xs) ≡ map (re φ) (sorted xs)
+  sorted-re : (xs : List LabelModel) → sorted (map (re φ) xs) ≡ map (re φ) (sorted xs)
   sorted-re [] = refl
-  sorted-re (x ∷ xs) = ap (put_in (re φ x)) (sorted-re xs) ∙ put-in x (sorted xs)
+  sorted-re (x ∷ xs) = ap (insert_sorted (re φ x)) (sorted-re xs) ∙ put-in x (sorted xs)
 
-  single-re : (f : FileModel) (xs : List Labelled) (l : ℕ) → single_labels f (map (re φ) xs) l ≡ map (re φ) (single_labels f xs l)
+  single-re : (f : FileModel) (xs : List LabelModel) (l : ℕ) → single_labels f (map (re φ) xs) l ≡ map (re φ) (single_labels f xs l)
   single-re f xs l =
-      let p = λ (x : Labelled). is_single f x && (first_line f x == l) in
+      let p = λ (x : LabelModel). is_single f x && (first_line f x == l) in
       ap (λ ys. sorted (reverse (map (drawn_label f) ys))) (filter-map p (re φ) xs)
       ∙ ap (λ ys. sorted (reverse ys)) (map-map (drawn_label f) (re φ) (filter p xs) ∙ sym (map-map (re φ) (drawn_label f) (filter p xs)))
       ∙ ap sorted (reverse-map (re φ) (map (drawn_label f) (filter p xs)))
       ∙ sorted-re (reverse (map (drawn_label f) (filter p xs)))
 
-  multi-re : (f : FileModel) (xs : List Labelled) → multi_labels f (map (re φ) xs) ≡ map (re φ) (multi_labels f xs)
+  multi-re : (f : FileModel) (xs : List LabelModel) → multi_labels f (map (re φ) xs) ≡ map (re φ) (multi_labels f xs)
   multi-re f xs = filter-map (λ x. not (is_single f x)) (re φ) xs
 
-  part-on : (f : FileModel) (l : ℕ) (x : Labelled) → part_on f l (re φ x) ≡ option_map (re_part φ) (part_on f l x)
+  part-on : (f : FileModel) (l : ℕ) (x : LabelModel) → part_on f l (re φ x) ≡ option_map (re_part φ) (part_on f l x)
   part-on f l x = by_tests (first_line f x == l) (last_line f x == l) (nat_lt (first_line f x) l && nat_lt l (last_line f x))
     where
       by_tests : (a b c : Bool)
@@ -121,41 +121,41 @@ module _ (φ : Stream → Stream) (keeps : (s : Stream) → is_blank (φ s) ≡ 
       by_tests false false true = refl
       by_tests false false false = refl
 
-  cons-mark : (n : ℕ) (x : Labelled) (part : Option MultiLabel) (ms : List LaneMark)
-      → cons_option (mark_of n (re φ x) (option_map (re_part φ) part)) (map (re_mark φ) ms) ≡ map (re_mark φ) (cons_option (mark_of n x part) ms)
-  cons-mark n x None ms = refl
-  cons-mark n x (Some part) ms = refl
+  cons-lane_mark : (n : ℕ) (x : LabelModel) (part : Option MultiLabel) (ms : List LaneMark)
+      → cons_option (lane_mark_of n (re φ x) (option_map (re_part φ) part)) (map (re_lane_mark φ) ms) ≡ map (re_lane_mark φ) (cons_option (lane_mark_of n x part) ms)
+  cons-lane_mark n x None ms = refl
+  cons-lane_mark n x (Some part) ms = refl
 
-  marks-from : (f : FileModel) (l n : ℕ) (xs : List Labelled)
-      → filter_map (λ (entry : ℕ × Labelled). mark_of entry.0 entry.1 (part_on f l entry.1)) (enumerate_from n (map (re φ) xs))
-      ≡ map (re_mark φ) (filter_map (λ (entry : ℕ × Labelled). mark_of entry.0 entry.1 (part_on f l entry.1)) (enumerate_from n xs))
+  marks-from : (f : FileModel) (l n : ℕ) (xs : List LabelModel)
+      → filter_map (λ (entry : ℕ × LabelModel). lane_mark_of entry.0 entry.1 (part_on f l entry.1)) (enumerate_from n (map (re φ) xs))
+      ≡ map (re_lane_mark φ) (filter_map (λ (entry : ℕ × LabelModel). lane_mark_of entry.0 entry.1 (part_on f l entry.1)) (enumerate_from n xs))
   marks-from f l n [] = refl
   marks-from f l n (x ∷ xs) =
-      ap₂ (λ part ms. cons_option (mark_of n (re φ x) part) ms) (part-on f l x) (marks-from f l (n + 1) xs)
-      ∙ cons-mark n x (part_on f l x) (filter_map (λ (entry : ℕ × Labelled). mark_of entry.0 entry.1 (part_on f l entry.1)) (enumerate_from (n + 1) xs))
+      ap₂ (λ part ms. cons_option (lane_mark_of n (re φ x) part) ms) (part-on f l x) (marks-from f l (n + 1) xs)
+      ∙ cons-lane_mark n x (part_on f l x) (filter_map (λ (entry : ℕ × LabelModel). lane_mark_of entry.0 entry.1 (part_on f l entry.1)) (enumerate_from (n + 1) xs))
 
-  marks-re : (f : FileModel) (xs : List Labelled) (l : ℕ) → marks_on f (map (re φ) xs) l ≡ map (re_mark φ) (marks_on f xs l)
+  marks-re : (f : FileModel) (xs : List LabelModel) (l : ℕ) → lane_marks_on f (map (re φ) xs) l ≡ map (re_lane_mark φ) (lane_marks_on f xs l)
   marks-re f xs l =
-      ap (λ ys. filter_map (λ (entry : ℕ × Labelled). mark_of entry.0 entry.1 (part_on f l entry.1)) (enumerate_from 0 ys)) (multi-re f xs)
+      ap (λ ys. filter_map (λ (entry : ℕ × LabelModel). lane_mark_of entry.0 entry.1 (part_on f l entry.1)) (enumerate_from 0 ys)) (multi-re f xs)
       ∙ marks-from f l 0 (multi_labels f xs)
 
-  lanes-count : (s : LabelledFile) → lane_count (re_file φ s) ≡ lane_count s
+  lanes-count : (s : LabeledFileModel) → lane_count (re_file φ s) ≡ lane_count s
   lanes-count s = ap length (multi-re s.file s.labels) ∙ same-length (re φ) (multi_labels s.file s.labels)
 
-  bare-re : (s : LabelledFile) → re_lanes φ (bare_lanes s) ≡ bare_lanes (re_file φ s)
+  bare-re : (s : LabeledFileModel) → re_lanes φ (empty_lanes s) ≡ empty_lanes (re_file φ s)
   bare-re s = ap {B = Lanes} (λ n. record { count = n; marks = [] }) (sym (lanes-count s))
 
-  lanes-at : (s : LabelledFile) (l : ℕ) → re_lanes φ (line_at s l).lanes ≡ (line_at (re_file φ s) l).lanes
+  lanes-at : (s : LabeledFileModel) (l : ℕ) → re_lanes φ (line_at s l).lanes ≡ (line_at (re_file φ s) l).lanes
   lanes-at s l = ap₂ {C = Lanes} (λ n ms. record { count = n; marks = ms }) (sym (lanes-count s)) (sym (marks-re s.file s.labels l))
 
-  line-re : (s : LabelledFile) (l : ℕ) → re_line φ (line_at s l) ≡ line_at (re_file φ s) l
+  line-re : (s : LabeledFileModel) (l : ℕ) → re_line φ (line_at s l) ≡ line_at (re_file φ s) l
   line-re s l =
       ap₂ {C = Line} (λ xs lanes. record { number = (line_at s l).number; text = (line_at s l).text; labels = xs; lanes = lanes })
       (sym (single-re s.file s.labels l)) (lanes-at s l)
 
   -- ---- a file
 
-  break-re : (s : LabelledFile) (was : Option ℕ) (l : ℕ) → map (re_row φ) (breaks_before s was l) ≡ breaks_before (re_file φ s) was l
+  break-re : (s : LabeledFileModel) (previous : Option ℕ) (l : ℕ) → map (re_row φ) (breaks_before s previous l) ≡ breaks_before (re_file φ s) previous l
   break-re s None l = refl
   break-re s (Some c) l = by_test (is_broken c l)
     where
@@ -163,44 +163,44 @@ module _ (φ : Stream → Stream) (keeps : (s : Stream) → is_blank (φ s) ≡ 
       by_test true = ap (λ lanes. BreakRow lanes ∷ []) (lanes-at s l)
       by_test false = refl
 
-  after-re : (s : LabelledFile) (was : Option ℕ) (ls : List ℕ) → map (re_row φ) (rows_after s was ls) ≡ rows_after (re_file φ s) was ls
-  after-re s was [] = refl
-  after-re s was (l ∷ ls) =
-      map-append' (re_row φ) (breaks_before s was l ++ rows_of (line_at s l)) (rows_after s (Some l) ls)
+  after-re : (s : LabeledFileModel) (previous : Option ℕ) (ls : List ℕ) → map (re_row φ) (rows_after s previous ls) ≡ rows_after (re_file φ s) previous ls
+  after-re s previous [] = refl
+  after-re s previous (l ∷ ls) =
+      map-append' (re_row φ) (breaks_before s previous l ++ rows_of (line_at s l)) (rows_after s (Some l) ls)
       ∙ ap₂ (λ a b. a ++ b)
-      (map-append' (re_row φ) (breaks_before s was l) (rows_of (line_at s l))
-      ∙ ap₂ (λ a b. a ++ b) (break-re s was l) (line-rows (line_at s l) ∙ ap rows_of (line-re s l)))
+      (map-append' (re_row φ) (breaks_before s previous l) (rows_of (line_at s l))
+      ∙ ap₂ (λ a b. a ++ b) (break-re s previous l) (line-rows (line_at s l) ∙ ap rows_of (line-re s l)))
       (after-re s (Some l) ls)
 
-  shown-re : (config : Config) (f : FileModel) (xs : List Labelled) (l : ℕ) → is_shown config f (map (re φ) xs) l ≡ is_shown config f xs l
+  shown-re : (config : Config) (f : FileModel) (xs : List LabelModel) (l : ℕ) → is_shown config f (map (re φ) xs) l ≡ is_shown config f xs l
   shown-re config f xs l = ap (λ b. nat_lt l (line_count f) && b) (any-map (λ x. shows config (first_line f x) (last_line f x) l) (re φ) xs)
 
-  drawn-re : (config : Config) (f : FileModel) (xs : List Labelled) → drawn_lines config f (map (re φ) xs) ≡ drawn_lines config f xs
+  drawn-re : (config : Config) (f : FileModel) (xs : List LabelModel) → drawn_lines config f (map (re φ) xs) ≡ drawn_lines config f xs
   drawn-re config f xs =
       ap (λ (shown : ℕ → Bool). filter (λ l. shown l || (nat_lt 0 l && shown (l - 1) && shown (l + 1))) (range_with_len 0 (line_count f))) (fun_ext (shown-re config f xs))
 
-  snippet-re : (config : Config) (locus : Locus) (s : LabelledFile) → map (re_row φ) (snippet config locus s) ≡ snippet config locus (re_file φ s)
+  snippet-re : (config : Config) (locus : Locus) (s : LabeledFileModel) → map (re_row φ) (snippet config locus s) ≡ snippet config locus (re_file φ s)
   snippet-re config locus s =
-      map-append' (re_row φ) (StartRow locus ∷ EmptyRow (bare_lanes s) ∷ []) (rows_after s None (drawn_lines config s.file s.labels))
+      map-append' (re_row φ) (StartRow locus ∷ EmptyRow (empty_lanes s) ∷ []) (rows_after s None (drawn_lines config s.file s.labels))
       ∙ ap₂ (λ a b. a ++ b)
       (ap (λ lanes. StartRow locus ∷ EmptyRow lanes ∷ []) (bare-re s))
       (after-re s None (drawn_lines config s.file s.labels) ∙ ap (rows_after (re_file φ s) None) (sym (drawn-re config s.file s.labels)))
 
-  row_after-re : (followed : Bool) (s : LabelledFile) → map (re_row φ) (row_after followed s) ≡ row_after followed (re_file φ s)
+  row_after-re : (followed : Bool) (s : LabeledFileModel) → map (re_row φ) (row_after followed s) ≡ row_after followed (re_file φ s)
   row_after-re true s = ap (λ lanes. EmptyRow lanes ∷ []) (bare-re s)
   row_after-re false s = refl
 
   -- a snippet and the row after it
-  followed-re : (config : Config) (followed : Bool) (locus : Locus) (s : LabelledFile)
+  followed-re : (config : Config) (followed : Bool) (locus : Locus) (s : LabeledFileModel)
       → map (re_row φ) (snippet config locus s ++ row_after followed s) ≡ snippet config locus (re_file φ s) ++ row_after followed (re_file φ s)
   followed-re config followed locus s =
       map-append' (re_row φ) (snippet config locus s) (row_after followed s) ∙ ap₂ (λ a b. a ++ b) (snippet-re config locus s) (row_after-re followed s)
 
-  is_followed-re : (b : Bool) (ss : List LabelledFile) → (has_any (map (re_file φ) ss) || b) ≡ (has_any ss || b)
+  is_followed-re : (b : Bool) (ss : List LabeledFileModel) → (has_any (map (re_file φ) ss) || b) ≡ (has_any ss || b)
   is_followed-re b [] = refl
   is_followed-re b (s ∷ ss) = refl
 
-  snippets-re : (config : Config) (has_notes : Bool) (ps : List Locus) (ss : List LabelledFile)
+  snippets-re : (config : Config) (has_notes : Bool) (ps : List Locus) (ss : List LabeledFileModel)
       → map (re_row φ) (snippets config has_notes ps ss) ≡ snippets config has_notes ps (map (re_file φ) ss)
   snippets-re config has_notes [] ss = refl
   snippets-re config has_notes (p ∷ ps) [] = refl
@@ -221,7 +221,7 @@ module _ (φ : Stream → Stream) (keeps : (s : Stream) → is_blank (φ s) ≡ 
   notes-re (note ∷ notes) =
       map-append' (re_row φ) (piece_rows (lines note)) (note_rows notes) ∙ ap₂ (λ a b. a ++ b) (piece-re (lines note)) (notes-re notes)
 
-  pub rich-re : (config : Config) (heading : Heading) (ps : List Locus) (ss : List LabelledFile) (notes : List (List ℕ))
+  pub rich-re : (config : Config) (heading : Heading) (ps : List Locus) (ss : List LabeledFileModel) (notes : List (List ℕ))
       → map (re_row φ) (rich_rows config heading ps ss notes) ≡ rich_rows config heading ps (map (re_file φ) ss) notes
   rich-re config heading ps ss notes =
       let inner = snippets config (has_any notes) ps ss in
@@ -232,38 +232,38 @@ module _ (φ : Stream → Stream) (keeps : (s : Stream) → is_blank (φ s) ≡ 
 
   -- ---- the padding
 
-  spanned-re : (s : LabelledFile) → spanned_lines (re_file φ s) ≡ spanned_lines s
+  spanned-re : (s : LabeledFileModel) → spanned_lines (re_file φ s) ≡ spanned_lines s
   spanned-re s =
       ap (λ (p : ℕ → Bool). filter p (range_with_len 0 (line_count s.file))) (fun_ext (λ (l : ℕ). any-map (λ x. spans s.file x l) (re φ) s.labels))
 
-  numbered-re : (config : Config) (s : LabelledFile) → numbered_lines config (re_file φ s) ≡ numbered_lines config s
+  numbered-re : (config : Config) (s : LabeledFileModel) → numbered_lines config (re_file φ s) ≡ numbered_lines config s
   numbered-re config s = by_layout config.layout
     where
       by_layout : (layout : Layout) → numbered_lines (record config { layout = layout }) (re_file φ s) ≡ numbered_lines (record config { layout = layout }) s
       by_layout Classic = spanned-re s
       by_layout Unbroken = drawn-re config s.file s.labels
 
-  pub padding-re : (config : Config) (ss : List LabelledFile) → padding_of config (map (re_file φ) ss) ≡ padding_of config ss
+  pub padding-re : (config : Config) (ss : List LabeledFileModel) → padding_of config (map (re_file φ) ss) ≡ padding_of config ss
   padding-re config ss =
       ap (fold max 0)
-      (flat-map-map (λ (s : LabelledFile). digits_of s (numbered_lines config s)) (re_file φ) ss
-      ∙ ap (λ f. flat_map f ss) (fun_ext (λ (s : LabelledFile). ap (digits_of s) (numbered-re config s))))
+      (flat-map-map (λ (s : LabeledFileModel). digits_of s (numbered_lines config s)) (re_file φ) ss
+      ∙ ap (λ f. flat_map f ss) (fun_ext (λ (s : LabeledFileModel). ap (digits_of s) (numbered-re config s))))
 
   -- ---- the files of labels
 
   pub files-re : {Id : Type 0} (same : Id → Id → Bool) (file : Id → FileModel) (xs : List (InFile Id))
-      → labelled_files same file (map (re_in φ) xs) ≡ map (re_file φ) (labelled_files same file xs)
+      → labeled_file_models same file (map (re_in φ) xs) ≡ map (re_file φ) (labeled_file_models same file xs)
   files-re {Id = Id} same file xs =
-      ap (λ ids. map (labelled_file same file (map (re_in φ) xs)) (first_seen same ids)) (map-map (λ (x : InFile Id). x.id) (re_in φ) xs)
-      ∙ map-ext (labelled_file same file (map (re_in φ) xs)) (λ id. re_file φ (labelled_file same file xs id)) one ids
-      ∙ sym (map-map (re_file φ) (labelled_file same file xs) ids)
+      ap (λ ids. map (labeled_file_model same file (map (re_in φ) xs)) (first_seen same ids)) (map-map (λ (x : InFile Id). x.id) (re_in φ) xs)
+      ∙ map-ext (labeled_file_model same file (map (re_in φ) xs)) (λ id. re_file φ (labeled_file_model same file xs id)) one ids
+      ∙ sym (map-map (re_file φ) (labeled_file_model same file xs) ids)
     where
       ids : List Id
       ids = first_seen same (map (λ (x : InFile Id). x.id) xs)
 
-      one : (id : Id) → labelled_file same file (map (re_in φ) xs) id ≡ re_file φ (labelled_file same file xs id)
+      one : (id : Id) → labeled_file_model same file (map (re_in φ) xs) id ≡ re_file φ (labeled_file_model same file xs id)
       one id =
-          ap {B = LabelledFile} (λ ys. record { file = file id; labels = ys })
+          ap {B = LabeledFileModel} (λ ys. record { file = file id; labels = ys })
           (ap (map (λ (x : InFile Id). x.label)) (filter-map (λ (x : InFile Id). same id x.id) (re_in φ) xs)
           ∙ map-map (λ (x : InFile Id). x.label) (re_in φ) (filter (λ (x : InFile Id). same id x.id) xs)
           ∙ sym (map-map (re φ) (λ (x : InFile Id). x.label) (filter (λ (x : InFile Id). same id x.id) xs)))

@@ -6,11 +6,11 @@ use Rattle.std.proofs.lemmas.Bool.Decides.{nat_tests}
 use Rattle.std.proofs.lemmas.List.Sums.{sum_by-cons, sum_by-append, sum_by-le-sum_by, length-filter}
 use Rattle.codespan_base.specs.declared.term.config.Config.{Config}
 use Rattle.codespan_base.specs.FileModel.{FileModel, line_count}
-use Rattle.codespan_base.specs.Labels.{Labelled, LaneMark, first_line, last_line}
+use Rattle.codespan_base.specs.Labels.{LabelModel, LaneMark, first_line, last_line}
 use Rattle.codespan_picture.specs.Lines.{shows, is_shown, is_drawn, drawn_lines, is_broken}
-use Rattle.codespan_picture.specs.Cells.{leading_whitespace}
+use Rattle.codespan_picture.specs.CharMetrics.{leading_whitespace}
 use Rattle.codespan_picture.specs.Rows.{Line, SourceRow, BreakRow, HangingRow, UnderlineRow, PointerRow, caret_rows, hanging_rows, underline_rows, rows_of, hanging, has_underline}
-use Rattle.codespan_picture.specs.Snippets.{LabelledFile, line_at, rows_after}
+use Rattle.codespan_picture.specs.Snippets.{LabeledFileModel, line_at, rows_after}
 use Rattle.codespan_laws.proofs.FillLemmas.{breaks_before}
 use Rattle.codespan_laws.specs.LineLaws.{is_source_row, reach, SourceRowsAreFew}
 
@@ -104,7 +104,7 @@ count-shows config s e n =
 
 -- ---- what all labels show
 
-count-any : (config : Config) (f : FileModel) (labels : List Labelled) (n : ℕ)
+count-any : (config : Config) (f : FileModel) (labels : List LabelModel) (n : ℕ)
     → count_by (λ l. list_any (λ x. shows config (first_line f x) (last_line f x) l) labels) (range_with_len 0 n) ≤ sum_by (λ _. reach config) labels
 count-any config f [] n = let none = count-none (λ l. false) (range_with_len 0 n) (λ l. refl) in omega (arith, none)
 count-any config f (x ∷ xs) n =
@@ -124,7 +124,7 @@ first-and : (b d : Bool) → (b && d) ≡ true → b ≡ true
 first-and true d h = refl
 first-and false d h = cc
 
-count-shown : (config : Config) (s : LabelledFile) (n : ℕ)
+count-shown : (config : Config) (s : LabeledFileModel) (n : ℕ)
     → count_by (is_shown config s.file s.labels) (range_with_len 0 n) ≤ sum_by (λ _. reach config) s.labels
 count-shown config s n =
     omega (
@@ -174,7 +174,7 @@ module _ (shown : ℕ → Bool) where
 
 -- ---- source rows
 
-no_source_break : (s : LabelledFile) (was : Option ℕ) (l : ℕ) → count_by is_source_row (breaks_before s was l) ≡ 0
+no_source_break : (s : LabeledFileModel) (previous : Option ℕ) (l : ℕ) → count_by is_source_row (breaks_before s previous l) ≡ 0
 no_source_break s None l = refl
 no_source_break s (Some c) l = by_test (is_broken c l)
   where
@@ -182,11 +182,11 @@ no_source_break s (Some c) l = by_test (is_broken c l)
     by_test true = refl
     by_test false = refl
 
-no_source_caret : (line : Line) (labels : List Labelled) → count_by is_source_row (caret_rows line labels) ≡ 0
+no_source_caret : (line : Line) (labels : List LabelModel) → count_by is_source_row (caret_rows line labels) ≡ 0
 no_source_caret line [] = refl
 no_source_caret line (x ∷ xs) = refl
 
-no_source_hanging : (line : Line) (labels : List Labelled) → count_by is_source_row (hanging_rows line labels) ≡ 0
+no_source_hanging : (line : Line) (labels : List LabelModel) → count_by is_source_row (hanging_rows line labels) ≡ 0
 no_source_hanging line [] = refl
 no_source_hanging line (x ∷ xs) =
     let more = reverse (x ∷ xs) in
@@ -204,19 +204,19 @@ one_source line =
       count-map-none is_source_row (UnderlineRow line) (filter (λ (m : LaneMark). has_underline (leading_whitespace line.text) m.part) line.lanes.marks) (λ m. refl),
     )
 
-count-rows_after : (s : LabelledFile) (was : Option ℕ) (ls : List ℕ) → count_by is_source_row (rows_after s was ls) ≡ length ls
-count-rows_after s was [] = refl
-count-rows_after s was (l ∷ ls) =
+count-rows_after : (s : LabeledFileModel) (previous : Option ℕ) (ls : List ℕ) → count_by is_source_row (rows_after s previous ls) ≡ length ls
+count-rows_after s previous [] = refl
+count-rows_after s previous (l ∷ ls) =
     omega (
       arith,
-      count-append is_source_row (breaks_before s was l ++ rows_of (line_at s l)) (rows_after s (Some l) ls),
-      count-append is_source_row (breaks_before s was l) (rows_of (line_at s l)),
-      no_source_break s was l,
+      count-append is_source_row (breaks_before s previous l ++ rows_of (line_at s l)) (rows_after s (Some l) ls),
+      count-append is_source_row (breaks_before s previous l) (rows_of (line_at s l)),
+      no_source_break s previous l,
       one_source (line_at s l),
       count-rows_after s (Some l) ls,
     )
 
-pub source_rows_few : (config : Config) (s : LabelledFile) → SourceRowsAreFew config s
+pub source_rows_few : (config : Config) (s : LabeledFileModel) → SourceRowsAreFew config s
 source_rows_few config s = λ locus.
     omega (
       arith,

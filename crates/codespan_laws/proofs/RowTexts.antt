@@ -17,22 +17,22 @@ use Rattle.codespan_base.specs.declared.diagnostic.Severity.{Severity}
 use Rattle.codespan_base.specs.declared.diagnostic.Severity.TheVariants.{Bug, Error, Warning, Note, Help}
 use Rattle.codespan_base.specs.declared.term.config.chars.Chars.{Chars}
 use Rattle.codespan_base.specs.SnippetStarts.{start_text}
-use Rattle.codespan_base.specs.Labels.{Labelled, LaneMark, MultiLabel, Top, Left, Bottom}
-use Rattle.codespan_base.specs.Streams.{Stream, Byte, Mark, Slot, StyleMark, Header, HeaderMessage, NoteBullet, SourceBorder, LabelMark, Reset, one_mark, glyph, bytes, blanks, space, repeated, newline, text_of}
-use Rattle.codespan_picture.specs.declared.cells.Cell.{Cell}
+use Rattle.codespan_base.specs.Labels.{LabelModel, LaneMark, MultiLabel, Top, Left, Bottom}
+use Rattle.codespan_base.specs.Streams.{Stream, Byte, Mark, Slot, StyleMark, Header, HeaderMessage, NoteBullet, SourceBorder, LabelMark, Reset, style_mark, glyph, bytes, spaces, space, repeated, newline, text_of}
+use Rattle.codespan_picture.specs.declared.char_metrics.Metrics.{Metrics}
 use Rattle.codespan_picture.specs.declared.lanes.Shape.{Shape}
 use Rattle.codespan_picture.specs.declared.lanes.Shape.TheVariants.{Gap, Bar, TopCorner, BottomCorner}
 use Rattle.codespan_picture.specs.Carets.{caret_for, greatest_end, style_under}
-use Rattle.codespan_picture.specs.Cells.{cells, cells_then, width_of, width_at}
-use Rattle.codespan_picture.specs.Lanes.{LaneRow, Source, Plain, Below, Underline, corner_line, filling, label_glyph, lane_cells, mark_in, row_crossing, row_shape, shape_of, style_of_mark}
-use Rattle.codespan_picture.specs.Rows.{Locus, Look, Lanes, Line, Row, HeaderRow, StartRow, EmptyRow, BreakRow, SourceRow, CaretRow, PointerRow, HangingRow, UnderlineRow, FirstNoteRow, LaterNoteRow, BlankRow, hanging, trailing}
-use Rattle.codespan_picture.specs.RowParts.{severity_name, locus, gutter, numbered_gutter, border, break_border, change, styled, label_message, lane_of, row_lanes, leading_of, line_cells, line_cells_to_end, source_style, source_glyph, coloured_text, caret_glyphs, carets, trailing_message, starts_in, greatest_start, blanks_up_to, pointer_style, pointer_at, pointers, cells_before, cells_up_to, start_caret, end_caret, underline_message, underline}
-use Rattle.codespan_picture.specs.RowStreams.{bracketed, leading_locus, header_row, start_row, empty_row, break_row, source_row, opening, caret_row, pointer_row, hanging_row, underline_row, first_note_row, later_note_row, stream_of, stream_of_rows}
+use Rattle.codespan_picture.specs.CharMetrics.{char_metrics, metrics_then, width_of, width_at}
+use Rattle.codespan_picture.specs.Lanes.{LaneRow, Source, Plain, Below, Underline, corner_line, filling, label_glyph, lane_cells, lane_mark_in, row_crossing, row_shape, shape_of, style_of_lane_mark}
+use Rattle.codespan_picture.specs.Rows.{Locus, RowContext, Lanes, Line, Row, HeaderRow, StartRow, EmptyRow, BreakRow, SourceRow, CaretRow, PointerRow, HangingRow, UnderlineRow, FirstNoteRow, LaterNoteRow, BlankRow, hanging, trailing}
+use Rattle.codespan_picture.specs.RowParts.{severity_name, locus, gutter, numbered_gutter, border, break_border, change, styled, label_message, lane_of, row_lanes, leading_of, line_metrics, line_metrics_to_end, source_style, source_glyph, colored_text, caret_glyphs, carets, trailing_message, starts_in, greatest_start, spaces_up_to, pointer_style, pointer_at, pointers, metrics_before, metrics_up_to, start_caret, end_caret, underline_message, underline}
+use Rattle.codespan_picture.specs.RowStreams.{bracketed, leading_locus, header_row, start_row, empty_row, break_row, source_row, row_start, caret_row, pointer_row, hanging_row, underline_row, first_note_row, later_note_row, stream_of, stream_of_rows}
 use Rattle.codespan_laws.specs.TextLaws.{AreTextsAfter, IsText, AreCharacters}
 use Rattle.codespan_laws.proofs.LaneLineLemmas.{each_all}
 use Rattle.codespan_picture.proofs.Rightmost.{Around, around_trails, around_rightmost, trailing_of, around_is, trailing_is}
 use Rattle.codespan_laws.proofs.SortedLists.{all-weaker}
-use Rattle.codespan_laws.proofs.Texts.{text_of-append, text_of-bytes, text_of-one_mark}
+use Rattle.codespan_laws.proofs.Texts.{text_of-append, text_of-bytes, text_of-style_mark}
 
 -- ---- streams
 
@@ -77,9 +77,9 @@ unfolding bytes
 text-bytes bs u = record { utf8 = subst IsUtf8 (sym (text_of-bytes bs)) u; between_marks = after-bytes [] bs u }
 
 -- a style mark
-text-mark : (m : StyleMark) → IsText (one_mark m)
-unfolding one_mark
-text-mark m = record { utf8 = subst IsUtf8 (sym (text_of-one_mark m)) IsUtf8-nil; between_marks = (IsUtf8-nil, IsUtf8-nil) }
+text-lane_mark : (m : StyleMark) → IsText (style_mark m)
+unfolding style_mark
+text-lane_mark m = record { utf8 = subst IsUtf8 (sym (text_of-style_mark m)) IsUtf8-nil; between_marks = (IsUtf8-nil, IsUtf8-nil) }
 
 -- a character
 text-glyph : (c : ℕ) → IsScalar c → IsText (glyph c)
@@ -124,13 +124,13 @@ unfolding is_ascii
 text-close = text-ascii (codes "]") refl
 
 -- spaces
-ascii-blanks : (n : ℕ) → IsAscii (replicate n 32)
-ascii-blanks zero = IsAscii-nil
-ascii-blanks (suc n) = IsAscii-cons 32 (replicate n 32) (omega arith) (ascii-blanks n)
+ascii-spaces : (n : ℕ) → IsAscii (replicate n 32)
+ascii-spaces zero = IsAscii-nil
+ascii-spaces (suc n) = IsAscii-cons 32 (replicate n 32) (omega arith) (ascii-spaces n)
 
-text-blanks : (n : ℕ) → IsText (blanks n)
-unfolding blanks
-text-blanks n = text-bytes (replicate n 32) (IsUtf8-from_ascii (replicate n 32) (ascii-blanks n))
+text-spaces : (n : ℕ) → IsText (spaces n)
+unfolding spaces
+text-spaces n = text-bytes (replicate n 32) (IsUtf8-from_ascii (replicate n 32) (ascii-spaces n))
 
 -- a character many times
 text-repeated : (n c : ℕ) → IsScalar c → IsText (repeated n c)
@@ -158,7 +158,7 @@ text-decimal : (n : ℕ) → IsText (bytes (decimal n))
 unfolding digits
 text-decimal n = text-bytes (decimal n) (IsUtf8-from_ascii (decimal n) (ascii-digits 64 n [] IsAscii-nil))
 
-ruleset pieces = (text-none, text-both, text-bytes, text-mark, text-glyph, text-space, text-newline, text-colon, text-colon_space, text-open, text-close, text-blanks, text-repeated, text-decimal)
+ruleset pieces = (text-none, text-both, text-bytes, text-lane_mark, text-glyph, text-space, text-newline, text-colon, text-colon_space, text-open, text-close, text-spaces, text-repeated, text-decimal)
 
 -- ---- parts of rows
 
@@ -193,25 +193,25 @@ text-break_border chars ok = search (pieces, ok.source_border_left_break)
 text-change : (severity : Severity) (a b : Option LabelStyle) → IsText (change severity a b)
 unfolding change
 text-change severity None None = text-none
-text-change severity None (Some style) = text-mark (LabelMark severity style)
-text-change severity (Some style) None = text-mark Reset
+text-change severity None (Some style) = text-lane_mark (LabelMark severity style)
+text-change severity (Some style) None = text-lane_mark Reset
 text-change severity (Some Primary) (Some Primary) = text-none
 text-change severity (Some Secondary) (Some Secondary) = text-none
-text-change severity (Some Primary) (Some Secondary) = text-mark (LabelMark severity Secondary)
-text-change severity (Some Secondary) (Some Primary) = text-mark (LabelMark severity Primary)
+text-change severity (Some Primary) (Some Secondary) = text-lane_mark (LabelMark severity Secondary)
+text-change severity (Some Secondary) (Some Primary) = text-lane_mark (LabelMark severity Primary)
 
-text-styled : (severity : Severity) (style : Cell → Option LabelStyle) (shown : Cell → Stream) (was : Option LabelStyle) (cs : List Cell)
-    → AllByRecursion (λ c. IsText (shown c)) cs → IsText (styled severity style shown was cs)
-text-styled severity style shown was [] h = text-change severity was None
-text-styled severity style shown was (c ∷ cs) h =
-    text-both (change severity was (style c) ++ shown c) _
-    (text-both (change severity was (style c)) (shown c) (text-change severity was (style c)) h.0) (text-styled severity style shown (style c) cs h.1)
+text-styled : (severity : Severity) (style : Metrics → Option LabelStyle) (shown : Metrics → Stream) (previous : Option LabelStyle) (cs : List Metrics)
+    → AllByRecursion (λ c. IsText (shown c)) cs → IsText (styled severity style shown previous cs)
+text-styled severity style shown previous [] h = text-change severity previous None
+text-styled severity style shown previous (c ∷ cs) h =
+    text-both (change severity previous (style c) ++ shown c) _
+    (text-both (change severity previous (style c)) (shown c) (text-change severity previous (style c)) h.0) (text-styled severity style shown (style c) cs h.1)
 
 text-label_message : (severity : Severity) (style : LabelStyle) (message : Stream) → IsText message → IsText (label_message severity style message)
 unfolding label_message
 text-label_message severity style message t =
-    text-both (one_mark (LabelMark severity style) ++ message) (one_mark Reset)
-    (text-both (one_mark (LabelMark severity style)) message (text-mark (LabelMark severity style)) t) (text-mark Reset)
+    text-both (style_mark (LabelMark severity style) ++ message) (style_mark Reset)
+    (text-both (style_mark (LabelMark severity style)) message (text-lane_mark (LabelMark severity style)) t) (text-lane_mark Reset)
 
 -- ---- lanes
 
@@ -227,7 +227,7 @@ module _ (chars : Chars) (ok : AreCharacters chars) where
 
   text-filling : (severity : Severity) (crossing : Option LaneMark) (n : ℕ) → IsText (filling severity chars crossing n)
   unfolding filling
-  text-filling severity None n = text-blanks n
+  text-filling severity None n = text-spaces n
   text-filling severity (Some m) n = search (pieces, scalar-corner_line m.part)
 
   text-lane_cells : (severity : Severity) (crossing : Option LaneMark) (style : LabelStyle) (shape : Shape) → IsText (lane_cells severity chars crossing style shape)
@@ -259,23 +259,23 @@ and_true : (a b : Bool) → (a && b) ≡ true → (a ≡ true) × (b ≡ true)
 and_true true b e = (refl, e)
 and_true false b e = absurd (cc)
 
--- the codes of cells are characters where those of the text are
-scalar-cells_then : (after : ℕ → ℕ → List Cell) (tab : ℕ) → ((p k : ℕ) → AllByRecursion (λ (c : Cell). IsScalar c.code) (after p k)) → (cs : List ℕ) → all_scalars cs ≡ true
-    → (place column : ℕ) → AllByRecursion (λ (c : Cell). IsScalar c.code) (cells_then after tab place column cs)
-scalar-cells_then after tab h [] e place column = h place column
-scalar-cells_then after tab h (c ∷ cs) e place column =
+-- the codes of characters are characters where those of the text are
+scalar-metrics_then : (after : ℕ → ℕ → List Metrics) (tab : ℕ) → ((p k : ℕ) → AllByRecursion (λ (c : Metrics). IsScalar c.code) (after p k)) → (cs : List ℕ) → all_scalars cs ≡ true
+    → (byte_index column : ℕ) → AllByRecursion (λ (c : Metrics). IsScalar c.code) (metrics_then after tab byte_index column cs)
+scalar-metrics_then after tab h [] e byte_index column = h byte_index column
+scalar-metrics_then after tab h (c ∷ cs) e byte_index column =
     let both = and_true (scalar c) (all_scalars cs) e in
-    (both.0, scalar-cells_then after tab h cs both.1 (place + len_utf8 c) (column + width_at tab column c))
+    (both.0, scalar-metrics_then after tab h cs both.1 (byte_index + len_utf8 c) (column + width_at tab column c))
 
-scalar-cells : (tab : ℕ) (text : List ℕ) → IsUtf8 text → AllByRecursion (λ (c : Cell). IsScalar c.code) (cells tab text)
-scalar-cells tab text u = scalar-cells_then (λ _ _. []) tab (λ p k. tt) (chars text) (scalars-chars text u) 0 0
+scalar-char_metrics : (tab : ℕ) (text : List ℕ) → IsUtf8 text → AllByRecursion (λ (c : Metrics). IsScalar c.code) (char_metrics tab text)
+scalar-char_metrics tab text u = scalar-metrics_then (λ _ _. []) tab (λ p k. tt) (chars text) (scalars-chars text u) 0 0
 
-text-source_glyph : (c : Cell) → IsScalar c.code → IsText (source_glyph c)
+text-source_glyph : (c : Metrics) → IsScalar c.code → IsText (source_glyph c)
 unfolding source_glyph
 text-source_glyph c s = by (c.code == 9)
   where
-    by : (b : Bool) → IsText (if b then blanks c.width else glyph c.code)
-    by true = text-blanks c.width
+    by : (b : Bool) → IsText (if b then spaces c.width else glyph c.code)
+    by true = text-spaces c.width
     by false = text-glyph c.code s
 
 -- ---- what a row is of
@@ -288,15 +288,15 @@ IsTextPart _ = Unit {0}
 -- the text of a line and the messages of its labels are texts
 pub record IsTextLine (line : Line) : Type 0 where
   pub text : IsUtf8 line.text
-  pub labels : AllByRecursion (λ (x : Labelled). IsText x.message) line.labels
+  pub labels : AllByRecursion (λ (x : LabelModel). IsText x.message) line.labels
   pub marks : AllByRecursion (λ (m : LaneMark). IsTextPart m.part) line.lanes.marks
 
 -- what a row is of is a text
 abbrev pub IsTextRow : Row → Type 0
-IsTextRow (HeaderRow place heading) = IfSome place (λ p. IsUtf8 p.name) × IfSome heading.code IsUtf8 × IsUtf8 heading.message
-IsTextRow (StartRow place) = IsUtf8 place.name
+IsTextRow (HeaderRow at heading) = IfSome at (λ p. IsUtf8 p.name) × IfSome heading.code IsUtf8 × IsUtf8 heading.message
+IsTextRow (StartRow at) = IsUtf8 at.name
 IsTextRow (SourceRow line) = IsUtf8 line.text
-IsTextRow (CaretRow line) = AllByRecursion (λ (x : Labelled). IsText x.message) line.labels
+IsTextRow (CaretRow line) = AllByRecursion (λ (x : LabelModel). IsText x.message) line.labels
 IsTextRow (HangingRow line x) = IsText x.message
 IsTextRow (UnderlineRow line m) = IsTextPart m.part
 IsTextRow (FirstNoteRow piece) = IsUtf8 piece
@@ -305,7 +305,7 @@ IsTextRow _ = Unit {0}
 
 -- ---- rows
 
-text-leading_locus : (place : Option Locus) → IfSome place (λ p. IsUtf8 p.name) → IsText (leading_locus place)
+text-leading_locus : (at : Option Locus) → IfSome at (λ p. IsUtf8 p.name) → IsText (leading_locus at)
 unfolding leading_locus
 text-leading_locus None h = text-none
 text-leading_locus (Some p) h = text-both (locus p) (bytes (codes ": ")) (text-locus p h) text-colon_space
@@ -317,18 +317,18 @@ text-bracketed (Some []) h = text-none
 text-bracketed (Some (c ∷ cs)) h = text-both (bytes (codes "[") ++ bytes (c ∷ cs)) (bytes (codes "]")) (text-both (bytes (codes "[")) (bytes (c ∷ cs)) text-open (text-bytes (c ∷ cs) h)) text-close
 
 -- the last of some labels is one of them
-text-trailing : (severity : Severity) (labels : List Labelled) → AllByRecursion (λ (x : Labelled). IsText x.message) labels → IsText (trailing_message severity (trailing labels))
+text-trailing : (severity : Severity) (labels : List LabelModel) → AllByRecursion (λ (x : LabelModel). IsText x.message) labels → IsText (trailing_message severity (trailing labels))
 unfolding trailing_message
 text-trailing severity [] h = text-none
 text-trailing severity (x ∷ xs) h =
     subst (λ t. IsText (trailing_message severity t)) (sym (trailing_is (x ∷ xs))) (by (around_rightmost (x ∷ xs)) refl)
   where
-    shown : (y : Labelled) → IsText y.message → IsText (trailing_message severity (Some y))
+    shown : (y : LabelModel) → IsText y.message → IsText (trailing_message severity (Some y))
     shown y t = text-both space (label_message severity y.style y.message) text-space (text-label_message severity y.style y.message t)
 
     here : (a : Around) → a.before ++ (a.here ∷ a.after) ≡ x ∷ xs → IsText a.here.message
     here a whole =
-        All-contains (λ (y : Labelled). IsText y.message) (x ∷ xs) a.here (All-from_recursion (λ (y : Labelled). IsText y.message) (x ∷ xs) h)
+        All-contains (λ (y : LabelModel). IsText y.message) (x ∷ xs) a.here (All-from_recursion (λ (y : LabelModel). IsText y.message) (x ∷ xs) h)
         (subst (λ ys. Contains ys a.here) whole (Contains-append_right a.before (a.here ∷ a.after) a.here (0, omega arith, refl)))
 
     tested : (a : Around) → IsText a.here.message → (b : Bool) → IsText (trailing_message severity (if b then Some a.here else None))
@@ -339,57 +339,57 @@ text-trailing severity (x ∷ xs) h =
     by None is = text-none
     by (Some a) is = tested a (here a (around_is (greatest_end (x ∷ xs)) (x ∷ xs) a is)) (around_trails a)
 
-module _ (look : Look) (ok : AreCharacters look.chars) where
-  text-lane_of : (crossing : Option LaneMark) (shape : MultiLabel → Shape) (mark : Option LaneMark) → IsText (lane_of look crossing shape mark)
+module _ (context : RowContext) (ok : AreCharacters context.chars) where
+  text-lane_of : (crossing : Option LaneMark) (shape : MultiLabel → Shape) (lane_mark : Option LaneMark) → IsText (lane_of context crossing shape lane_mark)
   unfolding lane_of
-  text-lane_of crossing shape mark = text-lane_cells look.chars ok look.severity crossing (style_of_mark mark) (shape_of shape mark)
+  text-lane_of crossing shape lane_mark = text-lane_cells context.chars ok context.severity crossing (style_of_lane_mark lane_mark) (shape_of shape lane_mark)
 
-  text-row_lanes : (leading : ℕ) (row : LaneRow) (lanes : Lanes) → IsText (row_lanes look leading row lanes)
+  text-row_lanes : (leading : ℕ) (row : LaneRow) (lanes : Lanes) → IsText (row_lanes context leading row lanes)
   unfolding row_lanes
   text-row_lanes leading row lanes =
-      let shown : ℕ → Stream = λ lane. lane_of look (row_crossing row lane) (row_shape look.layout leading row lane) (mark_in lanes.marks lane) in
+      let shown : ℕ → Stream = λ lane. lane_of context (row_crossing row lane) (row_shape context.layout leading row lane) (lane_mark_in lanes.marks lane) in
       text-each shown (range_with_len 0 lanes.count)
       (each_all (λ lane. IsText (shown lane)) (range_with_len 0 lanes.count)
-      (λ lane. text-lane_of (row_crossing row lane) (row_shape look.layout leading row lane) (mark_in lanes.marks lane)))
+      (λ lane. text-lane_of (row_crossing row lane) (row_shape context.layout leading row lane) (lane_mark_in lanes.marks lane)))
 
   -- the source
-  text-coloured : (line : Line) → IsUtf8 line.text → IsText (coloured_text look line)
-  unfolding coloured_text
-  text-coloured line u =
-      text-styled look.severity (source_style line) source_glyph None (line_cells look line)
-      (all-weaker (λ (c : Cell). IsScalar c.code) (λ (c : Cell). IsText (source_glyph c)) text-source_glyph (line_cells look line) (scalar-cells look.tab_width line.text u))
+  text-colored : (line : Line) → IsUtf8 line.text → IsText (colored_text context line)
+  unfolding colored_text
+  text-colored line u =
+      text-styled context.severity (source_style line) source_glyph None (line_metrics context line)
+      (all-weaker (λ (c : Metrics). IsScalar c.code) (λ (c : Metrics). IsText (source_glyph c)) text-source_glyph (line_metrics context line) (scalar-char_metrics context.tab_width line.text u))
 
   -- the carets
-  text-caret_glyphs : (end : ℕ) (style : Option LabelStyle) (c : Cell) → IsText (caret_glyphs look.chars end style c)
+  text-caret_glyphs : (end : ℕ) (style : Option LabelStyle) (c : Metrics) → IsText (caret_glyphs context.chars end style c)
   unfolding caret_glyphs
-  text-caret_glyphs end None c = cond_both (nat_lt c.place end) (blanks c.width) [] IsText (λ _. text-blanks c.width) (λ _. text-none)
-  text-caret_glyphs end (Some style) c = text-repeated c.width (caret_for look.chars (Some style)) (scalar-caret_for look.chars ok (Some style))
+  text-caret_glyphs end None c = cond_both (nat_lt c.byte_index end) (spaces c.width) [] IsText (λ _. text-spaces c.width) (λ _. text-none)
+  text-caret_glyphs end (Some style) c = text-repeated c.width (caret_for context.chars (Some style)) (scalar-caret_for context.chars ok (Some style))
 
-  text-carets : (labels : List Labelled) (cs : List Cell) → IsText (carets look labels cs)
+  text-carets : (labels : List LabelModel) (cs : List Metrics) → IsText (carets context labels cs)
   unfolding carets
   text-carets labels cs =
-      text-styled look.severity (style_under labels) (λ c. caret_glyphs look.chars (greatest_end labels) (style_under labels c) c) None cs
-      (each_all (λ c. IsText (caret_glyphs look.chars (greatest_end labels) (style_under labels c) c)) cs (λ c. text-caret_glyphs (greatest_end labels) (style_under labels c) c))
+      text-styled context.severity (style_under labels) (λ c. caret_glyphs context.chars (greatest_end labels) (style_under labels c) c) None cs
+      (each_all (λ c. IsText (caret_glyphs context.chars (greatest_end labels) (style_under labels c) c)) cs (λ c. text-caret_glyphs (greatest_end labels) (style_under labels c) c))
 
   -- the pointers
-  text-blanks_up_to : (place : ℕ) (c : Cell) (n : ℕ) → IsText (blanks_up_to place c n)
-  unfolding blanks_up_to
-  text-blanks_up_to place c n = cond_both (nat_le c.place place) (blanks n) [] IsText (λ _. text-blanks n) (λ _. text-none)
+  text-spaces_up_to : (byte_index : ℕ) (c : Metrics) (n : ℕ) → IsText (spaces_up_to byte_index c n)
+  unfolding spaces_up_to
+  text-spaces_up_to byte_index c n = cond_both (nat_le c.byte_index byte_index) (spaces n) [] IsText (λ _. text-spaces n) (λ _. text-none)
 
-  text-pointer_at : (labels hanging : List Labelled) (c : Cell) → IsText (pointer_at look labels hanging c)
+  text-pointer_at : (labels hanging : List LabelModel) (c : Metrics) → IsText (pointer_at context labels hanging c)
   unfolding pointer_at
   text-pointer_at labels hanging c =
-      let here : Stream = label_glyph look.severity (pointer_style hanging c) look.chars.pointer_left ++ blanks_up_to (greatest_start labels) c (c.width - 1) in
-      cond_both (list_any (starts_in c) hanging) here (blanks_up_to (greatest_start labels) c c.width) IsText
-      (λ _. text-both (label_glyph look.severity (pointer_style hanging c) look.chars.pointer_left) (blanks_up_to (greatest_start labels) c (c.width - 1))
-      (text-label_glyph look.severity (pointer_style hanging c) look.chars.pointer_left ok.pointer_left) (text-blanks_up_to (greatest_start labels) c (c.width - 1)))
-      (λ _. text-blanks_up_to (greatest_start labels) c c.width)
+      let here : Stream = label_glyph context.severity (pointer_style hanging c) context.chars.pointer_left ++ spaces_up_to (greatest_start labels) c (c.width - 1) in
+      cond_both (list_any (starts_in c) hanging) here (spaces_up_to (greatest_start labels) c c.width) IsText
+      (λ _. text-both (label_glyph context.severity (pointer_style hanging c) context.chars.pointer_left) (spaces_up_to (greatest_start labels) c (c.width - 1))
+      (text-label_glyph context.severity (pointer_style hanging c) context.chars.pointer_left ok.pointer_left) (text-spaces_up_to (greatest_start labels) c (c.width - 1)))
+      (λ _. text-spaces_up_to (greatest_start labels) c c.width)
 
-  text-pointers : (labels : List Labelled) (cs : List Cell) → IsText (pointers look labels cs)
+  text-pointers : (labels : List LabelModel) (cs : List Metrics) → IsText (pointers context labels cs)
   unfolding pointers
   text-pointers labels cs =
-      text-each (pointer_at look labels (hanging labels)) cs
-      (each_all (λ c. IsText (pointer_at look labels (hanging labels) c)) cs (text-pointer_at labels (hanging labels)))
+      text-each (pointer_at context labels (hanging labels)) cs
+      (each_all (λ c. IsText (pointer_at context labels (hanging labels) c)) cs (text-pointer_at labels (hanging labels)))
 
   -- the underlines
   text-underline_message : (message : Stream) → IsText message → IsText (underline_message message)
@@ -397,47 +397,47 @@ module _ (look : Look) (ok : AreCharacters look.chars) where
   text-underline_message [] t = text-none
   text-underline_message (p ∷ ps) t = text-both space (p ∷ ps) text-space t
 
-  text-underline : (style : LabelStyle) (cs : List Cell) (part : MultiLabel) → IsTextPart part → IsText (underline look.chars style cs part)
+  text-underline : (style : LabelStyle) (cs : List Metrics) (part : MultiLabel) → IsTextPart part → IsText (underline context.chars style cs part)
   unfolding underline
   text-underline style cs (Top start) t =
-      followed (text-repeated (width_of (cells_up_to start cs)) look.chars.multi_top ok.multi_top) (text-glyph (start_caret look.chars style) (scalar-start_caret look.chars ok style))
+      followed (text-repeated (width_of (metrics_up_to start cs)) context.chars.multi_top ok.multi_top) (text-glyph (start_caret context.chars style) (scalar-start_caret context.chars ok style))
   text-underline style cs Left t = text-none
   text-underline style cs (Bottom end message) t =
-      followed (followed (text-repeated (width_of (cells_before end cs)) look.chars.multi_bottom ok.multi_bottom) (text-glyph (end_caret look.chars style) (scalar-end_caret look.chars ok style))) (text-underline_message message t)
+      followed (followed (text-repeated (width_of (metrics_before end cs)) context.chars.multi_bottom ok.multi_bottom) (text-glyph (end_caret context.chars style) (scalar-end_caret context.chars ok style))) (text-underline_message message t)
 
-  text-opening : (line : Line) → IsText (opening look line)
-  unfolding opening
-  text-opening line = followed (followed (followed (text-gutter look.padding) (text-border look.chars ok)) (text-row_lanes (leading_of line) Below line.lanes)) text-space
+  text-row_start : (line : Line) → IsText (row_start context line)
+  unfolding row_start
+  text-row_start line = followed (followed (followed (text-gutter context.padding) (text-border context.chars ok)) (text-row_lanes (leading_of line) Below line.lanes)) text-space
 
   -- the stream of a row is a text where what the row is of is
-  pub text-row : (row : Row) → IsTextRow row → IsText (stream_of look row)
+  pub text-row : (row : Row) → IsTextRow row → IsText (stream_of context row)
   unfolding header_row start_row empty_row break_row source_row caret_row pointer_row hanging_row underline_row first_note_row later_note_row
-  text-row (HeaderRow place heading) h =
-      followed (followed (followed (followed (followed (followed (followed (text-leading_locus place h.0) (text-mark (Header look.severity))) (text-severity look.severity)) (text-bracketed heading.code h.1)) (text-mark HeaderMessage)) text-colon_space) (text-bytes heading.message h.2)) (text-mark Reset)
-  text-row (StartRow place) h =
-      followed (followed (followed (followed (followed (text-gutter look.padding) (text-mark SourceBorder)) (text-bytes (start_text look.chars.snippet_start) ok.snippet_start)) (text-mark Reset)) text-space) (text-locus place h)
+  text-row (HeaderRow at heading) h =
+      followed (followed (followed (followed (followed (followed (followed (text-leading_locus at h.0) (text-lane_mark (Header context.severity))) (text-severity context.severity)) (text-bracketed heading.code h.1)) (text-lane_mark HeaderMessage)) text-colon_space) (text-bytes heading.message h.2)) (text-lane_mark Reset)
+  text-row (StartRow at) h =
+      followed (followed (followed (followed (followed (text-gutter context.padding) (text-lane_mark SourceBorder)) (text-bytes (start_text context.chars.snippet_start) ok.snippet_start)) (text-lane_mark Reset)) text-space) (text-locus at h)
   text-row (EmptyRow lanes) h =
-      followed (followed (text-gutter look.padding) (text-border look.chars ok)) (text-row_lanes 0 Plain lanes)
+      followed (followed (text-gutter context.padding) (text-border context.chars ok)) (text-row_lanes 0 Plain lanes)
   text-row (BreakRow lanes) h =
-      followed (followed (text-gutter look.padding) (text-break_border look.chars ok)) (text-row_lanes 0 Plain lanes)
+      followed (followed (text-gutter context.padding) (text-break_border context.chars ok)) (text-row_lanes 0 Plain lanes)
   text-row (SourceRow line) h =
-      followed (followed (followed (followed (text-numbered_gutter look.padding line.number) (text-border look.chars ok)) (text-row_lanes (leading_of line) Source line.lanes)) text-space) (text-coloured line h)
+      followed (followed (followed (followed (text-numbered_gutter context.padding line.number) (text-border context.chars ok)) (text-row_lanes (leading_of line) Source line.lanes)) text-space) (text-colored line h)
   text-row (CaretRow line) h =
-      followed (followed (text-opening line) (text-carets line.labels (line_cells_to_end look line))) (text-trailing look.severity line.labels h)
+      followed (followed (text-row_start line) (text-carets line.labels (line_metrics_to_end context line))) (text-trailing context.severity line.labels h)
   text-row (PointerRow line) h =
-      followed (text-opening line) (text-pointers line.labels (line_cells look line))
+      followed (text-row_start line) (text-pointers line.labels (line_metrics context line))
   text-row (HangingRow line x) h =
-      followed (followed (text-opening line) (text-pointers line.labels (cells_before x.start (line_cells look line)))) (text-label_message look.severity x.style x.message h)
+      followed (followed (text-row_start line) (text-pointers line.labels (metrics_before x.start (line_metrics context line)))) (text-label_message context.severity x.style x.message h)
   text-row (UnderlineRow line m) h =
-      followed (followed (followed (followed (followed (text-gutter look.padding) (text-border look.chars ok)) (text-row_lanes (leading_of line) (Underline m) line.lanes)) (text-mark (LabelMark look.severity m.style))) (text-underline m.style (line_cells look line) m.part h)) (text-mark Reset)
+      followed (followed (followed (followed (followed (text-gutter context.padding) (text-border context.chars ok)) (text-row_lanes (leading_of line) (Underline m) line.lanes)) (text-lane_mark (LabelMark context.severity m.style))) (text-underline m.style (line_metrics context line) m.part h)) (text-lane_mark Reset)
   text-row (FirstNoteRow piece) h =
-      followed (followed (followed (followed (followed (text-gutter look.padding) (text-mark NoteBullet)) (text-glyph look.chars.note_bullet ok.note_bullet)) (text-mark Reset)) text-space) (text-bytes piece h)
+      followed (followed (followed (followed (followed (text-gutter context.padding) (text-lane_mark NoteBullet)) (text-glyph context.chars.note_bullet ok.note_bullet)) (text-lane_mark Reset)) text-space) (text-bytes piece h)
   text-row (LaterNoteRow piece) h =
-      followed (followed (followed (text-gutter look.padding) text-space) text-space) (text-bytes piece h)
+      followed (followed (followed (text-gutter context.padding) text-space) text-space) (text-bytes piece h)
   text-row BlankRow h = text-none
 
   -- and so are those of many rows
-  pub text-rows : (rows : List Row) → AllByRecursion IsTextRow rows → IsText (stream_of_rows look rows)
+  pub text-rows : (rows : List Row) → AllByRecursion IsTextRow rows → IsText (stream_of_rows context rows)
   text-rows rows h =
-      text-each (λ row. stream_of look row ++ newline) rows
-      (all-weaker IsTextRow (λ row. IsText (stream_of look row ++ newline)) (λ row r. text-both (stream_of look row) newline (text-row row r) text-newline) rows h)
+      text-each (λ row. stream_of context row ++ newline) rows
+      (all-weaker IsTextRow (λ row. IsText (stream_of context row ++ newline)) (λ row r. text-both (stream_of context row) newline (text-row row r) text-newline) rows h)

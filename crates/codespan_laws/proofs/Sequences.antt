@@ -20,52 +20,52 @@ module _ {A : Type 0} (P : A → Type 0) where
 
   -- what holds of all between lines holds of what is before one
   pub all-before : (between : ℕ → ℕ → List A) → ((c d : ℕ) → AllByRecursion P (between c d))
-      → (was : Option ℕ) (d : ℕ) → AllByRecursion P (before_line between was d)
+      → (previous : Option ℕ) (d : ℕ) → AllByRecursion P (before_line between previous d)
   all-before between gaps None d = tt
   all-before between gaps (Some c) d = gaps c d
 
   -- with the elements of the items it holds of all
   pub all-sequence : {X : Type 0} (line_of : X → ℕ) (between : ℕ → ℕ → List A) (own : X → List A)
       → ((c d : ℕ) → AllByRecursion P (between c d)) → ((x : X) → AllByRecursion P (own x))
-      → (was : Option ℕ) (xs : List X) → AllByRecursion P (in_sequence line_of between own was xs)
-  all-sequence line_of between own gaps each was [] = tt
-  all-sequence line_of between own gaps each was (x ∷ xs) =
-      all-append P (before_line between was (line_of x) ++ own x) (in_sequence line_of between own (Some (line_of x)) xs)
-      (all-append P (before_line between was (line_of x)) (own x) (all-before between gaps was (line_of x)) (each x))
+      → (previous : Option ℕ) (xs : List X) → AllByRecursion P (in_sequence line_of between own previous xs)
+  all-sequence line_of between own gaps each previous [] = tt
+  all-sequence line_of between own gaps each previous (x ∷ xs) =
+      all-append P (before_line between previous (line_of x) ++ own x) (in_sequence line_of between own (Some (line_of x)) xs)
+      (all-append P (before_line between previous (line_of x)) (own x) (all-before between gaps previous (line_of x)) (each x))
       (all-sequence line_of between own gaps each (Some (line_of x)) xs)
 
 -- the elements of a sequence are those of its items and of what is between them
-pub flat_map-sequence : {X A B : Type 0} (give : A → List B) (line_of : X → ℕ) (between : ℕ → ℕ → List A) (own : X → List A) (was : Option ℕ) (xs : List X)
-    → flat_map give (in_sequence line_of between own was xs)
-    ≡ in_sequence line_of (λ c d. flat_map give (between c d)) (λ x. flat_map give (own x)) was xs
-flat_map-sequence give line_of between own was [] = refl
-flat_map-sequence {X} {A} {B} give line_of between own was (x ∷ xs) =
-    flat_map-append give (before_line between was (line_of x) ++ own x) (in_sequence line_of between own (Some (line_of x)) xs)
+pub flat_map-sequence : {X A B : Type 0} (expand : A → List B) (line_of : X → ℕ) (between : ℕ → ℕ → List A) (own : X → List A) (previous : Option ℕ) (xs : List X)
+    → flat_map expand (in_sequence line_of between own previous xs)
+    ≡ in_sequence line_of (λ c d. flat_map expand (between c d)) (λ x. flat_map expand (own x)) previous xs
+flat_map-sequence expand line_of between own previous [] = refl
+flat_map-sequence {X} {A} {B} expand line_of between own previous (x ∷ xs) =
+    flat_map-append expand (before_line between previous (line_of x) ++ own x) (in_sequence line_of between own (Some (line_of x)) xs)
     ∙ ap₂ (λ a b. a ++ b)
-    (flat_map-append give (before_line between was (line_of x)) (own x) ∙ ap (λ (first : List B). first ++ flat_map give (own x)) (before was))
-    (flat_map-sequence give line_of between own (Some (line_of x)) xs)
+    (flat_map-append expand (before_line between previous (line_of x)) (own x) ∙ ap (λ (first : List B). first ++ flat_map expand (own x)) (before previous))
+    (flat_map-sequence expand line_of between own (Some (line_of x)) xs)
   where
-    before : (c : Option ℕ) → flat_map give (before_line between c (line_of x)) ≡ before_line (λ c d. flat_map give (between c d)) c (line_of x)
+    before : (c : Option ℕ) → flat_map expand (before_line between c (line_of x)) ≡ before_line (λ c d. flat_map expand (between c d)) c (line_of x)
     before None = refl
     before (Some c) = refl
 
 -- the elements of a gap are those of the filled line or of the break in it
-pub flat_map-gap : {A B : Type 0} (give : A → List B) (filled broken : ℕ → List A) (c d : ℕ)
-    → flat_map give (gap_between filled broken c d) ≡ gap_between (λ l. flat_map give (filled l)) (λ l. flat_map give (broken l)) c d
-flat_map-gap give filled broken c d = by_tests (d == c + 2) (is_broken c d)
+pub flat_map-gap : {A B : Type 0} (expand : A → List B) (filled broken : ℕ → List A) (c d : ℕ)
+    → flat_map expand (gap_between filled broken c d) ≡ gap_between (λ l. flat_map expand (filled l)) (λ l. flat_map expand (broken l)) c d
+flat_map-gap expand filled broken c d = by_tests (d == c + 2) (is_broken c d)
   where
-    by_tests : (a b : Bool) → flat_map give (cond a (filled (c + 1)) (cond b (broken d) []))
-        ≡ cond a (flat_map give (filled (c + 1))) (cond b (flat_map give (broken d)) [])
+    by_tests : (a b : Bool) → flat_map expand (cond a (filled (c + 1)) (cond b (broken d) []))
+        ≡ cond a (flat_map expand (filled (c + 1))) (cond b (flat_map expand (broken d)) [])
     by_tests true b = refl
     by_tests false true = refl
     by_tests false false = refl
 
 -- where breaks have no elements, the items have theirs one after the other
-pub sequence-flat : {X A : Type 0} (line_of : X → ℕ) (own : X → List A) (was : Option ℕ) (xs : List X)
-    → in_sequence line_of (break_between (λ _. [])) own was xs ≡ flat_map own xs
-sequence-flat line_of own was [] = refl
-sequence-flat {X} {A} line_of own was (x ∷ xs) =
-    ap (λ (first : List A). first ++ own x ++ in_sequence line_of (break_between (λ _. [])) own (Some (line_of x)) xs) (nothing was)
+pub sequence-flat : {X A : Type 0} (line_of : X → ℕ) (own : X → List A) (previous : Option ℕ) (xs : List X)
+    → in_sequence line_of (break_between (λ _. [])) own previous xs ≡ flat_map own xs
+sequence-flat line_of own previous [] = refl
+sequence-flat {X} {A} line_of own previous (x ∷ xs) =
+    ap (λ (first : List A). first ++ own x ++ in_sequence line_of (break_between (λ _. [])) own (Some (line_of x)) xs) (nothing previous)
     ∙ ap (λ (rest : List A). own x ++ rest) (sequence-flat line_of own (Some (line_of x)) xs)
   where
     by_test : (b : Bool) → cond {A = List A} b [] [] ≡ []

@@ -7,16 +7,16 @@ use Rattle.codespan_base.specs.declared.diagnostic.Severity.{Severity}
 use Rattle.codespan_base.specs.declared.diagnostic.LabelStyle.{LabelStyle}
 use Rattle.codespan_base.specs.declared.diagnostic.LabelStyle.TheVariants.{Primary, Secondary}
 use Rattle.codespan_base.specs.declared.term.config.chars.Chars.{Chars}
-use Rattle.codespan_base.specs.Streams.{Stream, StyleMark, Byte, one_mark, bytes, blanks, space, glyph, repeated, newline}
-use Rattle.codespan_base.specs.Labels.{Labelled, LaneMark, MultiLabel, Top, Left, Bottom}
-use Rattle.codespan_picture.specs.declared.cells.Cell.{Cell}
+use Rattle.codespan_base.specs.Streams.{Stream, StyleMark, Byte, style_mark, bytes, spaces, space, glyph, repeated, newline}
+use Rattle.codespan_base.specs.Labels.{LabelModel, LaneMark, MultiLabel, Top, Left, Bottom}
+use Rattle.codespan_picture.specs.declared.char_metrics.Metrics.{Metrics}
 use Rattle.codespan_picture.specs.Carets.{style_under, greatest_end}
 use Rattle.codespan_picture.specs.declared.lanes.Shape.{Shape}
 use Rattle.codespan_picture.specs.declared.lanes.Shape.TheVariants.{Gap, Bar, TopCorner, BottomCorner}
-use Rattle.codespan_picture.specs.Lanes.{mark_in, label_glyph, filling, lane_cells, LaneRow}
-use Rattle.codespan_picture.specs.Rows.{Locus, Look, Lanes, Line, Row, HeaderRow, StartRow, EmptyRow, BreakRow, SourceRow, CaretRow, PointerRow, HangingRow, UnderlineRow, FirstNoteRow, LaterNoteRow, BlankRow, trailing, hanging}
-use Rattle.codespan_picture.specs.RowParts.{locus, gutter, numbered_gutter, border, break_border, change, styled, label_message, lane_of, lanes_in, row_lanes, line_cells, source_style, source_glyph, coloured_text, caret_glyphs, carets, trailing_message, blanks_up_to, pointer_at, pointers, pointer_style, starts_in, greatest_start, underline_message, underline}
-use Rattle.codespan_picture.specs.RowStreams.{bracketed, leading_locus, header_row, start_row, empty_row, break_row, source_row, opening, caret_row, pointer_row, hanging_row, underline_row, first_note_row, later_note_row, stream_of, stream_of_rows}
+use Rattle.codespan_picture.specs.Lanes.{lane_mark_in, label_glyph, filling, lane_cells, LaneRow}
+use Rattle.codespan_picture.specs.Rows.{Locus, RowContext, Lanes, Line, Row, HeaderRow, StartRow, EmptyRow, BreakRow, SourceRow, CaretRow, PointerRow, HangingRow, UnderlineRow, FirstNoteRow, LaterNoteRow, BlankRow, trailing, hanging}
+use Rattle.codespan_picture.specs.RowParts.{locus, gutter, numbered_gutter, border, break_border, change, styled, label_message, lane_of, lanes_in, row_lanes, line_metrics, source_style, source_glyph, colored_text, caret_glyphs, carets, trailing_message, spaces_up_to, pointer_at, pointers, pointer_style, starts_in, greatest_start, underline_message, underline}
+use Rattle.codespan_picture.specs.RowStreams.{bracketed, leading_locus, header_row, start_row, empty_row, break_row, source_row, row_start, caret_row, pointer_row, hanging_row, underline_row, first_note_row, later_note_row, stream_of, stream_of_rows}
 use Rattle.codespan_laws.specs.MessageLaws.{is_slot}
 use Rattle.codespan_laws.specs.TrailingLaws.{weight_of}
 
@@ -41,13 +41,13 @@ unfolding slots bytes
 slots-bytes k [] = refl
 slots-bytes k (b ∷ bs) = omega (arith, sum_by-cons (λ x. cond (is_slot k x) 1 0) (Byte b) (bytes bs), slots-bytes k bs)
 
-pub slots-one_mark : (k : ℕ) (m : StyleMark) → slots k (one_mark m) ≡ 0
-unfolding slots one_mark
-slots-one_mark k m = refl
+pub slots-style_mark : (k : ℕ) (m : StyleMark) → slots k (style_mark m) ≡ 0
+unfolding slots style_mark
+slots-style_mark k m = refl
 
-pub slots-blanks : (k n : ℕ) → slots k (blanks n) ≡ 0
-unfolding blanks
-slots-blanks k n = slots-bytes k (replicate n 32)
+pub slots-spaces : (k n : ℕ) → slots k (spaces n) ≡ 0
+unfolding spaces
+slots-spaces k n = slots-bytes k (replicate n 32)
 
 pub slots-repeat : (k n : ℕ) (s : Stream) → slots k s ≡ 0 → slots k (repeat n s) ≡ 0
 slots-repeat k zero s h = slots-nil k
@@ -61,7 +61,7 @@ pub slots-flat_map : {X : Type 0} (k : ℕ) (f : X → Stream) (xs : List X) →
 slots-flat_map k f [] h = slots-nil k
 slots-flat_map k f (x ∷ xs) h = slots-append k (f x) (flat_map f xs) ∙ ap₂ (λ a b. a + b) (h x) (slots-flat_map k f xs h)
 
-ruleset words = (slots-append, slots-nil, slots-bytes, slots-one_mark, slots-blanks, slots-repeated)
+ruleset words = (slots-append, slots-nil, slots-bytes, slots-style_mark, slots-spaces, slots-repeated)
 
 pub slots-label_glyph : (k : ℕ) (severity : Severity) (style : LabelStyle) (c : ℕ) → slots k (label_glyph severity style c) ≡ 0
 unfolding label_glyph
@@ -69,7 +69,7 @@ slots-label_glyph k severity style c = simp words
 
 pub slots-filling : (k : ℕ) (severity : Severity) (chars : Chars) (m : Option LaneMark) (n : ℕ) → slots k (filling severity chars m n) ≡ 0
 unfolding filling
-slots-filling k severity chars None n = slots-blanks k n
+slots-filling k severity chars None n = slots-spaces k n
 slots-filling k severity chars (Some m) n = simp words
 
 pub slots-lane_cells : (k : ℕ) (severity : Severity) (chars : Chars) (m : Option LaneMark) (style : LabelStyle) (shape : Shape) → slots k (lane_cells severity chars m style shape) ≡ 0
@@ -79,19 +79,19 @@ slots-lane_cells k severity chars m style Bar = simp (words, slots-filling, slot
 slots-lane_cells k severity chars m style TopCorner = simp (words, slots-filling, slots-label_glyph)
 slots-lane_cells k severity chars m style BottomCorner = simp (words, slots-filling, slots-label_glyph)
 
-pub slots-lane_of : (k : ℕ) (look : Look) (crossing : Option LaneMark) (shape : MultiLabel → Shape) (m : Option LaneMark) → slots k (lane_of look crossing shape m) ≡ 0
+pub slots-lane_of : (k : ℕ) (context : RowContext) (crossing : Option LaneMark) (shape : MultiLabel → Shape) (m : Option LaneMark) → slots k (lane_of context crossing shape m) ≡ 0
 unfolding lane_of
-slots-lane_of k look crossing shape None = slots-lane_cells k look.severity look.chars crossing Primary Gap
-slots-lane_of k look crossing shape (Some m) = slots-lane_cells k look.severity look.chars crossing m.style (shape m.part)
+slots-lane_of k context crossing shape None = slots-lane_cells k context.severity context.chars crossing Primary Gap
+slots-lane_of k context crossing shape (Some m) = slots-lane_cells k context.severity context.chars crossing m.style (shape m.part)
 
-pub slots-lanes_in : (k : ℕ) (look : Look) (crossing : ℕ → Option LaneMark) (shape : ℕ → MultiLabel → Shape) (lanes : Lanes) → slots k (lanes_in look crossing shape lanes) ≡ 0
-slots-lanes_in k look crossing shape lanes =
-    slots-flat_map k (λ lane. lane_of look (crossing lane) (shape lane) (mark_in lanes.marks lane)) (range_with_len 0 lanes.count)
-    (λ lane. slots-lane_of k look (crossing lane) (shape lane) (mark_in lanes.marks lane))
+pub slots-lanes_in : (k : ℕ) (context : RowContext) (crossing : ℕ → Option LaneMark) (shape : ℕ → MultiLabel → Shape) (lanes : Lanes) → slots k (lanes_in context crossing shape lanes) ≡ 0
+slots-lanes_in k context crossing shape lanes =
+    slots-flat_map k (λ lane. lane_of context (crossing lane) (shape lane) (lane_mark_in lanes.marks lane)) (range_with_len 0 lanes.count)
+    (λ lane. slots-lane_of k context (crossing lane) (shape lane) (lane_mark_in lanes.marks lane))
 
-pub slots-row_lanes : (k : ℕ) (look : Look) (leading : ℕ) (row : LaneRow) (lanes : Lanes) → slots k (row_lanes look leading row lanes) ≡ 0
+pub slots-row_lanes : (k : ℕ) (context : RowContext) (leading : ℕ) (row : LaneRow) (lanes : Lanes) → slots k (row_lanes context leading row lanes) ≡ 0
 unfolding row_lanes
-slots-row_lanes k look leading row lanes = slots-lanes_in k look _ _ lanes
+slots-row_lanes k context leading row lanes = slots-lanes_in k context _ _ lanes
 
 pub slots-locus : (k : ℕ) (p : Locus) → slots k (locus p) ≡ 0
 unfolding locus
@@ -99,7 +99,7 @@ slots-locus k p = simp words
 
 pub slots-gutter : (k n : ℕ) → slots k (gutter n) ≡ 0
 unfolding gutter
-slots-gutter k n = slots-blanks k (n + 1)
+slots-gutter k n = slots-spaces k (n + 1)
 
 pub slots-numbered_gutter : (k p n : ℕ) → slots k (numbered_gutter p n) ≡ 0
 unfolding numbered_gutter
@@ -116,75 +116,75 @@ slots-break_border k chars = simp words
 pub slots-change : (k : ℕ) (severity : Severity) (a b : Option LabelStyle) → slots k (change severity a b) ≡ 0
 unfolding change
 slots-change k severity None None = slots-nil k
-slots-change k severity None (Some style) = slots-one_mark k _
-slots-change k severity (Some style) None = slots-one_mark k _
+slots-change k severity None (Some style) = slots-style_mark k _
+slots-change k severity (Some style) None = slots-style_mark k _
 slots-change k severity (Some Primary) (Some Primary) = slots-nil k
 slots-change k severity (Some Secondary) (Some Secondary) = slots-nil k
-slots-change k severity (Some Primary) (Some Secondary) = slots-one_mark k _
-slots-change k severity (Some Secondary) (Some Primary) = slots-one_mark k _
+slots-change k severity (Some Primary) (Some Secondary) = slots-style_mark k _
+slots-change k severity (Some Secondary) (Some Primary) = slots-style_mark k _
 
-pub slots-styled : (k : ℕ) (severity : Severity) (style : Cell → Option LabelStyle) (shown : Cell → Stream) → ((c : Cell) → slots k (shown c) ≡ 0)
-    → (was : Option LabelStyle) (cs : List Cell) → slots k (styled severity style shown was cs) ≡ 0
-slots-styled k severity style shown h was [] = slots-change k severity was None
-slots-styled k severity style shown h was (c ∷ cs) =
+pub slots-styled : (k : ℕ) (severity : Severity) (style : Metrics → Option LabelStyle) (shown : Metrics → Stream) → ((c : Metrics) → slots k (shown c) ≡ 0)
+    → (previous : Option LabelStyle) (cs : List Metrics) → slots k (styled severity style shown previous cs) ≡ 0
+slots-styled k severity style shown h previous [] = slots-change k severity previous None
+slots-styled k severity style shown h previous (c ∷ cs) =
     let rest = slots-styled k severity style shown h (style c) cs in
     simp (slots-append, slots-change, h, rest)
 
-pub slots-source_glyph : (k : ℕ) (c : Cell) → slots k (source_glyph c) ≡ 0
+pub slots-source_glyph : (k : ℕ) (c : Metrics) → slots k (source_glyph c) ≡ 0
 unfolding source_glyph
 slots-source_glyph k c = by_test (c.code == 9)
   where
-    by_test : (b : Bool) → slots k (if b then blanks c.width else glyph c.code) ≡ 0
-    by_test true = slots-blanks k c.width
+    by_test : (b : Bool) → slots k (if b then spaces c.width else glyph c.code) ≡ 0
+    by_test true = slots-spaces k c.width
     by_test false = slots-bytes k _
 
-pub slots-coloured_text : (k : ℕ) (look : Look) (line : Line) → slots k (coloured_text look line) ≡ 0
-unfolding coloured_text
-slots-coloured_text k look line = slots-styled k look.severity (source_style line) source_glyph (slots-source_glyph k) None (line_cells look line)
+pub slots-colored_text : (k : ℕ) (context : RowContext) (line : Line) → slots k (colored_text context line) ≡ 0
+unfolding colored_text
+slots-colored_text k context line = slots-styled k context.severity (source_style line) source_glyph (slots-source_glyph k) None (line_metrics context line)
 
-pub slots-caret_glyphs : (k : ℕ) (chars : Chars) (end : ℕ) (style : Option LabelStyle) (c : Cell) → slots k (caret_glyphs chars end style c) ≡ 0
+pub slots-caret_glyphs : (k : ℕ) (chars : Chars) (end : ℕ) (style : Option LabelStyle) (c : Metrics) → slots k (caret_glyphs chars end style c) ≡ 0
 unfolding caret_glyphs
-slots-caret_glyphs k chars end None c = by_test (nat_lt c.place end)
+slots-caret_glyphs k chars end None c = by_test (nat_lt c.byte_index end)
   where
-    by_test : (b : Bool) → slots k (if b then blanks c.width else []) ≡ 0
-    by_test true = slots-blanks k c.width
+    by_test : (b : Bool) → slots k (if b then spaces c.width else []) ≡ 0
+    by_test true = slots-spaces k c.width
     by_test false = slots-nil k
 slots-caret_glyphs k chars end (Some style) c = slots-repeated k c.width _
 
-pub slots-carets : (k : ℕ) (look : Look) (labels : List Labelled) (cs : List Cell) → slots k (carets look labels cs) ≡ 0
+pub slots-carets : (k : ℕ) (context : RowContext) (labels : List LabelModel) (cs : List Metrics) → slots k (carets context labels cs) ≡ 0
 unfolding carets
-slots-carets k look labels cs =
-    slots-styled k look.severity (style_under labels) (λ c. caret_glyphs look.chars (greatest_end labels) (style_under labels c) c)
-    (λ c. slots-caret_glyphs k look.chars (greatest_end labels) (style_under labels c) c) None cs
+slots-carets k context labels cs =
+    slots-styled k context.severity (style_under labels) (λ c. caret_glyphs context.chars (greatest_end labels) (style_under labels c) c)
+    (λ c. slots-caret_glyphs k context.chars (greatest_end labels) (style_under labels c) c) None cs
 
-pub slots-blanks_up_to : (k place : ℕ) (c : Cell) (n : ℕ) → slots k (blanks_up_to place c n) ≡ 0
-unfolding blanks_up_to
-slots-blanks_up_to k place c n = by_test (nat_le c.place place)
+pub slots-spaces_up_to : (k byte_index : ℕ) (c : Metrics) (n : ℕ) → slots k (spaces_up_to byte_index c n) ≡ 0
+unfolding spaces_up_to
+slots-spaces_up_to k byte_index c n = by_test (nat_le c.byte_index byte_index)
   where
-    by_test : (b : Bool) → slots k (if b then blanks n else []) ≡ 0
-    by_test true = slots-blanks k n
+    by_test : (b : Bool) → slots k (if b then spaces n else []) ≡ 0
+    by_test true = slots-spaces k n
     by_test false = slots-nil k
 
-pub slots-pointer_at : (k : ℕ) (look : Look) (labels hanging : List Labelled) (c : Cell) → slots k (pointer_at look labels hanging c) ≡ 0
+pub slots-pointer_at : (k : ℕ) (context : RowContext) (labels hanging : List LabelModel) (c : Metrics) → slots k (pointer_at context labels hanging c) ≡ 0
 unfolding pointer_at
-slots-pointer_at k look labels hanging c = by_test (list_any (starts_in c) hanging)
+slots-pointer_at k context labels hanging c = by_test (list_any (starts_in c) hanging)
   where
     by_test : (b : Bool)
-        → slots k (if b then label_glyph look.severity (pointer_style hanging c) look.chars.pointer_left ++ blanks_up_to (greatest_start labels) c (c.width - 1) else blanks_up_to (greatest_start labels) c c.width) ≡ 0
-    by_test true = simp (slots-append, slots-label_glyph, slots-blanks_up_to)
-    by_test false = slots-blanks_up_to k (greatest_start labels) c c.width
+        → slots k (if b then label_glyph context.severity (pointer_style hanging c) context.chars.pointer_left ++ spaces_up_to (greatest_start labels) c (c.width - 1) else spaces_up_to (greatest_start labels) c c.width) ≡ 0
+    by_test true = simp (slots-append, slots-label_glyph, slots-spaces_up_to)
+    by_test false = slots-spaces_up_to k (greatest_start labels) c c.width
 
-pub slots-pointers : (k : ℕ) (look : Look) (labels : List Labelled) (cs : List Cell) → slots k (pointers look labels cs) ≡ 0
+pub slots-pointers : (k : ℕ) (context : RowContext) (labels : List LabelModel) (cs : List Metrics) → slots k (pointers context labels cs) ≡ 0
 unfolding pointers
-slots-pointers k look labels cs = slots-flat_map k (pointer_at look labels (hanging labels)) cs (slots-pointer_at k look labels (hanging labels))
+slots-pointers k context labels cs = slots-flat_map k (pointer_at context labels (hanging labels)) cs (slots-pointer_at k context labels (hanging labels))
 
-ruleset parts = (words, slots-row_lanes, slots-locus, slots-gutter, slots-numbered_gutter, slots-border, slots-break_border, slots-coloured_text, slots-carets, slots-pointers)
+ruleset parts = (words, slots-row_lanes, slots-locus, slots-gutter, slots-numbered_gutter, slots-border, slots-break_border, slots-colored_text, slots-carets, slots-pointers)
 
 pub slots-label_message : (k : ℕ) (severity : Severity) (style : LabelStyle) (message : Stream) → slots k (label_message severity style message) ≡ slots k message
 unfolding label_message
 slots-label_message k severity style message = simp words (omega arith)
 
-pub slots-trailing_message : (k : ℕ) (severity : Severity) (x : Option Labelled) → slots k (trailing_message severity x) ≡ weight_of (λ y. slots k y.message) x
+pub slots-trailing_message : (k : ℕ) (severity : Severity) (x : Option LabelModel) → slots k (trailing_message severity x) ≡ weight_of (λ y. slots k y.message) x
 unfolding trailing_message
 slots-trailing_message k severity None = slots-nil k
 slots-trailing_message k severity (Some x) = simp (words, slots-label_message) (omega arith)
@@ -200,7 +200,7 @@ part_slots k (Top start) = 0
 part_slots k Left = 0
 part_slots k (Bottom end message) = slots k message
 
-pub slots-underline : (k : ℕ) (chars : Chars) (style : LabelStyle) (cs : List Cell) (part : MultiLabel) → slots k (underline chars style cs part) ≡ part_slots k part
+pub slots-underline : (k : ℕ) (chars : Chars) (style : LabelStyle) (cs : List Metrics) (part : MultiLabel) → slots k (underline chars style cs part) ≡ part_slots k part
 unfolding underline
 slots-underline k chars style cs (Top start) = simp words
 slots-underline k chars style cs Left = slots-nil k
@@ -212,14 +212,14 @@ slots-bracketed k None = slots-nil k
 slots-bracketed k (Some []) = slots-nil k
 slots-bracketed k (Some (c ∷ cs)) = simp words
 
-pub slots-leading_locus : (k : ℕ) (place : Option Locus) → slots k (leading_locus place) ≡ 0
+pub slots-leading_locus : (k : ℕ) (at : Option Locus) → slots k (leading_locus at) ≡ 0
 unfolding leading_locus
 slots-leading_locus k None = slots-nil k
 slots-leading_locus k (Some p) = simp parts
 
-pub slots-opening : (k : ℕ) (look : Look) (line : Line) → slots k (opening look line) ≡ 0
-unfolding opening
-slots-opening k look line = simp parts
+pub slots-row_start : (k : ℕ) (context : RowContext) (line : Line) → slots k (row_start context line) ≡ 0
+unfolding row_start
+slots-row_start k context line = simp parts
 
 -- what a row weighs
 abbrev pub row_slots : ℕ → Row → ℕ
@@ -228,23 +228,23 @@ row_slots k (HangingRow line x) = slots k x.message
 row_slots k (UnderlineRow line m) = part_slots k m.part
 row_slots k _ = 0
 
-pub slots-stream_of : (k : ℕ) (look : Look) (row : Row) → slots k (stream_of look row) ≡ row_slots k row
+pub slots-stream_of : (k : ℕ) (context : RowContext) (row : Row) → slots k (stream_of context row) ≡ row_slots k row
 unfolding header_row start_row empty_row break_row source_row caret_row pointer_row hanging_row underline_row first_note_row later_note_row
-slots-stream_of k look (HeaderRow place heading) = simp (parts, slots-bracketed, slots-leading_locus)
-slots-stream_of k look (StartRow place) = simp parts
-slots-stream_of k look (EmptyRow lanes) = simp parts
-slots-stream_of k look (BreakRow lanes) = simp parts
-slots-stream_of k look (SourceRow line) = simp parts
-slots-stream_of k look (CaretRow line) = simp (parts, slots-opening, slots-trailing_message) (omega arith)
-slots-stream_of k look (PointerRow line) = simp (parts, slots-opening)
-slots-stream_of k look (HangingRow line x) = simp (parts, slots-opening, slots-label_message) (omega arith)
-slots-stream_of k look (UnderlineRow line m) = simp (parts, slots-underline) (omega arith)
-slots-stream_of k look (FirstNoteRow piece) = simp parts
-slots-stream_of k look (LaterNoteRow piece) = simp parts
-slots-stream_of k look BlankRow = slots-nil k
+slots-stream_of k context (HeaderRow at heading) = simp (parts, slots-bracketed, slots-leading_locus)
+slots-stream_of k context (StartRow at) = simp parts
+slots-stream_of k context (EmptyRow lanes) = simp parts
+slots-stream_of k context (BreakRow lanes) = simp parts
+slots-stream_of k context (SourceRow line) = simp parts
+slots-stream_of k context (CaretRow line) = simp (parts, slots-row_start, slots-trailing_message) (omega arith)
+slots-stream_of k context (PointerRow line) = simp (parts, slots-row_start)
+slots-stream_of k context (HangingRow line x) = simp (parts, slots-row_start, slots-label_message) (omega arith)
+slots-stream_of k context (UnderlineRow line m) = simp (parts, slots-underline) (omega arith)
+slots-stream_of k context (FirstNoteRow piece) = simp parts
+slots-stream_of k context (LaterNoteRow piece) = simp parts
+slots-stream_of k context BlankRow = slots-nil k
 
-pub slots-rows : (k : ℕ) (look : Look) (rows : List Row) → slots k (stream_of_rows look rows) ≡ sum_by (row_slots k) rows
-slots-rows k look [] = slots-nil k
-slots-rows k look (row ∷ rows) =
-    slots-append k (stream_of look row ++ newline) (stream_of_rows look rows)
-    ∙ omega (arith, slots-append k (stream_of look row) newline, slots-bytes k (10 ∷ []), slots-stream_of k look row, slots-rows k look rows, sum_by-cons (row_slots k) row rows)
+pub slots-rows : (k : ℕ) (context : RowContext) (rows : List Row) → slots k (stream_of_rows context rows) ≡ sum_by (row_slots k) rows
+slots-rows k context [] = slots-nil k
+slots-rows k context (row ∷ rows) =
+    slots-append k (stream_of context row ++ newline) (stream_of_rows context rows)
+    ∙ omega (arith, slots-append k (stream_of context row) newline, slots-bytes k (10 ∷ []), slots-stream_of k context row, slots-rows k context rows, sum_by-cons (row_slots k) row rows)

@@ -10,12 +10,12 @@ use Rattle.std.specs.Cmp.{IsEquivalence}
 use Rattle.codespan_base.specs.declared.term.config.Config.{Config}
 use Rattle.codespan_base.specs.FileModel.{FileModel, line_count, line_of, line_start}
 use Rattle.codespan_base.specs.Streams.{Stream, Slot}
-use Rattle.codespan_base.specs.Labels.{Labelled, has_message, is_blank, LaneMark, MultiLabel, Top, Left, Bottom, first_line, last_line, is_single, drawn_label, first_seen, multi_labels, stands_before, put_in, sorted, single_labels, part_on, mark_of}
-use Rattle.codespan_picture.specs.Cells.{leading_whitespace}
+use Rattle.codespan_base.specs.Labels.{LabelModel, has_message, is_empty_stream, LaneMark, MultiLabel, Top, Left, Bottom, first_line, last_line, is_single, drawn_label, first_seen, multi_labels, range_precedes, insert_sorted, sorted, single_labels, part_on, lane_mark_of}
+use Rattle.codespan_picture.specs.CharMetrics.{leading_whitespace}
 use Rattle.codespan_picture.specs.Lines.{shows, is_drawn, drawn_lines, is_broken}
-use Rattle.codespan_picture.specs.Rows.{Heading, Locus, Look, Line, HeaderRow, StartRow, EmptyRow, BreakRow, SourceRow, CaretRow, PointerRow, HangingRow, UnderlineRow, FirstNoteRow, LaterNoteRow, BlankRow, trailing, hanging, has_underline, caret_rows, hanging_rows, underline_rows, rows_of}
+use Rattle.codespan_picture.specs.Rows.{Heading, Locus, RowContext, Line, HeaderRow, StartRow, EmptyRow, BreakRow, SourceRow, CaretRow, PointerRow, HangingRow, UnderlineRow, FirstNoteRow, LaterNoteRow, BlankRow, trailing, hanging, has_underline, caret_rows, hanging_rows, underline_rows, rows_of}
 use Rattle.codespan_picture.specs.RowStreams.{stream_of_rows}
-use Rattle.codespan_picture.specs.Snippets.{LabelledFile, InFile, labelled_file, labelled_files, bare_lanes, line_at, rows_after, snippet, has_any, row_after, snippets, piece_rows, note_rows, rich_rows}
+use Rattle.codespan_picture.specs.Snippets.{LabeledFileModel, InFile, labeled_file_model, labeled_file_models, empty_lanes, line_at, rows_after, snippet, has_any, row_after, snippets, piece_rows, note_rows, rich_rows}
 use Rattle.codespan_laws.proofs.FillLemmas.{breaks_before}
 use Rattle.codespan_laws.specs.MessageLaws.{is_slot, slotted, all_slotted}
 use Rattle.codespan_laws.specs.TrailingLaws.{weight_of}
@@ -81,24 +81,24 @@ sum-swap f xs (y ∷ ys) =
 
 -- ---- the rows of a line
 
-abbrev pub label_slots : ℕ → Labelled → ℕ
+abbrev pub label_slots : ℕ → LabelModel → ℕ
 label_slots k x = slots k x.message
 
-abbrev pub mark_slots : ℕ → LaneMark → ℕ
-mark_slots k m = part_slots k m.part
+abbrev pub lane_mark_slots : ℕ → LaneMark → ℕ
+lane_mark_slots k m = part_slots k m.part
 
-no_message : (k : ℕ) (x : Labelled) → has_message x ≡ false → label_slots k x ≡ 0
+no_message : (k : ℕ) (x : LabelModel) → has_message x ≡ false → label_slots k x ≡ 0
 no_message k x h = by_stream x.message h
   where
-    by_stream : (s : Stream) → not (is_blank s) ≡ false → slots k s ≡ 0
+    by_stream : (s : Stream) → not (is_empty_stream s) ≡ false → slots k s ≡ 0
     by_stream [] h = slots-nil k
     by_stream (p ∷ ps) h = cc
 
-caret_sum : (k : ℕ) (line : Line) (labels : List Labelled) → line.labels ≡ labels → sum_by (row_slots k) (caret_rows line labels) ≡ weight_of (label_slots k) (trailing labels)
+caret_sum : (k : ℕ) (line : Line) (labels : List LabelModel) → line.labels ≡ labels → sum_by (row_slots k) (caret_rows line labels) ≡ weight_of (label_slots k) (trailing labels)
 caret_sum k line [] h = refl
 caret_sum k line (x ∷ xs) h = let e = ap {B = ℕ} (λ ls. weight_of (label_slots k) (trailing ls)) h in omega (arith, e, sum_by-cons (row_slots k) (CaretRow line) [])
 
-hanging_sum : (k : ℕ) (line : Line) (labels : List Labelled) → sum_by (row_slots k) (hanging_rows line labels) ≡ sum_by (label_slots k) labels
+hanging_sum : (k : ℕ) (line : Line) (labels : List LabelModel) → sum_by (row_slots k) (hanging_rows line labels) ≡ sum_by (label_slots k) labels
 hanging_sum k line [] = refl
 hanging_sum k line (x ∷ xs) =
     omega (
@@ -113,12 +113,12 @@ no_underline k leading (Top start) h = refl
 no_underline k leading Left h = refl
 no_underline k leading (Bottom end message) h = cc
 
-underline_sum : (k : ℕ) (line : Line) → sum_by (row_slots k) (underline_rows line) ≡ sum_by (mark_slots k) line.lanes.marks
+underline_sum : (k : ℕ) (line : Line) → sum_by (row_slots k) (underline_rows line) ≡ sum_by (lane_mark_slots k) line.lanes.marks
 underline_sum k line =
     sum-map (row_slots k) (UnderlineRow line) (filter (λ (m : LaneMark). has_underline (leading_whitespace line.text) m.part) line.lanes.marks)
-    ∙ sum-filter_free (mark_slots k) (λ (m : LaneMark). has_underline (leading_whitespace line.text) m.part) (λ m. no_underline k (leading_whitespace line.text) m.part) line.lanes.marks
+    ∙ sum-filter_free (lane_mark_slots k) (λ (m : LaneMark). has_underline (leading_whitespace line.text) m.part) (λ m. no_underline k (leading_whitespace line.text) m.part) line.lanes.marks
 
-line_sum : (k : ℕ) (line : Line) → sum_by (row_slots k) (rows_of line) ≡ sum_by (label_slots k) line.labels + sum_by (mark_slots k) line.lanes.marks
+line_sum : (k : ℕ) (line : Line) → sum_by (row_slots k) (rows_of line) ≡ sum_by (label_slots k) line.labels + sum_by (lane_mark_slots k) line.lanes.marks
 line_sum k line =
     omega (
       arith,
@@ -133,22 +133,22 @@ line_sum k line =
 
 -- ---- the labels of a line
 
-pub sum-put_in : (g : Labelled → ℕ) (x : Labelled) (ys : List Labelled) → sum_by g (put_in x ys) ≡ g x + sum_by g ys
-sum-put_in g x [] = omega (arith, sum_by-cons g x [])
-sum-put_in g x (y ∷ ys) = by_test (sum-put_in g x ys) (stands_before y x)
+pub sum-insert_sorted : (g : LabelModel → ℕ) (x : LabelModel) (ys : List LabelModel) → sum_by g (insert_sorted x ys) ≡ g x + sum_by g ys
+sum-insert_sorted g x [] = omega (arith, sum_by-cons g x [])
+sum-insert_sorted g x (y ∷ ys) = by_test (sum-insert_sorted g x ys) (range_precedes y x)
   where
-    by_test : sum_by g (put_in x ys) ≡ g x + sum_by g ys → (b : Bool) → sum_by g (if b then y ∷ put_in x ys else x ∷ y ∷ ys) ≡ g x + sum_by g (y ∷ ys)
-    by_test rest true = omega (arith, rest, sum_by-cons g y (put_in x ys), sum_by-cons g y ys)
+    by_test : sum_by g (insert_sorted x ys) ≡ g x + sum_by g ys → (b : Bool) → sum_by g (if b then y ∷ insert_sorted x ys else x ∷ y ∷ ys) ≡ g x + sum_by g (y ∷ ys)
+    by_test rest true = omega (arith, rest, sum_by-cons g y (insert_sorted x ys), sum_by-cons g y ys)
     by_test rest false = sum_by-cons g x (y ∷ ys)
 
-pub sum-sorted : (g : Labelled → ℕ) (xs : List Labelled) → sum_by g (sorted xs) ≡ sum_by g xs
+pub sum-sorted : (g : LabelModel → ℕ) (xs : List LabelModel) → sum_by g (sorted xs) ≡ sum_by g xs
 sum-sorted g [] = refl
-sum-sorted g (x ∷ xs) = omega (arith, sum-put_in g x (sorted xs), sum-sorted g xs, sum_by-cons g x xs)
+sum-sorted g (x ∷ xs) = omega (arith, sum-insert_sorted g x (sorted xs), sum-sorted g xs, sum_by-cons g x xs)
 
-abbrev pub is_here : FileModel → ℕ → Labelled → Bool
+abbrev pub is_here : FileModel → ℕ → LabelModel → Bool
 is_here f l x = is_single f x && (first_line f x == l)
 
-single_sum : (k : ℕ) (f : FileModel) (xs : List Labelled) (l : ℕ) → sum_by (label_slots k) (single_labels f xs l) ≡ sum_by (λ x. cond (is_here f l x) (label_slots k x) 0) xs
+single_sum : (k : ℕ) (f : FileModel) (xs : List LabelModel) (l : ℕ) → sum_by (label_slots k) (single_labels f xs l) ≡ sum_by (λ x. cond (is_here f l x) (label_slots k x) 0) xs
 single_sum k f xs l =
     sum-sorted (label_slots k) (reverse (map (drawn_label f) (filter (is_here f l) xs)))
     ∙ sum-reverse (label_slots k) (map (drawn_label f) (filter (is_here f l) xs))
@@ -159,25 +159,25 @@ abbrev pub some_part_slots : ℕ → Option MultiLabel → ℕ
 some_part_slots k None = 0
 some_part_slots k (Some part) = part_slots k part
 
-cons_mark : (k n : ℕ) (x : Labelled) (part : Option MultiLabel) (ms : List LaneMark)
-    → sum_by (mark_slots k) (cons_option (mark_of n x part) ms) ≡ some_part_slots k part + sum_by (mark_slots k) ms
-cons_mark k n x None ms = omega arith
-cons_mark k n x (Some part) ms = sum_by-cons (mark_slots k) (record { lane = n; style = x.style; part = part }) ms
+cons_lane_mark : (k n : ℕ) (x : LabelModel) (part : Option MultiLabel) (ms : List LaneMark)
+    → sum_by (lane_mark_slots k) (cons_option (lane_mark_of n x part) ms) ≡ some_part_slots k part + sum_by (lane_mark_slots k) ms
+cons_lane_mark k n x None ms = omega arith
+cons_lane_mark k n x (Some part) ms = sum_by-cons (lane_mark_slots k) (record { lane = n; style = x.style; part = part }) ms
 
-mark_sum : (k : ℕ) (f : FileModel) (l n : ℕ) (xs : List Labelled)
-    → sum_by (mark_slots k) (filter_map (λ (entry : ℕ × Labelled). mark_of entry.0 entry.1 (part_on f l entry.1)) (enumerate_from n xs))
+lane_mark_sum : (k : ℕ) (f : FileModel) (l n : ℕ) (xs : List LabelModel)
+    → sum_by (lane_mark_slots k) (filter_map (λ (entry : ℕ × LabelModel). lane_mark_of entry.0 entry.1 (part_on f l entry.1)) (enumerate_from n xs))
     ≡ sum_by (λ x. some_part_slots k (part_on f l x)) xs
-mark_sum k f l n [] = refl
-mark_sum k f l n (x ∷ xs) =
+lane_mark_sum k f l n [] = refl
+lane_mark_sum k f l n (x ∷ xs) =
     omega (
       arith,
-      cons_mark k n x (part_on f l x) (filter_map (λ (entry : ℕ × Labelled). mark_of entry.0 entry.1 (part_on f l entry.1)) (enumerate_from (n + 1) xs)),
-      mark_sum k f l (n + 1) xs,
+      cons_lane_mark k n x (part_on f l x) (filter_map (λ (entry : ℕ × LabelModel). lane_mark_of entry.0 entry.1 (part_on f l entry.1)) (enumerate_from (n + 1) xs)),
+      lane_mark_sum k f l (n + 1) xs,
       sum_by-cons (λ x. some_part_slots k (part_on f l x)) x xs,
     )
 
 -- a label weighs its message on its last line
-abbrev pub on_line : ℕ → FileModel → ℕ → Labelled → ℕ
+abbrev pub on_line : ℕ → FileModel → ℕ → LabelModel → ℕ
 on_line k f l x = cond (last_line f x == l) (label_slots k x) 0
 
 last_is : (k : ℕ) (a b l top end : ℕ) (message : Stream) (between : Bool) (p q r : Bool) → (a == b) ≡ p → (a == l) ≡ q → (b == l) ≡ r
@@ -194,23 +194,23 @@ last_is k a b l top end message between false false true h i j = omega arith
 last_is k a b l top end message true false false false h i j = refl
 last_is k a b l top end message false false false false h i j = refl
 
-here_or_mark : (k : ℕ) (f : FileModel) (l : ℕ) (x : Labelled)
+here_or_lane_mark : (k : ℕ) (f : FileModel) (l : ℕ) (x : LabelModel)
     → cond (is_here f l x) (label_slots k x) 0 + cond (not (is_single f x)) (some_part_slots k (part_on f l x)) 0 ≡ on_line k f l x
-here_or_mark k f l x =
+here_or_lane_mark k f l x =
     last_is k (first_line f x) (last_line f x) l (x.start - line_start f l) (x.end - line_start f l) x.message (nat_lt (first_line f x) l && nat_lt l (last_line f x))
     (first_line f x == last_line f x) (first_line f x == l) (last_line f x == l) refl refl refl
 
-labels_on_line : (k : ℕ) (s : LabelledFile) (l : ℕ) → sum_by (row_slots k) (rows_of (line_at s l)) ≡ sum_by (on_line k s.file l) s.labels
+labels_on_line : (k : ℕ) (s : LabeledFileModel) (l : ℕ) → sum_by (row_slots k) (rows_of (line_at s l)) ≡ sum_by (on_line k s.file l) s.labels
 labels_on_line k s l =
     omega (
       arith,
       line_sum k (line_at s l),
       single_sum k s.file s.labels l,
-      mark_sum k s.file l 0 (multi_labels s.file s.labels),
+      lane_mark_sum k s.file l 0 (multi_labels s.file s.labels),
       sum-filter (λ x. some_part_slots k (part_on s.file l x)) (λ x. not (is_single s.file x)) s.labels,
       sum-add (λ x. cond (is_here s.file l x) (label_slots k x) 0) (λ x. cond (not (is_single s.file x)) (some_part_slots k (part_on s.file l x)) 0) s.labels,
       sum-ext (λ x. cond (is_here s.file l x) (label_slots k x) 0 + cond (not (is_single s.file x)) (some_part_slots k (part_on s.file l x)) 0) (on_line k s.file l)
-          (here_or_mark k s.file l) s.labels,
+          (here_or_lane_mark k s.file l) s.labels,
     )
 
 -- ---- the lines of a file
@@ -248,7 +248,7 @@ once_among v last n p here below =
         by_test true is = let same : last ≡ l = grind (arith, nat_tests) in let e : p last ≡ p l = ap p same in cc
         by_test false is = refl
 
-last_below : (f : FileModel) (x : Labelled) → 0 < line_count f → last_line f x < line_count f
+last_below : (f : FileModel) (x : LabelModel) → 0 < line_count f → last_line f x < line_count f
 unfolding line_of
 last_below f x some = omega (arith, count_by-le-length (λ s. nat_le s x.end) f.starts)
 
@@ -260,7 +260,7 @@ or_right : (a b : Bool) → b ≡ true → (a || b) ≡ true
 or_right true b h = refl
 or_right false b h = h
 
-all_drawn : (k : ℕ) (config : Config) (f : FileModel) → 0 < line_count f → (p : ℕ → Bool) (xs : List Labelled)
+all_drawn : (k : ℕ) (config : Config) (f : FileModel) → 0 < line_count f → (p : ℕ → Bool) (xs : List LabelModel)
     → ((l : ℕ) → l < line_count f → list_any (λ x. shows config (first_line f x) (last_line f x) l) xs ≡ true → p l ≡ true)
     → sum_by (λ x. sum_by (λ l. on_line k f l x) (filter p (range_with_len 0 (line_count f)))) xs ≡ sum_by (label_slots k) xs
 all_drawn k config f some p [] h = refl
@@ -278,7 +278,7 @@ all_drawn k config f some p (x ∷ xs) h =
 
 -- ---- the rows of a file
 
-break_sum : (k : ℕ) (s : LabelledFile) (was : Option ℕ) (l : ℕ) → sum_by (row_slots k) (breaks_before s was l) ≡ 0
+break_sum : (k : ℕ) (s : LabeledFileModel) (previous : Option ℕ) (l : ℕ) → sum_by (row_slots k) (breaks_before s previous l) ≡ 0
 break_sum k s None l = refl
 break_sum k s (Some c) l = by_test (is_broken c l)
   where
@@ -286,38 +286,38 @@ break_sum k s (Some c) l = by_test (is_broken c l)
     by_test true = refl
     by_test false = refl
 
-pub lines_sum : (k : ℕ) (s : LabelledFile) (was : Option ℕ) (ls : List ℕ) → sum_by (row_slots k) (rows_after s was ls) ≡ sum_by (λ l. sum_by (on_line k s.file l) s.labels) ls
-lines_sum k s was [] = refl
-lines_sum k s was (l ∷ ls) =
+pub lines_sum : (k : ℕ) (s : LabeledFileModel) (previous : Option ℕ) (ls : List ℕ) → sum_by (row_slots k) (rows_after s previous ls) ≡ sum_by (λ l. sum_by (on_line k s.file l) s.labels) ls
+lines_sum k s previous [] = refl
+lines_sum k s previous (l ∷ ls) =
     omega (
       arith,
-      sum_by-append (row_slots k) (breaks_before s was l ++ rows_of (line_at s l)) (rows_after s (Some l) ls),
-      sum_by-append (row_slots k) (breaks_before s was l) (rows_of (line_at s l)),
-      break_sum k s was l,
+      sum_by-append (row_slots k) (breaks_before s previous l ++ rows_of (line_at s l)) (rows_after s (Some l) ls),
+      sum_by-append (row_slots k) (breaks_before s previous l) (rows_of (line_at s l)),
+      break_sum k s previous l,
       labels_on_line k s l,
       lines_sum k s (Some l) ls,
       sum_by-cons (λ l. sum_by (on_line k s.file l) s.labels) l ls,
     )
 
-shown_drawn : (config : Config) (f : FileModel) (labels : List Labelled) (l : ℕ) → l < line_count f
+shown_drawn : (config : Config) (f : FileModel) (labels : List LabelModel) (l : ℕ) → l < line_count f
     → list_any (λ x. shows config (first_line f x) (last_line f x) l) labels ≡ true → is_drawn config f labels l ≡ true
 shown_drawn config f labels l low any = let inside : nat_lt l (line_count f) ≡ true = grind (arith, nat_tests) in simp (inside, any)
 
 -- the slots of the rows of a file's lines
-abbrev pub file_slots : ℕ → Config → LabelledFile → ℕ
+abbrev pub file_slots : ℕ → Config → LabeledFileModel → ℕ
 file_slots k config s = sum_by (row_slots k) (rows_after s None (drawn_lines config s.file s.labels))
 
 -- are those of its snippet, whatever the locus
-start_sum : (k : ℕ) (config : Config) (locus : Locus) (s : LabelledFile) → sum_by (row_slots k) (snippet config locus s) ≡ file_slots k config s
+start_sum : (k : ℕ) (config : Config) (locus : Locus) (s : LabeledFileModel) → sum_by (row_slots k) (snippet config locus s) ≡ file_slots k config s
 start_sum k config locus s =
     omega (
       arith,
-      sum_by-append (row_slots k) (StartRow locus ∷ EmptyRow (bare_lanes s) ∷ []) (rows_after s None (drawn_lines config s.file s.labels)),
-      sum_by-cons (row_slots k) (StartRow locus) (EmptyRow (bare_lanes s) ∷ []),
-      sum_by-cons (row_slots k) (EmptyRow (bare_lanes s)) [],
+      sum_by-append (row_slots k) (StartRow locus ∷ EmptyRow (empty_lanes s) ∷ []) (rows_after s None (drawn_lines config s.file s.labels)),
+      sum_by-cons (row_slots k) (StartRow locus) (EmptyRow (empty_lanes s) ∷ []),
+      sum_by-cons (row_slots k) (EmptyRow (empty_lanes s)) [],
     )
 
-snippet_sum : (k : ℕ) (config : Config) (s : LabelledFile) → 0 < line_count s.file → file_slots k config s ≡ sum_by (label_slots k) s.labels
+snippet_sum : (k : ℕ) (config : Config) (s : LabeledFileModel) → 0 < line_count s.file → file_slots k config s ≡ sum_by (label_slots k) s.labels
 snippet_sum k config s some =
     let ls = drawn_lines config s.file s.labels in
     omega (
@@ -327,13 +327,13 @@ snippet_sum k config s some =
       all_drawn k config s.file some (is_drawn config s.file s.labels) s.labels (shown_drawn config s.file s.labels),
     )
 
-after_sum : (k : ℕ) (followed : Bool) (s : LabelledFile) → sum_by (row_slots k) (row_after followed s) ≡ 0
+after_sum : (k : ℕ) (followed : Bool) (s : LabeledFileModel) → sum_by (row_slots k) (row_after followed s) ≡ 0
 after_sum k true s = refl
 after_sum k false s = refl
 
 -- ---- the rows of all files
 
-snippets_sum : (k : ℕ) (config : Config) (has_notes : Bool) (ps : List Locus) (ss : List LabelledFile) → length ps ≡ length ss
+snippets_sum : (k : ℕ) (config : Config) (has_notes : Bool) (ps : List Locus) (ss : List LabeledFileModel) → length ps ≡ length ss
     → sum_by (row_slots k) (snippets config has_notes ps ss) ≡ sum_by (file_slots k config) ss
 snippets_sum k config has_notes [] [] h = refl
 snippets_sum k config has_notes [] (s ∷ ss) h = absurd (omega (arith, h))
@@ -355,7 +355,7 @@ piece_sum k [] = refl
 piece_sum k (p ∷ ps) =
     omega (arith, sum_by-cons (row_slots k) (FirstNoteRow p) (map LaterNoteRow ps), sum-map (row_slots k) LaterNoteRow ps, sum-zero {X = List ℕ} (λ _. 0) (λ _. refl) ps)
 
-pub rich_sum : (k : ℕ) (config : Config) (heading : Heading) (ps : List Locus) (ss : List LabelledFile) (notes : List (List ℕ)) → length ps ≡ length ss
+pub rich_sum : (k : ℕ) (config : Config) (heading : Heading) (ps : List Locus) (ss : List LabeledFileModel) (notes : List (List ℕ)) → length ps ≡ length ss
     → sum_by (row_slots k) (rich_rows config heading ps ss notes) ≡ sum_by (file_slots k config) ss
 rich_sum k config heading ps ss notes h =
     let inner = snippets config (has_any notes) ps ss in
@@ -431,13 +431,13 @@ module _ {Id : Type 0} (same : Id → Id → Bool) (law : IsEquivalence same) wh
       )
 
   files_sum : (k : ℕ) (config : Config) (file : Id → FileModel) → ((id : Id) → 0 < line_count (file id)) → (xs : List (InFile Id))
-      → sum_by (file_slots k config) (labelled_files same file xs) ≡ sum_by (λ (x : InFile Id). label_slots k x.label) xs
+      → sum_by (file_slots k config) (labeled_file_models same file xs) ≡ sum_by (λ (x : InFile Id). label_slots k x.label) xs
   files_sum k config file some xs =
       let ids = first_seen same (map (λ (x : InFile Id). x.id) xs) in
-      sum-map (file_slots k config) (labelled_file same file xs) ids
-      ∙ sum-ext (λ id. file_slots k config (labelled_file same file xs id))
+      sum-map (file_slots k config) (labeled_file_model same file xs) ids
+      ∙ sum-ext (λ id. file_slots k config (labeled_file_model same file xs id))
       (λ id. sum_by (λ (x : InFile Id). cond (same id x.id) (label_slots k x.label) 0) xs)
-      (λ id. snippet_sum k config (labelled_file same file xs id) (some id)
+      (λ id. snippet_sum k config (labeled_file_model same file xs id) (some id)
       ∙ sum-map (label_slots k) (λ (x : InFile Id). x.label) (filter (λ (x : InFile Id). same id x.id) xs)
       ∙ sum-filter (λ (x : InFile Id). label_slots k x.label) (λ (x : InFile Id). same id x.id) xs)
       ids
@@ -448,9 +448,9 @@ module _ {Id : Type 0} (same : Id → Id → Bool) (law : IsEquivalence same) wh
 
 pub slotted_slots : {Id : Type 0} (k n : ℕ) (x : InFile Id) → label_slots k (slotted n x).label ≡ cond (n == k) (if has_message x.label then 1 else 0) 0
 unfolding slots
-slotted_slots k n x = by_tests (is_blank x.label.message) (n == k) refl refl
+slotted_slots k n x = by_tests (is_empty_stream x.label.message) (n == k) refl refl
   where
-    by_tests : (b c : Bool) → is_blank x.label.message ≡ b → (n == k) ≡ c
+    by_tests : (b c : Bool) → is_empty_stream x.label.message ≡ b → (n == k) ≡ c
         → count_by (is_slot k) (if b then [] else Slot n ∷ []) ≡ cond c (if not b then 1 else 0) 0
     by_tests true true h i = refl
     by_tests true false h i = refl
@@ -504,14 +504,14 @@ module _ {Id : Type 0} (k : ℕ) where
         sum_by-cons (λ (y : InFile Id). label_slots k y.label) (slotted n y) (slotted_from (n + 1) ys),
       )
 
-pub each_once : {Id : Type 0} (look : Look) (config : Config) (same : Id → Id → Bool) (file : Id → FileModel) (heading : Heading) (notes : List (List ℕ)) (xs : List (InFile Id)) (ps : List Locus)
-    → length ps ≡ length (labelled_files same file (all_slotted xs))
+pub each_once : {Id : Type 0} (context : RowContext) (config : Config) (same : Id → Id → Bool) (file : Id → FileModel) (heading : Heading) (notes : List (List ℕ)) (xs : List (InFile Id)) (ps : List Locus)
+    → length ps ≡ length (labeled_file_models same file (all_slotted xs))
     → IsEquivalence same → ((id : Id) → 0 < line_count (file id)) → (k : ℕ) (x : InFile Id) → slice_get xs k ≡ Some x
-    → count_by (is_slot k) (stream_of_rows look (rich_rows config heading ps (labelled_files same file (all_slotted xs)) notes)) ≡ (if has_message x.label then 1 else 0)
-each_once look config same file heading notes xs ps as_many law some k x at =
-    let ss = labelled_files same file (all_slotted xs) in
-    slots-is k (stream_of_rows look (rich_rows config heading ps ss notes))
-    ∙ slots-rows k look (rich_rows config heading ps ss notes)
+    → count_by (is_slot k) (stream_of_rows context (rich_rows config heading ps (labeled_file_models same file (all_slotted xs)) notes)) ≡ (if has_message x.label then 1 else 0)
+each_once context config same file heading notes xs ps as_many law some k x at =
+    let ss = labeled_file_models same file (all_slotted xs) in
+    slots-is k (stream_of_rows context (rich_rows config heading ps ss notes))
+    ∙ slots-rows k context (rich_rows config heading ps ss notes)
     ∙ rich_sum k config heading ps ss notes as_many
     ∙ files_sum same law k config file some (all_slotted xs)
     ∙ one_here k 0 k xs x (omega arith) at

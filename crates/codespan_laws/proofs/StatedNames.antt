@@ -23,14 +23,14 @@ use Rattle.codespan_laws.proofs.Loci.{each_of, each_start, zip_stated}
 -- ---- labels before the first one for which a lookup fails
 
 -- whether both lookups of a header succeed
-abbrev is_answered : {Id : Type 0} → Failures Id → InFile Id → Bool
-is_answered failure x = is_none (failure x.id Name) && is_none (failure x.id (LocationAt x.label.start))
+abbrev lookup_succeeds : {Id : Type 0} → Failures Id → InFile Id → Bool
+lookup_succeeds failure x = is_none (failure x.id Name) && is_none (failure x.id (LocationAt x.label.start))
 
 -- where neither of the two fails, each succeeds
-both_answered : (o p : Option Error) → or_failure o (or_failure p None) ≡ None → (is_none o && is_none p) ≡ true
-both_answered None None h = refl
-both_answered None (Some e) h = cc
-both_answered (Some e) p h = cc
+both_succeed : (o p : Option Error) → or_failure o (or_failure p None) ≡ None → (is_none o && is_none p) ≡ true
+both_succeed None None h = refl
+both_succeed None (Some e) h = cc
+both_succeed (Some e) p h = cc
 
 -- where one of the two fails, not both succeed
 one_failed : (o p : Option Error) (e : Error) → or_failure o (or_failure p None) ≡ Some e → (is_none o && is_none p) ≡ false
@@ -54,14 +54,14 @@ none_of_first failure (l ∷ ls) ms h =
 
 -- labels whose lookups succeed, and then one of which one fails
 run_before : {Id : Type 0} (failure : Failures Id) (before : List (InFile Id)) (here : InFile Id) (after : List (InFile Id)) → first_error failure (flat_map header_lookups_of before) ≡ None
-    → is_answered failure here ≡ false → take_while (is_answered failure) (before ++ here ∷ after) ≡ before
-run_before failure [] here after answered failed =
-    take_while-cons (is_answered failure) here after ∙ ap (λ (b : Bool). cond b (here ∷ take_while (is_answered failure) after) []) failed
-run_before {Id} failure (x ∷ xs) here after answered failed =
-    let parts = none_of_first failure (header_lookups_of x) (flat_map header_lookups_of xs) answered in
-    let passes : is_answered failure x ≡ true = both_answered _ _ parts.0 in
-    take_while-cons (is_answered failure) x (xs ++ here ∷ after)
-    ∙ ap (λ (b : Bool). cond b (x ∷ take_while (is_answered failure) (xs ++ here ∷ after)) []) passes
+    → lookup_succeeds failure here ≡ false → take_while (lookup_succeeds failure) (before ++ here ∷ after) ≡ before
+run_before failure [] here after succeeded failed =
+    take_while-cons (lookup_succeeds failure) here after ∙ ap (λ (b : Bool). cond b (here ∷ take_while (lookup_succeeds failure) after) []) failed
+run_before {Id} failure (x ∷ xs) here after succeeded failed =
+    let parts = none_of_first failure (header_lookups_of x) (flat_map header_lookups_of xs) succeeded in
+    let passes : lookup_succeeds failure x ≡ true = both_succeed _ _ parts.0 in
+    take_while-cons (lookup_succeeds failure) x (xs ++ here ∷ after)
+    ∙ ap (λ (b : Bool). cond b (x ∷ take_while (lookup_succeeds failure) (xs ++ here ∷ after)) []) passes
     ∙ ap (λ (l : List (InFile Id)). x ∷ l) (run_before failure xs here after parts.1 failed)
 
 -- ---- loci of files that state their names
@@ -88,18 +88,18 @@ module _ {Id : Type 0} (files : FileDatabase Id) (d : Diagnostic Id) (named : Na
       → (before : List (InFile Id)) (here : InFile Id) (after : List (InFile Id)) → before ++ here ∷ after ≡ primary_of (labels_of d)
       → AllSucceed files.failure (flat_map header_lookups_of before) → (e : Error) → first_error files.failure (header_lookups_of here) ≡ Some e
       → headers_at config d (take (length before) loci)
-      ≡ headers_at config d (map (λ (x : InFile Id). stated_locus (label_start files.file x)) (take_while (is_answered files.failure) (primary_of (labels_of d))))
-  headers_stated config loci are before here after whole answered e failed =
-      let causes = primary_of (labels_of d) in
-      let place : InFile Id → Locus = λ x. stated_locus (label_start files.file x) in
-      let split : loci ≡ map place before ++ map place (here ∷ after) =
-      loci_stated Short loci are ∙ map_twice stated_locus (label_start files.file) causes ∙ ap (map place) (sym whole) ∙ map-append place before (here ∷ after) in
-      let taken : take (length before) loci ≡ map place before =
-      ap (λ n. take n loci) (sym (length-map before place)) ∙ ap (take (length (map place before))) split ∙ take-append_seam (map place before) (map place (here ∷ after)) in
-      let run : take_while (is_answered files.failure) causes ≡ before =
-      ap (take_while (is_answered files.failure)) (sym whole)
-      ∙ run_before files.failure before here after (none_of (flat_map header_lookups_of before) answered) (one_failed _ _ e failed) in
-      ap (headers_at config d) (taken ∙ ap (map place) (sym run))
+      ≡ headers_at config d (map (λ (x : InFile Id). stated_locus (label_start files.file x)) (take_while (lookup_succeeds files.failure) (primary_of (labels_of d))))
+  headers_stated config loci are before here after whole succeeded e failed =
+      let primaries = primary_of (labels_of d) in
+      let to_locus : InFile Id → Locus = λ x. stated_locus (label_start files.file x) in
+      let split : loci ≡ map to_locus before ++ map to_locus (here ∷ after) =
+      loci_stated Short loci are ∙ map_twice stated_locus (label_start files.file) primaries ∙ ap (map to_locus) (sym whole) ∙ map-append to_locus before (here ∷ after) in
+      let taken : take (length before) loci ≡ map to_locus before =
+      ap (λ n. take n loci) (sym (length-map before to_locus)) ∙ ap (take (length (map to_locus before))) split ∙ take-append_seam (map to_locus before) (map to_locus (here ∷ after)) in
+      let run : take_while (lookup_succeeds files.failure) primaries ≡ before =
+      ap (take_while (lookup_succeeds files.failure)) (sym whole)
+      ∙ run_before files.failure before here after (none_of (flat_map header_lookups_of before) succeeded) (one_failed _ _ e failed) in
+      ap (headers_at config d) (taken ∙ ap (map to_locus) (sym run))
     where
       none_of : (ls : List (Id × Lookup)) → AllSucceed files.failure ls → first_error files.failure ls ≡ None
       none_of [] h = refl
@@ -111,5 +111,5 @@ pub output_is_picture : {Id : Type 0} (files : FileDatabase Id) (d : Diagnostic 
 output_is_picture files d named style renderer view loci are = output_stated files d named style renderer view loci are
 
 pub headers_are_before_failure : {Id : Type 0} (files : FileDatabase Id) (d : Diagnostic Id) → HeadersAreBeforeFailure files d
-headers_are_before_failure files d named config loci are before here after whole answered e failed =
-    headers_stated files d named config loci are before here after whole answered e failed
+headers_are_before_failure files d named config loci are before here after whole succeeded e failed =
+    headers_stated files d named config loci are before here after whole succeeded e failed

@@ -5,15 +5,15 @@ use Rattle.std.specs.List.{range_with_len}
 use Rattle.std.specs.Option.{option_map, option_map_or}
 use Rattle.codespan_picture.specs.Types.{Config, Layout}
 use Rattle.codespan_base.specs.FileModel.{FileModel}
-use Rattle.codespan_base.specs.Labels.{Labelled, first_line, last_line, multi_labels}
+use Rattle.codespan_base.specs.Labels.{LabelModel, first_line, last_line, multi_labels}
 use Rattle.codespan_base.specs.Streams.{Stream}
 use Rattle.codespan_picture.specs.declared.lanes.Shape.{Shape}
 use Rattle.codespan_picture.specs.declared.lanes.Shape.TheVariants.{Gap, Bar, TopCorner, BottomCorner}
-use Rattle.codespan_picture.specs.Lanes.{LaneRow, Source, Plain, Below, Underline, row_shape, row_crossing, mark_in, shape_of, style_of_mark, is_unbroken, lane_cells}
-use Rattle.codespan_picture.specs.Rows.{Locus, Look, Lanes, Line, Row, EmptyRow, BreakRow, SourceRow, CaretRow, PointerRow, HangingRow, UnderlineRow}
+use Rattle.codespan_picture.specs.Lanes.{LaneRow, Source, Plain, Below, Underline, row_shape, row_crossing, lane_mark_in, shape_of, style_of_lane_mark, is_unbroken, lane_cells}
+use Rattle.codespan_picture.specs.Rows.{Locus, RowContext, Lanes, Line, Row, EmptyRow, BreakRow, SourceRow, CaretRow, PointerRow, HangingRow, UnderlineRow}
 use Rattle.codespan_picture.specs.RowParts.{gutter, numbered_gutter, border, break_border, leading_of}
 use Rattle.codespan_picture.specs.RowStreams.{stream_of}
-use Rattle.codespan_picture.specs.Snippets.{LabelledFile, line_at, row_after, snippet}
+use Rattle.codespan_picture.specs.Snippets.{LabeledFileModel, line_at, row_after, snippet}
 
 -- the line of a row that has one
 abbrev pub line_of_row : Row → Option Line
@@ -43,19 +43,19 @@ kind_of _ = Plain
 abbrev pub shape_in : Layout → Row → ℕ → Shape
 shape_in layout row lane =
     shape_of (row_shape layout (option_map_or leading_of (line_of_row row) 0) (kind_of row) lane)
-    (mark_in (option_map_or (λ (lanes : Lanes). lanes.marks) (lanes_of_row row) []) lane)
+    (lane_mark_in (option_map_or (λ (lanes : Lanes). lanes.marks) (lanes_of_row row) []) lane)
 
 -- the label's lane
-abbrev pub HasLane : LabelledFile → ℕ → Labelled → Type 0
+abbrev pub HasLane : LabeledFileModel → ℕ → LabelModel → Type 0
 HasLane s lane x = slice_get (multi_labels s.file s.labels) lane ≡ Some x
 
 -- a label covers a line after its first one, up to its last
-abbrev pub IsCovered : FileModel → Labelled → ℕ → Type 0
+abbrev pub IsCovered : FileModel → LabelModel → ℕ → Type 0
 IsCovered f x l = (first_line f x < l) × (l ≤ last_line f x)
 
 -- on source rows and break rows a lane has a bar exactly where its label covers the line
-abbrev pub BarsAreLabels : Layout → LabelledFile → Type 0
-BarsAreLabels layout s = (l lane : ℕ) (x : Labelled) → HasLane s lane x
+abbrev pub BarsAreLabels : Layout → LabeledFileModel → Type 0
+BarsAreLabels layout s = (l lane : ℕ) (x : LabelModel) → HasLane s lane x
     → ((shape_in layout (SourceRow (line_at s l)) lane ≡ Bar) ↔ IsCovered s.file x l)
     × ((shape_in layout (BreakRow (line_at s l).lanes) lane ≡ Bar) ↔ IsCovered s.file x l)
 
@@ -67,22 +67,22 @@ shape_at layout rows k lane = option_map (λ row. shape_in layout row lane) (sli
 
 -- below a top corner in a source row the other rows of its line may leave the lane out, but not in
 -- the unbroken layout
-pub record MayLeaveOut (layout : Layout) (s : LabelledFile) (rows : List Row) (lane : ℕ)
-    (x : Labelled) (top k : ℕ) : Type 0 where
+pub record MayLeaveOut (layout : Layout) (s : LabeledFileModel) (rows : List Row) (lane : ℕ)
+    (x : LabelModel) (top k : ℕ) : Type 0 where
   pub is_classic : is_unbroken layout ≡ false
-  pub turns_early : slice_get rows top ≡ Some (SourceRow (line_at s (first_line s.file x)))
+  pub begins_in_source_row : slice_get rows top ≡ Some (SourceRow (line_at s (first_line s.file x)))
   pub is_gap : shape_at layout rows k lane ≡ Some Gap
   pub is_of_line : (row : Row) → slice_get rows k ≡ Some row
       → line_of_row row ≡ Some (line_at s (first_line s.file x))
 
 -- a lane turns in one row, runs down, and turns back in one later row
-pub record IsOneLine (layout : Layout) (s : LabelledFile) (rows : List Row) (lane : ℕ)
-    (x : Labelled) : Type 0 where
+pub record IsOneLine (layout : Layout) (s : LabeledFileModel) (rows : List Row) (lane : ℕ)
+    (x : LabelModel) : Type 0 where
   pub top : ℕ
   pub bottom : ℕ
   pub in_order : top < bottom
-  pub turns : shape_at layout rows top lane ≡ Some TopCorner
-  pub turns_back : shape_at layout rows bottom lane ≡ Some BottomCorner
+  pub top_corner : shape_at layout rows top lane ≡ Some TopCorner
+  pub bottom_corner : shape_at layout rows bottom lane ≡ Some BottomCorner
   pub between : (k : ℕ) → top < k → k < bottom
       → (shape_at layout rows k lane ≡ Some Bar) ⊎ MayLeaveOut layout s rows lane x top k
   pub before : (k : ℕ) → k < top → shape_at layout rows k lane ≡ Some Gap
@@ -90,34 +90,36 @@ pub record IsOneLine (layout : Layout) (s : LabelledFile) (rows : List Row) (lan
 
 -- each lane of a file is one line through the rows of its snippet and the empty row after it, if it
 -- has one, whatever the locus
-abbrev pub LanesAreLines : Config → Layout → LabelledFile → Type 0
+abbrev pub LanesAreLines : Config → Layout → LabeledFileModel → Type 0
 LanesAreLines config layout s =
-    (locus : Locus) (is_followed : Bool) (lane : ℕ) (x : Labelled) → HasLane s lane x
+    (locus : Locus) (is_followed : Bool) (lane : ℕ) (x : LabelModel) → HasLane s lane x
     → IsOneLine layout s (snippet config locus s ++ row_after is_followed s) lane x
 
 -- ---- what each lane shows is what the stream of its row has there
 
 -- the two characters of what a row shows in each lane, from left to right
-abbrev pub lanes_shown : Look → Row → Lanes → Stream
-lanes_shown look row lanes =
-    flat_map (λ lane. lane_cells look.severity look.chars (row_crossing (kind_of row) lane)
-    (style_of_mark (mark_in lanes.marks lane)) (shape_in look.layout row lane))
+abbrev pub lanes_shown : RowContext → Row → Lanes → Stream
+lanes_shown context row lanes =
+    flat_map (λ lane. lane_cells context.severity context.chars (row_crossing (kind_of row) lane)
+    (style_of_lane_mark (lane_mark_in lanes.marks lane)) (shape_in context.layout row lane))
     (range_with_len 0 lanes.count)
 
 -- what is left of the lanes: in a source row the line's number, else spaces, and the bar left of
 -- the source
-abbrev pub before_lanes : Look → Row → Stream
-before_lanes look (SourceRow line) = numbered_gutter look.padding line.number ++ border look.chars
-before_lanes look (BreakRow lanes) = gutter look.padding ++ break_border look.chars
-before_lanes look _ = gutter look.padding ++ border look.chars
+abbrev pub before_lanes : RowContext → Row → Stream
+before_lanes context (SourceRow line) =
+    numbered_gutter context.padding line.number ++ border context.chars
+before_lanes context (BreakRow lanes) = gutter context.padding ++ break_border context.chars
+before_lanes context _ = gutter context.padding ++ border context.chars
 
 -- after the bar left of the source the stream of a row has what the row shows in each of these
 -- lanes
-pub record ShowsLanes (look : Look) (row : Row) (lanes : Lanes) : Type 0 where
+pub record ShowsLanes (context : RowContext) (row : Row) (lanes : Lanes) : Type 0 where
   pub after : Stream
-  pub is : stream_of look row ≡ before_lanes look row ++ lanes_shown look row lanes ++ after
+  pub is : stream_of context row ≡ before_lanes context row ++ lanes_shown context row lanes
+      ++ after
 
 -- the stream of each row that has lanes has in them what the row shows there
-abbrev pub LanesAreShown : Look → Type 0
-LanesAreShown look = (row : Row) (lanes : Lanes)
-    → lanes_of_row row ≡ Some lanes → ShowsLanes look row lanes
+abbrev pub LanesAreShown : RowContext → Type 0
+LanesAreShown context = (row : Row) (lanes : Lanes)
+    → lanes_of_row row ≡ Some lanes → ShowsLanes context row lanes

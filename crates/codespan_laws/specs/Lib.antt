@@ -14,7 +14,7 @@ pub use Rattle.codespan_base.specs.Defaults
 pub use Rattle.codespan_base.specs.StyleTables
 pub use Rattle.codespan_base.specs.Ansi
 -- the output
-pub use Rattle.codespan_picture.specs.Cells
+pub use Rattle.codespan_picture.specs.CharMetrics
 pub use Rattle.codespan_picture.specs.Carets
 pub use Rattle.codespan_picture.specs.Lanes
 pub use Rattle.codespan_picture.specs.Rows
@@ -28,10 +28,10 @@ pub use Rattle.codespan_picture.specs.Padding
 pub use Rattle.codespan_picture.specs.Picture
 pub use Rattle.codespan_picture.specs.StatedPicture
 pub use Rattle.codespan_picture.specs.Lookups
-pub use Rattle.codespan_picture.specs.Given
+pub use Rattle.codespan_picture.specs.Arguments
 -- what an output means
 pub mod CaretLaws
-pub mod ColourLaws
+pub mod ColorLaws
 pub mod LaneLaws
 pub mod LineLaws
 pub mod MessageLaws
@@ -41,4 +41,4 @@ pub mod SortLaws
 pub mod TextLaws
 pub mod TrailingLaws
 pub mod StatedNames
-pub mod Meanings
+pub mod RichLaws

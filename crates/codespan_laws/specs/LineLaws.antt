@@ -3,25 +3,25 @@ use Rattle.std.specs.Prelude.{◌≡◌, ℕ, ◌+◌, ◌<◌, ◌≤◌, ◌�
 use Rattle.std.specs.List.{range_with_len}
 use Rattle.codespan_picture.specs.Types.{Config, Layout}
 use Rattle.codespan_base.specs.FileModel.{FileModel, line_count}
-use Rattle.codespan_base.specs.Labels.{Labelled}
+use Rattle.codespan_base.specs.Labels.{LabelModel}
 use Rattle.codespan_picture.specs.declared.lanes.Shape.TheVariants.{Bar}
 use Rattle.codespan_picture.specs.Lanes.{is_unbroken}
 use Rattle.codespan_picture.specs.Lines.{drawn_lines, is_broken, is_shown}
 use Rattle.codespan_picture.specs.Rows.{Lanes, Locus, Row, BreakRow, SourceRow}
-use Rattle.codespan_picture.specs.Snippets.{LabelledFile, rows_after, drawing, line_at, snippet}
+use Rattle.codespan_picture.specs.Snippets.{LabeledFileModel, rows_after, rows_of_shown, line_at, snippet}
 use Rattle.codespan_picture.specs.Padding.{padding_of, digit_count}
 use Rattle.codespan_laws.specs.LaneLaws.{shape_in, HasLane, IsCovered}
 
 -- the shown lines of a file, all of which it has
-abbrev pub shown_lines : Config → LabelledFile → List ℕ
+abbrev pub shown_lines : Config → LabeledFileModel → List ℕ
 shown_lines config s =
     filter (is_shown config s.file s.labels) (range_with_len 0 (line_count s.file))
 
 -- drawn lines with their breaks follow from the shown lines
-abbrev pub DrawingOfShown : Config → LabelledFile → Type 0
-DrawingOfShown config s =
+abbrev pub RowsOfShown : Config → LabeledFileModel → Type 0
+RowsOfShown config s =
     rows_after s None (drawn_lines config s.file s.labels)
-    ≡ drawing (line_at s) None (shown_lines config s)
+    ≡ rows_of_shown (line_at s) None (shown_lines config s)
 
 -- ---- breaks
 
@@ -38,14 +38,14 @@ broken_line (BreakRow lanes) = Some lanes
 broken_line _ = None
 
 -- there is a break row exactly where shown lines are three or more apart
-abbrev pub BreaksAreGaps : Config → LabelledFile → Type 0
+abbrev pub BreaksAreGaps : Config → LabeledFileModel → Type 0
 BreaksAreGaps config s = (locus : Locus)
     → filter_map broken_line (snippet config locus s)
     ≡ map (λ l. (line_at s l).lanes) (broken_before (shown_lines config s))
 
 -- the bars of a break row are those of the labels that cover every line that is left out
-abbrev pub BreaksAreCovered : Config → Layout → LabelledFile → Type 0
-BreaksAreCovered config layout s = (c d lane : ℕ) (x : Labelled)
+abbrev pub BreaksAreCovered : Config → Layout → LabeledFileModel → Type 0
+BreaksAreCovered config layout s = (c d lane : ℕ) (x : LabelModel)
     → IsTrue (is_shown config s.file s.labels c) → IsTrue (is_shown config s.file s.labels d)
     → c + 3 ≤ d → ((l : ℕ) → c < l → l < d → is_shown config s.file s.labels l ≡ false)
     → HasLane s lane x
@@ -66,7 +66,7 @@ reach config =
     + config.end_context_lines
 
 -- the source rows of a file number at most twice what its labels show
-abbrev pub SourceRowsAreFew : Config → LabelledFile → Type 0
+abbrev pub SourceRowsAreFew : Config → LabeledFileModel → Type 0
 SourceRowsAreFew config s = (locus : Locus)
     → count_by is_source_row (snippet config locus s) ≤ 2 * sum_by (λ _. reach config) s.labels
 
@@ -76,10 +76,10 @@ NumbersAscend f = (i : ℕ) → i + 1 < line_count f → f.number i ≤ f.number
 
 -- every drawn line's number fits the padding: in the unbroken layout, and in the classic one where
 -- the configuration shows no lines after labels and the numbers never fall
-abbrev pub PaddingHasRoom : Config → List LabelledFile → Type 0
-PaddingHasRoom config ss =
+abbrev pub PaddingFits : Config → List LabeledFileModel → Type 0
+PaddingFits config ss =
     (is_unbroken config.layout ≡ false → (config.after_label_lines ≡ 0)
-    × ((s : LabelledFile) → Contains ss s → NumbersAscend s.file))
-    → (s : LabelledFile) (l : ℕ) → Contains ss s
+    × ((s : LabeledFileModel) → Contains ss s → NumbersAscend s.file))
+    → (s : LabeledFileModel) (l : ℕ) → Contains ss s
     → Contains (drawn_lines config s.file s.labels) l
     → digit_count (s.file.number l) ≤ padding_of config ss

@@ -4,16 +4,16 @@ use Rattle.std.specs.List.{enumerate_from}
 use Rattle.std.specs.Option.{option_map_or}
 use Rattle.codespan_picture.specs.Types.{Config, Diagnostic, Rich}
 use Rattle.codespan_base.specs.FileModel.{FileDatabase}
-use Rattle.codespan_base.specs.Labels.{has_message, is_blank}
+use Rattle.codespan_base.specs.Labels.{has_message, is_empty_stream}
 use Rattle.codespan_base.specs.Streams.{Stream, Item, Slot, text_of, filled}
 use Rattle.codespan_picture.specs.Rows.{Locus}
-use Rattle.codespan_picture.specs.Snippets.{InFile, labelled_files}
+use Rattle.codespan_picture.specs.Snippets.{InFile, labeled_file_models}
 use Rattle.codespan_picture.specs.Picture.{heading_of, labels_of, notes_of, output, rendered}
 
 -- a label with a slot instead of its message
 abbrev pub slotted : {Id : Type 0} → ℕ → InFile Id → InFile Id
 slotted k x = record x {
-  label = record x.label { message = if is_blank x.label.message then [] else Slot k ∷ [] };
+  label = record x.label { message = if is_empty_stream x.label.message then [] else Slot k ∷ [] };
 }
 
 -- the labels with slots instead of their messages
@@ -34,10 +34,10 @@ abbrev pub slotted_output : {Id : Type 0}
     → Config → Config → FileDatabase Id → Diagnostic Id → List Locus → Stream
 slotted_output renderer view files d loci =
     rendered Rich renderer view d.severity (heading_of d) loci
-    (labelled_files files.same files.file (all_slotted (labels_of d))) (notes_of d)
+    (labeled_file_models files.same files.file (all_slotted (labels_of d))) (notes_of d)
 
 -- each message has one slot in the rich output, and with the slots filled that is the output
-pub record MessagesStandOnce {Id : Type 0} (renderer view : Config) (files : FileDatabase Id)
+pub record MessagesAppearOnce {Id : Type 0} (renderer view : Config) (files : FileDatabase Id)
     (d : Diagnostic Id) (loci : List Locus) : Type 0 where
   pub once : (k : ℕ) (x : InFile Id) → slice_get (labels_of d) k ≡ Some x
       → count_by (is_slot k) (slotted_output renderer view files d loci)

@@ -4,28 +4,28 @@ use Rattle.std.specs.Cmp.{IsEquivalence}
 use Rattle.std.specs.Cmp.Lexicographic.{pointwise}
 use Rattle.codespan_picture.specs.Types.{Config, Rich, Severity}
 use Rattle.codespan_base.specs.FileModel.{FileModel}
-use Rattle.codespan_base.specs.Labels.{Labelled, is_single, first_line, drawn_label}
+use Rattle.codespan_base.specs.Labels.{LabelModel, is_single, first_line, drawn_label}
 use Rattle.codespan_picture.specs.Rows.{Heading, Locus}
-use Rattle.codespan_picture.specs.Snippets.{InFile, file_ids, labelled_file, labelled_files}
+use Rattle.codespan_picture.specs.Snippets.{InFile, file_ids, labeled_file_model, labeled_file_models}
 use Rattle.codespan_picture.specs.Picture.{rendered, starts}
 
 -- the label has this drawn range
-abbrev pub is_drawn_at : FileModel → ℕ → ℕ → Labelled → Bool
+abbrev pub is_drawn_at : FileModel → ℕ → ℕ → LabelModel → Bool
 is_drawn_at f start end x =
     let drawn = drawn_label f x in (drawn.start == start) && (drawn.end == end)
 
 -- the multi-line labels of a file, in the order of the list
 abbrev pub several_lines_of : {Id : Type 0}
-    → (Id → Id → Bool) → (Id → FileModel) → List (InFile Id) → Id → List Labelled
+    → (Id → Id → Bool) → (Id → FileModel) → List (InFile Id) → Id → List LabelModel
 several_lines_of same file xs id =
-    filter (λ x. not (is_single (file id) x)) (labelled_file same file xs id).labels
+    filter (λ x. not (is_single (file id) x)) (labeled_file_model same file xs id).labels
 
 -- the labels of one line that have this drawn range, in the order of the list
 abbrev pub one_range_of : {Id : Type 0}
-    → (Id → Id → Bool) → (Id → FileModel) → List (InFile Id) → Id → ℕ → ℕ → ℕ → List Labelled
+    → (Id → Id → Bool) → (Id → FileModel) → List (InFile Id) → Id → ℕ → ℕ → ℕ → List LabelModel
 one_range_of same file xs id l start end =
     filter (λ x. is_single (file id) x && (first_line (file id) x == l)
-    && is_drawn_at (file id) start end x) (labelled_file same file xs id).labels
+    && is_drawn_at (file id) start end x) (labeled_file_model same file xs id).labels
 
 -- the orders that a rich output shows; the ids of the files need only be equal, one by one
 pub record SameOrders {Id : Type 0} (same : Id → Id → Bool) (file : Id → FileModel)
@@ -37,17 +37,17 @@ pub record SameOrders {Id : Type 0} (same : Id → Id → Bool) (file : Id → F
       → one_range_of same file xs id l start end ≡ one_range_of same file ys id l start end
 
 -- the loci of one order are those of the other, and with any loci both render the same
-pub record RenderTheSame {Id : Type 0} (same : Id → Id → Bool) (file : Id → FileModel)
+pub record RenderSame {Id : Type 0} (same : Id → Id → Bool) (file : Id → FileModel)
     (xs ys : List (InFile Id)) : Type 0 where
   pub same_starts : starts same file xs Rich ≡ starts same file ys Rich
   pub same_stream : (renderer view : Config) (severity : Severity) (heading : Heading)
       (loci : List Locus) (notes : List (List ℕ))
-      → rendered Rich renderer view severity heading loci (labelled_files same file xs) notes
-      ≡ rendered Rich renderer view severity heading loci (labelled_files same file ys) notes
+      → rendered Rich renderer view severity heading loci (labeled_file_models same file xs) notes
+      ≡ rendered Rich renderer view severity heading loci (labeled_file_models same file ys) notes
 
 -- where ids are equal as `Eq` says, and equal ids have one file, a reordering that keeps these
 -- orders changes nothing in a rich output
 abbrev pub OrderIsFree : {Id : Type 0} → (Id → Id → Bool) → (Id → FileModel) → Type 0
 OrderIsFree {Id} same file = (xs ys : List (InFile Id))
     → IsEquivalence same → ((i j : Id) → same i j ≡ true → file i ≡ file j)
-    → SameOrders same file xs ys → RenderTheSame same file xs ys
+    → SameOrders same file xs ys → RenderSame same file xs ys

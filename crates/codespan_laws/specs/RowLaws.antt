@@ -3,7 +3,7 @@ use Rattle.std.specs.Prelude.{◌≡◌, Bool, true, false, [], ◌∷◌, IsTru
 use Rattle.codespan_picture.specs.Types.{Chars}
 use Rattle.codespan_base.specs.Streams.{Stream, StyleMark, Byte, Mark, Slot, Reset, text_of}
 use Rattle.codespan_base.specs.SnippetStarts.{start_text}
-use Rattle.codespan_picture.specs.Rows.{Look, Row}
+use Rattle.codespan_picture.specs.Rows.{RowContext, Row}
 use Rattle.codespan_picture.specs.RowStreams.{stream_of}
 use Rattle.std.specs.Int.{is_in_range}
 
@@ -22,10 +22,11 @@ row_length s = character_count (text_of s)
 -- other characters, with a text before the locus of as many characters, change no row's number of
 -- characters
 abbrev pub CharactersAreFree : Type 0
-CharactersAreFree = (look : Look) (chars : Chars) (row : Row)
+CharactersAreFree = (context : RowContext) (chars : Chars) (row : Row)
     → character_count (start_text chars.snippet_start)
-    ≡ character_count (start_text look.chars.snippet_start)
-    → row_length (stream_of (record look { chars = chars }) row) ≡ row_length (stream_of look row)
+    ≡ character_count (start_text context.chars.snippet_start)
+    → row_length (stream_of (record context { chars = chars }) row)
+    ≡ row_length (stream_of context row)
 
 -- the style mark is a reset
 abbrev pub is_reset : StyleMark → Bool
@@ -42,4 +43,4 @@ ends_reset closed (Slot k ∷ s) = ends_reset closed s
 
 -- the last style mark of a row, if it has one, is a reset
 abbrev pub RowsEndReset : Type 0
-RowsEndReset = (look : Look) (row : Row) → IsTrue (ends_reset true (stream_of look row))
+RowsEndReset = (context : RowContext) (row : Row) → IsTrue (ends_reset true (stream_of context row))

@@ -1,15 +1,15 @@
 -- The law of the order of the labels inside a line.
 use Rattle.std.specs.Prelude.{◌≡◌, List}
 use Rattle.std.specs.List.Sorted.{IsPermutation, IsSortedBy, IsStableBy}
-use Rattle.codespan_base.specs.Labels.{Labelled, sorted, stands_before}
+use Rattle.codespan_base.specs.Labels.{LabelModel, sorted, range_precedes}
 
 -- these are the labels `xs` in the order of their ranges, equal ranges in the order of `xs`
-pub record IsSortOf (xs ys : List Labelled) : Type 0 where
-  pub in_order : IsSortedBy stands_before ys
+pub record IsSortOf (xs ys : List LabelModel) : Type 0 where
+  pub in_order : IsSortedBy range_precedes ys
   pub permutation : IsPermutation xs ys
-  pub stable : IsStableBy stands_before xs ys
+  pub stable : IsStableBy range_precedes xs ys
 
 -- there is one such list, which is `sorted`
-pub record SortsLabels (xs : List Labelled) : Type 0 where
+pub record SortsLabels (xs : List LabelModel) : Type 0 where
   pub is : IsSortOf xs (sorted xs)
-  pub only : (ys : List Labelled) → IsSortOf xs ys → ys ≡ sorted xs
+  pub only : (ys : List LabelModel) → IsSortOf xs ys → ys ≡ sorted xs

@@ -12,10 +12,11 @@ use Rattle.codespan_base.specs.Streams.{Stream}
 
 -- the primary labels before the first one for which a lookup fails
 abbrev pub labels_before_failure : {Id : Type 0} → Failures Id → List (InFile Id) → List (InFile Id)
-labels_before_failure {Id} failure xs = take_while is_answered (primary_of xs)
+labels_before_failure {Id} failure xs = take_while lookup_succeeds (primary_of xs)
   where
-    is_answered : InFile Id → Bool
-    is_answered x = is_none (failure x.id Name) && is_none (failure x.id (LocationAt x.label.start))
+    lookup_succeeds : InFile Id → Bool
+    lookup_succeeds x =
+        is_none (failure x.id Name) && is_none (failure x.id (LocationAt x.label.start))
 
 module _ {Id : Type 0} (files : FileDatabase Id) (d : Diagnostic Id) where
   -- the names of the labels' files are stated

@@ -11,27 +11,27 @@ ghost use Rattle.codespan_base.specs.declared.term.config.DisplayStyle.TheVarian
 ghost use Rattle.codespan_base.specs.declared.term.config.Layout.{Layout};
 ghost use Rattle.codespan_base.specs.declared.diagnostic.Diagnostic.{Diagnostic};
 ghost use Rattle.codespan_base.specs.FileModel.{FileDatabase, FileModel, line_count};
-ghost use Rattle.codespan_base.specs.Labels.{Labelled};
+ghost use Rattle.codespan_base.specs.Labels.{LabelModel};
 ghost use Rattle.codespan_base.specs.declared.term.config.styles.Styles.{Styles};
 ghost use Rattle.codespan_base.specs.Streams.{Spelling};
 ghost use Rattle.codespan_laws.specs.RowLaws.{row_length, CharactersAreFree, RowsEndReset};
-ghost use Rattle.codespan_laws.specs.ColourLaws.{ColoursChangeNoText, NoColourIsPlain};
+ghost use Rattle.codespan_laws.specs.ColorLaws.{ColorsChangeNoText, NoColorIsPlain};
 ghost use Rattle.codespan_laws.specs.CaretLaws.{CaretsAreCells, PointersAreCells, StartsInWide};
-ghost use Rattle.codespan_laws.specs.Meanings.{MeansLabels, StartsBeforeEnds};
+ghost use Rattle.codespan_laws.specs.RichLaws.{MeansLabels, StartsBeforeEnds};
 ghost use Rattle.codespan_laws.specs.LaneLaws.{BarsAreLabels, LanesAreLines, LanesAreShown};
-ghost use Rattle.codespan_laws.specs.LineLaws.{BreaksAreCovered, BreaksAreGaps, DrawingOfShown, PaddingHasRoom, SourceRowsAreFew};
-ghost use Rattle.codespan_laws.specs.MessageLaws.{MessagesStandOnce};
+ghost use Rattle.codespan_laws.specs.LineLaws.{BreaksAreCovered, BreaksAreGaps, RowsOfShown, PaddingFits, SourceRowsAreFew};
+ghost use Rattle.codespan_laws.specs.MessageLaws.{MessagesAppearOnce};
 ghost use Rattle.codespan_laws.specs.TrailingLaws.{EachTrailsOrHangs};
 ghost use Rattle.codespan_laws.specs.OrderLaws.{OrderIsFree};
 ghost use Rattle.codespan_laws.specs.SortLaws.{SortsLabels};
 ghost use Rattle.codespan_laws.specs.StatedNames.{HeadersAreBeforeFailure, OutputIsPicture};
 ghost use Rattle.codespan_laws.specs.TextLaws.{OutputIsText, PictureIsText};
 ghost use Rattle.codespan_picture.specs.Lanes.{LaneRow};
-ghost use Rattle.codespan_picture.specs.RowParts.{line_cells, row_lanes};
+ghost use Rattle.codespan_picture.specs.RowParts.{line_metrics, row_lanes};
 ghost use Rattle.codespan_picture.specs.Picture.{AreLoci, output};
 ghost use Rattle.codespan_picture.specs.StatedPicture.{stated_loci};
-ghost use Rattle.codespan_picture.specs.Rows.{Locus, Look, Lanes, Line};
-ghost use Rattle.codespan_picture.specs.Snippets.{LabelledFile};
+ghost use Rattle.codespan_picture.specs.Rows.{Locus, RowContext, Lanes, Line};
+ghost use Rattle.codespan_picture.specs.Snippets.{LabeledFileModel};
 
 /// A rich output means its labels, whatever the loci in it: all the laws of its lines, carets,
 /// lanes, breaks, messages and numbers together.
@@ -45,24 +45,24 @@ pub fn outputs_mean_labels<Id>()
 
 /// The drawn lines and the breaks follow from the shown lines: between two of them one line is
 /// filled in, and of two or more there is a break.
-pub fn drawing_is_of_shown_lines()
-    ensures { (config : Config) (s : LabelledFile) → DrawingOfShown config s }
+pub fn rows_are_of_shown_lines()
+    ensures { (config : Config) (s : LabeledFileModel) → RowsOfShown config s }
 {}
 
 /// There is a break row exactly where shown lines are three or more apart.
 pub fn breaks_are_gaps()
-    ensures { (config : Config) (s : LabelledFile) → BreaksAreGaps config s }
+    ensures { (config : Config) (s : LabeledFileModel) → BreaksAreGaps config s }
 {}
 
 /// The bars of a break row are those of the labels that cover every line that is left out.
 pub fn breaks_are_covered()
-    ensures { (config : Config) (layout : Layout) (s : LabelledFile)
+    ensures { (config : Config) (layout : Layout) (s : LabeledFileModel)
         → StartsBeforeEnds s.labels → BreaksAreCovered config layout s }
 {}
 
 /// The source rows of a file number at most twice what its labels show.
 pub fn source_rows_are_few()
-    ensures { (config : Config) (s : LabelledFile) → SourceRowsAreFew config s }
+    ensures { (config : Config) (s : LabeledFileModel) → SourceRowsAreFew config s }
 {}
 
 // ---- carets and pointers
@@ -70,50 +70,50 @@ pub fn source_rows_are_few()
 /// The text of a caret row, between its lanes and its trailing message, is the caret cells of its
 /// line.
 pub fn carets_are_cells()
-    ensures { (look : Look) → CaretsAreCells look }
+    ensures { (context : RowContext) → CaretsAreCells context }
 {}
 
 /// Pointers are in the first cells of the characters in which hanging labels start, and their
 /// messages begin there.
 pub fn pointers_are_cells()
-    ensures { (look : Look) (line : Line)
-        → StartsInWide line.labels (line_cells look line) → PointersAreCells look line }
+    ensures { (context : RowContext) (line : Line)
+        → StartsInWide line.labels (line_metrics context line) → PointersAreCells context line }
 {}
 
 // ---- lanes
 
 /// On source and break rows a lane has a bar exactly where its label covers the line.
 pub fn bars_are_labels()
-    ensures { (layout : Layout) (s : LabelledFile)
+    ensures { (layout : Layout) (s : LabeledFileModel)
         → StartsBeforeEnds s.labels → BarsAreLabels layout s }
 {}
 
 /// Each lane of a file is one line: a top corner, bars, and a bottom corner below it.
 pub fn lanes_are_lines()
-    ensures { (config : Config) (layout : Layout) (s : LabelledFile)
+    ensures { (config : Config) (layout : Layout) (s : LabeledFileModel)
         → StartsBeforeEnds s.labels → LanesAreLines config layout s }
 {}
 
 /// After the bar left of the source the stream of each row that has lanes has what the row shows in
 /// each of them.
 pub fn lanes_are_shown()
-    ensures { (look : Look) → LanesAreShown look }
+    ensures { (context : RowContext) → LanesAreShown context }
 {}
 
 /// Each lane takes two characters.
 pub fn lanes_take_two()
-    ensures { (look : Look) (leading : ℕ) (row : LaneRow) (lanes : Lanes)
-        → row_length (row_lanes look leading row lanes) ≡ 2 * lanes.count }
+    ensures { (context : RowContext) (leading : ℕ) (row : LaneRow) (lanes : Lanes)
+        → row_length (row_lanes context leading row lanes) ≡ 2 * lanes.count }
 {}
 
 // ---- messages
 
 /// Each label with a message has it exactly once in a rich output, and no other message is in it.
-pub fn messages_stand_once<Id>()
+pub fn messages_appear_once<Id>()
     ensures { (renderer view : Config) (files : FileDatabase Id) (d : Diagnostic Id)
         → IsEquivalence files.same → ((id : Id) → 0 < line_count (files.file id))
         → (loci : List Locus) → AreLoci files d Rich loci
-        → MessagesStandOnce renderer view files d loci }
+        → MessagesAppearOnce renderer view files d loci }
 {}
 
 /// Of a line's labels with a message at most one trails, and each other one hangs.
@@ -134,15 +134,15 @@ pub fn order_is_free<Id>()
 /// `sorted` is the one list in the order of ranges, and of equal ranges in the order of its
 /// argument. That is a line's labels in reverse, so of equal ranges the last label comes first.
 pub fn labels_are_sorted()
-    ensures { (labels : List Labelled) → SortsLabels labels }
+    ensures { (labels : List LabelModel) → SortsLabels labels }
 {}
 
 // ---- every row
 
 /// The number of each drawn line fits the padding: in the unbroken layout always, and in the
 /// classic one where the configuration shows no lines after labels and the numbers never fall.
-pub fn padding_has_room()
-    ensures { (config : Config) (ss : List LabelledFile) → PaddingHasRoom config ss }
+pub fn padding_fits()
+    ensures { (config : Config) (ss : List LabeledFileModel) → PaddingFits config ss }
 {}
 
 /// Other characters, with a text before the locus of as many characters, change no row's number of
@@ -188,11 +188,11 @@ pub fn outputs_are_texts<Id>()
 /// Colors change no text: however a writer spells style marks, what it writes of an output is the
 /// plain text and, among it, the bytes of style marks. Over `NoColor` these are none, whatever the
 /// styles.
-pub fn colours_change_no_text<Id>()
+pub fn colors_change_no_text<Id>()
     ensures spelled { (spelling : Spelling) (style : DisplayStyle) (renderer view : Config)
         (files : FileDatabase Id) (d : Diagnostic Id) (loci : List Locus)
-        → ColoursChangeNoText spelling (output style renderer view files d loci) }
-    ensures colourless { (styles : Styles) (style : DisplayStyle) (renderer view : Config)
+        → ColorsChangeNoText spelling (output style renderer view files d loci) }
+    ensures colorless { (styles : Styles) (style : DisplayStyle) (renderer view : Config)
         (files : FileDatabase Id) (d : Diagnostic Id) (loci : List Locus)
-        → NoColourIsPlain styles (output style renderer view files d loci) }
+        → NoColorIsPlain styles (output style renderer view files d loci) }
 {}

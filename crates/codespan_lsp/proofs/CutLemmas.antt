@@ -14,7 +14,7 @@ use Rattle.codespan_lsp.specs.declared.encoding.PositionEncoding.{PositionEncodi
 use Rattle.codespan_lsp.proofs.PrefixLemmas.{Cut, prefix-cut}
 
 -- what a line's prefix of whole characters is in the text
-pub record PrefixStands (encoding : PositionEncoding) (text : List ℕ) (start end n : ℕ) : Type 0 where
+pub record IsPrefixAt (encoding : PositionEncoding) (text : List ℕ) (start end n : ℕ) : Type 0 where
   pub within : start + length (encode_utf8_all (prefix_within encoding n (chars (slice_range text start end)))) ≤ end
   pub boundary : IsCharBoundary text (start + length (encode_utf8_all (prefix_within encoding n (chars (slice_range text start end)))))
   pub units : code_units encoding (slice_range text start (start + length (encode_utf8_all (prefix_within encoding n (chars (slice_range text start end)))))) ≡ total_units encoding (prefix_within encoding n (chars (slice_range text start end)))
@@ -28,10 +28,10 @@ rest-is text start end order =
     let tail : drop (end - start) (drop start text) ≡ drop end text = drop-drop (end - start) start text ∙ ap (λ k. drop k text) after in
     sym parts ∙ ap (λ xs. take (end - start) (drop start text) ++ xs) tail
 
-pub prefix-stands : (encoding : PositionEncoding) (text : List ℕ) (start end n : ℕ) → IsUtf8 text
+pub prefix-is_prefix_at : (encoding : PositionEncoding) (text : List ℕ) (start end n : ℕ) → IsUtf8 text
     → start ≤ end → IsCharBoundary text start → IsCharBoundary text end
-    → PrefixStands encoding text start end n
-prefix-stands encoding text start end n utf8 order from to =
+    → IsPrefixAt encoding text start end n
+prefix-is_prefix_at encoding text start end n utf8 order from to =
     let line : List ℕ = slice_range text start end in
     let front : List ℕ = prefix_within encoding n (chars line) in
     let line_utf8 : IsUtf8 line = IsUtf8-between text start end utf8 order from to in
@@ -60,15 +60,15 @@ module _ (encoding : PositionEncoding) (f : FileModel) (law : IsLawful f) (p : P
   pub prefix-is-at : total_units encoding (prefix_within encoding p.character (chars (line_text f p.line))) ≡ p.character
       → IsByteAt encoding f p (line_start f p.line + length (encode_utf8_all (prefix_within encoding p.character (chars (line_text f p.line)))))
   prefix-is-at units =
-      let stands : PrefixStands encoding f.text (line_start f p.line) (line_end f p.line) p.character =
-      prefix-stands encoding f.text (line_start f p.line) (line_end f p.line) p.character law.is_text
+      let is_prefix_at : IsPrefixAt encoding f.text (line_start f p.line) (line_end f p.line) p.character =
+      prefix-is_prefix_at encoding f.text (line_start f p.line) (line_end f p.line) p.character law.is_text
       (law.ends_after p.line exists) (law.starts_cut p.line exists) (law.ends_cut p.line exists) in
       record {
         line_exists = exists;
         from_start = omega arith;
-        to_end = stands.within;
-        boundary = stands.boundary;
-        units = stands.units ∙ units;
+        to_end = is_prefix_at.within;
+        boundary = is_prefix_at.boundary;
+        units = is_prefix_at.units ∙ units;
       }
 
   -- and so does what is returned for it

@@ -84,8 +84,8 @@ fn two_primary_labels(rt: HostRuntime) -> Result<(), Fail> {
     let callee = files.add("lib", "/*𐐀*/fn f(x)")?;
     let diagnostic = missing_argument(alloc, caller, callee)?;
 
-    let sent = to_lsp_diagnostics(&files, &diagnostic)?;
-    let [called, again] = sent.as_slice() else {
+    let returned = to_lsp_diagnostics(&files, &diagnostic)?;
+    let [called, again] = returned.as_slice() else {
         return Err(Fail::from("not one for each primary label"));
     };
     assert_eq!(rt; called.file_id, caller);
@@ -101,7 +101,7 @@ fn two_primary_labels(rt: HostRuntime) -> Result<(), Fail> {
         again.message.as_str(),
         "too few arguments\nnote: `f` takes one argument"
     );
-    for one in &sent {
+    for one in &returned {
         let [related] = one.related_information.as_slice() else {
             return Err(Fail::from("not one for each secondary label"));
         };

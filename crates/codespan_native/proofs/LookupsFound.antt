@@ -7,12 +7,12 @@ use Rattle.std.proofs.lemmas.Bool.{le-leb, lt-leb}
 use Rattle.std.proofs.lemmas.List.{length-map}
 use Rattle.codespan_base.specs.FileModel.{FileDatabase, FileModel, Lookup, line_count}
 use Rattle.codespan_base.specs.FileModel.Lookup.{Name, Source, LineIndex, LineNumber, LocationAt, LineRange}
-use Rattle.codespan_base.specs.Labels.{Labelled, first_seen, is_primary, last_line}
+use Rattle.codespan_base.specs.Labels.{LabelModel, first_seen, is_primary, last_line}
 use Rattle.codespan_base.specs.declared.files.Error.TheVariants.{FileMissing}
 use Rattle.codespan_base.specs.SimpleModel.{missing_file}
 use Rattle.codespan_picture.specs.Picture.{labels_of}
 use Rattle.codespan_picture.specs.Types.{Config, Diagnostic, Error, DisplayStyle, Rich, Medium, Short, Layout, Classic, Unbroken}
-use Rattle.codespan_picture.specs.Lookups.{AllSucceed, asked_lines, asked_of, early_lookups, ends_context, file_at, filled_lines, header_lookups_of, is_asked, label_lookups, late_lookups, locus_lookups, lookup_past_end, lookups_in, numbers_for_padding, of_filled, of_label, of_line, snippet_lookups}
+use Rattle.codespan_picture.specs.Lookups.{AllSucceed, looked_up_lines, lookups_of_file, early_lookups, ends_context, file_at, filled_lines, header_lookups_of, is_looked_up, label_lookups, late_lookups, locus_lookups, lookup_past_end, lookups_in, numbers_for_padding, filled_line_lookups, label_line_lookups, line_lookups, snippet_lookups}
 use Rattle.codespan_picture.specs.Snippets.{InFile, file_ids, locus_start, primary_of}
 use Rattle.codespan_base.specs.Diagnostics.{DiagnosticView, LabelView}
 use Rattle.codespan_native.specs.declared.error.Argument.TheVariants.{LabelFile}
@@ -22,7 +22,7 @@ use Rattle.codespan_native.specs.declared.raw.RawFile.{RawFile}
 use Rattle.codespan_native.specs.declared.raw.RawLabel.{RawLabel}
 use Rattle.codespan_native.specs.Meaning.{NoLookupFails, label_in, label_of, source_in}
 use Rattle.codespan_native.specs.Validity.{AreValid}
-use Rattle.codespan_native.proofs.Rendered.{labels_alike}
+use Rattle.codespan_native.proofs.Rendered.{labels_equal}
 use Rattle.codespan_native.specs.SourceTexts.{SourceView, database_of, failure_of, file_of}
 
 -- ---- facts of each element of a list
@@ -46,15 +46,15 @@ each_flat_map f P Q [] step all = tt
 each_flat_map f P Q (x ∷ xs) step all =
     each_append P (f x) (flat_map f xs) (step x all.0) (each_flat_map f P Q xs step all.1)
 
-each_kept : {X : Type 0} (P : X → Type 0) (x : X) (xs : List X) (b : Bool) → P x → Each P xs
+each_filtered : {X : Type 0} (P : X → Type 0) (x : X) (xs : List X) (b : Bool) → P x → Each P xs
     → Each P (cond b (x ∷ xs) xs)
-each_kept P x xs true here rest = (here, rest)
-each_kept P x xs false here rest = rest
+each_filtered P x xs true here rest = (here, rest)
+each_filtered P x xs false here rest = rest
 
 each_filter : {X : Type 0} (test : X → Bool) (P : X → Type 0) (xs : List X) → Each P xs → Each P (filter test xs)
 each_filter test P [] all = tt
 each_filter test P (x ∷ xs) all =
-    each_kept P x (filter test xs) (test x) all.0 (each_filter test P xs all.1)
+    each_filtered P x (filter test xs) (test x) all.0 (each_filter test P xs all.1)
 
 each_of_range : (a n : ℕ) → Each (λ i. i < a + n) (range_with_len a n)
 each_of_range a zero = tt
@@ -75,7 +75,7 @@ at_index P (x ∷ xs) (suc k) d h all = at_index P xs k d (omega (arith, h)) all
 -- ---- one file
 
 -- what is looked up of a known file
-record Answers (failure : Lookup → Option Error) (f : FileModel) : Type 0 where
+record LookupsSucceed (failure : Lookup → Option Error) (f : FileModel) : Type 0 where
   pub line_range : (i : ℕ) → i < line_count f → failure (LineRange i) ≡ None
   pub past_end : ends_context (failure (LineRange (line_count f))) ≡ true
   pub name : failure Name ≡ None
@@ -84,8 +84,8 @@ record Answers (failure : Lookup → Option Error) (f : FileModel) : Type 0 wher
   pub line_number : (i : ℕ) → failure (LineNumber i) ≡ None
   pub location : (byte : ℕ) → failure (LocationAt byte) ≡ None
 
-answers_of : (s : SourceView) → Answers (failure_of s) (file_of s)
-answers_of s = record {
+lookups_succeed_of : (s : SourceView) → LookupsSucceed (failure_of s) (file_of s)
+lookups_succeed_of s = record {
   line_range = λ i h. rw (le-leb (suc i) (length s.cut.starts) (omega (arith, h))) refl;
   past_end = rw (lt-leb (suc (length s.cut.starts)) (length s.cut.starts) (omega arith)) refl;
   name = refl;
@@ -95,7 +95,7 @@ answers_of s = record {
   location = λ byte. refl;
 }
 
-module _ (failure : Lookup → Option Error) (f : FileModel) (a : Answers failure f) (config : Config) where
+module _ (failure : Lookup → Option Error) (f : FileModel) (a : LookupsSucceed failure f) (config : Config) where
   abbrev Found : Lookup → Type 0
   Found l = failure l ≡ None
 
@@ -109,19 +109,19 @@ module _ (failure : Lookup → Option Error) (f : FileModel) (a : Answers failur
   nothing_past false true ls e = tt
   nothing_past b false ls e = absurd (cc)
 
-  of_label_found : (x : Labelled) → Each Found (of_label config f failure x)
+  of_label_found : (x : LabelModel) → Each Found (label_line_lookups config f failure x)
   of_label_found x = (
     a.line_index x.start,
     (
       a.line_index x.end,
-      each_append Found (flat_map of_line (asked_lines config f x)) (lookup_past_end config f failure x)
-          (each_flat_map of_line Found (λ i. i < line_count f) (asked_lines config f x)
-          (λ i h. (a.line_range i h, (a.line_number i, tt))) (of_lines (is_asked config f x)))
+      each_append Found (flat_map line_lookups (looked_up_lines config f x)) (lookup_past_end config f failure x)
+          (each_flat_map line_lookups Found (λ i. i < line_count f) (looked_up_lines config f x)
+          (λ i h. (a.line_range i h, (a.line_number i, tt))) (of_lines (is_looked_up config f x)))
           (nothing_past (nat_le (line_count f) (last_line f x + config.after_label_lines)) _ _ a.past_end),
     ),
   )
 
-  of_filled_found : (layout : Layout) (i : ℕ) → i < line_count f → Each Found (of_filled layout i)
+  of_filled_found : (layout : Layout) (i : ℕ) → i < line_count f → Each Found (filled_line_lookups layout i)
   of_filled_found Classic i h = (a.line_range i h, (a.line_number i, tt))
   of_filled_found Unbroken i h = (a.line_range i h, tt)
 
@@ -138,23 +138,23 @@ module _ (ss : List SourceView) where
   IsKnown id = id < length ss
 
   -- those of the file that is found, if any
-  abbrev AnswersIf : Option SourceView → Type 0
-  AnswersIf o = Answers (λ lookup. option_map_or (λ s. failure_of s lookup) o (Some FileMissing)) (option_map_or file_of o missing_file)
+  abbrev LookupsSucceedIf : Option SourceView → Type 0
+  LookupsSucceedIf o = LookupsSucceed (λ lookup. option_map_or (λ s. failure_of s lookup) o (Some FileMissing)) (option_map_or file_of o missing_file)
 
-  answers_if : (o : Option SourceView) → IsSome o → AnswersIf o
-  answers_if None is = absurd (cc)
-  answers_if (Some s) is = answers_of s
+  lookups_succeed_if : (o : Option SourceView) → IsSome o → LookupsSucceedIf o
+  lookups_succeed_if None is = absurd (cc)
+  lookups_succeed_if (Some s) is = lookups_succeed_of s
 
   there : (xs : List SourceView) (i : ℕ) → i < length xs → IsSome (slice_get xs i)
   there [] i h = absurd (omega (arith, h))
   there (x ∷ xs) zero h = refl
   there (x ∷ xs) (suc i) h = there xs i (omega (arith, h))
 
-  answers_at : (id : ℕ) → IsKnown id → Answers (fails id) ((database_of ss).file id)
-  answers_at id known = answers_if (slice_get ss id) (there ss id known)
+  lookups_succeed_at : (id : ℕ) → IsKnown id → LookupsSucceed (fails id) ((database_of ss).file id)
+  lookups_succeed_at id known = lookups_succeed_if (slice_get ss id) (there ss id known)
 
-  asked_found : (id : ℕ) (ls : List Lookup) → Each (λ l. fails id l ≡ None) ls → Each IsFound (asked_of id ls)
-  asked_found id ls all = each_map (λ l. (id, l)) IsFound (λ l. fails id l ≡ None) ls (λ l e. e) all
+  lookups_are_found : (id : ℕ) (ls : List Lookup) → Each (λ l. fails id l ≡ None) ls → Each IsFound (lookups_of_file id ls)
+  lookups_are_found id ls all = each_map (λ l. (id, l)) IsFound (λ l. fails id l ≡ None) ls (λ l e. e) all
 
   abbrev InKnown : InFile ℕ → Type 0
   InKnown x = IsKnown x.id
@@ -170,47 +170,47 @@ module _ (ss : List SourceView) where
 
     labels_found : Each IsFound (label_lookups config files xs)
     labels_found =
-        each_flat_map (λ (x : InFile ℕ). asked_of x.id (of_label config (files.file x.id) (files.failure x.id) x.label))
+        each_flat_map (λ (x : InFile ℕ). lookups_of_file x.id (label_line_lookups config (files.file x.id) (files.failure x.id) x.label))
         IsFound InKnown xs
-        (λ x h. asked_found x.id (of_label config (files.file x.id) (files.failure x.id) x.label) (of_label_found (fails x.id) (files.file x.id) (answers_at x.id h) config x.label)) known
+        (λ x h. lookups_are_found x.id (label_line_lookups config (files.file x.id) (files.failure x.id) x.label) (of_label_found (fails x.id) (files.file x.id) (lookups_succeed_at x.id h) config x.label)) known
 
-    of_ids : (ask : ℕ → List Lookup) → ((id : ℕ) → IsKnown id → Each (λ l. fails id l ≡ None) (ask id))
-        → Each IsFound (flat_map (λ id. asked_of id (ask id)) (file_ids files.same xs))
-    of_ids ask each =
-        each_flat_map (λ id. asked_of id (ask id)) IsFound IsKnown (file_ids files.same xs)
-        (λ id h. asked_found id (ask id) (each id h)) ids_known
+    of_ids : (lookups_for : ℕ → List Lookup) → ((id : ℕ) → IsKnown id → Each (λ l. fails id l ≡ None) (lookups_for id))
+        → Each IsFound (flat_map (λ id. lookups_of_file id (lookups_for id)) (file_ids files.same xs))
+    of_ids lookups_for each =
+        each_flat_map (λ id. lookups_of_file id (lookups_for id)) IsFound IsKnown (file_ids files.same xs)
+        (λ id h. lookups_are_found id (lookups_for id) (each id h)) ids_known
 
     padding_found : (layout : Layout) (id : ℕ) → IsKnown id
         → Each (λ l. fails id l ≡ None) (numbers_for_padding files xs config layout id)
     padding_found Classic id h = tt
     padding_found Unbroken id h =
         each_map LineNumber (λ l. fails id l ≡ None) (λ i. i < line_count (files.file id))
-        (filled_lines config (file_at files xs id)) (λ i _. (answers_at id h).line_number i)
-        (of_lines (fails id) (files.file id) (answers_at id h) config _)
+        (filled_lines config (file_at files xs id)) (λ i _. (lookups_succeed_at id h).line_number i)
+        (of_lines (fails id) (files.file id) (lookups_succeed_at id h) config _)
 
     snippets_found : (id : ℕ) → IsKnown id → Each (λ l. fails id l ≡ None) (snippet_lookups files xs config id)
     snippets_found id h = (
-      (answers_at id h).source,
-      each_flat_map (of_filled config.layout) (λ l. fails id l ≡ None) (λ i. i < line_count (files.file id))
+      (lookups_succeed_at id h).source,
+      each_flat_map (filled_line_lookups config.layout) (λ l. fails id l ≡ None) (λ i. i < line_count (files.file id))
           (filled_lines config (file_at files xs id))
-          (of_filled_found (fails id) (files.file id) (answers_at id h) config config.layout)
-          (of_lines (fails id) (files.file id) (answers_at id h) config _),
+          (of_filled_found (fails id) (files.file id) (lookups_succeed_at id h) config config.layout)
+          (of_lines (fails id) (files.file id) (lookups_succeed_at id h) config _),
     )
 
     rich_found : Each IsFound (early_lookups files xs config ++ late_lookups files xs config)
     rich_found =
         each_append IsFound (early_lookups files xs config) (late_lookups files xs config)
-        (each_append IsFound _ (flat_map (λ id. asked_of id (locus_lookups files xs id)) (file_ids files.same xs))
+        (each_append IsFound _ (flat_map (λ id. lookups_of_file id (locus_lookups files xs id)) (file_ids files.same xs))
         (each_append IsFound (label_lookups config files xs)
-        (flat_map (λ id. asked_of id (numbers_for_padding files xs config config.layout id)) (file_ids files.same xs))
+        (flat_map (λ id. lookups_of_file id (numbers_for_padding files xs config config.layout id)) (file_ids files.same xs))
         labels_found (of_ids (numbers_for_padding files xs config config.layout) (padding_found config.layout)))
-        (of_ids (locus_lookups files xs) (λ id h. ((answers_at id h).name, ((answers_at id h).location (locus_start (file_at files xs id).labels), tt)))))
+        (of_ids (locus_lookups files xs) (λ id h. ((lookups_succeed_at id h).name, ((lookups_succeed_at id h).location (locus_start (file_at files xs id).labels), tt)))))
         (of_ids (snippet_lookups files xs config) snippets_found)
 
     header_found : Each IsFound (flat_map header_lookups_of (primary_of xs))
     header_found =
         each_flat_map header_lookups_of IsFound InKnown (primary_of xs)
-        (λ x h. ((answers_at x.id h).name, ((answers_at x.id h).location x.label.start, tt)))
+        (λ x h. ((lookups_succeed_at x.id h).name, ((lookups_succeed_at x.id h).location x.label.start, tt)))
         (each_filter (λ (x : InFile ℕ). is_primary x.label) InKnown xs known)
 
   succeed : (ls : List (ℕ × Lookup)) → Each IsFound ls → AllSucceed fails ls
@@ -237,7 +237,7 @@ pub none_fails : (files : List RawFile) (diagnostic : RawDiagnostic) (raw : RawC
 none_fails files diagnostic raw valid d config viewed =
     let ss = map source_in files in
     let same : map label_in (map (label_of files) diagnostic.labels.now) ≡ labels_of d =
-    ap (λ (v : DiagnosticView ℕ). map label_in v.labels) (sym viewed) ∙ sym (labels_alike d.labels.items) in
+    ap (λ (v : DiagnosticView ℕ). map label_in v.labels) (sym viewed) ∙ sym (labels_equal d.labels.items) in
     let count : length files ≡ length ss = sym (length-map files source_in) in
     let known : Each (λ (l : RawLabel). l.file < length ss) diagnostic.labels.now =
     each_from_all (λ (l : RawLabel). l.file < length ss) diagnostic.labels.now

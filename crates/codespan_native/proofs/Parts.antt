@@ -5,11 +5,11 @@ use Rattle.codespan_native.specs.declared.raw.RawConfig.{RawConfig}
 use Rattle.codespan_native.specs.declared.raw.RawDiagnostic.{RawDiagnostic}
 use Rattle.codespan_native.specs.declared.raw.RawFile.{RawFile}
 use Rattle.codespan_native.specs.Validity.{AreValid}
-use Rattle.codespan_native.specs.ValidParts.{AreOwnChars, AreValidChars, IsValidDiagnostic, IsValidFile}
+use Rattle.codespan_native.specs.ValidParts.{AreCustomChars, AreValidChars, IsValidDiagnostic, IsValidFile}
 
 module _ (files : List RawFile) (d : RawDiagnostic) (c : RawConfig) (valid : AreValid files d c) where
-  own_chars : c.characters ≡ 2 → AreOwnChars c.chars
-  own_chars chosen = record {
+  custom_chars : c.characters ≡ 2 → AreCustomChars c.chars
+  custom_chars chosen = record {
     snippet_start = valid SnippetStart 0 chosen;
     source_border_left = valid Character 0 chosen 0 (omega arith);
     source_border_left_break = valid Character 1 chosen 0 (omega arith);
@@ -29,7 +29,7 @@ module _ (files : List RawFile) (d : RawDiagnostic) (c : RawConfig) (valid : Are
   }
 
   pub valid_chars : AreValidChars c
-  valid_chars = record { choice = valid Characters 0; own = own_chars }
+  valid_chars = record { choice = valid Characters 0; custom = custom_chars }
 
   pub valid_files : All IsValidFile files
   valid_files = λ k f below. record {

@@ -10,17 +10,17 @@ use Rattle.codespan_base.specs.declared.term.config.DisplayStyle.{DisplayStyle}
 use Rattle.codespan_base.specs.declared.term.config.DisplayStyle.TheVariants.{Rich}
 use Rattle.codespan_base.specs.Diagnostics.{DiagnosticView, diagnostic_view, label_view}
 use Rattle.codespan_base.specs.FileModel.{FileDatabase}
-use Rattle.codespan_base.specs.Lookalikes.{IsConfig}
+use Rattle.codespan_base.specs.ConfigEquality.{IsConfig}
 use Rattle.codespan_base.specs.SimpleModel.{missing_file}
 use Rattle.codespan_base.specs.Streams.{Spelling, Stream, spelled}
 use Rattle.codespan_base.specs.WriterLaw.{Sink, is_known, with_written, are_known, extended}
 use Rattle.codespan_base.specs.Writers.{fresh_sink}
-use Rattle.codespan_laws.specs.Meanings.{MeansLabels}
+use Rattle.codespan_laws.specs.RichLaws.{MeansLabels}
 use Rattle.codespan_laws.specs.StatedNames.{NamesAreStated}
 use Rattle.codespan_laws.proofs.StatedNames.{output_stated}
-use Rattle.codespan_picture.proofs.Alike.{rendered_alike}
+use Rattle.codespan_picture.proofs.EqualConfigs.{rendered_equal}
 use Rattle.codespan_picture.specs.Picture.{heading_of, label_of, labels_of, notes_of, rendered, starts}
-use Rattle.codespan_picture.specs.Snippets.{InFile, labelled_files}
+use Rattle.codespan_picture.specs.Snippets.{InFile, labeled_file_models}
 use Rattle.codespan_picture.specs.StatedPicture.{stated_locus}
 use Rattle.codespan_reporting.specs.WriteCalls.{WritesStyled}
 use Rattle.codespan_native.specs.declared.error.OutOfMemory.{OutOfMemory}
@@ -29,7 +29,7 @@ use Rattle.codespan_native.specs.declared.raw.RawDiagnostic.{RawDiagnostic}
 use Rattle.codespan_native.specs.declared.raw.RawFile.{RawFile}
 use Rattle.codespan_native.specs.Meaning.{Means, config_of, display_style_of, label_in, output_bytes, output_in, source_in, spelling_of, view_of}
 use Rattle.codespan_native.specs.SourceTexts.{SourceView, database_of, file_of}
-use Rattle.codespan_native.specs.Spellings.{picture_of}
+use Rattle.codespan_native.specs.Spellings.{stream_of_output}
 
 -- the names of the files are stated
 pub stated : (ss : List SourceView) (d : Diagnostic ℕ) → NamesAreStated (database_of ss) d
@@ -44,23 +44,23 @@ stated ss d x contains = named x.id
 pub written_stream : (config : Config) (ss : List SourceView) (d : Diagnostic ℕ) (old new : Sink)
     (r : Result (Unit {0}) Error)
     → WritesStyled config.display_style config config (database_of ss) d old r new
-    → is_known old ≡ true → OnOk r (new ≡ with_written old (picture_of config ss d))
+    → is_known old ≡ true → OnOk r (new ≡ with_written old (stream_of_output config ss d))
 written_stream config ss d old new (Ok done) writes known =
-    writes.writes.gains known
+    writes.writes.received known
     ∙ ap (with_written old) (output_stated (database_of ss) d (stated ss d) config.display_style
     config config writes.writes.loci writes.writes.are_loci)
 written_stream config ss d old new (Err error) writes known = tt
 
 -- a fresh writer over some bytes holds after them the stream that was written
-pub held_after : (spelling : Spelling) (old new : Sink) (stream : Stream) (first last : List ℕ)
+pub text_after : (spelling : Spelling) (old new : Sink) (stream : Stream) (first last : List ℕ)
     → old ≡ fresh_sink spelling (Some first) → new ≡ with_written old stream
-    → new.held ≡ Some last → last ≡ first ++ spelled spelling stream
+    → new.contents ≡ Some last → last ≡ first ++ spelled spelling stream
 unfolding with_written extended
-held_after spelling old new stream first last fresh came held =
-    let both : Some last ≡ extended old.held (spelled old.frame.spelling stream) =
-    sym held ∙ ap (λ (s : Sink). s.held) came in
+text_after spelling old new stream first last fresh written contents =
+    let both : Some last ≡ extended old.contents (spelled old.frame.spelling stream) =
+    sym contents ∙ ap (λ (s : Sink). s.contents) written in
     let is : Some last ≡ Some (first ++ spelled spelling stream) =
-    both ∙ ap (λ (s : Sink). extended s.held (spelled s.frame.spelling stream)) fresh in
+    both ∙ ap (λ (s : Sink). extended s.contents (spelled s.frame.spelling stream)) fresh in
     cc is
 
 -- the bytes of a fresh writer are known
@@ -70,42 +70,42 @@ unfolding is_known are_known
 fresh_known spelling old first fresh = ap (λ (s : Sink). is_known s) fresh
 
 -- labels as outputs read them are those of their views
-pub labels_alike : (xs : List (Label ℕ)) → map label_of xs ≡ map label_in (map label_view xs)
-labels_alike [] = refl
-labels_alike (x ∷ xs) = ap (λ rest. label_of x ∷ rest) (labels_alike xs)
+pub labels_equal : (xs : List (Label ℕ)) → map label_of xs ≡ map label_in (map label_view xs)
+labels_equal [] = refl
+labels_equal (x ∷ xs) = ap (λ rest. label_of x ∷ rest) (labels_equal xs)
 
 -- what is rendered of a diagnostic, by its labels
 abbrev rendered_of : DisplayStyle → Config → FileDatabase ℕ → Diagnostic ℕ → List (InFile ℕ) → Stream
 rendered_of style config files d xs =
     rendered style config config d.severity (heading_of d)
     (map stated_locus (starts files.same files.file xs style))
-    (labelled_files files.same files.file xs) (notes_of d)
+    (labeled_file_models files.same files.file xs) (notes_of d)
 
 -- the output of a configuration, of files and of a diagnostic is that of what they stand for
 pub output_is : (table config : Config) (ss ts : List SourceView) (d : Diagnostic ℕ)
     (v : DiagnosticView ℕ) → IsConfig table config → ss ≡ ts → diagnostic_view d ≡ v
-    → picture_of config ss d ≡ output_in table (database_of ts) v
+    → stream_of_output config ss d ≡ output_in table (database_of ts) v
 output_is table config ss ts d v alike same viewed =
     let files = database_of ss in
     ap (λ (style : DisplayStyle). rendered_of style config files d (labels_of d))
     (ap (λ (c : Config). c.display_style) alike.others)
-    ∙ rendered_alike table config alike d.severity (heading_of d)
+    ∙ rendered_equal table config alike d.severity (heading_of d)
     (map stated_locus (starts files.same files.file (labels_of d) table.display_style))
-    (labelled_files files.same files.file (labels_of d)) (notes_of d) table.display_style
-    ∙ ap (λ xs. rendered_of table.display_style table files d xs) (labels_alike d.labels.items)
+    (labeled_file_models files.same files.file (labels_of d)) (notes_of d) table.display_style
+    ∙ ap (λ xs. rendered_of table.display_style table files d xs) (labels_equal d.labels.items)
     ∙ ap (λ ss. output_in table (database_of ss) (diagnostic_view d)) same
     ∙ ap (λ v. output_in table (database_of ts) v) viewed
 
 -- the bytes that are rendered are those that the structs describe
 pub bytes_are : (spelling : Spelling) (config : Config) (ss : List SourceView) (d : Diagnostic ℕ)
     (files : List RawFile) (diagnostic : RawDiagnostic) (raw : RawConfig) (bytes : List ℕ)
-    → bytes ≡ spelled spelling (picture_of config ss d) → spelling ≡ spelling_of raw
+    → bytes ≡ spelled spelling (stream_of_output config ss d) → spelling ≡ spelling_of raw
     → IsConfig (config_of raw) config → ss ≡ map source_in files
     → diagnostic_view d ≡ view_of files diagnostic → bytes ≡ output_bytes files diagnostic raw
 unfolding output_bytes
 bytes_are spelling config ss d files diagnostic raw bytes are spells alike same viewed =
     are
-    ∙ ap (λ s. spelled s (picture_of config ss d)) spells
+    ∙ ap (λ s. spelled s (stream_of_output config ss d)) spells
     ∙ ap (λ stream. spelled (spelling_of raw) stream)
     (output_is (config_of raw) config ss (map source_in files) d (view_of files diagnostic) alike same viewed)
 
@@ -113,7 +113,7 @@ bytes_are spelling config ss d files diagnostic raw bytes are spells alike same 
 pub result_is : (spelling : Spelling) (config : Config) (ss : List SourceView) (d : Diagnostic ℕ)
     (files : List RawFile) (diagnostic : RawDiagnostic) (raw : RawConfig)
     (r : Result (Vec ℕ Global) OutOfMemory)
-    → IfOk r (λ output. output.items ≡ spelled spelling (picture_of config ss d))
+    → IfOk r (λ output. output.items ≡ spelled spelling (stream_of_output config ss d))
     → spelling ≡ spelling_of raw → IsConfig (config_of raw) config → ss ≡ map source_in files
     → diagnostic_view d ≡ view_of files diagnostic
     → IfOk r (λ output. output.items ≡ output_bytes files diagnostic raw)

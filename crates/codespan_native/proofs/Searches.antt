@@ -1,5 +1,5 @@
 -- What the binary searches of lines and loci find, for `LinedText::line_index` and
--- `SourceFile::own_location`.
+-- `SourceFile::stated_location`.
 use Rattle.std.proofs.Common.{◌≡◌, ◌≢◌, ℕ, zero, suc, ◌+◌, ◌-◌, ◌<◌, ◌≤◌, Bool, true, false, List, [], ◌∷◌, length, Some, None, Result, Ok, Err, refl, sym, ap, arith, inl, inr}
 use Rattle.std.specs.Prelude.{◌&&◌, ◌==◌, nat_lt, nat_le, slice_index, MatchResult}
 use Rattle.std.specs.Ordering.{nat_cmp, ordering_index}
@@ -17,7 +17,7 @@ use Rattle.codespan_base.specs.FileModel.{line_of}
 use Rattle.codespan_base.specs.Lemmas.Lines.{count_split}
 use Rattle.codespan_native.specs.declared.raw.RawLine.{RawLine}
 use Rattle.codespan_native.specs.declared.raw.RawLocus.{RawLocus}
-use Rattle.codespan_native.specs.GivenLines.{ascend_from, ascends, locus_at, starts_of}
+use Rattle.codespan_native.specs.StatedLines.{ascend_from, ascends, locus_at, starts_of}
 
 -- ---- lines
 

@@ -13,7 +13,7 @@ use Rattle.codespan_base.specs.Lines.{is_char_boundary}
 use Rattle.codespan_base.specs.SimpleModel.{simple_file}
 use Rattle.codespan_base.specs.Lemmas.Simple.{renumbered_lawful, simple_lawful}
 use Rattle.codespan_native.specs.declared.raw.RawLine.{RawLine}
-use Rattle.codespan_native.specs.GivenLines.{are_lines, ends_of, follow, starts_of}
+use Rattle.codespan_native.specs.StatedLines.{are_lines, ends_of, follow, starts_of}
 use Rattle.codespan_native.specs.SourceTexts.{file_of, lined_text, numbered_text}
 
 -- a text cut at newlines makes a lawful file

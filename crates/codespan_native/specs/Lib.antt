@@ -1,8 +1,8 @@
 -- What the contracts of this crate cite.
 -- style marks in band
-pub mod MarkBytes
+pub mod StyleMarkBytes
 -- files
-pub mod GivenLines
+pub mod StatedLines
 pub mod SourceTexts
 pub mod Lemmas
 pub mod SourceModel

@@ -5,8 +5,8 @@ use Rattle.codespan_base.specs.Ansi.{ansi_style, ansi_reset}
 use Rattle.codespan_base.specs.Characters.{ascii, box_drawing}
 use Rattle.codespan_base.specs.Diagnostics.{DiagnosticView, LabelView, diagnostic_view}
 use Rattle.codespan_base.specs.FileModel.{FileDatabase}
-use Rattle.codespan_base.specs.Lookalikes.{IsConfig}
-use Rattle.codespan_base.specs.Streams.{Spelling, Stream, bytes, no_marks, spelled}
+use Rattle.codespan_base.specs.ConfigEquality.{IsConfig}
+use Rattle.codespan_base.specs.Streams.{Spelling, Stream, bytes, no_style_marks, spelled}
 use Rattle.codespan_base.specs.StyleTables.{default_styles, spelling_by}
 use Rattle.codespan_base.specs.declared.diagnostic.Diagnostic.{Diagnostic}
 use Rattle.codespan_base.specs.declared.diagnostic.LabelStyle.{LabelStyle}
@@ -24,11 +24,11 @@ use Rattle.codespan_base.specs.declared.term.config.color.Color.{Color}
 use Rattle.codespan_base.specs.declared.term.config.color.Color.TheVariants.{Black, Red, Green, Yellow, Blue, Magenta, Cyan, White}
 use Rattle.codespan_base.specs.declared.term.config.color.ColorSpec.{ColorSpec}
 use Rattle.codespan_base.specs.declared.term.config.styles.Styles.{Styles}
-use Rattle.codespan_laws.specs.Meanings.{MeansLabels}
+use Rattle.codespan_laws.specs.RichLaws.{MeansLabels}
 use Rattle.codespan_picture.specs.Lookups.{AllSucceed, lookups_in}
 use Rattle.codespan_picture.specs.Picture.{rendered, starts}
 use Rattle.codespan_picture.specs.Rows.{Heading}
-use Rattle.codespan_picture.specs.Snippets.{InFile, labelled_files}
+use Rattle.codespan_picture.specs.Snippets.{InFile, labeled_file_models}
 use Rattle.codespan_picture.specs.StatedPicture.{stated_locus}
 use Rattle.codespan_native.specs.declared.raw.RawChars.{RawChars}
 use Rattle.codespan_native.specs.declared.raw.RawColorSpec.{RawColorSpec}
@@ -39,8 +39,8 @@ use Rattle.codespan_native.specs.declared.raw.RawLabel.{RawLabel}
 use Rattle.codespan_native.specs.declared.raw.RawLine.{RawLine}
 use Rattle.codespan_native.specs.declared.raw.RawStyles.{RawStyles}
 use Rattle.codespan_native.specs.declared.raw.RawText.{RawText}
-use Rattle.codespan_native.specs.MarkBytes.{mark_spelling}
-use Rattle.codespan_native.specs.GivenLines.{locus_at}
+use Rattle.codespan_native.specs.StyleMarkBytes.{style_mark_spelling}
+use Rattle.codespan_native.specs.StatedLines.{locus_at}
 use Rattle.codespan_native.specs.SourceTexts.{CutText, SourceView, database_of, lined_text, numbered_text}
 
 -- ---- numbers
@@ -105,8 +105,8 @@ view_of files d = record {
 -- ---- the configuration
 
 -- the caller's characters
-abbrev pub own_chars : RawChars → Chars
-own_chars c = record {
+abbrev pub custom_chars : RawChars → Chars
+custom_chars c = record {
   snippet_start = Fixed (record { ref_ptr = (0, 0); now = c.snippet_start.now });
   source_border_left = c.source_border_left;
   source_border_left_break = c.source_border_left_break;
@@ -129,7 +129,7 @@ own_chars c = record {
 abbrev pub chars_of : RawConfig → Chars
 chars_of c =
     if c.characters == 0 then box_drawing else if c.characters == 1 then ascii
-    else own_chars c.chars
+    else custom_chars c.chars
 
 -- the configuration; a tab stops after 1024 cells at most
 abbrev pub config_of : RawConfig → Config
@@ -154,8 +154,8 @@ color_spec_of s = record {
 }
 
 -- the caller's styles
-abbrev pub own_styles : RawStyles → Styles
-own_styles s = record {
+abbrev pub custom_styles : RawStyles → Styles
+custom_styles s = record {
   header_bug = color_spec_of s.header_bug;
   header_error = color_spec_of s.header_error;
   header_warning = color_spec_of s.header_warning;
@@ -180,8 +180,8 @@ ansi_spelling styles = spelling_by styles ansi_style ansi_reset
 -- how style marks are spelled
 abbrev pub spelling_of : RawConfig → Spelling
 spelling_of c =
-    if c.spelling == 0 then no_marks else if c.spelling == 1 then ansi_spelling default_styles
-    else if c.spelling == 2 then ansi_spelling (own_styles c.styles) else mark_spelling
+    if c.spelling == 0 then no_style_marks else if c.spelling == 1 then ansi_spelling default_styles
+    else if c.spelling == 2 then ansi_spelling (custom_styles c.styles) else style_mark_spelling
 
 -- ---- the files
 
@@ -228,7 +228,7 @@ abbrev pub output_in : Config → FileDatabase ℕ → DiagnosticView ℕ → St
 output_in config files d =
     rendered config.display_style config config d.severity (heading_in d)
     (map stated_locus (starts files.same files.file (labels_in d) config.display_style))
-    (labelled_files files.same files.file (labels_in d)) d.notes
+    (labeled_file_models files.same files.file (labels_in d)) d.notes
 
 -- the bytes of the output that the structs describe
 unfoldable pub output_bytes : List RawFile → RawDiagnostic → RawConfig → List ℕ

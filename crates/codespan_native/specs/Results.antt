@@ -14,6 +14,6 @@ pub record IsTooSmall (bytes old new : List ℕ) (written : ℕ) : Type 0 where
   pub unchanged : new ≡ old
 
 -- nothing is written
-pub record IsUntouched (old new : List ℕ) (written : ℕ) : Type 0 where
+pub record IsUnchanged (old new : List ℕ) (written : ℕ) : Type 0 where
   pub none : written ≡ 0
   pub unchanged : new ≡ old

@@ -7,7 +7,7 @@ use Rattle.codespan_base.specs.declared.files.Location.{Location}
 use Rattle.codespan_base.specs.FileModel.{line_of}
 use Rattle.codespan_base.specs.LawfulFiles.{IsLawful, FailsPastEnd}
 use Rattle.codespan_base.specs.FileModel.Lookup.{LineRange}
-use Rattle.codespan_base.specs.FileTables.{name_of, source_of as simple_source_of}
+use Rattle.codespan_base.specs.DatabaseViews.{name_of, source_of as simple_source_of}
 use Rattle.codespan_base.specs.Lemmas.Simple.{past_end_is, text_fits, text_is_utf8}
 use Rattle.codespan_base.specs.Lemmas.Lines.{line_of_below}
 use Rattle.codespan_base.specs.Lemmas.Missing.{past_end_or, table_lawful}
@@ -17,7 +17,7 @@ use Rattle.codespan_native.specs.declared.source_file.SourceFile.{SourceFile}
 use Rattle.codespan_native.specs.declared.source_file.text.SourceText.{SourceText}
 use Rattle.codespan_native.specs.declared.source_file.text.SourceText.TheVariants.{Numbered, Lined}
 use Rattle.codespan_native.specs.declared.source_files.SourceFiles.{SourceFiles}
-use Rattle.codespan_native.specs.GivenLines.{locus_at}
+use Rattle.codespan_native.specs.StatedLines.{locus_at}
 use Rattle.codespan_native.specs.SourceTexts.{CutText, SourceView, database_of, failure_of, file_of, lined_text, numbered_text, past_last}
 use Rattle.codespan_native.specs.Lemmas.{lined_lawful, numbered_lawful}
 

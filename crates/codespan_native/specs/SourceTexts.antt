@@ -1,5 +1,5 @@
--- Texts cut into lines: at newlines, or into the lines that a caller gives. A text is a window of a
--- file from a byte on; an index before the window counts as its start.
+-- Texts cut into lines: at newlines, or into the lines that a caller states. A text is a window of
+-- a file from a byte on; an index before the window counts as its start.
 use Rattle.std.specs.Prelude.{◌≡◌, ℕ, ◌+◌, ◌-◌, ◌^◌, ◌<◌, true, nat_lt, if◌then◌else◌, List, length, slice_get, slice_index, min, nat_eq, Option, Some, None, unwrap_or}
 use Rattle.std.specs.Option.{option_map_or}
 use Rattle.std.specs.declared.ops.Range.{Range}
@@ -11,7 +11,7 @@ use Rattle.codespan_base.specs.FileModel.Lookup.{ColumnNumber, LineRange}
 use Rattle.codespan_base.specs.Lines.{column_index_of, line_starts_of}
 use Rattle.codespan_base.specs.SimpleModel.{line_ends, missing_file}
 use Rattle.codespan_native.specs.declared.raw.RawLine.{RawLine}
-use Rattle.codespan_native.specs.GivenLines.{ends_of, numbers_of, starts_of}
+use Rattle.codespan_native.specs.StatedLines.{ends_of, numbers_of, starts_of}
 
 -- ---- texts
 

@@ -9,7 +9,7 @@ use Rattle.codespan_native.specs.declared.raw.RawFile.{RawFile}
 use Rattle.codespan_native.specs.Validity.{HasTextMessage, HasTextName, HasTextSource, HasValidLines, HasValidLoci, IsValidText}
 
 -- the caller's characters
-pub record AreOwnChars (c : RawChars) : Type 0 where
+pub record AreCustomChars (c : RawChars) : Type 0 where
   pub snippet_start : IsUtf8 c.snippet_start.now
   pub source_border_left : InScalarRange c.source_border_left
   pub source_border_left_break : InScalarRange c.source_border_left_break
@@ -30,7 +30,7 @@ pub record AreOwnChars (c : RawChars) : Type 0 where
 -- the choice of characters, and the caller's where they are chosen
 pub record AreValidChars (c : RawConfig) : Type 0 where
   pub choice : c.characters ≤ 2
-  pub own : c.characters ≡ 2 → AreOwnChars c.chars
+  pub custom : c.characters ≡ 2 → AreCustomChars c.chars
 
 -- a file
 pub record IsValidFile (f : RawFile) : Type 0 where

@@ -15,7 +15,7 @@ use Rattle.codespan_native.specs.declared.raw.RawLabel.{RawLabel}
 use Rattle.codespan_native.specs.declared.raw.RawLine.{RawLine}
 use Rattle.codespan_native.specs.declared.raw.RawStyles.{RawStyles}
 use Rattle.codespan_native.specs.declared.raw.RawText.{RawText}
-use Rattle.codespan_native.specs.GivenLines.{are_lines, ascends}
+use Rattle.codespan_native.specs.StatedLines.{are_lines, ascends}
 
 -- ---- values
 

@@ -8,10 +8,10 @@
 pub mod convert;
 pub mod emit;
 pub mod error;
-pub mod mark_writer;
 pub mod raw;
 pub mod render;
 pub mod source_file;
 pub mod source_files;
 pub mod status;
+pub mod style_mark_writer;
 pub mod validate;

@@ -1,20 +1,20 @@
 //! The bytes of the output.
 
 ghost use Rattle.std.specs.Prelude.{◌≡◌, ◌++◌, true, IfOk, OnOk};
-ghost use Rattle.codespan_base.specs.Streams.{no_marks, spelled};
+ghost use Rattle.codespan_base.specs.Streams.{no_style_marks, spelled};
 ghost use Rattle.codespan_base.specs.WriterLaw.{is_known, with_written};
 ghost use Rattle.codespan_base.specs.declared.term.config.DisplayStyle.TheVariants.{Rich};
-ghost use Rattle.codespan_laws.specs.Meanings.{MeansLabels};
-ghost use Rattle.codespan_native.specs.MarkBytes.{mark_spelling};
+ghost use Rattle.codespan_laws.specs.RichLaws.{MeansLabels};
+ghost use Rattle.codespan_native.specs.StyleMarkBytes.{style_mark_spelling};
 ghost use Rattle.codespan_native.specs.Meaning.{ansi_spelling};
 ghost use Rattle.codespan_native.specs.SourceModel.{sources_of};
 ghost use Rattle.codespan_native.specs.SourceTexts.{database_of};
-ghost use Rattle.codespan_native.specs.Spellings.{picture_of, spelling_by_kind};
+ghost use Rattle.codespan_native.specs.Spellings.{stream_of_output, spelling_by_kind};
 
 use crate::convert::{Settings, Spelling};
 use crate::error::OutOfMemory;
-use crate::mark_writer::MarkWriter;
 use crate::source_files::SourceFiles;
+use crate::style_mark_writer::StyleMarkWriter;
 use codespan_reporting::diagnostic::Diagnostic;
 use codespan_reporting::files::Error;
 use codespan_reporting::term::{
@@ -38,68 +38,68 @@ pub fn render(
 ) -> Result<Vec<u8>, OutOfMemory>
     ensures value { IfOk result (λ bytes. bytes.items ≡ spelled
         (spelling_by_kind settings.now.spelling)
-        (picture_of settings.now.config (sources_of files.now) diagnostic.now)) }
+        (stream_of_output settings.now.config (sources_of files.now) diagnostic.now)) }
     ensures means { IfOk result (λ _. settings.now.config.display_style ≡ Rich
         → MeansLabels settings.now.config settings.now.config
         (database_of (sources_of files.now)) diagnostic.now) }
 {
-    let room = Vec::with_capacity(alloc, INITIAL_CAPACITY)?;
+    let buffer = Vec::with_capacity(alloc, INITIAL_CAPACITY)?;
     match &settings.spelling {
-        Spelling::Plain => render_plain(room, &settings.config, files, diagnostic),
-        Spelling::Ansi(styles) => render_ansi(room, styles, &settings.config, files, diagnostic),
-        Spelling::Marked => render_marked(room, &settings.config, files, diagnostic),
+        Spelling::Plain => render_plain(buffer, &settings.config, files, diagnostic),
+        Spelling::Ansi(styles) => render_ansi(buffer, styles, &settings.config, files, diagnostic),
+        Spelling::StyleMarks => render_style_marks(buffer, &settings.config, files, diagnostic),
     }
 }
 
 /// Appends the output without its style marks.
 fn render_plain(
-    room: Vec<u8>,
+    buffer: Vec<u8>,
     config: &Config<'_>,
     files: &SourceFiles<'_>,
     diagnostic: &Diagnostic<usize>,
 ) -> Result<Vec<u8>, OutOfMemory>
-    ensures value { IfOk result (λ bytes. bytes.items ≡ room.items ++ spelled no_marks
-        (picture_of config.now (sources_of files.now) diagnostic.now)) }
+    ensures value { IfOk result (λ bytes. bytes.items ≡ buffer.items ++ spelled no_style_marks
+        (stream_of_output config.now (sources_of files.now) diagnostic.now)) }
     ensures means { IfOk result (λ _. config.now.display_style ≡ Rich
         → MeansLabels config.now config.now (database_of (sources_of files.now)) diagnostic.now) }
 {
-    let mut writer = PlainWriter::new(room);
+    let mut writer = PlainWriter::new(buffer);
     write_to(&mut writer, config, files, diagnostic)?;
     Ok(writer.into_inner())
 }
 
 /// Appends the output with its style marks as escape sequences.
 fn render_ansi(
-    room: Vec<u8>,
+    buffer: Vec<u8>,
     styles: &Styles,
     config: &Config<'_>,
     files: &SourceFiles<'_>,
     diagnostic: &Diagnostic<usize>,
 ) -> Result<Vec<u8>, OutOfMemory>
-    ensures value { IfOk result (λ bytes. bytes.items ≡ room.items
+    ensures value { IfOk result (λ bytes. bytes.items ≡ buffer.items
         ++ spelled (ansi_spelling styles.now)
-        (picture_of config.now (sources_of files.now) diagnostic.now)) }
+        (stream_of_output config.now (sources_of files.now) diagnostic.now)) }
     ensures means { IfOk result (λ _. config.now.display_style ≡ Rich
         → MeansLabels config.now config.now (database_of (sources_of files.now)) diagnostic.now) }
 {
-    let mut writer = StylesWriter::new(Ansi::new(room), styles);
+    let mut writer = StylesWriter::new(Ansi::new(buffer), styles);
     write_to(&mut writer, config, files, diagnostic)?;
     Ok(writer.into_inner().into_inner())
 }
 
 /// Appends the output with its style marks in band.
-fn render_marked(
-    room: Vec<u8>,
+fn render_style_marks(
+    buffer: Vec<u8>,
     config: &Config<'_>,
     files: &SourceFiles<'_>,
     diagnostic: &Diagnostic<usize>,
 ) -> Result<Vec<u8>, OutOfMemory>
-    ensures value { IfOk result (λ bytes. bytes.items ≡ room.items ++ spelled mark_spelling
-        (picture_of config.now (sources_of files.now) diagnostic.now)) }
+    ensures value { IfOk result (λ bytes. bytes.items ≡ buffer.items ++ spelled style_mark_spelling
+        (stream_of_output config.now (sources_of files.now) diagnostic.now)) }
     ensures means { IfOk result (λ _. config.now.display_style ≡ Rich
         → MeansLabels config.now config.now (database_of (sources_of files.now)) diagnostic.now) }
 {
-    let mut writer = MarkWriter::new(room);
+    let mut writer = StyleMarkWriter::new(buffer);
     write_to(&mut writer, config, files, diagnostic)?;
     Ok(writer.into_inner())
 }
@@ -118,7 +118,7 @@ fn write_to<W: WriteStyle>(
 ) -> Result<(), OutOfMemory>
     ensures value { is_known (W.sink writer.old) ≡ true → OnOk result (W.sink writer.new
         ≡ with_written (W.sink writer.old)
-        (picture_of config.now (sources_of files.now) diagnostic.now)) }
+        (stream_of_output config.now (sources_of files.now) diagnostic.now)) }
     ensures means { IfOk result (λ _. config.now.display_style ≡ Rich
         → MeansLabels config.now config.now (database_of (sources_of files.now)) diagnostic.now) }
 {

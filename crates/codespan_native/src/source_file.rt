@@ -3,7 +3,7 @@
 ghost use Rattle.std.specs.Prelude.{◌≡◌, true, IfOk, None};
 ghost use Rattle.codespan_base.specs.FileModel.{line_of};
 ghost use Rattle.codespan_base.specs.LawfulFiles.{FailsBy};
-ghost use Rattle.codespan_native.specs.GivenLines.{ascends, locus_at};
+ghost use Rattle.codespan_native.specs.StatedLines.{ascends, locus_at};
 ghost use Rattle.codespan_native.specs.SourceTexts.{IsRangeIn, cut_column, file_of, past_last};
 
 mod lined;
@@ -93,7 +93,7 @@ impl<'a> SourceFile<'a> {
     }
 
     /// Returns the caller's location of a byte, by binary search.
-    fn own_location(&self, byte_index: usize) -> Option<Location>
+    fn stated_location(&self, byte_index: usize) -> Option<Location>
         ensures { result ≡ (source_of self.now).set byte_index }
     {
         let first_byte = self.first_byte;
@@ -119,7 +119,7 @@ impl<'a> SourceFile<'a> {
             location ≡ (file_of (source_of self.now)).location byte_index) }
         ensures failed { FailsBy None result }
     {
-        match self.own_location(byte_index) {
+        match self.stated_location(byte_index) {
             Some(location) => Ok(location),
             None => {
                 let line_index = self.line_index(byte_index);

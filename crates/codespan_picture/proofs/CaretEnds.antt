@@ -3,20 +3,20 @@ use Rattle.std.proofs.Common.{◌≡◌, ℕ, ◌<◌, ◌≤◌, max, min, Bool
 use Rattle.std.specs.List.{list_any}
 use Rattle.std.proofs.lemmas.Bool.{and_parts, or_cases}
 use Rattle.codespan_base.specs.declared.diagnostic.LabelStyle.{LabelStyle}
-use Rattle.codespan_base.specs.Labels.{Labelled, is_primary}
-use Rattle.codespan_picture.specs.declared.cells.Cell.{Cell}
+use Rattle.codespan_base.specs.Labels.{LabelModel, is_primary}
+use Rattle.codespan_picture.specs.declared.char_metrics.Metrics.{Metrics}
 use Rattle.codespan_picture.specs.Carets.{covers, style_under, greatest_end}
 
 -- a label over a character ends past the index at which that begins
-covers-below : (x : Labelled) (c : Cell) → covers x c ≡ true → c.place < x.end
-covers-below x c h = let below = ltb-true (max x.start c.place) (min x.end (c.place + c.bytes)) h in omega arith
+covers-below : (x : LabelModel) (c : Metrics) → covers x c ≡ true → c.byte_index < x.end
+covers-below x c h = let below = ltb-true (max x.start c.byte_index) (min x.end (c.byte_index + c.bytes)) h in omega arith
 
-fold_max-le : (m : ℕ) (xs : List Labelled) → m ≤ fold (λ n (x : Labelled). max n x.end) m xs
+fold_max-le : (m : ℕ) (xs : List LabelModel) → m ≤ fold (λ n (x : LabelModel). max n x.end) m xs
 fold_max-le m [] = omega arith
 fold_max-le m (x ∷ xs) = let more = fold_max-le (max m x.end) xs in omega arith
 
-list_any-below : (m : ℕ) (p : Labelled → Bool) (c : Cell) (xs : List Labelled) → ((x : Labelled) → p x ≡ true → c.place < x.end)
-    → list_any p xs ≡ true → c.place < fold (λ n (x : Labelled). max n x.end) m xs
+list_any-below : (m : ℕ) (p : LabelModel → Bool) (c : Metrics) (xs : List LabelModel) → ((x : LabelModel) → p x ≡ true → c.byte_index < x.end)
+    → list_any p xs ≡ true → c.byte_index < fold (λ n (x : LabelModel). max n x.end) m xs
 list_any-below m p c [] below h = cc
 list_any-below m p c (x ∷ xs) below h =
     ⊎_elim
@@ -25,15 +25,15 @@ list_any-below m p c (x ∷ xs) below h =
     (or_cases (p x) (list_any p xs) h)
 
 -- a character with a style begins before the greatest end
-pub style_under-below : (labels : List Labelled) (c : Cell) (style : LabelStyle) → style_under labels c ≡ Some style → c.place < greatest_end labels
+pub style_under-below : (labels : List LabelModel) (c : Metrics) (style : LabelStyle) → style_under labels c ≡ Some style → c.byte_index < greatest_end labels
 style_under-below labels c style h = by_primary (list_any (λ x. is_primary x && covers x c) labels) refl
   where
     by_any : (b : Bool) → list_any (λ x. covers x c) labels ≡ b → list_any (λ x. is_primary x && covers x c) labels ≡ false
-        → c.place < greatest_end labels
+        → c.byte_index < greatest_end labels
     by_any true any none = list_any-below 0 (λ x. covers x c) c labels (λ x. covers-below x c) any
     by_any false any none = cc
 
-    by_primary : (b : Bool) → list_any (λ x. is_primary x && covers x c) labels ≡ b → c.place < greatest_end labels
+    by_primary : (b : Bool) → list_any (λ x. is_primary x && covers x c) labels ≡ b → c.byte_index < greatest_end labels
     by_primary true any =
         list_any-below 0 (λ x. is_primary x && covers x c) c labels
         (λ x both. covers-below x c (and_parts (is_primary x) (covers x c) both).1) any

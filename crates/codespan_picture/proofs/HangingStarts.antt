@@ -5,15 +5,15 @@ use Rattle.std.specs.List.{list_any}
 use Rattle.std.proofs.lemmas.Bool.{or_cases, or_left, or_right}
 use Rattle.std.proofs.lemmas.Bool.Decides.{nat_tests}
 use Rattle.std.proofs.lemmas.List.Folds.{list_any-append}
-use Rattle.codespan_base.specs.Labels.{Labelled, has_message}
-use Rattle.codespan_picture.specs.declared.cells.Cell.{Cell}
+use Rattle.codespan_base.specs.Labels.{LabelModel, has_message}
+use Rattle.codespan_picture.specs.declared.char_metrics.Metrics.{Metrics}
 use Rattle.codespan_picture.specs.Carets.{greatest_end}
 use Rattle.codespan_picture.specs.Rows.{hanging}
 use Rattle.codespan_picture.specs.RowParts.{starts_in}
 use Rattle.codespan_picture.proofs.Rightmost.{Around, others, around_rightmost, around_trails, hanging_of, around_is, hanging_is}
 
 -- what passes among the labels that a filter keeps passes among all
-pub any-filter : (p q : Labelled → Bool) (xs : List Labelled) → list_any p (filter q xs) ≡ true → list_any p xs ≡ true
+pub any-filter : (p q : LabelModel → Bool) (xs : List LabelModel) → list_any p (filter q xs) ≡ true → list_any p xs ≡ true
 any-filter p q [] h = cc
 any-filter p q (x ∷ xs) h = by_test (any-filter p q xs) (q x) h
   where
@@ -23,14 +23,14 @@ any-filter p q (x ∷ xs) h = by_test (any-filter p q xs) (q x) h
         ⊎_elim (λ here. or_left (p x) (list_any p xs) here) (λ later. or_right (p x) (list_any p xs) (again later)) (or_cases (p x) (list_any p (filter q xs)) h)
     by_test again false h = or_right (p x) (list_any p xs) (again h)
 
-any-others : (p : Labelled → Bool) (a : Around) → list_any p (others a) ≡ true → list_any p (a.before ++ (a.here ∷ a.after)) ≡ true
+any-others : (p : LabelModel → Bool) (a : Around) → list_any p (others a) ≡ true → list_any p (a.before ++ (a.here ∷ a.after)) ≡ true
 any-others p a h =
     list_any-append p a.before (a.here ∷ a.after)
     ∙ ⊎_elim (λ early. or_left (list_any p a.before) (p a.here || list_any p a.after) early)
     (λ late. or_right (list_any p a.before) (p a.here || list_any p a.after) (or_right (p a.here) (list_any p a.after) late))
     (or_cases (list_any p a.before) (list_any p a.after) (sym (list_any-append p a.before a.after) ∙ h))
 
-pub any-hanging : (p : Labelled → Bool) (labels : List Labelled) → list_any p (hanging labels) ≡ true → list_any p labels ≡ true
+pub any-hanging : (p : LabelModel → Bool) (labels : List LabelModel) → list_any p (hanging labels) ≡ true → list_any p labels ≡ true
 any-hanging p labels h =
     by_rightmost (around_rightmost labels) refl (ap (list_any p) (sym (hanging_is labels)) ∙ h)
   where
@@ -43,12 +43,12 @@ any-hanging p labels h =
     by_rightmost None is h = cc
     by_rightmost (Some a) is h = by_trail a (around_is (greatest_end labels) labels a is) (around_trails a) h
 
-pub fold_start-le : (m : ℕ) (xs : List Labelled) → m ≤ fold (λ n (x : Labelled). max n x.start) m xs
+pub fold_start-le : (m : ℕ) (xs : List LabelModel) → m ≤ fold (λ n (x : LabelModel). max n x.start) m xs
 fold_start-le m [] = omega arith
 fold_start-le m (x ∷ xs) = let more = fold_start-le (max m x.start) xs in omega arith
 
-pub any-below : (m v : ℕ) (p : Labelled → Bool) (xs : List Labelled) → ((x : Labelled) → p x ≡ true → v ≤ x.start) → list_any p xs ≡ true
-    → v ≤ fold (λ n (x : Labelled). max n x.start) m xs
+pub any-below : (m v : ℕ) (p : LabelModel → Bool) (xs : List LabelModel) → ((x : LabelModel) → p x ≡ true → v ≤ x.start) → list_any p xs ≡ true
+    → v ≤ fold (λ n (x : LabelModel). max n x.start) m xs
 any-below m v p [] below h = cc
 any-below m v p (x ∷ xs) below h =
     ⊎_elim
@@ -56,5 +56,5 @@ any-below m v p (x ∷ xs) below h =
     (λ later. any-below (max m x.start) v p xs below later)
     (or_cases (p x) (list_any p xs) h)
 
-pub starts_in-low : (c : Cell) (x : Labelled) → starts_in c x ≡ true → c.place ≤ x.start
+pub starts_in-low : (c : Metrics) (x : LabelModel) → starts_in c x ≡ true → c.byte_index ≤ x.start
 starts_in-low c x h = grind (arith, nat_tests)

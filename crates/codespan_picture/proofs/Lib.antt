@@ -1,5 +1,5 @@
-pub mod Alike
+pub mod EqualConfigs
 pub mod Rightmost
 pub mod HangingStarts
-pub mod Spread
+pub mod Consecutive
 pub mod CaretEnds

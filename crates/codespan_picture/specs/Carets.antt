@@ -3,37 +3,37 @@ use Rattle.std.specs.Prelude.{ℕ, ◌+◌, max, min, Bool, ◌&&◌, nat_lt, na
 use Rattle.std.specs.List.{list_any, range_with_len}
 use Rattle.std.specs.Str.{chars}
 use Rattle.codespan_picture.specs.Types.{LabelStyle, Primary, Secondary, Chars}
-use Rattle.codespan_base.specs.Labels.{Labelled, is_primary}
-use Rattle.codespan_picture.specs.declared.cells.Cell.{Cell}
-use Rattle.codespan_picture.specs.Cells.{width_of}
+use Rattle.codespan_base.specs.Labels.{LabelModel, is_primary}
+use Rattle.codespan_picture.specs.declared.char_metrics.Metrics.{Metrics}
+use Rattle.codespan_picture.specs.CharMetrics.{width_of}
 
 -- the label has a byte from `start` to `end`
-abbrev pub covers_part : Labelled → ℕ → ℕ → Bool
+abbrev pub covers_part : LabelModel → ℕ → ℕ → Bool
 covers_part x start end = nat_lt (max x.start start) (min x.end end)
 
 -- the label has a byte of the character
-abbrev pub covers : Labelled → Cell → Bool
-covers x c = covers_part x c.place (c.place + c.bytes)
+abbrev pub covers : LabelModel → Metrics → Bool
+covers x c = covers_part x c.byte_index (c.byte_index + c.bytes)
 
 -- the style under a character: primary where one of the labels over it is
-abbrev pub style_under : List Labelled → Cell → Option LabelStyle
+abbrev pub style_under : List LabelModel → Metrics → Option LabelStyle
 style_under labels c =
     if list_any (λ x. is_primary x && covers x c) labels then Some Primary
     else if list_any (λ x. covers x c) labels then Some Secondary
     else None
 
 -- the greatest end of the labels, 0 where there is none
-abbrev pub greatest_end : List Labelled → ℕ
-greatest_end labels = fold (λ m (x : Labelled). max m x.end) 0 labels
+abbrev pub greatest_end : List LabelModel → ℕ
+greatest_end labels = fold (λ m (x : LabelModel). max m x.end) 0 labels
 
 -- ---- the carets of cells
 
 -- the cell is one of the character
-abbrev pub owns : ℕ → Cell → Bool
+abbrev pub owns : ℕ → Metrics → Bool
 owns k c = nat_le c.column k && nat_lt k (c.column + c.width)
 
 -- the style of a cell is that of the labels over its owner
-abbrev pub style_at : List Labelled → List Cell → ℕ → Option LabelStyle
+abbrev pub style_at : List LabelModel → List Metrics → ℕ → Option LabelStyle
 style_at labels [] k = None
 style_at labels (c ∷ cs) k = if owns k c then style_under labels c else style_at labels cs k
 
@@ -44,7 +44,8 @@ caret_for chars (Some Primary) = chars.single_primary_caret
 caret_for chars (Some Secondary) = chars.single_secondary_caret
 
 -- the caret cells of a line, as far as the characters that begin before the greatest end
-abbrev pub caret_cells : Chars → List Labelled → List Cell → List ℕ
+abbrev pub caret_cells : Chars → List LabelModel → List Metrics → List ℕ
 caret_cells chars labels cs =
     map (λ k. caret_for chars (style_at labels cs k))
-    (range_with_len 0 (width_of (filter (λ (c : Cell). nat_lt c.place (greatest_end labels)) cs)))
+    (range_with_len 0 (width_of
+    (filter (λ (c : Metrics). nat_lt c.byte_index (greatest_end labels)) cs)))

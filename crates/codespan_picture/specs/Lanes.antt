@@ -1,18 +1,18 @@
 -- What each lane shows in each kind of row.
 use Rattle.std.specs.Prelude.{ℕ, Bool, true, false, ◌&&◌, ◌==◌, nat_lt, nat_le, List, ◌++◌, find, Option, Some, None, if◌then◌else◌}
 use Rattle.codespan_picture.specs.Types.{Severity, LabelStyle, Primary, Chars, Layout, Classic, Unbroken}
-use Rattle.codespan_base.specs.Streams.{Stream, LabelMark, Reset, one_mark, glyph, blanks, repeated}
+use Rattle.codespan_base.specs.Streams.{Stream, LabelMark, Reset, style_mark, glyph, spaces, repeated}
 use Rattle.codespan_picture.specs.declared.lanes.Shape.{Shape}
 use Rattle.codespan_picture.specs.declared.lanes.Shape.TheVariants.{Gap, Bar, TopCorner, BottomCorner}
 use Rattle.codespan_base.specs.Labels.{LaneMark, MultiLabel, Top, Left, Bottom}
 
 -- the lane begins in the source row, on a line whose text begins with so many bytes of white space
-abbrev pub turns_early : ℕ → ℕ → Bool
-turns_early leading start = nat_le start leading
+abbrev pub begins_in_source_row : ℕ → ℕ → Bool
+begins_in_source_row leading start = nat_le start leading
 
 -- what a multi-line label mark shows in the source row
 abbrev pub source_shape : ℕ → MultiLabel → Shape
-source_shape leading (Top start) = if turns_early leading start then TopCorner else Gap
+source_shape leading (Top start) = if begins_in_source_row leading start then TopCorner else Gap
 source_shape leading _ = Bar
 
 -- what it shows in an empty row, and in a break row, which has the multi-line label marks of the
@@ -29,17 +29,17 @@ is_unbroken Unbroken = true
 -- what it shows in the caret, pointer and hanging rows
 abbrev pub below_shape : Layout → ℕ → MultiLabel → Shape
 below_shape layout leading (Top start) =
-    if is_unbroken layout && turns_early leading start then Bar else Gap
+    if is_unbroken layout && begins_in_source_row leading start then Bar else Gap
 below_shape layout leading _ = Bar
 
--- what it shows in the underline row of the lane `turning`
+-- what it shows in the underline row of the lane `corner_lane`
 abbrev pub underline_shape : Layout → ℕ → ℕ → ℕ → MultiLabel → Shape
-underline_shape layout leading turning lane (Top start) =
-    if is_unbroken layout && turns_early leading start then Bar
-    else if lane == turning then TopCorner else if nat_lt lane turning then Bar else Gap
-underline_shape layout leading turning lane Left = Bar
-underline_shape layout leading turning lane (Bottom end message) =
-    if lane == turning then BottomCorner else if nat_lt lane turning then Gap else Bar
+underline_shape layout leading corner_lane lane (Top start) =
+    if is_unbroken layout && begins_in_source_row leading start then Bar
+    else if lane == corner_lane then TopCorner else if nat_lt lane corner_lane then Bar else Gap
+underline_shape layout leading corner_lane lane Left = Bar
+underline_shape layout leading corner_lane lane (Bottom end message) =
+    if lane == corner_lane then BottomCorner else if nat_lt lane corner_lane then Gap else Bar
 
 -- a kind of row, as far as its lanes go: a source row; an empty or a break row; a caret, pointer or
 -- hanging row; the underline row of a multi-line label mark
@@ -64,8 +64,8 @@ row_crossing _ lane = None
 -- ---- the multi-line label marks of a row
 
 -- the multi-line label mark of the line in a lane
-abbrev pub mark_in : List LaneMark → ℕ → Option LaneMark
-mark_in marks lane = find (λ (m : LaneMark). m.lane == lane) marks
+abbrev pub lane_mark_in : List LaneMark → ℕ → Option LaneMark
+lane_mark_in marks lane = find (λ (m : LaneMark). m.lane == lane) marks
 
 -- what a row shows in a lane, from the multi-line label mark in it
 abbrev pub shape_of : (MultiLabel → Shape) → Option LaneMark → Shape
@@ -73,9 +73,9 @@ shape_of shape None = Gap
 shape_of shape (Some m) = shape m.part
 
 -- the style of a multi-line label mark, primary where there is none
-abbrev pub style_of_mark : Option LaneMark → LabelStyle
-style_of_mark None = Primary
-style_of_mark (Some m) = m.style
+abbrev pub style_of_lane_mark : Option LaneMark → LabelStyle
+style_of_lane_mark None = Primary
+style_of_lane_mark (Some m) = m.style
 
 -- ---- their characters
 
@@ -86,13 +86,14 @@ corner_line chars _ = chars.multi_bottom
 
 -- one character in a label's style
 unfoldable pub label_glyph : Severity → LabelStyle → ℕ → Stream
-label_glyph severity style c = one_mark (LabelMark severity style) ++ glyph c ++ one_mark Reset
+label_glyph severity style c = style_mark (LabelMark severity style) ++ glyph c ++ style_mark Reset
 
 -- a lane's part before its own character: spaces, or the line of a corner to the left
 unfoldable pub filling : Severity → Chars → Option LaneMark → ℕ → Stream
-filling severity chars None n = blanks n
+filling severity chars None n = spaces n
 filling severity chars (Some m) n =
-    one_mark (LabelMark severity m.style) ++ repeated n (corner_line chars m.part) ++ one_mark Reset
+    style_mark (LabelMark severity m.style) ++ repeated n (corner_line chars m.part)
+    ++ style_mark Reset
 
 -- the two characters of a lane; `crossing` is the multi-line label mark, in its own underline row,
 -- whose corner is left of the lane

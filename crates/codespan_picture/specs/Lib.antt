@@ -15,7 +15,7 @@ pub use Rattle.codespan_base.specs.Ansi
 -- the Rust types of all of these
 pub mod Types
 -- a line: its characters, carets and lanes
-pub mod Cells
+pub mod CharMetrics
 pub mod Carets
 pub mod Lanes
 -- rows and their streams
@@ -32,4 +32,4 @@ pub mod Picture
 pub mod StatedPicture
 pub mod Lookups
 -- labels, multi-line label marks and loci as calls take them
-pub mod Given
+pub mod Arguments

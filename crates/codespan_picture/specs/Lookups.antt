@@ -4,9 +4,9 @@ use Rattle.std.specs.List.{range_with_len}
 use Rattle.codespan_picture.specs.Types.{Config, DisplayStyle, Rich, Layout, Classic, Unbroken, Diagnostic, Error, FormatError, LineTooLarge, OutOfMemory}
 use Rattle.codespan_base.specs.FileModel.{FileDatabase, FileModel, Lookup, line_count, or_failure}
 use Rattle.codespan_base.specs.FileModel.Lookup.{Name, Source, LineIndex, LineNumber, LocationAt, LineRange}
-use Rattle.codespan_base.specs.Labels.{Labelled, first_line, last_line}
+use Rattle.codespan_base.specs.Labels.{LabelModel, first_line, last_line}
 use Rattle.codespan_picture.specs.Lines.{is_shown, is_drawn}
-use Rattle.codespan_picture.specs.Snippets.{LabelledFile, InFile, file_ids, labelled_file, locus_start, primary_of}
+use Rattle.codespan_picture.specs.Snippets.{LabeledFileModel, InFile, file_ids, labeled_file_model, locus_start, primary_of}
 use Rattle.codespan_picture.specs.Padding.{spans}
 use Rattle.codespan_picture.specs.Picture.{labels_of}
 
@@ -15,8 +15,8 @@ abbrev pub Failures : Type 0 → Type 0
 Failures Id = Id → Lookup → Option Error
 
 -- the range and the number of a line
-abbrev pub of_line : ℕ → List Lookup
-of_line l = LineRange l ∷ LineNumber l ∷ []
+abbrev pub line_lookups : ℕ → List Lookup
+line_lookups l = LineRange l ∷ LineNumber l ∷ []
 
 -- the line is around the label's lines, as far as the context reaches
 abbrev pub is_around : Config → ℕ → ℕ → ℕ → Bool
@@ -26,9 +26,9 @@ is_around config s e l =
 
 -- those of a filled line, with its file's snippet: its range, and its number where that is not
 -- known before the header
-abbrev pub of_filled : Layout → ℕ → List Lookup
-of_filled Classic l = of_line l
-of_filled Unbroken l = LineRange l ∷ []
+abbrev pub filled_line_lookups : Layout → ℕ → List Lookup
+filled_line_lookups Classic l = line_lookups l
+filled_line_lookups Unbroken l = LineRange l ∷ []
 
 -- the error ends the context of a label, and is no error of the output
 abbrev pub ends_context : Option Error → Bool
@@ -37,36 +37,37 @@ ends_context _ = false
 
 -- the line past the file's last one, where the context reaches it and the lookup of its range does
 -- not fail with `LineTooLarge`
-abbrev pub lookup_past_end : Config → FileModel → (Lookup → Option Error) → Labelled → List Lookup
+abbrev pub lookup_past_end : Config → FileModel → (Lookup → Option Error) → LabelModel → List Lookup
 lookup_past_end config f failure x =
     if nat_le (line_count f) (last_line f x + config.after_label_lines)
     && not (ends_context (failure (LineRange (line_count f))))
     then LineRange (line_count f) ∷ [] else []
 
 -- the line is one of the label's, or is around them
-abbrev pub is_asked : Config → FileModel → Labelled → ℕ → Bool
-is_asked config f x l = spans f x l || is_around config (first_line f x) (last_line f x) l
+abbrev pub is_looked_up : Config → FileModel → LabelModel → ℕ → Bool
+is_looked_up config f x l = spans f x l || is_around config (first_line f x) (last_line f x) l
 
 -- the lines of the file that are looked up for a label: its own and those around them
-abbrev pub asked_lines : Config → FileModel → Labelled → List ℕ
-asked_lines config f x = filter (is_asked config f x) (range_with_len 0 (line_count f))
+abbrev pub looked_up_lines : Config → FileModel → LabelModel → List ℕ
+looked_up_lines config f x = filter (is_looked_up config f x) (range_with_len 0 (line_count f))
 
 -- those of one label: the lines of its ends, then the ranges and numbers of its lines and those
 -- around them
-abbrev pub of_label : Config → FileModel → (Lookup → Option Error) → Labelled → List Lookup
-of_label config f failure x =
+abbrev pub label_line_lookups : Config → FileModel → (Lookup → Option Error) → LabelModel
+    → List Lookup
+label_line_lookups config f failure x =
     LineIndex x.start ∷ LineIndex x.end
-    ∷ flat_map of_line (asked_lines config f x) ++ lookup_past_end config f failure x
+    ∷ flat_map line_lookups (looked_up_lines config f x) ++ lookup_past_end config f failure x
 
 -- lines that are drawn and not shown
-abbrev pub filled_lines : Config → LabelledFile → List ℕ
+abbrev pub filled_lines : Config → LabeledFileModel → List ℕ
 filled_lines config s =
     filter (λ l. is_drawn config s.file s.labels l && not (is_shown config s.file s.labels l))
     (range_with_len 0 (line_count s.file))
 
 -- lookups of one file
-abbrev pub asked_of : {Id : Type 0} → Id → List Lookup → List (Id × Lookup)
-asked_of {Id} id ls = map (λ l. (id, l)) ls
+abbrev pub lookups_of_file : {Id : Type 0} → Id → List Lookup → List (Id × Lookup)
+lookups_of_file {Id} id ls = map (λ l. (id, l)) ls
 
 -- ---- those of a diagnostic
 
@@ -75,12 +76,13 @@ abbrev pub label_lookups : {Id : Type 0}
     → Config → FileDatabase Id → List (InFile Id) → List (Id × Lookup)
 label_lookups {Id} config files xs =
     flat_map (λ (x : InFile Id).
-    asked_of x.id (of_label config (files.file x.id) (files.failure x.id) x.label)) xs
+    lookups_of_file x.id (label_line_lookups config (files.file x.id) (files.failure x.id) x.label))
+    xs
 
 module _ {Id : Type 0} (files : FileDatabase Id) (xs : List (InFile Id)) where
   -- a file with its labels
-  abbrev pub file_at : Id → LabelledFile
-  file_at id = labelled_file files.same files.file xs id
+  abbrev pub file_at : Id → LabeledFileModel
+  file_at id = labeled_file_model files.same files.file xs id
 
   -- where a file's snippet starts: its name, and the location of the start
   abbrev pub locus_lookups : Id → List Lookup
@@ -95,24 +97,24 @@ module _ {Id : Type 0} (files : FileDatabase Id) (xs : List (InFile Id)) where
     -- those with a file's snippet: its source, and those of the lines that are filled in
     abbrev pub snippet_lookups : Id → List Lookup
     snippet_lookups id =
-        Source ∷ flat_map (of_filled config.layout) (filled_lines config (file_at id))
+        Source ∷ flat_map (filled_line_lookups config.layout) (filled_lines config (file_at id))
 
     -- in rich style, those before the header: where one of these fails nothing is written
     abbrev pub early_lookups : List (Id × Lookup)
     early_lookups =
         label_lookups config files xs
-        ++ flat_map (λ id. asked_of id (numbers_for_padding config.layout id))
+        ++ flat_map (λ id. lookups_of_file id (numbers_for_padding config.layout id))
         (file_ids files.same xs)
-        ++ flat_map (λ id. asked_of id (locus_lookups id)) (file_ids files.same xs)
+        ++ flat_map (λ id. lookups_of_file id (locus_lookups id)) (file_ids files.same xs)
 
     -- those after the header, file by file
     abbrev pub late_lookups : List (Id × Lookup)
-    late_lookups = flat_map (λ id. asked_of id (snippet_lookups id)) (file_ids files.same xs)
+    late_lookups = flat_map (λ id. lookups_of_file id (snippet_lookups id)) (file_ids files.same xs)
 
 -- in short and medium style, those of a label's header: the name of its file, and the location of
 -- its start
 abbrev pub header_lookups_of : {Id : Type 0} → InFile Id → List (Id × Lookup)
-header_lookups_of x = asked_of x.id (Name ∷ LocationAt x.label.start ∷ [])
+header_lookups_of x = lookups_of_file x.id (Name ∷ LocationAt x.label.start ∷ [])
 
 -- all lookups of an output in a style: in short and medium style those of all primary labels
 abbrev pub lookups_in : {Id : Type 0}

@@ -3,38 +3,38 @@ use Rattle.std.specs.Prelude.{ℕ, Bool, ◌&&◌, ◌||◌, ◌==◌, nat_le, m
 use Rattle.std.specs.List.{list_any, range_with_len}
 use Rattle.codespan_picture.specs.Types.{Config}
 use Rattle.codespan_base.specs.FileModel.{FileModel, line_count}
-use Rattle.codespan_base.specs.Labels.{Labelled, first_line, last_line}
+use Rattle.codespan_base.specs.Labels.{LabelModel, first_line, last_line}
 use Rattle.codespan_picture.specs.Lanes.{is_unbroken}
 use Rattle.codespan_picture.specs.Lines.{drawn_lines}
-use Rattle.codespan_picture.specs.Snippets.{LabelledFile}
+use Rattle.codespan_picture.specs.Snippets.{LabeledFileModel}
 
 -- how many digits a number has; 0 has one
 abbrev pub digit_count : ℕ → ℕ
 digit_count n = length (decimal n)
 
 -- the line is an end of the label or is between its ends
-abbrev pub spans : FileModel → Labelled → ℕ → Bool
+abbrev pub spans : FileModel → LabelModel → ℕ → Bool
 spans f x l =
     (l == first_line f x) || (l == last_line f x)
     || (nat_le (first_line f x) l && nat_le l (last_line f x))
 
 -- the lines of the labels
-abbrev pub spanned_lines : LabelledFile → List ℕ
+abbrev pub spanned_lines : LabeledFileModel → List ℕ
 spanned_lines s =
     filter (λ l. list_any (λ x. spans s.file x l) s.labels)
     (range_with_len 0 (line_count s.file))
 
 -- the lines whose numbers the padding fits: those of the labels, or, in the unbroken layout, those
 -- that are drawn
-abbrev pub numbered_lines : Config → LabelledFile → List ℕ
+abbrev pub numbered_lines : Config → LabeledFileModel → List ℕ
 numbered_lines config s =
     if is_unbroken config.layout then drawn_lines config s.file s.labels else spanned_lines s
 
 -- the digits of these lines' numbers
-abbrev pub digits_of : LabelledFile → List ℕ → List ℕ
+abbrev pub digits_of : LabeledFileModel → List ℕ → List ℕ
 digits_of s ls = map (λ l. digit_count (s.file.number l)) ls
 
 -- the greatest digit count among them, 0 where there is none
-abbrev pub padding_of : Config → List LabelledFile → ℕ
+abbrev pub padding_of : Config → List LabeledFileModel → ℕ
 padding_of config ss =
-    fold max 0 (flat_map (λ (s : LabelledFile). digits_of s (numbered_lines config s)) ss)
+    fold max 0 (flat_map (λ (s : LabeledFileModel). digits_of s (numbered_lines config s)) ss)

@@ -7,9 +7,9 @@ use Rattle.codespan_picture.specs.Types.{Config, DisplayStyle, Rich, Medium, Sho
 use Rattle.codespan_base.specs.FileModel.{FileDatabase, FileModel}
 use Rattle.codespan_base.specs.Streams.{Stream, bytes}
 use Rattle.codespan_picture.specs.Padding.{padding_of}
-use Rattle.codespan_picture.specs.Rows.{Heading, Locus, Look}
+use Rattle.codespan_picture.specs.Rows.{Heading, Locus, RowContext}
 use Rattle.codespan_picture.specs.RowStreams.{stream_of_rows}
-use Rattle.codespan_picture.specs.Snippets.{InFile, LabelledFile, header_rows, labelled_files, locus_start, note_rows, primary_of, rich_rows}
+use Rattle.codespan_picture.specs.Snippets.{InFile, LabeledFileModel, header_rows, labeled_file_models, locus_start, note_rows, primary_of, rich_rows}
 
 -- ---- a diagnostic, as its output reads it
 
@@ -30,8 +30,8 @@ abbrev pub labels_of : {Id : Type 0} → Diagnostic Id → List (InFile Id)
 labels_of d = map label_of d.labels.items
 
 -- its files with their labels
-abbrev pub files_of : {Id : Type 0} → FileDatabase Id → Diagnostic Id → List LabelledFile
-files_of files d = labelled_files files.same files.file (labels_of d)
+abbrev pub files_of : {Id : Type 0} → FileDatabase Id → Diagnostic Id → List LabeledFileModel
+files_of files d = labeled_file_models files.same files.file (labels_of d)
 
 -- its code and message
 abbrev pub heading_of : {Id : Type 0} → Diagnostic Id → Heading
@@ -50,7 +50,7 @@ pub record IsLocus (at : FileModel × ℕ) (locus : Locus) : Type 0 where
   pub name : IfSome at.0.name (λ name. locus.name ≡ name)
 
 -- where a file's snippet starts
-abbrev pub snippet_start : LabelledFile → FileModel × ℕ
+abbrev pub snippet_start : LabeledFileModel → FileModel × ℕ
 snippet_start s = (s.file, locus_start s.labels)
 
 -- where a label starts
@@ -61,7 +61,7 @@ module _ {Id : Type 0} (same : Id → Id → Bool) (file : Id → FileModel) (xs
   -- what has a locus: in rich style each file's snippet, in medium and short style each primary
   -- label
   abbrev pub starts : DisplayStyle → List (FileModel × ℕ)
-  starts Rich = map snippet_start (labelled_files same file xs)
+  starts Rich = map snippet_start (labeled_file_models same file xs)
   starts _ = map (label_start file) (primary_of xs)
 
 -- the names of these loci are texts
@@ -76,8 +76,8 @@ module _ {Id : Type 0} (files : FileDatabase Id) (d : Diagnostic Id) (style : Di
 -- ---- the output
 
 -- what the rows of an output share
-abbrev pub look_of : Config → Severity → ℕ → Look
-look_of config severity padding = record {
+abbrev pub context_of : Config → Severity → ℕ → RowContext
+context_of config severity padding = record {
   chars = config.chars;
   tab_width = config.tab_width;
   layout = config.layout;
@@ -88,14 +88,14 @@ look_of config severity padding = record {
 -- what is rendered with these loci: the view's configuration chooses lines and padding, the
 -- renderer's the characters, the tab width and the layout
 abbrev pub rendered : DisplayStyle → Config → Config → Severity → Heading
-    → List Locus → List LabelledFile → List (List ℕ) → Stream
+    → List Locus → List LabeledFileModel → List (List ℕ) → Stream
 rendered Rich renderer view severity heading loci ss notes =
-    stream_of_rows (look_of renderer severity (padding_of view ss))
+    stream_of_rows (context_of renderer severity (padding_of view ss))
     (rich_rows view heading loci ss notes)
 rendered Medium renderer view severity heading loci ss notes =
-    stream_of_rows (look_of renderer severity 0) (header_rows heading loci ++ note_rows notes)
+    stream_of_rows (context_of renderer severity 0) (header_rows heading loci ++ note_rows notes)
 rendered Short renderer view severity heading loci ss notes =
-    stream_of_rows (look_of renderer severity 0) (header_rows heading loci)
+    stream_of_rows (context_of renderer severity 0) (header_rows heading loci)
 
 module _ {Id : Type 0} (style : DisplayStyle) (renderer view : Config)
     (files : FileDatabase Id) (d : Diagnostic Id) where

@@ -4,14 +4,14 @@ use Rattle.std.specs.Prelude.{ℕ, ◌+◌, ◌-◌, Bool, true, ◌||◌, ◌&&
 use Rattle.std.specs.List.{list_any, range_with_len}
 use Rattle.codespan_picture.specs.Types.{Severity, LabelStyle, Primary, Secondary, Chars}
 use Rattle.codespan_base.specs.declared.diagnostic.Severity.TheVariants.{Bug, Error, Warning, Note, Help}
-use Rattle.codespan_base.specs.Streams.{Stream, LineNumber, SourceBorder, LabelMark, Reset, one_mark, glyph, bytes, blanks, space, repeated}
-use Rattle.codespan_base.specs.Labels.{Labelled, is_primary, is_primary_style, LaneMark, MultiLabel, Top, Left, Bottom}
-use Rattle.codespan_picture.specs.declared.cells.Cell.{Cell}
-use Rattle.codespan_picture.specs.Cells.{cells, cells_to_end, width_of, leading_whitespace}
+use Rattle.codespan_base.specs.Streams.{Stream, LineNumber, SourceBorder, LabelMark, Reset, style_mark, glyph, bytes, spaces, space, repeated}
+use Rattle.codespan_base.specs.Labels.{LabelModel, is_primary, is_primary_style, LaneMark, MultiLabel, Top, Left, Bottom}
+use Rattle.codespan_picture.specs.declared.char_metrics.Metrics.{Metrics}
+use Rattle.codespan_picture.specs.CharMetrics.{char_metrics, char_metrics_to_end, width_of, leading_whitespace}
 use Rattle.codespan_picture.specs.Carets.{covers, style_under, caret_for, greatest_end}
 use Rattle.codespan_picture.specs.declared.lanes.Shape.{Shape}
-use Rattle.codespan_picture.specs.Lanes.{LaneRow, row_shape, row_crossing, mark_in, shape_of, style_of_mark, lane_cells, label_glyph}
-use Rattle.codespan_picture.specs.Rows.{Locus, Look, Lanes, Line, hanging}
+use Rattle.codespan_picture.specs.Lanes.{LaneRow, row_shape, row_crossing, lane_mark_in, shape_of, style_of_lane_mark, lane_cells, label_glyph}
+use Rattle.codespan_picture.specs.Rows.{Locus, RowContext, Lanes, Line, hanging}
 
 -- ---- parts of rows
 
@@ -31,151 +31,155 @@ locus p =
 
 -- spaces instead of a number
 unfoldable pub gutter : ℕ → Stream
-gutter padding = blanks (padding + 1)
+gutter padding = spaces (padding + 1)
 
 -- a number, right-aligned
 unfoldable pub numbered_gutter : ℕ → ℕ → Stream
 numbered_gutter padding n =
-    one_mark LineNumber ++ blanks (padding - length (decimal n)) ++ bytes (decimal n)
-    ++ one_mark Reset ++ space
+    style_mark LineNumber ++ spaces (padding - length (decimal n)) ++ bytes (decimal n)
+    ++ style_mark Reset ++ space
 
 -- the bar left of the source
 unfoldable pub border : Chars → Stream
-border chars = one_mark SourceBorder ++ glyph chars.source_border_left ++ one_mark Reset
+border chars = style_mark SourceBorder ++ glyph chars.source_border_left ++ style_mark Reset
 
 -- the bar where lines are left out
 unfoldable pub break_border : Chars → Stream
-break_border chars = one_mark SourceBorder ++ glyph chars.source_border_left_break ++ one_mark Reset
+break_border chars =
+    style_mark SourceBorder ++ glyph chars.source_border_left_break ++ style_mark Reset
 
 -- a style mark where a style begins, and a reset where it ends
 unfoldable pub change : Severity → Option LabelStyle → Option LabelStyle → Stream
 change severity None None = []
-change severity None (Some style) = one_mark (LabelMark severity style)
-change severity (Some style) None = one_mark Reset
+change severity None (Some style) = style_mark (LabelMark severity style)
+change severity (Some style) None = style_mark Reset
 change severity (Some Primary) (Some Primary) = []
 change severity (Some Secondary) (Some Secondary) = []
-change severity (Some _) (Some style) = one_mark (LabelMark severity style)
+change severity (Some _) (Some style) = style_mark (LabelMark severity style)
 
--- each character as it is shown, in its style; `was` is the style before them
+-- each character as it is shown, in its style; `previous` is the style before them
 abbrev pub styled : Severity
-    → (Cell → Option LabelStyle) → (Cell → Stream) → Option LabelStyle → List Cell → Stream
-styled severity style shown was [] = change severity was None
-styled severity style shown was (c ∷ cs) =
-    change severity was (style c) ++ shown c ++ styled severity style shown (style c) cs
+    → (Metrics → Option LabelStyle) → (Metrics → Stream) → Option LabelStyle → List Metrics → Stream
+styled severity style shown previous [] = change severity previous None
+styled severity style shown previous (c ∷ cs) =
+    change severity previous (style c) ++ shown c ++ styled severity style shown (style c) cs
 
 -- a label's message in its style
 unfoldable pub label_message : Severity → LabelStyle → Stream → Stream
 label_message severity style message =
-    one_mark (LabelMark severity style) ++ message ++ one_mark Reset
+    style_mark (LabelMark severity style) ++ message ++ style_mark Reset
 
 -- ---- the lanes of a row
 
 -- one lane, from the multi-line label mark in it
-unfoldable pub lane_of : Look → Option LaneMark → (MultiLabel → Shape) → Option LaneMark → Stream
-lane_of look crossing shape mark =
-    lane_cells look.severity look.chars crossing (style_of_mark mark) (shape_of shape mark)
+unfoldable pub lane_of : RowContext → Option LaneMark → (MultiLabel → Shape) → Option LaneMark
+    → Stream
+lane_of context crossing shape lane_mark =
+    lane_cells context.severity context.chars crossing (style_of_lane_mark lane_mark)
+    (shape_of shape lane_mark)
 
 -- the lanes from left to right
-abbrev pub lanes_in : Look → (ℕ → Option LaneMark) → (ℕ → MultiLabel → Shape) → Lanes → Stream
-lanes_in look crossing shape lanes =
-    flat_map (λ lane. lane_of look (crossing lane) (shape lane) (mark_in lanes.marks lane))
+abbrev pub lanes_in : RowContext → (ℕ → Option LaneMark) → (ℕ → MultiLabel → Shape) → Lanes → Stream
+lanes_in context crossing shape lanes =
+    flat_map (λ lane. lane_of context (crossing lane) (shape lane) (lane_mark_in lanes.marks lane))
     (range_with_len 0 lanes.count)
 
 -- the lanes of a kind of row, of a line whose text begins with so many bytes of white space
-unfoldable pub row_lanes : Look → ℕ → LaneRow → Lanes → Stream
-row_lanes look leading row lanes =
-    lanes_in look (row_crossing row) (row_shape look.layout leading row) lanes
+unfoldable pub row_lanes : RowContext → ℕ → LaneRow → Lanes → Stream
+row_lanes context leading row lanes =
+    lanes_in context (row_crossing row) (row_shape context.layout leading row) lanes
 
 -- ---- the source text and the carets under it
 
 -- the characters of a line
-abbrev pub line_cells : Look → Line → List Cell
-line_cells look line = cells look.tab_width line.text
+abbrev pub line_metrics : RowContext → Line → List Metrics
+line_metrics context line = char_metrics context.tab_width line.text
 
 -- the same, and the placeholder
-abbrev pub line_cells_to_end : Look → Line → List Cell
-line_cells_to_end look line = cells_to_end look.tab_width line.text
+abbrev pub line_metrics_to_end : RowContext → Line → List Metrics
+line_metrics_to_end context line = char_metrics_to_end context.tab_width line.text
 
 -- the bytes of white space that a line begins with
 abbrev pub leading_of : Line → ℕ
 leading_of line = leading_whitespace line.text
 
 -- a multi-line label takes in the character on this line
-abbrev pub takes_in : Cell → MultiLabel → Bool
-takes_in c (Top start) = nat_le start c.place
-takes_in c Left = true
-takes_in c (Bottom end message) = nat_le (c.place + c.bytes) end
+abbrev pub part_covers : Metrics → MultiLabel → Bool
+part_covers c (Top start) = nat_le start c.byte_index
+part_covers c Left = true
+part_covers c (Bottom end message) = nat_le (c.byte_index + c.bytes) end
 
 -- a character is primary where a primary label covers it
-abbrev pub source_style : Line → Cell → Option LabelStyle
+abbrev pub source_style : Line → Metrics → Option LabelStyle
 source_style line c =
     if list_any (λ x. is_primary x && covers x c) line.labels
-    || list_any (λ (m : LaneMark). is_primary_style m.style && takes_in c m.part) line.lanes.marks
+    || list_any (λ (m : LaneMark). is_primary_style m.style && part_covers c m.part)
+    line.lanes.marks
     then Some Primary else None
 
 -- a tab is written as spaces
-unfoldable pub source_glyph : Cell → Stream
-source_glyph c = if c.code == 9 then blanks c.width else glyph c.code
+unfoldable pub source_glyph : Metrics → Stream
+source_glyph c = if c.code == 9 then spaces c.width else glyph c.code
 
 -- the text of a source row
-unfoldable pub coloured_text : Look → Line → Stream
-coloured_text look line =
-    styled look.severity (source_style line) source_glyph None (line_cells look line)
+unfoldable pub colored_text : RowContext → Line → Stream
+colored_text context line =
+    styled context.severity (source_style line) source_glyph None (line_metrics context line)
 
 -- one character's carets, or its spaces up to the greatest end
-unfoldable pub caret_glyphs : Chars → ℕ → Option LabelStyle → Cell → Stream
-caret_glyphs chars end None c = if nat_lt c.place end then blanks c.width else []
+unfoldable pub caret_glyphs : Chars → ℕ → Option LabelStyle → Metrics → Stream
+caret_glyphs chars end None c = if nat_lt c.byte_index end then spaces c.width else []
 caret_glyphs chars end (Some style) c = repeated c.width (caret_for chars (Some style))
 
 -- the carets under these characters
-unfoldable pub carets : Look → List Labelled → List Cell → Stream
-carets look labels cs =
-    styled look.severity (style_under labels)
-    (λ c. caret_glyphs look.chars (greatest_end labels) (style_under labels c) c) None cs
+unfoldable pub carets : RowContext → List LabelModel → List Metrics → Stream
+carets context labels cs =
+    styled context.severity (style_under labels)
+    (λ c. caret_glyphs context.chars (greatest_end labels) (style_under labels c) c) None cs
 
 -- after the carets a space and the trailing message, if there is one
-unfoldable pub trailing_message : Severity → Option Labelled → Stream
+unfoldable pub trailing_message : Severity → Option LabelModel → Stream
 trailing_message severity None = []
 trailing_message severity (Some x) = space ++ label_message severity x.style x.message
 
 -- ---- pointers
 
 -- a label starts in the character
-abbrev pub starts_in : Cell → Labelled → Bool
-starts_in c x = nat_le c.place x.start && nat_lt x.start (c.place + c.bytes)
+abbrev pub starts_in : Metrics → LabelModel → Bool
+starts_in c x = nat_le c.byte_index x.start && nat_lt x.start (c.byte_index + c.bytes)
 
 -- the greatest start of the labels, 0 where there is none
-abbrev pub greatest_start : List Labelled → ℕ
-greatest_start labels = fold (λ m (x : Labelled). max m x.start) 0 labels
+abbrev pub greatest_start : List LabelModel → ℕ
+greatest_start labels = fold (λ m (x : LabelModel). max m x.start) 0 labels
 
 -- the spaces of a pointer row reach as far as the greatest start of the line's labels
-unfoldable pub blanks_up_to : ℕ → Cell → ℕ → Stream
-blanks_up_to place c n = if nat_le c.place place then blanks n else []
+unfoldable pub spaces_up_to : ℕ → Metrics → ℕ → Stream
+spaces_up_to byte_index c n = if nat_le c.byte_index byte_index then spaces n else []
 
 -- the style of a pointer: primary where a primary label starts in the character
-abbrev pub pointer_style : List Labelled → Cell → LabelStyle
+abbrev pub pointer_style : List LabelModel → Metrics → LabelStyle
 pointer_style labels c =
     if list_any (λ x. is_primary x && starts_in c x) labels then Primary else Secondary
 
 -- one character's pointer or spaces
-unfoldable pub pointer_at : Look → List Labelled → List Labelled → Cell → Stream
-pointer_at look labels hanging c =
+unfoldable pub pointer_at : RowContext → List LabelModel → List LabelModel → Metrics → Stream
+pointer_at context labels hanging c =
     if list_any (starts_in c) hanging then
-    label_glyph look.severity (pointer_style hanging c) look.chars.pointer_left
-    ++ blanks_up_to (greatest_start labels) c (c.width - 1)
-    else blanks_up_to (greatest_start labels) c c.width
+    label_glyph context.severity (pointer_style hanging c) context.chars.pointer_left
+    ++ spaces_up_to (greatest_start labels) c (c.width - 1)
+    else spaces_up_to (greatest_start labels) c c.width
 
 -- the pointers of these characters
-unfoldable pub pointers : Look → List Labelled → List Cell → Stream
-pointers look labels cs = flat_map (pointer_at look labels (hanging labels)) cs
+unfoldable pub pointers : RowContext → List LabelModel → List Metrics → Stream
+pointers context labels cs = flat_map (pointer_at context labels (hanging labels)) cs
 
 -- the characters of a line that begin before a byte index
-abbrev pub cells_before : ℕ → List Cell → List Cell
-cells_before place cs = filter (λ (c : Cell). nat_lt c.place place) cs
+abbrev pub metrics_before : ℕ → List Metrics → List Metrics
+metrics_before byte_index cs = filter (λ (c : Metrics). nat_lt c.byte_index byte_index) cs
 
 -- the characters of a line that begin at a byte index or before it
-abbrev pub cells_up_to : ℕ → List Cell → List Cell
-cells_up_to place cs = filter (λ (c : Cell). nat_le c.place place) cs
+abbrev pub metrics_up_to : ℕ → List Metrics → List Metrics
+metrics_up_to byte_index cs = filter (λ (c : Metrics). nat_le c.byte_index byte_index) cs
 
 -- ---- underlines
 
@@ -196,10 +200,10 @@ underline_message (p ∷ ps) = space ++ (p ∷ ps)
 
 -- the line runs from the corner to the last character that begins at or before the start, or before
 -- the end
-unfoldable pub underline : Chars → LabelStyle → List Cell → MultiLabel → Stream
+unfoldable pub underline : Chars → LabelStyle → List Metrics → MultiLabel → Stream
 underline chars style cs (Top start) =
-    repeated (width_of (cells_up_to start cs)) chars.multi_top ++ glyph (start_caret chars style)
+    repeated (width_of (metrics_up_to start cs)) chars.multi_top ++ glyph (start_caret chars style)
 underline chars style cs Left = []
 underline chars style cs (Bottom end message) =
-    repeated (width_of (cells_before end cs)) chars.multi_bottom ++ glyph (end_caret chars style)
+    repeated (width_of (metrics_before end cs)) chars.multi_bottom ++ glyph (end_caret chars style)
     ++ underline_message message

@@ -3,10 +3,10 @@ use Rattle.std.specs.Prelude.{ℕ, Bool, true, false, not, ◌&&◌, ◌==◌, L
 use Rattle.std.specs.List.{list_any, enumerate_from, last_or, remove}
 use Rattle.std.specs.Option.{option_and_then, option_map, option_map_or}
 use Rattle.codespan_picture.specs.Types.{Severity, Chars, Layout, Location}
-use Rattle.codespan_base.specs.Labels.{Labelled, has_message, LaneMark, MultiLabel, Top, Left, Bottom}
-use Rattle.codespan_picture.specs.Cells.{leading_whitespace}
+use Rattle.codespan_base.specs.Labels.{LabelModel, has_message, LaneMark, MultiLabel, Top, Left, Bottom}
+use Rattle.codespan_picture.specs.CharMetrics.{leading_whitespace}
 use Rattle.codespan_picture.specs.Carets.{covers_part, greatest_end}
-use Rattle.codespan_picture.specs.Lanes.{turns_early}
+use Rattle.codespan_picture.specs.Lanes.{begins_in_source_row}
 
 -- a file's name and a location in it, as users see them
 pub record Locus : Type 0 where
@@ -19,7 +19,7 @@ pub record Heading : Type 0 where
   pub message : List ℕ
 
 -- what all rows of an output share
-pub record Look : Type 0 where
+pub record RowContext : Type 0 where
   pub chars : Chars
   pub tab_width : ℕ
   pub layout : Layout
@@ -35,7 +35,7 @@ pub record Lanes : Type 0 where
 pub record Line : Type 0 where
   pub number : ℕ
   pub text : List ℕ
-  pub labels : List Labelled
+  pub labels : List LabelModel
   pub lanes : Lanes
 
 -- one row of an output
@@ -47,7 +47,7 @@ pub data Row : Type 0 where
   SourceRow : Line → Row
   CaretRow : Line → Row
   PointerRow : Line → Row
-  HangingRow : Line → Labelled → Row
+  HangingRow : Line → LabelModel → Row
   UnderlineRow : Line → LaneMark → Row
   FirstNoteRow : List ℕ → Row
   LaterNoteRow : List ℕ → Row
@@ -56,30 +56,30 @@ pub data Row : Type 0 where
 -- ---- trailing and hanging labels
 
 -- the last of the labels with this end, with its index
-abbrev pub last_with_end : ℕ → List Labelled → Option (ℕ × Labelled)
+abbrev pub last_with_end : ℕ → List LabelModel → Option (ℕ × LabelModel)
 last_with_end end labels =
-    last_or None (filter (λ (e : ℕ × Labelled). e.1.end == end) (enumerate_from 0 labels))
+    last_or None (filter (λ (e : ℕ × LabelModel). e.1.end == end) (enumerate_from 0 labels))
 
 -- one of the others overlaps the label
-abbrev pub is_overlapped : Labelled → List Labelled → Bool
-is_overlapped x others = list_any (λ (y : Labelled). covers_part x y.start y.end) others
+abbrev pub is_overlapped : LabelModel → List LabelModel → Bool
+is_overlapped x others = list_any (λ (y : LabelModel). covers_part x y.start y.end) others
 
 -- the label's message trails: it is not empty, and no other label of the line overlaps the label
-abbrev pub does_trail : List Labelled → ℕ × Labelled → Bool
+abbrev pub does_trail : List LabelModel → ℕ × LabelModel → Bool
 does_trail labels e = has_message e.1 && not (is_overlapped e.1 (remove labels e.0))
 
 -- the last of the labels with the greatest end, where its message trails
-abbrev pub trailing_entry : List Labelled → Option (ℕ × Labelled)
+abbrev pub trailing_entry : List LabelModel → Option (ℕ × LabelModel)
 trailing_entry labels =
     option_and_then (λ e. if does_trail labels e then Some e else None)
     (last_with_end (greatest_end labels) labels)
 
 -- the label whose message trails
-abbrev pub trailing : List Labelled → Option Labelled
-trailing labels = option_map (λ (e : ℕ × Labelled). e.1) (trailing_entry labels)
+abbrev pub trailing : List LabelModel → Option LabelModel
+trailing labels = option_map (λ (e : ℕ × LabelModel). e.1) (trailing_entry labels)
 
 -- all other labels with a message hang
-abbrev pub hanging : List Labelled → List Labelled
+abbrev pub hanging : List LabelModel → List LabelModel
 hanging labels =
     filter has_message (option_map_or (λ e. remove labels e.0) (trailing_entry labels) labels)
 
@@ -88,19 +88,19 @@ hanging labels =
 -- a multi-line label mark has an underline row, on a line whose text begins with so many bytes of
 -- white space; a top corner that the source row has needs none
 abbrev pub has_underline : ℕ → MultiLabel → Bool
-has_underline leading (Top start) = not (turns_early leading start)
+has_underline leading (Top start) = not (begins_in_source_row leading start)
 has_underline leading Left = false
 has_underline leading (Bottom end message) = true
 
 -- ---- the rows of a line
 
 -- a line with labels has a caret row
-abbrev pub caret_rows : Line → List Labelled → List Row
+abbrev pub caret_rows : Line → List LabelModel → List Row
 caret_rows line [] = []
 caret_rows line (x ∷ xs) = CaretRow line ∷ []
 
 -- where labels hang: the pointers, and a row for each message, in the reverse of the labels' order
-abbrev pub hanging_rows : Line → List Labelled → List Row
+abbrev pub hanging_rows : Line → List LabelModel → List Row
 hanging_rows line [] = []
 hanging_rows line (x ∷ xs) = PointerRow line ∷ map (HangingRow line) (reverse (x ∷ xs))
 

@@ -2,18 +2,18 @@
 use Rattle.std.specs.Prelude.{ℕ, ◌+◌, ◌==◌, List, [], ◌∷◌, ◌++◌, Option, Some, None, if◌then◌else◌}
 use Rattle.codespan_picture.specs.Lines.{is_broken}
 
--- what is before a line, where `was` is the line before it: nothing before the first one
+-- what is before a line, where `previous` is the line before it: nothing before the first one
 abbrev pub before_line : {A : Type 0} → (ℕ → ℕ → List A) → Option ℕ → ℕ → List A
 before_line between None d = []
 before_line between (Some c) d = between c d
 
 -- the elements of these items, each of which has a line, with those between two consecutive lines;
--- `was` is the line before them all
+-- `previous` is the line before them all
 abbrev pub in_sequence : {X A : Type 0}
     → (X → ℕ) → (ℕ → ℕ → List A) → (X → List A) → Option ℕ → List X → List A
-in_sequence line_of between own was [] = []
-in_sequence line_of between own was (x ∷ xs) =
-    before_line between was (line_of x) ++ own x
+in_sequence line_of between own previous [] = []
+in_sequence line_of between own previous (x ∷ xs) =
+    before_line between previous (line_of x) ++ own x
     ++ in_sequence line_of between own (Some (line_of x)) xs
 
 -- between two drawn lines: a break, where lines are left out, or nothing

@@ -3,26 +3,26 @@ use Rattle.std.specs.Prelude.{ℕ, Bool, true, false, ◌||◌, min, List, [], �
 use Rattle.std.specs.Str.Lines.{lines}
 use Rattle.codespan_picture.specs.Types.{Config}
 use Rattle.codespan_base.specs.FileModel.{FileModel, line_text}
-use Rattle.codespan_base.specs.Labels.{Labelled, is_primary, first_seen, multi_labels, single_labels, marks_on}
-use Rattle.codespan_picture.specs.Cells.{drawn_text}
+use Rattle.codespan_base.specs.Labels.{LabelModel, is_primary, first_seen, multi_labels, single_labels, lane_marks_on}
+use Rattle.codespan_picture.specs.CharMetrics.{drawn_text}
 use Rattle.codespan_picture.specs.Lines.{drawn_lines}
 use Rattle.codespan_picture.specs.Rows.{Locus, Heading, Lanes, Line, Row, HeaderRow, StartRow, EmptyRow, BreakRow, FirstNoteRow, LaterNoteRow, BlankRow, rows_of}
 use Rattle.codespan_picture.specs.Sequences.{break_between, gap_between, in_sequence}
 
 -- a file with its labels, in the order given
-pub record LabelledFile : Type 0 where
+pub record LabeledFileModel : Type 0 where
   pub file : FileModel
-  pub labels : List Labelled
+  pub labels : List LabelModel
 
 -- a label of the diagnostic, in a file
 pub record InFile (Id : Type 0) : Type 0 where
   pub id : Id
-  pub label : Labelled
+  pub label : LabelModel
 
 -- the labels of one file
-abbrev pub labelled_file : {Id : Type 0}
-    → (Id → Id → Bool) → (Id → FileModel) → List (InFile Id) → Id → LabelledFile
-labelled_file {Id} same file labels id = record {
+abbrev pub labeled_file_model : {Id : Type 0}
+    → (Id → Id → Bool) → (Id → FileModel) → List (InFile Id) → Id → LabeledFileModel
+labeled_file_model {Id} same file labels id = record {
   file = file id;
   labels = map (λ (x : InFile Id). x.label) (filter (λ (x : InFile Id). same id x.id) labels);
 }
@@ -32,27 +32,28 @@ abbrev pub file_ids : {Id : Type 0} → (Id → Id → Bool) → List (InFile Id
 file_ids {Id} same labels = first_seen same (map (λ (x : InFile Id). x.id) labels)
 
 -- the files in that order
-abbrev pub labelled_files : {Id : Type 0}
-    → (Id → Id → Bool) → (Id → FileModel) → List (InFile Id) → List LabelledFile
-labelled_files same file labels = map (labelled_file same file labels) (file_ids same labels)
+abbrev pub labeled_file_models : {Id : Type 0}
+    → (Id → Id → Bool) → (Id → FileModel) → List (InFile Id) → List LabeledFileModel
+labeled_file_models same file labels =
+    map (labeled_file_model same file labels) (file_ids same labels)
 
 -- ---- the rows of one file
 
 -- how many lanes a file has
-abbrev pub lane_count : LabelledFile → ℕ
+abbrev pub lane_count : LabeledFileModel → ℕ
 lane_count s = length (multi_labels s.file s.labels)
 
 -- lanes with nothing in them
-abbrev pub bare_lanes : LabelledFile → Lanes
-bare_lanes s = record { count = lane_count s; marks = [] }
+abbrev pub empty_lanes : LabeledFileModel → Lanes
+empty_lanes s = record { count = lane_count s; marks = [] }
 
 -- a line of the file, with what its labels do on it
-abbrev pub line_at : LabelledFile → ℕ → Line
+abbrev pub line_at : LabeledFileModel → ℕ → Line
 line_at s l = record {
   number = s.file.number l;
   text = drawn_text (line_text s.file l);
   labels = single_labels s.file s.labels l;
-  lanes = record { count = lane_count s; marks = marks_on s.file s.labels l };
+  lanes = record { count = lane_count s; marks = lane_marks_on s.file s.labels l };
 }
 
 -- the rows of a line
@@ -63,14 +64,14 @@ line_rows line l = rows_of (line l)
 abbrev pub break_rows : (ℕ → Line) → ℕ → List Row
 break_rows line d = BreakRow (line d).lanes ∷ []
 
--- the rows of drawn lines with their breaks, where `was` is drawn before them
-abbrev pub rows_after : LabelledFile → Option ℕ → List ℕ → List Row
+-- the rows of drawn lines with their breaks, where `previous` is drawn before them
+abbrev pub rows_after : LabeledFileModel → Option ℕ → List ℕ → List Row
 rows_after s =
     in_sequence (λ l. l) (break_between (break_rows (line_at s))) (line_rows (line_at s))
 
 -- the same from an ascending list of shown lines alone
-abbrev pub drawing : (ℕ → Line) → Option ℕ → List ℕ → List Row
-drawing line =
+abbrev pub rows_of_shown : (ℕ → Line) → Option ℕ → List ℕ → List Row
+rows_of_shown line =
     in_sequence (λ l. l) (gap_between (line_rows line) (break_rows line)) (line_rows line)
 
 -- ---- where a snippet starts
@@ -86,19 +87,19 @@ if_any [] others = others
 if_any (x ∷ xs) others = x ∷ xs
 
 -- the least start of a primary label, or of any label where none is primary
-abbrev pub locus_start : List Labelled → ℕ
+abbrev pub locus_start : List LabelModel → ℕ
 locus_start labels =
-    least (map (λ (x : Labelled). x.start) (if_any (filter is_primary labels) labels))
+    least (map (λ (x : LabelModel). x.start) (if_any (filter is_primary labels) labels))
 
 -- the rows of a file's snippet, which starts with this locus
-abbrev pub snippet : Config → Locus → LabelledFile → List Row
+abbrev pub snippet : Config → Locus → LabeledFileModel → List Row
 snippet config locus s =
-    (StartRow locus ∷ EmptyRow (bare_lanes s) ∷ [])
+    (StartRow locus ∷ EmptyRow (empty_lanes s) ∷ [])
     ++ rows_after s None (drawn_lines config s.file s.labels)
 
 -- the row after a file's snippet, where something follows
-abbrev pub row_after : Bool → LabelledFile → List Row
-row_after followed s = if followed then EmptyRow (bare_lanes s) ∷ [] else []
+abbrev pub row_after : Bool → LabeledFileModel → List Row
+row_after followed s = if followed then EmptyRow (empty_lanes s) ∷ [] else []
 
 -- ---- the rows of all files
 
@@ -109,7 +110,7 @@ has_any (x ∷ xs) = true
 
 -- the snippets of files with these loci; an empty row follows each, but the last only where notes
 -- follow
-abbrev pub snippets : Config → Bool → List Locus → List LabelledFile → List Row
+abbrev pub snippets : Config → Bool → List Locus → List LabeledFileModel → List Row
 snippets config has_notes [] ss = []
 snippets config has_notes (p ∷ ps) [] = []
 snippets config has_notes (p ∷ ps) (s ∷ ss) =
@@ -125,7 +126,8 @@ abbrev pub note_rows : List (List ℕ) → List Row
 note_rows notes = flat_map (λ note. piece_rows (lines note)) notes
 
 -- the rows of rich style, where the files' snippets have these loci
-abbrev pub rich_rows : Config → Heading → List Locus → List LabelledFile → List (List ℕ) → List Row
+abbrev pub rich_rows : Config → Heading → List Locus → List LabeledFileModel → List (List ℕ)
+    → List Row
 rich_rows config heading loci ss notes =
     (HeaderRow None heading ∷ snippets config (has_any notes) loci ss)
     ++ note_rows notes ++ (BlankRow ∷ [])

@@ -4,34 +4,34 @@ use Rattle.std.specs.Prelude.{◌&&◌, if◌then◌else◌}
 use Rattle.std.specs.List.{list_any}
 use Rattle.codespan_base.specs.declared.diagnostic.LabelStyle.{LabelStyle}
 use Rattle.codespan_base.specs.declared.diagnostic.LabelStyle.TheVariants.{Primary, Secondary}
-use Rattle.codespan_base.specs.Labels.{Labelled, is_primary}
-use Rattle.codespan_renderer.specs.Inner.Runs.{better, best_from}
+use Rattle.codespan_base.specs.Labels.{LabelModel, is_primary}
+use Rattle.codespan_renderer.specs.Private.Runs.{better, best_from}
 
 -- a label that passes betters what was found
-pub best-cons : (passes : Labelled → Bool) (found : Option LabelStyle) (x : Labelled) (xs : List Labelled)
+pub best-cons : (passes : LabelModel → Bool) (found : Option LabelStyle) (x : LabelModel) (xs : List LabelModel)
     → best_from passes found (x ∷ xs) ≡ best_from passes (if passes x then better found x.style else found) xs
 best-cons passes found x xs = by_test (passes x)
   where
-    by_test : (b : Bool) → fold (λ best (y : Labelled). better best y.style) found (cond b (x ∷ filter passes xs) (filter passes xs))
+    by_test : (b : Bool) → fold (λ best (y : LabelModel). better best y.style) found (cond b (x ∷ filter passes xs) (filter passes xs))
         ≡ best_from passes (if b then better found x.style else found) xs
     by_test true = refl
     by_test false = refl
 
-primary-cons : (passes : Labelled → Bool) (x : Labelled) (xs : List Labelled) (b : Bool) → passes x ≡ b
+primary-cons : (passes : LabelModel → Bool) (x : LabelModel) (xs : List LabelModel) (b : Bool) → passes x ≡ b
     → best_from passes (Some Primary) xs ≡ Some Primary → best_from passes (Some Primary) (x ∷ xs) ≡ Some Primary
 primary-cons passes x xs true e ih = rw e ih
 primary-cons passes x xs false e ih = rw e ih
 
 -- nothing is better than a primary style
-pub best-primary : (passes : Labelled → Bool) (xs : List Labelled) → best_from passes (Some Primary) xs ≡ Some Primary
+pub best-primary : (passes : LabelModel → Bool) (xs : List LabelModel) → best_from passes (Some Primary) xs ≡ Some Primary
 best-primary passes [] = refl
 best-primary passes (x ∷ xs) = primary-cons passes x xs _ refl (best-primary passes xs)
 
 -- one of the labels that pass is primary
-abbrev primary_or : (Labelled → Bool) → Option LabelStyle → List Labelled → Option LabelStyle
+abbrev primary_or : (LabelModel → Bool) → Option LabelStyle → List LabelModel → Option LabelStyle
 primary_or passes style xs = if list_any (λ x. is_primary x && passes x) xs then Some Primary else style
 
-secondary-cons : (passes : Labelled → Bool) (x : Labelled) (xs : List Labelled) (b : Bool) (s : LabelStyle) → passes x ≡ b → x.style ≡ s
+secondary-cons : (passes : LabelModel → Bool) (x : LabelModel) (xs : List LabelModel) (b : Bool) (s : LabelStyle) → passes x ≡ b → x.style ≡ s
     → best_from passes (Some Secondary) xs ≡ primary_or passes (Some Secondary) xs
     → best_from passes (Some Secondary) (x ∷ xs) ≡ primary_or passes (Some Secondary) (x ∷ xs)
 secondary-cons passes x xs true Primary e q ih = rw (e, q) (best-primary passes xs)
@@ -39,22 +39,22 @@ secondary-cons passes x xs true Secondary e q ih = rw (e, q) ih
 secondary-cons passes x xs false Primary e q ih = rw (e, q) ih
 secondary-cons passes x xs false Secondary e q ih = rw (e, q) ih
 
-best-secondary : (passes : Labelled → Bool) (xs : List Labelled) → best_from passes (Some Secondary) xs ≡ primary_or passes (Some Secondary) xs
+best-secondary : (passes : LabelModel → Bool) (xs : List LabelModel) → best_from passes (Some Secondary) xs ≡ primary_or passes (Some Secondary) xs
 best-secondary passes [] = refl
 best-secondary passes (x ∷ xs) = secondary-cons passes x xs _ _ refl refl (best-secondary passes xs)
 
 -- the best style by tests over all labels
-abbrev pub best_of : (Labelled → Bool) → List Labelled → Option LabelStyle
+abbrev pub best_of : (LabelModel → Bool) → List LabelModel → Option LabelStyle
 best_of passes xs = primary_or passes (if list_any passes xs then Some Secondary else None) xs
 
-none-cons : (passes : Labelled → Bool) (x : Labelled) (xs : List Labelled) (b : Bool) (s : LabelStyle) → passes x ≡ b → x.style ≡ s
+none-cons : (passes : LabelModel → Bool) (x : LabelModel) (xs : List LabelModel) (b : Bool) (s : LabelStyle) → passes x ≡ b → x.style ≡ s
     → best_from passes None xs ≡ best_of passes xs → best_from passes None (x ∷ xs) ≡ best_of passes (x ∷ xs)
 none-cons passes x xs true Primary e q ih = rw (e, q) (best-primary passes xs)
 none-cons passes x xs true Secondary e q ih = rw (e, q) (best-secondary passes xs)
 none-cons passes x xs false Primary e q ih = rw (e, q) ih
 none-cons passes x xs false Secondary e q ih = rw (e, q) ih
 
--- a walk over the labels finds it
-pub best-none : (passes : Labelled → Bool) (xs : List Labelled) → best_from passes None xs ≡ best_of passes xs
+-- a cursor over the labels finds it
+pub best-none : (passes : LabelModel → Bool) (xs : List LabelModel) → best_from passes None xs ≡ best_of passes xs
 best-none passes [] = refl
 best-none passes (x ∷ xs) = none-cons passes x xs _ _ refl refl (best-none passes xs)

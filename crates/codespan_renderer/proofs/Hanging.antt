@@ -13,59 +13,59 @@ use Rattle.std.proofs.lemmas.List.Sums.{fold-append}
 use Rattle.std.proofs.lemmas.Grind.{flat_map-append}
 use Rattle.codespan_base.specs.declared.diagnostic.LabelStyle.{LabelStyle}
 use Rattle.codespan_base.specs.declared.diagnostic.LabelStyle.TheVariants.{Primary, Secondary}
-use Rattle.codespan_base.specs.Labels.{Labelled, has_message, is_blank, is_primary, is_primary_style}
-use Rattle.codespan_base.specs.Streams.{Stream, bytes, blanks, newline}
-use Rattle.codespan_picture.specs.declared.cells.Cell.{Cell}
+use Rattle.codespan_base.specs.Labels.{LabelModel, has_message, is_empty_stream, is_primary, is_primary_style}
+use Rattle.codespan_base.specs.Streams.{Stream, bytes, spaces, newline}
+use Rattle.codespan_picture.specs.declared.char_metrics.Metrics.{Metrics}
 use Rattle.codespan_picture.specs.Carets.{greatest_end}
-use Rattle.codespan_picture.specs.Given.{GivenLabel, single_label_view, single_label_views}
+use Rattle.codespan_picture.specs.Arguments.{SingleLabelTuple, single_label_view, single_label_views}
 use Rattle.codespan_picture.specs.Lanes.{label_glyph}
-use Rattle.codespan_picture.specs.Rows.{Look, Line, HangingRow, last_with_end, is_overlapped, does_trail, trailing_entry, trailing, hanging, hanging_rows}
-use Rattle.codespan_picture.specs.RowParts.{starts_in, pointer_style, greatest_start, blanks_up_to, pointer_at, pointers, cells_before}
+use Rattle.codespan_picture.specs.Rows.{RowContext, Line, HangingRow, last_with_end, is_overlapped, does_trail, trailing_entry, trailing, hanging, hanging_rows}
+use Rattle.codespan_picture.specs.RowParts.{starts_in, pointer_style, greatest_start, spaces_up_to, pointer_at, pointers, metrics_before}
 use Rattle.codespan_picture.specs.RowStreams.{pointer_row, hanging_row, stream_of, stream_of_rows}
-use Rattle.codespan_renderer.specs.Inner.Runs.{better, best_from, pointer_found, entry_given, AreHanging, hanging_stream}
+use Rattle.codespan_renderer.specs.Private.Runs.{better, best_from, pointer_found, label_entry_view, AreHanging, hanging_stream}
 use Rattle.codespan_renderer.proofs.Best.{best-cons, best-primary}
-use Rattle.codespan_renderer.proofs.RowWords.{blanks-add}
+use Rattle.codespan_renderer.proofs.RowWords.{spaces-add}
 
 -- a text is empty as a stream where it is empty
-pub blank_is : (text : List ℕ) → is_blank (bytes text) ≡ (length text == 0)
+pub spaces_is : (text : List ℕ) → is_empty_stream (bytes text) ≡ (length text == 0)
 unfolding bytes
-blank_is [] = refl
-blank_is (b ∷ bs) = sym (ne_eqb (length (b ∷ bs)) 0 (λ e. omega arith))
+spaces_is [] = refl
+spaces_is (b ∷ bs) = sym (ne_eqb (length (b ∷ bs)) 0 (λ e. omega arith))
 
 -- one of the labels from here on has a message where this one or a later one has
-pub any_from : (xs : List GivenLabel) (i : ℕ) (d : GivenLabel) (empty : Bool) → i < length xs → empty ≡ (length (get_or xs i d).2.now == 0)
+pub any_from : (xs : List SingleLabelTuple) (i : ℕ) (d : SingleLabelTuple) (empty : Bool) → i < length xs → empty ≡ (length (get_or xs i d).2.now == 0)
     → list_any has_message (single_label_views (drop i xs)) ≡ (not empty || list_any has_message (single_label_views (drop (i + 1) xs)))
-any_from xs i d empty h e = rw (drop-cons xs i d h, e, blank_is, add-one) refl
+any_from xs i d empty h e = rw (drop-cons xs i d h, e, spaces_is, add-one) refl
 
 -- ---- the label whose message trails
 
 -- none of the labels ends there
-abbrev pub NoneEnds : ℕ → List GivenLabel → Type 0
-NoneEnds end xs = list_any (λ (x : Labelled). x.end == end) (single_label_views xs) ≡ false
+abbrev pub NoneEnds : ℕ → List SingleLabelTuple → Type 0
+NoneEnds end xs = list_any (λ (x : LabelModel). x.end == end) (single_label_views xs) ≡ false
 
 -- where none ends there, none is the last one
-last_none : (end : ℕ) (xs : List GivenLabel) (n : ℕ) (o : Option (ℕ × Labelled)) → NoneEnds end xs
-    → last_or o (filter (λ (e : ℕ × Labelled). e.1.end == end) (enumerate_from n (single_label_views xs))) ≡ o
+last_none : (end : ℕ) (xs : List SingleLabelTuple) (n : ℕ) (o : Option (ℕ × LabelModel)) → NoneEnds end xs
+    → last_or o (filter (λ (e : ℕ × LabelModel). e.1.end == end) (enumerate_from n (single_label_views xs))) ≡ o
 last_none end [] n o none = refl
 last_none end (x ∷ xs) n o none = by_test (last_none end xs (n + 1) o) (x.1.end == end) refl none
   where
-    later : List (ℕ × Labelled)
-    later = filter (λ (e : ℕ × Labelled). e.1.end == end) (enumerate_from (n + 1) (single_label_views xs))
+    later : List (ℕ × LabelModel)
+    later = filter (λ (e : ℕ × LabelModel). e.1.end == end) (enumerate_from (n + 1) (single_label_views xs))
 
     by_test : (NoneEnds end xs → last_or o later ≡ o) → (b : Bool) → (x.1.end == end) ≡ b
-        → (b || list_any (λ (y : Labelled). y.end == end) (single_label_views xs)) ≡ false
+        → (b || list_any (λ (y : LabelModel). y.end == end) (single_label_views xs)) ≡ false
         → last_or o (cond b ((n, single_label_view x) ∷ later) later) ≡ o
     by_test again true is k = cc
     by_test again false is k = again k
 
 -- none of the labels ends there, and none is the last one
-pub none_ends : (end : ℕ) (xs : List GivenLabel) (from : ℕ) → from ≡ 0 → NoneEnds end (drop from xs) → last_with_end end (single_label_views xs) ≡ None
+pub none_ends : (end : ℕ) (xs : List SingleLabelTuple) (from : ℕ) → from ≡ 0 → NoneEnds end (drop from xs) → last_with_end end (single_label_views xs) ≡ None
 none_ends end xs from first none = last_none end xs 0 None (subst (λ n. NoneEnds end (drop n xs)) first none)
 
 -- the label at this index is the last one with the end, counted from `n`
-last_at : (end : ℕ) (xs : List GivenLabel) (k n : ℕ) (o : Option (ℕ × Labelled)) (d : GivenLabel) → k < length xs
+last_at : (end : ℕ) (xs : List SingleLabelTuple) (k n : ℕ) (o : Option (ℕ × LabelModel)) (d : SingleLabelTuple) → k < length xs
     → (get_or xs k d).1.end ≡ end → NoneEnds end (drop (suc k) xs)
-    → last_or o (filter (λ (e : ℕ × Labelled). e.1.end == end) (enumerate_from n (single_label_views xs)))
+    → last_or o (filter (λ (e : ℕ × LabelModel). e.1.end == end) (enumerate_from n (single_label_views xs)))
     ≡ Some (n + k, single_label_view (get_or xs k d))
 last_at end [] k n o d h e none = absurd (omega arith)
 last_at end (x ∷ xs) zero n o d h e none =
@@ -75,27 +75,27 @@ last_at end (x ∷ xs) zero n o d h e none =
 last_at end (x ∷ xs) (suc k) n o d h e none =
     by_test (λ p. last_at end xs k (n + 1) p d (omega arith) e none ∙ ap (λ j. Some (j, single_label_view (get_or xs k d))) s) (x.1.end == end)
   where
-    later : List (ℕ × Labelled)
-    later = filter (λ (e : ℕ × Labelled). e.1.end == end) (enumerate_from (n + 1) (single_label_views xs))
+    later : List (ℕ × LabelModel)
+    later = filter (λ (e : ℕ × LabelModel). e.1.end == end) (enumerate_from (n + 1) (single_label_views xs))
 
     s : n + 1 + k ≡ n + suc k
     s = omega arith
 
-    by_test : ((p : Option (ℕ × Labelled)) → last_or p later ≡ Some (n + suc k, single_label_view (get_or xs k d)))
+    by_test : ((p : Option (ℕ × LabelModel)) → last_or p later ≡ Some (n + suc k, single_label_view (get_or xs k d)))
         → (b : Bool) → last_or o (cond b ((n, single_label_view x) ∷ later) later)
         ≡ Some (n + suc k, single_label_view (get_or xs k d))
     by_test again true = again (Some (n, single_label_view x))
     by_test again false = again o
 
 -- an entry of the list
-entry_is : (xs : List GivenLabel) (k : ℕ) (d : GivenLabel) → k < length xs
-    → entry_given xs (Some k) ≡ Some (k, single_label_view (get_or xs k d))
+entry_is : (xs : List SingleLabelTuple) (k : ℕ) (d : SingleLabelTuple) → k < length xs
+    → label_entry_view xs (Some k) ≡ Some (k, single_label_view (get_or xs k d))
 entry_is xs k d h = ap (option_map (λ x. (k, single_label_view x))) (slice_get-get_or xs k d h)
 
 -- the label at this index is the last one with the end
-pub last_here : (end : ℕ) (xs : List GivenLabel) (k later : ℕ) (d : GivenLabel) → k < length xs → later ≡ k + 1
+pub last_here : (end : ℕ) (xs : List SingleLabelTuple) (k later : ℕ) (d : SingleLabelTuple) → k < length xs → later ≡ k + 1
     → (get_or xs k d).1.end ≡ end → NoneEnds end (drop later xs)
-    → last_with_end end (single_label_views xs) ≡ entry_given xs (Some k)
+    → last_with_end end (single_label_views xs) ≡ label_entry_view xs (Some k)
 last_here end xs k later d h s e none =
     let next : later ≡ suc k = omega (arith, s) in
     let all : 0 + k ≡ k = omega arith in
@@ -104,7 +104,7 @@ last_here end xs k later d h s e none =
     ∙ sym (entry_is xs k d h)
 
 -- the list without the label at an index
-without_at : (xs : List GivenLabel) (k : ℕ)
+without_at : (xs : List SingleLabelTuple) (k : ℕ)
     → remove (single_label_views xs) k ≡ single_label_views (take k xs) ++ single_label_views (drop (k + 1) xs)
 without_at xs k =
     ap (λ ys. ys ++ drop (suc k) (single_label_views xs)) (take-map single_label_view k xs)
@@ -112,54 +112,54 @@ without_at xs k =
     ∙ ap (λ n. single_label_views (take k xs) ++ single_label_views (drop n xs)) (sym (add-one k))
 
 -- what is tested of the label at an index
-pub trails_at : (xs : List GivenLabel) (k : ℕ) (d : GivenLabel) (empty : Bool) → k < length xs → empty ≡ (length (get_or xs k d).2.now == 0)
-    → option_map_or (does_trail (single_label_views xs)) (entry_given xs (Some k)) false
+pub trails_at : (xs : List SingleLabelTuple) (k : ℕ) (d : SingleLabelTuple) (empty : Bool) → k < length xs → empty ≡ (length (get_or xs k d).2.now == 0)
+    → option_map_or (does_trail (single_label_views xs)) (label_entry_view xs (Some k)) false
     ≡ (not empty && not (is_overlapped (single_label_view (get_or xs k d)) (single_label_views (take k xs)) || is_overlapped (single_label_view (get_or xs k d)) (single_label_views (drop (k + 1) xs))))
-trails_at xs k d empty h e = rw (entry_is xs k d h, without_at xs k, e, blank_is, list_any-append) refl
+trails_at xs k d empty h e = rw (entry_is xs k d h, without_at xs k, e, spaces_is, list_any-append) refl
 
 -- ---- where one trails
 
 -- the rightmost label trails
-trails_by : (xs : List Labelled) (e : ℕ × Labelled) → last_with_end (greatest_end xs) xs ≡ Some e → does_trail xs e ≡ true → trailing_entry xs ≡ Some e
+trails_by : (xs : List LabelModel) (e : ℕ × LabelModel) → last_with_end (greatest_end xs) xs ≡ Some e → does_trail xs e ≡ true → trailing_entry xs ≡ Some e
 trails_by xs e is h = rw (is, h) refl
 
 -- the label at an index trails
-entry_trails : (xs : List GivenLabel) (k end : ℕ) (d : GivenLabel) → k < length xs → end ≡ greatest_end (single_label_views xs)
-    → last_with_end end (single_label_views xs) ≡ entry_given xs (Some k)
-    → option_map_or (does_trail (single_label_views xs)) (entry_given xs (Some k)) false ≡ true
+entry_trails : (xs : List SingleLabelTuple) (k end : ℕ) (d : SingleLabelTuple) → k < length xs → end ≡ greatest_end (single_label_views xs)
+    → last_with_end end (single_label_views xs) ≡ label_entry_view xs (Some k)
+    → option_map_or (does_trail (single_label_views xs)) (label_entry_view xs (Some k)) false ≡ true
     → trailing_entry (single_label_views xs) ≡ Some (k, single_label_view (get_or xs k d))
 entry_trails xs k end d h greatest last holds =
     let here = entry_is xs k d h in
     trails_by (single_label_views xs) (k, single_label_view (get_or xs k d))
     (ap (λ e. last_with_end e (single_label_views xs)) (sym greatest) ∙ last ∙ here)
-    (ap (λ (o : Option (ℕ × Labelled)). option_map_or (does_trail (single_label_views xs)) o false) (sym here) ∙ holds)
+    (ap (λ (o : Option (ℕ × LabelModel)). option_map_or (does_trail (single_label_views xs)) o false) (sym here) ∙ holds)
 
 -- its message trails
-pub trailing_here : (xs : List GivenLabel) (k end : ℕ) (d : GivenLabel) → k < length xs → end ≡ greatest_end (single_label_views xs)
-    → last_with_end end (single_label_views xs) ≡ entry_given xs (Some k)
-    → option_map_or (does_trail (single_label_views xs)) (entry_given xs (Some k)) false ≡ true
+pub trailing_here : (xs : List SingleLabelTuple) (k end : ℕ) (d : SingleLabelTuple) → k < length xs → end ≡ greatest_end (single_label_views xs)
+    → last_with_end end (single_label_views xs) ≡ label_entry_view xs (Some k)
+    → option_map_or (does_trail (single_label_views xs)) (label_entry_view xs (Some k)) false ≡ true
     → Some (single_label_view (get_or xs k d)) ≡ trailing (single_label_views xs)
 trailing_here xs k end d h greatest last holds =
-    ap (option_map (λ (e : ℕ × Labelled). e.1)) (sym (entry_trails xs k end d h greatest last holds))
+    ap (option_map (λ (e : ℕ × LabelModel). e.1)) (sym (entry_trails xs k end d h greatest last holds))
 
 -- all elements from an index on
-all_after : (n : ℕ) (xs : List GivenLabel) → take (length xs - n) (drop n xs) ≡ drop n xs
+all_after : (n : ℕ) (xs : List SingleLabelTuple) → take (length xs - n) (drop n xs) ≡ drop n xs
 all_after n xs = ap (λ k. take k (drop n xs)) (sym (length-drop n xs)) ∙ take-length (drop n xs)
 
 -- all labels around it may hang
-hanging_at : (xs : List GivenLabel) (k end : ℕ) (d : GivenLabel) → k < length xs → end ≡ greatest_end (single_label_views xs)
-    → last_with_end end (single_label_views xs) ≡ entry_given xs (Some k)
-    → option_map_or (does_trail (single_label_views xs)) (entry_given xs (Some k)) false ≡ true
+hanging_at : (xs : List SingleLabelTuple) (k end : ℕ) (d : SingleLabelTuple) → k < length xs → end ≡ greatest_end (single_label_views xs)
+    → last_with_end end (single_label_views xs) ≡ label_entry_view xs (Some k)
+    → option_map_or (does_trail (single_label_views xs)) (label_entry_view xs (Some k)) false ≡ true
     → AreHanging xs (take k xs) (take (length xs - (k + 1)) (drop (k + 1) xs))
 hanging_at xs k end d h greatest last holds = subst (AreHanging xs (take k xs)) (sym (all_after (k + 1) xs)) (record {
   are = ap (filter has_message) (map-append single_label_view (take k xs) (drop (k + 1) xs) ∙ sym (without_at xs k))
-      ∙ ap (λ (o : Option (ℕ × Labelled)). filter has_message (option_map_or (λ e. remove (single_label_views xs) e.0) o (single_label_views xs)))
+      ∙ ap (λ (o : Option (ℕ × LabelModel)). filter has_message (option_map_or (λ e. remove (single_label_views xs) e.0) o (single_label_views xs)))
       (sym (entry_trails xs k end d h greatest last holds));
 })
 
-pub hanging_here : (xs : List GivenLabel) (k end : ℕ) → k < length xs → end ≡ greatest_end (single_label_views xs)
-    → last_with_end end (single_label_views xs) ≡ entry_given xs (Some k)
-    → option_map_or (does_trail (single_label_views xs)) (entry_given xs (Some k)) false ≡ true
+pub hanging_here : (xs : List SingleLabelTuple) (k end : ℕ) → k < length xs → end ≡ greatest_end (single_label_views xs)
+    → last_with_end end (single_label_views xs) ≡ label_entry_view xs (Some k)
+    → option_map_or (does_trail (single_label_views xs)) (label_entry_view xs (Some k)) false ≡ true
     → AreHanging xs (take k xs) (take (length xs - (k + 1)) (drop (k + 1) xs))
 hanging_here [] k end h greatest last holds = absurd (omega arith)
 hanging_here (x ∷ xs) k end h greatest last holds = hanging_at (x ∷ xs) k end x h greatest last holds
@@ -167,41 +167,41 @@ hanging_here (x ∷ xs) k end h greatest last holds = hanging_at (x ∷ xs) k en
 -- ---- where none trails
 
 -- no label trails where the rightmost one does not
-none_by : (xs : List Labelled) (o : Option (ℕ × Labelled)) → last_with_end (greatest_end xs) xs ≡ o → option_map_or (does_trail xs) o false ≡ false
+none_by : (xs : List LabelModel) (o : Option (ℕ × LabelModel)) → last_with_end (greatest_end xs) xs ≡ o → option_map_or (does_trail xs) o false ≡ false
     → trailing_entry xs ≡ None
 none_by xs None is h = rw is refl
 none_by xs (Some e) is h = rw (is, h) refl
 
 -- no message trails
-no_entry : (xs : List GivenLabel) (r : Option ℕ) (end : ℕ) → end ≡ greatest_end (single_label_views xs)
-    → last_with_end end (single_label_views xs) ≡ entry_given xs r
-    → option_map_or (does_trail (single_label_views xs)) (entry_given xs r) false ≡ false → trailing_entry (single_label_views xs) ≡ None
+no_entry : (xs : List SingleLabelTuple) (r : Option ℕ) (end : ℕ) → end ≡ greatest_end (single_label_views xs)
+    → last_with_end end (single_label_views xs) ≡ label_entry_view xs r
+    → option_map_or (does_trail (single_label_views xs)) (label_entry_view xs r) false ≡ false → trailing_entry (single_label_views xs) ≡ None
 no_entry xs r end greatest last h =
-    none_by (single_label_views xs) (entry_given xs r) (ap (λ e. last_with_end e (single_label_views xs)) (sym greatest) ∙ last) h
+    none_by (single_label_views xs) (label_entry_view xs r) (ap (λ e. last_with_end e (single_label_views xs)) (sym greatest) ∙ last) h
 
-pub nothing_trails : (xs : List GivenLabel) (r : Option ℕ) (end : ℕ) → end ≡ greatest_end (single_label_views xs)
-    → last_with_end end (single_label_views xs) ≡ entry_given xs r
-    → option_map_or (does_trail (single_label_views xs)) (entry_given xs r) false ≡ false → None ≡ trailing (single_label_views xs)
+pub nothing_trails : (xs : List SingleLabelTuple) (r : Option ℕ) (end : ℕ) → end ≡ greatest_end (single_label_views xs)
+    → last_with_end end (single_label_views xs) ≡ label_entry_view xs r
+    → option_map_or (does_trail (single_label_views xs)) (label_entry_view xs r) false ≡ false → None ≡ trailing (single_label_views xs)
 nothing_trails xs r end greatest last h =
-    ap (option_map (λ (e : ℕ × Labelled). e.1)) (sym (no_entry xs r end greatest last h))
+    ap (option_map (λ (e : ℕ × LabelModel). e.1)) (sym (no_entry xs r end greatest last h))
 
 -- no message trails, and all labels may hang
-pub none_trails : (xs : List GivenLabel) (r : Option ℕ) (end : ℕ) → end ≡ greatest_end (single_label_views xs)
-    → last_with_end end (single_label_views xs) ≡ entry_given xs r
-    → option_map_or (does_trail (single_label_views xs)) (entry_given xs r) false ≡ false → AreHanging xs xs []
+pub none_trails : (xs : List SingleLabelTuple) (r : Option ℕ) (end : ℕ) → end ≡ greatest_end (single_label_views xs)
+    → last_with_end end (single_label_views xs) ≡ label_entry_view xs r
+    → option_map_or (does_trail (single_label_views xs)) (label_entry_view xs r) false ≡ false → AreHanging xs xs []
 none_trails xs r end greatest last h =
     let none = no_entry xs r end greatest last h in record { are = rw (append-nil, none) refl }
 
 -- ---- the style of a pointer
 
 -- the best of two lists
-best_append : (p : Labelled → Bool) (found : Option LabelStyle) (xs ys : List Labelled) → best_from p found (xs ++ ys) ≡ best_from p (best_from p found xs) ys
+best_append : (p : LabelModel → Bool) (found : Option LabelStyle) (xs ys : List LabelModel) → best_from p found (xs ++ ys) ≡ best_from p (best_from p found xs) ys
 best_append p found xs ys =
-    let step = λ (best : Option LabelStyle) (x : Labelled). better best x.style in
+    let step = λ (best : Option LabelStyle) (x : LabelModel). better best x.style in
     ap (fold step found) (filter-append p xs ys) ∙ fold-append step found (filter p xs) (filter p ys)
 
 -- after a secondary style only a primary one counts
-best_later : (c : Cell) (xs : List Labelled) → best_from (starts_in c) (Some Secondary) xs ≡ Some (pointer_style xs c)
+best_later : (c : Metrics) (xs : List LabelModel) → best_from (starts_in c) (Some Secondary) xs ≡ Some (pointer_style xs c)
 best_later c [] = refl
 best_later c (x ∷ xs) = best-cons (starts_in c) (Some Secondary) x xs ∙ by_style (best_later c xs) (starts_in c x) x.style
   where
@@ -214,7 +214,7 @@ best_later c (x ∷ xs) = best-cons (starts_in c) (Some Secondary) x xs ∙ by_s
     by_style more false Secondary = more
 
 -- the best style of the labels that start in the character is that of its pointer
-best_is : (c : Cell) (xs : List Labelled) → best_from (starts_in c) None xs ≡ pointer_found xs c
+best_is : (c : Metrics) (xs : List LabelModel) → best_from (starts_in c) None xs ≡ pointer_found xs c
 best_is c [] = refl
 best_is c (x ∷ xs) = best-cons (starts_in c) None x xs ∙ by_style (best_is c xs) (starts_in c x) x.style
   where
@@ -227,13 +227,13 @@ best_is c (x ∷ xs) = best-cons (starts_in c) None x xs ∙ by_style (best_is c
     by_style more false Secondary = more
 
 -- the labels that hang are those with a message of the one list and then of the other
-hanging_parts : (labels before after : List GivenLabel) → AreHanging labels before after
+hanging_parts : (labels before after : List SingleLabelTuple) → AreHanging labels before after
     → filter has_message (single_label_views before) ++ filter has_message (single_label_views after) ≡ hanging (single_label_views labels)
 hanging_parts labels before after h =
     sym (filter-append has_message (single_label_views before) (single_label_views after)) ∙ ap (filter has_message) (sym (map-append single_label_view before after)) ∙ h.are
 
 -- the style of a pointer is that of the labels of the one list and then of the other
-pub pointer_is : (labels before after : List GivenLabel) (c : Cell) → AreHanging labels before after
+pub pointer_is : (labels before after : List SingleLabelTuple) (c : Metrics) → AreHanging labels before after
     → best_from (starts_in c) (best_from (starts_in c) None (filter has_message (single_label_views before))) (filter has_message (single_label_views after))
     ≡ pointer_found (hanging (single_label_views labels)) c
 pointer_is labels before after c h =
@@ -242,13 +242,13 @@ pointer_is labels before after c h =
     ∙ best_is c (hanging (single_label_views labels))
 
 -- a step over the label at an index
-pub best_step : (c : Cell) (found best : Option LabelStyle) (xs : List GivenLabel) (i : ℕ) (d : GivenLabel) (empty : Bool) → i < length xs
+pub best_step : (c : Metrics) (found best : Option LabelStyle) (xs : List SingleLabelTuple) (i : ℕ) (d : SingleLabelTuple) (empty : Bool) → i < length xs
     → empty ≡ (length (get_or xs i d).2.now == 0)
     → best ≡ (if not empty then (if starts_in c (single_label_view (get_or xs i d)) then better found (get_or xs i d).0 else found) else found)
     → best_from (starts_in c) best (filter has_message (single_label_views (drop (i + 1) xs))) ≡ best_from (starts_in c) found (filter has_message (single_label_views (drop i xs)))
-best_step c found best xs i d empty h is e = rw (drop-cons xs i d h, add-one, e, blank_is, ← is) (by_message (get_or xs i d) (not empty))
+best_step c found best xs i d empty h is e = rw (drop-cons xs i d h, add-one, e, spaces_is, ← is) (by_message (get_or xs i d) (not empty))
   where
-    by_message : (x : GivenLabel) (b : Bool)
+    by_message : (x : SingleLabelTuple) (b : Bool)
         → best_from (starts_in c) (if b then (if starts_in c (single_label_view x) then better found x.0 else found) else found) (filter has_message (single_label_views (drop (suc i) xs)))
         ≡ best_from (starts_in c) found (cond b (single_label_view x ∷ filter has_message (single_label_views (drop (suc i) xs))) (filter has_message (single_label_views (drop (suc i) xs))))
     by_message x true = sym (best-cons (starts_in c) found (single_label_view x) (filter has_message (single_label_views (drop (suc i) xs))))
@@ -257,113 +257,113 @@ best_step c found best xs i d empty h is e = rw (drop-cons xs i d h, add-one, e,
 -- ---- the pointers of a line
 
 -- no space is pending
-pub blanks_none : (s : Stream) → blanks 0 ++ s ≡ s
-unfolding blanks bytes
-blanks_none s = refl
+pub spaces_none : (s : Stream) → spaces 0 ++ s ≡ s
+unfolding spaces bytes
+spaces_none s = refl
 
 -- a character before the byte index shows its own
-pointers_next : (look : Look) (labels : List Labelled) (before : ℕ) (c : Cell) (cs : List Cell) → c.place < before
-    → pointers look labels (cells_before before (c ∷ cs)) ≡ pointer_at look labels (hanging labels) c ++ pointers look labels (cells_before before cs)
+pointers_next : (context : RowContext) (labels : List LabelModel) (before : ℕ) (c : Metrics) (cs : List Metrics) → c.byte_index < before
+    → pointers context labels (metrics_before before (c ∷ cs)) ≡ pointer_at context labels (hanging labels) c ++ pointers context labels (metrics_before before cs)
 unfolding pointers
-pointers_next look labels before c cs h =
-    let kept : nat_lt c.place before ≡ true = lt-ltb c.place before h in
-    rw kept refl
+pointers_next context labels before c cs h =
+    let cached : nat_lt c.byte_index before ≡ true = lt-ltb c.byte_index before h in
+    rw cached refl
 
 -- no label hangs from the character
-pub pointer_none : (look : Look) (labels : List Labelled) (c : Cell) → pointer_found (hanging labels) c ≡ None
-    → pointer_at look labels (hanging labels) c ≡ blanks_up_to (greatest_start labels) c c.width
+pub pointer_none : (context : RowContext) (labels : List LabelModel) (c : Metrics) → pointer_found (hanging labels) c ≡ None
+    → pointer_at context labels (hanging labels) c ≡ spaces_up_to (greatest_start labels) c c.width
 unfolding pointer_at
-pointer_none look labels c h = by_test (list_any (starts_in c) (hanging labels)) refl h
+pointer_none context labels c h = by_test (list_any (starts_in c) (hanging labels)) refl h
   where
     by_test : (b : Bool) → list_any (starts_in c) (hanging labels) ≡ b → (if b then Some (pointer_style (hanging labels) c) else None) ≡ None
-        → pointer_at look labels (hanging labels) c ≡ blanks_up_to (greatest_start labels) c c.width
+        → pointer_at context labels (hanging labels) c ≡ spaces_up_to (greatest_start labels) c c.width
     by_test true is h = cc
     by_test false is h = rw is refl
 
 -- a label of this style hangs from it
-pub pointer_some : (look : Look) (labels : List Labelled) (c : Cell) (style : LabelStyle) → pointer_found (hanging labels) c ≡ Some style
-    → pointer_at look labels (hanging labels) c
-    ≡ label_glyph look.severity style look.chars.pointer_left ++ blanks_up_to (greatest_start labels) c (c.width - 1)
+pub pointer_some : (context : RowContext) (labels : List LabelModel) (c : Metrics) (style : LabelStyle) → pointer_found (hanging labels) c ≡ Some style
+    → pointer_at context labels (hanging labels) c
+    ≡ label_glyph context.severity style context.chars.pointer_left ++ spaces_up_to (greatest_start labels) c (c.width - 1)
 unfolding pointer_at
-pointer_some look labels c style h = by_test (list_any (starts_in c) (hanging labels)) refl h
+pointer_some context labels c style h = by_test (list_any (starts_in c) (hanging labels)) refl h
   where
     by_test : (b : Bool) → list_any (starts_in c) (hanging labels) ≡ b → (if b then Some (pointer_style (hanging labels) c) else None) ≡ Some style
-        → pointer_at look labels (hanging labels) c
-        ≡ label_glyph look.severity style look.chars.pointer_left ++ blanks_up_to (greatest_start labels) c (c.width - 1)
+        → pointer_at context labels (hanging labels) c
+        ≡ label_glyph context.severity style context.chars.pointer_left ++ spaces_up_to (greatest_start labels) c (c.width - 1)
     by_test true is h = let same : pointer_style (hanging labels) c ≡ style = cc in rw (is, same) refl
     by_test false is h = cc
 
 -- the spaces of a character are added to the pending ones
-pub blanks_owed : (reach : ℕ) (c : Cell) (blank width : ℕ) (s : Stream) → c.place ≤ reach
-    → blanks blank ++ (blanks_up_to reach c width ++ s) ≡ blanks (blank + width) ++ s
-unfolding blanks_up_to
-blanks_owed reach c blank width s h =
-    let within : nat_le c.place reach ≡ true = le-leb c.place reach h in
-    rw (within, blanks-add) (sym (append_assoc (blanks blank) (blanks width) s))
+pub spaces_due : (reach : ℕ) (c : Metrics) (pending width : ℕ) (s : Stream) → c.byte_index ≤ reach
+    → spaces pending ++ (spaces_up_to reach c width ++ s) ≡ spaces (pending + width) ++ s
+unfolding spaces_up_to
+spaces_due reach c pending width s h =
+    let within : nat_le c.byte_index reach ≡ true = le-leb c.byte_index reach h in
+    rw (within, spaces-add) (sym (append_assoc (spaces pending) (spaces width) s))
 
 -- it has none past the greatest start
-pub blanks_past : (reach : ℕ) (c : Cell) (width : ℕ) (s : Stream) → reach < c.place → blanks_up_to reach c width ++ s ≡ s
-unfolding blanks_up_to
-blanks_past reach c width s h =
-    let past : nat_le c.place reach ≡ false = lt-leb c.place reach h in
+pub spaces_past : (reach : ℕ) (c : Metrics) (width : ℕ) (s : Stream) → reach < c.byte_index → spaces_up_to reach c width ++ s ≡ s
+unfolding spaces_up_to
+spaces_past reach c width s h =
+    let past : nat_le c.byte_index reach ≡ false = lt-leb c.byte_index reach h in
     rw past refl
 
 -- what is still to be written begins with the pending spaces and a pointer
-pub pointer_first : (look : Look) (labels : List Labelled) (before reach : ℕ) (left : List Cell) (c : Cell) (cs : List Cell) (blank : ℕ) (style : LabelStyle)
-    → reach ≡ greatest_start labels → left ≡ c ∷ cs → c.place < before → pointer_found (hanging labels) c ≡ Some style
-    → blanks blank ++ pointers look labels (cells_before before left)
-    ≡ (blanks blank ++ label_glyph look.severity style look.chars.pointer_left)
-    ++ (blanks_up_to reach c (c.width - 1) ++ pointers look labels (cells_before before cs))
-pointer_first look labels before reach left c cs blank style far step h found =
-    rw (far, step, pointers_next look labels before c cs h, pointer_some look labels c style found) (simp append_assoc)
+pub pointer_first : (context : RowContext) (labels : List LabelModel) (before reach : ℕ) (left : List Metrics) (c : Metrics) (cs : List Metrics) (pending : ℕ) (style : LabelStyle)
+    → reach ≡ greatest_start labels → left ≡ c ∷ cs → c.byte_index < before → pointer_found (hanging labels) c ≡ Some style
+    → spaces pending ++ pointers context labels (metrics_before before left)
+    ≡ (spaces pending ++ label_glyph context.severity style context.chars.pointer_left)
+    ++ (spaces_up_to reach c (c.width - 1) ++ pointers context labels (metrics_before before cs))
+pointer_first context labels before reach left c cs pending style far step h found =
+    rw (far, step, pointers_next context labels before c cs h, pointer_some context labels c style found) (simp append_assoc)
 
 -- it begins with the pending spaces and those of a character
-pub blanks_first : (look : Look) (labels : List Labelled) (before reach : ℕ) (left : List Cell) (c : Cell) (cs : List Cell) (blank : ℕ)
-    → reach ≡ greatest_start labels → left ≡ c ∷ cs → c.place < before → pointer_found (hanging labels) c ≡ None
-    → blanks blank ++ pointers look labels (cells_before before left)
-    ≡ blanks blank ++ (blanks_up_to reach c c.width ++ pointers look labels (cells_before before cs))
-blanks_first look labels before reach left c cs blank far step h found =
-    rw (far, step, pointers_next look labels before c cs h, pointer_none look labels c found) refl
+pub spaces_first : (context : RowContext) (labels : List LabelModel) (before reach : ℕ) (left : List Metrics) (c : Metrics) (cs : List Metrics) (pending : ℕ)
+    → reach ≡ greatest_start labels → left ≡ c ∷ cs → c.byte_index < before → pointer_found (hanging labels) c ≡ None
+    → spaces pending ++ pointers context labels (metrics_before before left)
+    ≡ spaces pending ++ (spaces_up_to reach c c.width ++ pointers context labels (metrics_before before cs))
+spaces_first context labels before reach left c cs pending far step h found =
+    rw (far, step, pointers_next context labels before c cs h, pointer_none context labels c found) refl
 
 -- only the pending spaces are still to be written
-pub blanks_last : (look : Look) (labels : List Labelled) (before : ℕ) (left : List Cell) (blank : ℕ) → left ≡ []
-    → blanks blank ++ pointers look labels (cells_before before left) ≡ blanks blank
+pub spaces_last : (context : RowContext) (labels : List LabelModel) (before : ℕ) (left : List Metrics) (pending : ℕ) → left ≡ []
+    → spaces pending ++ pointers context labels (metrics_before before left) ≡ spaces pending
 unfolding pointers
-blanks_last look labels before left blank none = rw none (append-nil (blanks blank))
+spaces_last context labels before left pending none = rw none (append-nil (spaces pending))
 
 -- ---- the messages that hang
 
 -- the message of the last label is first
-hanging_push : (look : Look) (line : Line) (xs : List Labelled) (x : Labelled)
-    → hanging_stream look line (xs ++ x ∷ []) ≡ (hanging_row look line x ++ newline) ++ hanging_stream look line xs
-hanging_push look line xs x = rw (reverse-append xs (x ∷ [])) refl
+hanging_push : (context : RowContext) (line : Line) (xs : List LabelModel) (x : LabelModel)
+    → hanging_stream context line (xs ++ x ∷ []) ≡ (hanging_row context line x ++ newline) ++ hanging_stream context line xs
+hanging_push context line xs x = rw (reverse-append xs (x ∷ [])) refl
 
 -- the labels with a message, of these and one more
-messages_push : (xs : List GivenLabel) (x : GivenLabel) (b : Bool) → not (length x.2.now == 0) ≡ b
+messages_push : (xs : List SingleLabelTuple) (x : SingleLabelTuple) (b : Bool) → not (length x.2.now == 0) ≡ b
     → filter has_message (single_label_views (push xs x)) ≡ filter has_message (single_label_views xs) ++ cond b (single_label_view x ∷ []) []
-messages_push xs x b h = rw (map-append single_label_view xs (x ∷ []), filter-append, blank_is, h) refl
+messages_push xs x b h = rw (map-append single_label_view xs (x ∷ []), filter-append, spaces_is, h) refl
 
 -- the last of the remaining labels has a message
-pub hanging_first : (look : Look) (line : Line) (left rest : List GivenLabel) (x : GivenLabel) (empty : Bool) → left ≡ push rest x
+pub hanging_first : (context : RowContext) (line : Line) (left rest : List SingleLabelTuple) (x : SingleLabelTuple) (empty : Bool) → left ≡ push rest x
     → empty ≡ (length x.2.now == 0) → empty ≡ false
-    → hanging_stream look line (filter has_message (single_label_views left))
-    ≡ (hanging_row look line (single_label_view x) ++ newline) ++ hanging_stream look line (filter has_message (single_label_views rest))
-hanging_first look line left rest x empty step is some =
-    rw (step, messages_push rest x true (ap not (sym is ∙ some))) (hanging_push look line (filter has_message (single_label_views rest)) (single_label_view x))
+    → hanging_stream context line (filter has_message (single_label_views left))
+    ≡ (hanging_row context line (single_label_view x) ++ newline) ++ hanging_stream context line (filter has_message (single_label_views rest))
+hanging_first context line left rest x empty step is some =
+    rw (step, messages_push rest x true (ap not (sym is ∙ some))) (hanging_push context line (filter has_message (single_label_views rest)) (single_label_view x))
 
 -- it has none
-pub hanging_skip : (look : Look) (line : Line) (left rest : List GivenLabel) (x : GivenLabel) (empty : Bool) → left ≡ push rest x
+pub hanging_skip : (context : RowContext) (line : Line) (left rest : List SingleLabelTuple) (x : SingleLabelTuple) (empty : Bool) → left ≡ push rest x
     → empty ≡ (length x.2.now == 0) → empty ≡ true
-    → hanging_stream look line (filter has_message (single_label_views left)) ≡ hanging_stream look line (filter has_message (single_label_views rest))
-hanging_skip look line left rest x empty step is none = rw (step, messages_push rest x false (ap not (sym is ∙ none)), append-nil) refl
+    → hanging_stream context line (filter has_message (single_label_views left)) ≡ hanging_stream context line (filter has_message (single_label_views rest))
+hanging_skip context line left rest x empty step is none = rw (step, messages_push rest x false (ap not (sym is ∙ none)), append-nil) refl
 
 -- none remains
-pub hanging_end : (look : Look) (line : Line) (left : List GivenLabel) → length left ≡ 0 → hanging_stream look line (filter has_message (single_label_views left)) ≡ []
-hanging_end look line [] h = refl
-hanging_end look line (x ∷ xs) h = absurd (omega arith)
+pub hanging_end : (context : RowContext) (line : Line) (left : List SingleLabelTuple) → length left ≡ 0 → hanging_stream context line (filter has_message (single_label_views left)) ≡ []
+hanging_end context line [] h = refl
+hanging_end context line (x ∷ xs) h = absurd (omega arith)
 
 -- no label of these has a message
-no_message : (xs : List GivenLabel) → list_any has_message (single_label_views xs) ≡ false → filter has_message (single_label_views xs) ≡ []
+no_message : (xs : List SingleLabelTuple) → list_any has_message (single_label_views xs) ≡ false → filter has_message (single_label_views xs) ≡ []
 no_message [] h = refl
 no_message (x ∷ xs) h = by_message (no_message xs) (has_message (single_label_view x)) h
   where
@@ -373,7 +373,7 @@ no_message (x ∷ xs) h = by_message (no_message xs) (has_message (single_label_
     by_message again false h = again h
 
 -- some label of these has a message
-some_message : (xs : List GivenLabel) → list_any has_message (single_label_views xs) ≡ true → filter has_message (single_label_views xs) ≡ [] → ⊥
+some_message : (xs : List SingleLabelTuple) → list_any has_message (single_label_views xs) ≡ true → filter has_message (single_label_views xs) ≡ [] → ⊥
 some_message [] h none = cc
 some_message (x ∷ xs) h none = by_message (some_message xs) (has_message (single_label_view x)) h none
   where
@@ -383,44 +383,44 @@ some_message (x ∷ xs) h none = by_message (some_message xs) (has_message (sing
     by_message again false h none = again h none
 
 -- no label hangs
-pub none_hangs : (labels before after : List GivenLabel) → AreHanging labels before after
+pub none_hangs : (labels before after : List SingleLabelTuple) → AreHanging labels before after
     → list_any has_message (single_label_views before) ≡ false → list_any has_message (single_label_views after) ≡ false → hanging (single_label_views labels) ≡ []
 none_hangs labels before after h early late = rw (← hanging_parts labels before after h, no_message before early, no_message after late) refl
 
 -- so nothing is written of any
-pub nothing_hangs : (look : Look) (line : Line) (labels before after : List GivenLabel) → AreHanging labels before after
+pub nothing_hangs : (context : RowContext) (line : Line) (labels before after : List SingleLabelTuple) → AreHanging labels before after
     → list_any has_message (single_label_views before) ≡ false → list_any has_message (single_label_views after) ≡ false
-    → stream_of_rows look (hanging_rows line (hanging (single_label_views labels))) ≡ []
-nothing_hangs look line labels before after h early late = rw (none_hangs labels before after h early late) refl
+    → stream_of_rows context (hanging_rows line (hanging (single_label_views labels))) ≡ []
+nothing_hangs context line labels before after h early late = rw (none_hangs labels before after h early late) refl
 
 -- the pointers, and the messages that hang, the last one first
-rows_are : (look : Look) (line : Line) (xs : List Labelled) → (xs ≡ [] → ⊥) → stream_of_rows look (hanging_rows line xs) ≡ (pointer_row look line ++ newline) ++ hanging_stream look line xs
-rows_are look line [] h = absurd (h refl)
-rows_are look line (x ∷ xs) h = refl
+rows_are : (context : RowContext) (line : Line) (xs : List LabelModel) → (xs ≡ [] → ⊥) → stream_of_rows context (hanging_rows line xs) ≡ (pointer_row context line ++ newline) ++ hanging_stream context line xs
+rows_are context line [] h = absurd (h refl)
+rows_are context line (x ∷ xs) h = refl
 
 -- the messages of two lists
-hanging_append : (look : Look) (line : Line) (xs ys : List Labelled) → hanging_stream look line (xs ++ ys) ≡ hanging_stream look line ys ++ hanging_stream look line xs
-hanging_append look line xs ys = rw (reverse-append xs ys, map-append (HangingRow line) (reverse ys) (reverse xs)) (flat_map-append (λ row. stream_of look row ++ newline) (map (HangingRow line) (reverse ys)) (map (HangingRow line) (reverse xs)))
+hanging_append : (context : RowContext) (line : Line) (xs ys : List LabelModel) → hanging_stream context line (xs ++ ys) ≡ hanging_stream context line ys ++ hanging_stream context line xs
+hanging_append context line xs ys = rw (reverse-append xs ys, map-append (HangingRow line) (reverse ys) (reverse xs)) (flat_map-append (λ row. stream_of context row ++ newline) (map (HangingRow line) (reverse ys)) (map (HangingRow line) (reverse xs)))
 
 -- where two lists are empty together, each is
-none-left : (xs ys : List Labelled) → xs ++ ys ≡ [] → xs ≡ []
+none-left : (xs ys : List LabelModel) → xs ++ ys ≡ [] → xs ≡ []
 none-left [] ys e = refl
 none-left (x ∷ xs) ys e = cc
 
-none-right : (xs ys : List Labelled) → xs ++ ys ≡ [] → ys ≡ []
+none-right : (xs ys : List LabelModel) → xs ++ ys ≡ [] → ys ≡ []
 none-right [] ys e = e
 none-right (x ∷ xs) ys e = cc
 
 -- labels hang
-pub all_hanging : (look : Look) (line : Line) (labels before after : List GivenLabel) → AreHanging labels before after
+pub all_hanging : (context : RowContext) (line : Line) (labels before after : List SingleLabelTuple) → AreHanging labels before after
     → (list_any has_message (single_label_views before) ≡ true) ⊎ (list_any has_message (single_label_views after) ≡ true)
-    → stream_of_rows look (hanging_rows line (hanging (single_label_views labels)))
-    ≡ pointer_row look line ++ newline ++ hanging_stream look line (filter has_message (single_label_views after))
-    ++ hanging_stream look line (filter has_message (single_label_views before))
-all_hanging look line labels before after h some =
+    → stream_of_rows context (hanging_rows line (hanging (single_label_views labels)))
+    ≡ pointer_row context line ++ newline ++ hanging_stream context line (filter has_message (single_label_views after))
+    ++ hanging_stream context line (filter has_message (single_label_views before))
+all_hanging context line labels before after h some =
     let early = filter has_message (single_label_views before) in
     let late = filter has_message (single_label_views after) in
-    ap (λ (xs : List Labelled). stream_of_rows look (hanging_rows line xs)) (sym (hanging_parts labels before after h))
-    ∙ rows_are look line (early ++ late) (λ none. ⊎_elim (λ b. some_message before b (none-left early late none)) (λ a. some_message after a (none-right early late none)) some)
-    ∙ ap (λ (s : Stream). (pointer_row look line ++ newline) ++ s) (hanging_append look line early late)
-    ∙ sym (append_assoc (pointer_row look line ++ newline) (hanging_stream look line late) (hanging_stream look line early))
+    ap (λ (xs : List LabelModel). stream_of_rows context (hanging_rows line xs)) (sym (hanging_parts labels before after h))
+    ∙ rows_are context line (early ++ late) (λ none. ⊎_elim (λ b. some_message before b (none-left early late none)) (λ a. some_message after a (none-right early late none)) some)
+    ∙ ap (λ (s : Stream). (pointer_row context line ++ newline) ++ s) (hanging_append context line early late)
+    ∙ sym (append_assoc (pointer_row context line ++ newline) (hanging_stream context line late) (hanging_stream context line early))

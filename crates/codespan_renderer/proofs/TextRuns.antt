@@ -8,62 +8,62 @@ use Rattle.std.proofs.lemmas.Str.{encodes-chars, drop_past_char}
 use Rattle.std.proofs.lemmas.Bool.{ne_eqb, eq-eqb}
 use lib.Utf8.{encodes}
 use Rattle.codespan_base.specs.declared.diagnostic.LabelStyle.{LabelStyle}
-use Rattle.codespan_base.specs.Streams.{Stream, bytes, blanks, glyph}
-use Rattle.codespan_base.proofs.Sends.{bytes-append}
-use Rattle.codespan_picture.specs.declared.cells.Cell.{Cell}
-use Rattle.codespan_renderer.proofs.CellSteps.{bytes_left}
+use Rattle.codespan_base.specs.Streams.{Stream, bytes, spaces, glyph}
+use Rattle.codespan_base.proofs.Writes.{bytes-append}
+use Rattle.codespan_picture.specs.declared.char_metrics.Metrics.{Metrics}
+use Rattle.codespan_renderer.proofs.MetricsSteps.{bytes_left}
 use Rattle.codespan_renderer.proofs.RowWords.{change-same, regroup}
-use Rattle.codespan_picture.specs.Cells.{cells_then, cells, width_at}
-use Rattle.codespan_picture.specs.Rows.{Look, Line}
-use Rattle.codespan_picture.specs.RowParts.{change, styled, source_glyph, source_style, coloured_text}
+use Rattle.codespan_picture.specs.CharMetrics.{metrics_then, char_metrics, width_at}
+use Rattle.codespan_picture.specs.Rows.{RowContext, Line}
+use Rattle.codespan_picture.specs.RowParts.{change, styled, source_glyph, source_style, colored_text}
 
 -- ---- where a loop is in the text
 
--- the remaining cells are those of the text from a byte index on
-pub record IsOver (tab : ℕ) (text : List ℕ) (place : ℕ) (left : List Cell) : Type 0 where
+-- the remaining characters are those of the text from a byte index on
+pub record IsOver (tab : ℕ) (text : List ℕ) (byte_index : ℕ) (left : List Metrics) : Type 0 where
   pub codes : List ℕ
   pub column : ℕ
-  pub cells : left ≡ cells_then (λ _ _. []) tab place column codes
-  pub text_left : drop place text ≡ encodes codes
-  pub within : place ≤ length text
+  pub char_metrics : left ≡ metrics_then (λ _ _. []) tab byte_index column codes
+  pub text_left : drop byte_index text ≡ encodes codes
+  pub within : byte_index ≤ length text
 
-pub over-start : (tab : ℕ) (text : List ℕ) → IsUtf8 text → IsOver tab text 0 (cells tab text)
-over-start tab text u = record { codes = chars text; column = 0; cells = refl; text_left = sym (encodes-chars text u); within = omega arith }
+pub over-start : (tab : ℕ) (text : List ℕ) → IsUtf8 text → IsOver tab text 0 (char_metrics tab text)
+over-start tab text u = record { codes = chars text; column = 0; char_metrics = refl; text_left = sym (encodes-chars text u); within = omega arith }
 
 -- a cell and what is after it
-pub record IsNext (tab : ℕ) (text : List ℕ) (place : ℕ) (x : Cell) (left : List Cell) : Type 0 where
-  pub text_left : drop place text ≡ encode_utf8 x.code ++ drop (place + x.bytes) text
+pub record IsNext (tab : ℕ) (text : List ℕ) (byte_index : ℕ) (x : Metrics) (left : List Metrics) : Type 0 where
+  pub text_left : drop byte_index text ≡ encode_utf8 x.code ++ drop (byte_index + x.bytes) text
   pub bytes : x.bytes ≡ len_utf8 x.code
-  pub over : IsOver tab text (place + x.bytes) left
+  pub over : IsOver tab text (byte_index + x.bytes) left
 
-abbrev first : Cell → List Cell → Cell
+abbrev first : Metrics → List Metrics → Metrics
 first d [] = d
 first d (x ∷ xs) = x
 
-abbrev after : List Cell → List Cell
+abbrev after : List Metrics → List Metrics
 after [] = []
 after (x ∷ xs) = xs
 
-over-cons : (tab : ℕ) (text : List ℕ) (place column : ℕ) (x : Cell) (left : List Cell) (codes : List ℕ)
-    → x ∷ left ≡ cells_then (λ _ _. []) tab place column codes → drop place text ≡ encodes codes → place ≤ length text → IsNext tab text place x left
-over-cons tab text place column x left [] e t w = absurd (omega (arith, ap length e))
-over-cons tab text place column x left (c ∷ cs) e t w =
-    let same : x ≡ record { code = c; place = place; bytes = len_utf8 c; column = column; width = width_at tab column c } = ap (first x) e in
-    let past : drop (place + len_utf8 c) text ≡ encodes cs = drop_past_char text (encodes cs) place c t in
+over-cons : (tab : ℕ) (text : List ℕ) (byte_index column : ℕ) (x : Metrics) (left : List Metrics) (codes : List ℕ)
+    → x ∷ left ≡ metrics_then (λ _ _. []) tab byte_index column codes → drop byte_index text ≡ encodes codes → byte_index ≤ length text → IsNext tab text byte_index x left
+over-cons tab text byte_index column x left [] e t w = absurd (omega (arith, ap length e))
+over-cons tab text byte_index column x left (c ∷ cs) e t w =
+    let same : x ≡ record { code = c; byte_index = byte_index; bytes = len_utf8 c; column = column; width = width_at tab column c } = ap (first x) e in
+    let past : drop (byte_index + len_utf8 c) text ≡ encodes cs = drop_past_char text (encodes cs) byte_index c t in
     rw same record {
       text_left = t ∙ ap (λ (l : List ℕ). encode_utf8 c ++ l) (sym past);
       bytes = refl;
       over = record {
         codes = cs;
         column = column + width_at tab column c;
-        cells = ap after e;
+        char_metrics = ap after e;
         text_left = past;
-        within = omega (arith, bytes_left text (encodes cs) place c t);
+        within = omega (arith, bytes_left text (encodes cs) byte_index c t);
       };
     }
 
-pub over-next : (tab : ℕ) (text : List ℕ) (place : ℕ) (x : Cell) (left after : List Cell) → left ≡ x ∷ after → IsOver tab text place left → IsNext tab text place x after
-over-next tab text place x left after e o = over-cons tab text place o.column x after o.codes (sym e ∙ o.cells) o.text_left o.within
+pub over-next : (tab : ℕ) (text : List ℕ) (byte_index : ℕ) (x : Metrics) (left after : List Metrics) → left ≡ x ∷ after → IsOver tab text byte_index left → IsNext tab text byte_index x after
+over-next tab text byte_index x left after e o = over-cons tab text byte_index o.column x after o.codes (sym e ∙ o.char_metrics) o.text_left o.within
 
 -- ---- a piece of the text
 
@@ -84,57 +84,57 @@ piece-grows text start end code n h t e =
 
 -- ---- the rest of a source row
 
--- the text of a run that has begun, and of the remaining cells
-abbrev pub text_rest : Look → Line → Option LabelStyle → List ℕ → List Cell → Stream
-text_rest look line was run cs = bytes run ++ styled look.severity (source_style line) source_glyph was cs
+-- the text of a run that has begun, and of the remaining characters
+abbrev pub text_rest : RowContext → Line → Option LabelStyle → List ℕ → List Metrics → Stream
+text_rest context line previous run cs = bytes run ++ styled context.severity (source_style line) source_glyph previous cs
 
 -- no run has begun
-pub text-start : (look : Look) (line : Line) → text_rest look line None [] (cells look.tab_width line.text) ≡ coloured_text look line
-unfolding coloured_text bytes
-text-start look line = refl
+pub text-start : (context : RowContext) (line : Line) → text_rest context line None [] (char_metrics context.tab_width line.text) ≡ colored_text context line
+unfolding colored_text bytes
+text-start context line = refl
 
-shown : (c : Cell) → (c.code ≡ 9 → ⊥) → source_glyph c ≡ glyph c.code
+shown : (c : Metrics) → (c.code ≡ 9 → ⊥) → source_glyph c ≡ glyph c.code
 unfolding source_glyph
 shown c h = rw (ne_eqb c.code 9 h) refl
 
-tab_shown : (c : Cell) → c.code ≡ 9 → source_glyph c ≡ blanks c.width
+tab_shown : (c : Metrics) → c.code ≡ 9 → source_glyph c ≡ spaces c.width
 unfolding source_glyph
 tab_shown c h = rw (eq-eqb c.code 9 h) refl
 
 -- the next character begins another run
-pub text-turn : (look : Look) (line : Line) (was style : Option LabelStyle) (run : List ℕ) (c : Cell) (left cs : List Cell)
+pub text-turn : (context : RowContext) (line : Line) (previous style : Option LabelStyle) (run : List ℕ) (c : Metrics) (left cs : List Metrics)
     → left ≡ c ∷ cs → style ≡ source_style line c → (c.code ≡ 9 → ⊥)
-    → text_rest look line was run left ≡ bytes run ++ change look.severity was style ++ text_rest look line style (encode_utf8 c.code) cs
-text-turn look line was style run c left cs l s h =
+    → text_rest context line previous run left ≡ bytes run ++ change context.severity previous style ++ text_rest context line style (encode_utf8 c.code) cs
+text-turn context line previous style run c left cs l s h =
     rw (l, s)
-    (regroup (bytes run) (change look.severity was (source_style line c)) (source_glyph c) (styled look.severity (source_style line) source_glyph (source_style line c) cs)
-    ∙ ap (λ (g : Stream). bytes run ++ change look.severity was (source_style line c) ++ (g ++ styled look.severity (source_style line) source_glyph (source_style line c) cs)) (shown c h))
+    (regroup (bytes run) (change context.severity previous (source_style line c)) (source_glyph c) (styled context.severity (source_style line) source_glyph (source_style line c) cs)
+    ∙ ap (λ (g : Stream). bytes run ++ change context.severity previous (source_style line c) ++ (g ++ styled context.severity (source_style line) source_glyph (source_style line c) cs)) (shown c h))
 
 -- it is in the run
-pub text-same : (look : Look) (line : Line) (was style : Option LabelStyle) (run : List ℕ) (c : Cell) (left cs : List Cell)
-    → left ≡ c ∷ cs → style ≡ source_style line c → (c.code ≡ 9 → ⊥) → was ≡ style
-    → text_rest look line was run left ≡ text_rest look line style (run ++ encode_utf8 c.code) cs
-text-same look line was style run c left cs l s h e =
-    let st = styled look.severity (source_style line) source_glyph style cs in
-    text-turn look line was style run c left cs l s h
-    ∙ ap (λ (g : Stream). g ++ text_rest look line style (encode_utf8 c.code) cs)
-    (ap (λ (g : Stream). bytes run ++ g) (ap (λ o. change look.severity o style) e ∙ change-same look.severity style) ∙ append-nil (bytes run))
+pub text-same : (context : RowContext) (line : Line) (previous style : Option LabelStyle) (run : List ℕ) (c : Metrics) (left cs : List Metrics)
+    → left ≡ c ∷ cs → style ≡ source_style line c → (c.code ≡ 9 → ⊥) → previous ≡ style
+    → text_rest context line previous run left ≡ text_rest context line style (run ++ encode_utf8 c.code) cs
+text-same context line previous style run c left cs l s h e =
+    let st = styled context.severity (source_style line) source_glyph style cs in
+    text-turn context line previous style run c left cs l s h
+    ∙ ap (λ (g : Stream). g ++ text_rest context line style (encode_utf8 c.code) cs)
+    (ap (λ (g : Stream). bytes run ++ g) (ap (λ o. change context.severity o style) e ∙ change-same context.severity style) ∙ append-nil (bytes run))
     ∙ sym (append_assoc (bytes run) (glyph c.code) st)
     ∙ ap (λ (g : Stream). g ++ st) (sym (bytes-append run (encode_utf8 c.code)))
 
 -- it is a tab
-pub text-tab : (look : Look) (line : Line) (was style : Option LabelStyle) (run : List ℕ) (c : Cell) (left cs : List Cell)
+pub text-tab : (context : RowContext) (line : Line) (previous style : Option LabelStyle) (run : List ℕ) (c : Metrics) (left cs : List Metrics)
     → left ≡ c ∷ cs → style ≡ source_style line c → c.code ≡ 9
-    → text_rest look line was run left ≡ bytes run ++ change look.severity was style ++ blanks c.width ++ text_rest look line style [] cs
+    → text_rest context line previous run left ≡ bytes run ++ change context.severity previous style ++ spaces c.width ++ text_rest context line style [] cs
 unfolding bytes
-text-tab look line was style run c left cs l s h =
-    let st = styled look.severity (source_style line) source_glyph (source_style line c) cs in
+text-tab context line previous style run c left cs l s h =
+    let st = styled context.severity (source_style line) source_glyph (source_style line c) cs in
     rw (l, s)
-    (regroup (bytes run) (change look.severity was (source_style line c)) (source_glyph c) st
-    ∙ ap (λ (g : Stream). bytes run ++ change look.severity was (source_style line c) ++ (g ++ st)) (tab_shown c h)
-    ∙ sym (append_assoc (bytes run ++ change look.severity was (source_style line c)) (blanks c.width) st))
+    (regroup (bytes run) (change context.severity previous (source_style line c)) (source_glyph c) st
+    ∙ ap (λ (g : Stream). bytes run ++ change context.severity previous (source_style line c) ++ (g ++ st)) (tab_shown c h)
+    ∙ sym (append_assoc (bytes run ++ change context.severity previous (source_style line c)) (spaces c.width) st))
 
 -- none remains
-pub text-end : (look : Look) (line : Line) (was : Option LabelStyle) (run : List ℕ) (left : List Cell)
-    → left ≡ [] → bytes run ++ change look.severity was None ≡ text_rest look line was run left
-text-end look line was run left e = rw e refl
+pub text-end : (context : RowContext) (line : Line) (previous : Option LabelStyle) (run : List ℕ) (left : List Metrics)
+    → left ≡ [] → bytes run ++ change context.severity previous None ≡ text_rest context line previous run left
+text-end context line previous run left e = rw e refl

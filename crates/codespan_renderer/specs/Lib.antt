@@ -13,7 +13,7 @@ pub use Rattle.codespan_base.specs.Defaults
 pub use Rattle.codespan_base.specs.StyleTables
 pub use Rattle.codespan_base.specs.Ansi
 -- the definition of an output
-pub use Rattle.codespan_picture.specs.Cells
+pub use Rattle.codespan_picture.specs.CharMetrics
 pub use Rattle.codespan_picture.specs.Carets
 pub use Rattle.codespan_picture.specs.Lanes
 pub use Rattle.codespan_picture.specs.Rows
@@ -25,8 +25,8 @@ pub use Rattle.codespan_picture.specs.Snippets
 pub use Rattle.codespan_picture.specs.Padding
 pub use Rattle.codespan_picture.specs.Picture
 pub use Rattle.codespan_picture.specs.Lookups
-pub use Rattle.codespan_picture.specs.Given
+pub use Rattle.codespan_picture.specs.Arguments
 -- a renderer, as its contracts see it
 pub mod Renderers
 -- words that private calls and proofs use
-pub mod Inner
+pub mod Private

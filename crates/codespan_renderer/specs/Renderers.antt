@@ -7,11 +7,11 @@ use Rattle.std.specs.Str.Lines.{lines}
 use Rattle.codespan_picture.specs.Types.{Severity, Error, Config, Chars}
 use Rattle.codespan_base.specs.Errors.{IsIo}
 use Rattle.codespan_base.specs.Streams.{Stream, newline}
-use Rattle.codespan_base.specs.WriterLaw.{Sends, Sink}
-use Rattle.codespan_picture.specs.declared.given.Locus as rust_locus
-use Rattle.codespan_picture.specs.Cells.{drawn_text}
-use Rattle.codespan_picture.specs.Given.{GivenLabel, GivenMark, lanes_of, locus_view, single_label_views, text_now}
-use Rattle.codespan_picture.specs.Picture.{look_of}
+use Rattle.codespan_base.specs.WriterLaw.{Writes, Sink}
+use Rattle.codespan_picture.specs.declared.arguments.Locus as rust_locus
+use Rattle.codespan_picture.specs.CharMetrics.{drawn_text}
+use Rattle.codespan_picture.specs.Arguments.{SingleLabelTuple, LaneMarkTuple, lanes_of, locus_view, single_label_views, text_now}
+use Rattle.codespan_picture.specs.Picture.{context_of}
 use Rattle.codespan_picture.specs.Rows.{Line, rows_of}
 use Rattle.codespan_picture.specs.RowStreams.{break_row, empty_row, header_row, start_row, stream_of_rows, first_note_row, later_note_row}
 use Rattle.codespan_renderer.specs.declared.term.renderer.Renderer.{Renderer}
@@ -34,19 +34,19 @@ pub record SameRenderer {W : Type 0} (old new : Renderer W) : Type 0 where
   pub config : config_of new ≡ config_of old
 
 -- a writer, behind one more reference
-abbrev pub sink_behind : GName → Sink → Sink
-sink_behind name s = record s { frame = record s.frame { through = name ∷ s.frame.through } }
+abbrev pub sink_through : GName → Sink → Sink
+sink_through name s = record s { frame = record s.frame { through = name ∷ s.frame.through } }
 
 -- the law sees a renderer as its writer, behind its reference
 abbrev pub renderer_sink : {W : Type 0} → (W → Sink) → Renderer W → Sink
-renderer_sink sink r = sink_behind (reference_of r) (sink (writer_of r))
+renderer_sink sink r = sink_through (reference_of r) (sink (writer_of r))
 
 -- a call renders a stream: the writer receives the stream, or a prefix of it where the call fails;
 -- the call fails with `Io` alone; the renderer keeps its writer and its configuration
 pub record Renders {W : Type 0} (sink : W → Sink) (items : Stream)
     (old : Renderer W) (result : Result (Unit {0}) Error) (new : Renderer W) : Type 0 where
   pub same : SameRenderer old new
-  pub sends : Sends (sink (writer_of old)) items result (sink (writer_of new))
+  pub writes : Writes (sink (writer_of old)) items result (sink (writer_of new))
   pub io : IfErr result IsIo
 
 -- ---- what each call renders
@@ -63,7 +63,7 @@ abbrev pub rendered_start : Config → ℕ → rust_locus.Locus → Stream
 rendered_start config padding locus = start_row config.chars padding (locus_view locus) ++ newline
 
 -- a line of the source, with the labels inside it and the multi-line label marks on it
-abbrev pub source_line : ℕ → List ℕ → List GivenLabel → ℕ → List GivenMark → Line
+abbrev pub source_line : ℕ → List ℕ → List SingleLabelTuple → ℕ → List LaneMarkTuple → Line
 source_line number source labels lane_count marks = record {
   number = number;
   text = drawn_text source;
@@ -74,17 +74,17 @@ source_line number source labels lane_count marks = record {
 -- all rows of a line of the source
 abbrev pub rendered_source : Config → Severity → ℕ → Line → Stream
 rendered_source config severity padding line =
-    stream_of_rows (look_of config severity padding) (rows_of line)
+    stream_of_rows (context_of config severity padding) (rows_of line)
 
 -- a row of a snippet without text
-abbrev pub rendered_empty : Config → Severity → ℕ → ℕ → List GivenMark → Stream
+abbrev pub rendered_empty : Config → Severity → ℕ → ℕ → List LaneMarkTuple → Stream
 rendered_empty config severity padding lane_count marks =
-    empty_row (look_of config severity padding) (lanes_of lane_count marks) ++ newline
+    empty_row (context_of config severity padding) (lanes_of lane_count marks) ++ newline
 
 -- the row of a break
-abbrev pub rendered_break : Config → Severity → ℕ → ℕ → List GivenMark → Stream
+abbrev pub rendered_break : Config → Severity → ℕ → ℕ → List LaneMarkTuple → Stream
 rendered_break config severity padding lane_count marks =
-    break_row (look_of config severity padding) (lanes_of lane_count marks) ++ newline
+    break_row (context_of config severity padding) (lanes_of lane_count marks) ++ newline
 
 -- the later rows of a note
 abbrev pub later_notes : ℕ → List (List ℕ) → Stream

@@ -98,8 +98,8 @@ some_group l es gs = if has_any es then group_at l es ∷ gs else gs
 
 -- the groups of these lines
 abbrev groups_on : (ℕ → List Annotation) → List ℕ → List Group
-groups_on given [] = []
-groups_on given (l ∷ ls) = some_group l (given l) (groups_on given ls)
+groups_on annotations_at [] = []
+groups_on annotations_at (l ∷ ls) = some_group l (annotations_at l) (groups_on annotations_at ls)
 
 -- annotations of one line in front of annotations of later lines are a group
 groups-append : (k : ℕ) (g ys : List Annotation) → AllByRecursion (λ e. e.line ≡ k) g → AllByRecursion (λ e. k < e.line) ys → groups (g ++ ys) ≡ some_group k g (groups ys)
@@ -114,10 +114,10 @@ groups-append k (x ∷ y ∷ g) ys h up =
     ap (join_group x) (groups-append k (y ∷ g) ys h.1 up) ∙ same ∙ (λ i. group_at (h.0 i) (x ∷ y ∷ g) ∷ groups ys)
 
 -- the groups of lines are the same where their annotations are
-groups_on-same : (given other : ℕ → List Annotation) (n a : ℕ) → ((l : ℕ) → a ≤ l → given l ≡ other l) → groups_on given (range_with_len a n) ≡ groups_on other (range_with_len a n)
-groups_on-same given other zero a h = refl
-groups_on-same given other (suc n) a h =
-    let r = groups_on-same given other n (a + 1) (λ l q. h l (omega arith)) in
+groups_on-same : (annotations_at other : ℕ → List Annotation) (n a : ℕ) → ((l : ℕ) → a ≤ l → annotations_at l ≡ other l) → groups_on annotations_at (range_with_len a n) ≡ groups_on other (range_with_len a n)
+groups_on-same annotations_at other zero a h = refl
+groups_on-same annotations_at other (suc n) a h =
+    let r = groups_on-same annotations_at other n (a + 1) (λ l q. h l (omega arith)) in
     let e = h a (omega arith) in
     λ i. some_group a (e i) (r i)
 
@@ -151,8 +151,8 @@ groups-by_line (suc n) a xs h low high =
 
 -- the snippet lines of these shown lines, where each line has these annotations and `was` is shown
 -- before them
-abbrev pub steps_after : (ℕ → List Annotation) → Option ℕ → List ℕ → List SnippetLine
-steps_after m = in_sequence (λ l. l) (gap_between (λ l. Filled l (m l) ∷ []) (λ d. Break (m d) ∷ [])) (λ l. Labeled l (m l) ∷ [])
+abbrev pub lines_after : (ℕ → List Annotation) → Option ℕ → List ℕ → List SnippetLine
+lines_after m = in_sequence (λ l. l) (gap_between (λ l. Filled l (m l) ∷ []) (λ d. Break (m d) ∷ [])) (λ l. Labeled l (m l) ∷ [])
 
 -- these are the annotations of the line before line `a`, where that is not shown, and `was` is
 -- shown before it
@@ -188,7 +188,7 @@ hidden-none m a = (omega arith, λ q. refl, λ q. absurd (omega (arith, q)))
 module _ (m : ℕ → List Annotation) where
   -- the lines_from takes the lines that are shown
   lines_from-lines : (n a : ℕ) (was : Option ℕ) (hidden : List Annotation) → IsHidden m was a hidden
-      → lines_from was hidden (groups_on m (range_with_len a n)) ≡ steps_after m was (filter (λ l. are_shown (m l)) (range_with_len a n))
+      → lines_from was hidden (groups_on m (range_with_len a n)) ≡ lines_after m was (filter (λ l. are_shown (m l)) (range_with_len a n))
   lines_from-lines zero a was hidden h = refl
   lines_from-lines (suc n) a was hidden h =
       by_entries (λ w es. lines_from-lines n (a + 1) w es) (m a) refl
@@ -199,11 +199,11 @@ module _ (m : ℕ → List Annotation) where
       ds : List ℕ
       ds = filter (λ l. are_shown (m l)) (range_with_len (a + 1) n)
 
-      by_entries : ((w : Option ℕ) (es : List Annotation) → IsHidden m w (a + 1) es → lines_from w es gs ≡ steps_after m w ds) → (es : List Annotation) → m a ≡ es → lines_from was hidden (some_group a es gs) ≡ steps_after m was (cond (are_shown es) (a ∷ ds) ds)
+      by_entries : ((w : Option ℕ) (es : List Annotation) → IsHidden m w (a + 1) es → lines_from w es gs ≡ lines_after m w ds) → (es : List Annotation) → m a ≡ es → lines_from was hidden (some_group a es gs) ≡ lines_after m was (cond (are_shown es) (a ∷ ds) ds)
       by_entries rest [] e = rest was hidden (hidden-next m was a hidden hidden h (λ none. none ∙ sym e))
       by_entries rest (x ∷ xs) e = by_test (shows_line x)
         where
-          by_test : (b : Bool) → cond b (lines_to was hidden a (x ∷ xs) ++ lines_from (Some a) [] gs) (lines_from was (x ∷ xs) gs) ≡ steps_after m was (cond b (a ∷ ds) ds)
+          by_test : (b : Bool) → cond b (lines_to was hidden a (x ∷ xs) ++ lines_from (Some a) [] gs) (lines_from was (x ∷ xs) gs) ≡ lines_after m was (cond b (a ∷ ds) ds)
           by_test true =
               ap (λ (es : List Annotation). lines_to was hidden a es ++ lines_from (Some a) [] gs) (sym e)
               ∙ (λ i. (before-shown m was a hidden h i ++ Labeled a (m a) ∷ []) ++ rest (Some a) [] (hidden-none m a) i)
@@ -212,7 +212,7 @@ module _ (m : ℕ → List Annotation) where
 -- the snippet lines of annotations whose lines do not fall, and are all below n, are those of the
 -- lines that are shown
 pub snippet_lines-by_line : (n : ℕ) (xs : List Annotation) → IsRising (λ e. e.line) xs → AllByRecursion (λ e. e.line < n) xs
-    → lines_of xs ≡ steps_after (λ l. filter (is_on_line l) xs) None (filter (λ l. are_shown (filter (is_on_line l) xs)) (range_with_len 0 n))
+    → lines_of xs ≡ lines_after (λ l. filter (is_on_line l) xs) None (filter (λ l. are_shown (filter (is_on_line l) xs)) (range_with_len 0 n))
 snippet_lines-by_line n xs h high =
     ap (lines_from None []) (groups-by_line n 0 xs h (all-weaker (λ e. e.line < n) (λ e. 0 ≤ e.line) (λ e _. omega arith) xs high)
     (all-weaker (λ e. e.line < n) (λ e. e.line < 0 + n) (λ e q. omega arith) xs high))

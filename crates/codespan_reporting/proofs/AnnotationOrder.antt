@@ -8,9 +8,9 @@ use Rattle.std.proofs.lemmas.Bool.{cases_lt, cases_eq, eq-eqb, lt-ltb, le-ltb}
 use Rattle.std.proofs.lemmas.Bool.Decides.{nat_tests}
 use Rattle.std.proofs.lemmas.Cmp.{nat_cmp_total, on_total, then_total, back_total}
 use Rattle.std.proofs.lemmas.List.Sorted.{ranks_by}
-use Rattle.codespan_base.specs.Labels.{LaneMark, Labelled, stands_before}
+use Rattle.codespan_base.specs.Labels.{LaneMark, LabelModel, range_precedes}
 use Rattle.codespan_reporting.specs.Inner.Annotations.{Annotation, AnnotationKind, Shown, Single, Multi, rank_of, first_of, second_of, index_in_list, is_below}
-use Rattle.codespan_reporting.specs.Inner.SnippetLines.{single_of, singles_in}
+use Rattle.codespan_reporting.specs.Inner.SnippetLines.{single_label_of, single_labels_in}
 use Rattle.codespan_laws.proofs.OrderSorts.{Ascends}
 use Rattle.codespan_laws.proofs.SortedLists.{Rises}
 
@@ -58,8 +58,8 @@ pub kind_rises : (x y : Annotation) → x.file ≡ y.file → x.line ≡ y.line 
 kind_rises x y e f h = not_less (rank_of y.kind) (rank_of x.kind) _ (sym (then_same y.line x.line _ (sym f)) ∙ sym (then_same y.file x.file _ (sym e)) ∙ h)
 
 -- the ranges of a line's labels do not fall
-range_rises : (x y : Annotation) {p q : ℕ} {a b : Labelled} → x.kind ≡ Single p a → y.kind ≡ Single q b → x.file ≡ y.file → x.line ≡ y.line
-    → is_below y x ≡ false → stands_before b a ≡ false
+range_rises : (x y : Annotation) {p q : ℕ} {a b : LabelModel} → x.kind ≡ Single p a → y.kind ≡ Single q b → x.file ≡ y.file → x.line ≡ y.line
+    → is_below y x ≡ false → range_precedes b a ≡ false
 range_rises x y {a = a} {b = b} xs ys e f h =
     let k : rank_of y.kind ≡ rank_of x.kind = ap rank_of ys ∙ sym (ap rank_of xs) in
     let s : first_of x.kind ≡ a.start = ap first_of xs in
@@ -84,38 +84,38 @@ abbrev pub IsOn : ℕ → ℕ → Annotation → Type 0
 IsOn f l e = (e.file ≡ f) × (e.line ≡ l)
 
 -- the labels inside a line, of annotations in order, are in the order of their ranges
-pub single_labels-ascend : (f l : ℕ) (es : List Annotation) → AllByRecursion (IsOn f l) es → Rises is_below es → Ascends (singles_in es)
+pub single_labels-ascend : (f l : ℕ) (es : List Annotation) → AllByRecursion (IsOn f l) es → Rises is_below es → Ascends (single_labels_in es)
 single_labels-ascend f l [] on up = tt
-single_labels-ascend f l (x ∷ xs) on up = by_says x.kind refl (single_labels-ascend f l xs on.1 up.1)
+single_labels-ascend f l (x ∷ xs) on up = by_kind x.kind refl (single_labels-ascend f l xs on.1 up.1)
   where
-    later : (p : ℕ) (a : Labelled) → x.kind ≡ Single p a → (ys : List Annotation) → AllByRecursion (IsOn f l) ys → AllByRecursion (λ y. is_below y x ≡ false) ys
-        → AllByRecursion (λ b. stands_before b a ≡ false) (singles_in ys)
+    later : (p : ℕ) (a : LabelModel) → x.kind ≡ Single p a → (ys : List Annotation) → AllByRecursion (IsOn f l) ys → AllByRecursion (λ y. is_below y x ≡ false) ys
+        → AllByRecursion (λ b. range_precedes b a ≡ false) (single_labels_in ys)
     later p a e [] k h = tt
     later p a e (y ∷ ys) k h = by_other y.kind refl (later p a e ys k.1 h.1)
       where
-        by_other : (s : AnnotationKind) → y.kind ≡ s → AllByRecursion (λ b. stands_before b a ≡ false) (singles_in ys)
-            → AllByRecursion (λ b. stands_before b a ≡ false) (cons_option (single_of s) (singles_in ys))
+        by_other : (s : AnnotationKind) → y.kind ≡ s → AllByRecursion (λ b. range_precedes b a ≡ false) (single_labels_in ys)
+            → AllByRecursion (λ b. range_precedes b a ≡ false) (cons_option (single_label_of s) (single_labels_in ys))
         by_other Shown d rest = rest
         by_other (Multi m) d rest = rest
         by_other (Single q b) d rest = (range_rises x y e d (on.0.0 ∙ sym k.0.0) (on.0.1 ∙ sym k.0.1) h.0, rest)
 
-    by_says : (s : AnnotationKind) → x.kind ≡ s → Ascends (singles_in xs) → Ascends (cons_option (single_of s) (singles_in xs))
-    by_says Shown e rest = rest
-    by_says (Multi m) e rest = rest
-    by_says (Single p a) e rest = (later p a e xs on.1 up.0, rest)
+    by_kind : (s : AnnotationKind) → x.kind ≡ s → Ascends (single_labels_in xs) → Ascends (cons_option (single_label_of s) (single_labels_in xs))
+    by_kind Shown e rest = rest
+    by_kind (Multi m) e rest = rest
+    by_kind (Single p a) e rest = (later p a e xs on.1 up.0, rest)
 
 -- ---- annotations of one line
 
 -- of labels with equal ranges the one at the greater index is below
-pub place_below : (f l : ℕ) {p q : ℕ} (x y : Labelled) → x.start ≡ y.start → x.end ≡ y.end → p < q
+pub index_below : (f l : ℕ) {p q : ℕ} (x y : LabelModel) → x.start ≡ y.start → x.end ≡ y.end → p < q
     → is_below (record { file = f; line = l; kind = Single q y }) (record { file = f; line = l; kind = Single p x }) ≡ true
-place_below f l {p} {q} x y s e h =
+index_below f l {p} {q} x y s e h =
     then_same f f _ refl ∙ then_same l l _ refl ∙ then_same y.start x.start _ (sym s) ∙ then_same y.end x.end _ (sym e) ∙ ap is_lt (cmp_less p q h)
 
 -- an annotation of a multi-line label mark
-abbrev pub mark_entry : ℕ → ℕ → LaneMark → Annotation
-mark_entry f l m = record { file = f; line = l; kind = Multi m }
+abbrev pub lane_mark_annotation : ℕ → ℕ → LaneMark → Annotation
+lane_mark_annotation f l m = record { file = f; line = l; kind = Multi m }
 
 -- of two multi-line label marks the one in the lesser lane is below
-pub lane_below : (f l : ℕ) (x y : LaneMark) → x.lane < y.lane → is_below (mark_entry f l x) (mark_entry f l y) ≡ true
+pub lane_below : (f l : ℕ) (x y : LaneMark) → x.lane < y.lane → is_below (lane_mark_annotation f l x) (lane_mark_annotation f l y) ≡ true
 lane_below f l x y h = then_same f f _ refl ∙ then_same l l _ refl ∙ ap (λ q. is_lt (ordering_then q (ordering_then (nat_cmp 0 0) (nat_cmp 0 0)))) (cmp_less x.lane y.lane h)

@@ -8,8 +8,8 @@ use Rattle.std.proofs.lemmas.List.Elements.{filter_map-append, filter_agree, rec
 use Rattle.std.proofs.lemmas.List.Sorted.{All-permutation, list_any-IsPermutation}
 use Rattle.codespan_base.specs.declared.term.config.Config.{Config}
 use Rattle.codespan_base.specs.FileModel.{FileDatabase, FileModel, line_count}
-use Rattle.codespan_base.specs.Labels.{LaneMark, Labelled, is_single, first_line, drawn_label, marks_on, single_labels, sorted}
-use Rattle.codespan_picture.specs.Given.{ascend_from}
+use Rattle.codespan_base.specs.Labels.{LaneMark, LabelModel, is_single, first_line, drawn_label, lane_marks_on, single_labels, sorted}
+use Rattle.codespan_picture.specs.Arguments.{ascend_from}
 use Rattle.codespan_reporting.specs.declared.term.views.collect.Collected.{Collected}
 use Rattle.codespan_reporting.specs.Inner.Annotations.{Annotation, AnnotationKind, Shown, Single, Multi, rank_of, is_below, is_on_line, is_of_file, shows_line}
 use Rattle.codespan_reporting.specs.Inner.AnnotationViews.{annotation_view}
@@ -19,78 +19,78 @@ use Rattle.codespan_picture.specs.Lines.{drawn_lines}
 use Rattle.codespan_picture.specs.Lookups.{filled_lines}
 use Rattle.codespan_picture.specs.Sequences.{break_between, in_sequence}
 use Rattle.codespan_reporting.specs.Inner.IndexedLabels.{IsIdAt, all_annotations}
-use Rattle.codespan_picture.specs.Snippets.{InFile, LabelledFile, labelled_file, lane_count, line_at, line_rows, break_rows, rows_after, file_ids}
-use Rattle.codespan_reporting.specs.Inner.SnippetLines.{are_shown, mark_in, marks_in, lines_of, single_of, singles_in, line_of_group, rows_of_lines, fills_of, do_marks_fit, does_line_fit}
-use Rattle.codespan_reporting.proofs.AnnotationGroups.{IsRising, steps_after, snippet_lines-by_line, all-on_line}
-use Rattle.codespan_reporting.proofs.AnnotationLines as entry_lines
-use Rattle.codespan_reporting.proofs.AnnotationLines.{HasPlace, says_range, is_of_range}
-use Rattle.codespan_reporting.proofs.AnnotationOrder.{below_order, kind_rises, line_rises, mark_entry, IsOn, single_labels-ascend}
+use Rattle.codespan_picture.specs.Snippets.{InFile, LabeledFileModel, labeled_file_model, lane_count, line_at, line_rows, break_rows, rows_after, file_ids}
+use Rattle.codespan_reporting.specs.Inner.SnippetLines.{are_shown, lane_mark_in, lane_marks_in, lines_of, single_label_of, single_labels_in, line_of_group, rows_of_lines, fills_of, do_lane_marks_fit, does_line_fit}
+use Rattle.codespan_reporting.proofs.AnnotationGroups.{IsRising, lines_after, snippet_lines-by_line, all-on_line}
+use Rattle.codespan_reporting.proofs.AnnotationLines as annotation_lines
+use Rattle.codespan_reporting.proofs.AnnotationLines.{HasFileIndex, has_label_range, is_of_range}
+use Rattle.codespan_reporting.proofs.AnnotationOrder.{below_order, kind_rises, line_rises, lane_mark_annotation, IsOn, single_labels-ascend}
 use Rattle.codespan_reporting.proofs.FileIndices.{index_of_file-at}
 use Rattle.codespan_reporting.proofs.LaneMarks.{ascend-climbs, marks-ascend}
 use Rattle.codespan_laws.proofs.FillLemmas.{none_past}
 use Rattle.codespan_reporting.proofs.LabelAnnotations.{is_kind}
-use Rattle.codespan_reporting.proofs.LabelIndexing.{AreFiles, lanes_in-alike}
+use Rattle.codespan_reporting.proofs.LabelIndexing.{AreFiles, lanes_in-equal}
 use Rattle.codespan_laws.proofs.OrderSorts.{has_range, ascending-same, sorted-ascends, sorted-keeps}
 use Rattle.codespan_laws.proofs.SortedLists.{Rises, Climbs, Falls, all-weaker, all-filter, all-both, all-pass, any-nothing, filter-filter, filter-reverse, any-filtered, reverse-cons, rises-filter, rises-from_sorted, filter-sorted_climbs, filter-sorted_falls}
-use Rattle.codespan_renderer.specs.Inner.Sweeps.{starts_in_order}
-use Rattle.codespan_reporting.proofs.MarkOrder.{ascends-starts}
-use Rattle.codespan_reporting.proofs.SnippetLineRows.{lines_of_steps, snippet_lines-rows, snippet_lines-fit, snippet_lines-lines, snippet_lines-fills}
+use Rattle.codespan_renderer.specs.Private.LabelCursors.{starts_in_order}
+use Rattle.codespan_reporting.proofs.LaneMarkOrder.{ascends-starts}
+use Rattle.codespan_reporting.proofs.SnippetLineRows.{lines_of_snippet_lines, snippet_lines-rows, snippet_lines-fit, snippet_lines-lines, snippet_lines-fills}
 
 -- ---- the annotations of a group
 
 -- the labels of a range are those of its annotations
-single_labels-of_range : (start end : ℕ) (es : List Annotation) → filter (has_range start end) (singles_in es) ≡ singles_in (filter (is_of_range start end) es)
+single_labels-of_range : (start end : ℕ) (es : List Annotation) → filter (has_range start end) (single_labels_in es) ≡ single_labels_in (filter (is_of_range start end) es)
 single_labels-of_range start end [] = refl
-single_labels-of_range start end (x ∷ xs) = by_says x.kind (single_labels-of_range start end xs)
+single_labels-of_range start end (x ∷ xs) = by_kind x.kind (single_labels-of_range start end xs)
   where
-    by_test : (p : ℕ) (y : Labelled) (b : Bool) → filter (has_range start end) (singles_in xs) ≡ singles_in (filter (is_of_range start end) xs)
-        → cond b (y ∷ filter (has_range start end) (singles_in xs)) (filter (has_range start end) (singles_in xs))
-        ≡ singles_in (cond b (record x { kind = Single p y } ∷ filter (is_of_range start end) xs) (filter (is_of_range start end) xs))
-    by_test p y true rest = ap (λ (r : List Labelled). y ∷ r) rest
+    by_test : (p : ℕ) (y : LabelModel) (b : Bool) → filter (has_range start end) (single_labels_in xs) ≡ single_labels_in (filter (is_of_range start end) xs)
+        → cond b (y ∷ filter (has_range start end) (single_labels_in xs)) (filter (has_range start end) (single_labels_in xs))
+        ≡ single_labels_in (cond b (record x { kind = Single p y } ∷ filter (is_of_range start end) xs) (filter (is_of_range start end) xs))
+    by_test p y true rest = ap (λ (r : List LabelModel). y ∷ r) rest
     by_test p y false rest = rest
 
-    by_says : (s : AnnotationKind) → filter (has_range start end) (singles_in xs) ≡ singles_in (filter (is_of_range start end) xs)
-        → filter (has_range start end) (cons_option (single_of s) (singles_in xs))
-        ≡ singles_in (cond (says_range start end (single_of s)) (record x { kind = s } ∷ filter (is_of_range start end) xs) (filter (is_of_range start end) xs))
-    by_says Shown rest = rest
-    by_says (Single p y) rest = by_test p y (has_range start end y) rest
-    by_says (Multi m) rest = rest
+    by_kind : (s : AnnotationKind) → filter (has_range start end) (single_labels_in xs) ≡ single_labels_in (filter (is_of_range start end) xs)
+        → filter (has_range start end) (cons_option (single_label_of s) (single_labels_in xs))
+        ≡ single_labels_in (cond (has_label_range start end (single_label_of s)) (record x { kind = s } ∷ filter (is_of_range start end) xs) (filter (is_of_range start end) xs))
+    by_kind Shown rest = rest
+    by_kind (Single p y) rest = by_test p y (has_range start end y) rest
+    by_kind (Multi m) rest = rest
 
 -- they are annotations of labels inside the line
 range-rank : (start end : ℕ) (es : List Annotation) → filter (is_of_range start end) (filter (is_kind 1) es) ≡ filter (is_of_range start end) es
-range-rank start end es = filter-filter (is_of_range start end) (is_kind 1) es ∙ filter_agree _ (is_of_range start end) (λ e. by_says e.kind) es
+range-rank start end es = filter-filter (is_of_range start end) (is_kind 1) es ∙ filter_agree _ (is_of_range start end) (λ e. by_kind e.kind) es
   where
-    by_says : (s : AnnotationKind) → ((rank_of s == 1) && says_range start end (single_of s)) ≡ says_range start end (single_of s)
-    by_says Shown = refl
-    by_says (Single p y) = refl
-    by_says (Multi m) = refl
+    by_kind : (s : AnnotationKind) → ((rank_of s == 1) && has_label_range start end (single_label_of s)) ≡ has_label_range start end (single_label_of s)
+    by_kind Shown = refl
+    by_kind (Single p y) = refl
+    by_kind (Multi m) = refl
 
 -- the multi-line label marks are the annotations of their kind
-marks-rank : (es : List Annotation) → marks_in es ≡ marks_in (filter (is_kind 2) es)
+marks-rank : (es : List Annotation) → lane_marks_in es ≡ lane_marks_in (filter (is_kind 2) es)
 marks-rank [] = refl
-marks-rank (x ∷ xs) = by_says x.kind (marks-rank xs)
+marks-rank (x ∷ xs) = by_kind x.kind (marks-rank xs)
   where
-    by_says : (s : AnnotationKind) → marks_in xs ≡ marks_in (filter (is_kind 2) xs)
-        → cons_option (mark_in s) (marks_in xs) ≡ marks_in (cond (rank_of s == 2) (record x { kind = s } ∷ filter (is_kind 2) xs) (filter (is_kind 2) xs))
-    by_says Shown rest = rest
-    by_says (Single p y) rest = rest
-    by_says (Multi m) rest = ap (λ (ms : List LaneMark). m ∷ ms) rest
+    by_kind : (s : AnnotationKind) → lane_marks_in xs ≡ lane_marks_in (filter (is_kind 2) xs)
+        → cons_option (lane_mark_in s) (lane_marks_in xs) ≡ lane_marks_in (cond (rank_of s == 2) (record x { kind = s } ∷ filter (is_kind 2) xs) (filter (is_kind 2) xs))
+    by_kind Shown rest = rest
+    by_kind (Single p y) rest = rest
+    by_kind (Multi m) rest = ap (λ (ms : List LaneMark). m ∷ ms) rest
 
 -- those of annotations of multi-line label marks
-marks-of_entries : (f l : ℕ) (ms : List LaneMark) → marks_in (map (mark_entry f l) ms) ≡ ms
-marks-of_entries f l [] = refl
-marks-of_entries f l (m ∷ ms) = ap (λ (ks : List LaneMark). m ∷ ks) (marks-of_entries f l ms)
+marks-of_annotations : (f l : ℕ) (ms : List LaneMark) → lane_marks_in (map (lane_mark_annotation f l) ms) ≡ ms
+marks-of_annotations f l [] = refl
+marks-of_annotations f l (m ∷ ms) = ap (λ (ks : List LaneMark). m ∷ ks) (marks-of_annotations f l ms)
 
 -- the labels of annotations from the end
-single_labels-reverse : (es : List Annotation) → singles_in (reverse es) ≡ reverse (singles_in es)
+single_labels-reverse : (es : List Annotation) → single_labels_in (reverse es) ≡ reverse (single_labels_in es)
 single_labels-reverse [] = refl
 single_labels-reverse (x ∷ xs) =
-    ap singles_in (reverse-cons x xs) ∙ filter_map-append (λ (e : Annotation). single_of e.kind) (reverse xs) (x ∷ [])
-    ∙ ap (λ (r : List Labelled). r ++ singles_in (x ∷ [])) (single_labels-reverse xs) ∙ by_option (single_of x.kind)
+    ap single_labels_in (reverse-cons x xs) ∙ filter_map-append (λ (e : Annotation). single_label_of e.kind) (reverse xs) (x ∷ [])
+    ∙ ap (λ (r : List LabelModel). r ++ single_labels_in (x ∷ [])) (single_labels-reverse xs) ∙ by_option (single_label_of x.kind)
   where
-    by_option : (o : Option Labelled) → reverse (singles_in xs) ++ cons_option o [] ≡ reverse (cons_option o (singles_in xs))
-    by_option None = append-nil (reverse (singles_in xs))
-    by_option (Some y) = sym (reverse-cons y (singles_in xs))
+    by_option : (o : Option LabelModel) → reverse (single_labels_in xs) ++ cons_option o [] ≡ reverse (cons_option o (single_labels_in xs))
+    by_option None = append-nil (reverse (single_labels_in xs))
+    by_option (Some y) = sym (reverse-cons y (single_labels_in xs))
 
 -- the first annotation of a line shows it if any does
 first-shows : (f l : ℕ) (g : List Annotation) → AllByRecursion (IsOn f l) g → Rises is_below g → are_shown g ≡ list_any shows_line g
@@ -122,7 +122,7 @@ lines-rise f (x ∷ xs) h a = (
 -- ---- the annotations of a file
 
 module _ {Id : Type 0} {table : FileDatabase Id} (lawful : AreFiles table)
-    {config : Config} {xs : List (InFile Id)} {collected : Collected Id} (told : IsCollected table config xs collected)
+    {config : Config} {xs : List (InFile Id)} {collected : Collected Id} (known : IsCollected table config xs collected)
     (f : ℕ) (id : Id) (at : IsIdAt (file_ids table.same xs) f id) where
   -- which ids name one file, and the file that an id names
   abbrev same : Id → Id → Bool
@@ -140,8 +140,8 @@ module _ {Id : Type 0} {table : FileDatabase Id} (lawful : AreFiles table)
   annotations = map annotation_view collected.annotations.items
 
   -- the file with its labels
-  abbrev s : LabelledFile
-  s = labelled_file same file xs id
+  abbrev s : LabeledFileModel
+  s = labeled_file_model same file xs id
 
   -- its annotations in order
   abbrev part : List Annotation
@@ -152,11 +152,11 @@ module _ {Id : Type 0} {table : FileDatabase Id} (lawful : AreFiles table)
   bucket l = filter (is_on_line l) part
 
   -- the file has this index among those of the labels
-  here : HasPlace same file (file_ids same xs) f id
+  here : HasFileIndex same file (file_ids same xs) f id
   here = record {
     index = index_of_file-at same lawful.equivalence xs f id at;
     one_file = λ i t. sym (lawful.one_file id i t);
-    lanes = λ before i t. sym (lanes_in-alike lawful before id i t);
+    lanes = λ before i t. sym (lanes_in-equal lawful before id i t);
     some_line = lawful.some_line id;
   }
 
@@ -166,14 +166,14 @@ module _ {Id : Type 0} {table : FileDatabase Id} (lawful : AreFiles table)
 
   -- they are in order
   part-rises : Rises is_below part
-  part-rises = rises-filter is_below (is_of_file f) annotations (rises-from_sorted is_below below_order annotations told.sorted)
+  part-rises = rises-filter is_below (is_of_file f) annotations (rises-from_sorted is_below below_order annotations known.sorted)
 
   -- they are of lines that the file has
   part-below : AllByRecursion (λ e. e.line < line_count (file id)) part
   part-below =
       let IsInside : (e : Annotation) → Type 0 = λ e. is_of_file f e ≡ true → e.line < line_count (file id) in
-      let given : AllByRecursion IsInside all = entry_lines.annotations-below here config xs [] in
-      let whole : AllByRecursion IsInside annotations = recursion_from_All IsInside annotations (All-permutation IsInside all annotations told.permutation (All-from_recursion IsInside all given)) in
+      let all_inside : AllByRecursion IsInside all = annotation_lines.annotations-below here config xs [] in
+      let whole : AllByRecursion IsInside annotations = recursion_from_All IsInside annotations (All-permutation IsInside all annotations known.permutation (All-from_recursion IsInside all all_inside)) in
       all-weaker (λ e. (is_of_file f e ≡ true) × IsInside e) (λ e. e.line < line_count (file id)) (λ e h. h.1 h.0) part
       (all-both (λ e. is_of_file f e ≡ true) IsInside part (all-pass (is_of_file f) annotations) (all-filter IsInside (is_of_file f) annotations whole))
 
@@ -186,82 +186,82 @@ module _ {Id : Type 0} {table : FileDatabase Id} (lawful : AreFiles table)
   bucket-rises l = rises-filter is_below (is_on_line l) part part-rises
 
   -- an annotation of the file and the line that passes a test
-  abbrev pick : ℕ → (Annotation → Bool) → Annotation → Bool
-  pick l t e = is_of_file f e && (is_on_line l e && t e)
+  abbrev picks : ℕ → (Annotation → Bool) → Annotation → Bool
+  picks l t e = is_of_file f e && (is_on_line l e && t e)
 
   -- what passes a test, of any annotations
-  picked : (l : ℕ) (t : Annotation → Bool) (es : List Annotation) → filter t (filter (is_on_line l) (filter (is_of_file f) es)) ≡ filter (pick l t) es
-  picked l t es = filter-filter t (is_on_line l) (filter (is_of_file f) es) ∙ filter-filter (λ e. is_on_line l e && t e) (is_of_file f) es
+  of_picked : (l : ℕ) (t : Annotation → Bool) (es : List Annotation) → filter t (filter (is_on_line l) (filter (is_of_file f) es)) ≡ filter (picks l t) es
+  of_picked l t es = filter-filter t (is_on_line l) (filter (is_of_file f) es) ∙ filter-filter (λ e. is_on_line l e && t e) (is_of_file f) es
 
   -- whether any passes
-  any-picked : (l : ℕ) (t : Annotation → Bool) (es : List Annotation) → list_any t (filter (is_on_line l) (filter (is_of_file f) es)) ≡ list_any (pick l t) es
-  any-picked l t es = any-filtered t (is_on_line l) (filter (is_of_file f) es) ∙ any-filtered (λ e. is_on_line l e && t e) (is_of_file f) es
+  any-of_picked : (l : ℕ) (t : Annotation → Bool) (es : List Annotation) → list_any t (filter (is_on_line l) (filter (is_of_file f) es)) ≡ list_any (picks l t) es
+  any-of_picked l t es = any-filtered t (is_on_line l) (filter (is_of_file f) es) ∙ any-filtered (λ e. is_on_line l e && t e) (is_of_file f) es
 
   -- what the labels say of a line
   abbrev annotation_if_any : ℕ → List Annotation
-  annotation_if_any l = entry_lines.said_after here config l [] xs
+  annotation_if_any l = annotation_lines.line_annotations_after here config l [] xs
 
   -- the annotations of a line as they were given
-  given-annotation_if_any : (l : ℕ) → filter (is_on_line l) (filter (is_of_file f) all) ≡ annotation_if_any l
-  given-annotation_if_any l = entry_lines.all-annotation_if_any here config l xs []
+  all_inside-annotation_if_any : (l : ℕ) → filter (is_on_line l) (filter (is_of_file f) all) ≡ annotation_if_any l
+  all_inside-annotation_if_any l = annotation_lines.all-annotation_if_any here config l xs []
 
   -- ---- the labels of a line
 
   -- the labels inside the line
-  single_labels-are : (l : ℕ) → singles_in (bucket l) ≡ single_labels (file id) s.labels l
+  single_labels-are : (l : ℕ) → single_labels_in (bucket l) ≡ single_labels (file id) s.labels l
   single_labels-are l =
-      ascending-same (singles_in (bucket l)) (sorted turned) (single_labels-ascend f l (bucket l) (bucket-on l) (bucket-rises l)) (sorted-ascends turned)
+      ascending-same (single_labels_in (bucket l)) (sorted turned) (single_labels-ascend f l (bucket l) (bucket-on l) (bucket-rises l)) (sorted-ascends turned)
       (λ start end. ranges start end ∙ sym (sorted-keeps start end turned))
     where
-      drawn : List Labelled
-      drawn = map (drawn_label (file id)) (filter (λ x. is_single (file id) x && (first_line (file id) x == l)) s.labels)
+      of_line_labels : List LabelModel
+      of_line_labels = map (drawn_label (file id)) (filter (λ x. is_single (file id) x && (first_line (file id) x == l)) s.labels)
 
-      turned : List Labelled
-      turned = reverse drawn
+      turned : List LabelModel
+      turned = reverse of_line_labels
 
       from : List Annotation
-      from = entry_lines.singles_from here config l 0 xs
+      from = annotation_lines.single_labels_from here config l 0 xs
 
-      given : (start end : ℕ) → filter (pick l (is_of_range start end)) all ≡ filter (is_of_range start end) from
-      given start end =
-          sym (picked l (is_of_range start end) all) ∙ ap (filter (is_of_range start end)) (given-annotation_if_any l)
+      all_inside : (start end : ℕ) → filter (picks l (is_of_range start end)) all ≡ filter (is_of_range start end) from
+      all_inside start end =
+          sym (of_picked l (is_of_range start end) all) ∙ ap (filter (is_of_range start end)) (all_inside-annotation_if_any l)
           ∙ sym (range-rank start end (annotation_if_any l))
-          ∙ ap (filter (is_of_range start end)) (entry_lines.all-single_labels here config l xs [] 0 refl)
+          ∙ ap (filter (is_of_range start end)) (annotation_lines.all-single_labels here config l xs [] 0 refl)
 
-      falls : (start end : ℕ) → Falls is_below (filter (pick l (is_of_range start end)) all)
+      falls : (start end : ℕ) → Falls is_below (filter (picks l (is_of_range start end)) all)
       falls start end =
-          subst (Falls is_below) (sym (given start end)) (entry_lines.single_labels-fall here config l start end 0 xs)
+          subst (Falls is_below) (sym (all_inside start end)) (annotation_lines.single_labels-fall here config l start end 0 xs)
 
-      ranges : (start end : ℕ) → filter (has_range start end) (singles_in (bucket l)) ≡ filter (has_range start end) turned
+      ranges : (start end : ℕ) → filter (has_range start end) (single_labels_in (bucket l)) ≡ filter (has_range start end) turned
       ranges start end =
           single_labels-of_range start end (bucket l)
-          ∙ ap singles_in (picked l (is_of_range start end) annotations
-          ∙ filter-sorted_falls is_below below_order all annotations told.permutation told.sorted (pick l (is_of_range start end)) (falls start end)
-          ∙ ap (λ (r : List Annotation). reverse r) (given start end))
+          ∙ ap single_labels_in (of_picked l (is_of_range start end) annotations
+          ∙ filter-sorted_falls is_below below_order all annotations known.permutation known.sorted (picks l (is_of_range start end)) (falls start end)
+          ∙ ap (λ (r : List Annotation). reverse r) (all_inside start end))
           ∙ single_labels-reverse (filter (is_of_range start end) from)
-          ∙ ap (λ (r : List Labelled). reverse r) (sym (single_labels-of_range start end from)
-          ∙ ap (filter (has_range start end)) (entry_lines.single_labels-labels here config l 0 xs))
-          ∙ sym (filter-reverse (has_range start end) drawn)
+          ∙ ap (λ (r : List LabelModel). reverse r) (sym (single_labels-of_range start end from)
+          ∙ ap (filter (has_range start end)) (annotation_lines.single_labels-labels here config l 0 xs))
+          ∙ sym (filter-reverse (has_range start end) of_line_labels)
 
   -- ---- the multi-line label marks of a line
 
   -- those of the labels of the file
   abbrev marks : ℕ → List LaneMark
-  marks l = marks_on (file id) s.labels l
+  marks l = lane_marks_on (file id) s.labels l
 
   -- their annotations as they were given
-  marks-given : (l : ℕ) → filter (pick l (is_kind 2)) all ≡ map (mark_entry f l) (marks l)
-  marks-given l = sym (picked l (is_kind 2) all) ∙ ap (filter (is_kind 2)) (given-annotation_if_any l) ∙ entry_lines.all-marks here config l xs [] 0 refl
+  marks-all_inside : (l : ℕ) → filter (picks l (is_kind 2)) all ≡ map (lane_mark_annotation f l) (marks l)
+  marks-all_inside l = sym (of_picked l (is_kind 2) all) ∙ ap (filter (is_kind 2)) (all_inside-annotation_if_any l) ∙ annotation_lines.all-marks here config l xs [] 0 refl
 
   -- the multi-line label marks of the annotations of a line
-  marks-are : (l : ℕ) → marks_in (bucket l) ≡ marks l
+  marks-are : (l : ℕ) → lane_marks_in (bucket l) ≡ marks l
   marks-are l =
       marks-rank (bucket l)
-      ∙ ap marks_in (picked l (is_kind 2) annotations
-      ∙ filter-sorted_climbs is_below below_order all annotations told.permutation told.sorted (pick l (is_kind 2))
-      (subst (Climbs is_below) (sym (marks-given l)) (ascend-climbs f l (lane_count s) 0 (marks l) (marks-ascend s l)))
-      ∙ marks-given l)
-      ∙ marks-of_entries f l (marks l)
+      ∙ ap lane_marks_in (of_picked l (is_kind 2) annotations
+      ∙ filter-sorted_climbs is_below below_order all annotations known.permutation known.sorted (picks l (is_kind 2))
+      (subst (Climbs is_below) (sym (marks-all_inside l)) (ascend-climbs f l (lane_count s) 0 (marks l) (marks-ascend s l)))
+      ∙ marks-all_inside l)
+      ∙ marks-of_annotations f l (marks l)
 
   -- a line is rendered with what its labels do on it
   line-is : (l : ℕ) → line_of_group (file id) (lane_count s) l (bucket l) ≡ line_at s l
@@ -277,19 +277,19 @@ module _ {Id : Type 0} {table : FileDatabase Id} (lawful : AreFiles table)
   shown-is : (l : ℕ) → are_shown (bucket l) ≡ is_shown l
   shown-is l =
       first-shows f l (bucket l) (bucket-on l) (bucket-rises l)
-      ∙ any-picked l shows_line annotations ∙ sym (list_any-IsPermutation (pick l shows_line) all annotations told.permutation) ∙ sym (any-picked l shows_line all)
-      ∙ ap (list_any shows_line) (given-annotation_if_any l)
-      ∙ entry_lines.any-annotation_if_any here config l xs []
+      ∙ any-of_picked l shows_line annotations ∙ sym (list_any-IsPermutation (picks l shows_line) all annotations known.permutation) ∙ sym (any-of_picked l shows_line all)
+      ∙ ap (list_any shows_line) (all_inside-annotation_if_any l)
+      ∙ annotation_lines.any-annotation_if_any here config l xs []
 
   -- the shown lines
   abbrev shown : List ℕ
   shown = filter is_shown (range_with_len 0 (line_count (file id)))
 
   -- the snippet lines are those of the shown lines
-  snippet_lines-are : lines_of part ≡ steps_after bucket None shown
+  snippet_lines-are : lines_of part ≡ lines_after bucket None shown
   snippet_lines-are =
       snippet_lines-by_line (line_count (file id)) part (lines-rise f part part-file part-rises) part-below
-      ∙ (λ i. steps_after bucket None (filter (λ l. shown-is l i) (range_with_len 0 (line_count (file id)))))
+      ∙ (λ i. lines_after bucket None (filter (λ l. shown-is l i) (range_with_len 0 (line_count (file id)))))
 
   -- ---- the snippet
 
@@ -305,15 +305,15 @@ module _ {Id : Type 0} {table : FileDatabase Id} (lawful : AreFiles table)
   snippet-fills = ap fills_of snippet_lines-are ∙ snippet_lines-fills bucket is_shown (line_count (file id)) (none_past config s)
 
   -- they render the drawn lines
-  pub snippet-lines : lines_of_steps (lines_of part) ≡ drawn_lines config s.file s.labels
-  snippet-lines = ap lines_of_steps snippet_lines-are ∙ snippet_lines-lines bucket is_shown (line_count (file id)) (none_past config s)
+  pub snippet-lines : lines_of_snippet_lines (lines_of part) ≡ drawn_lines config s.file s.labels
+  snippet-lines = ap lines_of_snippet_lines snippet_lines-are ∙ snippet_lines-lines bucket is_shown (line_count (file id)) (none_past config s)
 
   -- a line's labels are in the order of their starts
-  starts-ascend : (l : ℕ) → starts_in_order (singles_in (bucket l)) ≡ true
-  starts-ascend l = ascends-starts (singles_in (bucket l)) (single_labels-ascend f l (bucket l) (bucket-on l) (bucket-rises l))
+  starts-ascend : (l : ℕ) → starts_in_order (single_labels_in (bucket l)) ≡ true
+  starts-ascend l = ascends-starts (single_labels_in (bucket l)) (single_labels-ascend f l (bucket l) (bucket-on l) (bucket-rises l))
 
   -- its multi-line label marks ascend in the lanes of the file
-  marks-fit : (l : ℕ) → do_marks_fit (lane_count s) (bucket l) ≡ true
+  marks-fit : (l : ℕ) → do_lane_marks_fit (lane_count s) (bucket l) ≡ true
   marks-fit l = ap (ascend_from (lane_count s) 0) (marks-are l) ∙ marks-ascend s l
 
   -- so do those of each snippet line

@@ -5,13 +5,13 @@ use Rattle.codespan_base.specs.WriterLaw.{Sink, PrefixWritten}
 use Rattle.codespan_reporting.specs.Inner.LookupsOnTheWay.{WroteStream, WrotePrefix}
 
 -- a stream that a configuration decides has been written, and so has that of an equal one
-pub came_at : {K : Type 0} (f : K → Stream) (k m : K) → m ≡ k → (s t : Sink) → WroteStream s (f m) t → WroteStream s (f k) t
-came_at f k m same s t came = subst (λ (x : _). WroteStream s (f x) t) same came
+pub written_at : {K : Type 0} (f : K → Stream) (k m : K) → m ≡ k → (s t : Sink) → WroteStream s (f m) t → WroteStream s (f k) t
+written_at f k m same s t written = subst (λ (x : _). WroteStream s (f x) t) same written
 
 -- the same of one that was cut short
-pub stopped_at : {K : Type 0} (f : K → Stream) (k m : K) → m ≡ k → (s t : Sink) → WrotePrefix s (f m) t → WrotePrefix s (f k) t
-stopped_at f k m same s t stopped = subst (λ (x : _). WrotePrefix s (f x) t) same stopped
+pub failed_at : {K : Type 0} (f : K → Stream) (k m : K) → m ≡ k → (s t : Sink) → WrotePrefix s (f m) t → WrotePrefix s (f k) t
+failed_at f k m same s t failed = subst (λ (x : _). WrotePrefix s (f x) t) same failed
 
 -- a prefix of a stream is one of the same stream in other words
 pub PrefixWritten-as : (s t : Sink) (a b : Stream) → b ≡ a → PrefixWritten s a t → PrefixWritten s b t
-PrefixWritten-as s t a b same began = subst (λ (x : Stream). PrefixWritten s x t) (sym same) began
+PrefixWritten-as s t a b same written_prefix = subst (λ (x : Stream). PrefixWritten s x t) (sym same) written_prefix

@@ -27,16 +27,16 @@ module _ {Id : Type 0} (failure : Failures Id) where
       by_first None h later = later h
       by_first (Some x) h later = cc
 
-  first_answered : (o p : Option Error) → or_failure o p ≡ None → (o ≡ None) × (p ≡ None)
-  first_answered None p h = (refl, h)
-  first_answered (Some x) p h = cc
+  first_succeeded : (o p : Option Error) → or_failure o p ≡ None → (o ≡ None) × (p ≡ None)
+  first_succeeded None p h = (refl, h)
+  first_succeeded (Some x) p h = cc
 
   -- where nothing fails, each lookup succeeds
-  pub all_answered : (ls : List (Id × Lookup)) → first_error failure ls ≡ None → AllSucceed failure ls
-  all_answered [] h id lookup (k, low, same) = absurd (omega arith)
-  all_answered (l ∷ ls) h id lookup (zero, low, same) = ap (λ (m : Id × Lookup). failure m.0 m.1) (sym same) ∙ (first_answered _ _ h).0
-  all_answered (l ∷ ls) h id lookup (suc k, low, same) = all_answered ls (first_answered _ _ h).1 id lookup (k, omega arith, same)
+  pub all_succeed : (ls : List (Id × Lookup)) → first_error failure ls ≡ None → AllSucceed failure ls
+  all_succeed [] h id lookup (k, low, same) = absurd (omega arith)
+  all_succeed (l ∷ ls) h id lookup (zero, low, same) = ap (λ (m : Id × Lookup). failure m.0 m.1) (sym same) ∙ (first_succeeded _ _ h).0
+  all_succeed (l ∷ ls) h id lookup (suc k, low, same) = all_succeed ls (first_succeeded _ _ h).1 id lookup (k, omega arith, same)
 
 -- where some of these lookups fails, there is a first one
 pub some_fails : {Id : Type 0} (files : FileDatabase Id) (ls : List (Id × Lookup)) → first_error files.failure ls ≡ None → SomeFails files ls → ⊥
-some_fails files ls h (error, p) = let answered = all_answered files.failure ls h p.id p.lookup p.is_made in let fails = p.fails in cc
+some_fails files ls h (error, p) = let succeeded = all_succeed files.failure ls h p.id p.lookup p.is_made in let fails = p.fails in cc

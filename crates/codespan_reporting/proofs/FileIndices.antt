@@ -91,9 +91,9 @@ at-before (j ∷ js) more (suc f) id h a = at-before js more f id (omega (arith,
 -- ---- indices, one label after another
 
 -- an id that is equal to the one at an index has that index
-pub guessed-index : {Id : Type 0} {same : Id → Id → Bool} (o : IsEquivalence same) (ids : List Id) {k : ℕ} (j i : Id) → AreApart same ids → IsIdAt ids k j → same j i ≡ true
+pub same_id-index : {Id : Type 0} {same : Id → Id → Bool} (o : IsEquivalence same) (ids : List Id) {k : ℕ} (j i : Id) → AreApart same ids → IsIdAt ids k j → same j i ≡ true
     → k ≡ index_of_file same ids i
-guessed-index {same = same} o ids {k} j i apart at t = sym (eqb-true (index_of_file same ids i) k (index-is same o ids k j apart at i ∙ t))
+same_id-index {same = same} o ids {k} j i apart at t = sym (eqb-true (index_of_file same ids i) k (index-is same o ids k j apart at i ∙ t))
 
 module _ {Id : Type 0} (same : Id → Id → Bool) (o : IsEquivalence same) where
   -- an id that is none of these has the index after them
@@ -109,12 +109,12 @@ module _ {Id : Type 0} (same : Id → Id → Bool) (o : IsEquivalence same) wher
   index-past (j ∷ js) rest i none = let later = index-later same o j (js ++ rest) i none.0 in let past = index-past js rest i none.1 in omega (arith, later, past)
 
   -- one more id after these changes no index of one of them
-  index-kept : (ids : List Id) (j i : Id) → has same o ids i ≡ true → index_of_file same (ids ++ j ∷ []) i ≡ index_of_file same ids i
-  index-kept [] j i there = absurd (true≢false (sym there))
-  index-kept (k ∷ ks) j i there =
+  index-unchanged : (ids : List Id) (j i : Id) → has same o ids i ≡ true → index_of_file same (ids ++ j ∷ []) i ≡ index_of_file same ids i
+  index-unchanged [] j i there = absurd (true≢false (sym there))
+  index-unchanged (k ∷ ks) j i there =
       ⊎_elim
       (λ (t : same k i ≡ true). index-here same o k (ks ++ j ∷ []) i t ∙ sym (index-here same o k ks i t))
-      (λ (f : same k i ≡ false). index-later same o k (ks ++ j ∷ []) i f ∙ ap suc (index-kept ks j i (sym (ap (λ b. b || has same o ks i) f) ∙ there)) ∙ sym (index-later same o k ks i f))
+      (λ (f : same k i ≡ false). index-later same o k (ks ++ j ∷ []) i f ∙ ap suc (index-unchanged ks j i (sym (ap (λ b. b || has same o ks i) f) ∙ there)) ∙ sym (index-later same o k ks i f))
       (cases_Bool (same k i))
 
   -- nor does one that comes after them where it is none of them
@@ -123,7 +123,7 @@ module _ {Id : Type 0} (same : Id → Id → Bool) (o : IsEquivalence same) wher
     where
       by : (b : Bool) → index_of_file same (if b then ids else ids ++ j ∷ []) i ≡ index_of_file same ids i
       by true = refl
-      by false = index-kept ids j i there
+      by false = index-unchanged ids j i there
 
   -- it is at none of their indices
   pub at-stays : (ids : List Id) (j : Id) (f : ℕ) (id : Id) → f < length ids → IsIdAt (with_file same ids j ids j) f id → IsIdAt ids f id

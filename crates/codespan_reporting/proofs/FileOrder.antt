@@ -20,9 +20,9 @@ module _ {Id : Type 0} (same : Id → Id → Bool) (o : IsEquivalence same) wher
   has ids i = list_any (λ j. same j i) ids
 
   -- ids without those that are another one's have the same others
-  has-kept : (j i : Id) → same j i ≡ false → (ks : List Id) → has (filter (λ k. not (same j k)) ks) i ≡ has ks i
-  has-kept j i apart [] = refl
-  has-kept j i apart (k ∷ ks) = by (same j k) (λ t. sym (o.congr j k i t) ∙ apart) (has-kept j i apart ks)
+  has-unchanged : (j i : Id) → same j i ≡ false → (ks : List Id) → has (filter (λ k. not (same j k)) ks) i ≡ has ks i
+  has-unchanged j i apart [] = refl
+  has-unchanged j i apart (k ∷ ks) = by (same j k) (λ t. sym (o.congr j k i t) ∙ apart) (has-unchanged j i apart ks)
     where
       by : (b : Bool) → (b ≡ true → same k i ≡ false) → has (filter (λ m. not (same j m)) ks) i ≡ has ks i
           → has (if not b then k ∷ filter (λ m. not (same j m)) ks else filter (λ m. not (same j m)) ks) i ≡ (same k i || has ks i)
@@ -34,7 +34,7 @@ module _ {Id : Type 0} (same : Id → Id → Bool) (o : IsEquivalence same) wher
   first_seen-more [] i = refl
   first_seen-more (j ∷ js) i =
       ap (λ (ids : List Id). j ∷ filter keeps ids) (first_seen-more js i)
-      ∙ by (same j i) (has seen i) (has (filter keeps seen) i) (λ (b : same j i ≡ true). ap not b) (λ (b : same j i ≡ false). ap not b) (λ apart. has-kept j i apart seen)
+      ∙ by (same j i) (has seen i) (has (filter keeps seen) i) (λ (b : same j i ≡ true). ap not b) (λ (b : same j i ≡ false). ap not b) (λ apart. has-unchanged j i apart seen)
     where
       keeps : Id → Bool
       keeps k = not (same j k)
@@ -44,12 +44,12 @@ module _ {Id : Type 0} (same : Id → Id → Bool) (o : IsEquivalence same) wher
 
       by : (b c d : Bool) → (b ≡ true → keeps i ≡ false) → (b ≡ false → keeps i ≡ true) → (b ≡ false → d ≡ c)
           → j ∷ filter keeps (if c then seen else seen ++ i ∷ []) ≡ (if b || d then j ∷ filter keeps seen else j ∷ filter keeps seen ++ i ∷ [])
-      by true true d out within kept = refl
-      by true false d out within kept =
+      by true true d out within unchanged = refl
+      by true false d out within unchanged =
           ap (λ (ids : List Id). j ∷ ids)
           (filter-append keeps seen (i ∷ []) ∙ ap (λ (t : Bool). filter keeps seen ++ (if t then i ∷ [] else [])) (out refl) ∙ append-nil (filter keeps seen))
-      by false c d out within kept =
-          by_seen c ∙ ap (λ (t : Bool). if t then j ∷ filter keeps seen else j ∷ filter keeps seen ++ i ∷ []) (sym (kept refl))
+      by false c d out within unchanged =
+          by_seen c ∙ ap (λ (t : Bool). if t then j ∷ filter keeps seen else j ∷ filter keeps seen ++ i ∷ []) (sym (unchanged refl))
         where
           by_seen : (c : Bool) → j ∷ filter keeps (if c then seen else seen ++ i ∷ []) ≡ (if c then j ∷ filter keeps seen else j ∷ filter keeps seen ++ i ∷ [])
           by_seen true = refl
@@ -65,12 +65,12 @@ module _ {Id : Type 0} (same : Id → Id → Bool) (o : IsEquivalence same) wher
   first_seen-has : (js : List Id) (i : Id) → has (first_seen same js) i ≡ has js i
   first_seen-has [] i = refl
   first_seen-has (j ∷ js) i =
-      by (same j i) (λ (apart : same j i ≡ false). has-kept j i apart (first_seen same js)) (first_seen-has js i)
+      by (same j i) (λ (apart : same j i ≡ false). has-unchanged j i apart (first_seen same js)) (first_seen-has js i)
     where
       by : (b : Bool) → (b ≡ false → has (filter (λ k. not (same j k)) (first_seen same js)) i ≡ has (first_seen same js) i) → has (first_seen same js) i ≡ has js i
           → (b || has (filter (λ k. not (same j k)) (first_seen same js)) i) ≡ (b || has js i)
-      by true kept rest = refl
-      by false kept rest = kept refl ∙ rest
+      by true unchanged rest = refl
+      by false unchanged rest = unchanged refl ∙ rest
 
   -- each id is among itself and others
   has-one : (js : List Id) (k : ℕ) (d : Id) → k < length js → has js (get_or js k d) ≡ true

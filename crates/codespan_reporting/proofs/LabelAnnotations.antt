@@ -11,11 +11,11 @@ use Rattle.std.proofs.lemmas.List.Elements.{filter-append}
 use Rattle.std.proofs.lemmas.List.Folds.{list_any-append}
 use Rattle.codespan_base.specs.declared.term.config.Config.{Config}
 use Rattle.codespan_base.specs.FileModel.{FileModel, line_count, line_start}
-use Rattle.codespan_base.specs.Labels.{LaneMark, Labelled, first_line, last_line, is_single, drawn_label, mark_of, part_at, part_on}
+use Rattle.codespan_base.specs.Labels.{LaneMark, LabelModel, first_line, last_line, is_single, drawn_label, lane_mark_of, part_at, part_on}
 use Rattle.codespan_reporting.specs.declared.term.views.collect.label_annotations.LabelIndices.{LabelIndices}
 use Rattle.codespan_reporting.specs.Inner.Annotations.{Annotation, AnnotationKind, Shown, Single, Multi, rank_of, is_on_line, line_annotations, annotations_of, annotation_if_any, shows_line}
 use Rattle.codespan_picture.specs.Lines.{shows}
-use Rattle.codespan_picture.specs.Lookups.{is_around, is_asked}
+use Rattle.codespan_picture.specs.Lookups.{is_around, is_looked_up}
 use Rattle.codespan_laws.proofs.SortedLists.{all-append, filter-whole, filter-nothing, all-weaker}
 
 -- the annotation is of this kind
@@ -102,20 +102,20 @@ module _ (g : ℕ → List Annotation) (own : (l : ℕ) → AllByRecursion (λ e
 
 module _ (config : Config) where
   -- line l is looked up for a label from line s to line e
-  abbrev asks : ℕ → ℕ → ℕ → Bool
-  asks s e l = ((l == s) || (l == e) || (nat_le s l && nat_le l e)) || is_around config s e l
+  abbrev looks_up : ℕ → ℕ → ℕ → Bool
+  looks_up s e l = ((l == s) || (l == e) || (nat_le s l && nat_le l e)) || is_around config s e l
 
   -- it shows no other line
-  not_shown : (s e l : ℕ) → asks s e l ≡ false → shows config s e l ≡ false
+  not_shown : (s e l : ℕ) → looks_up s e l ≡ false → shows config s e l ≡ false
   not_shown s e l h = grind (arith, nat_tests)
 
   -- it does not begin on another one
-  not_first : (s e l : ℕ) → asks s e l ≡ false → (s == l) ≡ false
+  not_first : (s e l : ℕ) → looks_up s e l ≡ false → (s == l) ≡ false
   not_first s e l h = grind (arith, nat_tests)
 
   -- it has no multi-line label mark on another one
-  not_marked : (s e l start : ℕ) (x : Labelled) → asks s e l ≡ false → part_at s e l start x ≡ None
-  not_marked s e l start x h =
+  no_part : (s e l start : ℕ) (x : LabelModel) → looks_up s e l ≡ false → part_at s e l start x ≡ None
+  no_part s e l start x h =
       let a : (s == l) ≡ false = grind (arith, nat_tests) in
       let b : (e == l) ≡ false = grind (arith, nat_tests) in
       let c : (nat_lt s l && nat_lt l e) ≡ false = grind (arith, nat_tests) in
@@ -127,80 +127,80 @@ module _ (config : Config) where
 
 -- ---- the annotations of a label
 
-module _ (config : Config) (f : FileModel) (at : LabelIndices) (x : Labelled) where
+module _ (config : Config) (f : FileModel) (at : LabelIndices) (x : LabelModel) where
   -- an annotation of its file
-  abbrev entry_on : ℕ → AnnotationKind → Annotation
-  entry_on l kind = record { file = at.file; line = l; kind = kind }
+  abbrev annotation_on : ℕ → AnnotationKind → Annotation
+  annotation_on l kind = record { file = at.file; line = l; kind = kind }
 
   -- its carets on a line
   abbrev carets : ℕ → Annotation
-  carets l = entry_on l (Single at.index (drawn_label f x))
+  carets l = annotation_on l (Single at.index (drawn_label f x))
 
   -- its annotations on a line, where it is inside the line and where it shows it
-  abbrev said_where : ℕ → Bool → Bool → List Annotation
-  said_where l a b = annotation_if_any at.file l (cond a (Some (Single at.index (drawn_label f x))) (cond b (Some Shown) None))
+  abbrev kind_annotations_where : ℕ → Bool → Bool → List Annotation
+  kind_annotations_where l a b = annotation_if_any at.file l (cond a (Some (Single at.index (drawn_label f x))) (cond b (Some Shown) None))
 
   -- its multi-line label mark on a line, where it has one
-  abbrev pub marked_where : ℕ → Bool → Option LaneMark → List Annotation
-  marked_where l a o = annotation_if_any at.file l (cond a None (option_map Multi o))
+  abbrev pub multi_annotations_where : ℕ → Bool → Option LaneMark → List Annotation
+  multi_annotations_where l a o = annotation_if_any at.file l (cond a None (option_map Multi o))
 
   -- its multi-line label mark on a line
-  abbrev pub marked_on : ℕ → List Annotation
-  marked_on l = marked_where l (is_single f x) (mark_of at.lane x (part_on f l x))
+  abbrev pub multi_annotations_on : ℕ → List Annotation
+  multi_annotations_on l = multi_annotations_where l (is_single f x) (lane_mark_of at.lane x (part_on f l x))
 
   -- its own annotations on a line
-  abbrev said_on : ℕ → List Annotation
-  said_on l = said_where l (is_single f x && (first_line f x == l)) (shows config (first_line f x) (last_line f x) l)
+  abbrev kind_annotations_on : ℕ → List Annotation
+  kind_annotations_on l = kind_annotations_where l (is_single f x && (first_line f x == l)) (shows config (first_line f x) (last_line f x) l)
 
   -- what holds of each annotation that it can have on a line
-  each-of_line : (P : Annotation → Type 0) (l : ℕ) → ((s : AnnotationKind) → P (entry_on l s)) → AllByRecursion P (line_annotations config f at x l)
-  each-of_line P l h =
-      all-append P (said_on l) (marked_on l) (by_tests (is_single f x && (first_line f x == l)) (shows config (first_line f x) (last_line f x) l))
-      (by_mark (is_single f x) (mark_of at.lane x (part_on f l x)))
+  each-line_lookups : (P : Annotation → Type 0) (l : ℕ) → ((s : AnnotationKind) → P (annotation_on l s)) → AllByRecursion P (line_annotations config f at x l)
+  each-line_lookups P l h =
+      all-append P (kind_annotations_on l) (multi_annotations_on l) (by_tests (is_single f x && (first_line f x == l)) (shows config (first_line f x) (last_line f x) l))
+      (by_lane_mark (is_single f x) (lane_mark_of at.lane x (part_on f l x)))
     where
-      by_mark : (a : Bool) (o : Option LaneMark) → AllByRecursion P (marked_where l a o)
-      by_mark true o = tt
-      by_mark false None = tt
-      by_mark false (Some m) = (h (Multi m), tt)
+      by_lane_mark : (a : Bool) (o : Option LaneMark) → AllByRecursion P (multi_annotations_where l a o)
+      by_lane_mark true o = tt
+      by_lane_mark false None = tt
+      by_lane_mark false (Some m) = (h (Multi m), tt)
 
-      by_tests : (a b : Bool) → AllByRecursion P (said_where l a b)
+      by_tests : (a b : Bool) → AllByRecursion P (kind_annotations_where l a b)
       by_tests true b = (h (Single at.index (drawn_label f x)), tt)
       by_tests false true = (h Shown, tt)
       by_tests false false = tt
 
   -- its annotations are of its file
   pub all-of_file : AllByRecursion (λ e. e.file ≡ at.file) (annotations_of config f at x)
-  all-of_file = all-range (λ e. e.file ≡ at.file) (line_annotations config f at x) (is_asked config f x) (line_count f) 0
-      (λ l k. each-of_line (λ e. e.file ≡ at.file) l (λ s. refl))
+  all-of_file = all-range (λ e. e.file ≡ at.file) (line_annotations config f at x) (is_looked_up config f x) (line_count f) 0
+      (λ l k. each-line_lookups (λ e. e.file ≡ at.file) l (λ s. refl))
 
   -- they are of lines that the file has
   pub all-below : AllByRecursion (λ e. e.line < line_count f) (annotations_of config f at x)
-  all-below = all-range (λ e. e.line < line_count f) (line_annotations config f at x) (is_asked config f x) (line_count f) 0
-      (λ l k. each-of_line (λ e. e.line < line_count f) l (λ s. omega arith))
+  all-below = all-range (λ e. e.line < line_count f) (line_annotations config f at x) (is_looked_up config f x) (line_count f) 0
+      (λ l k. each-line_lookups (λ e. e.line < line_count f) l (λ s. omega arith))
 
   -- it has no annotation on a line that is not looked up for it
-  not_asked : (l : ℕ) → is_asked config f x l ≡ false → line_annotations config f at x l ≡ []
-  not_asked l h =
+  not_looked_up : (l : ℕ) → is_looked_up config f x l ≡ false → line_annotations config f at x l ≡ []
+  not_looked_up l h =
       let a : shows config (first_line f x) (last_line f x) l ≡ false = not_shown config (first_line f x) (last_line f x) l h in
       let b : (first_line f x == l) ≡ false = not_first config (first_line f x) (last_line f x) l h in
-      let c : part_on f l x ≡ None = not_marked config (first_line f x) (last_line f x) l (line_start f l) x h in
-      (λ i. said_where l (is_single f x && b i) (a i) ++ marked_where l (is_single f x) (mark_of at.lane x (c i)))
-      ∙ ap (λ t. said_where l t false ++ marked_where l (is_single f x) None) (and-false (is_single f x)) ∙ unmarked (is_single f x)
+      let c : part_on f l x ≡ None = no_part config (first_line f x) (last_line f x) l (line_start f l) x h in
+      (λ i. kind_annotations_where l (is_single f x && b i) (a i) ++ multi_annotations_where l (is_single f x) (lane_mark_of at.lane x (c i)))
+      ∙ ap (λ t. kind_annotations_where l t false ++ multi_annotations_where l (is_single f x) None) (and-false (is_single f x)) ∙ without_part (is_single f x)
     where
-      unmarked : (a : Bool) → said_where l false false ++ marked_where l a None ≡ []
-      unmarked true = refl
-      unmarked false = refl
+      without_part : (a : Bool) → kind_annotations_where l false false ++ multi_annotations_where l a None ≡ []
+      without_part true = refl
+      without_part false = refl
 
   -- on a line that the file has these are its annotations
-  pub annotations-of_line : (l : ℕ) → filter (is_on_line l) (annotations_of config f at x) ≡ cond (nat_lt l (line_count f)) (line_annotations config f at x l) []
-  annotations-of_line l =
-      on-line (line_annotations config f at x) (λ k. each-of_line (λ e. e.line ≡ k) k (λ s. refl)) (is_asked config f x) l (line_count f) 0
-      ∙ ap (λ b. cond (b && is_asked config f x l) (line_annotations config f at x l) []) (among-below (line_count f) l)
+  pub annotations-line_lookups : (l : ℕ) → filter (is_on_line l) (annotations_of config f at x) ≡ cond (nat_lt l (line_count f)) (line_annotations config f at x l) []
+  annotations-line_lookups l =
+      on-line (line_annotations config f at x) (λ k. each-line_lookups (λ e. e.line ≡ k) k (λ s. refl)) (is_looked_up config f x) l (line_count f) 0
+      ∙ ap (λ b. cond (b && is_looked_up config f x l) (line_annotations config f at x l) []) (among-below (line_count f) l)
       ∙ ⊎_elim
-      (λ (t : is_asked config f x l ≡ true). ap (λ b. cond (nat_lt l (line_count f) && b) (line_annotations config f at x l) []) t ∙ both (nat_lt l (line_count f)))
-      (λ (t : is_asked config f x l ≡ false). ap (λ b. cond (nat_lt l (line_count f) && b) (line_annotations config f at x l) []) t
-      ∙ none (nat_lt l (line_count f)) ∙ ap (λ (r : List Annotation). cond (nat_lt l (line_count f)) r []) (sym (not_asked l t)))
-      (cases_Bool (is_asked config f x l))
+      (λ (t : is_looked_up config f x l ≡ true). ap (λ b. cond (nat_lt l (line_count f) && b) (line_annotations config f at x l) []) t ∙ both (nat_lt l (line_count f)))
+      (λ (t : is_looked_up config f x l ≡ false). ap (λ b. cond (nat_lt l (line_count f) && b) (line_annotations config f at x l) []) t
+      ∙ none (nat_lt l (line_count f)) ∙ ap (λ (r : List Annotation). cond (nat_lt l (line_count f)) r []) (sym (not_looked_up l t)))
+      (cases_Bool (is_looked_up config f x l))
     where
       both : (b : Bool) → cond (b && true) (line_annotations config f at x l) [] ≡ cond b (line_annotations config f at x l) []
       both true = refl
@@ -213,56 +213,56 @@ module _ (config : Config) (f : FileModel) (at : LabelIndices) (x : Labelled) wh
   -- ---- the kinds of its annotations of a line
 
   -- those of a label inside the line
-  pub single_labels-of_line : (l : ℕ) → filter (is_kind 1) (line_annotations config f at x l) ≡ cond (is_single f x && (first_line f x == l)) (carets l ∷ []) []
-  single_labels-of_line l =
-      filter-append (is_kind 1) (said_on l) (marked_on l)
-      ∙ (λ i. by_tests (is_single f x && (first_line f x == l)) (shows config (first_line f x) (last_line f x) l) i ++ by_mark (is_single f x) (mark_of at.lane x (part_on f l x)) i)
+  pub single_labels-line_lookups : (l : ℕ) → filter (is_kind 1) (line_annotations config f at x l) ≡ cond (is_single f x && (first_line f x == l)) (carets l ∷ []) []
+  single_labels-line_lookups l =
+      filter-append (is_kind 1) (kind_annotations_on l) (multi_annotations_on l)
+      ∙ (λ i. by_tests (is_single f x && (first_line f x == l)) (shows config (first_line f x) (last_line f x) l) i ++ by_lane_mark (is_single f x) (lane_mark_of at.lane x (part_on f l x)) i)
       ∙ append-nil (cond (is_single f x && (first_line f x == l)) (carets l ∷ []) [])
     where
-      by_mark : (a : Bool) (o : Option LaneMark) → filter (is_kind 1) (marked_where l a o) ≡ []
-      by_mark true o = refl
-      by_mark false None = refl
-      by_mark false (Some m) = refl
+      by_lane_mark : (a : Bool) (o : Option LaneMark) → filter (is_kind 1) (multi_annotations_where l a o) ≡ []
+      by_lane_mark true o = refl
+      by_lane_mark false None = refl
+      by_lane_mark false (Some m) = refl
 
-      by_tests : (a b : Bool) → filter (is_kind 1) (said_where l a b) ≡ cond a (carets l ∷ []) []
+      by_tests : (a b : Bool) → filter (is_kind 1) (kind_annotations_where l a b) ≡ cond a (carets l ∷ []) []
       by_tests true b = refl
       by_tests false true = refl
       by_tests false false = refl
 
   -- its multi-line label mark
-  pub marks-of_line : (l : ℕ) → filter (is_kind 2) (line_annotations config f at x l) ≡ marked_on l
-  marks-of_line l =
-      filter-append (is_kind 2) (said_on l) (marked_on l)
-      ∙ (λ i. by_tests (is_single f x && (first_line f x == l)) (shows config (first_line f x) (last_line f x) l) i ++ by_mark (is_single f x) (mark_of at.lane x (part_on f l x)) i)
+  pub marks-line_lookups : (l : ℕ) → filter (is_kind 2) (line_annotations config f at x l) ≡ multi_annotations_on l
+  marks-line_lookups l =
+      filter-append (is_kind 2) (kind_annotations_on l) (multi_annotations_on l)
+      ∙ (λ i. by_tests (is_single f x && (first_line f x == l)) (shows config (first_line f x) (last_line f x) l) i ++ by_lane_mark (is_single f x) (lane_mark_of at.lane x (part_on f l x)) i)
     where
-      by_mark : (a : Bool) (o : Option LaneMark) → filter (is_kind 2) (marked_where l a o) ≡ marked_where l a o
-      by_mark true o = refl
-      by_mark false None = refl
-      by_mark false (Some m) = refl
+      by_lane_mark : (a : Bool) (o : Option LaneMark) → filter (is_kind 2) (multi_annotations_where l a o) ≡ multi_annotations_where l a o
+      by_lane_mark true o = refl
+      by_lane_mark false None = refl
+      by_lane_mark false (Some m) = refl
 
-      by_tests : (a b : Bool) → filter (is_kind 2) (said_where l a b) ≡ []
+      by_tests : (a b : Bool) → filter (is_kind 2) (kind_annotations_where l a b) ≡ []
       by_tests true b = refl
       by_tests false true = refl
       by_tests false false = refl
 
   -- its annotations make the lines shown that it shows: a label inside a line shows that line
-  pub any-of_line : (l : ℕ) → list_any shows_line (line_annotations config f at x l) ≡ shows config (first_line f x) (last_line f x) l
-  any-of_line l =
-      list_any-append shows_line (said_on l) (marked_on l)
+  pub any-line_lookups : (l : ℕ) → list_any shows_line (line_annotations config f at x l) ≡ shows config (first_line f x) (last_line f x) l
+  any-line_lookups l =
+      list_any-append shows_line (kind_annotations_on l) (multi_annotations_on l)
       ∙ (λ i. by_tests (is_single f x) (first_line f x == l) (shows config (first_line f x) (last_line f x) l) (own_shown config (first_line f x) (last_line f x) l) i
-      || by_mark (is_single f x) (mark_of at.lane x (part_on f l x)) i)
+      || by_lane_mark (is_single f x) (lane_mark_of at.lane x (part_on f l x)) i)
       ∙ or-none (shows config (first_line f x) (last_line f x) l)
     where
       or-none : (b : Bool) → (b || false) ≡ b
       or-none true = refl
       or-none false = refl
 
-      by_mark : (a : Bool) (o : Option LaneMark) → list_any shows_line (marked_where l a o) ≡ false
-      by_mark true o = refl
-      by_mark false None = refl
-      by_mark false (Some m) = refl
+      by_lane_mark : (a : Bool) (o : Option LaneMark) → list_any shows_line (multi_annotations_where l a o) ≡ false
+      by_lane_mark true o = refl
+      by_lane_mark false None = refl
+      by_lane_mark false (Some m) = refl
 
-      by_tests : (a b c : Bool) → (b ≡ true → c ≡ true) → list_any shows_line (said_where l (a && b) c) ≡ c
+      by_tests : (a b c : Bool) → (b ≡ true → c ≡ true) → list_any shows_line (kind_annotations_where l (a && b) c) ≡ c
       by_tests true true c own = sym (own refl)
       by_tests true false true own = refl
       by_tests true false false own = refl

@@ -17,7 +17,7 @@ use Rattle.codespan_reporting.specs.Inner.IndexedLabels.{IsIdAt, annotations_aft
 use Rattle.codespan_reporting.proofs.FileOrder.{file_ids-has, file_ids-more, has, none-of_file}
 use Rattle.codespan_reporting.proofs.FileIndices.{at-stays, no-index, index-here, index-past, index-stays}
 use Rattle.codespan_reporting.proofs.LabelAnnotations.{all-of_file}
-use Rattle.codespan_reporting.proofs.LabelIndexing.{StandsAt, has-index, take-at}
+use Rattle.codespan_reporting.proofs.LabelIndexing.{IsElementAt, has-index, take-at}
 use Rattle.codespan_reporting.proofs.OutputPlanRendering.{drop-one}
 use Rattle.codespan_laws.proofs.SortedLists.{all-append, all-both, all-mapped, all-weaker}
 
@@ -47,8 +47,8 @@ module _ {Id : Type 0} {same : Id → Id → Bool} (o : IsEquivalence same) (xs 
       is ∙ ap (λ (ks : List A). with_file same were x.id ks d) was ∙ by (has same o were x.id) (λ none. new (none-of_file same o xs x.id none)) ∙ ap (map h) (sym (file_ids-more same o xs x))
     where
       by : (b : Bool) → (b ≡ false → h x.id ≡ d) → (if b then map h were else map h were ++ d ∷ []) ≡ map h (if b then were else were ++ x.id ∷ [])
-      by true told = refl
-      by false told = ap (λ v. map h were ++ v ∷ []) (sym (told refl)) ∙ sym (map-append h were (x.id ∷ []))
+      by true known = refl
+      by false known = ap (λ v. map h were ++ v ∷ []) (sym (known refl)) ∙ sym (map-append h were (x.id ∷ []))
 
   module _ (file : Id → FileModel) (config : Config) where
     -- what labels of these files say stays
@@ -74,12 +74,12 @@ module _ {Id : Type 0} {same : Id → Id → Bool} (o : IsEquivalence same) (xs 
     added-with_file adds = record {
       more = adds.more;
       whole = adds.whole;
-      say = adds.say ∙ sym (annotations-stay [] xs all-there);
+      are = adds.are ∙ sym (annotations-stay [] xs all-there);
       each =
           all-weaker (λ (e : RustAnnotation Id). IsOfFiles file were e × (e.file < length were)) (IsOfFiles file are)
           (λ e h id at. h.0 id (at-stays same o were x.id e.file id h.1 (subst (λ (js : List Id). IsIdAt js e.file id) (file_ids-more same o xs x) at))) adds.more
           (all-both (IsOfFiles file were) (λ e. e.file < length were) adds.more adds.each (all-mapped annotation_view (λ (e : Annotation). e.file < length were) adds.more
-          (subst (λ (es : List Annotation). AllByRecursion (λ (e : Annotation). e.file < length were) es) (sym adds.say) (annotations-inside [] xs all-there))));
+          (subst (λ (es : List Annotation). AllByRecursion (λ (e : Annotation). e.file < length were) es) (sym adds.are) (annotations-inside [] xs all-there))));
     }
 
 -- ---- a file that is added where it is none of the others
@@ -99,8 +99,8 @@ module _ {Id : Type 0} {same : Id → Id → Bool} (o : IsEquivalence same) (fil
       by false none = refl
 
   -- where it is one of the files', they are as they were
-  pub file-kept : index ≢ length files → {A : Type 0} (known : List A) (one : A) → known ≡ with_file same (ids_view files) id known one
-  file-kept inside known one =
+  pub file-unchanged : index ≢ length files → {A : Type 0} (known : List A) (one : A) → known ≡ with_file same (ids_view files) id known one
+  file-unchanged inside known one =
       by (has same o (ids_view files) id) (λ none. inside (is ∙ no-index same o (ids_view files) id none ∙ ids-length))
     where
       by : (b : Bool) → (b ≡ false → ⊥) → known ≡ (if b then known else known ++ one ∷ [])
@@ -123,7 +123,7 @@ module _ {Id : Type 0} where
       let long = length-map files name in
       omega (arith, after, long)
 
-  module _ {files : List (RustFile Id)} {k : ℕ} {f : RustFile Id} (at : StandsAt files k f) where
+  module _ {files : List (RustFile Id)} {k : ℕ} {f : RustFile Id} (at : IsElementAt files k f) where
     -- the file is not of the id either
     pub none-more : (same : Id → Id → Bool) (id : Id) → AllByRecursion (λ j. same j id ≡ false) (ids_view (take k files)) → same f.id id ≡ false
         → AllByRecursion (λ j. same j id ≡ false) (ids_view (take (k + 1) files))

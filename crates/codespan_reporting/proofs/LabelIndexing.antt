@@ -11,7 +11,7 @@ use Rattle.std.proofs.lemmas.List.Filters.{length-filter_both}
 use Rattle.codespan_base.specs.declared.term.config.Config.{Config}
 use Rattle.codespan_base.specs.FileModel.{FileDatabase, FileModel, line_count}
 use Rattle.codespan_base.specs.LawfulFiles.{IsLawful}
-use Rattle.codespan_base.specs.Labels.{Labelled, first_line, is_single, last_line, multi_labels}
+use Rattle.codespan_base.specs.Labels.{LabelModel, first_line, is_single, last_line, multi_labels}
 use Rattle.codespan_reporting.specs.declared.term.views.collect.label_span.LabelSpan.{LabelSpan}
 use Rattle.codespan_reporting.specs.Inner.Annotations.{Annotation, annotations_of}
 use Rattle.codespan_reporting.specs.Inner.LabeledFiles.{lanes_by, lanes_in}
@@ -22,23 +22,23 @@ use Rattle.codespan_reporting.proofs.FileOrder.{has}
 use Rattle.codespan_reporting.proofs.FileIndices.{Differ, index-here, index-later}
 
 -- the element at an index of a list
-pub record StandsAt {X : Type 0} (xs : List X) (index : ℕ) (x : X) : Type 0 where
+pub record IsElementAt {X : Type 0} (xs : List X) (index : ℕ) (x : X) : Type 0 where
   pub inside : index < length xs
   pub is : x ≡ get_or xs index x
 
--- it is there in a list that is alike
-pub stands-alike : {X : Type 0} {ys xs : List X} {index : ℕ} {x : X} → ys ≡ xs → index < length ys → x ≡ get_or ys index x → StandsAt xs index x
-stands-alike {X} {index = index} {x = x} alike inside is = record {
-  inside = subst (λ (zs : List X). index < length zs) alike inside;
-  is = is ∙ ap (λ (zs : List X). get_or zs index x) alike;
+-- it is there in an equal list
+pub element-equal : {X : Type 0} {ys xs : List X} {index : ℕ} {x : X} → ys ≡ xs → index < length ys → x ≡ get_or ys index x → IsElementAt xs index x
+element-equal {X} {index = index} {x = x} equal inside is = record {
+  inside = subst (λ (zs : List X). index < length zs) equal inside;
+  is = is ∙ ap (λ (zs : List X). get_or zs index x) equal;
 }
 
 -- the elements up to it are those before it, and it
-pub take-at : {X : Type 0} {xs : List X} {index : ℕ} {x : X} → StandsAt xs index x → take (index + 1) xs ≡ take index xs ++ x ∷ []
+pub take-at : {X : Type 0} {xs : List X} {index : ℕ} {x : X} → IsElementAt xs index x → take (index + 1) xs ≡ take index xs ++ x ∷ []
 take-at {X} {xs} {index} {x} at = take_more xs index x at.inside ∙ ap (λ (y : X). take index xs ++ y ∷ []) (sym at.is)
 
 -- what is known of each element, where the one at the index changes
-pub map-changed : {X A : Type 0} (h : X → A) (d : A) (snippet_line : A → A) {xs : List X} {index : ℕ} {x : X} → StandsAt xs index x → (new : X) → h new ≡ snippet_line (h x)
+pub map-changed : {X A : Type 0} (h : X → A) (d : A) (snippet_line : A → A) {xs : List X} {index : ℕ} {x : X} → IsElementAt xs index x → (new : X) → h new ≡ snippet_line (h x)
     → map h (set xs index new) ≡ set (map h xs) index (snippet_line (get_or (map h xs) index d))
 map-changed h d snippet_line {xs} {index} {x} at new is =
     map-set h xs index new ∙ ap (set (map h xs) index) (is ∙ ap snippet_line (ap h at.is ∙ sym (get_or-map h xs index x d at.inside)))
@@ -57,7 +57,7 @@ pub are-files : {Id : Type 0} {table : FileDatabase Id} {same : Id → Id → Bo
     → ((id : Id) → IsLawful (table.file id)) → AreFiles table
 are-files is equivalence same_file lawful = record {
   equivalence = subst IsEquivalence (sym is) equivalence;
-  one_file = λ i j alike. (same_file i j alike).0;
+  one_file = λ i j equal. (same_file i j equal).0;
   some_line = λ id. (lawful id).some_line;
 }
 
@@ -68,11 +68,11 @@ pub record IsChanged {Id A : Type 0} (same : Id → Id → Bool) (i : Id) (h mor
   pub others : (j : Id) → same j i ≡ false → more j ≡ h j
 
 -- how many lanes a label takes: one, where it is a multi-line label
-abbrev pub label_lanes : FileModel → Labelled → ℕ
+abbrev pub label_lanes : FileModel → LabelModel → ℕ
 label_lanes f x = if is_single f x then 0 else 1
 
 -- that is known by the lines that it starts and ends on
-pub lanes_by-are : (f : FileModel) (x : Labelled) (lines : LabelSpan) → lines.first ≡ first_line f x → lines.last ≡ last_line f x → lanes_by lines ≡ label_lanes f x
+pub lanes_by-are : (f : FileModel) (x : LabelModel) (lines : LabelSpan) → lines.first ≡ first_line f x → lines.last ≡ last_line f x → lanes_by lines ≡ label_lanes f x
 lanes_by-are f x lines first last = λ i. lanes_by (record { first = first i; last = last i })
 
 module _ {Id : Type 0} (same : Id → Id → Bool) (o : IsEquivalence same) where
@@ -86,14 +86,14 @@ module _ {Id : Type 0} (same : Id → Id → Bool) (o : IsEquivalence same) wher
       (cases_Bool (same j i))
 
 module _ {Id : Type 0} {same : Id → Id → Bool} (o : IsEquivalence same) where
-  module _ {A : Type 0} (h : Id → A) (alike : (i j : Id) → same i j ≡ true → h i ≡ h j) where
+  module _ {A : Type 0} (h : Id → A) (equal : (i j : Id) → same i j ≡ true → h i ≡ h j) where
     -- what is kept at an id's index is what is kept for it
-    pub kept-at : (ids : List Id) (i : Id) (d : A) → has same o ids i ≡ true → get_or (map h ids) (index_of_file same ids i) d ≡ h i
-    kept-at [] i d h = absurd (true≢false (sym h))
-    kept-at (j ∷ js) i d there =
+    pub unchanged-at : (ids : List Id) (i : Id) (d : A) → has same o ids i ≡ true → get_or (map h ids) (index_of_file same ids i) d ≡ h i
+    unchanged-at [] i d h = absurd (true≢false (sym h))
+    unchanged-at (j ∷ js) i d there =
         ⊎_elim
-        (λ (t : same j i ≡ true). ap (λ k. get_or (map h (j ∷ js)) k d) (index-here same o j js i t) ∙ alike j i t)
-        (λ (f : same j i ≡ false). ap (λ k. get_or (map h (j ∷ js)) k d) (index-later same o j js i f) ∙ kept-at js i d (sym (ap (λ b. b || has same o js i) f) ∙ there))
+        (λ (t : same j i ≡ true). ap (λ k. get_or (map h (j ∷ js)) k d) (index-here same o j js i t) ∙ equal j i t)
+        (λ (f : same j i ≡ false). ap (λ k. get_or (map h (j ∷ js)) k d) (index-later same o j js i f) ∙ unchanged-at js i d (sym (ap (λ b. b || has same o js i) f) ∙ there))
         (cases_Bool (same j i))
 
   module _ {A : Type 0} {i : Id} {h more : Id → A} {v : A} (changed : IsChanged same i h more v) where
@@ -115,9 +115,9 @@ module _ {Id : Type 0} {same : Id → Id → Bool} (o : IsEquivalence same) wher
         (cases_Bool (same j i))
 
 -- equal ids have as many lanes
-pub lanes_in-alike : {Id : Type 0} {table : FileDatabase Id} (lawful : AreFiles table) (before : List (InFile Id)) (i j : Id) → table.same i j ≡ true
+pub lanes_in-equal : {Id : Type 0} {table : FileDatabase Id} (lawful : AreFiles table) (before : List (InFile Id)) (i j : Id) → table.same i j ≡ true
     → lanes_in table.same table.file before i ≡ lanes_in table.same table.file before j
-lanes_in-alike {Id} lawful before i j t = λ k. lane_count (record {
+lanes_in-equal {Id} lawful before i j t = λ k. lane_count (record {
   file = lawful.one_file i j t k;
   labels = map (λ (x : InFile Id). x.label) (filter (λ (x : InFile Id). lawful.equivalence.congr i j x.id t k) before);
 })
@@ -146,7 +146,7 @@ module _ {Id : Type 0} (same : Id → Id → Bool) (file : Id → FileModel) whe
       own : List (InFile Id)
       own = filter (λ (y : InFile Id). same id y.id) before
 
-      labels : List Labelled
+      labels : List LabelModel
       labels = map (λ (y : InFile Id). y.label) own
 
       one : (b : Bool) → length (cond (not b) (x.label ∷ []) []) ≡ (if b then 0 else 1)
@@ -156,8 +156,8 @@ module _ {Id : Type 0} (same : Id → Id → Bool) (file : Id → FileModel) whe
       by_same : (b : Bool) → lane_count (record { file = file id; labels = map (λ (y : InFile Id). y.label) (own ++ (cond b (x ∷ []) [])) })
           ≡ lanes_in same file before id + (if b then label_lanes (file id) x.label else 0)
       by_same true =
-          ap (λ (ls : List Labelled). lane_count (record { file = file id; labels = ls })) (map-append (λ (y : InFile Id). y.label) own (x ∷ []))
-          ∙ ap (λ (ls : List Labelled). length ls) (filter-append (λ y. not (is_single (file id) y)) labels (x.label ∷ []))
+          ap (λ (ls : List LabelModel). lane_count (record { file = file id; labels = ls })) (map-append (λ (y : InFile Id). y.label) own (x ∷ []))
+          ∙ ap (λ (ls : List LabelModel). length ls) (filter-append (λ y. not (is_single (file id) y)) labels (x.label ∷ []))
           ∙ length-append (multi_labels (file id) labels) (multi_labels (file id) (x.label ∷ []))
           ∙ ap (λ n. lanes_in same file before id + n) (one (is_single (file id) x.label))
       by_same false =

@@ -17,10 +17,10 @@ pub mod Contexts
 pub mod FileOrder
 pub mod LabelFiles
 pub mod LabelIndexing
-pub mod LabelTurns
+pub mod LabelsBefore
 pub mod LabelsCollected
 pub mod LookupRuns
-pub mod MarkOrder
+pub mod LaneMarkOrder
 pub mod LaneMarks
 pub mod LinesFound
 pub mod StyleCalls
@@ -33,7 +33,7 @@ pub mod LocusStarts
 pub mod PlansFound
 pub mod PlanPadding
 pub mod LinesRendered
-pub mod SpannedRoom
+pub mod SpannedPadding
 pub mod NoteRows
 pub mod OutputPlanned
 pub mod RichParts

@@ -8,11 +8,11 @@ use Rattle.codespan_base.specs.declared.term.config.Layout.{Layout}
 use Rattle.codespan_base.specs.declared.term.config.Layout.TheVariants.{Classic, Unbroken}
 use Rattle.codespan_base.specs.FileModel.{FileModel, Lookup, or_failure}
 use Rattle.codespan_base.specs.FileModel.Lookup.{LineNumber}
-use Rattle.codespan_picture.specs.Lookups.{Failures, asked_of, first_error}
+use Rattle.codespan_picture.specs.Lookups.{Failures, lookups_of_file, first_error}
 use Rattle.codespan_reporting.specs.declared.term.views.plan.snippet_lines.SnippetLine.{SnippetLine as RustLine}
 use Rattle.codespan_reporting.specs.Inner.SnippetLineViews.{AddsLines, IsSnippetLineIn, numbers_looked_up, line_view}
 use Rattle.codespan_reporting.specs.Inner.SnippetLines.{SnippetLine, fill_of, fills_of}
-use Rattle.codespan_reporting.proofs.LookupRuns.{first_error-asked, or_failure-answered, or_failure-some}
+use Rattle.codespan_reporting.proofs.LookupRuns.{first_error-lookups, or_failure-succeeded, or_failure-some}
 use Rattle.codespan_laws.proofs.SortedLists.{all-append}
 
 module _ {Id : Type 0} {layout : Layout} {f : FileModel} where
@@ -42,33 +42,33 @@ numbers_looked_up-nothing Unbroken = refl
 module _ {Id : Type 0} (failure : Failures Id) (id : Id) (layout : Layout) where
   -- the first of the numbers of lines filled in by these snippet lines that fails
   abbrev pub numbers_failed : List SnippetLine → Option Error
-  numbers_failed snippet_lines = first_error failure (asked_of id (numbers_looked_up layout (fills_of snippet_lines)))
+  numbers_failed snippet_lines = first_error failure (lookups_of_file id (numbers_looked_up layout (fills_of snippet_lines)))
 
   -- the numbers of some snippet lines, and then those of others
   numbers_failed-append : (xs ys : List SnippetLine) → numbers_failed (xs ++ ys) ≡ or_failure (numbers_failed xs) (numbers_failed ys)
   numbers_failed-append xs ys =
-      ap (λ (ls : List ℕ). first_error failure (asked_of id (numbers_looked_up layout ls))) (flat_map-append fill_of xs ys)
-      ∙ ap (λ (ls : List Lookup). first_error failure (asked_of id ls)) (numbers_looked_up-append layout (fills_of xs) (fills_of ys))
-      ∙ first_error-asked failure id (numbers_looked_up layout (fills_of xs)) (numbers_looked_up layout (fills_of ys))
+      ap (λ (ls : List ℕ). first_error failure (lookups_of_file id (numbers_looked_up layout ls))) (flat_map-append fill_of xs ys)
+      ∙ ap (λ (ls : List Lookup). first_error failure (lookups_of_file id ls)) (numbers_looked_up-append layout (fills_of xs) (fills_of ys))
+      ∙ first_error-lookups failure id (numbers_looked_up layout (fills_of xs)) (numbers_looked_up layout (fills_of ys))
 
   -- of all snippet lines some were added, and the rest remains
-  pub record StepsLeft (f : FileModel) (whole rest : List SnippetLine) (old now : List (RustLine Id)) : Type 0 where
+  pub record LinesLeft (f : FileModel) (whole rest : List SnippetLine) (old now : List (RustLine Id)) : Type 0 where
     pub taken : List SnippetLine
     pub is_whole : taken ++ rest ≡ whole
     pub adds : AddsLines layout f old now taken
-    pub answered : numbers_failed taken ≡ None
+    pub succeeded : numbers_failed taken ≡ None
 
 -- nothing is found yet
 pub left_all : {Id : Type 0} {failure : Failures Id} {id : Id} {layout : Layout} {f : FileModel} {whole rest : List SnippetLine} {old now : List (RustLine Id)} → rest ≡ whole → now ≡ old
-    → StepsLeft failure id layout f whole rest old now
+    → LinesLeft failure id layout f whole rest old now
 left_all {Id} {failure} {id} {layout} same none = record {
   taken = [];
   is_whole = same;
   adds = adds_nothing none;
-  answered = ap (λ (ls : List Lookup). first_error failure (asked_of id ls)) (numbers_looked_up-nothing layout);
+  succeeded = ap (λ (ls : List Lookup). first_error failure (lookups_of_file id ls)) (numbers_looked_up-nothing layout);
 }
 
-module _ {Id : Type 0} {failure : Failures Id} {id : Id} {layout : Layout} {f : FileModel} {whole rest : List SnippetLine} {old now : List (RustLine Id)} (left : StepsLeft failure id layout f whole rest old now)
+module _ {Id : Type 0} {failure : Failures Id} {id : Id} {layout : Layout} {f : FileModel} {whole rest : List SnippetLine} {old now : List (RustLine Id)} (left : LinesLeft failure id layout f whole rest old now)
     (snippet_lines next : List SnippetLine) (same : rest ≡ snippet_lines ++ next) where
   -- these come next
   next_whole : (left.taken ++ snippet_lines) ++ next ≡ whole
@@ -78,11 +78,11 @@ module _ {Id : Type 0} {failure : Failures Id} {id : Id} {layout : Layout} {f : 
   next_failed : numbers_failed failure id layout (left.taken ++ snippet_lines) ≡ numbers_failed failure id layout snippet_lines
   next_failed =
       numbers_failed-append failure id layout left.taken snippet_lines
-      ∙ or_failure-answered (numbers_failed failure id layout left.taken) (numbers_failed failure id layout snippet_lines) left.answered
+      ∙ or_failure-succeeded (numbers_failed failure id layout left.taken) (numbers_failed failure id layout snippet_lines) left.succeeded
 
   -- they are found
-  pub left_more : {new : List (RustLine Id)} → AddsLines layout f now new snippet_lines → numbers_failed failure id layout snippet_lines ≡ None → StepsLeft failure id layout f whole next old new
-  left_more adds answered = record { taken = left.taken ++ snippet_lines; is_whole = next_whole; adds = adds_then left.adds adds; answered = next_failed ∙ answered }
+  pub left_more : {new : List (RustLine Id)} → AddsLines layout f now new snippet_lines → numbers_failed failure id layout snippet_lines ≡ None → LinesLeft failure id layout f whole next old new
+  left_more adds succeeded = record { taken = left.taken ++ snippet_lines; is_whole = next_whole; adds = adds_then left.adds adds; succeeded = next_failed ∙ succeeded }
 
   -- the lookup of a number with them fails
   pub left_failed : {e : Error} → numbers_failed failure id layout snippet_lines ≡ Some e → numbers_failed failure id layout whole ≡ Some e

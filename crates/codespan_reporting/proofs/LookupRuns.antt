@@ -9,11 +9,11 @@ use Rattle.codespan_base.specs.declared.files.Error.TheVariants.{OutOfMemory}
 use Rattle.codespan_base.specs.Errors.{IsIo}
 use Rattle.codespan_base.specs.FileModel.{Lookup, or_failure}
 use Rattle.codespan_base.specs.Streams.{Stream}
-use Rattle.codespan_base.specs.WriterLaw.{Sink, Sends, PrefixWritten}
-use Rattle.codespan_base.proofs.Sends.{with_written-nil, PrefixWritten-first, PrefixWritten-last}
-use Rattle.codespan_reporting.specs.Inner.LookupsOnTheWay.{WrotePrefix, EndedWithLookups, WritesWithLookups}
-use Rattle.codespan_picture.specs.Lookups.{Failures, asked_of, first_error}
-use Rattle.codespan_base.proofs.Chains.{came-then, stopped-before, stopped-then, told-after}
+use Rattle.codespan_base.specs.WriterLaw.{Sink, Writes, PrefixWritten}
+use Rattle.codespan_base.proofs.Writes.{with_written-nil, PrefixWritten-first, PrefixWritten-last}
+use Rattle.codespan_reporting.specs.Inner.LookupsOnTheWay.{WrotePrefix, FailedWithLookups, WritesWithLookups}
+use Rattle.codespan_picture.specs.Lookups.{Failures, lookups_of_file, first_error}
+use Rattle.codespan_base.proofs.Chains.{written-then, failed-before, failed-then, known-after}
 use Rattle.codespan_reporting.proofs.Renderings.{PrefixWritten-none}
 
 -- ---- errors, one after another
@@ -33,8 +33,8 @@ pub or_failure-some : (o p : Option Error) (e : Error) → o ≡ Some e → or_f
 or_failure-some o p e h = ap (λ (x : Option Error). or_failure x p) h
 
 -- where no lookup of the first part fails, the rest decides
-pub or_failure-answered : (o p : Option Error) → o ≡ None → or_failure o p ≡ p
-or_failure-answered o p h = ap (λ (x : Option Error). or_failure x p) h
+pub or_failure-succeeded : (o p : Option Error) → o ≡ None → or_failure o p ≡ p
+or_failure-succeeded o p h = ap (λ (x : Option Error). or_failure x p) h
 
 module _ {Id : Type 0} (failure : Failures Id) where
   -- the first error of some lookups and of others after them
@@ -45,10 +45,10 @@ module _ {Id : Type 0} (failure : Failures Id) where
       ∙ sym (or_failure_assoc (failure l.0 l.1) (first_error failure ls) (first_error failure ms))
 
   -- the same of lookups of one file
-  pub first_error-asked : (id : Id) (ls ms : List Lookup)
-      → first_error failure (asked_of id (ls ++ ms)) ≡ or_failure (first_error failure (asked_of id ls)) (first_error failure (asked_of id ms))
-  first_error-asked id ls ms =
-      ap (first_error failure) (map-append (λ (l : Lookup). (id, l)) ls ms) ∙ first_error-append (asked_of id ls) (asked_of id ms)
+  pub first_error-lookups : (id : Id) (ls ms : List Lookup)
+      → first_error failure (lookups_of_file id (ls ++ ms)) ≡ or_failure (first_error failure (lookups_of_file id ls)) (first_error failure (lookups_of_file id ms))
+  first_error-lookups id ls ms =
+      ap (first_error failure) (map-append (λ (l : Lookup). (id, l)) ls ms) ∙ first_error-append (lookups_of_file id ls) (lookups_of_file id ms)
 
 -- ---- one part
 
@@ -60,71 +60,71 @@ out_of_memory {T} {x = x} same is = same ∙ inside x is
     inside y h = cc
 
 -- a call writes and looks up so; from a record antt finds its parameters
-pub record IsAsking (failed : Option Error) (old : Sink) (items : Stream) (r : Result (Unit {0}) Error) (new : Sink) : Type 0 where
-  pub draws : WritesWithLookups failed old items r new
+pub record IsLookupRun (failed : Option Error) (old : Sink) (items : Stream) (r : Result (Unit {0}) Error) (new : Sink) : Type 0 where
+  pub renders : WritesWithLookups failed old items r new
 
 -- nothing is written and nothing is looked up
-pub asking_nothing : {s : Sink} → IsAsking None s [] (Ok tt) s
-asking_nothing {s} = record { draws = (refl, (refl, λ told. sym (with_written-nil s))) }
+pub run_of_nothing : {s : Sink} → IsLookupRun None s [] (Ok tt) s
+run_of_nothing {s} = record { renders = (refl, (refl, λ known. sym (with_written-nil s))) }
 
 -- a lookup that succeeds writes nothing
-asking_answered : {o : Option Error} {s : Sink} → o ≡ None → IsAsking o s [] (Ok tt) s
-asking_answered {s = s} answered = record { draws = (answered, (refl, λ told. sym (with_written-nil s))) }
+run_of_lookup : {o : Option Error} {s : Sink} → o ≡ None → IsLookupRun o s [] (Ok tt) s
+run_of_lookup {s = s} succeeded = record { renders = (succeeded, (refl, λ known. sym (with_written-nil s))) }
 
 -- a call that only writes looks up nothing
-pub asking_of_sends : {s t : Sink} {a : Stream} (r : Result (Unit {0}) Error) → Sends s a r t → IfErr r IsIo → IsAsking None s a r t
-asking_of_sends (Ok x) sends io = record { draws = (refl, sends) }
-asking_of_sends (Err e) sends io = record { draws = inl (io, sends) }
+pub run_of_writes : {s t : Sink} {a : Stream} (r : Result (Unit {0}) Error) → Writes s a r t → IfErr r IsIo → IsLookupRun None s a r t
+run_of_writes (Ok x) writes io = record { renders = (refl, writes) }
+run_of_writes (Err e) writes io = record { renders = inl (io, writes) }
 
 -- a lookup that fails leaves the writer unchanged, whatever stream was to be written
-pub asking_failed : {o : Option Error} {s : Sink} {a : Stream} {e : Error} → (e ≢ OutOfMemory → o ≡ Some e) → WritesWithLookups o s a (Err e) s
-asking_failed {s = s} {a = a} told = inr (record { frame = refl; begun = λ are_known. PrefixWritten-none s a s refl; told = told })
+pub run_failed : {o : Option Error} {s : Sink} {a : Stream} {e : Error} → (e ≢ OutOfMemory → o ≡ Some e) → WritesWithLookups o s a (Err e) s
+run_failed {s = s} {a = a} known = inr (record { frame = refl; prefix = λ are_known. PrefixWritten-none s a s refl; error_is = known })
 
 -- the same where more was to be looked up
-pub asking_failed_before : {o : Option Error} (p : Option Error) {s : Sink} {a : Stream} {e : Error} → (e ≢ OutOfMemory → o ≡ Some e) → WritesWithLookups (or_failure o p) s a (Err e) s
-asking_failed_before {o} p {e = e} told = asking_failed (λ m. or_failure-some o p e (told m))
+pub run_failed_before : {o : Option Error} (p : Option Error) {s : Sink} {a : Stream} {e : Error} → (e ≢ OutOfMemory → o ≡ Some e) → WritesWithLookups (or_failure o p) s a (Err e) s
+run_failed_before {o} p {e = e} known = run_failed (λ m. or_failure-some o p e (known m))
 
 -- an allocation failed before anything was written
-pub asking_no_memory : {o : Option Error} {s : Sink} {a : Stream} {e : Error} → e ≡ OutOfMemory → WritesWithLookups o s a (Err e) s
-asking_no_memory is = asking_failed (λ other. absurd (other is))
+pub run_out_of_memory : {o : Option Error} {s : Sink} {a : Stream} {e : Error} → e ≡ OutOfMemory → WritesWithLookups o s a (Err e) s
+run_out_of_memory is = run_failed (λ other. absurd (other is))
 
 -- ---- one part after another
 
 -- a part that succeeded, and then another, however that one ends
-pub asking_then : {o p : Option Error} {s t u : Sink} {a b : Stream} {r : Result (Unit {0}) Error} → IsAsking o s a (Ok tt) t → IsAsking p t b r u → IsAsking (or_failure o p) s (a ++ b) r u
-asking_then {o = o} {p = p} {s = s} {a = a} {b = b} {r = Ok y} first second =
-    record { draws = (or_failure-answered o p first.draws.0 ∙ second.draws.0, came-then s a b first.draws.1 second.draws.1) }
-asking_then {o = o} {p = p} {s = s} {t = t} {u = u} {a = a} {b = b} {r = Err e} first second =
-    let came = first.draws.1 in
+pub run_then : {o p : Option Error} {s t u : Sink} {a b : Stream} {r : Result (Unit {0}) Error} → IsLookupRun o s a (Ok tt) t → IsLookupRun p t b r u → IsLookupRun (or_failure o p) s (a ++ b) r u
+run_then {o = o} {p = p} {s = s} {a = a} {b = b} {r = Ok y} first second =
+    record { renders = (or_failure-succeeded o p first.renders.0 ∙ second.renders.0, written-then s a b first.renders.1 second.renders.1) }
+run_then {o = o} {p = p} {s = s} {t = t} {u = u} {a = a} {b = b} {r = Err e} first second =
+    let written = first.renders.1 in
     record {
-      draws = ⊎_elim
-          (λ (w : IsIo e × WrotePrefix t b u). inl (w.0, stopped-then a came w.1))
-          (λ (w : EndedWithLookups p t b e u). inr (record {
-            frame = w.frame ∙ came.0;
-            begun = λ are_known. PrefixWritten-last s a b u (subst (λ (y : Sink). PrefixWritten y b u) (came.1 are_known) (w.begun (told-after s t a are_known (came.1 are_known))));
-            told = λ m. or_failure-answered o p first.draws.0 ∙ w.told m;
+      renders = ⊎_elim
+          (λ (w : IsIo e × WrotePrefix t b u). inl (w.0, failed-then a written w.1))
+          (λ (w : FailedWithLookups p t b e u). inr (record {
+            frame = w.frame ∙ written.0;
+            prefix = λ are_known. PrefixWritten-last s a b u (subst (λ (y : Sink). PrefixWritten y b u) (written.1 are_known) (w.prefix (known-after s t a are_known (written.1 are_known))));
+            error_is = λ m. or_failure-succeeded o p first.renders.0 ∙ w.error_is m;
           }))
-          second.draws;
+          second.renders;
     }
 
 -- a part that failed, with more that was to be written and looked up after it
-pub asking_cut : (p : Option Error) (b : Stream) {o : Option Error} {s t : Sink} {a : Stream} {e : Error} → IsAsking o s a (Err e) t → IsAsking (or_failure o p) s (a ++ b) (Err e) t
-asking_cut p b {o} {s} {t} {a} {e} part = record {
-  draws = ⊎_elim
-      (λ (w : IsIo e × WrotePrefix s a t). inl (w.0, stopped-before b w.1))
-      (λ (w : EndedWithLookups o s a e t). inr (record {
+pub run_cut : (p : Option Error) (b : Stream) {o : Option Error} {s t : Sink} {a : Stream} {e : Error} → IsLookupRun o s a (Err e) t → IsLookupRun (or_failure o p) s (a ++ b) (Err e) t
+run_cut p b {o} {s} {t} {a} {e} part = record {
+  renders = ⊎_elim
+      (λ (w : IsIo e × WrotePrefix s a t). inl (w.0, failed-before b w.1))
+      (λ (w : FailedWithLookups o s a e t). inr (record {
         frame = w.frame;
-        begun = λ are_known. PrefixWritten-first s a t b (w.begun are_known);
-        told = λ m. or_failure-some o p e (w.told m);
+        prefix = λ are_known. PrefixWritten-first s a t b (w.prefix are_known);
+        error_is = λ m. or_failure-some o p e (w.error_is m);
       }))
-      part.draws;
+      part.renders;
 }
 
 -- a lookup succeeded, and then a part
-pub asking_after : {o p : Option Error} {s t : Sink} {a : Stream} {r : Result (Unit {0}) Error} → o ≡ None → IsAsking p s a r t → IsAsking (or_failure o p) s a r t
-asking_after answered part = asking_then (asking_answered answered) part
+pub run_after : {o p : Option Error} {s t : Sink} {a : Stream} {r : Result (Unit {0}) Error} → o ≡ None → IsLookupRun p s a r t → IsLookupRun (or_failure o p) s a r t
+run_after succeeded part = run_then (run_of_lookup succeeded) part
 
 -- an equal error and an equal stream
-pub asking_as : {o p : Option Error} {s t : Sink} {a b : Stream} {r : Result (Unit {0}) Error} → o ≡ p → a ≡ b → IsAsking o s a r t → IsAsking p s b r t
-asking_as {o} {s = s} {t = t} {b = b} {r = r} same_failure same_stream part =
-    subst (λ (x : Option Error). IsAsking x s b r t) same_failure (subst (λ (x : Stream). IsAsking o s x r t) same_stream part)
+pub run_as : {o p : Option Error} {s t : Sink} {a b : Stream} {r : Result (Unit {0}) Error} → o ≡ p → a ≡ b → IsLookupRun o s a r t → IsLookupRun p s b r t
+run_as {o} {s = s} {t = t} {b = b} {r = r} same_failure same_stream part =
+    subst (λ (x : Option Error). IsLookupRun x s b r t) same_failure (subst (λ (x : Stream). IsLookupRun o s x r t) same_stream part)

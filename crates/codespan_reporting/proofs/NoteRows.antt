@@ -4,49 +4,49 @@ use Rattle.std.specs.Str.Lines.{lines}
 use Rattle.std.proofs.lemmas.Grind.{flat_map-append}
 use Rattle.std.proofs.lemmas.List.{append-nil, map-append, take-append-drop, take_all, take_more}
 use Rattle.codespan_base.specs.Streams.{Stream, newline}
-use Rattle.codespan_picture.specs.Rows.{Look, Row, BlankRow, LaterNoteRow}
+use Rattle.codespan_picture.specs.Rows.{RowContext, Row, BlankRow, LaterNoteRow}
 use Rattle.codespan_picture.specs.RowStreams.{first_note_row, later_note_row, stream_of, stream_of_rows}
 use Rattle.codespan_renderer.specs.Renderers.{later_notes, note_stream}
 use Rattle.codespan_picture.specs.Snippets.{note_rows, piece_rows}
 
-module _ (look : Look) where
+module _ (context : RowContext) where
   -- the stream of a row and of its end
   abbrev ended : Row → Stream
-  ended row = stream_of look row ++ newline
+  ended row = stream_of context row ++ newline
 
   -- the later rows of a note
-  later-rows : (ps : List (List ℕ)) → stream_of_rows look (map LaterNoteRow ps) ≡ later_notes look.padding ps
+  later-rows : (ps : List (List ℕ)) → stream_of_rows context (map LaterNoteRow ps) ≡ later_notes context.padding ps
   later-rows [] = refl
-  later-rows (p ∷ ps) = ap (λ (s : Stream). (later_note_row look.padding p ++ newline) ++ s) (later-rows ps)
+  later-rows (p ∷ ps) = ap (λ (s : Stream). (later_note_row context.padding p ++ newline) ++ s) (later-rows ps)
 
   -- the rows of a note are its stream
-  pub note-rows : (ps : List (List ℕ)) → stream_of_rows look (piece_rows ps) ≡ note_stream look.chars look.padding ps
+  pub note-rows : (ps : List (List ℕ)) → stream_of_rows context (piece_rows ps) ≡ note_stream context.chars context.padding ps
   note-rows [] = refl
-  note-rows (p ∷ ps) = ap (λ (s : Stream). (first_note_row look.chars look.padding p ++ newline) ++ s) (later-rows ps)
+  note-rows (p ∷ ps) = ap (λ (s : Stream). (first_note_row context.chars context.padding p ++ newline) ++ s) (later-rows ps)
 
 -- all that is written of these notes
-abbrev pub whole_of_notes : Look → List (List ℕ) → Stream
-whole_of_notes look notes = stream_of_rows look (note_rows notes ++ BlankRow ∷ [])
+abbrev pub whole_of_notes : RowContext → List (List ℕ) → Stream
+whole_of_notes context notes = stream_of_rows context (note_rows notes ++ BlankRow ∷ [])
 
-module _ {N : Type 0} (text : N → List ℕ) (look : Look) where
+module _ {N : Type 0} (text : N → List ℕ) (context : RowContext) where
   -- the stream of the rows of notes
   abbrev pub stream_of_notes : List N → Stream
-  stream_of_notes notes = stream_of_rows look (note_rows (map text notes))
+  stream_of_notes notes = stream_of_rows context (note_rows (map text notes))
 
   -- the rows of some notes and of others after them
   notes-both : (ms ns : List N) → stream_of_notes (ms ++ ns) ≡ stream_of_notes ms ++ stream_of_notes ns
   notes-both ms ns =
-      ap (λ (texts : List (List ℕ)). stream_of_rows look (note_rows texts)) (map-append text ms ns)
-      ∙ ap (stream_of_rows look) (flat_map-append (λ (n : List ℕ). piece_rows (lines n)) (map text ms) (map text ns))
-      ∙ flat_map-append (ended look) (note_rows (map text ms)) (note_rows (map text ns))
+      ap (λ (texts : List (List ℕ)). stream_of_rows context (note_rows texts)) (map-append text ms ns)
+      ∙ ap (stream_of_rows context) (flat_map-append (λ (n : List ℕ). piece_rows (lines n)) (map text ms) (map text ns))
+      ∙ flat_map-append (ended context) (note_rows (map text ms)) (note_rows (map text ns))
 
   -- one more note
   pub notes-next : (notes : List N) (i : ℕ) (note : N) → i < length notes → note ≡ get_or notes i note
-      → stream_of_notes (take (i + 1) notes) ≡ stream_of_notes (take i notes) ++ note_stream look.chars look.padding (lines (text note))
+      → stream_of_notes (take (i + 1) notes) ≡ stream_of_notes (take i notes) ++ note_stream context.chars context.padding (lines (text note))
   notes-next notes i note inside is =
       ap stream_of_notes (take_more notes i note inside ∙ ap (λ (n : N). take i notes ++ n ∷ []) (sym is))
       ∙ notes-both (take i notes) (note ∷ [])
-      ∙ ap (λ (s : Stream). stream_of_notes (take i notes) ++ s) (ap (stream_of_rows look) (append-nil (piece_rows (lines (text note)))) ∙ note-rows look (lines (text note)))
+      ∙ ap (λ (s : Stream). stream_of_notes (take i notes) ++ s) (ap (stream_of_rows context) (append-nil (piece_rows (lines (text note)))) ∙ note-rows context (lines (text note)))
 
   -- the notes before an index, and those from there on
   pub notes-cut : (notes : List N) (i : ℕ) → stream_of_notes notes ≡ stream_of_notes (take i notes) ++ stream_of_notes (drop i notes)
@@ -57,5 +57,5 @@ module _ {N : Type 0} (text : N → List ℕ) (look : Look) where
   notes-all notes i past = ap (λ (ns : List N). stream_of_notes ns) (take_all i notes past)
 
   -- the rows of the notes, and the empty line
-  pub notes-blank : (notes : List N) → stream_of_rows look (note_rows (map text notes) ++ BlankRow ∷ []) ≡ stream_of_notes notes ++ newline
-  notes-blank notes = flat_map-append (ended look) (note_rows (map text notes)) (BlankRow ∷ []) ∙ ap (λ (s : Stream). stream_of_notes notes ++ s) (append-nil newline)
+  pub notes-blank : (notes : List N) → stream_of_rows context (note_rows (map text notes) ++ BlankRow ∷ []) ≡ stream_of_notes notes ++ newline
+  notes-blank notes = flat_map-append (ended context) (note_rows (map text notes)) (BlankRow ∷ []) ∙ ap (λ (s : Stream). stream_of_notes notes ++ s) (append-nil newline)

@@ -5,19 +5,19 @@ use Rattle.codespan_base.specs.declared.term.config.DisplayStyle.TheVariants.{Ri
 use Rattle.codespan_base.specs.declared.diagnostic.Diagnostic.{Diagnostic}
 use Rattle.codespan_picture.specs.Picture.{AreLoci, IsLocus, NamesAreTexts, files_of, label_start, labels_of, snippet_start}
 use Rattle.codespan_picture.specs.Rows.{Locus}
-use Rattle.codespan_picture.specs.Snippets.{InFile, LabelledFile, primary_of}
+use Rattle.codespan_picture.specs.Snippets.{InFile, LabeledFileModel, primary_of}
 use Rattle.codespan_laws.proofs.Loci.{zip_map, zip_texts, zip_weaker}
 use Rattle.codespan_reporting.specs.Inner.TextLoci.{IsLocusOfFile, IsLocusOfLabel}
 use Rattle.codespan_base.specs.FileModel.{FileDatabase}
 
 module _ {Id : Type 0} (files : FileDatabase Id) (d : Diagnostic Id) (loci : List Locus) where
   -- the files
-  abbrev own : List LabelledFile
+  abbrev own : List LabeledFileModel
   own = files_of files d
 
   -- the labels that have headers
-  abbrev causes : List (InFile Id)
-  causes = primary_of (labels_of d)
+  abbrev primary_labels : List (InFile Id)
+  primary_labels = primary_of (labels_of d)
 
   -- those of the files' snippets are loci of a rich output
   pub file_loci : AllZip IsLocusOfFile own loci → AreLoci files d Rich loci
@@ -30,11 +30,11 @@ module _ {Id : Type 0} (files : FileDatabase Id) (d : Diagnostic Id) (loci : Lis
   file_texts are = zip_texts IsLocusOfFile (λ s p h. h.is_text) own loci are
 
   -- those of the labels' headers are loci of a short output
-  pub label_loci : AllZip (IsLocusOfLabel files.file) causes loci → AreLoci files d Short loci
+  pub label_loci : AllZip (IsLocusOfLabel files.file) primary_labels loci → AreLoci files d Short loci
   label_loci are =
-      zip_map IsLocus (label_start files.file) causes loci
-      (zip_weaker (IsLocusOfLabel files.file) (λ x p. IsLocus (label_start files.file x) p) (λ x p h. h.is_locus) causes loci are)
+      zip_map IsLocus (label_start files.file) primary_labels loci
+      (zip_weaker (IsLocusOfLabel files.file) (λ x p. IsLocus (label_start files.file x) p) (λ x p h. h.is_locus) primary_labels loci are)
 
   -- and their names are UTF-8
-  pub label_texts : AllZip (IsLocusOfLabel files.file) causes loci → NamesAreTexts loci
-  label_texts are = zip_texts (IsLocusOfLabel files.file) (λ x p h. h.is_text) causes loci are
+  pub label_texts : AllZip (IsLocusOfLabel files.file) primary_labels loci → NamesAreTexts loci
+  label_texts are = zip_texts (IsLocusOfLabel files.file) (λ x p h. h.is_text) primary_labels loci are

@@ -9,17 +9,17 @@ use Rattle.codespan_base.specs.declared.term.config.Config.{Config}
 use Rattle.codespan_base.specs.declared.files.Error.{Error}
 use Rattle.codespan_base.specs.FileModel.{FileDatabase, Lookup, or_failure}
 use Rattle.codespan_base.specs.Streams.{Stream}
-use Rattle.codespan_base.specs.WriterLaw.{Sends, Sink}
+use Rattle.codespan_base.specs.WriterLaw.{Writes, Sink}
 use Rattle.codespan_base.specs.Errors.{IsIo}
 use Rattle.codespan_reporting.specs.Inner.LookupsOnTheWay.{WroteStream, WritesWithLookups}
 use Rattle.codespan_picture.specs.Snippets.{row_after, snippet, snippets}
-use Rattle.codespan_picture.specs.Lookups.{asked_of, first_error, late_lookups, snippet_lookups}
-use Rattle.codespan_picture.specs.Picture.{labels_of, look_of, notes_of}
-use Rattle.codespan_picture.specs.Rows.{EmptyRow, Look, Locus, Row, StartRow}
+use Rattle.codespan_picture.specs.Lookups.{lookups_of_file, first_error, late_lookups, snippet_lookups}
+use Rattle.codespan_picture.specs.Picture.{labels_of, context_of, notes_of}
+use Rattle.codespan_picture.specs.Rows.{EmptyRow, RowContext, Locus, Row, StartRow}
 use Rattle.codespan_picture.specs.RowStreams.{stream_of_rows}
-use Rattle.codespan_picture.specs.Snippets.{InFile, LabelledFile, bare_lanes, has_any, labelled_file, labelled_files}
+use Rattle.codespan_picture.specs.Snippets.{InFile, LabeledFileModel, empty_lanes, has_any, labeled_file_model, labeled_file_models}
 use Rattle.codespan_base.specs.FileModel.Lookup.{Source}
-use Rattle.codespan_picture.specs.Given.{locus_view}
+use Rattle.codespan_picture.specs.Arguments.{locus_view}
 use Rattle.codespan_reporting.specs.Inner.OutputPlans.{AreSnippetPlans, IsOutputPlan, IsSnippetPlan, ids_of, loci_of}
 use Rattle.codespan_reporting.specs.Inner.SnippetRows.{end_rows, lookups_with, rows_in}
 use Rattle.codespan_reporting.specs.Inner.SnippetLineViews.{line_view}
@@ -29,10 +29,10 @@ use Rattle.codespan_reporting.specs.declared.term.views.rich.RichDiagnostic.{Ric
 use Rattle.codespan_reporting.specs.declared.term.views.plan.OutputPlan.{OutputPlan}
 use Rattle.codespan_reporting.specs.declared.term.views.plan.snippet_plans.SnippetPlan.{SnippetPlan}
 use Rattle.codespan_reporting.specs.declared.term.views.plan.snippet_lines.SnippetLine.{SnippetLine as RustLine}
-use Rattle.codespan_reporting.proofs.LookupRuns.{IsAsking, asking_as, asking_cut, asking_nothing, asking_of_sends, asking_then, first_error-append, or_failure-none}
+use Rattle.codespan_reporting.proofs.LookupRuns.{IsLookupRun, run_as, run_cut, run_of_nothing, run_of_writes, run_then, first_error-append, or_failure-none}
 use Rattle.codespan_reporting.proofs.FileParts.{next_part}
-use Rattle.codespan_reporting.proofs.LabelIndexing.{StandsAt}
-use Rattle.codespan_reporting.proofs.SnippetParts.{rows-two, sends_at}
+use Rattle.codespan_reporting.proofs.LabelIndexing.{IsElementAt}
+use Rattle.codespan_reporting.proofs.SnippetParts.{rows-two, write_at}
 
 -- the elements from one on: that one, and those after it
 pub drop-one : {X : Type 0} (xs : List X) (k : ℕ) (x : X) → k < length xs → x ≡ get_or xs k x → drop k xs ≡ x ∷ drop (k + 1) xs
@@ -72,7 +72,7 @@ followed-at has_notes xs k =
 ids-count : {Id : Type 0} (files : List (SnippetPlan Id)) → length (ids_of files) ≡ length files
 ids-count {Id} files = length-map files (λ (g : SnippetPlan Id). g.file.now.id)
 
-module _ {Id : Type 0} {files : List (SnippetPlan Id)} {k : ℕ} {f : SnippetPlan Id} (at : StandsAt files k f) where
+module _ {Id : Type 0} {files : List (SnippetPlan Id)} {k : ℕ} {f : SnippetPlan Id} (at : IsElementAt files k f) where
   -- its id and its locus are at the same index
   id-inside : k < length (ids_of files)
   id-inside = omega (arith, at.inside, ids-count files)
@@ -91,7 +91,7 @@ module _ {Id : Type 0} (table : FileDatabase Id) (config : Config) (xs : List (I
   -- of the files after it
   abbrev pub IsFirstFile : List (SnippetPlan Id) → SnippetPlan Id → List (RustLine Id) → Type 0
   IsFirstFile later f snippet_lines =
-      IsSnippetPlan config (labelled_file table.same table.file xs f.file.now.id) f (take f.line_total snippet_lines) × AreSnippetPlans table config xs later (drop f.line_total snippet_lines)
+      IsSnippetPlan config (labeled_file_model table.same table.file xs f.file.now.id) f (take f.line_total snippet_lines) × AreSnippetPlans table config xs later (drop f.line_total snippet_lines)
 
   -- the files from an index on are those of their labels, with the snippet lines from an index on
   pub record AreFilesFrom (files : List (SnippetPlan Id)) (k : ℕ) (snippet_lines : List (RustLine Id)) (start : ℕ) : Type 0 where
@@ -99,7 +99,7 @@ module _ {Id : Type 0} (table : FileDatabase Id) (config : Config) (xs : List (I
     pub are : AreSnippetPlans table config xs (drop k files) (drop start snippet_lines)
 
 module _ {Id : Type 0} {table : FileDatabase Id} {config : Config} {xs : List (InFile Id)} {files : List (SnippetPlan Id)} {k : ℕ} {f : SnippetPlan Id} {snippet_lines : List (RustLine Id)} {start : ℕ}
-    (at : StandsAt files k f) (from : AreFilesFrom table config xs files k snippet_lines start) where
+    (at : IsElementAt files k f) (from : AreFilesFrom table config xs files k snippet_lines start) where
   -- from the file at an index on they are that file, and those after it
   files-at : IsFirstFile table config xs (drop (k + 1) files) f (drop start snippet_lines)
   files-at = subst (λ (fs : List (SnippetPlan Id)). AreSnippetPlans table config xs fs (drop start snippet_lines)) (drop-one files k f at.inside at.is) from.are
@@ -112,9 +112,9 @@ module _ {Id : Type 0} {table : FileDatabase Id} {config : Config} {xs : List (I
       omega (arith, count, inside, length-take f.line_total (drop start snippet_lines), length-drop start snippet_lines)
 
   -- it is the file of its labels, with these snippet lines
-  pub own-snippet_lines : {zs : List (RustLine Id)} → zs ≡ snippet_lines → IsSnippetPlan config (labelled_file table.same table.file xs f.file.now.id) f (next_part zs start f.line_total)
+  pub own-snippet_lines : {zs : List (RustLine Id)} → zs ≡ snippet_lines → IsSnippetPlan config (labeled_file_model table.same table.file xs f.file.now.id) f (next_part zs start f.line_total)
   own-snippet_lines same =
-      subst₂ (λ n (ss : List (RustLine Id)). IsSnippetPlan config (labelled_file table.same table.file xs f.file.now.id) f (take n (drop start ss)))
+      subst₂ (λ n (ss : List (RustLine Id)). IsSnippetPlan config (labeled_file_model table.same table.file xs f.file.now.id) f (take n (drop start ss)))
       (sym (add-sub_cancel_left start f.line_total)) (sym same) files-at.0
 
   -- the later files are those of their labels, with the snippet lines after these
@@ -124,24 +124,24 @@ module _ {Id : Type 0} {table : FileDatabase Id} {config : Config} {xs : List (I
     are = subst (AreSnippetPlans table config xs (drop (k + 1) files)) (drop-drop f.line_total start snippet_lines) files-at.1;
   }
 
-module _ {Id : Type 0} {config : Config} {own : LabelledFile} {f : SnippetPlan Id} {snippet_lines : List (RustLine Id)} (is : IsSnippetPlan config own f snippet_lines) where
+module _ {Id : Type 0} {config : Config} {own : LabeledFileModel} {f : SnippetPlan Id} {snippet_lines : List (RustLine Id)} (is : IsSnippetPlan config own f snippet_lines) where
   -- its rows
   rows-are : (followed : Bool) → rows_in f own.file snippet_lines ++ end_rows f followed ≡ snippet config (locus_view f.locus) own ++ row_after followed own
   rows-are followed =
       (λ i. (StartRow (locus_view f.locus) ∷ EmptyRow (record { count = is.lanes_are i; marks = [] }) ∷ []) ++ rows_of_lines own.file (is.lanes_are i) (map line_view snippet_lines)
       ++ (if followed then EmptyRow (record { count = is.lanes_are i; marks = [] }) ∷ [] else []))
-      ∙ ap (λ (r : List Row). (StartRow (locus_view f.locus) ∷ EmptyRow (bare_lanes own) ∷ []) ++ r ++ (if followed then EmptyRow (bare_lanes own) ∷ [] else [])) is.rows
+      ∙ ap (λ (r : List Row). (StartRow (locus_view f.locus) ∷ EmptyRow (empty_lanes own) ∷ []) ++ r ++ (if followed then EmptyRow (empty_lanes own) ∷ [] else [])) is.rows
 
 -- ---- the files from an index on
 
 module _ {Id : Type 0} (table : FileDatabase Id) (view : RichDiagnostic Id) where
   -- a file with its labels
-  abbrev pub labeled : Id → LabelledFile
-  labeled = labelled_file table.same table.file (labels_of (diagnostic_of view))
+  abbrev pub labeled : Id → LabeledFileModel
+  labeled = labeled_file_model table.same table.file (labels_of (diagnostic_of view))
 
   -- the lookups with a file's snippet
-  abbrev pub snippet_asked : Id → List (Id × Lookup)
-  snippet_asked = λ id. asked_of id (snippet_lookups table (labels_of (diagnostic_of view)) (view_config_of view) id)
+  abbrev pub snippet_lookups_of : Id → List (Id × Lookup)
+  snippet_lookups_of = λ id. lookups_of_file id (snippet_lookups table (labels_of (diagnostic_of view)) (view_config_of view) id)
 
   module _ (output_plan : OutputPlan Id) where
     -- the rows of the files from an index on
@@ -149,32 +149,32 @@ module _ {Id : Type 0} (table : FileDatabase Id) (view : RichDiagnostic Id) wher
     rows_left k = snippets (view_config_of view) (has_any (notes_of (diagnostic_of view))) (drop k (loci_of output_plan.files.items)) (map labeled (drop k (ids_of output_plan.files.items)))
 
     -- their lookups
-    abbrev pub asked_left : ℕ → List (Id × Lookup)
-    asked_left k = flat_map snippet_asked (drop k (ids_of output_plan.files.items))
+    abbrev pub lookups_left : ℕ → List (Id × Lookup)
+    lookups_left k = flat_map snippet_lookups_of (drop k (ids_of output_plan.files.items))
 
     -- the files before this index are rendered, and all lookups with them succeeded
     pub record SnippetsLeft (renderer : Config) (k : ℕ) (old now : Sink) : Type 0 where
       pub rows : List Row
-      pub drawn : IsAsking None old (stream_of_rows (look_of renderer (diagnostic_of view).severity output_plan.padding) rows) (Ok tt) now
+      pub rendered : IsLookupRun None old (stream_of_rows (context_of renderer (diagnostic_of view).severity output_plan.padding) rows) (Ok tt) now
       pub rows_whole : rows ++ rows_left k ≡ rows_left 0
-      pub asked : List (Id × Lookup)
-      pub answered : first_error table.failure asked ≡ None
-      pub asked_whole : asked ++ asked_left k ≡ asked_left 0
+      pub lookups : List (Id × Lookup)
+      pub succeeded : first_error table.failure lookups ≡ None
+      pub lookups_whole : lookups ++ lookups_left k ≡ lookups_left 0
 
 -- no file is rendered
 pub left-start : {Id : Type 0} {table : FileDatabase Id} {view : RichDiagnostic Id} {renderer : Config} {output_plan : OutputPlan Id} {s : Sink}
     → SnippetsLeft table view output_plan renderer 0 s s
-left-start = record { rows = []; drawn = asking_nothing; rows_whole = refl; asked = []; answered = refl; asked_whole = refl }
+left-start = record { rows = []; rendered = run_of_nothing; rows_whole = refl; lookups = []; succeeded = refl; lookups_whole = refl }
 
 module _ {Id : Type 0} {table : FileDatabase Id} {view : RichDiagnostic Id} {renderer : Config} {output_plan : OutputPlan Id} {k : ℕ} {old mid : Sink}
-    (prepared : IsOutputPlan table (view_config_of view) (labels_of (diagnostic_of view)) output_plan) (left : SnippetsLeft table view output_plan renderer k old mid) where
+    (planned : IsOutputPlan table (view_config_of view) (labels_of (diagnostic_of view)) output_plan) (left : SnippetsLeft table view output_plan renderer k old mid) where
   -- what all rows share, in a configuration
-  abbrev look_by : Config → Look
-  look_by config = look_of config (diagnostic_of view).severity output_plan.padding
+  abbrev context_by : Config → RowContext
+  context_by config = context_of config (diagnostic_of view).severity output_plan.padding
 
   -- what all of them do
-  abbrev look : Look
-  look = look_by renderer
+  abbrev context : RowContext
+  context = context_by renderer
 
   -- whether there are notes after the snippets
   abbrev has_notes : Bool
@@ -184,23 +184,23 @@ module _ {Id : Type 0} {table : FileDatabase Id} {view : RichDiagnostic Id} {ren
   abbrev ids : List Id
   ids = ids_of output_plan.files.items
 
-  abbrev places : List Locus
-  places = loci_of output_plan.files.items
+  abbrev loci : List Locus
+  loci = loci_of output_plan.files.items
 
   -- the rows of these files, whose snippets have these loci
-  abbrev drawn_at : List Locus → List Id → List Row
-  drawn_at ps js = snippets (view_config_of view) has_notes ps (map (labeled table view) js)
+  abbrev rows_at : List Locus → List Id → List Row
+  rows_at ps js = snippets (view_config_of view) has_notes ps (map (labeled table view) js)
 
   -- the rows of the files from an index on, and their lookups
   abbrev rest : ℕ → List Row
   rest = rows_left table view output_plan
 
-  abbrev asks : ℕ → List (Id × Lookup)
-  asks = asked_left table view output_plan
+  abbrev lookups_from : ℕ → List (Id × Lookup)
+  lookups_from = lookups_left table view output_plan
 
   -- the rows of all files
   abbrev all_rows : List Row
-  all_rows = snippets (view_config_of view) has_notes places (labelled_files table.same table.file (labels_of (diagnostic_of view)))
+  all_rows = snippets (view_config_of view) has_notes loci (labeled_file_models table.same table.file (labels_of (diagnostic_of view)))
 
   -- what all their lookups fail with
   abbrev all_failure : Option Error
@@ -208,30 +208,30 @@ module _ {Id : Type 0} {table : FileDatabase Id} {view : RichDiagnostic Id} {ren
 
   -- from the first index on these are all of them
   rows-all : rest 0 ≡ all_rows
-  rows-all = ap (drawn_at places) prepared.ids_are
+  rows-all = ap (rows_at loci) planned.ids_are
 
-  failure-all : first_error table.failure (asks 0) ≡ all_failure
-  failure-all = ap (λ js. first_error table.failure (flat_map (snippet_asked table view) js)) prepared.ids_are
+  failure-all : first_error table.failure (lookups_from 0) ≡ all_failure
+  failure-all = ap (λ js. first_error table.failure (flat_map (snippet_lookups_of table view) js)) planned.ids_are
 
   -- all files are rendered
-  pub left-end : {gs : List (SnippetPlan Id)} → gs ≡ output_plan.files.items → length gs ≤ k → WritesWithLookups all_failure old (stream_of_rows look all_rows) (Ok tt) mid
-  left-end alike past =
+  pub left-end : {gs : List (SnippetPlan Id)} → gs ≡ output_plan.files.items → length gs ≤ k → WritesWithLookups all_failure old (stream_of_rows context all_rows) (Ok tt) mid
+  left-end equal past =
       let none : drop k ids ≡ [] =
-      drop-end ids k (omega (arith, ids-count output_plan.files.items, subst (λ (hs : List (SnippetPlan Id)). length hs ≤ k) alike past)) in
+      drop-end ids k (omega (arith, ids-count output_plan.files.items, subst (λ (hs : List (SnippetPlan Id)). length hs ≤ k) equal past)) in
       subst₂ (λ (o : Option Error) (s : Stream). WritesWithLookups o old s (Ok tt) mid)
-      (sym left.answered ∙ ap (first_error table.failure) (sym (append-nil left.asked) ∙ ap (λ js. left.asked ++ flat_map (snippet_asked table view) js) (sym none) ∙ left.asked_whole) ∙ failure-all)
-      (ap (stream_of_rows look) (sym (append-nil left.rows) ∙ ap (λ r. left.rows ++ r) (sym (no-rows (drop k places)) ∙ ap (drawn_at (drop k places)) (sym none))
+      (sym left.succeeded ∙ ap (first_error table.failure) (sym (append-nil left.lookups) ∙ ap (λ js. left.lookups ++ flat_map (snippet_lookups_of table view) js) (sym none) ∙ left.lookups_whole) ∙ failure-all)
+      (ap (stream_of_rows context) (sym (append-nil left.rows) ∙ ap (λ r. left.rows ++ r) (sym (no-rows (drop k loci)) ∙ ap (rows_at (drop k loci)) (sym none))
       ∙ left.rows_whole ∙ rows-all))
-      left.drawn.draws
+      left.rendered.renders
     where
-      no-rows : (ps : List Locus) → drawn_at ps [] ≡ []
+      no-rows : (ps : List Locus) → rows_at ps [] ≡ []
       no-rows [] = refl
       no-rows (p ∷ ps) = refl
 
-  module _ {f : SnippetPlan Id} {snippet_lines : List (RustLine Id)} {notes : Bool} {count : ℕ} {now : Config} (at : StandsAt output_plan.files.items k f)
-      (is : IsSnippetPlan (view_config_of view) (labeled table view f.file.now.id) f snippet_lines) (notes_are : notes ≡ has_notes) (count_is : count ≡ length output_plan.files.items) (alike : now ≡ renderer) where
+  module _ {f : SnippetPlan Id} {snippet_lines : List (RustLine Id)} {notes : Bool} {count : ℕ} {now : Config} (at : IsElementAt output_plan.files.items k f)
+      (is : IsSnippetPlan (view_config_of view) (labeled table view f.file.now.id) f snippet_lines) (notes_are : notes ≡ has_notes) (count_is : count ≡ length output_plan.files.items) (equal : now ≡ renderer) where
     -- the file with its labels
-    abbrev own : LabelledFile
+    abbrev own : LabeledFileModel
     own = labeled table view f.file.now.id
 
     -- the rows of the file at the index
@@ -239,13 +239,13 @@ module _ {Id : Type 0} {table : FileDatabase Id} {view : RichDiagnostic Id} {ren
     rows_here = snippet (view_config_of view) (locus_view f.locus) own ++ row_after (has_any (drop (k + 1) ids) || has_notes) own
 
     -- its lookups
-    abbrev asked_here : List (Id × Lookup)
-    asked_here = snippet_asked table view f.file.now.id
+    abbrev lookups_here : List (Id × Lookup)
+    lookups_here = snippet_lookups_of table view f.file.now.id
 
     -- these rows come first among those that are left
     rows-next : rest k ≡ rows_here ++ rest (k + 1)
-    rows-next = ap (λ (ps : List Locus). drawn_at ps (drop k ids)) (drop-one places k (locus_view f.locus) (index-inside at) (index-at at))
-        ∙ ap (drawn_at (locus_view f.locus ∷ drop (k + 1) places)) (drop-one ids k f.file.now.id (id-inside at) (id-at at))
+    rows-next = ap (λ (ps : List Locus). rows_at ps (drop k ids)) (drop-one loci k (locus_view f.locus) (index-inside at) (index-at at))
+        ∙ ap (rows_at (locus_view f.locus ∷ drop (k + 1) loci)) (drop-one ids k f.file.now.id (id-inside at) (id-at at))
         ∙ ap (λ (b : Bool). (snippet (view_config_of view) (locus_view f.locus) own ++ row_after b own) ++ rest (k + 1)) (followed-mapped (drop (k + 1) ids))
       where
         followed-mapped : (js : List Id) → (has_any (map (labeled table view) js) || has_notes) ≡ (has_any js || has_notes)
@@ -253,8 +253,8 @@ module _ {Id : Type 0} {table : FileDatabase Id} {view : RichDiagnostic Id} {ren
         followed-mapped (j ∷ js) = refl
 
     -- and so do its lookups
-    asked-next : asks k ≡ asked_here ++ asks (k + 1)
-    asked-next = ap (flat_map (snippet_asked table view)) (drop-one ids k f.file.now.id (id-inside at) (id-at at))
+    lookups-next : lookups_from k ≡ lookups_here ++ lookups_from (k + 1)
+    lookups-next = ap (flat_map (snippet_lookups_of table view)) (drop-one ids k f.file.now.id (id-inside at) (id-at at))
 
     -- something follows the file
     abbrev follows : Bool
@@ -262,76 +262,76 @@ module _ {Id : Type 0} {table : FileDatabase Id} {view : RichDiagnostic Id} {ren
 
     -- the rows of its snippet, and the row after it
     abbrev snippet_stream : Stream
-    snippet_stream = stream_of_rows look (rows_in f (table.file f.file.now.id) snippet_lines)
+    snippet_stream = stream_of_rows context (rows_in f (table.file f.file.now.id) snippet_lines)
 
     abbrev end_stream : Stream
-    end_stream = stream_of_rows look (end_rows f follows)
+    end_stream = stream_of_rows context (end_rows f follows)
 
     -- its lookups, as its snippet lines make them
-    abbrev steps_failure : Option Error
-    steps_failure = first_error table.failure (asked_of f.file.now.id (lookups_with snippet_lines))
+    abbrev snippet_lines_failure : Option Error
+    snippet_lines_failure = first_error table.failure (lookups_of_file f.file.now.id (lookups_with snippet_lines))
 
     -- the snippet is rendered, by an equal configuration
-    snippet-here : {r : Result (Unit {0}) Error} {new : Sink} → WritesWithLookups steps_failure mid (stream_of_rows (look_by now) (rows_in f (table.file f.file.now.id) snippet_lines)) r new
-        → IsAsking steps_failure mid snippet_stream r new
-    snippet-here draws = asking_as refl (λ i. stream_of_rows (look_by (alike i)) (rows_in f (table.file f.file.now.id) snippet_lines)) (record { draws = draws })
+    snippet-here : {r : Result (Unit {0}) Error} {new : Sink} → WritesWithLookups snippet_lines_failure mid (stream_of_rows (context_by now) (rows_in f (table.file f.file.now.id) snippet_lines)) r new
+        → IsLookupRun snippet_lines_failure mid snippet_stream r new
+    snippet-here renders = run_as refl (λ i. stream_of_rows (context_by (equal i)) (rows_in f (table.file f.file.now.id) snippet_lines)) (record { renders = renders })
 
     -- both are the rows and the lookups at the index
-    drawn-here : {r : Result (Unit {0}) Error} {new : Sink} → IsAsking (or_failure steps_failure None) mid (snippet_stream ++ end_stream) r new
-        → IsAsking (first_error table.failure asked_here) mid (stream_of_rows look rows_here) r new
-    drawn-here both =
+    rendered-here : {r : Result (Unit {0}) Error} {new : Sink} → IsLookupRun (or_failure snippet_lines_failure None) mid (snippet_stream ++ end_stream) r new
+        → IsLookupRun (first_error table.failure lookups_here) mid (stream_of_rows context rows_here) r new
+    rendered-here both =
         let followed : follows ≡ (has_any (drop (k + 1) ids) || has_notes) =
         (λ i. notes_are i || nat_lt (k + 1) ((count_is ∙ sym (ids-count output_plan.files.items)) i)) ∙ sym (followed-at has_notes ids k) in
-        asking_as (or_failure-none steps_failure ∙ ap (λ (ls : List Lookup). first_error table.failure (asked_of f.file.now.id (Source ∷ ls))) is.asked)
-        (sym (rows-two look (rows_in f (table.file f.file.now.id) snippet_lines) (end_rows f follows))
-        ∙ ap (stream_of_rows look) (rows-are is follows)
-        ∙ ap (λ (b : Bool). stream_of_rows look (snippet (view_config_of view) (locus_view f.locus) own ++ row_after b own)) followed)
+        run_as (or_failure-none snippet_lines_failure ∙ ap (λ (ls : List Lookup). first_error table.failure (lookups_of_file f.file.now.id (Source ∷ ls))) is.lookups)
+        (sym (rows-two context (rows_in f (table.file f.file.now.id) snippet_lines) (end_rows f follows))
+        ∙ ap (stream_of_rows context) (rows-are is follows)
+        ∙ ap (λ (b : Bool). stream_of_rows context (snippet (view_config_of view) (locus_view f.locus) own ++ row_after b own)) followed)
         both
 
     -- the file is rendered
-    left-next : {new : Sink} → IsAsking (first_error table.failure asked_here) mid (stream_of_rows look rows_here) (Ok tt) new → SnippetsLeft table view output_plan renderer (k + 1) old new
-    left-next drawn =
+    left-next : {new : Sink} → IsLookupRun (first_error table.failure lookups_here) mid (stream_of_rows context rows_here) (Ok tt) new → SnippetsLeft table view output_plan renderer (k + 1) old new
+    left-next rendered =
         record {
           rows = left.rows ++ rows_here;
-          drawn = asking_as drawn.draws.0 (sym (rows-two look left.rows rows_here)) (asking_then left.drawn drawn);
+          rendered = run_as rendered.renders.0 (sym (rows-two context left.rows rows_here)) (run_then left.rendered rendered);
           rows_whole = append_assoc left.rows rows_here (rest (k + 1)) ∙ ap (λ (r : List Row). left.rows ++ r) (sym rows-next) ∙ left.rows_whole;
-          asked = left.asked ++ asked_here;
-          answered = first_error-append table.failure left.asked asked_here ∙ ap (λ (o : Option Error). or_failure o (first_error table.failure asked_here)) left.answered ∙ drawn.draws.0;
-          asked_whole = append_assoc left.asked asked_here (asks (k + 1)) ∙ ap (λ (ls : List (Id × Lookup)). left.asked ++ ls) (sym asked-next) ∙ left.asked_whole;
+          lookups = left.lookups ++ lookups_here;
+          succeeded = first_error-append table.failure left.lookups lookups_here ∙ ap (λ (o : Option Error). or_failure o (first_error table.failure lookups_here)) left.succeeded ∙ rendered.renders.0;
+          lookups_whole = append_assoc left.lookups lookups_here (lookups_from (k + 1)) ∙ ap (λ (ls : List (Id × Lookup)). left.lookups ++ ls) (sym lookups-next) ∙ left.lookups_whole;
         }
 
     -- the file was cut short
-    left-cut : {new : Sink} {e : Error} → IsAsking (first_error table.failure asked_here) mid (stream_of_rows look rows_here) (Err e) new
-        → WritesWithLookups all_failure old (stream_of_rows look all_rows) (Err e) new
-    left-cut drawn =
-        let here = first_error table.failure asked_here in
-        let after = first_error table.failure (asks (k + 1)) in
-        (asking_as
-        (sym (ap (λ (o : Option Error). or_failure o (or_failure here after)) left.answered)
-        ∙ ap (or_failure (first_error table.failure left.asked)) (sym (first_error-append table.failure asked_here (asks (k + 1))) ∙ ap (first_error table.failure) (sym asked-next))
-        ∙ sym (first_error-append table.failure left.asked (asks k)) ∙ ap (first_error table.failure) left.asked_whole ∙ failure-all)
-        (ap (λ (s : Stream). stream_of_rows look left.rows ++ s) (sym (rows-two look rows_here (rest (k + 1))) ∙ ap (stream_of_rows look) (sym rows-next))
-        ∙ sym (rows-two look left.rows (rest k)) ∙ ap (stream_of_rows look) (left.rows_whole ∙ rows-all))
-        (asking_then left.drawn (asking_cut after (stream_of_rows look (rest (k + 1))) drawn))).draws
+    left-cut : {new : Sink} {e : Error} → IsLookupRun (first_error table.failure lookups_here) mid (stream_of_rows context rows_here) (Err e) new
+        → WritesWithLookups all_failure old (stream_of_rows context all_rows) (Err e) new
+    left-cut rendered =
+        let here = first_error table.failure lookups_here in
+        let after = first_error table.failure (lookups_from (k + 1)) in
+        (run_as
+        (sym (ap (λ (o : Option Error). or_failure o (or_failure here after)) left.succeeded)
+        ∙ ap (or_failure (first_error table.failure left.lookups)) (sym (first_error-append table.failure lookups_here (lookups_from (k + 1))) ∙ ap (first_error table.failure) (sym lookups-next))
+        ∙ sym (first_error-append table.failure left.lookups (lookups_from k)) ∙ ap (first_error table.failure) left.lookups_whole ∙ failure-all)
+        (ap (λ (s : Stream). stream_of_rows context left.rows ++ s) (sym (rows-two context rows_here (rest (k + 1))) ∙ ap (stream_of_rows context) (sym rows-next))
+        ∙ sym (rows-two context left.rows (rest k)) ∙ ap (stream_of_rows context) (left.rows_whole ∙ rows-all))
+        (run_then left.rendered (run_cut after (stream_of_rows context (rest (k + 1))) rendered))).renders
 
     -- the snippet was cut short
-    pub cut-in_snippet : {new : Sink} {e : Error} → WritesWithLookups steps_failure mid (stream_of_rows (look_by now) (rows_in f (table.file f.file.now.id) snippet_lines)) (Err e) new
-        → WritesWithLookups all_failure old (stream_of_rows look all_rows) (Err e) new
-    cut-in_snippet draws = left-cut (drawn-here (asking_cut None end_stream (snippet-here draws)))
+    pub cut-in_snippet : {new : Sink} {e : Error} → WritesWithLookups snippet_lines_failure mid (stream_of_rows (context_by now) (rows_in f (table.file f.file.now.id) snippet_lines)) (Err e) new
+        → WritesWithLookups all_failure old (stream_of_rows context all_rows) (Err e) new
+    cut-in_snippet renders = left-cut (rendered-here (run_cut None end_stream (snippet-here renders)))
 
-    module _ {inner : Sink} (draws : WritesWithLookups steps_failure mid (stream_of_rows (look_by now) (rows_in f (table.file f.file.now.id) snippet_lines)) (Ok tt) inner)
-        {after : Config} (alike_after : after ≡ now) where
+    module _ {inner : Sink} (renders : WritesWithLookups snippet_lines_failure mid (stream_of_rows (context_by now) (rows_in f (table.file f.file.now.id) snippet_lines)) (Ok tt) inner)
+        {after : Config} (equal_after : after ≡ now) where
       -- then the row after it was rendered, by an equal configuration, however that ends
-      end-here : {r : Result (Unit {0}) Error} {new : Sink} → Sends inner (stream_of_rows (look_by after) (end_rows f follows)) r new → IfErr r IsIo
-          → IsAsking (first_error table.failure asked_here) mid (stream_of_rows look rows_here) r new
-      end-here {r} {new} sends io =
-          drawn-here (asking_then (snippet-here draws) (asking_of_sends r (sends_at (λ (c : Config). stream_of_rows (look_by c) (end_rows f follows)) (alike_after ∙ alike) inner new r sends) io))
+      end-here : {r : Result (Unit {0}) Error} {new : Sink} → Writes inner (stream_of_rows (context_by after) (end_rows f follows)) r new → IfErr r IsIo
+          → IsLookupRun (first_error table.failure lookups_here) mid (stream_of_rows context rows_here) r new
+      end-here {r} {new} writes io =
+          rendered-here (run_then (snippet-here renders) (run_of_writes r (write_at (λ (c : Config). stream_of_rows (context_by c) (end_rows f follows)) (equal_after ∙ equal) inner new r writes) io))
 
       -- it was written
-      pub next-file : {new : Sink} → WroteStream inner (stream_of_rows (look_by after) (end_rows f follows)) new → SnippetsLeft table view output_plan renderer (k + 1) old new
-      next-file came = left-next (end-here came tt)
+      pub next-file : {new : Sink} → WroteStream inner (stream_of_rows (context_by after) (end_rows f follows)) new → SnippetsLeft table view output_plan renderer (k + 1) old new
+      next-file written = left-next (end-here written tt)
 
       -- it was cut short
-      pub cut-after_snippet : {new : Sink} {e : Error} → Sends inner (stream_of_rows (look_by after) (end_rows f follows)) (Err e) new → IsIo e
-          → WritesWithLookups all_failure old (stream_of_rows look all_rows) (Err e) new
-      cut-after_snippet sends io = left-cut (end-here sends io)
+      pub cut-after_snippet : {new : Sink} {e : Error} → Writes inner (stream_of_rows (context_by after) (end_rows f follows)) (Err e) new → IsIo e
+          → WritesWithLookups all_failure old (stream_of_rows context all_rows) (Err e) new
+      cut-after_snippet writes io = left-cut (end-here writes io)

@@ -23,12 +23,12 @@ pub collected-in_order : {Id : Type 0} {table : FileDatabase Id} {config : Confi
     → IsPermutation was.annotations.items annotations.items → IsSortedBy is_below (map annotation_view annotations.items) → IsCollected table config xs (record was { annotations = annotations })
 collected-in_order {Id} {table} {config} {xs} {was} annotations g perm up =
     let of_files = IsOfFiles table.file (ids_view was.files.items) in
-    let say = all_annotations table.same table.file config xs in
+    let of_all_labels = all_annotations table.same table.file config xs in
     record {
-      files = record { ids_are = g.files.ids_are; told = g.files.told; padding_is = g.files.padding_is };
+      files = record { ids_are = g.files.ids_are; labels_are = g.files.labels_are; padding_is = g.files.padding_is };
       sorted = up;
-      permutation = collected-sorted say was.annotations.items annotations.items (collected-kind of_files was.annotations.items say g.adds) perm;
-      lines = collected-each of_files was.annotations.items annotations.items say g.adds perm;
+      permutation = collected-sorted of_all_labels was.annotations.items annotations.items (collected-kind of_files was.annotations.items of_all_labels g.adds) perm;
+      lines = collected-each of_files was.annotations.items annotations.items of_all_labels g.adds perm;
     }
 
 module _ {Id : Type 0} (table : FileDatabase Id) (config : Config) (xs : List (InFile Id)) where
@@ -48,8 +48,8 @@ module _ {Id : Type 0} (table : FileDatabase Id) (config : Config) (xs : List (I
 
   -- a lookup of a label fails
   pub labels-failed : (e : Error) → labels_failure config table xs ≡ Some e → failed early ≡ Some e
-  labels-failed e told = early-is ∙ ap (λ (o : Option Error). or_failure o (output_plan_failure config table xs)) told
+  labels-failed e known = early-is ∙ ap (λ (o : Option Error). or_failure o (output_plan_failure config table xs)) known
 
   -- the labels' lookups succeed, and the files' decide the rest
-  pub labels-answered : labels_failure config table xs ≡ None → failed early ≡ output_plan_failure config table xs
-  labels-answered answered = early-is ∙ ap (λ (o : Option Error). or_failure o (output_plan_failure config table xs)) answered
+  pub labels-succeeded : labels_failure config table xs ≡ None → failed early ≡ output_plan_failure config table xs
+  labels-succeeded succeeded = early-is ∙ ap (λ (o : Option Error). or_failure o (output_plan_failure config table xs)) succeeded

@@ -13,7 +13,7 @@ use Rattle.codespan_base.specs.declared.files.Error.{Error}
 use Rattle.codespan_base.specs.declared.files.Error.TheVariants.{FormatError, OutOfMemory}
 use Rattle.codespan_base.specs.declared.term.config.Layout.{Layout}
 use Rattle.codespan_base.specs.FileModel.{FileModel, Lookup, or_failure}
-use Rattle.codespan_picture.specs.Lookups.{Failures, asked_of, first_error}
+use Rattle.codespan_picture.specs.Lookups.{Failures, lookups_of_file, first_error}
 use Rattle.codespan_reporting.specs.Inner.FileLookups.{FailsByOrFormat}
 use Rattle.codespan_reporting.specs.declared.term.views.annotation.Annotation.{Annotation as RustAnnotation}
 use Rattle.codespan_reporting.specs.declared.term.views.collect.labeled_files.LabeledFile.{LabeledFile as RustFile}
@@ -27,40 +27,40 @@ use Rattle.codespan_reporting.specs.Inner.Loci.{locus_lookups_of, loci_lookups}
 use Rattle.codespan_reporting.specs.Inner.IndexedLabels.{IsIdAt}
 use Rattle.codespan_reporting.specs.Inner.SnippetPlans.{ArePlans, IsPlan, by_index, number_lookups, lines_at}
 use Rattle.codespan_reporting.specs.Inner.SnippetLines.{SnippetLine, fills_of, lines_of}
-use Rattle.codespan_reporting.proofs.LookupRuns.{first_error-append, or_failure-answered, or_failure-none, or_failure-some}
+use Rattle.codespan_reporting.proofs.LookupRuns.{first_error-append, or_failure-succeeded, or_failure-none, or_failure-some}
 use Rattle.codespan_reporting.proofs.FileParts.{IsFilePart, from_file, next-file, next_part}
 use Rattle.codespan_reporting.proofs.FileIndices.{at-get}
-use Rattle.codespan_reporting.proofs.LabelIndexing.{StandsAt, take-at}
+use Rattle.codespan_reporting.proofs.LabelIndexing.{IsElementAt, take-at}
 use Rattle.codespan_reporting.proofs.Failures.{first_error-none, first_error-some}
 use Rattle.codespan_laws.proofs.SortedLists.{all-both, all-mapped, all-part, all-pass, all-weaker}
 
 -- ---- ids at their indices
 
 -- what ids have, one after the other
-by_index-append : {Id A : Type 0} (give : ℕ → Id → List A) (k : ℕ) (xs ys : List Id) → by_index give k (xs ++ ys) ≡ by_index give k xs ++ by_index give (k + length xs) ys
-by_index-append give k [] ys = let e : k ≡ k + 0 = omega arith in ap (λ n. by_index give n ys) e
-by_index-append {Id} {A} give k (x ∷ xs) ys =
+by_index-append : {Id A : Type 0} (image : ℕ → Id → List A) (k : ℕ) (xs ys : List Id) → by_index image k (xs ++ ys) ≡ by_index image k xs ++ by_index image (k + length xs) ys
+by_index-append image k [] ys = let e : k ≡ k + 0 = omega arith in ap (λ n. by_index image n ys) e
+by_index-append {Id} {A} image k (x ∷ xs) ys =
     let e : k + 1 + length xs ≡ k + suc (length xs) = omega arith in
-    ap (λ (r : List A). give k x ++ r) (by_index-append give (k + 1) xs ys ∙ ap (λ n. by_index give (k + 1) xs ++ by_index give n ys) e)
-    ∙ sym (append_assoc (give k x) (by_index give (k + 1) xs) (by_index give (k + suc (length xs)) ys))
+    ap (λ (r : List A). image k x ++ r) (by_index-append image (k + 1) xs ys ∙ ap (λ n. by_index image (k + 1) xs ++ by_index image n ys) e)
+    ∙ sym (append_assoc (image k x) (by_index image (k + 1) xs) (by_index image (k + suc (length xs)) ys))
 
 -- one more id
-by_index-more : {Id A : Type 0} (give : ℕ → Id → List A) (f : ℕ) (ids more : List Id) (id : Id) → length ids ≡ f → more ≡ ids ++ id ∷ []
-    → by_index give 0 more ≡ by_index give 0 ids ++ give f id
-by_index-more {Id} {A} give f ids more id len is =
+by_index-more : {Id A : Type 0} (image : ℕ → Id → List A) (f : ℕ) (ids more : List Id) (id : Id) → length ids ≡ f → more ≡ ids ++ id ∷ []
+    → by_index image 0 more ≡ by_index image 0 ids ++ image f id
+by_index-more {Id} {A} image f ids more id len is =
     let e : 0 + length ids ≡ f = omega (arith, len) in
-    ap (by_index give 0) is ∙ by_index-append give 0 ids (id ∷ [])
-    ∙ ap (λ (r : List A). by_index give 0 ids ++ r) (append-nil (give (0 + length ids) id) ∙ ap (λ n. give n id) e)
+    ap (by_index image 0) is ∙ by_index-append image 0 ids (id ∷ [])
+    ∙ ap (λ (r : List A). by_index image 0 ids ++ r) (append-nil (image (0 + length ids) id) ∙ ap (λ n. image n id) e)
 
 -- ids that have the same at their indices
-pub by_index-same : {Id A : Type 0} (give : ℕ → Id → List A) (each : Id → List A) (k : ℕ) (js : List Id) → ((i : ℕ) (id : Id) → IsIdAt js i id → give (k + i) id ≡ each id)
-    → by_index give k js ≡ flat_map each js
-by_index-same give each k [] same = refl
-by_index-same {Id} {A} give each k (j ∷ js) same =
+pub by_index-same : {Id A : Type 0} (image : ℕ → Id → List A) (each : Id → List A) (k : ℕ) (js : List Id) → ((i : ℕ) (id : Id) → IsIdAt js i id → image (k + i) id ≡ each id)
+    → by_index image k js ≡ flat_map each js
+by_index-same image each k [] same = refl
+by_index-same {Id} {A} image each k (j ∷ js) same =
     let none : k + 0 ≡ k = omega arith in
-    ap (λ (r : List A). r ++ by_index give (k + 1) js) (ap (λ n. give n j) (sym none) ∙ same 0 j refl)
+    ap (λ (r : List A). r ++ by_index image (k + 1) js) (ap (λ n. image n j) (sym none) ∙ same 0 j refl)
     ∙ ap (λ (r : List A). each j ++ r)
-    (by_index-same give each (k + 1) js (λ i id at. let e : k + 1 + i ≡ k + suc i = omega arith in ap (λ n. give n id) e ∙ same (suc i) id at))
+    (by_index-same image each (k + 1) js (λ i id at. let e : k + 1 + i ≡ k + suc i = omega arith in ap (λ n. image n id) e ∙ same (suc i) id at))
 
 module _ {Id : Type 0} (file : Id → FileModel) where
   -- a file's part of the annotations is of lines that the file has
@@ -77,23 +77,23 @@ module _ {Id : Type 0} (file : Id → FileModel) where
 
 -- a loop over the files is at one of them: the annotations from an index on are those of it and of
 -- later files, and its own are counted
-pub record IsTurn {Id : Type 0} (files : List (RustFile Id)) (xs : List (RustAnnotation Id)) (at n k : ℕ) (f : RustFile Id) : Type 0 where
+pub record IsAtFile {Id : Type 0} (files : List (RustFile Id)) (xs : List (RustAnnotation Id)) (at n k : ℕ) (f : RustFile Id) : Type 0 where
   pub up : IsSortedBy is_below (map annotation_view xs)
   pub inside : at ≤ length xs
   pub left : drop at (map annotation_view xs) ≡ from_file k (map annotation_view xs)
   pub counted : n ≡ prefix_len (λ e. is_of_file k (annotation_view e)) (take (length xs - at) (drop at xs))
   pub within : n ≤ length (take (length xs - at) (drop at xs))
-  pub here : StandsAt files k f
+  pub here : IsElementAt files k f
 
-module _ {Id : Type 0} {files : List (RustFile Id)} {xs : List (RustAnnotation Id)} {at n k : ℕ} {f : RustFile Id} (turn : IsTurn files xs at n k f) where
+module _ {Id : Type 0} {files : List (RustFile Id)} {xs : List (RustAnnotation Id)} {at n k : ℕ} {f : RustFile Id} (turn : IsAtFile files xs at n k f) where
   -- the file's part of the annotations
   own_part : IsFilePart xs at n k
   own_part = next-file xs at n k turn.up turn.inside turn.left turn.counted turn.within
 
   module _ {zs : List (RustAnnotation Id)} (same : zs ≡ xs) where
     -- it is the same in an equal list
-    own_entries : map annotation_view (next_part zs at n) ≡ filter (is_of_file k) (map annotation_view xs)
-    own_entries = ap (λ (es : List (RustAnnotation Id)). map annotation_view (next_part es at n)) same ∙ own_part.own
+    own_annotations : map annotation_view (next_part zs at n) ≡ filter (is_of_file k) (map annotation_view xs)
+    own_annotations = ap (λ (es : List (RustAnnotation Id)). map annotation_view (next_part es at n)) same ∙ own_part.own
 
     -- its lines are the file's
     pub own_lines : (file : Id → FileModel) → AllByRecursion (IsOfFiles file (ids_view files)) xs → All (λ e. IsLineOf (file f.id) e.line) (next_part zs at n)
@@ -103,16 +103,16 @@ module _ {Id : Type 0} {files : List (RustFile Id)} {xs : List (RustAnnotation I
         subst (IsIdAt (ids_view files) k) (get_or-map (λ (g : RustFile Id). g.id) files k f f.id inside ∙ ap (λ (g : RustFile Id). g.id) (sym turn.here.is))
         (at-get (ids_view files) k f.id (omega (arith, inside, length-map files (λ (g : RustFile Id). g.id)))) in
         All-from_recursion (λ e. IsLineOf (file f.id) e.line) (next_part zs at n)
-        (part-lines file (ids_view files) zs at (at + n - at) k f.id (map annotation_view xs) there (subst (AllByRecursion (IsOfFiles file (ids_view files))) (sym same) lines) own_entries)
+        (part-lines file (ids_view files) zs at (at + n - at) k f.id (map annotation_view xs) there (subst (AllByRecursion (IsOfFiles file (ids_view files))) (sym same) lines) own_annotations)
 
     -- so are its snippet lines
-    pub own_steps : lines_of (map annotation_view (next_part zs at n)) ≡ lines_at (map annotation_view xs) k
-    own_steps = ap lines_of own_entries
+    pub own_snippet_lines : lines_of (map annotation_view (next_part zs at n)) ≡ lines_at (map annotation_view xs) k
+    own_snippet_lines = ap lines_of own_annotations
 
     -- and what they look up
-    pub own_asked : (layout : Layout) (failure : Failures Id) → first_error failure (asked_of f.id (numbers_looked_up layout (fills_of (lines_of (map annotation_view (next_part zs at n))))))
-        ≡ first_error failure (asked_of f.id (numbers_looked_up layout (fills_of (lines_at (map annotation_view xs) k))))
-    own_asked layout failure = ap (λ snippet_lines. first_error failure (asked_of f.id (numbers_looked_up layout (fills_of snippet_lines)))) own_steps
+    pub own_lookups : (layout : Layout) (failure : Failures Id) → first_error failure (lookups_of_file f.id (numbers_looked_up layout (fills_of (lines_of (map annotation_view (next_part zs at n))))))
+        ≡ first_error failure (lookups_of_file f.id (numbers_looked_up layout (fills_of (lines_at (map annotation_view xs) k))))
+    own_lookups layout failure = ap (λ snippet_lines. first_error failure (lookups_of_file f.id (numbers_looked_up layout (fills_of snippet_lines)))) own_snippet_lines
 
   -- the next file's turn is after it
   pub next_inside : at + n ≤ length xs
@@ -158,35 +158,35 @@ module _ {Id : Type 0} {layout : Layout} {file : Id → FileModel} {es : List An
       )
 
 -- of two errors the first is kept
-first-kept : (o p : Option Error) (placed : Result (Unit {0}) Error) (e : Error) → FailsByOrFormat o placed → (e ≢ OutOfMemory → e ≢ FormatError → p ≡ Some e)
-    → FailsByOrFormat {T = Unit {0}} (or_failure o p) (result_and placed (Err e))
-first-kept o p (Ok x) e none told = λ memory display. or_failure-answered o p none ∙ told memory display
-first-kept o p (Err x) e kept told = λ memory display. or_failure-some o p x (kept memory display)
+first-located_fails : (o p : Option Error) (located : Result (Unit {0}) Error) (e : Error) → FailsByOrFormat o located → (e ≢ OutOfMemory → e ≢ FormatError → p ≡ Some e)
+    → FailsByOrFormat {T = Unit {0}} (or_failure o p) (result_and located (Err e))
+first-located_fails o p (Ok x) e none known = λ memory display. or_failure-succeeded o p none ∙ known memory display
+first-located_fails o p (Err x) e located_fails known = λ memory display. or_failure-some o p x (located_fails memory display)
 
 -- an error is kept
-some-kept : (placed : Result (Unit {0}) Error) (e : Error) (P : Unit {0} → Type 0) → IfOk (result_and placed (Err e)) P
-some-kept (Ok x) e P = tt
-some-kept (Err x) e P = tt
+some-located_fails : (located : Result (Unit {0}) Error) (e : Error) (P : Unit {0} → Type 0) → IfOk (result_and located (Err e)) P
+some-located_fails (Ok x) e P = tt
+some-located_fails (Err x) e P = tt
 
 module _ {Id : Type 0} (layout : Layout) (file : Id → FileModel) (es : List Annotation) (failure : Failures Id) where
   -- the numbers of these files have been looked up, the first error of their loci is kept, and
   -- where no locus fails these are their plans
-  pub record ArePlanned (files : List (RustFile Id)) (now : List (SnippetPlan Id)) (snippet_lines : List (RustLine Id)) (placed : Result (Unit {0}) Error) : Type 0 where
-    pub answered : first_error failure (number_lookups layout es (ids_view files)) ≡ None
-    pub kept : FailsByOrFormat (first_error failure (loci_lookups files)) placed
-    pub plans : IfOk placed (λ _. ArePlans layout file es 0 files now snippet_lines)
+  pub record ArePlanned (files : List (RustFile Id)) (now : List (SnippetPlan Id)) (snippet_lines : List (RustLine Id)) (located : Result (Unit {0}) Error) : Type 0 where
+    pub succeeded : first_error failure (number_lookups layout es (ids_view files)) ≡ None
+    pub located_fails : FailsByOrFormat (first_error failure (loci_lookups files)) located
+    pub plans : IfOk located (λ _. ArePlans layout file es 0 files now snippet_lines)
 
 module _ {Id : Type 0} {layout : Layout} {file : Id → FileModel} {es : List Annotation} {failure : Failures Id} {now : List (SnippetPlan Id)} {snippet_lines : List (RustLine Id)}
-    {placed : Result (Unit {0}) Error} where
+    {located : Result (Unit {0}) Error} where
   -- past the last file the lookups of all fail with what is kept
-  pub plans-add : (files : List (RustFile Id)) (k : ℕ) → length files ≤ k → ArePlanned layout file es failure (take k files) now snippet_lines placed
-      → FailsByOrFormat (first_error failure (number_lookups layout es (ids_view files) ++ loci_lookups files)) placed
+  pub plans-add : (files : List (RustFile Id)) (k : ℕ) → length files ≤ k → ArePlanned layout file es failure (take k files) now snippet_lines located
+      → FailsByOrFormat (first_error failure (number_lookups layout es (ids_view files) ++ loci_lookups files)) located
   plans-add files k past found =
-      let all = subst (λ (fs : List (RustFile Id)). ArePlanned layout file es failure fs now snippet_lines placed) (take_all k files past) found in
+      let all = subst (λ (fs : List (RustFile Id)). ArePlanned layout file es failure fs now snippet_lines located) (take_all k files past) found in
       let numbers = number_lookups layout es (ids_view files) in
-      subst (λ o. FailsByOrFormat o placed) (sym (first_error-none failure numbers (loci_lookups files) all.answered)) all.kept
+      subst (λ o. FailsByOrFormat o located) (sym (first_error-none failure numbers (loci_lookups files) all.succeeded)) all.located_fails
 
-module _ {Id : Type 0} {files : List (RustFile Id)} {k : ℕ} {f : RustFile Id} (here : StandsAt files k f) where
+module _ {Id : Type 0} {files : List (RustFile Id)} {k : ℕ} {f : RustFile Id} (here : IsElementAt files k f) where
   -- how many files are before this one
   files_before : length (take k files) ≡ k
   files_before = let inside = here.inside in length-take-le k files (omega (arith, inside))
@@ -196,27 +196,27 @@ module _ {Id : Type 0} {files : List (RustFile Id)} {k : ℕ} {f : RustFile Id} 
   ids-more = ap ids_view (take-at here) ∙ map-append (λ (g : RustFile Id). g.id) (take k files) (f ∷ [])
 
   -- the loci of these, and its own
-  places-more : loci_lookups (take (k + 1) files) ≡ loci_lookups (take k files) ++ locus_lookups_of f
-  places-more =
+  loci-more : loci_lookups (take (k + 1) files) ≡ loci_lookups (take k files) ++ locus_lookups_of f
+  loci-more =
       ap (λ (fs : List (RustFile Id)). loci_lookups fs) (take-at here) ∙ flat_map-append locus_lookups_of (take k files) (f ∷ [])
       ∙ ap (λ (ls : List (Id × Lookup)). loci_lookups (take k files) ++ ls) (append-nil (locus_lookups_of f))
 
   -- they fail with what those of these are, or its own
   index-fails : (failure : Failures Id)
       → first_error failure (loci_lookups (take (k + 1) files)) ≡ or_failure (first_error failure (loci_lookups (take k files))) (first_error failure (locus_lookups_of f))
-  index-fails failure = ap (first_error failure) places-more ∙ first_error-append failure (loci_lookups (take k files)) (locus_lookups_of f)
+  index-fails failure = ap (first_error failure) loci-more ∙ first_error-append failure (loci_lookups (take k files)) (locus_lookups_of f)
 
   module _ {layout : Layout} {file : Id → FileModel} {es : List Annotation} {failure : Failures Id} {now : List (SnippetPlan Id)} {snippet_lines : List (RustLine Id)}
-      {placed : Result (Unit {0}) Error} (before : ArePlanned layout file es failure (take k files) now snippet_lines placed) where
+      {located : Result (Unit {0}) Error} (before : ArePlanned layout file es failure (take k files) now snippet_lines located) where
     -- the lookups of the numbers of a file's lines
-    abbrev asked_at : ℕ → Id → List (Id × Lookup)
-    asked_at i id = asked_of id (numbers_looked_up layout (fills_of (lines_at es i)))
+    abbrev lookups_at : ℕ → Id → List (Id × Lookup)
+    lookups_at i id = lookups_of_file id (numbers_looked_up layout (fills_of (lines_at es i)))
 
     -- the lookups with this one's
-    asked-more : first_error failure (number_lookups layout es (ids_view (take (k + 1) files))) ≡ first_error failure (asked_at k f.id)
-    asked-more =
-        ap (first_error failure) (by_index-more asked_at k (ids_view (take k files)) (ids_view (take (k + 1) files)) f.id (length-map (take k files) _ ∙ files_before) ids-more)
-        ∙ first_error-none failure (number_lookups layout es (ids_view (take k files))) (asked_at k f.id) before.answered
+    lookups-more : first_error failure (number_lookups layout es (ids_view (take (k + 1) files))) ≡ first_error failure (lookups_at k f.id)
+    lookups-more =
+        ap (first_error failure) (by_index-more lookups_at k (ids_view (take k files)) (ids_view (take (k + 1) files)) f.id (length-map (take k files) _ ∙ files_before) ids-more)
+        ∙ first_error-none failure (number_lookups layout es (ids_view (take k files))) (lookups_at k f.id) before.succeeded
 
     -- the plans with this one
     plans-with : {new : List (SnippetPlan Id)} {plan : SnippetPlan Id} {all own : List (RustLine Id)} → new ≡ now ++ plan ∷ [] → all ≡ snippet_lines ++ own → IsPlan layout file es k f plan own
@@ -229,35 +229,35 @@ module _ {Id : Type 0} {files : List (RustFile Id)} {k : ℕ} {f : RustFile Id} 
 
     -- it is planned too
     pub planned-more : {new : List (SnippetPlan Id)} {plan : SnippetPlan Id} {all own : List (RustLine Id)} → new ≡ now ++ plan ∷ [] → all ≡ snippet_lines ++ own → IsPlan layout file es k f plan own
-        → first_error failure (asked_at k f.id) ≡ None → first_error failure (locus_lookups_of f) ≡ None
-        → ArePlanned layout file es failure (take (k + 1) files) new all placed
-    planned-more {new} {all = all} whole whole_steps is answered there = record {
-      answered = asked-more ∙ answered;
-      kept =
+        → first_error failure (lookups_at k f.id) ≡ None → first_error failure (locus_lookups_of f) ≡ None
+        → ArePlanned layout file es failure (take (k + 1) files) new all located
+    planned-more {new} {all = all} whole whole_steps is succeeded there = record {
+      succeeded = lookups-more ∙ succeeded;
+      located_fails =
           let others = first_error failure (loci_lookups (take k files)) in
-          subst (λ o. FailsByOrFormat o placed) (sym (index-fails failure ∙ ap (or_failure others) there ∙ or_failure-none others)) before.kept;
+          subst (λ o. FailsByOrFormat o located) (sym (index-fails failure ∙ ap (or_failure others) there ∙ or_failure-none others)) before.located_fails;
       plans =
-          IfOk-weaker placed (λ _. ArePlans layout file es 0 (take k files) now snippet_lines) (λ _. ArePlans layout file es 0 (take (k + 1) files) new all)
+          IfOk-weaker located (λ _. ArePlans layout file es 0 (take k files) now snippet_lines) (λ _. ArePlans layout file es 0 (take (k + 1) files) new all)
           (λ _ found. plans-with whole whole_steps is found) before.plans;
     }
 
     -- its numbers have been looked up, and the lookups of its locus fail
-    pub planned-unplaced : {all : List (RustLine Id)} {e : Error} → first_error failure (asked_at k f.id) ≡ None
+    pub planned-unlocated : {all : List (RustLine Id)} {e : Error} → first_error failure (lookups_at k f.id) ≡ None
         → (e ≢ OutOfMemory → e ≢ FormatError → first_error failure (locus_lookups_of f) ≡ Some e)
-        → ArePlanned layout file es failure (take (k + 1) files) now all (result_and placed (Err e))
-    planned-unplaced {all} {e} answered told = record {
-      answered = asked-more ∙ answered;
-      kept = subst (λ o. FailsByOrFormat {T = Unit {0}} o (result_and placed (Err e))) (sym (index-fails failure)) (first-kept _ _ placed e before.kept told);
-      plans = some-kept placed e (λ _. ArePlans layout file es 0 (take (k + 1) files) now all);
+        → ArePlanned layout file es failure (take (k + 1) files) now all (result_and located (Err e))
+    planned-unlocated {all} {e} succeeded known = record {
+      succeeded = lookups-more ∙ succeeded;
+      located_fails = subst (λ o. FailsByOrFormat {T = Unit {0}} o (result_and located (Err e))) (sym (index-fails failure)) (first-located_fails _ _ located e before.located_fails known);
+      plans = some-located_fails located e (λ _. ArePlans layout file es 0 (take (k + 1) files) now all);
     }
 
     -- what its numbers fail with fails all
-    pub planned-fails : {e : Error} → first_error failure (asked_at k f.id) ≡ Some e
+    pub planned-fails : {e : Error} → first_error failure (lookups_at k f.id) ≡ Some e
         → first_error failure (number_lookups layout es (ids_view files) ++ loci_lookups files) ≡ Some e
-    planned-fails {e} told =
+    planned-fails {e} known =
         let rest = drop (k + 1) files in
         let whole = ap ids_view (sym (take-append-drop (k + 1) files)) ∙ map-append (λ (g : RustFile Id). g.id) (take (k + 1) files) rest in
         first_error-some failure (number_lookups layout es (ids_view files)) (loci_lookups files) e
         (ap (λ ids. first_error failure (number_lookups layout es ids)) whole
-        ∙ ap (first_error failure) (by_index-append asked_at 0 (ids_view (take (k + 1) files)) (ids_view rest))
-        ∙ first_error-some failure (number_lookups layout es (ids_view (take (k + 1) files))) _ e (asked-more ∙ told))
+        ∙ ap (first_error failure) (by_index-append lookups_at 0 (ids_view (take (k + 1) files)) (ids_view rest))
+        ∙ first_error-some failure (number_lookups layout es (ids_view (take (k + 1) files))) _ e (lookups-more ∙ known))

@@ -9,8 +9,8 @@ use Rattle.codespan_base.specs.declared.files.Error.TheVariants.{FormatError, Ou
 use Rattle.codespan_base.specs.Errors.{IsIo}
 use Rattle.codespan_base.specs.FileModel.{FileDatabase, Lookup}
 use Rattle.codespan_base.specs.Streams.{Stream}
-use Rattle.codespan_base.specs.WriterLaw.{Sink, with_written, is_known, PrefixWritten, Sends, failing}
-use Rattle.codespan_base.proofs.HeldBytes.{extended-nil}
+use Rattle.codespan_base.specs.WriterLaw.{Sink, with_written, is_known, PrefixWritten, Writes, failing}
+use Rattle.codespan_base.proofs.KnownBytes.{extended-nil}
 use Rattle.codespan_base.specs.declared.term.config.DisplayStyle.TheVariants.{Rich}
 use Rattle.codespan_picture.specs.Picture.{files_of, labels_of, output}
 use Rattle.codespan_picture.specs.StatedPicture.{stated_loci}
@@ -22,12 +22,12 @@ use Rattle.codespan_reporting.specs.WriteCalls.{WritesOutput}
 use Rattle.codespan_reporting.proofs.OutputLoci.{file_loci, file_texts}
 use Rattle.codespan_laws.proofs.Loci.{stated_are_loci}
 use Rattle.codespan_reporting.specs.Inner.LookupsOnTheWay.{WroteStream}
-use Rattle.codespan_base.proofs.Chains.{came-then, stopped-then}
-use Rattle.codespan_reporting.proofs.Failures.{first_error-some, first_error-none, all_answered, some_fails}
+use Rattle.codespan_base.proofs.Chains.{written-then, failed-then}
+use Rattle.codespan_reporting.proofs.Failures.{first_error-some, first_error-none, all_succeed, some_fails}
 
 -- nothing has been written, which is a prefix of everything
 pub PrefixWritten-none : (s : Sink) (items : Stream) (t : Sink) → t ≡ s → PrefixWritten s items t
-PrefixWritten-none s items t same = record { begun = []; rest = _; whole = refl; held = ap (λ (x : Sink). x.held) same ∙ sym (extended-nil s.held) }
+PrefixWritten-none s items t same = record { prefix = []; rest = _; whole = refl; contents = ap (λ (x : Sink). x.contents) same ∙ sym (extended-nil s.contents) }
 
 -- an error is not both of these
 two_errors : (e : Error) → e ≡ FormatError → e ≡ OutOfMemory → ⊥
@@ -51,23 +51,23 @@ module _ {Id : Type 0} (view : Config) (files : FileDatabase Id) (d : Diagnostic
   late_failure = first_error files.failure after_header
 
 -- this holds of a rich output, by the loci of its snippets
-pub record ByPlaces {Id : Type 0} (renderer view : Config) (files : FileDatabase Id) (d : Diagnostic Id) (Holds : Stream → Type 0) : Type 0 where
-  pub places : List Locus
-  pub are : AllZip IsLocusOfFile (files_of files d) places
-  pub holds : Holds (output Rich renderer view files d places)
+pub record ByLoci {Id : Type 0} (renderer view : Config) (files : FileDatabase Id) (d : Diagnostic Id) (Holds : Stream → Type 0) : Type 0 where
+  pub loci : List Locus
+  pub are : AllZip IsLocusOfFile (files_of files d) loci
+  pub holds : Holds (output Rich renderer view files d loci)
 
 module _ {Id : Type 0} {renderer view : Config} {files : FileDatabase Id} {d : Diagnostic Id} where
   -- a lookup before the header failed: nothing has been written
   pub failed_early : {old new : Sink} {e : Error} → new ≡ old → 0 < length (before_header view files d)
       → (e ≢ OutOfMemory → e ≢ FormatError → early_failure view files d ≡ Some e) → WritesOutput Rich renderer view files d old (Err e) new
-  failed_early {old} {new} {e} unchanged some told = record {
+  failed_early {old} {new} {e} unchanged some known = record {
     loci = stated_loci files d Rich;
     are_loci = stated_are_loci files d Rich;
-    gains = λ are_known. PrefixWritten-none old _ new unchanged;
+    received = λ are_known. PrefixWritten-none old _ new unchanged;
     on_end = record {
-      cause = inr (
+      error_is = inr (
         ap (λ (s : Sink). s.frame) unchanged,
-        (omega (arith, length-append (before_header view files d) (after_header view files d)), λ p q. first_error-some files.failure (before_header view files d) (after_header view files d) e (told p q)),
+        (omega (arith, length-append (before_header view files d) (after_header view files d)), λ p q. first_error-some files.failure (before_header view files d) (after_header view files d) e (known p q)),
         λ h. inl unchanged,
       );
       early = λ rich p. unchanged;
@@ -76,56 +76,56 @@ module _ {Id : Type 0} {renderer view : Config} {files : FileDatabase Id} {d : D
 
   -- the writer failed
   pub failed_by_writer : {old new : Sink} {e : Error} → early_failure view files d ≡ None → new.frame ≡ failing old.frame → IsIo e
-      → ByPlaces renderer view files d (λ s. is_known old ≡ true → PrefixWritten old s new) → WritesOutput Rich renderer view files d old (Err e) new
-  failed_by_writer answered frame io begun = record {
-    loci = begun.places;
-    are_loci = file_loci files d begun.places begun.are;
-    gains = begun.holds;
-    on_end = record { cause = inl (io, frame); early = λ rich p. absurd (some_fails files (before_header view files d) answered p) };
+      → ByLoci renderer view files d (λ s. is_known old ≡ true → PrefixWritten old s new) → WritesOutput Rich renderer view files d old (Err e) new
+  failed_by_writer succeeded frame io prefix = record {
+    loci = prefix.loci;
+    are_loci = file_loci files d prefix.loci prefix.are;
+    received = prefix.holds;
+    on_end = record { error_is = inl (io, frame); early = λ rich p. absurd (some_fails files (before_header view files d) succeeded p) };
   }
 
   -- a lookup after the header failed
   pub failed_late : {old new : Sink} {e : Error} → early_failure view files d ≡ None → new.frame ≡ old.frame → 0 < length (after_header view files d)
       → (e ≢ OutOfMemory → late_failure view files d ≡ Some e)
-      → ByPlaces renderer view files d (λ s. is_known old ≡ true → PrefixWritten old s new) → WritesOutput Rich renderer view files d old (Err e) new
-  failed_late {old} {new} {e} answered frame some told begun = record {
-    loci = begun.places;
-    are_loci = file_loci files d begun.places begun.are;
-    gains = begun.holds;
+      → ByLoci renderer view files d (λ s. is_known old ≡ true → PrefixWritten old s new) → WritesOutput Rich renderer view files d old (Err e) new
+  failed_late {old} {new} {e} succeeded frame some known prefix = record {
+    loci = prefix.loci;
+    are_loci = file_loci files d prefix.loci prefix.are;
+    received = prefix.holds;
     on_end = record {
-      cause = inr (
+      error_is = inr (
         frame,
-        (omega (arith, length-append (before_header view files d) (after_header view files d)), λ p q. first_error-none files.failure (before_header view files d) (after_header view files d) answered ∙ told p),
-        λ h. inr (told (λ (m : e ≡ OutOfMemory). two_errors e h m)),
+        (omega (arith, length-append (before_header view files d) (after_header view files d)), λ p q. first_error-none files.failure (before_header view files d) (after_header view files d) succeeded ∙ known p),
+        λ h. inr (known (λ (m : e ≡ OutOfMemory). two_errors e h m)),
       );
-      early = λ rich p. absurd (some_fails files (before_header view files d) answered p);
+      early = λ rich p. absurd (some_fails files (before_header view files d) succeeded p);
     };
   }
 
   -- no lookup failed, and all has been written
-  drawn : {old new : Sink} → early_failure view files d ≡ None → late_failure view files d ≡ None → new.frame ≡ old.frame
-      → ByPlaces renderer view files d (λ s. is_known old ≡ true → new ≡ with_written old s) → WritesOutput Rich renderer view files d old (Ok tt) new
-  drawn {old} {new} answered_early answered_late frame came = record {
-    loci = came.places;
-    are_loci = file_loci files d came.places came.are;
-    gains = came.holds;
+  rendered : {old new : Sink} → early_failure view files d ≡ None → late_failure view files d ≡ None → new.frame ≡ old.frame
+      → ByLoci renderer view files d (λ s. is_known old ≡ true → new ≡ with_written old s) → WritesOutput Rich renderer view files d old (Ok tt) new
+  rendered {old} {new} succeeded_early succeeded_late frame written = record {
+    loci = written.loci;
+    are_loci = file_loci files d written.loci written.are;
+    received = written.holds;
     on_end = (
       frame,
       record {
-        lookups_succeed = all_answered files.failure (before_header view files d ++ after_header view files d) (first_error-none files.failure (before_header view files d) (after_header view files d) answered_early ∙ answered_late);
-        texts = file_texts files d came.places came.are;
+        lookups_succeed = all_succeed files.failure (before_header view files d ++ after_header view files d) (first_error-none files.failure (before_header view files d) (after_header view files d) succeeded_early ∙ succeeded_late);
+        texts = file_texts files d written.loci written.are;
       },
     );
   }
 
   -- after its first part, which has been written, the rest of the output was written or cut short
   pub finished : {old mid new : Sink} (first rest : Stream) (r : Result (Unit {0}) Error) → early_failure view files d ≡ None
-      → (late_failure view files d ≡ None) × WroteStream old first mid → Sends mid rest r new → IfErr r IsIo
-      → ByPlaces renderer view files d (λ s. s ≡ first ++ rest) → WritesOutput Rich renderer view files d old r new
-  finished {old} first rest (Ok x) answered came sends io names =
-      let both = came-then old first rest came.1 sends in
-      drawn answered came.0 both.0 (record { places = names.places; are = names.are; holds = λ told. both.1 told ∙ ap (with_written old) (sym names.holds) })
-  finished {old} {new = new} first rest (Err e) answered came sends io names =
-      let stopped = stopped-then first came.1 sends in
-      failed_by_writer answered stopped.0 io
-      (record { places = names.places; are = names.are; holds = λ told. subst (λ (s : Stream). PrefixWritten old s new) (sym names.holds) (stopped.1 told) })
+      → (late_failure view files d ≡ None) × WroteStream old first mid → Writes mid rest r new → IfErr r IsIo
+      → ByLoci renderer view files d (λ s. s ≡ first ++ rest) → WritesOutput Rich renderer view files d old r new
+  finished {old} first rest (Ok x) succeeded written writes io names =
+      let both = written-then old first rest written.1 writes in
+      rendered succeeded written.0 both.0 (record { loci = names.loci; are = names.are; holds = λ known. both.1 known ∙ ap (with_written old) (sym names.holds) })
+  finished {old} {new = new} first rest (Err e) succeeded written writes io names =
+      let failed = failed-then first written.1 writes in
+      failed_by_writer succeeded failed.0 io
+      (record { loci = names.loci; are = names.are; holds = λ known. subst (λ (s : Stream). PrefixWritten old s new) (sym names.holds) (failed.1 known) })

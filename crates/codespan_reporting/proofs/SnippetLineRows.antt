@@ -9,41 +9,41 @@ use Rattle.codespan_picture.specs.Snippets.{break_rows, line_rows}
 use Rattle.codespan_laws.proofs.Filling.{given, is_filled, lines-shown}
 use Rattle.codespan_laws.proofs.Sequences.{all-gap, all-sequence, flat_map-gap, flat_map-sequence, sequence-flat}
 use Rattle.codespan_reporting.specs.Inner.Annotations.{Annotation}
-use Rattle.codespan_reporting.specs.Inner.SnippetLines.{SnippetLine, Labeled, Filled, Break, line_of_group, rows_of_line, rows_of_lines, fill_of, fills_of, do_annotations_fit, do_marks_fit, does_line_fit}
-use Rattle.codespan_reporting.proofs.AnnotationGroups.{steps_after}
+use Rattle.codespan_reporting.specs.Inner.SnippetLines.{SnippetLine, Labeled, Filled, Break, line_of_group, rows_of_line, rows_of_lines, fill_of, fills_of, do_annotations_fit, do_lane_marks_fit, does_line_fit}
+use Rattle.codespan_reporting.proofs.AnnotationGroups.{lines_after}
 
 -- the line of a snippet line that has one
-abbrev pub line_of_step : SnippetLine → List ℕ
-line_of_step (Labeled l es) = l ∷ []
-line_of_step (Filled l es) = l ∷ []
-line_of_step (Break es) = []
+abbrev pub line_of_snippet_line : SnippetLine → List ℕ
+line_of_snippet_line (Labeled l es) = l ∷ []
+line_of_snippet_line (Filled l es) = l ∷ []
+line_of_snippet_line (Break es) = []
 
 -- the lines that are drawn
-abbrev pub lines_of_steps : List SnippetLine → List ℕ
-lines_of_steps snippet_lines = flat_map line_of_step snippet_lines
+abbrev pub lines_of_snippet_lines : List SnippetLine → List ℕ
+lines_of_snippet_lines snippet_lines = flat_map line_of_snippet_line snippet_lines
 
 -- ---- the elements of snippet lines
 
 -- the elements of the snippet lines of shown lines are those of the lines with what is between them
-snippet_lines-give : {A : Type 0} (give : SnippetLine → List A) (m : ℕ → List Annotation) (was : Option ℕ) (ds : List ℕ)
-    → flat_map give (steps_after m was ds)
-    ≡ in_sequence (λ l. l) (gap_between (λ l. give (Filled l (m l))) (λ d. give (Break (m d)))) (λ l. give (Labeled l (m l))) was ds
-snippet_lines-give {A} give m was ds =
-    flat_map-sequence give (λ l. l) (gap_between (λ l. Filled l (m l) ∷ []) (λ d. Break (m d) ∷ [])) (λ l. Labeled l (m l) ∷ []) was ds
-    ∙ (λ i. in_sequence (λ l. l) (λ c d. flat_map-gap give (λ l. Filled l (m l) ∷ []) (λ d. Break (m d) ∷ []) c d i) (λ l. append-nil (give (Labeled l (m l))) i) was ds)
-    ∙ (λ i. in_sequence (λ l. l) (gap_between (λ l. append-nil (give (Filled l (m l))) i) (λ d. append-nil (give (Break (m d))) i)) (λ l. give (Labeled l (m l))) was ds)
+snippet_lines-image : {A : Type 0} (image : SnippetLine → List A) (m : ℕ → List Annotation) (was : Option ℕ) (ds : List ℕ)
+    → flat_map image (lines_after m was ds)
+    ≡ in_sequence (λ l. l) (gap_between (λ l. image (Filled l (m l))) (λ d. image (Break (m d)))) (λ l. image (Labeled l (m l))) was ds
+snippet_lines-image {A} image m was ds =
+    flat_map-sequence image (λ l. l) (gap_between (λ l. Filled l (m l) ∷ []) (λ d. Break (m d) ∷ [])) (λ l. Labeled l (m l) ∷ []) was ds
+    ∙ (λ i. in_sequence (λ l. l) (λ c d. flat_map-gap image (λ l. Filled l (m l) ∷ []) (λ d. Break (m d) ∷ []) c d i) (λ l. append-nil (image (Labeled l (m l))) i) was ds)
+    ∙ (λ i. in_sequence (λ l. l) (gap_between (λ l. append-nil (image (Filled l (m l))) i) (λ d. append-nil (image (Break (m d))) i)) (λ l. image (Labeled l (m l))) was ds)
 
 -- so they are those of the drawn lines with the breaks between them, where a line that is not shown
 -- has the elements of one that is
 -- filled in
-snippet_lines-drawn : {A : Type 0} (give : SnippetLine → List A) (m : ℕ → List Annotation) (shown : ℕ → Bool) (own : ℕ → List A)
-    → ((l : ℕ) → own l ≡ given (λ l. give (Labeled l (m l))) (λ l. give (Filled l (m l))) (λ d. give (Break (m d))) shown l)
+snippet_lines-rendered : {A : Type 0} (image : SnippetLine → List A) (m : ℕ → List Annotation) (shown : ℕ → Bool) (own : ℕ → List A)
+    → ((l : ℕ) → own l ≡ given (λ l. image (Labeled l (m l))) (λ l. image (Filled l (m l))) (λ d. image (Break (m d))) shown l)
     → (n : ℕ) → ((l : ℕ) → n ≤ l → shown l ≡ false)
-    → flat_map give (steps_after m None (filter shown (range_with_len 0 n)))
-    ≡ in_sequence (λ l. l) (break_between (λ d. give (Break (m d)))) own None (filter (is_filled shown) (range_with_len 0 n))
-snippet_lines-drawn give m shown own are n none =
-    snippet_lines-give give m None (filter shown (range_with_len 0 n))
-    ∙ sym (lines-shown (λ l. give (Labeled l (m l))) (λ l. give (Filled l (m l))) (λ d. give (Break (m d))) shown own are n none)
+    → flat_map image (lines_after m None (filter shown (range_with_len 0 n)))
+    ≡ in_sequence (λ l. l) (break_between (λ d. image (Break (m d)))) own None (filter (is_filled shown) (range_with_len 0 n))
+snippet_lines-rendered image m shown own are n none =
+    snippet_lines-image image m None (filter shown (range_with_len 0 n))
+    ∙ sym (lines-shown (λ l. image (Labeled l (m l))) (λ l. image (Filled l (m l))) (λ d. image (Break (m d))) shown own are n none)
 
 -- what one test chooses, where the other way is the same
 chosen : {X : Type 0} (b : Bool) (x y : X) → (b ≡ false → x ≡ y) → x ≡ cond b x y
@@ -59,26 +59,26 @@ module _ (f : FileModel) (count : ℕ) (m : ℕ → List Annotation) where
 
   -- the snippet lines of shown lines make the rows of the drawn lines
   pub snippet_lines-rows : (shown : ℕ → Bool) (n : ℕ) → ((l : ℕ) → n ≤ l → shown l ≡ false)
-      → rows_of_lines f count (steps_after m None (filter shown (range_with_len 0 n)))
+      → rows_of_lines f count (lines_after m None (filter shown (range_with_len 0 n)))
       ≡ in_sequence (λ l. l) (break_between (break_rows line)) (line_rows line) None (filter (is_filled shown) (range_with_len 0 n))
-  snippet_lines-rows shown = snippet_lines-drawn (rows_of_line f count) m shown (line_rows line) (λ l. chosen (shown l) (line_rows line l) (line_rows line l) (λ h. refl))
+  snippet_lines-rows shown = snippet_lines-rendered (rows_of_line f count) m shown (line_rows line) (λ l. chosen (shown l) (line_rows line l) (line_rows line l) (λ h. refl))
 
 -- ---- labels in order
 
 -- the labels of all snippet lines are in order, and their multi-line label marks in so many lanes
-pub snippet_lines-fit : (count : ℕ) (m : ℕ → List Annotation) → ((l : ℕ) → do_annotations_fit count (m l) ≡ true) → ((l : ℕ) → do_marks_fit count (m l) ≡ true)
-    → (was : Option ℕ) (ds : List ℕ) → AllByRecursion (λ snippet_line. does_line_fit count snippet_line ≡ true) (steps_after m was ds)
-snippet_lines-fit count m fit marks_fit = all-sequence (λ snippet_line. does_line_fit count snippet_line ≡ true) (λ l. l) (gap_between (λ l. Filled l (m l) ∷ []) (λ d. Break (m d) ∷ [])) (λ l. Labeled l (m l) ∷ [])
-    (all-gap (λ snippet_line. does_line_fit count snippet_line ≡ true) (λ l. Filled l (m l) ∷ []) (λ d. Break (m d) ∷ []) (λ l. (fit l, tt)) (λ d. (marks_fit d, tt))) (λ l. (fit l, tt))
+pub snippet_lines-fit : (count : ℕ) (m : ℕ → List Annotation) → ((l : ℕ) → do_annotations_fit count (m l) ≡ true) → ((l : ℕ) → do_lane_marks_fit count (m l) ≡ true)
+    → (was : Option ℕ) (ds : List ℕ) → AllByRecursion (λ snippet_line. does_line_fit count snippet_line ≡ true) (lines_after m was ds)
+snippet_lines-fit count m fit lane_marks_fit = all-sequence (λ snippet_line. does_line_fit count snippet_line ≡ true) (λ l. l) (gap_between (λ l. Filled l (m l) ∷ []) (λ d. Break (m d) ∷ [])) (λ l. Labeled l (m l) ∷ [])
+    (all-gap (λ snippet_line. does_line_fit count snippet_line ≡ true) (λ l. Filled l (m l) ∷ []) (λ d. Break (m d) ∷ []) (λ l. (fit l, tt)) (λ d. (lane_marks_fit d, tt))) (λ l. (fit l, tt))
 
 -- ---- the lines of snippet lines
 
 module _ (m : ℕ → List Annotation) (shown : ℕ → Bool) where
   -- the snippet lines are the shown lines and those between two of them
   pub snippet_lines-lines : (n : ℕ) → ((l : ℕ) → n ≤ l → shown l ≡ false)
-      → lines_of_steps (steps_after m None (filter shown (range_with_len 0 n))) ≡ filter (is_filled shown) (range_with_len 0 n)
+      → lines_of_snippet_lines (lines_after m None (filter shown (range_with_len 0 n))) ≡ filter (is_filled shown) (range_with_len 0 n)
   snippet_lines-lines n none =
-      snippet_lines-drawn line_of_step m shown (λ l. l ∷ []) (λ l. chosen (shown l) (l ∷ []) (l ∷ []) (λ _. refl)) n none
+      snippet_lines-rendered line_of_snippet_line m shown (λ l. l ∷ []) (λ l. chosen (shown l) (l ∷ []) (l ∷ []) (λ _. refl)) n none
       ∙ sequence-flat (λ l. l) (λ l. l ∷ []) None (filter (is_filled shown) (range_with_len 0 n))
       ∙ all (filter (is_filled shown) (range_with_len 0 n))
     where
@@ -95,21 +95,21 @@ module _ (m : ℕ → List Annotation) (shown : ℕ → Bool) where
   all_fills [] = refl
   all_fills (l ∷ ls) = by_tests (all_fills ls) (is_filled shown l) (shown l) refl
     where
-      kept : List ℕ
-      kept = filter (is_filled shown) ls
+      filtered : List ℕ
+      filtered = filter (is_filled shown) ls
 
       left : List ℕ
       left = filter (λ k. is_filled shown k && not (shown k)) ls
 
-      by_tests : flat_map fill kept ≡ left → (a b : Bool) → shown l ≡ b → flat_map fill (cond a (l ∷ kept) kept) ≡ cond (a && not b) (l ∷ left) left
+      by_tests : flat_map fill filtered ≡ left → (a b : Bool) → shown l ≡ b → flat_map fill (cond a (l ∷ filtered) filtered) ≡ cond (a && not b) (l ∷ left) left
       by_tests rest false b e = rest
-      by_tests rest true true e = ap (λ t. cond t [] (l ∷ []) ++ flat_map fill kept) e ∙ rest
-      by_tests rest true false e = ap (λ t. cond t [] (l ∷ []) ++ flat_map fill kept) e ∙ ap (λ (r : List ℕ). l ∷ r) rest
+      by_tests rest true true e = ap (λ t. cond t [] (l ∷ []) ++ flat_map fill filtered) e ∙ rest
+      by_tests rest true false e = ap (λ t. cond t [] (l ∷ []) ++ flat_map fill filtered) e ∙ ap (λ (r : List ℕ). l ∷ r) rest
 
   -- the snippet lines fill in the lines between two shown ones
   pub snippet_lines-fills : (n : ℕ) → ((l : ℕ) → n ≤ l → shown l ≡ false)
-      → fills_of (steps_after m None (filter shown (range_with_len 0 n))) ≡ filter (λ l. is_filled shown l && not (shown l)) (range_with_len 0 n)
+      → fills_of (lines_after m None (filter shown (range_with_len 0 n))) ≡ filter (λ l. is_filled shown l && not (shown l)) (range_with_len 0 n)
   snippet_lines-fills n none =
-      snippet_lines-drawn fill_of m shown fill (λ l. refl) n none
+      snippet_lines-rendered fill_of m shown fill (λ l. refl) n none
       ∙ sequence-flat (λ l. l) fill None (filter (is_filled shown) (range_with_len 0 n))
       ∙ all_fills (range_with_len 0 n)

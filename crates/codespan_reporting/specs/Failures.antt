@@ -50,7 +50,7 @@ module _ {Id : Type 0} (view : Config) (files : FileDatabase Id) (d : Diagnostic
   -- the call fails: with `Io`, and then the writer has failed, or with an error of lookups, and
   -- then it has not; in rich style nothing has been written where a lookup before the header fails
   pub record FailsAs (style : DisplayStyle) (writer_failed writer_unchanged : Type 0) : Type 0 where
-    pub cause : (IsIo e × writer_failed)
+    pub error_is : (IsIo e × writer_failed)
         ⊎ (writer_unchanged × IsLookupError files (lookups_in style view files d) e
         × WrittenBefore style)
     pub early : style ≡ Rich

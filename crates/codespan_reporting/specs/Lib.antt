@@ -13,7 +13,7 @@ pub use Rattle.codespan_base.specs.Defaults
 pub use Rattle.codespan_base.specs.StyleTables
 pub use Rattle.codespan_base.specs.Ansi
 -- the output
-pub use Rattle.codespan_picture.specs.Cells
+pub use Rattle.codespan_picture.specs.CharMetrics
 pub use Rattle.codespan_picture.specs.Carets
 pub use Rattle.codespan_picture.specs.Lanes
 pub use Rattle.codespan_picture.specs.Rows
@@ -26,10 +26,10 @@ pub use Rattle.codespan_picture.specs.Padding
 pub use Rattle.codespan_picture.specs.Picture
 pub use Rattle.codespan_picture.specs.StatedPicture
 pub use Rattle.codespan_picture.specs.Lookups
-pub use Rattle.codespan_picture.specs.Given
+pub use Rattle.codespan_picture.specs.Arguments
 -- what an output means
 pub use Rattle.codespan_laws.specs.CaretLaws
-pub use Rattle.codespan_laws.specs.ColourLaws
+pub use Rattle.codespan_laws.specs.ColorLaws
 pub use Rattle.codespan_laws.specs.LaneLaws
 pub use Rattle.codespan_laws.specs.LineLaws
 pub use Rattle.codespan_laws.specs.MessageLaws
@@ -38,7 +38,7 @@ pub use Rattle.codespan_laws.specs.RowLaws
 pub use Rattle.codespan_laws.specs.SortLaws
 pub use Rattle.codespan_laws.specs.TextLaws
 pub use Rattle.codespan_laws.specs.StatedNames
-pub use Rattle.codespan_laws.specs.Meanings
+pub use Rattle.codespan_laws.specs.RichLaws
 -- a renderer, as its contracts see it
 pub use Rattle.codespan_renderer.specs.Renderers
 -- the calls that render a diagnostic

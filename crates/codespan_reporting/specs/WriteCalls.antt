@@ -5,7 +5,7 @@ use Rattle.codespan_picture.specs.Types.{Diagnostic, Error, Config, DisplayStyle
 use Rattle.codespan_base.specs.FileModel.{FileDatabase}
 use Rattle.codespan_base.specs.Streams.{text_of}
 use Rattle.codespan_base.specs.WriterLaw.{PrefixAppended, WritesOrPrefix, Sink, extended, is_known, failing, with_written, are_known}
-use Rattle.codespan_laws.specs.Meanings.{MeansLabels}
+use Rattle.codespan_laws.specs.RichLaws.{MeansLabels}
 use Rattle.codespan_picture.specs.Picture.{AreLoci, output}
 use Rattle.codespan_picture.specs.StatedPicture.{headers_at}
 use Rattle.codespan_picture.specs.Rows.{Locus}
@@ -15,11 +15,12 @@ use Rattle.codespan_reporting.specs.Output.{Succeeds, text_at}
 module _ {Id : Type 0} (config : Config) (files : FileDatabase Id) (d : Diagnostic Id) where
   -- the call writes the text, and where it fails a prefix of it, to a writer that holds these
   -- bytes, where they are known; whatever the result, in rich style the output means the labels
-  pub record Writes (old : Option (List ℕ)) (r : Result (Unit {0}) Error) (new : Option (List ℕ))
+  pub record WritesText (old : Option (List ℕ)) (r : Result (Unit {0}) Error)
+      (new : Option (List ℕ))
       : Type 0 where
     pub loci : List Locus
     pub are_loci : AreLoci files d config.display_style loci
-    pub gains : are_known old ≡ true
+    pub received : are_known old ≡ true
         → MatchResult r (λ _. new ≡ extended old (text_at config files d loci))
         (λ _. PrefixAppended old (text_at config files d loci) new)
     pub on_end : MatchResult r (λ _. Succeeds config files d config.display_style loci)
@@ -37,7 +38,7 @@ module _ {Id : Type 0} (style : DisplayStyle) (renderer view : Config) (files : 
   pub record WritesOutput (old : Sink) (r : Result (Unit {0}) Error) (new : Sink) : Type 0 where
     pub loci : List Locus
     pub are_loci : AreLoci files d style loci
-    pub gains : WritesOrPrefix old (output style renderer view files d loci) r new
+    pub received : WritesOrPrefix old (output style renderer view files d loci) r new
     pub on_end :
         MatchResult r
         (λ _. (new.frame ≡ old.frame) × Succeeds view files d style loci)

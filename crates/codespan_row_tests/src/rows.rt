@@ -38,7 +38,7 @@ impl<'a> Given<'a> {
 }
 
 /// Renders a line. Its lanes are in order, as the call requires.
-fn draw_line<W: WriteStyle>(
+fn render_line<W: WriteStyle>(
     rt: &impl Abort,
     renderer: &mut Renderer<'_, '_, W>,
     given: Given<'_>,
@@ -56,15 +56,15 @@ fn draw_line<W: WriteStyle>(
 }
 
 /// Renders a line to a writer, by the default configuration.
-fn draw_on<W: WriteStyle>(rt: &impl Abort, w: &mut W, given: Given<'_>) -> Result<(), Error> {
+fn render_on<W: WriteStyle>(rt: &impl Abort, w: &mut W, given: Given<'_>) -> Result<(), Error> {
     let config = Config::default();
-    draw_line(rt, &mut Renderer::new(w, &config), given)
+    render_line(rt, &mut Renderer::new(w, &config), given)
 }
 
 /// Rows that direct calls render.
 trait Rows {
     /// Renders them.
-    fn draw<W: WriteStyle>(
+    fn render<W: WriteStyle>(
         &self,
         rt: &impl Abort,
         renderer: &mut Renderer<'_, '_, W>,
@@ -73,12 +73,12 @@ trait Rows {
 
 impl<'a> Rows for Given<'a> {
     /// Renders the line.
-    fn draw<W: WriteStyle>(
+    fn render<W: WriteStyle>(
         &self,
         rt: &impl Abort,
         renderer: &mut Renderer<'_, '_, W>,
     ) -> Result<(), Error> {
-        draw_line(rt, renderer, *self)
+        render_line(rt, renderer, *self)
     }
 }
 
@@ -89,24 +89,24 @@ fn assert_rows<R: Rows>(
     alloc: Global,
     config: &Config<'_>,
     rows: &R,
-    want: &str,
+    expected: &str,
 ) -> Result<(), Error> {
     let styles = Styles::default();
     let mut plain = PlainWriter::new(Vec::new(alloc));
-    rows.draw(rt, &mut Renderer::new(&mut plain, config))?;
-    assert_eq!(rt; plain.into_inner().as_slice(), want.as_bytes());
+    rows.render(rt, &mut Renderer::new(&mut plain, config))?;
+    assert_eq!(rt; plain.into_inner().as_slice(), expected.as_bytes());
     let mut bytes = Vec::new(alloc);
-    let mut colourless = StylesWriter::new(NoColor::new(&mut bytes), &styles);
-    rows.draw(rt, &mut Renderer::new(&mut colourless, config))?;
-    assert_eq!(rt; bytes.as_slice(), want.as_bytes());
+    let mut without_color = StylesWriter::new(NoColor::new(&mut bytes), &styles);
+    rows.render(rt, &mut Renderer::new(&mut without_color, config))?;
+    assert_eq!(rt; bytes.as_slice(), expected.as_bytes());
     let mut bytes = Vec::new(alloc);
-    let mut coloured = StylesWriter::new(Ansi::new(&mut bytes), &styles);
-    rows.draw(rt, &mut Renderer::new(&mut coloured, config))?;
+    let mut colored = StylesWriter::new(Ansi::new(&mut bytes), &styles);
+    rows.render(rt, &mut Renderer::new(&mut colored, config))?;
     assert_eq!(rt;
         without_sequences(alloc, bytes.as_slice())?.as_slice(),
-        want.as_bytes()
+        expected.as_bytes()
     );
-    assert_rows_stop(rt, alloc, config, rows, want)
+    assert_rows_stop(rt, alloc, config, rows, expected)
 }
 
 #[test]
@@ -129,8 +129,8 @@ fn overlapping_labels(rt: HostRuntime) -> Result<(), Fail> {
         (LabelStyle::Primary, 2..4, "p"),
     ];
     let given = Given::labelled("abcdef", &labels);
-    let want = "1 │ abcdef\n  │ --^^--\n  │ │ │\n  │ │ p\n  │ s\n";
-    assert_rows(&rt, rt.alloc(), &Config::default(), &given, want)?;
+    let expected = "1 │ abcdef\n  │ --^^--\n  │ │ │\n  │ │ p\n  │ s\n";
+    assert_rows(&rt, rt.alloc(), &Config::default(), &given, expected)?;
     Ok(())
 }
 
@@ -142,8 +142,8 @@ fn wide_pointers(rt: HostRuntime) -> Result<(), Fail> {
         (LabelStyle::Secondary, 4..5, "t"),
     ];
     let given = Given::labelled("路ab", &labels);
-    let want = "1 │ 路ab\n  │ ^^-- t\n  │ │ │ \n  │ │ s\n  │ w\n";
-    assert_rows(&rt, rt.alloc(), &Config::default(), &given, want)?;
+    let expected = "1 │ 路ab\n  │ ^^-- t\n  │ │ │ \n  │ │ s\n  │ w\n";
+    assert_rows(&rt, rt.alloc(), &Config::default(), &given, expected)?;
     Ok(())
 }
 
@@ -155,8 +155,8 @@ fn wide_and_combining(rt: HostRuntime) -> Result<(), Fail> {
         (LabelStyle::Secondary, 5..7, "m"),
     ];
     let given = Given::labelled("a路b\u{301}c", &labels);
-    let want = "1 │ a路b\u{301}c\n  │  ^^  m\n  │  │  \n  │  w\n";
-    assert_rows(&rt, rt.alloc(), &Config::default(), &given, want)?;
+    let expected = "1 │ a路b\u{301}c\n  │  ^^  m\n  │  │  \n  │  w\n";
+    assert_rows(&rt, rt.alloc(), &Config::default(), &given, expected)?;
     Ok(())
 }
 
@@ -166,9 +166,9 @@ fn moon_jump(rt: HostRuntime) -> Result<(), Fail> {
     let message = "Cow does not start or end at boundary.";
     let labels = [(LabelStyle::Secondary, 1..11, message)];
     let given = Given::labelled("🐄🌑🐄🌒🐄🌓🐄🌔🐄🌕🐄🌖🐄🌗🐄🌘🐄", &labels);
-    let want = "1 │ 🐄🌑🐄🌒🐄🌓🐄🌔🐄🌕🐄🌖🐄🌗🐄🌘🐄\n\
+    let expected = "1 │ 🐄🌑🐄🌒🐄🌓🐄🌔🐄🌕🐄🌖🐄🌗🐄🌘🐄\n\
                 \x20 │ ------ Cow does not start or end at boundary.\n";
-    assert_rows(&rt, rt.alloc(), &Config::default(), &given, want)?;
+    assert_rows(&rt, rt.alloc(), &Config::default(), &given, expected)?;
     Ok(())
 }
 
@@ -191,7 +191,7 @@ fn tab_stops(rt: HostRuntime) -> Result<(), Fail> {
              \x20 │                    ^^^^^^^^^^^^^^^ the condition\n",
         ),
     ];
-    for (tab_width, want) in table {
+    for (tab_width, expected) in table {
         let config = Config {
             tab_width,
             ..Config::default()
@@ -201,7 +201,7 @@ fn tab_stops(rt: HostRuntime) -> Result<(), Fail> {
             number: 4,
             ..Given::labelled("\t\tReloadingCondition:\tattack-cooldown\n", &labels)
         };
-        assert_rows(&rt, rt.alloc(), &config, &given, want)?;
+        assert_rows(&rt, rt.alloc(), &config, &given, expected)?;
     }
     Ok(())
 }
@@ -212,18 +212,18 @@ fn coloured_label(rt: HostRuntime) -> Result<(), Fail> {
     let mut text = Vec::new(rt.alloc());
     let mut w = StylesWriter::new(Ansi::new(&mut text), &styles);
     let given = Given::labelled("abc", &[(LabelStyle::Primary, 1..2, "m")]);
-    draw_on(&rt, &mut w, given)?;
-    assert_eq!(rt; text.as_slice(), COLOURED.as_bytes());
+    render_on(&rt, &mut w, given)?;
+    assert_eq!(rt; text.as_slice(), COLORED.as_bytes());
     Ok(())
 }
 
 /// The rows of `coloured_label`.
-const COLOURED: &str = "\x1b[0m\x1b[36m1\x1b[0m \x1b[0m\x1b[36m│\x1b[0m a\x1b[0m\x1b[31mb\x1b[0mc\n\
+const COLORED: &str = "\x1b[0m\x1b[36m1\x1b[0m \x1b[0m\x1b[36m│\x1b[0m a\x1b[0m\x1b[31mb\x1b[0mc\n\
     \x20 \x1b[0m\x1b[36m│\x1b[0m  \x1b[0m\x1b[31m^\x1b[0m \x1b[0m\x1b[31mm\x1b[0m\n";
 
 /// Renders a header, then writes the same header and each other style mark through the renderer as
 /// a writer.
-fn draw_header<W: WriteStyle>(w: &mut W) -> Result<(), Error> {
+fn render_header<W: WriteStyle>(w: &mut W) -> Result<(), Error> {
     let config = Config::default();
     let mut renderer = Renderer::new(w, &config);
     renderer.render_header(None, Severity::Error, None, "m")?;
@@ -245,16 +245,16 @@ fn draw_header<W: WriteStyle>(w: &mut W) -> Result<(), Error> {
 fn coloured_header(rt: HostRuntime) -> Result<(), Fail> {
     let styles = Styles::default();
     let mut text = Vec::new(rt.alloc());
-    draw_header(&mut StylesWriter::new(Ansi::new(&mut text), &styles))?;
-    let want = "\x1b[0m\x1b[1m\x1b[38;5;9merror\x1b[0m\x1b[1m: m\x1b[0m\n\
+    render_header(&mut StylesWriter::new(Ansi::new(&mut text), &styles))?;
+    let expected = "\x1b[0m\x1b[1m\x1b[38;5;9merror\x1b[0m\x1b[1m: m\x1b[0m\n\
                 \x1b[0m\x1b[1m\x1b[38;5;9merror\x1b[0m\x1b[1m: m\x1b[0m\n\
                 \x1b[0m\x1b[36m\x1b[0m\x1b[36m\x1b[0m\x1b[36m\x1b[0m\x1b[31m";
-    assert_eq!(rt; text.as_slice(), want.as_bytes());
+    assert_eq!(rt; text.as_slice(), expected.as_bytes());
     Ok(())
 }
 
 /// Renders the lines of a text with two multi-line labels whose underlines cross.
-fn draw_crossing<W: WriteStyle>(
+fn render_crossing<W: WriteStyle>(
     rt: &impl Abort,
     renderer: &mut Renderer<'_, '_, W>,
 ) -> Result<(), Error> {
@@ -283,7 +283,7 @@ fn draw_crossing<W: WriteStyle>(
             marks: &marks,
             ..Given::labelled(text, &[])
         };
-        draw_line(rt, renderer, given)?;
+        render_line(rt, renderer, given)?;
     }
     let given = Given {
         number: 3,
@@ -291,7 +291,7 @@ fn draw_crossing<W: WriteStyle>(
         marks: &[(1, LabelStyle::Primary, MultiLabel::Bottom(1, "p"))],
         ..Given::labelled("ef", &[])
     };
-    draw_line(rt, renderer, given)
+    render_line(rt, renderer, given)
 }
 
 /// An output with two multi-line labels whose underlines cross.
@@ -302,7 +302,7 @@ struct CrossingLanes {
 
 impl Rows for CrossingLanes {
     /// Renders all of its rows.
-    fn draw<W: WriteStyle>(
+    fn render<W: WriteStyle>(
         &self,
         rt: &impl Abort,
         renderer: &mut Renderer<'_, '_, W>,
@@ -310,7 +310,7 @@ impl Rows for CrossingLanes {
         renderer.render_header(None, Severity::Error, None, "")?;
         renderer.render_snippet_start(1, &self.locus)?;
         renderer.render_snippet_empty(1, Severity::Error, 2, &[])?;
-        draw_crossing(rt, renderer)?;
+        render_crossing(rt, renderer)?;
         renderer.render_empty()
     }
 }
@@ -318,10 +318,10 @@ impl Rows for CrossingLanes {
 #[test]
 fn crossing_lanes(rt: HostRuntime) -> Result<(), Fail> {
     let locus = locus_of(rt.alloc(), "f", 1, 1)?;
-    let want = "error: \n  ┌─ f:1:1\n  │    \n1 │   ╭ ab\n  │ ╭────'\n2 │ │ │ cd\n\
+    let expected = "error: \n  ┌─ f:1:1\n  │    \n1 │   ╭ ab\n  │ ╭────'\n2 │ │ │ cd\n\
                 \x20 │ ╰─│─' q\n3 │   │ ef\n  │   ╰─^ p\n\n";
     let rows = CrossingLanes { locus };
-    assert_rows(&rt, rt.alloc(), &Config::default(), &rows, want)?;
+    assert_rows(&rt, rt.alloc(), &Config::default(), &rows, expected)?;
     Ok(())
 }
 
@@ -347,7 +347,7 @@ struct NotePieces;
 
 impl Rows for NotePieces {
     /// Renders both, and the empty line at the end.
-    fn draw<W: WriteStyle>(
+    fn render<W: WriteStyle>(
         &self,
         _rt: &impl Abort,
         renderer: &mut Renderer<'_, '_, W>,
@@ -360,8 +360,8 @@ impl Rows for NotePieces {
 
 #[test]
 fn note_pieces(rt: HostRuntime) -> Result<(), Fail> {
-    let want = "error: m\n = a\n   \n   b\n\n";
-    assert_rows(&rt, rt.alloc(), &Config::default(), &NotePieces, want)?;
+    let expected = "error: m\n = a\n   \n   b\n\n";
+    assert_rows(&rt, rt.alloc(), &Config::default(), &NotePieces, expected)?;
     Ok(())
 }
 
@@ -373,7 +373,7 @@ struct MediumAndShort {
 
 impl Rows for MediumAndShort {
     /// Renders both.
-    fn draw<W: WriteStyle>(
+    fn render<W: WriteStyle>(
         &self,
         _rt: &impl Abort,
         renderer: &mut Renderer<'_, '_, W>,
@@ -388,10 +388,10 @@ impl Rows for MediumAndShort {
 #[test]
 fn medium_and_short(rt: HostRuntime) -> Result<(), Fail> {
     let locus = locus_of(rt.alloc(), "Test.fun", 4, 11)?;
-    let want = "Test.fun:4:11: error[E0001]: unexpected type in application of `_+_`\n\
+    let expected = "Test.fun:4:11: error[E0001]: unexpected type in application of `_+_`\n\
                 error: where did my errorcode go?\n";
     let rows = MediumAndShort { locus };
-    assert_rows(&rt, rt.alloc(), &Config::default(), &rows, want)?;
+    assert_rows(&rt, rt.alloc(), &Config::default(), &rows, expected)?;
     Ok(())
 }
 

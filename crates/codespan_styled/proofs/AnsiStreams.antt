@@ -6,35 +6,35 @@ use Rattle.codespan_base.specs.Streams.{Stream, StyleMark, Byte, Mark, Slot, Hea
 use Rattle.codespan_styled.specs.declared.style.Style.{Style}
 use Rattle.codespan_styled.specs.declared.style.Style.TheVariants as Kinds
 use Rattle.codespan_styled.specs.Runs.{runs_from, runs_of, style_after}
-use Rattle.codespan_styled.specs.Terminal.{AreSafe, ansi_spelling, mark_of, runs_bytes, terminal_text}
+use Rattle.codespan_styled.specs.Terminal.{AreSafe, ansi_spelling, style_mark_of, runs_bytes, terminal_text}
 
 -- the mark of the style that a mark starts is that mark
-mark_of-style_after : (m : StyleMark) → mark_of (style_after m) ≡ m
-mark_of-style_after (Header severity) = refl
-mark_of-style_after HeaderMessage = refl
-mark_of-style_after LineNumber = refl
-mark_of-style_after NoteBullet = refl
-mark_of-style_after SourceBorder = refl
-mark_of-style_after (LabelMark severity style) = refl
-mark_of-style_after Reset = refl
+style_mark_of-style_after : (m : StyleMark) → style_mark_of (style_after m) ≡ m
+style_mark_of-style_after (Header severity) = refl
+style_mark_of-style_after HeaderMessage = refl
+style_mark_of-style_after LineNumber = refl
+style_mark_of-style_after NoteBullet = refl
+style_mark_of-style_after SourceBorder = refl
+style_mark_of-style_after (LabelMark severity style) = refl
+style_mark_of-style_after Reset = refl
 
 -- the runs of a stream after a text in a style
 from_runs : (styles : Styles) (style : Style) (text : List ℕ) (s : Stream) → AreSafe (runs_from style text s)
-    → runs_bytes styles (runs_from style text s) ≡ ansi_spelling styles (mark_of style) ++ text ++ spelled (ansi_spelling styles) s
-from_runs styles style text [] h = ap (λ (t : List ℕ). ansi_spelling styles (mark_of style) ++ t ++ []) h.0
+    → runs_bytes styles (runs_from style text s) ≡ ansi_spelling styles (style_mark_of style) ++ text ++ spelled (ansi_spelling styles) s
+from_runs styles style text [] h = ap (λ (t : List ℕ). ansi_spelling styles (style_mark_of style) ++ t ++ []) h.0
 from_runs styles style text (Byte b ∷ s) h =
-    let begun = ansi_spelling styles (mark_of style) in
+    let prefix = ansi_spelling styles (style_mark_of style) in
     let rest = spelled (ansi_spelling styles) s in
-    from_runs styles style (text ++ b ∷ []) s h ∙ ap (λ (l : List ℕ). l ++ rest) (sym (append_assoc begun text (b ∷ [])))
-    ∙ append_assoc (begun ++ text) (b ∷ []) rest
+    from_runs styles style (text ++ b ∷ []) s h ∙ ap (λ (l : List ℕ). l ++ rest) (sym (append_assoc prefix text (b ∷ [])))
+    ∙ append_assoc (prefix ++ text) (b ∷ []) rest
 from_runs styles style text (Slot k ∷ s) h = from_runs styles style text s h
 from_runs styles style text (Mark m ∷ s) h =
-    let begun = ansi_spelling styles (mark_of style) in
+    let prefix = ansi_spelling styles (style_mark_of style) in
     let rest = spelled (ansi_spelling styles) s in
     let next = style_after m in
-    ap (λ (t : List ℕ). begun ++ t ++ runs_bytes styles (runs_from next [] s)) h.0
-    ∙ ap (λ (l : List ℕ). begun ++ text ++ l)
-    (from_runs styles next [] s h.1 ∙ ap (λ (l : List ℕ). l ++ rest) (append-nil (ansi_spelling styles (mark_of next)) ∙ ap (ansi_spelling styles) (mark_of-style_after m)))
+    ap (λ (t : List ℕ). prefix ++ t ++ runs_bytes styles (runs_from next [] s)) h.0
+    ∙ ap (λ (l : List ℕ). prefix ++ text ++ l)
+    (from_runs styles next [] s h.1 ∙ ap (λ (l : List ℕ). l ++ rest) (append-nil (ansi_spelling styles (style_mark_of next)) ∙ ap (ansi_spelling styles) (style_mark_of-style_after m)))
 
 -- the same where the first run is plain, and has no sequence
 from_plain : (styles : Styles) (text : List ℕ) (s : Stream) → AreSafe (runs_from Kinds.Plain text s)
@@ -48,7 +48,7 @@ from_plain styles text (Mark m ∷ s) h =
     let next = style_after m in
     ap (λ (t : List ℕ). t ++ runs_bytes styles (runs_from next [] s)) h.0
     ∙ ap (λ (l : List ℕ). text ++ l)
-    (from_runs styles next [] s h.1 ∙ ap (λ (l : List ℕ). l ++ rest) (append-nil (ansi_spelling styles (mark_of next)) ∙ ap (ansi_spelling styles) (mark_of-style_after m)))
+    (from_runs styles next [] s h.1 ∙ ap (λ (l : List ℕ). l ++ rest) (append-nil (ansi_spelling styles (style_mark_of next)) ∙ ap (ansi_spelling styles) (style_mark_of-style_after m)))
 
 -- the runs of a stream
 pub as_written : (styles : Styles) (s : Stream) → AreSafe (runs_of s) → terminal_text styles (runs_of s) ≡ spelled (ansi_spelling styles) s

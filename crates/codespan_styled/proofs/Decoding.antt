@@ -8,7 +8,7 @@ use Rattle.codespan_base.specs.declared.diagnostic.Severity.TheVariants.{Bug, Er
 use Rattle.codespan_base.specs.Streams.{Stream, Byte, Mark, Slot, spelled, text_of}
 use Rattle.codespan_styled.specs.declared.style.Style.{Style}
 use Rattle.codespan_styled.specs.declared.style.Style.TheVariants.{Plain, Header, HeaderMessage, LineNumber, NoteBullet, SourceBorder, Label}
-use Rattle.codespan_styled.specs.Recorded.{AllBytes, AreBytes, held_runs, style_number, style_spelling}
+use Rattle.codespan_styled.specs.Recorded.{AllBytes, AreBytes, recorded_runs, style_number, style_spelling}
 use Rattle.codespan_styled.specs.Runs.{StyledRun, joined, runs_from, runs_of, style_after}
 
 -- a run
@@ -85,23 +85,23 @@ bytes-decoded style text (b ∷ bs) rest small =
     byte-step style text b (bs ++ rest) small.0 ∙ bytes-decoded style (text ++ b ∷ []) bs rest small.1
     ∙ ap (λ t. decoded style t rest) (append_assoc text (b ∷ []) bs)
 
--- runs that are held read back
-held-decoded : (style : Style) (text : List ℕ) (runs : List StyledRun) → AllBytes runs → decoded style text (held_runs runs) ≡ run_of style text ∷ runs
-held-decoded style text [] small = refl
-held-decoded style text (run ∷ runs) small =
-    style-step style text run.style (run.text ++ held_runs runs)
+-- runs that are recorded read back
+contents-decoded : (style : Style) (text : List ℕ) (runs : List StyledRun) → AllBytes runs → decoded style text (recorded_runs runs) ≡ run_of style text ∷ runs
+contents-decoded style text [] small = refl
+contents-decoded style text (run ∷ runs) small =
+    style-step style text run.style (run.text ++ recorded_runs runs)
     ∙ ap (λ (rs : List StyledRun). run_of style text ∷ rs)
-    (bytes-decoded run.style [] run.text (held_runs runs) small.0 ∙ held-decoded run.style run.text runs small.1)
+    (bytes-decoded run.style [] run.text (recorded_runs runs) small.0 ∙ contents-decoded run.style run.text runs small.1)
 
 rest_of : List StyledRun → List StyledRun
 rest_of [] = []
 rest_of (run ∷ runs) = runs
 
--- runs that are held as a stream is, after the number of plain text, are those of the stream
-pub runs_held : (runs : List StyledRun) (s : Stream) → AllBytes runs → AreBytes (text_of s) → held_runs runs ≡ style_number Plain ∷ spelled style_spelling s → runs ≡ runs_of s
+-- runs that are recorded as a stream is, after the number of plain text, are those of the stream
+pub runs_of_recorded : (runs : List StyledRun) (s : Stream) → AllBytes runs → AreBytes (text_of s) → recorded_runs runs ≡ style_number Plain ∷ spelled style_spelling s → runs ≡ runs_of s
 unfolding rest_of
-runs_held runs s small bytes held =
-    ap rest_of (sym (held-decoded Plain [] runs small) ∙ ap (decoded Plain []) held
+runs_of_recorded runs s small bytes contents =
+    ap rest_of (sym (contents-decoded Plain [] runs small) ∙ ap (decoded Plain []) contents
     ∙ style-step Plain [] Plain (spelled style_spelling s)
     ∙ ap (λ (rs : List StyledRun). run_of Plain [] ∷ rs) (spelled-decoded Plain [] s bytes))
 

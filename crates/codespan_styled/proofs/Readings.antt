@@ -23,7 +23,7 @@ use Rattle.codespan_styled.specs.declared.text.Run.{Run}
 use Rattle.codespan_styled.specs.Runs.{AreTexts, StyledRun, characters_of, run_view}
 use Rattle.codespan_styled.specs.declared.style.Style.{Style}
 use Rattle.codespan_styled.specs.declared.style.Style.TheVariants as Kinds
-use Rattle.codespan_styled.specs.Terminal.{ansi_spelling, columns, is_safe, mark_of, next_reading, opening, reading_after, run_bytes, runs_bytes, safe_characters, safe_text, shown, terminal_text, ShowsSafe, Text, Escape, Parameters, Unknown}
+use Rattle.codespan_styled.specs.Terminal.{ansi_spelling, columns, is_safe, style_mark_of, next_reading, opening, reading_after, run_bytes, runs_bytes, safe_characters, safe_text, shown, terminal_text, ShowsSafe, Text, Escape, Parameters, Unknown}
 use Rattle.codespan_styled.proofs.UnsafeCells.{columns_stay}
 
 -- ---- characters
@@ -248,8 +248,8 @@ ReadsText-runs styles (run ∷ runs) texts =
     let shown_run = safe_characters (chars run.text) in
     subst (ReadsText (runs_bytes styles (run ∷ runs))) (safe_split run.text runs)
     (ReadsText-append (run_bytes styles run) shown_run (runs_bytes styles runs) (safe_characters (characters_of runs))
-    (ReadsText-append (ansi_spelling styles (mark_of run.style)) [] (safe_text run.text) shown_run
-    (ReadsText-mark styles (mark_of run.style)) (ReadsText-safe run.text texts.0))
+    (ReadsText-append (ansi_spelling styles (style_mark_of run.style)) [] (safe_text run.text) shown_run
+    (ReadsText-mark styles (style_mark_of run.style)) (ReadsText-safe run.text texts.0))
     (ReadsText-runs styles runs texts.1))
 
 ReadsText-terminal : (styles : Styles) (runs : List StyledRun) → AreTexts runs → ReadsText (terminal_text styles runs) (safe_characters (characters_of runs))

@@ -7,26 +7,26 @@ use Rattle.codespan_base.specs.WriterLaw.{PrefixAppended, extended}
 use Rattle.codespan_styled.specs.declared.recorder.Recorder.{Recorder}
 use Rattle.codespan_styled.specs.declared.style.Style.{Style}
 use Rattle.codespan_styled.specs.declared.text.Run.{Run}
-use Rattle.codespan_styled.specs.Recorded.{ended_runs, held_run, held_runs, recorded, style_number}
+use Rattle.codespan_styled.specs.Recorded.{ended_runs, recorded_run, recorded_runs, recorded, style_number}
 use Rattle.codespan_styled.specs.Runs.{run_view}
 
--- bytes that the last run takes are held last
+-- bytes that the last run takes are recorded last
 pub recorded-bytes : (front : List ℕ) (n : ℕ) (old new bytes : List ℕ) → new ≡ old ++ bytes → front ++ n ∷ new ≡ (front ++ n ∷ old) ++ bytes
 recorded-bytes front n old new bytes is = ap (λ t. front ++ n ∷ t) is ∙ sym (append_assoc front (n ∷ old) bytes)
 
--- the runs of a writer whose last run ends are all that it held
-pub held-ended : (old new : Recorder) (run : Run) → new.runs.items ≡ old.runs.items ++ run ∷ [] → run.style ≡ old.style → string_bytes run.text ≡ old.text.items
-    → held_runs (ended_runs new) ≡ recorded old
-held-ended old new run is style text =
-    ap (λ runs. held_runs (map run_view runs)) is
-    ∙ ap held_runs (map-append run_view old.runs.items (run ∷ []))
-    ∙ flat_map-append held_run (ended_runs old) (run_view run ∷ [])
-    ∙ ap (λ bytes. held_runs (ended_runs old) ++ bytes) (append-nil (held_run (run_view run)))
-    ∙ ap (λ s. held_runs (ended_runs old) ++ style_number s ∷ string_bytes run.text) style
-    ∙ ap (λ bytes. held_runs (ended_runs old) ++ style_number old.style ∷ bytes) text
+-- the runs of a writer whose last run ends are all that it recorded
+pub contents-ended : (old new : Recorder) (run : Run) → new.runs.items ≡ old.runs.items ++ run ∷ [] → run.style ≡ old.style → string_bytes run.text ≡ old.text.items
+    → recorded_runs (ended_runs new) ≡ recorded old
+contents-ended old new run is style text =
+    ap (λ runs. recorded_runs (map run_view runs)) is
+    ∙ ap recorded_runs (map-append run_view old.runs.items (run ∷ []))
+    ∙ flat_map-append recorded_run (ended_runs old) (run_view run ∷ [])
+    ∙ ap (λ bytes. recorded_runs (ended_runs old) ++ bytes) (append-nil (recorded_run (run_view run)))
+    ∙ ap (λ s. recorded_runs (ended_runs old) ++ style_number s ∷ string_bytes run.text) style
+    ∙ ap (λ bytes. recorded_runs (ended_runs old) ++ style_number old.style ∷ bytes) text
 
 -- then a run is started
-pub recorded-started : (old new : Recorder) (next : Style) → held_runs (ended_runs new) ≡ recorded old → new.style ≡ next → new.text.items ≡ []
+pub recorded-started : (old new : Recorder) (next : Style) → recorded_runs (ended_runs new) ≡ recorded old → new.style ≡ next → new.text.items ≡ []
     → Some (recorded new) ≡ extended (Some (recorded old)) (style_number next ∷ [])
 unfolding extended
 recorded-started old new next ended style empty =
@@ -38,10 +38,10 @@ recorded-started old new next ended style empty =
 pub nothing_appended : (old new : Recorder) (bytes : List ℕ) → recorded new ≡ recorded old → PrefixAppended (Some (recorded old)) bytes (Some (recorded new))
 unfolding extended
 nothing_appended old new bytes same = record {
-  begun = [];
+  prefix = [];
   rest = bytes;
   whole = refl;
-  held = ap Some (same ∙ sym (append-nil (recorded old)));
+  contents = ap Some (same ∙ sym (append-nil (recorded old)));
 }
 
 pub recorded-failed : {E : Type 0} (old new : Recorder) (bytes : List ℕ) (r : Result (Unit {0}) E) → IsErr r → recorded new ≡ recorded old → AppendsBytes (Some (recorded old)) bytes r (Some (recorded new))

@@ -17,31 +17,31 @@ use Rattle.codespan_styled.specs.declared.style.Style.{Style}
 use Rattle.codespan_styled.specs.declared.style.Style.TheVariants.{Plain}
 use Rattle.codespan_styled.specs.declared.text.StyledText.{StyledText}
 use Rattle.codespan_styled.specs.Outputs.{AreRuns, EmitsRuns, RunsAreTexts, output_at}
-use Rattle.codespan_styled.specs.Recorded.{held_runs, style_number, style_spelling}
+use Rattle.codespan_styled.specs.Recorded.{recorded_runs, style_number, style_spelling}
 use Rattle.codespan_styled.specs.Runs.{AreTexts, joined, runs_from, style_after, styled_runs}
 use Rattle.codespan_styled.proofs.Bytes.{runs-bytes, utf8-bytes}
-use Rattle.codespan_styled.proofs.Decoding.{joined_runs, runs_held}
+use Rattle.codespan_styled.proofs.Decoding.{joined_runs, runs_of_recorded}
 
 -- a fresh writer that received a stream holds its bytes last
-held_after : (spelling : Spelling) (old new : Sink) (s : Stream) (first last : List ℕ) → old ≡ fresh_sink spelling (Some first) → new.held ≡ Some last
+bytes_after : (spelling : Spelling) (old new : Sink) (s : Stream) (first last : List ℕ) → old ≡ fresh_sink spelling (Some first) → new.contents ≡ Some last
     → (is_known old ≡ true → new ≡ with_written old s) → last ≡ first ++ spelled spelling s
 unfolding is_known are_known with_written extended
-held_after spelling old new s first last fresh held came =
-    let now = came (ap is_known fresh) ∙ ap (λ (x : Sink). with_written x s) fresh in
-    let whole : Some last ≡ Some (first ++ spelled spelling s) = sym held ∙ ap (λ (x : Sink). x.held) now in
+bytes_after spelling old new s first last fresh contents written =
+    let now = written (ap is_known fresh) ∙ ap (λ (x : Sink). with_written x s) fresh in
+    let whole : Some last ≡ Some (first ++ spelled spelling s) = sym contents ∙ ap (λ (x : Sink). x.contents) now in
     cc
 
 module _ {Id : Type 0} {config : Config} {files : FileDatabase Id} {d : Diagnostic Id} where
   -- the runs of what was rendered to a fresh writer are those of the output
   pub runs_rendered : {old new : Sink} {last : List ℕ} (text : StyledText) → WritesStyled config.display_style config config files d old (Ok tt) new
-      → old ≡ fresh_sink style_spelling (Some (style_number Plain ∷ [])) → new.held ≡ Some last → AreCharacters config.chars → ((id : Id) → IsLawful (files.file id))
-      → held_runs (styled_runs text) ≡ last → AreRuns config files d (styled_runs text)
-  runs_rendered {old} {new} {last} text drawn fresh held characters lawful are =
+      → old ≡ fresh_sink style_spelling (Some (style_number Plain ∷ [])) → new.contents ≡ Some last → AreCharacters config.chars → ((id : Id) → IsLawful (files.file id))
+      → recorded_runs (styled_runs text) ≡ last → AreRuns config files d (styled_runs text)
+  runs_rendered {old} {new} {last} text drawn fresh contents characters lawful are =
       let loci = drawn.writes.loci in
       let stream : Stream = output_at config files d loci in
       let utf8 = (text-output files d lawful config.display_style config config characters loci drawn.writes.on_end.1.texts).utf8 in
-      let whole = held_after style_spelling old new stream (style_number Plain ∷ []) last fresh held drawn.writes.gains in
-      let runs = runs_held (styled_runs text) stream (runs-bytes text.runs.items) (utf8-bytes _ utf8) (are ∙ whole) in
+      let whole = bytes_after style_spelling old new stream (style_number Plain ∷ []) last fresh contents drawn.writes.received in
+      let runs = runs_of_recorded (styled_runs text) stream (runs-bytes text.runs.items) (utf8-bytes _ utf8) (are ∙ whole) in
       record {
         loci = loci;
         are_loci = drawn.writes.are_loci;
@@ -53,10 +53,10 @@ module _ {Id : Type 0} {config : Config} {files : FileDatabase Id} {d : Diagnost
 
   -- the same of what the writer returns
   pub runs_emitted : {old new : Sink} {last : List ℕ} (r : Result StyledText Error) → WritesStyled config.display_style config config files d old (Ok tt) new
-      → old ≡ fresh_sink style_spelling (Some (style_number Plain ∷ [])) → new.held ≡ Some last → AreCharacters config.chars → ((id : Id) → IsLawful (files.file id))
-      → MatchResult r (λ text. held_runs (styled_runs text) ≡ last) (λ e. e ≡ OutOfMemory) → EmitsRuns config files d styled_runs r
-  runs_emitted (Ok text) drawn fresh held characters lawful are = runs_rendered text drawn fresh held characters lawful are
-  runs_emitted (Err e) drawn fresh held characters lawful is = inl is
+      → old ≡ fresh_sink style_spelling (Some (style_number Plain ∷ [])) → new.contents ≡ Some last → AreCharacters config.chars → ((id : Id) → IsLawful (files.file id))
+      → MatchResult r (λ text. recorded_runs (styled_runs text) ≡ last) (λ e. e ≡ OutOfMemory) → EmitsRuns config files d styled_runs r
+  runs_emitted (Ok text) drawn fresh contents characters lawful are = runs_rendered text drawn fresh contents characters lawful are
+  runs_emitted (Err e) drawn fresh contents characters lawful is = inl is
 
 -- ---- texts
 

@@ -1,4 +1,4 @@
--- Rules that are appended to a style sheet one by one: for the clause `sheet` of `html_styles`.
+-- Rules that are appended to a style sheet one by one: for the clause `css_text` of `html_styles`.
 use Rattle.std.proofs.Common.{◌≡◌, ℕ, ◌+◌, ◌<◌, ◌≤◌, Bool, List, ◌∷◌, ◌++◌, codes, drop, get_or, length, sym, ap, ◌∙◌, append_assoc, append-nil, Some}
 use Rattle.std.specs.Prelude.{if◌then◌else◌}
 use Rattle.std.specs.List.{flat_map}

@@ -129,7 +129,7 @@ parts_by_pieces pen (glyph ∷ glyphs) = all (parts_by_pieces (next_pen pen glyp
     left = parts_left (Some glyph) glyphs
 
     Goal : List Part → List Part → List Piece → Type 0
-    Goal first begun pieces = first ++ parts_of_glyphs next glyphs ≡ begun ++ flat_map piece_parts pieces
+    Goal first prefix pieces = first ++ parts_of_glyphs next glyphs ≡ prefix ++ flat_map piece_parts pieces
 
     Rest : Type 0
     Rest = parts_of_glyphs next glyphs ≡ left ++ parts
@@ -142,7 +142,7 @@ parts_by_pieces pen (glyph ∷ glyphs) = all (parts_by_pieces (next_pen pen glyp
         (if follows pen.before glyph then text_parts glyph (joined_glyphs glyph glyphs) else []) (if follows pen.before glyph then rest else piece ∷ rest)
     character is =
         three_ifs (follows pen.before glyph) [] (tag (cells_of glyph + joined_cells glyph glyphs)) (text_parts glyph (joined_glyphs glyph glyphs)) [] rest (piece ∷ rest)
-        (λ (begun left : List Part) (pieces : List Piece). Goal (begun ++ shown ++ ended) left pieces)
+        (λ (prefix left : List Part) (pieces : List Piece). Goal (prefix ++ shown ++ ended) left pieces)
         (λ _. whole is)
         (λ _. ap (λ (ps : List Part). tag (cells_of glyph + joined_cells glyph glyphs) ++ ps) (whole is)
         ∙ ap (λ cells. tag (cells_of glyph + cells) ++ (text_parts glyph (joined_glyphs glyph glyphs) ++ parts)) (joined_width glyph glyphs))

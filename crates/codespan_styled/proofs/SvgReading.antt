@@ -19,7 +19,7 @@ use Rattle.codespan_styled.specs.declared.svg.Pen.{Pen}
 use Rattle.codespan_styled.specs.Glyphs.{cells_of, extent_from, follows, glyphs_of, glyphs_of_run, goes_on, is_newline, joined_cells, start}
 use Rattle.codespan_styled.specs.HtmlReading.{InTag, InText, Part, Tag, TextByte, html_parts, parts_from, text_of_parts}
 use Rattle.codespan_styled.specs.Runs.{StyledRun, characters_of}
-use Rattle.codespan_styled.specs.Svg.{above, color_attribute, first_pen, font_attributes, glyph_text, ground_element, height, is_unheld, left_of, next_pen, size_element, svg_document, svg_element, text_element, text_tag, texts_from, weight_attribute, width, xml_character}
+use Rattle.codespan_styled.specs.Svg.{above, color_attribute, first_pen, font_attributes, glyph_text, ground_element, height, is_forbidden_in_xml, left_of, next_pen, size_element, svg_document, svg_element, text_element, text_tag, texts_from, weight_attribute, width, xml_character}
 use Rattle.codespan_styled.specs.SvgReading.{piece_parts, pieces_from, svg_parts, svg_shown, svg_text}
 use Rattle.codespan_styled.proofs.HtmlReading.{IsTextByte, and_true, bytes-read, character-bytes, is_code, text_of-append, text_of-bytes}
 use Rattle.codespan_styled.proofs.SvgPieces.{glyph_parts, parts_of_glyphs, parts_of_pieces, two_ifs}
@@ -153,17 +153,17 @@ module _ (c : ℕ) (rest : List ℕ) (ends : (c == 10) ≡ false) where
 
   -- a character that is neither spelled by an entity nor by a backslash
   other : (c == 38) ≡ false → (c == 60) ≡ false → (c == 27) ≡ false → (c == 0) ≡ false → (c == 13) ≡ false → (c == 9) ≡ false
-      → ReadsAs (if is_unheld c then encode_utf8 65533 else encode_utf8 c)
+      → ReadsAs (if is_forbidden_in_xml c then encode_utf8 65533 else encode_utf8 c)
   other amp lt escape null return tab =
-      let held = if is_unheld c then encode_utf8 65533 else encode_utf8 c in
-      let shown : svg_shown c ≡ held =
-      ap (λ t. if t then 10 ∷ [] else if c == 27 then codes "\\e" else if c == 0 then codes "\\0" else if c == 13 then codes "\\r" else if c == 9 then codes "\\t" else held) ends
-      ∙ ap (λ t. if t then codes "\\e" else if c == 0 then codes "\\0" else if c == 13 then codes "\\r" else if c == 9 then codes "\\t" else held) escape
-      ∙ ap (λ t. if t then codes "\\0" else if c == 13 then codes "\\r" else if c == 9 then codes "\\t" else held) null
-      ∙ ap (λ t. if t then codes "\\r" else if c == 9 then codes "\\t" else held) return
-      ∙ ap (λ t. if t then codes "\\t" else held) tab in
-      bytes-read held rest
-      (cond_both (is_unheld c) _ _ (λ bs. AllByRecursion IsTextByte bs) (λ _. character-bytes 65533 (refl, refl)) (λ _. character-bytes c (lt, amp)))
+      let contents = if is_forbidden_in_xml c then encode_utf8 65533 else encode_utf8 c in
+      let shown : svg_shown c ≡ contents =
+      ap (λ t. if t then 10 ∷ [] else if c == 27 then codes "\\e" else if c == 0 then codes "\\0" else if c == 13 then codes "\\r" else if c == 9 then codes "\\t" else contents) ends
+      ∙ ap (λ t. if t then codes "\\e" else if c == 0 then codes "\\0" else if c == 13 then codes "\\r" else if c == 9 then codes "\\t" else contents) escape
+      ∙ ap (λ t. if t then codes "\\0" else if c == 13 then codes "\\r" else if c == 9 then codes "\\t" else contents) null
+      ∙ ap (λ t. if t then codes "\\r" else if c == 9 then codes "\\t" else contents) return
+      ∙ ap (λ t. if t then codes "\\t" else contents) tab in
+      bytes-read contents rest
+      (cond_both (is_forbidden_in_xml c) _ _ (λ bs. AllByRecursion IsTextByte bs) (λ _. character-bytes 65533 (refl, refl)) (λ _. character-bytes c (lt, amp)))
       ∙ ap (λ bs. map TextByte bs ++ parts_from InText rest) (sym shown)
 
   pub character-read : ReadsAs (xml_character c)
@@ -185,10 +185,10 @@ ended-read : (t : Bool) (rest : List ℕ) → parts_from InText ((if t then [] e
 ended-read true rest = refl
 ended-read false rest = refl
 
-begun-read : (t : Bool) (element rest : List ℕ) → is_inside element ≡ true
+prefix-read : (t : Bool) (element rest : List ℕ) → is_inside element ≡ true
     → parts_from InText ((if t then [] else codes "<" ++ element ++ codes ">") ++ rest) ≡ (if t then [] else Tag element ∷ []) ++ parts_from InText rest
-begun-read true element rest h = refl
-begun-read false element rest h = element-read element rest h
+prefix-read true element rest h = refl
+prefix-read false element rest h = element-read element rest h
 
 -- a glyph that is no newline
 character-glyph : (pen : Pen) (glyph : Glyph) (others : List Glyph) (rest : List ℕ) → is_newline glyph ≡ false
@@ -197,16 +197,16 @@ character-glyph : (pen : Pen) (glyph : Glyph) (others : List Glyph) (rest : List
     ++ parts_from InText rest
 character-glyph pen glyph others rest ends =
     let element = text_element pen.position (cells_of glyph + joined_cells glyph others) glyph.ink in
-    let begun = if follows pen.before glyph then [] else codes "<" ++ element ++ codes ">" in
+    let prefix = if follows pen.before glyph then [] else codes "<" ++ element ++ codes ">" in
     let character = xml_character glyph.character in
     let ended = if goes_on glyph others then [] else codes "</text>" in
-    let begun_parts : List Part = if follows pen.before glyph then [] else Tag element ∷ [] in
+    let opening_parts : List Part = if follows pen.before glyph then [] else Tag element ∷ [] in
     let shown : List Part = map TextByte (svg_shown glyph.character) in
     let ended_parts : List Part = if goes_on glyph others then [] else Tag (codes "/text") ∷ [] in
-    ap (parts_from InText) (append_assoc (begun ++ character) ended rest ∙ append_assoc begun character (ended ++ rest))
-    ∙ begun-read (follows pen.before glyph) element (character ++ (ended ++ rest)) (text-inside pen.position (cells_of glyph + joined_cells glyph others) glyph.ink)
-    ∙ ap (λ (parts : List Part). begun_parts ++ parts) (character-read glyph.character (ended ++ rest) ends ∙ ap (λ (parts : List Part). shown ++ parts) (ended-read (goes_on glyph others) rest))
-    ∙ sym (append_assoc begun_parts shown (ended_parts ++ parts_from InText rest)) ∙ sym (append_assoc (begun_parts ++ shown) ended_parts (parts_from InText rest))
+    ap (parts_from InText) (append_assoc (prefix ++ character) ended rest ∙ append_assoc prefix character (ended ++ rest))
+    ∙ prefix-read (follows pen.before glyph) element (character ++ (ended ++ rest)) (text-inside pen.position (cells_of glyph + joined_cells glyph others) glyph.ink)
+    ∙ ap (λ (parts : List Part). opening_parts ++ parts) (character-read glyph.character (ended ++ rest) ends ∙ ap (λ (parts : List Part). shown ++ parts) (ended-read (goes_on glyph others) rest))
+    ∙ sym (append_assoc opening_parts shown (ended_parts ++ parts_from InText rest)) ∙ sym (append_assoc (opening_parts ++ shown) ended_parts (parts_from InText rest))
 
 glyph-read : (pen : Pen) (glyph : Glyph) (others : List Glyph) (rest : List ℕ) → parts_from InText (glyph_text pen glyph others ++ rest) ≡ glyph_parts pen glyph others ++ parts_from InText rest
 glyph-read pen glyph others rest =
@@ -251,13 +251,13 @@ svg-read glyphs =
 glyph-text : (pen : Pen) (glyph : Glyph) (others : List Glyph) → text_of_parts (glyph_parts pen glyph others) ≡ svg_shown glyph.character
 glyph-text pen glyph others = at (is_newline glyph) refl
   where
-    begun : Bool → List Part
-    begun t = if t then [] else Tag (text_element pen.position (cells_of glyph + joined_cells glyph others) glyph.ink) ∷ []
+    prefix : Bool → List Part
+    prefix t = if t then [] else Tag (text_element pen.position (cells_of glyph + joined_cells glyph others) glyph.ink) ∷ []
 
     ended : Bool → List Part
     ended t = if t then [] else Tag (codes "/text") ∷ []
 
-    between : (f o : Bool) → text_of_parts (begun f ++ map TextByte (svg_shown glyph.character) ++ ended o) ≡ svg_shown glyph.character
+    between : (f o : Bool) → text_of_parts (prefix f ++ map TextByte (svg_shown glyph.character) ++ ended o) ≡ svg_shown glyph.character
     between true true = ap text_of_parts (append-nil (map TextByte (svg_shown glyph.character))) ∙ text_of-bytes (svg_shown glyph.character)
     between true false = text_of-append (map TextByte (svg_shown glyph.character)) (Tag (codes "/text") ∷ []) ∙ append-nil _ ∙ text_of-bytes (svg_shown glyph.character)
     between false true = ap text_of_parts (append-nil (map TextByte (svg_shown glyph.character))) ∙ text_of-bytes (svg_shown glyph.character)
@@ -266,7 +266,7 @@ glyph-text pen glyph others = at (is_newline glyph) refl
     at : (n : Bool) → is_newline glyph ≡ n → text_of_parts (glyph_parts pen glyph others) ≡ svg_shown glyph.character
     at true e = rw e refl
     at false e =
-        ap (λ t. text_of_parts (if t then TextByte 10 ∷ [] else begun (follows pen.before glyph) ++ map TextByte (svg_shown glyph.character) ++ ended (goes_on glyph others))) e
+        ap (λ t. text_of_parts (if t then TextByte 10 ∷ [] else prefix (follows pen.before glyph) ++ map TextByte (svg_shown glyph.character) ++ ended (goes_on glyph others))) e
         ∙ between (follows pen.before glyph) (goes_on glyph others)
 
 glyphs-text : (pen : Pen) (glyphs : List Glyph) → text_of_parts (parts_of_glyphs pen glyphs) ≡ flat_map svg_shown (map (λ (glyph : Glyph). glyph.character) glyphs)

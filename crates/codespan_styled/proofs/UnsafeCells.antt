@@ -36,13 +36,13 @@ passes_at p (suc n) a c h low high =
 
 -- ---- the directional controls
 
-empty_mark : passes_from is_empty 1 0x061C ≡ true
+empty_letter_mark : passes_from is_empty 1 0x061C ≡ true
 unfolding unicode_width
-empty_mark = refl
+empty_letter_mark = refl
 
-empty_marks : passes_from is_empty 2 0x200E ≡ true
+empty_direction_marks : passes_from is_empty 2 0x200E ≡ true
 unfolding unicode_width
-empty_marks = refl
+empty_direction_marks = refl
 
 empty_embeddings : passes_from is_empty 5 0x202A ≡ true
 unfolding unicode_width
@@ -64,20 +64,20 @@ within p n a b c h e inside =
 empty_directional : (c : ℕ) → is_bidi_control c ≡ true → is_empty c ≡ true
 unfolding is_bidi_control bidi_control_ranges in_ranges
 empty_directional c h =
-    let mark = nat_le 0x061C c && nat_le c 0x061C in
-    let marks = nat_le 0x200E c && nat_le c 0x200F in
+    let letter_mark = nat_le 0x061C c && nat_le c 0x061C in
+    let direction_marks = nat_le 0x200E c && nat_le c 0x200F in
     let embeddings = nat_le 0x202A c && nat_le c 0x202E in
     let isolates = nat_le 0x2066 c && nat_le c 0x2069 in
-    ⊎_elim (within is_empty 1 0x061C 0x061C c empty_mark refl)
-    (λ (later : (marks || (embeddings || (isolates || false))) ≡ true).
-    ⊎_elim (within is_empty 2 0x200E 0x200F c empty_marks refl)
+    ⊎_elim (within is_empty 1 0x061C 0x061C c empty_letter_mark refl)
+    (λ (later : (direction_marks || (embeddings || (isolates || false))) ≡ true).
+    ⊎_elim (within is_empty 2 0x200E 0x200F c empty_direction_marks refl)
     (λ (last : (embeddings || (isolates || false)) ≡ true).
     ⊎_elim (within is_empty 5 0x202A 0x202E c empty_embeddings refl)
     (λ (end : (isolates || false) ≡ true).
     ⊎_elim (within is_empty 4 0x2066 0x2069 c empty_isolates refl) (λ (none : false ≡ true). cc) (or_cases isolates false end))
     (or_cases embeddings (isolates || false) last))
-    (or_cases marks (embeddings || (isolates || false)) later))
-    (or_cases mark (marks || (embeddings || (isolates || false))) h)
+    (or_cases direction_marks (embeddings || (isolates || false)) later))
+    (or_cases letter_mark (direction_marks || (embeddings || (isolates || false))) h)
 
 -- ---- characters that are not safe
 

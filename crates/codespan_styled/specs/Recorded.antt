@@ -44,19 +44,19 @@ style_number (Header severity) = 261 + severity_number severity
 style_number (Label severity Primary) = 266 + severity_number severity
 style_number (Label severity Secondary) = 271 + severity_number severity
 
--- each style mark is held as the number of the style that it starts
+-- each style mark is recorded as the number of the style that it starts
 abbrev pub style_spelling : Spelling
 style_spelling mark = style_number (style_after mark) ∷ []
 
 -- ---- runs
 
--- how a run is held: the number of its style, and then its bytes
-abbrev pub held_run : StyledRun → List ℕ
-held_run run = style_number run.style ∷ run.text
+-- how a run is recorded: the number of its style, and then its bytes
+abbrev pub recorded_run : StyledRun → List ℕ
+recorded_run run = style_number run.style ∷ run.text
 
 -- runs, one after another
-abbrev pub held_runs : List StyledRun → List ℕ
-held_runs runs = flat_map held_run runs
+abbrev pub recorded_runs : List StyledRun → List ℕ
+recorded_runs runs = flat_map recorded_run runs
 
 -- the runs of a writer before the last one
 abbrev pub ended_runs : Recorder → List StyledRun
@@ -65,8 +65,8 @@ ended_runs r = map run_view r.runs.items
 -- what a writer holds: its runs, and then the last one
 abbrev pub recorded : Recorder → List ℕ
 recorded r =
-    held_runs (ended_runs r)
-    ++ held_run (record { style = r.style; text = r.text.items })
+    recorded_runs (ended_runs r)
+    ++ recorded_run (record { style = r.style; text = r.text.items })
 
 -- a call of the writer has failed
 abbrev pub has_flag : Recorder → Bool
@@ -76,5 +76,5 @@ has_flag r = r.failed
 abbrev pub recorder_sink : Recorder → Sink
 recorder_sink r = record {
   frame = record { spelling = style_spelling; failed = r.failed; through = [] };
-  held = Some (recorded r);
+  contents = Some (recorded r);
 }

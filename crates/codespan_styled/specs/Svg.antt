@@ -11,8 +11,8 @@ use Rattle.codespan_styled.specs.Glyphs.{after_glyph, cells_of, extent_from, fol
 -- ---- characters
 
 -- the character can not be in an XML document
-abbrev pub is_unheld : ℕ → Bool
-is_unheld c = nat_lt c 32 || (c == 65534) || (c == 65535)
+abbrev pub is_forbidden_in_xml : ℕ → Bool
+is_forbidden_in_xml c = nat_lt c 32 || (c == 65534) || (c == 65535)
 
 -- a character as XML spells it: one that begins a tag or an entity as an entity; the escape
 -- character, the character of the number 0, the carriage return and the tab by a backslash; any
@@ -26,7 +26,7 @@ xml_character c =
     else if c == 0 then codes "\\0"
     else if c == 13 then codes "\\r"
     else if c == 9 then codes "\\t"
-    else if is_unheld c then encode_utf8 65533
+    else if is_forbidden_in_xml c then encode_utf8 65533
     else encode_utf8 c
 
 -- ---- tags

@@ -9,7 +9,7 @@ use Rattle.codespan_styled.specs.declared.svg.Pen.{Pen}
 use Rattle.codespan_styled.specs.Glyphs.{after_glyph, cells_of, extent_from, follows, is_newline, joins, start}
 use Rattle.codespan_styled.specs.HtmlReading.{Part, Tag, TextByte}
 use Rattle.codespan_styled.specs.Runs.{StyledRun, characters_of}
-use Rattle.codespan_styled.specs.Svg.{first_pen, ground_element, is_unheld, next_pen, svg_element, text_element}
+use Rattle.codespan_styled.specs.Svg.{first_pen, ground_element, is_forbidden_in_xml, next_pen, svg_element, text_element}
 
 -- ---- characters
 
@@ -22,7 +22,7 @@ svg_shown c =
     else if c == 0 then codes "\\0"
     else if c == 13 then codes "\\r"
     else if c == 9 then codes "\\t"
-    else if is_unheld c then encode_utf8 65533
+    else if is_forbidden_in_xml c then encode_utf8 65533
     else encode_utf8 c
 
 -- glyphs as a document shows them

@@ -8,7 +8,7 @@ use Rattle.codespan_base.specs.Ansi.{ansi_reset, ansi_style}
 use Rattle.codespan_base.specs.StyleTables.{spelling_by}
 use Rattle.codespan_base.specs.Streams.{Spelling, StyleMark, Header, HeaderMessage, LineNumber, NoteBullet, SourceBorder, LabelMark, Reset}
 use Rattle.codespan_base.specs.declared.term.config.styles.Styles.{Styles}
-use Rattle.codespan_picture.specs.Cells.{width_at}
+use Rattle.codespan_picture.specs.CharMetrics.{width_at}
 use Rattle.codespan_styled.specs.Runs.{StyledRun, characters_of}
 use Rattle.codespan_styled.specs.declared.style.Style.{Style}
 use Rattle.codespan_styled.specs.declared.style.Style.TheVariants as Kinds
@@ -30,14 +30,14 @@ safe_text text = encode_utf8_all (safe_characters (chars text))
 -- ---- the text for a terminal
 
 -- the style mark that starts a run of this style
-abbrev pub mark_of : Style → StyleMark
-mark_of Kinds.Plain = Reset
-mark_of (Kinds.Header severity) = Header severity
-mark_of Kinds.HeaderMessage = HeaderMessage
-mark_of Kinds.LineNumber = LineNumber
-mark_of Kinds.NoteBullet = NoteBullet
-mark_of Kinds.SourceBorder = SourceBorder
-mark_of (Kinds.Label severity style) = LabelMark severity style
+abbrev pub style_mark_of : Style → StyleMark
+style_mark_of Kinds.Plain = Reset
+style_mark_of (Kinds.Header severity) = Header severity
+style_mark_of Kinds.HeaderMessage = HeaderMessage
+style_mark_of Kinds.LineNumber = LineNumber
+style_mark_of Kinds.NoteBullet = NoteBullet
+style_mark_of Kinds.SourceBorder = SourceBorder
+style_mark_of (Kinds.Label severity style) = LabelMark severity style
 
 -- how `Ansi` spells style marks
 abbrev pub ansi_spelling : Styles → Spelling
@@ -45,7 +45,7 @@ ansi_spelling styles = spelling_by styles ansi_style ansi_reset
 
 -- a run: the escape sequences of its style, and its safe text
 abbrev pub run_bytes : Styles → StyledRun → List ℕ
-run_bytes styles run = ansi_spelling styles (mark_of run.style) ++ safe_text run.text
+run_bytes styles run = ansi_spelling styles (style_mark_of run.style) ++ safe_text run.text
 
 -- the runs, one after another
 abbrev pub runs_bytes : Styles → List StyledRun → List ℕ
@@ -54,7 +54,7 @@ runs_bytes styles runs = flat_map (run_bytes styles) runs
 -- the sequences before the first run: a terminal is in the style of plain text already
 abbrev pub opening : Styles → Style → List ℕ
 opening styles Kinds.Plain = []
-opening styles style = ansi_spelling styles (mark_of style)
+opening styles style = ansi_spelling styles (style_mark_of style)
 
 -- the text for a terminal
 abbrev pub terminal_text : Styles → List StyledRun → List ℕ

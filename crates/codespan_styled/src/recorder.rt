@@ -3,10 +3,10 @@
 ghost use Rattle.std.specs.Prelude.{◌≡◌, ◌∷◌, [], MatchResult, OnOk, Some};
 ghost use Rattle.codespan_base.specs.ColorLaw.{AppendsBytes};
 ghost use Rattle.codespan_base.specs.Streams.{bytes};
-ghost use Rattle.codespan_base.specs.WriterLaw.{Sends};
+ghost use Rattle.codespan_base.specs.WriterLaw.{Writes};
 ghost use Rattle.codespan_base.specs.Writers.{fresh_sink};
 ghost use Rattle.codespan_styled.specs.declared.style.Style.TheVariants.{Plain};
-ghost use Rattle.codespan_styled.specs.Recorded.{held_runs, style_number, style_spelling};
+ghost use Rattle.codespan_styled.specs.Recorded.{recorded_runs, style_number, style_spelling};
 ghost use Rattle.codespan_styled.specs.Runs.{styled_runs};
 
 use crate::style::Style;
@@ -63,7 +63,7 @@ impl Recorder {
     /// [`Error::OutOfMemory`]: an allocation fails, or the last run is not UTF-8.
     pub fn into_text(mut self) -> Result<StyledText, Error>
         ensures { MatchResult result
-            (λ text. held_runs (styled_runs text) ≡ recorded self)
+            (λ text. recorded_runs (styled_runs text) ≡ recorded self)
             (λ error. error ≡ Error.OutOfMemory) }
     {
         match self.push_run(Style::Plain) {
@@ -78,7 +78,7 @@ impl Recorder {
     ///
     /// Those of [`push_run`](Self::push_run); each sets the flag.
     fn start(&mut self, style: Style) -> io::Result<()>
-        ensures { Sends (recorder_sink self.old) (bytes (style_number style ∷ [])) result
+        ensures { Writes (recorder_sink self.old) (bytes (style_number style ∷ [])) result
             (recorder_sink self.new) }
     {
         match self.push_run(style) {
@@ -98,7 +98,7 @@ impl Recorder {
     fn push_run(&mut self, next: Style) -> io::Result<()>
         ensures appends { AppendsBytes (Some (recorded self.old)) (style_number next ∷ []) result
             (Some (recorded self.new)) }
-        ensures runs { OnOk result (held_runs (ended_runs self.new) ≡ recorded self.old) }
+        ensures runs { OnOk result (recorded_runs (ended_runs self.new) ≡ recorded self.old) }
         ensures flag { has_flag self.new ≡ has_flag self.old }
     {
         let Ok(bytes) = str::from_utf8(self.text.as_slice()) else {
@@ -131,7 +131,7 @@ impl Write for Recorder {
     }
 }
 
-#[tactic(auto, using(codespan_base::proofs::Marks::marking))]
+#[tactic(auto, using(codespan_base::proofs::StyleMarks::marking))]
 impl WriteStyle for Recorder {
     ghost use Rattle.std.specs.Prelude.{refl};
     ghost use Rattle.codespan_styled.specs.Recorded.{recorder_sink};

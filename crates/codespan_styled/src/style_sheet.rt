@@ -45,7 +45,7 @@ const CLASSED_STYLES: [Style; 15] = [
 /// let css = html_styles(alloc, &Styles::default())?;
 /// ```
 pub fn html_styles(alloc: Global, styles: &Styles) -> Result<String, Error>
-    ensures sheet { IfOk result (λ css. string_bytes css ≡ style_sheet styles.now) }
+    ensures css_text { IfOk result (λ css. string_bytes css ≡ style_sheet styles.now) }
     ensures failed { IfErr result (λ error. error ≡ Error.OutOfMemory) }
 {
     let mut css = String::new(alloc);

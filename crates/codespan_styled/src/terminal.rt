@@ -1,10 +1,10 @@
 //! Text that is safe to print on a terminal.
 
 ghost use Rattle.std.specs.Prelude.{◌≡◌, ◌++◌, IfOk, OnOk, map, string_bytes};
-ghost use Rattle.codespan_base.specs.Streams.{one_mark};
-ghost use Rattle.codespan_base.specs.WriterLaw.{Sends};
+ghost use Rattle.codespan_base.specs.Streams.{style_mark};
+ghost use Rattle.codespan_base.specs.WriterLaw.{Writes};
 ghost use Rattle.codespan_styled.specs.Runs.{run_view, styled_runs};
-ghost use Rattle.codespan_styled.specs.Terminal.{ShowsSafe, ansi_spelling, is_safe, mark_of, runs_bytes, safe_text, terminal_text};
+ghost use Rattle.codespan_styled.specs.Terminal.{ShowsSafe, ansi_spelling, is_safe, style_mark_of, runs_bytes, safe_text, terminal_text};
 
 pub mod laws;
 
@@ -124,7 +124,7 @@ fn push_sequence(
     style: Style,
 ) -> Result<(), AllocError>
     ensures { OnOk result (string_bytes terminal.new
-        ≡ string_bytes terminal.old ++ ansi_spelling styles.now (mark_of style)) }
+        ≡ string_bytes terminal.old ++ ansi_spelling styles.now (style_mark_of style)) }
 {
     let bytes = sequence(alloc, styles, style)?;
     let Ok(text) = String::from_utf8(bytes) else {
@@ -135,7 +135,7 @@ fn push_sequence(
 
 /// Returns the bytes of the sequences of a style.
 fn sequence(alloc: Global, styles: &Styles, style: Style) -> Result<Vec<u8>, AllocError>
-    ensures { IfOk result (λ bytes. bytes.items ≡ ansi_spelling styles.now (mark_of style)) }
+    ensures { IfOk result (λ bytes. bytes.items ≡ ansi_spelling styles.now (style_mark_of style)) }
 {
     let mut writer = StylesWriter::new(Ansi::new(Vec::new(alloc)), styles);
     match set_style(&mut writer, style) {
@@ -146,7 +146,8 @@ fn sequence(alloc: Global, styles: &Styles, style: Style) -> Result<Vec<u8>, All
 
 /// Writes the style mark that starts a run of a style.
 fn set_style<W: WriteStyle>(writer: &mut W, style: Style) -> io::Result<()>
-    ensures { Sends (W.sink writer.old) (one_mark (mark_of style)) result (W.sink writer.new) }
+    ensures { Writes (W.sink writer.old) (style_mark (style_mark_of style)) result
+        (W.sink writer.new) }
 {
     match style {
         Style::Plain => writer.reset(),

@@ -3,6 +3,6 @@
 #![tactic(auto)]
 
 #[cfg(test)]
-mod pictures;
+mod outputs;
 #[cfg(test)]
 mod quick_start;

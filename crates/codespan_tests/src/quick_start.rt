@@ -49,19 +49,19 @@ fn rows(alloc: Global) -> Result<Vec<u8>, Error> {
 #[test]
 fn quick_start(rt: HostRuntime) -> Result<(), Fail> {
     let text = render(rt.alloc())?;
-    let want = "error[E0001]: invalid value for `retries`\n  \
+    let expected = "error[E0001]: invalid value for `retries`\n  \
                 ┌─ settings.conf:1:11\n  \
                 │\n\
                 1 │ retries = many\n  \
                 │           ^^^^ expected a number\n\n";
-    assert_eq!(rt; text.as_str(), want);
+    assert_eq!(rt; text.as_str(), expected);
 
     let rows = rows(rt.alloc())?;
-    let want = "3 │     v.push(v.pop().unwrap());\n\
+    let expected = "3 │     v.push(v.pop().unwrap());\n\
                 \x20 │     - ---- ^ second mutable borrow occurs here\n\
                 \x20 │     │ │     \n\
                 \x20 │     │ first borrow later used by call\n\
                 \x20 │     first mutable borrow occurs here\n";
-    assert_eq!(rt; rows.as_slice(), want.as_bytes());
+    assert_eq!(rt; rows.as_slice(), expected.as_bytes());
     Ok(())
 }

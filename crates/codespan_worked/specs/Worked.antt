@@ -12,11 +12,11 @@ use Rattle.codespan_base.specs.MappedModel.{mapped_file}
 use Rattle.codespan_base.specs.Streams.{Stream, Spelling, bytes}
 use Rattle.codespan_base.specs.StyleTables.{default_styles, spelling_by}
 use Rattle.codespan_base.specs.Ansi.{ansi_style, ansi_reset, escape, ansi_bold, ansi_color}
-use Rattle.codespan_picture.specs.declared.given.MultiLabel.TheVariants as given
-use Rattle.codespan_picture.specs.Given.{GivenMark}
+use Rattle.codespan_picture.specs.declared.arguments.MultiLabel.TheVariants as rust_variant
+use Rattle.codespan_picture.specs.Arguments.{LaneMarkTuple}
 use Rattle.codespan_picture.specs.Rows.{Line}
 use Rattle.codespan_picture.specs.RowWords.{row_words}
-use Rattle.codespan_picture.specs.Snippets.{InFile, labelled_files}
+use Rattle.codespan_picture.specs.Snippets.{InFile, labeled_file_models}
 use Rattle.codespan_picture.specs.Picture.{rendered, starts}
 use Rattle.codespan_picture.specs.StatedPicture.{stated_locus}
 
@@ -57,15 +57,15 @@ from_zero f = record f {
 }
 
 -- a diagnostic without its labels
-pub record Said : Type 0 where
+pub record DiagnosticText : Type 0 where
   pub severity : Severity
   pub code : Option (List ℕ)
   pub message : List ℕ
   pub notes : List (List ℕ)
 
 -- a message alone
-abbrev pub says : Severity → List ℕ → Said
-says severity message = record {
+abbrev pub message_only : Severity → List ℕ → DiagnosticText
+message_only severity message = record {
   severity = severity;
   code = None;
   message = encode_utf8_all message;
@@ -73,36 +73,37 @@ says severity message = record {
 }
 
 -- the same with a code
-abbrev pub with_code : List ℕ → Said → Said
-with_code code said = record said { code = Some (encode_utf8_all code) }
+abbrev pub with_code : List ℕ → DiagnosticText → DiagnosticText
+with_code code diagnostic = record diagnostic { code = Some (encode_utf8_all code) }
 
 -- the same with one note
-abbrev pub with_note : List ℕ → Said → Said
-with_note note said = record said { notes = encode_utf8_all note ∷ [] }
+abbrev pub with_note : List ℕ → DiagnosticText → DiagnosticText
+with_note note diagnostic = record diagnostic { notes = encode_utf8_all note ∷ [] }
 
 -- the file of a number
 abbrev pub numbered : List FileModel → ℕ → FileModel
 numbered files id = option_map_or (λ f. f) (slice_get files id) missing_file
 
 -- what is rendered in a style, with the names that the files state
-abbrev pub shown : DisplayStyle → Config → Said → List FileModel → List (InFile ℕ) → Stream
-shown style config said files labels =
-    rendered style config config said.severity
-    (record { code = said.code; message = said.message })
+abbrev pub shown : DisplayStyle → Config → DiagnosticText → List FileModel → List (InFile ℕ)
+    → Stream
+shown style config diagnostic files labels =
+    rendered style config config diagnostic.severity
+    (record { code = diagnostic.code; message = diagnostic.message })
     (map stated_locus (starts ◌==◌ (numbered files) labels style))
-    (labelled_files ◌==◌ (numbered files) labels) said.notes
+    (labeled_file_models ◌==◌ (numbered files) labels) diagnostic.notes
 
 -- in rich style
-abbrev pub rich : Config → Said → List FileModel → List (InFile ℕ) → Stream
-rich config said files labels = shown Rich config said files labels
+abbrev pub rich : Config → DiagnosticText → List FileModel → List (InFile ℕ) → Stream
+rich config diagnostic files labels = shown Rich config diagnostic files labels
 
 -- in medium style
-abbrev pub medium : Config → Said → List FileModel → List (InFile ℕ) → Stream
-medium config said files labels = shown Medium config said files labels
+abbrev pub medium : Config → DiagnosticText → List FileModel → List (InFile ℕ) → Stream
+medium config diagnostic files labels = shown Medium config diagnostic files labels
 
 -- in short style
-abbrev pub short : Config → Said → List FileModel → List (InFile ℕ) → Stream
-short config said files labels = shown Short config said files labels
+abbrev pub short : Config → DiagnosticText → List FileModel → List (InFile ℕ) → Stream
+short config diagnostic files labels = shown Short config diagnostic files labels
 
 -- ---- texts of several of them
 
@@ -117,11 +118,11 @@ nat_files =
     ∷ []
 
 -- the diagnostic over them, without its labels
-abbrev pub nat_error : Said
+abbrev pub nat_error : DiagnosticText
 nat_error =
     with_note (codes "expected type `Nat`\n   found type `String`\n")
     (with_code (codes "E0001")
-    (says Error (codes "unexpected type in application of `_+_`")))
+    (message_only Error (codes "unexpected type in application of `_+_`")))
 
 -- a file whose lines are indented by tabs
 abbrev pub tabbed_file : FileModel
@@ -140,8 +141,8 @@ line_of_labels number text labels = record {
 }
 
 -- a bar in each of these lanes
-abbrev pub bars_in : List ℕ → List GivenMark
-bars_in lanes = map (λ lane. (lane, Primary, given.Left)) lanes
+abbrev pub bars_in : List ℕ → List LaneMarkTuple
+bars_in lanes = map (λ lane. (lane, Primary, rust_variant.Left)) lanes
 
 -- ---- many labels
 

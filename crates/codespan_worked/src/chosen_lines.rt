@@ -6,13 +6,13 @@ ghost use Rattle.codespan_base.specs.Streams.{text_of};
 ghost use Rattle.codespan_base.specs.declared.diagnostic.Severity.TheVariants.{Error};
 ghost use Rattle.codespan_base.specs.declared.diagnostic.LabelStyle.TheVariants.{Primary, Secondary};
 ghost use Rattle.codespan_base.specs.declared.term.config.Layout.TheVariants.{Unbroken};
-ghost use Rattle.codespan_worked.specs.Worked.{text_file, label, says, with_code, with_note, rich, rows, nat_files, nat_error};
+ghost use Rattle.codespan_worked.specs.Worked.{text_file, label, message_only, with_code, with_note, rich, rows, nat_files, nat_error};
 
 /// Two lines of context before a label.
 fn surrounding_lines()
     ensures { text_of
         (rich (record default_config { before_label_lines = 2; after_label_lines = 1 })
-        (says Error (codes "Syntax error"))
+        (message_only Error (codes "Syntax error"))
         (text_file (codes "surroundingLines.fun")
         (codes "#[foo]\nfn main() {\n    println!(\n        \"{}\",\n"
         ++ codes "        Foo\n    );\n}\n\nstruct Foo") ∷ [])
@@ -52,7 +52,7 @@ fn two_files()
 /// A note without labels.
 fn note_alone()
     ensures { text_of (rich default_config
-        (with_note (codes "a note") (says Error (codes "a message"))) [] [])
+        (with_note (codes "a note") (message_only Error (codes "a message"))) [] [])
         ≡ rows (codes "error: a message"
         ∷ codes " = a note"
         ∷ [] ∷ []) }
@@ -60,14 +60,16 @@ fn note_alone()
 
 /// An empty note has no row.
 fn empty_note()
-    ensures { text_of (rich default_config (with_note (codes "") (says Error (codes "m"))) [] [])
+    ensures { text_of (rich default_config (with_note (codes "") (message_only Error (codes "m")))
+        [] [])
         ≡ rows (codes "error: m"
         ∷ [] ∷ []) }
 {}
 
 /// A number longer than the padding pushes its row.
 fn long_number_pushes_row()
-    ensures { text_of (rich (record default_config { after_label_lines = 1 }) (says Error [])
+    ensures { text_of (rich (record default_config { after_label_lines = 1 })
+        (message_only Error [])
         (text_file (codes "f") (codes "x\nx\nx\nx\nx\nx\nx\nx\nx\ny") ∷ [])
         (label Primary 0 16 17 [] ∷ []))
         ≡ rows (codes "error: "
@@ -82,7 +84,7 @@ fn long_number_pushes_row()
 /// In the unbroken layout the padding fits it.
 fn unbroken_padding()
     ensures { text_of (rich (record default_config { after_label_lines = 1; layout = Unbroken })
-        (says Error [])
+        (message_only Error [])
         (text_file (codes "f") (codes "x\nx\nx\nx\nx\nx\nx\nx\nx\ny") ∷ [])
         (label Primary 0 16 17 [] ∷ []))
         ≡ rows (codes "error: "
@@ -96,7 +98,7 @@ fn unbroken_padding()
 
 /// Between shown lines one line is filled in, and of more there is a break.
 fn fills_and_breaks()
-    ensures { text_of (rich default_config (says Error [])
+    ensures { text_of (rich default_config (message_only Error [])
         (text_file (codes "f") (codes "a\nb\nc\nd\ne\nf\ng") ∷ [])
         (label Primary 0 0 1 (codes "p")
         ∷ label Secondary 0 4 5 (codes "q")
@@ -118,7 +120,7 @@ fn fills_and_breaks()
 /// A note is cut at its newlines.
 fn note_pieces()
     ensures { text_of (rich default_config
-        (with_note (codes "a\r\n\nb\n") (says Error (codes "m"))) [] [])
+        (with_note (codes "a\r\n\nb\n") (message_only Error (codes "m"))) [] [])
         ≡ rows (codes "error: m"
         ∷ codes " = a"
         ∷ codes "   "
@@ -128,7 +130,8 @@ fn note_pieces()
 
 /// One label and a note.
 fn script_run()
-    ensures { text_of (rich default_config (with_note (codes "why") (says Error (codes "bad")))
+    ensures { text_of (rich default_config
+        (with_note (codes "why") (message_only Error (codes "bad")))
         (text_file (codes "f.txt") (codes "abc\n") ∷ [])
         (label Primary 0 0 3 (codes "here") ∷ []))
         ≡ rows (codes "error: bad"
@@ -144,7 +147,7 @@ fn script_run()
 /// An error of a script: an unknown word.
 fn script_unknown_word()
     ensures { text_of (rich default_config
-        (with_code (codes "S1") (says Error (codes "unknown word")))
+        (with_code (codes "S1") (message_only Error (codes "unknown word")))
         (text_file (codes "script") (codes "message a\ncolour red\n---\n") ∷ [])
         (label Primary 0 10 16
         (codes "expected severity, code, message, primary, secondary or note") ∷ []))
@@ -159,7 +162,7 @@ fn script_unknown_word()
 /// An error of a script: a repeated word.
 fn script_repeated_word()
     ensures { text_of (rich default_config
-        (with_code (codes "S4") (says Error (codes "repeated word")))
+        (with_code (codes "S4") (message_only Error (codes "repeated word")))
         (text_file (codes "script") (codes "code A\ncode B\n---\n") ∷ [])
         (label Primary 0 7 11 (codes "given again")
         ∷ label Secondary 0 0 4 (codes "first given here") ∷ []))
@@ -176,7 +179,7 @@ fn script_repeated_word()
 /// An error of a script: no number.
 fn script_bad_number()
     ensures { text_of (rich default_config
-        (with_code (codes "S3") (says Error (codes "bad number")))
+        (with_code (codes "S3") (message_only Error (codes "bad number")))
         (text_file (codes "script") (codes "primary 0 x\n---\n") ∷ [])
         (label Primary 0 10 11 (codes "expected a decimal number") ∷ []))
         ≡ rows (codes "error[S3]: bad number"
@@ -190,7 +193,7 @@ fn script_bad_number()
 /// An error of a script: no end.
 fn script_bad_end()
     ensures { text_of (rich default_config
-        (with_code (codes "S5") (says Error (codes "missing end of script")))
+        (with_code (codes "S5") (message_only Error (codes "missing end of script")))
         (text_file (codes "script") [] ∷ [])
         (label Primary 0 0 0 (codes "expected ---") ∷ []))
         ≡ rows (codes "error[S5]: missing end of script"

@@ -3,9 +3,9 @@
 #![tactic(auto, unfolding(crate::specs::Worked::worked_words))]
 
 mod chosen_lines;
-mod handed_in;
+mod direct_rows;
+mod mutants;
 mod other_files;
 mod several_lines;
 mod single_lines;
 mod styles;
-mod telling;

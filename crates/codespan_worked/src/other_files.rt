@@ -6,11 +6,11 @@ ghost use Rattle.codespan_base.specs.MappedModel.{with_number};
 ghost use Rattle.codespan_base.specs.Streams.{text_of};
 ghost use Rattle.codespan_base.specs.declared.diagnostic.Severity.TheVariants.{Error};
 ghost use Rattle.codespan_base.specs.declared.diagnostic.LabelStyle.TheVariants.{Primary};
-ghost use Rattle.codespan_worked.specs.Worked.{text_file, mapped_text, from_zero, label, says, rich, short, rows, many_lines, many_labels, evens, odds};
+ghost use Rattle.codespan_worked.specs.Worked.{text_file, mapped_text, from_zero, label, message_only, rich, short, rows, many_lines, many_labels, evens, odds};
 
 /// A line whose number is set, and those after it.
 fn mapped_numbers()
-    ensures { text_of (rich default_config (says Error [])
+    ensures { text_of (rich default_config (message_only Error [])
         (mapped_text (codes "m") (codes "a\nb\nc\nd") (with_number 2 100 []) ∷ [])
         (label Primary 0 2 7 (codes "x") ∷ []))
         ≡ rows (codes "error: "
@@ -25,7 +25,7 @@ fn mapped_numbers()
 
 /// Lines that are numbered by their indices: 0 has one digit.
 fn line_number_zero()
-    ensures { text_of (rich default_config (says Error [])
+    ensures { text_of (rich default_config (message_only Error [])
         (from_zero (text_file (codes "f") (codes "ab")) ∷ [])
         (label Primary 0 0 1 (codes "z") ∷ []))
         ≡ rows (codes "error: "
@@ -38,7 +38,7 @@ fn line_number_zero()
 
 /// In short style one header for the one label: what is written before a missing file.
 fn missing_file_short()
-    ensures { text_of (short default_config (says Error (codes "m"))
+    ensures { text_of (short default_config (message_only Error (codes "m"))
         (text_file (codes "f") (codes "ab") ∷ [])
         (label Primary 0 0 1 [] ∷ []))
         ≡ rows (codes "f:1:1: error: m" ∷ []) }
@@ -48,9 +48,9 @@ fn missing_file_short()
 /// output.
 fn label_orders()
     ensures reversed { text_of
-        (rich default_config (says Error []) (many_lines ∷ []) (reverse many_labels))
-        ≡ text_of (rich default_config (says Error []) (many_lines ∷ []) many_labels) }
+        (rich default_config (message_only Error []) (many_lines ∷ []) (reverse many_labels))
+        ≡ text_of (rich default_config (message_only Error []) (many_lines ∷ []) many_labels) }
     ensures odd_first { text_of
-        (rich default_config (says Error []) (many_lines ∷ []) (odds ++ evens))
-        ≡ text_of (rich default_config (says Error []) (many_lines ∷ []) many_labels) }
+        (rich default_config (message_only Error []) (many_lines ∷ []) (odds ++ evens))
+        ≡ text_of (rich default_config (message_only Error []) (many_lines ∷ []) many_labels) }
 {}

@@ -7,11 +7,11 @@ ghost use Rattle.codespan_base.specs.Streams.{text_of};
 ghost use Rattle.codespan_base.specs.declared.diagnostic.Severity.TheVariants.{Error};
 ghost use Rattle.codespan_base.specs.declared.diagnostic.LabelStyle.TheVariants.{Primary, Secondary};
 ghost use Rattle.codespan_base.specs.declared.term.config.Layout.TheVariants.{Unbroken};
-ghost use Rattle.codespan_worked.specs.Worked.{text_file, label, says, with_code, with_note, rich, rows};
+ghost use Rattle.codespan_worked.specs.Worked.{text_file, label, message_only, with_code, with_note, rich, rows};
 
 /// A label from a line's start has its corner in the source row.
 fn from_line_start()
-    ensures { text_of (rich default_config (says Error [])
+    ensures { text_of (rich default_config (message_only Error [])
         (text_file (codes "f") (codes "foo\nbar") ∷ [])
         (label Primary 0 0 4 (codes "m") ∷ []))
         ≡ rows (codes "error: "
@@ -26,7 +26,7 @@ fn from_line_start()
 /// Two lanes, with a break between shown lines.
 fn empty_elseif()
     ensures { text_of (rich (record default_config { start_context_lines = 2 })
-        (with_code (codes "empty_if") (says Error (codes "empty elseif block")))
+        (with_code (codes "empty_if") (message_only Error (codes "empty elseif block")))
         (text_file (codes "empty_if_comments.lua")
         (codes "elseif 3 then\n\n\n\n\n\n\n\n\nelse") ∷ [])
         (label Primary 0 0 23 []
@@ -52,7 +52,7 @@ fn empty_elseif()
 fn mismatched_types()
     ensures { text_of (rich (record default_config { start_context_lines = 2 })
         (with_note (codes "note:\texpected type `()`\n\tfound type `{integer}`")
-        (with_code (codes "E0308") (says Error (codes "mismatched types"))))
+        (with_code (codes "E0308") (message_only Error (codes "mismatched types"))))
         (text_file (codes "src/lib.rs")
         (codes "fn main() {\n    1\n    + 1\n    + 1\n    + 1\n    + 1\n    +1\n"
         ++ codes "    + 1\n    + 1\n    + 1\n}") ∷ [])
@@ -80,7 +80,7 @@ fn mismatched_types()
 
 /// An underline passes a bar.
 fn crossing_lanes()
-    ensures { text_of (rich default_config (says Error [])
+    ensures { text_of (rich default_config (message_only Error [])
         (text_file (codes "f") (codes "ab\ncd\nef") ∷ [])
         (label Secondary 0 1 4 (codes "q")
         ∷ label Primary 0 0 7 (codes "p") ∷ []))
@@ -98,7 +98,7 @@ fn crossing_lanes()
 
 /// The output of `report` over two lines.
 fn report_two_lines()
-    ensures { text_of (rich default_config (says Error (codes "bad"))
+    ensures { text_of (rich default_config (message_only Error (codes "bad"))
         (text_file (codes "f.txt") (codes "abc\nd") ∷ [])
         (label Primary 0 0 4 (codes "bad") ∷ []))
         ≡ rows (codes "error: bad"
@@ -119,7 +119,7 @@ fn other_bottom_characters()
         multi_secondary_caret_end = 0x22;
       };
     })
-        (says Error [])
+        (message_only Error [])
         (text_file (codes "f") (codes "ab\ncd\nef") ∷ [])
         (label Secondary 0 1 4 (codes "q")
         ∷ label Primary 0 0 7 (codes "p") ∷ []))
@@ -137,7 +137,7 @@ fn other_bottom_characters()
 
 /// A start after its end, on another line: no line has a bar.
 fn reversed_over_lines()
-    ensures { text_of (rich default_config (says Error [])
+    ensures { text_of (rich default_config (message_only Error [])
         (text_file (codes "f") (codes "ab\ncd") ∷ [])
         (label Primary 0 4 1 (codes "r") ∷ []))
         ≡ rows (codes "error: "
@@ -152,7 +152,7 @@ fn reversed_over_lines()
 
 /// Below a corner in a source row the lane is left out.
 fn below_corner()
-    ensures { text_of (rich default_config (says Error [])
+    ensures { text_of (rich default_config (message_only Error [])
         (text_file (codes "f") (codes "ab\ncd") ∷ [])
         (label Primary 0 0 5 (codes "p")
         ∷ label Secondary 0 1 2 (codes "q") ∷ []))
@@ -168,7 +168,7 @@ fn below_corner()
 
 /// In the unbroken layout it is not.
 fn unbroken_below_corner()
-    ensures { text_of (rich (record default_config { layout = Unbroken }) (says Error [])
+    ensures { text_of (rich (record default_config { layout = Unbroken }) (message_only Error [])
         (text_file (codes "f") (codes "ab\ncd") ∷ [])
         (label Primary 0 0 5 (codes "p")
         ∷ label Secondary 0 1 2 (codes "q") ∷ []))
@@ -184,7 +184,7 @@ fn unbroken_below_corner()
 
 /// In the unbroken layout an underline passes the bar below a corner.
 fn unbroken_underline()
-    ensures { text_of (rich (record default_config { layout = Unbroken }) (says Error [])
+    ensures { text_of (rich (record default_config { layout = Unbroken }) (message_only Error [])
         (text_file (codes "f") (codes "ab\ncd\nef") ∷ [])
         (label Secondary 0 1 4 (codes "q")
         ∷ label Primary 0 0 7 (codes "p") ∷ []))

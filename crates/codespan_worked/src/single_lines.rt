@@ -6,18 +6,18 @@ ghost use Rattle.codespan_base.specs.Characters.{ascii};
 ghost use Rattle.codespan_base.specs.Streams.{text_of};
 ghost use Rattle.codespan_base.specs.declared.diagnostic.Severity.TheVariants.{Bug, Error, Note};
 ghost use Rattle.codespan_base.specs.declared.diagnostic.LabelStyle.TheVariants.{Primary, Secondary};
-ghost use Rattle.codespan_worked.specs.Worked.{text_file, label, says, with_code, rich, rows, tabbed_file};
+ghost use Rattle.codespan_worked.specs.Worked.{text_file, label, message_only, with_code, rich, rows, tabbed_file};
 
 /// No label: the header and the closing line.
 fn bare_bug()
-    ensures { text_of (rich default_config (says Bug []) [] [])
+    ensures { text_of (rich default_config (message_only Bug []) [] [])
         ≡ rows (codes "bug: "
         ∷ [] ∷ []) }
 {}
 
 /// An empty range in the middle of a line.
 fn hello_notes_middle()
-    ensures { text_of (rich default_config (says Note (codes "middle"))
+    ensures { text_of (rich default_config (message_only Note (codes "middle"))
         (text_file (codes "hello") (codes "Hello world!\nBye world!\n   ") ∷ [])
         (label Primary 0 6 6 (codes "middle") ∷ []))
         ≡ rows (codes "note: middle"
@@ -30,7 +30,7 @@ fn hello_notes_middle()
 
 /// An empty range at the end of the file.
 fn hello_notes_end()
-    ensures { text_of (rich default_config (says Note (codes "end of file"))
+    ensures { text_of (rich default_config (message_only Note (codes "end of file"))
         (text_file (codes "hello") (codes "Hello world!\nBye world!\n   ") ∷ [])
         (label Primary 0 27 27 (codes "end of file") ∷ []))
         ≡ rows (codes "note: end of file"
@@ -43,7 +43,7 @@ fn hello_notes_end()
 
 /// Two labels of one range: both hang, and the primary caret wins.
 fn same_range()
-    ensures { text_of (rich default_config (says Error (codes "Unexpected token"))
+    ensures { text_of (rich default_config (message_only Error (codes "Unexpected token"))
         (text_file (codes "same_range") (codes "::S { }") ∷ [])
         (label Primary 0 4 4 (codes "Unexpected '{'")
         ∷ label Secondary 0 4 4 (codes "Expected '('") ∷ []))
@@ -62,7 +62,7 @@ fn same_range()
 fn mutable_borrows()
     ensures { text_of (rich default_config
         (with_code (codes "E0499")
-        (says Error (codes "cannot borrow `v` as mutable more than once at a time")))
+        (message_only Error (codes "cannot borrow `v` as mutable more than once at a time")))
         (text_file (codes "one_line.rs")
         (codes "fn main() {\n    let mut v = vec![Some(\"foo\"), Some(\"bar\")];\n"
         ++ codes "    v.push(v.pop().unwrap());\n}\n") ∷ [])
@@ -82,7 +82,7 @@ fn mutable_borrows()
 
 /// A wide character has two cells, a combining one has none.
 fn wide_and_combining()
-    ensures { text_of (rich default_config (says Note [])
+    ensures { text_of (rich default_config (message_only Note [])
         (text_file (codes "f") (codes "a路b́c") ∷ [])
         (label Primary 0 1 4 (codes "w")
         ∷ label Secondary 0 5 7 (codes "m") ∷ []))
@@ -98,7 +98,7 @@ fn wide_and_combining()
 
 /// The primary caret wins, and an overlap forbids a trailing message.
 fn overlapping_labels()
-    ensures { text_of (rich default_config (says Error [])
+    ensures { text_of (rich default_config (message_only Error [])
         (text_file (codes "f") (codes "abcdef") ∷ [])
         (label Secondary 0 0 6 (codes "s")
         ∷ label Primary 0 2 4 (codes "p") ∷ []))
@@ -115,7 +115,7 @@ fn overlapping_labels()
 
 /// A start after its end, in one line.
 fn reversed_in_line()
-    ensures { text_of (rich default_config (says Error [])
+    ensures { text_of (rich default_config (message_only Error [])
         (text_file (codes "f") (codes "abc") ∷ [])
         (label Primary 0 2 1 (codes "r") ∷ []))
         ≡ rows (codes "error: "
@@ -128,7 +128,7 @@ fn reversed_in_line()
 
 /// The same in ASCII.
 fn reversed_in_line_ascii()
-    ensures { text_of (rich (record default_config { chars = ascii }) (says Error [])
+    ensures { text_of (rich (record default_config { chars = ascii }) (message_only Error [])
         (text_file (codes "f") (codes "abc") ∷ [])
         (label Primary 0 2 1 (codes "r") ∷ []))
         ≡ rows (codes "error: "
@@ -141,7 +141,7 @@ fn reversed_in_line_ascii()
 
 /// A range past the end has no caret.
 fn past_the_end()
-    ensures { text_of (rich default_config (says Error [])
+    ensures { text_of (rich default_config (message_only Error [])
         (text_file (codes "f") (codes "ab") ∷ [])
         (label Primary 0 9 12 (codes "x") ∷ []))
         ≡ rows (codes "error: "
@@ -154,7 +154,7 @@ fn past_the_end()
 
 /// Tabs reach the next stop, of four cells.
 fn tab_stops_4()
-    ensures { text_of (rich default_config (says Error [])
+    ensures { text_of (rich default_config (message_only Error [])
         (tabbed_file ∷ [])
         (label Primary 0 58 73 (codes "the condition") ∷ []))
         ≡ rows (codes "error: "
@@ -167,7 +167,7 @@ fn tab_stops_4()
 
 /// The same, of three cells.
 fn tab_stops_3()
-    ensures { text_of (rich (record default_config { tab_width = 3 }) (says Error [])
+    ensures { text_of (rich (record default_config { tab_width = 3 }) (message_only Error [])
         (tabbed_file ∷ [])
         (label Primary 0 58 73 (codes "the condition") ∷ []))
         ≡ rows (codes "error: "
@@ -180,7 +180,7 @@ fn tab_stops_3()
 
 /// At width 0 a tab has no cell.
 fn tab_stops_0()
-    ensures { text_of (rich (record default_config { tab_width = 0 }) (says Error [])
+    ensures { text_of (rich (record default_config { tab_width = 0 }) (message_only Error [])
         (tabbed_file ∷ [])
         (label Primary 0 58 73 (codes "the condition") ∷ []))
         ≡ rows (codes "error: "
@@ -193,7 +193,7 @@ fn tab_stops_0()
 
 /// A range that cuts characters takes them whole.
 fn moon_jump()
-    ensures { text_of (rich default_config (says Note (codes "invalid unicode range"))
+    ensures { text_of (rich default_config (message_only Note (codes "invalid unicode range"))
         (text_file (codes "moon_jump.rs") (codes "🐄🌑🐄🌒🐄🌓🐄🌔🐄🌕🐄🌖🐄🌗🐄🌘🐄") ∷ [])
         (label Secondary 0 1 11 (codes "Cow does not start or end at boundary.") ∷ []))
         ≡ rows (codes "note: invalid unicode range"
@@ -206,7 +206,7 @@ fn moon_jump()
 
 /// Of three equal ranges the last label hangs last.
 fn three_equal_ranges()
-    ensures { text_of (rich default_config (says Error [])
+    ensures { text_of (rich default_config (message_only Error [])
         (text_file (codes "f") (codes "abc") ∷ [])
         (label Primary 0 1 2 (codes "x")
         ∷ label Secondary 0 1 2 (codes "y")
@@ -225,7 +225,7 @@ fn three_equal_ranges()
 
 /// Pointers count cells, not characters.
 fn wide_pointers()
-    ensures { text_of (rich default_config (says Error [])
+    ensures { text_of (rich default_config (message_only Error [])
         (text_file (codes "f") (codes "路ab") ∷ [])
         (label Primary 0 0 3 (codes "w")
         ∷ label Secondary 0 3 4 (codes "s")
@@ -243,7 +243,7 @@ fn wide_pointers()
 
 /// An empty range at the greatest byte index.
 fn greatest_positions()
-    ensures { text_of (rich default_config (says Error [])
+    ensures { text_of (rich default_config (message_only Error [])
         (text_file (codes "f") (codes "ab") ∷ [])
         (label Primary 0 18446744073709551615 18446744073709551615 (codes "x") ∷ []))
         ≡ rows (codes "error: "
@@ -256,7 +256,7 @@ fn greatest_positions()
 
 /// From the greatest byte index to 0.
 fn greatest_positions_reversed()
-    ensures { text_of (rich default_config (says Error [])
+    ensures { text_of (rich default_config (message_only Error [])
         (text_file (codes "f") (codes "ab") ∷ [])
         (label Primary 0 18446744073709551615 0 (codes "x") ∷ []))
         ≡ rows (codes "error: "
@@ -269,7 +269,7 @@ fn greatest_positions_reversed()
 
 /// The output of `report` in its stored run.
 fn report_run()
-    ensures { text_of (rich default_config (says Error (codes "bad"))
+    ensures { text_of (rich default_config (message_only Error (codes "bad"))
         (text_file (codes "f.txt") (codes "abc\n") ∷ [])
         (label Primary 0 0 3 (codes "bad") ∷ []))
         ≡ rows (codes "error: bad"

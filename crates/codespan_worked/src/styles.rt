@@ -5,11 +5,11 @@ ghost use Rattle.codespan_base.specs.Defaults.{default_config};
 ghost use Rattle.codespan_base.specs.Streams.{text_of, spelled};
 ghost use Rattle.codespan_base.specs.declared.diagnostic.Severity.TheVariants.{Bug, Error};
 ghost use Rattle.codespan_base.specs.declared.diagnostic.LabelStyle.TheVariants.{Primary, Secondary};
-ghost use Rattle.codespan_worked.specs.Worked.{text_file, label, says, with_code, with_note, rich, medium, short, rows, ansi, nat_files, nat_error};
+ghost use Rattle.codespan_worked.specs.Worked.{text_file, label, message_only, with_code, with_note, rich, medium, short, rows, ansi, nat_files, nat_error};
 
 /// No label in short style: the header alone.
 fn bare_bug_short()
-    ensures { text_of (short default_config (says Bug []) [] [])
+    ensures { text_of (short default_config (message_only Bug []) [] [])
         ≡ rows (codes "bug: " ∷ []) }
 {}
 
@@ -36,13 +36,13 @@ fn short()
 /// An empty code is not written.
 fn short_without_code()
     ensures { text_of (short default_config
-        (with_code (codes "") (says Error (codes "where did my errorcode go?"))) [] [])
+        (with_code (codes "") (message_only Error (codes "where did my errorcode go?"))) [] [])
         ≡ rows (codes "error: where did my errorcode go?" ∷ []) }
 {}
 
 /// One label of one file in short style.
 fn report_short()
-    ensures { text_of (short default_config (says Error (codes "bad"))
+    ensures { text_of (short default_config (message_only Error (codes "bad"))
         (text_file (codes "f.txt") (codes "abc\n") ∷ [])
         (label Primary 0 0 3 (codes "bad") ∷ []))
         ≡ rows (codes "f.txt:1:1: error: bad" ∷ []) }
@@ -50,7 +50,7 @@ fn report_short()
 
 /// One label of one file in medium style.
 fn report_medium()
-    ensures { text_of (medium default_config (says Error (codes "bad"))
+    ensures { text_of (medium default_config (message_only Error (codes "bad"))
         (text_file (codes "f.txt") (codes "abc\n") ∷ [])
         (label Primary 0 0 3 (codes "bad") ∷ []))
         ≡ rows (codes "f.txt:1:1: error: bad" ∷ []) }
@@ -59,7 +59,7 @@ fn report_medium()
 /// The error of a script, in short style.
 fn script_bad_end_short()
     ensures { text_of (short default_config
-        (with_code (codes "S5") (says Error (codes "missing end of script")))
+        (with_code (codes "S5") (message_only Error (codes "missing end of script")))
         (text_file (codes "script") [] ∷ [])
         (label Primary 0 0 0 (codes "expected ---") ∷ []))
         ≡ rows (codes "script:1:1: error[S5]: missing end of script" ∷ []) }
@@ -67,13 +67,13 @@ fn script_bad_end_short()
 
 /// The style marks of a header, in escape sequences.
 fn coloured_header()
-    ensures { spelled ansi (short default_config (says Error (codes "m")) [] [])
+    ensures { spelled ansi (short default_config (message_only Error (codes "m")) [] [])
         ≡ rows (codes "\u{1b}[0m\u{1b}[1m\u{1b}[38;5;9merror\u{1b}[0m\u{1b}[1m: m\u{1b}[0m" ∷ []) }
 {}
 
 /// The style marks of a label's rows, in escape sequences.
 fn coloured_label()
-    ensures { spelled ansi (rich default_config (says Error [])
+    ensures { spelled ansi (rich default_config (message_only Error [])
         (text_file (codes "f") (codes "abc") ∷ [])
         (label Primary 0 1 2 (codes "m") ∷ []))
         ≡ rows (codes "\u{1b}[0m\u{1b}[1m\u{1b}[38;5;9merror\u{1b}[0m\u{1b}[1m: \u{1b}[0m"

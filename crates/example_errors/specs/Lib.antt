@@ -1,2 +1,2 @@
 -- where the errors are in the text of the settings
-pub mod Places
+pub mod ErrorRanges

@@ -26,7 +26,7 @@ fn main(rt: HostRuntime) -> Result<(), Error> {
         },
         SettingsError::UnknownKey {
             name: 27..33,
-            meant: Some(Key::Timeout),
+            suggestion: Some(Key::Timeout),
         },
         SettingsError::SetTwice {
             key: Key::Port,

@@ -1,7 +1,7 @@
 //! The errors in the settings of a server, and their diagnostics.
 
 ghost use Rattle.std.specs.Prelude.{◌≡◌, IfOk, IsSome, IfSome, slice_get};
-ghost use Rattle.example_errors.specs.Places.{wrong_bytes};
+ghost use Rattle.example_errors.specs.ErrorRanges.{error_range};
 
 use codespan_reporting::diagnostic::{Diagnostic, Label, LabelStyle};
 use codespan_reporting::files::Error;
@@ -56,7 +56,7 @@ pub enum SettingsError {
         /// The range of the key.
         name: Range<usize>,
         /// The key that may have been meant.
-        meant: Option<Key>,
+        suggestion: Option<Key>,
     },
 }
 
@@ -69,34 +69,34 @@ impl SettingsError {
         file: FileId,
     ) -> Result<Diagnostic<FileId>, Error>
         ensures labeled { IfOk result (λ d. IsSome (slice_get d.labels.items 0)) }
-        ensures place { IfOk result (λ d. IfSome (slice_get d.labels.items 0) (λ label.
-            (label.style ≡ LabelStyle.Primary) × (label.range ≡ wrong_bytes self.now))) }
+        ensures range { IfOk result (λ d. IfSome (slice_get d.labels.items 0) (λ label.
+            (label.style ≡ LabelStyle.Primary) × (label.range ≡ error_range self.now))) }
     {
         match self {
             SettingsError::NotANumber { key, value } => {
-                let wrong = Label::primary(alloc, file, value.start..value.end);
+                let primary_label = Label::primary(alloc, file, value.start..value.end);
                 Diagnostic::error(alloc)
                     .with_code("S001")?
                     .with_message(format_args!("`{key}` must be a number"))?
-                    .with_label(wrong.with_message("not a number")?)
+                    .with_label(primary_label.with_message("not a number")?)
             }
             SettingsError::SetTwice { key, first, again } => {
-                let wrong = Label::primary(alloc, file, again.start..again.end);
+                let primary_label = Label::primary(alloc, file, again.start..again.end);
                 let before = Label::secondary(alloc, file, first.start..first.end);
                 Diagnostic::warning(alloc)
                     .with_code("S002")?
                     .with_message(format_args!("`{key}` is set twice"))?
-                    .with_label(wrong.with_message("set again here")?)?
+                    .with_label(primary_label.with_message("set again here")?)?
                     .with_label(before.with_message("first set here")?)?
                     .with_note("the last value is used")
             }
-            SettingsError::UnknownKey { name, meant } => {
-                let wrong = Label::primary(alloc, file, name.start..name.end);
+            SettingsError::UnknownKey { name, suggestion } => {
+                let primary_label = Label::primary(alloc, file, name.start..name.end);
                 let diagnostic = Diagnostic::error(alloc)
                     .with_code("S003")?
                     .with_message("unknown key")?
-                    .with_label(wrong.with_message("no such setting")?)?;
-                match meant {
+                    .with_label(primary_label.with_message("no such setting")?)?;
+                match suggestion {
                     Some(key) => diagnostic.with_note(format_args!("help: did you mean `{key}`?")),
                     None => Ok(diagnostic),
                 }

@@ -6,13 +6,13 @@ use Rattle.std.specs.Option.{option_map}
 use Rattle.std.proofs.lemmas.Bool.Decides.{nat_tests}
 use Rattle.std.proofs.lemmas.Str.{char_from_byte}
 use Rattle.std.proofs.lemmas.Str.Pattern.{IsSplitOnceResult, split_after, split_parts}
-use Rattle.gallery.specs.Escapes.{IsPlain, IsBraced, IsNumbered, ReadsNumbered, ReadsEscape, Unescapes, after_bytes, letter_said}
+use Rattle.gallery.specs.Escapes.{IsPlain, IsBraced, IsNumbered, ReadsNumbered, ReadsEscape, Unescapes, after_bytes, letter_character}
 use Rattle.gallery.specs.Escapes.Unescapes.{whole, broken, escaped}
 
 -- ---- letters
 
 -- no escape begins with another letter
-pub no_letter : (b : ℕ) → (b ≡ 110 → ⊥) → (b ≡ 114 → ⊥) → (b ≡ 116 → ⊥) → (b ≡ 48 → ⊥) → (b ≡ 92 → ⊥) → letter_said b ≡ None
+pub no_letter : (b : ℕ) → (b ≡ 110 → ⊥) → (b ≡ 114 → ⊥) → (b ≡ 116 → ⊥) → (b ≡ 48 → ⊥) → (b ≡ 92 → ⊥) → letter_character b ≡ None
 no_letter b newline return tab null backslash = grind (arith, nat_tests)
 
 -- a text that begins with another character than those of escapes begins with no escape
@@ -21,7 +21,7 @@ pub no_escape : (text left : List ℕ) (letter : ℕ) → text ≡ encode_utf8 l
 no_escape [] left letter is newline return tab null backslash number = refl
 no_escape (b ∷ bs) left letter is newline return tab null backslash number =
     let same : b < 128 → letter ≡ b = λ small. char_from_byte (b ∷ bs) left letter is small (omega arith) in
-    let nothing : letter_said b ≡ None = no_letter b
+    let nothing : letter_character b ≡ None = no_letter b
     (λ e. newline (same (omega arith) ∙ e)) (λ e. return (same (omega arith) ∙ e)) (λ e. tab (same (omega arith) ∙ e)) (λ e. null (same (omega arith) ∙ e)) (λ e. backslash (same (omega arith) ∙ e)) in
     (λ e. absurd (number (same (omega arith) ∙ e)), λ other. ap (option_map (λ c. (c, bs))) (sym nothing))
 
@@ -65,36 +65,36 @@ numbered text inner x c is split number =
 -- ---- escaped texts
 
 -- what the rest of a text means follows what precedes it
-abbrev pub GoesOn : List ℕ → List ℕ → List ℕ → Type 0
-GoesOn text said rest = (outcome : Option (List ℕ)) → Unescapes rest outcome → Unescapes text (after_bytes said outcome)
+abbrev pub ContinuesSource : List ℕ → List ℕ → List ℕ → Type 0
+ContinuesSource text unescaped rest = (outcome : Option (List ℕ)) → Unescapes rest outcome → Unescapes text (after_bytes unescaped outcome)
 
 -- nothing precedes the start
-pub none_said : (text said : List ℕ) → said ≡ [] → GoesOn text said text
-none_said text said empty None h = h
-none_said text said empty (Some bytes) h = subst (λ front. Unescapes text (Some (front ++ bytes))) (sym empty) h
+pub none_unescaped : (text unescaped : List ℕ) → unescaped ≡ [] → ContinuesSource text unescaped text
+none_unescaped text unescaped empty None h = h
+none_unescaped text unescaped empty (Some bytes) h = subst (λ front. Unescapes text (Some (front ++ bytes))) (sym empty) h
 
 -- what precedes an escape, and its character, precede what is left
-pub one_more : (text said new rest left : List ℕ) (c : ℕ) (x : Bor (List ℕ) × Bor (List ℕ)) → GoesOn text said rest → IsSplitOnceResult 92 rest (Some x)
-    → ReadsEscape x.1.now (Some (c, left)) → new ≡ (said ++ x.0.now) ++ encode_utf8 c → GoesOn text new left
-one_more text said new rest left c x before split read is outcome h =
+pub one_more : (text unescaped new rest left : List ℕ) (c : ℕ) (x : Bor (List ℕ) × Bor (List ℕ)) → ContinuesSource text unescaped rest → IsSplitOnceResult 92 rest (Some x)
+    → ReadsEscape x.1.now (Some (c, left)) → new ≡ (unescaped ++ x.0.now) ++ encode_utf8 c → ContinuesSource text new left
+one_more text unescaped new rest left c x before split read is outcome h =
     let parts = split_parts 92 rest (Some x) split (omega arith) in
     let whole_rest : Unescapes rest (after_bytes (x.0.now ++ encode_utf8 c) outcome) =
     subst (λ t. Unescapes t (after_bytes (x.0.now ++ encode_utf8 c) outcome)) (sym parts.0) (escaped x.0.now x.1.now left c outcome parts.1 read h) in
-    subst (Unescapes text) (joined said x.0.now (encode_utf8 c) new outcome is) (before _ whole_rest)
+    subst (Unescapes text) (joined unescaped x.0.now (encode_utf8 c) new outcome is) (before _ whole_rest)
   where
-    joined : (said plain character new : List ℕ) (outcome : Option (List ℕ)) → new ≡ (said ++ plain) ++ character
-        → after_bytes said (after_bytes (plain ++ character) outcome) ≡ after_bytes new outcome
-    joined said plain character new None is = refl
-    joined said plain character new (Some bytes) is = ap Some (sym (ap (λ front. front ++ bytes) is ∙ simp append_assoc))
+    joined : (unescaped plain character new : List ℕ) (outcome : Option (List ℕ)) → new ≡ (unescaped ++ plain) ++ character
+        → after_bytes unescaped (after_bytes (plain ++ character) outcome) ≡ after_bytes new outcome
+    joined unescaped plain character new None is = refl
+    joined unescaped plain character new (Some bytes) is = ap Some (sym (ap (λ front. front ++ bytes) is ∙ simp append_assoc))
 
 -- a rest without a backslash means itself
-pub all_said : (text said rest new : List ℕ) → GoesOn text said rest → IsSplitOnceResult 92 rest None → new ≡ said ++ rest → Unescapes text (Some new)
-all_said text said rest new before split is =
+pub all_unescaped : (text unescaped rest new : List ℕ) → ContinuesSource text unescaped rest → IsSplitOnceResult 92 rest None → new ≡ unescaped ++ rest → Unescapes text (Some new)
+all_unescaped text unescaped rest new before split is =
     let plain : IsPlain rest = split_parts 92 rest None split (omega arith) in
     subst (λ bytes. Unescapes text (Some bytes)) (sym is) (before (Some rest) (whole rest plain))
 
 -- a backslash that begins no escape
-pub nothing_said : (text said rest : List ℕ) (x : Bor (List ℕ) × Bor (List ℕ)) → GoesOn text said rest → IsSplitOnceResult 92 rest (Some x) → ReadsEscape x.1.now None → Unescapes text None
-nothing_said text said rest x before split unread =
+pub nothing_unescaped : (text unescaped rest : List ℕ) (x : Bor (List ℕ) × Bor (List ℕ)) → ContinuesSource text unescaped rest → IsSplitOnceResult 92 rest (Some x) → ReadsEscape x.1.now None → Unescapes text None
+nothing_unescaped text unescaped rest x before split unread =
     let parts = split_parts 92 rest (Some x) split (omega arith) in
     before None (subst (λ t. Unescapes t None) (sym parts.0) (broken x.0.now x.1.now parts.1 unread))

@@ -4,7 +4,7 @@ pub mod Escaping
 pub mod LastCase
 pub mod LineByLine
 -- what holds over the file database of a case
-pub mod Alone
+pub mod OneFile
 -- the runs of a case are those of its output
 pub mod Runs
 -- what the outcome of a run says

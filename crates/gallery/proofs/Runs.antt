@@ -7,7 +7,7 @@ use Rattle.codespan_base.specs.declared.diagnostic.Diagnostic.{Diagnostic}
 use Rattle.codespan_base.specs.declared.files.Error.{Error}
 use Rattle.codespan_base.specs.declared.term.config.Config.{Config}
 use Rattle.codespan_base.specs.FileModel.{FileDatabase}
-use Rattle.codespan_base.specs.SimpleModel.{missing_file, simple_file, table_file}
+use Rattle.codespan_base.specs.SimpleModel.{missing_file, simple_file, database_file}
 use Rattle.codespan_picture.specs.Picture.{labels_of}
 use Rattle.codespan_picture.specs.Snippets.{InFile}
 use Rattle.codespan_laws.specs.StatedNames.{NamesAreStated}
@@ -15,7 +15,7 @@ use Rattle.codespan_laws.proofs.StatedNames.{output_stated}
 use Rattle.codespan_styled.specs.Outputs.{EmitsRuns}
 use Rattle.codespan_styled.specs.Runs.{StyledRun, runs_of}
 use Rattle.gallery.specs.Documents.{AreRunsOver}
-use Rattle.gallery.specs.Pictures.{LentFile}
+use Rattle.gallery.specs.CaseOutputs.{BorrowedFile}
 
 module _ {Id : Type 0} (config : Config) (files : FileDatabase Id) (d : Diagnostic Id) where
   -- where names are stated, the runs of an output with some loci are those of the output
@@ -27,10 +27,10 @@ module _ {Id : Type 0} (config : Config) (files : FileDatabase Id) (d : Diagnost
   stated_runs runs (Err error) emits stated = tt
 
 -- the names of the files of a table are stated
-pub stated_in_table : (files : List LentFile) (said : Diagnostic ℕ) (x : InFile ℕ) → Contains (labels_of said) x → IsSome (table_file (λ name. Some name.now) (λ source. source.now) files x.id).name
-stated_in_table files said x contains = stated x.id
+pub stated_in_table : (files : List BorrowedFile) (diagnostic : Diagnostic ℕ) (x : InFile ℕ) → Contains (labels_of diagnostic) x → IsSome (database_file (λ name. Some name.now) (λ source. source.now) files x.id).name
+stated_in_table files diagnostic x contains = stated x.id
   where
-    stated : (id : ℕ) → IsSome (table_file (λ name. Some name.now) (λ source. source.now) files id).name
+    stated : (id : ℕ) → IsSome (database_file (λ name. Some name.now) (λ source. source.now) files id).name
     stated id =
-        elim (slice_get files id) as (λ found. IsSome (option_map_or (λ (entry : LentFile). simple_file (Some entry.0.now) entry.1.now) found missing_file).name)
+        elim (slice_get files id) as (λ found. IsSome (option_map_or (λ (entry : BorrowedFile). simple_file (Some entry.0.now) entry.1.now) found missing_file).name)
         [ None ↦ refl | Some entry ↦ refl ]

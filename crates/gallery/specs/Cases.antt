@@ -3,20 +3,20 @@ use Rattle.std.specs.Prelude.{◌≡◌, ◌⊎◌, ℕ, ◌+◌, List, [], ◌�
 use Rattle.codespan_base.specs.declared.diagnostic.Severity.TheVariants as severities
 use Rattle.codespan_base.specs.Defaults.{default_config}
 use Rattle.codespan_base.specs.Diagnostics.{diagnostic_view}
-use Rattle.codespan_base.specs.Lookalikes.{IsChars, IsConfig}
+use Rattle.codespan_base.specs.ConfigEquality.{IsChars, IsConfig}
 use Rattle.gallery.specs.declared.case.Case.{Case}
-use Rattle.gallery.specs.declared.case.Colours.TheVariants.{Plain}
+use Rattle.gallery.specs.declared.case.Colors.TheVariants.{Plain}
 use Rattle.gallery.specs.declared.case.File.{File}
 use Rattle.gallery.specs.declared.case.Table.TheVariants.{Several}
 use Rattle.gallery.specs.declared.fault.Fault as faults
 use Rattle.gallery.specs.declared.fault.Fault.TheVariants as fault
-use Rattle.gallery.specs.declared.fault.Mistake.{Mistake}
-use Rattle.gallery.specs.declared.fault.Mistake.TheVariants.{NoCase, NoFile, OutOfMemory}
+use Rattle.gallery.specs.declared.fault.LineError.{LineError}
+use Rattle.gallery.specs.declared.fault.LineError.TheVariants.{NoCase, NoFile, OutOfMemory}
 use Rattle.gallery.specs.declared.statement.Line.{Line}
-use Rattle.gallery.specs.declared.statement.Line.TheVariants.{Silent, Title, Said}
+use Rattle.gallery.specs.declared.statement.Line.TheVariants.{Ignored, Title, Description}
 use Rattle.gallery.specs.declared.statement.Statement.{Statement}
-use Rattle.gallery.specs.declared.statement.Statement.TheVariants as says
-use Rattle.gallery.specs.Statements.{LineSays, IsWrongLine}
+use Rattle.gallery.specs.declared.statement.Statement.TheVariants as statements
+use Rattle.gallery.specs.Statements.{ParsesTo, IsWrongLine}
 use Rattle.gallery.specs.Words.{chars_of}
 
 -- ---- one case
@@ -32,12 +32,12 @@ pub record IsNew (name : List ℕ) (case : Case) : Type 0 where
   pub files : case.files.items ≡ []
   pub numbers : case.numbers.items ≡ []
   pub config : IsConfig default_config case.config
-  pub colours : case.colours ≡ Plain
-  pub said : diagnostic_view case.said
+  pub colors : case.colors ≡ Plain
+  pub diagnostic : diagnostic_view case.diagnostic
       ≡ record { severity = severities.Error; code = None; message = []; labels = []; notes = [] }
 
 -- the text continues the source of the last file
-pub record GoesOn (text : List ℕ) (old new : List (List ℕ × List ℕ)) : Type 0 where
+pub record ContinuesSource (text : List ℕ) (old new : List (List ℕ × List ℕ)) : Type 0 where
   pub front : List (List ℕ × List ℕ)
   pub name : List ℕ
   pub source : List ℕ
@@ -45,25 +45,26 @@ pub record GoesOn (text : List ℕ) (old new : List (List ℕ × List ℕ)) : Ty
   pub is : new ≡ front ++ (name, source ++ text) ∷ []
 
 -- the new case is the old one, with the statement applied
-abbrev pub Takes : Statement → Case → Case → Type 0
-Takes (says.Table table) old new = new ≡ record old { table = table }
-Takes (says.File name) old new =
+abbrev pub Applies : Statement → Case → Case → Type 0
+Applies (statements.Table table) old new = new ≡ record old { table = table }
+Applies (statements.File name) old new =
     (new ≡ record old { files = new.files })
     × (map file_view new.files.items
     ≡ map file_view old.files.items ++ (string_bytes name, []) ∷ [])
-Takes (says.Source text) old new =
+Applies (statements.Source text) old new =
     (new ≡ record old { files = new.files })
-    × GoesOn (string_bytes text) (map file_view old.files.items) (map file_view new.files.items)
-Takes (says.Number line number) old new =
+    × ContinuesSource (string_bytes text) (map file_view old.files.items)
+    (map file_view new.files.items)
+Applies (statements.Number line number) old new =
     (new ≡ record old { numbers = new.numbers })
     × (new.numbers.items ≡ old.numbers.items ++ (line, number) ∷ [])
-Takes (says.Style style) old new =
+Applies (statements.Style style) old new =
     new ≡ record old { config = record old.config { display_style = style } }
-Takes (says.Layout layout) old new =
+Applies (statements.Layout layout) old new =
     new ≡ record old { config = record old.config { layout = layout } }
-Takes (says.Tab width) old new =
+Applies (statements.Tab width) old new =
     new ≡ record old { config = record old.config { tab_width = width } }
-Takes (says.Context context) old new = new ≡ record old {
+Applies (statements.Context context) old new = new ≡ record old {
   config = record old.config {
     start_context_lines = context.start;
     end_context_lines = context.end;
@@ -71,37 +72,38 @@ Takes (says.Context context) old new = new ≡ record old {
     after_label_lines = context.after;
   };
 }
-Takes (says.Characters set) old new =
+Applies (statements.Characters set) old new =
     (new ≡ record old { config = record old.config { chars = new.config.chars } })
     × IsChars (chars_of set) new.config.chars
-Takes (says.Colours colours) old new = new ≡ record old { colours = colours }
-Takes (says.Severity severity) old new =
-    new ≡ record old { said = record old.said { severity = severity } }
-Takes (says.Code code) old new = new ≡ record old { said = record old.said { code = Some code } }
-Takes (says.Message message) old new =
-    new ≡ record old { said = record old.said { message = message } }
-Takes (says.Label label) old new =
-    (new ≡ record old { said = record old.said { labels = new.said.labels } })
-    × (new.said.labels.items ≡ old.said.labels.items ++ label ∷ [])
-Takes (says.Note note) old new =
-    (new ≡ record old { said = record old.said { notes = new.said.notes } })
-    × (new.said.notes.items ≡ old.said.notes.items ++ note ∷ [])
+Applies (statements.Colors colors) old new = new ≡ record old { colors = colors }
+Applies (statements.Severity severity) old new =
+    new ≡ record old { diagnostic = record old.diagnostic { severity = severity } }
+Applies (statements.Code code) old new =
+    new ≡ record old { diagnostic = record old.diagnostic { code = Some code } }
+Applies (statements.Message message) old new =
+    new ≡ record old { diagnostic = record old.diagnostic { message = message } }
+Applies (statements.Label label) old new =
+    (new ≡ record old { diagnostic = record old.diagnostic { labels = new.diagnostic.labels } })
+    × (new.diagnostic.labels.items ≡ old.diagnostic.labels.items ++ label ∷ [])
+Applies (statements.Note note) old new =
+    (new ≡ record old { diagnostic = record old.diagnostic { notes = new.diagnostic.notes } })
+    × (new.diagnostic.notes.items ≡ old.diagnostic.notes.items ++ note ∷ [])
 
 -- the statement continues a source
 abbrev pub IsSource : Statement → Type 0
-IsSource (says.Source text) = Unit {0}
+IsSource (statements.Source text) = Unit {0}
 IsSource _ = ⊥
 
 -- ---- all cases
 
 -- the statement is applied to the last case
-pub record LastTakes (statement : Statement) (before after : List Case) : Type 0 where
+pub record AppliesToLast (statement : Statement) (before after : List Case) : Type 0 where
   pub front : List Case
   pub old : Case
   pub new : Case
   pub was : before ≡ front ++ old ∷ []
   pub is : after ≡ front ++ new ∷ []
-  pub takes : Takes statement old new
+  pub applied : Applies statement old new
 
 -- a case of this name is added
 pub record Begins (name : List ℕ) (before after : List Case) : Type 0 where
@@ -111,46 +113,46 @@ pub record Begins (name : List ℕ) (before after : List Case) : Type 0 where
 
 -- what a line does to the cases before it
 abbrev pub Adds : Line → List Case → List Case → Type 0
-Adds Silent before after = after ≡ before
+Adds Ignored before after = after ≡ before
 Adds (Title name) before after = Begins name.now before after
-Adds (Said statement) before after = LastTakes statement before after
+Adds (Description statement) before after = AppliesToLast statement before after
 
 -- the cases after a line are those before it, with the line applied
-pub record TakesLine (line : List ℕ) (before after : List Case) : Type 0 where
-  pub said : Line
-  pub says : LineSays line said
-  pub adds : Adds said before after
+pub record AppliesLine (line : List ℕ) (before after : List Case) : Type 0 where
+  pub parsed_line : Line
+  pub parsed : ParsesTo line parsed_line
+  pub adds : Adds parsed_line before after
 
 -- the cases after some lines, parsed one after another
-abbrev pub TakesLines : List (List ℕ) → List Case → List Case → Type 0
-TakesLines [] before after = after ≡ before
-TakesLines (line ∷ lines) before after =
-    (between : List Case) × TakesLine line before between × TakesLines lines between after
+abbrev pub AppliesLines : List (List ℕ) → List Case → List Case → Type 0
+AppliesLines [] before after = after ≡ before
+AppliesLines (line ∷ lines) before after =
+    (between : List Case) × AppliesLine line before between × AppliesLines lines between after
 
 -- why a statement can not be applied to the last case: there is none, it has no file whose source
 -- could be continued, or an allocation failed
-abbrev pub LastFails : Statement → List Case → Mistake → Type 0
-LastFails statement before NoCase = before ≡ []
-LastFails statement before NoFile = IsSource statement
+abbrev pub FailsAtLast : Statement → List Case → LineError → Type 0
+FailsAtLast statement before NoCase = before ≡ []
+FailsAtLast statement before NoFile = IsSource statement
     × ((front : List Case) × (old : Case) × (before ≡ front ++ old ∷ []) × (old.files.items ≡ []))
-LastFails statement before OutOfMemory = Unit {0}
-LastFails statement before _ = ⊥
+FailsAtLast statement before OutOfMemory = Unit {0}
+FailsAtLast statement before _ = ⊥
 
 -- what is wrong with a line after these cases: an allocation failed, the line is wrong, or it can
 -- not be applied to them
-abbrev pub IsMistaken : List ℕ → List Case → Mistake → Type 0
-IsMistaken line before mistake =
-    (mistake ≡ OutOfMemory)
-    ⊎ (IsWrongLine line mistake
-    ⊎ ((statement : Statement) × LineSays line (Said statement)
-    × LastFails statement before mistake))
+abbrev pub IsLineError : List ℕ → List Case → LineError → Type 0
+IsLineError line before line_error =
+    (line_error ≡ OutOfMemory)
+    ⊎ (IsWrongLine line line_error
+    ⊎ ((statement : Statement) × ParsesTo line (Description statement)
+    × FailsAtLast statement before line_error))
 
--- the error is the first line that has a mistake, by its number from 1, and the mistake; or a
+-- the error is the first line that has an error, by its number from 1, and the error; or a
 -- failed allocation
-abbrev pub IsFirstMistake : List (List ℕ) → faults.Fault → Type 0
-IsFirstMistake lines (fault.Line number mistake) =
+abbrev pub IsFirstLineError : List (List ℕ) → faults.Fault → Type 0
+IsFirstLineError lines (fault.Line number line_error) =
     (k : ℕ) × (line : List ℕ) × (before : List Case) × (number ≡ k + 1)
-    × (slice_get lines k ≡ Some line) × TakesLines (take k lines) [] before
-    × IsMistaken line before mistake
-IsFirstMistake lines fault.OutOfMemory = Unit {0}
-IsFirstMistake lines _ = ⊥
+    × (slice_get lines k ≡ Some line) × AppliesLines (take k lines) [] before
+    × IsLineError line before line_error
+IsFirstLineError lines fault.OutOfMemory = Unit {0}
+IsFirstLineError lines _ = ⊥

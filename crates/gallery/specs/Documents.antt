@@ -15,7 +15,7 @@ use Rattle.codespan_styled.specs.Terminal.{terminal_text}
 use Rattle.gallery.specs.declared.case.Case.{Case}
 use Rattle.gallery.specs.declared.document.Format.{Format}
 use Rattle.gallery.specs.declared.document.Format.TheVariants.{Html, Svg, Terminal}
-use Rattle.gallery.specs.Pictures.{InTable}
+use Rattle.gallery.specs.CaseOutputs.{InTable}
 
 -- the form of a name
 abbrev pub format_named : List ℕ → Option Format
@@ -34,7 +34,8 @@ pub record AreRunsOver {Id : Type 0} (config : Config) (files : FileDatabase Id)
 -- the runs are those of the output of a case
 abbrev pub AreRunsOf : Case → List StyledRun → Type 0
 AreRunsOf case runs =
-    InTable case.table case (λ Id database said. AreRunsOver case.config database said runs)
+    InTable case.table case (λ Id database diagnostic. AreRunsOver case.config database diagnostic
+    runs)
 
 -- a document of runs, in the default styles
 abbrev pub document_of : Format → List StyledRun → List ℕ
@@ -53,5 +54,5 @@ abbrev pub IsSvg : Case → List ℕ → Type 0
 IsSvg case document = IsDocument Svg case document
 
 -- it has been appended
-abbrev pub AddsSvg : Case → List ℕ → List ℕ → Type 0
-AddsSvg case old new = (document : List ℕ) × (new ≡ old ++ document) × IsSvg case document
+abbrev pub AppendsSvg : Case → List ℕ → List ℕ → Type 0
+AppendsSvg case old new = (document : List ℕ) × (new ≡ old ++ document) × IsSvg case document

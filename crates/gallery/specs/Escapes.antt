@@ -6,8 +6,8 @@ use Rattle.std.specs.Str.Parse.{ParsesUnsigned}
 
 -- the character of a letter: that of `n` is the newline, and those of `r`, `t`, `0` and the
 -- backslash are the carriage return, the tab, the character of the number 0 and the backslash
-abbrev pub letter_said : ℕ → Option ℕ
-letter_said letter =
+abbrev pub letter_character : ℕ → Option ℕ
+letter_character letter =
     if letter == 110 then Some 10
     else if letter == 114 then Some 13
     else if letter == 116 then Some 9
@@ -40,7 +40,7 @@ abbrev pub ReadsEscape : List ℕ → Option (ℕ × List ℕ) → Type 0
 ReadsEscape [] read = read ≡ None
 ReadsEscape (letter ∷ left) read =
     (letter ≡ 117 → ReadsNumbered left read)
-    × (letter ≢ 117 → read ≡ option_map (λ c. (c, left)) (letter_said letter))
+    × (letter ≢ 117 → read ≡ option_map (λ c. (c, left)) (letter_character letter))
 
 -- the text has no backslash
 abbrev pub IsPlain : List ℕ → Type 0
@@ -48,13 +48,13 @@ IsPlain text = Lacks 92 text
 
 -- the text that is meant, after these bytes
 abbrev pub after_bytes : List ℕ → Option (List ℕ) → Option (List ℕ)
-after_bytes front said = option_map (λ bytes. front ++ bytes) said
+after_bytes front unescaped = option_map (λ bytes. front ++ bytes) unescaped
 
 -- the text that an escaped text stands for; none if a backslash begins no escape
 pub data Unescapes : List ℕ → Option (List ℕ) → Type 0 where
   whole : (text : List ℕ) → IsPlain text → Unescapes text (Some text)
   broken : (plain escape : List ℕ) → IsPlain plain → ReadsEscape escape None
       → Unescapes (plain ++ 92 ∷ escape) None
-  escaped : (plain escape left : List ℕ) (c : ℕ) (said : Option (List ℕ)) → IsPlain plain
-      → ReadsEscape escape (Some (c, left)) → Unescapes left said
-      → Unescapes (plain ++ 92 ∷ escape) (after_bytes (plain ++ encode_utf8 c) said)
+  escaped : (plain escape left : List ℕ) (c : ℕ) (unescaped : Option (List ℕ)) → IsPlain plain
+      → ReadsEscape escape (Some (c, left)) → Unescapes left unescaped
+      → Unescapes (plain ++ 92 ∷ escape) (after_bytes (plain ++ encode_utf8 c) unescaped)

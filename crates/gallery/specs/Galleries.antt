@@ -4,8 +4,8 @@ use Rattle.std.specs.List.{flat_map}
 use Rattle.codespan_base.specs.declared.files.Error.{Error}
 use Rattle.codespan_base.specs.ErrorText.{error_text}
 use Rattle.gallery.specs.declared.case.Case.{Case}
-use Rattle.gallery.specs.declared.case.Colours.TheVariants.{Plain, Svg}
-use Rattle.gallery.specs.Pictures.{IsPicture}
+use Rattle.gallery.specs.declared.case.Colors.TheVariants.{Plain, Svg}
+use Rattle.gallery.specs.CaseOutputs.{IsOutput}
 use Rattle.gallery.specs.Documents.{IsSvg}
 
 -- the heading of a case
@@ -24,29 +24,29 @@ shown_byte b =
 
 -- an output as it is shown
 abbrev pub shown : List ℕ → List ℕ
-shown picture = flat_map shown_byte picture
+shown output = flat_map shown_byte output
 
 -- the line of an error: nothing if there is none, else a line with the error's text
-abbrev pub TellsFailure : Result (Unit {0}) Error → List ℕ → Type 0
-TellsFailure (Ok done) told = told ≡ []
-TellsFailure (Err error) told =
-    IfSome (error_text error) (λ text. told ≡ codes "refused: " ++ text ++ 10 ∷ [])
+abbrev pub IsErrorLine : Result (Unit {0}) Error → List ℕ → Type 0
+IsErrorLine (Ok done) error_line = error_line ≡ []
+IsErrorLine (Err error) error_line =
+    IfSome (error_text error) (λ text. error_line ≡ codes "refused: " ++ text ++ 10 ∷ [])
 
 -- the section of a case after its heading: the output as it is shown, and, if rendering failed, a
 -- line of the error; in plain text the output is the rendered case, and as SVG the document that
 -- shows it
-pub record IsPictured (case : Case) (text : List ℕ) : Type 0 where
-  pub drawn : Result (Unit {0}) Error
-  pub picture : List ℕ
-  pub told : List ℕ
-  pub is : text ≡ shown picture ++ told
-  pub failure : TellsFailure drawn told
-  pub plain : case.colours ≡ Plain → OnOk drawn (IsPicture case picture)
-  pub document : case.colours ≡ Svg → OnOk drawn (IsSvg case picture)
+pub record IsSection (case : Case) (text : List ℕ) : Type 0 where
+  pub rendered : Result (Unit {0}) Error
+  pub output : List ℕ
+  pub error_line : List ℕ
+  pub is : text ≡ shown output ++ error_line
+  pub failure : IsErrorLine rendered error_line
+  pub plain : case.colors ≡ Plain → OnOk rendered (IsOutput case output)
+  pub document : case.colors ≡ Svg → OnOk rendered (IsSvg case output)
 
 -- the text has the cases in their order, each as its heading and its section
 abbrev pub IsGallery : List Case → List ℕ → Type 0
 IsGallery [] text = text ≡ []
 IsGallery (case ∷ cases) text =
-    (pictured : List ℕ) × (left : List ℕ) × (text ≡ title case.name.now ++ pictured ++ left)
-    × IsPictured case pictured × IsGallery cases left
+    (section : List ℕ) × (left : List ℕ) × (text ≡ title case.name.now ++ section ++ left)
+    × IsSection case section × IsGallery cases left

@@ -7,8 +7,8 @@ pub mod Escapes
 pub mod Statements
 pub mod Cases
 -- the files of a case, and what is rendered over them
-pub mod Pictures
-pub mod Tables
+pub mod CaseOutputs
+pub mod Database
 -- documents in colors of a case
 pub mod Documents
 -- the output of every case

@@ -3,31 +3,31 @@ use Rattle.std.specs.Prelude.{◌≡◌, ◌≢◌, ◌⊎◌, ℕ, true, false,
 use Rattle.codespan_base.specs.declared.diagnostic.Label.{Label}
 use Rattle.codespan_base.specs.declared.diagnostic.LabelStyle.{LabelStyle}
 use Rattle.codespan_base.specs.declared.diagnostic.LabelStyle.TheVariants as styles
-use Rattle.gallery.specs.declared.fault.Mistake.{Mistake}
-use Rattle.gallery.specs.declared.fault.Mistake.TheVariants.{UnknownWord, UnknownName, BadNumber, BadEscape, NoCase, NoFile, OutOfMemory}
+use Rattle.gallery.specs.declared.fault.LineError.{LineError}
+use Rattle.gallery.specs.declared.fault.LineError.TheVariants.{UnknownWord, UnknownName, BadNumber, BadEscape, NoCase, NoFile, OutOfMemory}
 use Rattle.gallery.specs.declared.statement.Context as contexts
 use Rattle.gallery.specs.declared.statement.Line.{Line}
-use Rattle.gallery.specs.declared.statement.Line.TheVariants.{Silent, Title, Said}
+use Rattle.gallery.specs.declared.statement.Line.TheVariants.{Ignored, Title, Description}
 use Rattle.gallery.specs.declared.statement.Statement.{Statement}
-use Rattle.gallery.specs.declared.statement.Statement.TheVariants as says
+use Rattle.gallery.specs.declared.statement.Statement.TheVariants as statements
 use Rattle.gallery.specs.declared.words.Word.{Word}
-use Rattle.gallery.specs.declared.words.Word.TheVariants.{Table, File, Source, Number, Style, Layout, Tab, Context, Characters, Colours, Severity, Code, Message, Primary, Secondary, Note}
+use Rattle.gallery.specs.declared.words.Word.TheVariants.{Table, File, Source, Number, Style, Layout, Tab, Context, Characters, Colors, Severity, Code, Message, Primary, Secondary, Note}
 use Rattle.gallery.specs.Escapes.{Unescapes}
-use Rattle.gallery.specs.Fields.{field_of, past_blank, IsNumber, IsNoNumber, is_ignored}
-use Rattle.gallery.specs.Words.{word_named, table_named, style_named, layout_named, characters_named, colours_named, severity_named}
+use Rattle.gallery.specs.Fields.{field_of, past_space, IsNumber, IsNoNumber, is_ignored}
+use Rattle.gallery.specs.Words.{word_named, table_named, style_named, layout_named, characters_named, colors_named, severity_named}
 
 -- ---- what a line describes
 
 -- what follows the second space of a text, and the third
 abbrev pub past_two : List ℕ → List ℕ
-past_two text = past_blank (past_blank text)
+past_two text = past_space (past_space text)
 
 abbrev pub past_three : List ℕ → List ℕ
-past_three text = past_blank (past_two text)
+past_three text = past_space (past_two text)
 
 -- the text stands for these bytes
-abbrev pub Spells : List ℕ → List ℕ → Type 0
-Spells text bytes = Unescapes text (Some bytes)
+abbrev pub UnescapesTo : List ℕ → List ℕ → Type 0
+UnescapesTo text bytes = Unescapes text (Some bytes)
 
 -- the word of labels of a style
 abbrev pub style_word : LabelStyle → Word
@@ -38,44 +38,53 @@ style_word styles.Secondary = Secondary
 -- label and after it
 pub record IsContext (rest : List ℕ) (context : contexts.Context) : Type 0 where
   pub start : IsNumber (field_of rest) context.start
-  pub end : IsNumber (field_of (past_blank rest)) context.end
+  pub end : IsNumber (field_of (past_space rest)) context.end
   pub before : IsNumber (field_of (past_two rest)) context.before
   pub after : IsNumber (past_three rest) context.after
 
 -- the rest has a label: its file, where it starts, where it ends, and its message
 pub record IsLabel (rest : List ℕ) (label : Label ℕ) : Type 0 where
   pub file : IsNumber (field_of rest) label.file_id
-  pub start : IsNumber (field_of (past_blank rest)) label.range.start
+  pub start : IsNumber (field_of (past_space rest)) label.range.start
   pub end : IsNumber (field_of (past_two rest)) label.range.end
-  pub message : Spells (past_three rest) (string_bytes label.message)
+  pub message : UnescapesTo (past_three rest) (string_bytes label.message)
 
 -- what the word and the rest of a line state of a case
-abbrev pub Says : Option Word → List ℕ → Statement → Type 0
-Says word rest (says.Table table) = (word ≡ Some Table) × (table_named rest ≡ Some table)
-Says word rest (says.File name) = (word ≡ Some File) × Spells rest (string_bytes name)
-Says word rest (says.Source text) = (word ≡ Some Source) × Spells rest (string_bytes text)
-Says word rest (says.Number line number) =
-    (word ≡ Some Number) × IsNumber (field_of rest) line × IsNumber (past_blank rest) number
-Says word rest (says.Style style) = (word ≡ Some Style) × (style_named rest ≡ Some style)
-Says word rest (says.Layout layout) = (word ≡ Some Layout) × (layout_named rest ≡ Some layout)
-Says word rest (says.Tab width) = (word ≡ Some Tab) × IsNumber rest width
-Says word rest (says.Context context) = (word ≡ Some Context) × IsContext rest context
-Says word rest (says.Characters set) = (word ≡ Some Characters) × (characters_named rest ≡ Some set)
-Says word rest (says.Colours colours) = (word ≡ Some Colours) × (colours_named rest ≡ Some colours)
-Says word rest (says.Severity severity) =
+abbrev pub Describes : Option Word → List ℕ → Statement → Type 0
+Describes word rest (statements.Table table) = (word ≡ Some Table) × (table_named rest ≡ Some table)
+Describes word rest (statements.File name) =
+    (word ≡ Some File) × UnescapesTo rest (string_bytes name)
+Describes word rest (statements.Source text) =
+    (word ≡ Some Source) × UnescapesTo rest (string_bytes text)
+Describes word rest (statements.Number line number) =
+    (word ≡ Some Number) × IsNumber (field_of rest) line × IsNumber (past_space rest) number
+Describes word rest (statements.Style style) = (word ≡ Some Style) × (style_named rest ≡ Some style)
+Describes word rest (statements.Layout layout) =
+    (word ≡ Some Layout) × (layout_named rest ≡ Some layout)
+Describes word rest (statements.Tab width) = (word ≡ Some Tab) × IsNumber rest width
+Describes word rest (statements.Context context) = (word ≡ Some Context) × IsContext rest context
+Describes word rest (statements.Characters set) =
+    (word ≡ Some Characters) × (characters_named rest ≡ Some set)
+Describes word rest (statements.Colors colors) =
+    (word ≡ Some Colors) × (colors_named rest ≡ Some colors)
+Describes word rest (statements.Severity severity) =
     (word ≡ Some Severity) × (severity_named rest ≡ Some severity)
-Says word rest (says.Code code) = (word ≡ Some Code) × Spells rest (string_bytes code)
-Says word rest (says.Message message) = (word ≡ Some Message) × Spells rest (string_bytes message)
-Says word rest (says.Label label) = (word ≡ Some (style_word label.style)) × IsLabel rest label
-Says word rest (says.Note note) = (word ≡ Some Note) × Spells rest (string_bytes note)
+Describes word rest (statements.Code code) =
+    (word ≡ Some Code) × UnescapesTo rest (string_bytes code)
+Describes word rest (statements.Message message) =
+    (word ≡ Some Message) × UnescapesTo rest (string_bytes message)
+Describes word rest (statements.Label label) =
+    (word ≡ Some (style_word label.style)) × IsLabel rest label
+Describes word rest (statements.Note note) =
+    (word ≡ Some Note) × UnescapesTo rest (string_bytes note)
 
 -- what a line is: ignored, the first of a case of this name, or a statement of the last case
-abbrev pub LineSays : List ℕ → Line → Type 0
-LineSays line Silent = is_ignored line ≡ true
-LineSays line (Title name) =
-    (is_ignored line ≡ false) × (field_of line ≡ codes "case") × (name.now ≡ past_blank line)
-LineSays line (Said statement) =
-    (is_ignored line ≡ false) × Says (word_named (field_of line)) (past_blank line) statement
+abbrev pub ParsesTo : List ℕ → Line → Type 0
+ParsesTo line Ignored = is_ignored line ≡ true
+ParsesTo line (Title name) =
+    (is_ignored line ≡ false) × (field_of line ≡ codes "case") × (name.now ≡ past_space line)
+ParsesTo line (Description statement) =
+    (is_ignored line ≡ false) × Describes (word_named (field_of line)) (past_space line) statement
 
 -- ---- what is wrong with a line
 
@@ -85,7 +94,7 @@ IsUnnamed rest Table = table_named rest ≡ None
 IsUnnamed rest Style = style_named rest ≡ None
 IsUnnamed rest Layout = layout_named rest ≡ None
 IsUnnamed rest Characters = characters_named rest ≡ None
-IsUnnamed rest Colours = colours_named rest ≡ None
+IsUnnamed rest Colors = colors_named rest ≡ None
 IsUnnamed rest Severity = severity_named rest ≡ None
 IsUnnamed rest _ = ⊥
 
@@ -93,11 +102,11 @@ IsUnnamed rest _ = ⊥
 abbrev pub LacksOfThree : List ℕ → Type 0
 LacksOfThree rest =
     IsNoNumber (field_of rest)
-    ⊎ (IsNoNumber (field_of (past_blank rest)) ⊎ IsNoNumber (field_of (past_two rest)))
+    ⊎ (IsNoNumber (field_of (past_space rest)) ⊎ IsNoNumber (field_of (past_two rest)))
 
 -- the rest lacks a number that has to follow its word
 abbrev pub LacksNumber : List ℕ → Word → Type 0
-LacksNumber rest Number = IsNoNumber (field_of rest) ⊎ IsNoNumber (past_blank rest)
+LacksNumber rest Number = IsNoNumber (field_of rest) ⊎ IsNoNumber (past_space rest)
 LacksNumber rest Tab = IsNoNumber rest
 LacksNumber rest Context = LacksOfThree rest ⊎ IsNoNumber (past_three rest)
 LacksNumber rest Primary = LacksOfThree rest
@@ -116,7 +125,7 @@ IsBroken rest Secondary = Unescapes (past_three rest) None
 IsBroken rest _ = ⊥
 
 -- what is wrong with a line of this word and this rest, whatever precedes it
-abbrev pub IsWrong : Option Word → List ℕ → Mistake → Type 0
+abbrev pub IsWrong : Option Word → List ℕ → LineError → Type 0
 IsWrong word rest UnknownWord = word ≡ None
 IsWrong word rest UnknownName = IsSomeAnd word (IsUnnamed rest)
 IsWrong word rest BadNumber = IsSomeAnd word (LacksNumber rest)
@@ -126,7 +135,7 @@ IsWrong word rest NoFile = ⊥
 IsWrong word rest OutOfMemory = Unit {0}
 
 -- what is wrong with a line that is neither ignored nor the first of a case
-pub record IsWrongLine (line : List ℕ) (mistake : Mistake) : Type 0 where
-  pub says_something : is_ignored line ≡ false
-  pub goes_on : field_of line ≢ codes "case"
-  pub wrong : IsWrong (word_named (field_of line)) (past_blank line) mistake
+pub record IsWrongLine (line : List ℕ) (line_error : LineError) : Type 0 where
+  pub not_ignored : is_ignored line ≡ false
+  pub not_title : field_of line ≢ codes "case"
+  pub wrong : IsWrong (word_named (field_of line)) (past_space line) line_error

@@ -9,14 +9,14 @@ use Rattle.codespan_base.specs.declared.term.config.Layout as layouts
 use Rattle.codespan_base.specs.declared.term.config.Layout.TheVariants.{Classic, Unbroken}
 use Rattle.codespan_base.specs.declared.term.config.chars.Chars.{Chars}
 use Rattle.codespan_base.specs.Characters.{box_drawing, ascii}
-use Rattle.gallery.specs.declared.case.Table as tables
+use Rattle.gallery.specs.declared.case.Table as database
 use Rattle.gallery.specs.declared.case.Table.TheVariants.{One, Several, Mapped}
-use Rattle.gallery.specs.declared.case.Colours as colours
-use Rattle.gallery.specs.declared.case.Colours.TheVariants.{Plain, Ansi, Svg}
+use Rattle.gallery.specs.declared.case.Colors as colors
+use Rattle.gallery.specs.declared.case.Colors.TheVariants.{Plain, Ansi, Svg}
 use Rattle.gallery.specs.declared.case.CharacterSet.{CharacterSet}
 use Rattle.gallery.specs.declared.case.CharacterSet.TheVariants as sets
 use Rattle.gallery.specs.declared.words.Word.{Word}
-use Rattle.gallery.specs.declared.words.Word.TheVariants.{Table, File, Source, Number, Style, Layout, Tab, Context, Characters, Colours, Severity, Code, Message, Primary, Secondary, Note}
+use Rattle.gallery.specs.declared.words.Word.TheVariants.{Table, File, Source, Number, Style, Layout, Tab, Context, Characters, Colors, Severity, Code, Message, Primary, Secondary, Note}
 
 -- the word of this spelling
 unfoldable pub word_named : List ℕ → Option Word
@@ -30,7 +30,7 @@ word_named text =
     else if bytes_eq text (codes "tab") then Some Tab
     else if bytes_eq text (codes "context") then Some Context
     else if bytes_eq text (codes "characters") then Some Characters
-    else if bytes_eq text (codes "colours") then Some Colours
+    else if bytes_eq text (codes "colours") then Some Colors
     else if bytes_eq text (codes "severity") then Some Severity
     else if bytes_eq text (codes "code") then Some Code
     else if bytes_eq text (codes "message") then Some Message
@@ -40,7 +40,7 @@ word_named text =
     else None
 
 -- the kind of file database of this name
-unfoldable pub table_named : List ℕ → Option tables.Table
+unfoldable pub table_named : List ℕ → Option database.Table
 table_named text =
     if bytes_eq text (codes "one") then Some One
     else if bytes_eq text (codes "several") then Some Several
@@ -70,8 +70,8 @@ characters_named text =
     else None
 
 -- the way to write colors of this name
-unfoldable pub colours_named : List ℕ → Option colours.Colours
-colours_named text =
+unfoldable pub colors_named : List ℕ → Option colors.Colors
+colors_named text =
     if bytes_eq text (codes "none") then Some Plain
     else if bytes_eq text (codes "ansi") then Some Ansi
     else if bytes_eq text (codes "svg") then Some Svg

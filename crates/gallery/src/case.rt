@@ -1,12 +1,12 @@
 //! A case: a diagnostic, its files, and a configuration.
 
 ghost use Rattle.std.specs.Prelude.{◌≡◌, ◌⊎◌, [], ◌∷◌, ◌++◌, map, OnOk, IfErr, string_bytes};
-ghost use Rattle.codespan_base.specs.Lookalikes.{IsChars};
-ghost use Rattle.gallery.specs.Cases.{IsNew, Takes, IsSource, GoesOn, file_view};
+ghost use Rattle.codespan_base.specs.ConfigEquality.{IsChars};
+ghost use Rattle.gallery.specs.Cases.{IsNew, Applies, IsSource, ContinuesSource, file_view};
 ghost use Rattle.gallery.specs.Words.{chars_of};
-ghost use Rattle.gallery.specs.declared.fault.Mistake.TheVariants.{NoFile, OutOfMemory};
+ghost use Rattle.gallery.specs.declared.fault.LineError.TheVariants.{NoFile, OutOfMemory};
 
-use crate::fault::Mistake;
+use crate::fault::LineError;
 use crate::statement::{Context, Statement};
 use codespan_reporting::diagnostic::Diagnostic;
 use codespan_reporting::term::{Chars, Config};
@@ -46,7 +46,7 @@ impl CharacterSet {
 
 /// How colors are written.
 #[derive(Clone, Copy, Debug, PartialEq, Eq)]
-pub enum Colours {
+pub enum Colors {
     /// Not at all.
     Plain,
     /// By escape sequences.
@@ -79,9 +79,9 @@ pub struct Case<'input> {
     /// The configuration.
     pub config: Config<'input>,
     /// How colors are written.
-    pub colours: Colours,
+    pub colors: Colors,
     /// The diagnostic.
-    pub said: Diagnostic<usize>,
+    pub diagnostic: Diagnostic<usize>,
 }
 
 impl<'input> Case<'input> {
@@ -96,8 +96,8 @@ impl<'input> Case<'input> {
             files: Vec::new(alloc),
             numbers: Vec::new(alloc),
             config: Config::default(),
-            colours: Colours::Plain,
-            said: Diagnostic::error(alloc),
+            colors: Colors::Plain,
+            diagnostic: Diagnostic::error(alloc),
         }
     }
 
@@ -108,10 +108,10 @@ impl<'input> Case<'input> {
     ///
     /// `NoFile` for the continuation of a source if there is no file, and `OutOfMemory` if an
     /// allocation fails.
-    pub fn take(&mut self, statement: Statement) -> Result<(), Mistake>
-        ensures takes { OnOk result (Takes statement self.old self.new) }
-        ensures failed { IfErr result (λ mistake. (mistake ≡ OutOfMemory)
-            ⊎ ((mistake ≡ NoFile) × IsSource statement × (self.old.files.items ≡ []))) }
+    pub fn apply(&mut self, statement: Statement) -> Result<(), LineError>
+        ensures applied { OnOk result (Applies statement self.old self.new) }
+        ensures failed { IfErr result (λ line_error. (line_error ≡ OutOfMemory)
+            ⊎ ((line_error ≡ NoFile) × IsSource statement × (self.old.files.items ≡ []))) }
     {
         match statement {
             Statement::Table(table) => self.table = table,
@@ -123,22 +123,22 @@ impl<'input> Case<'input> {
             Statement::Tab(width) => self.config.tab_width = width,
             Statement::Context(context) => self.set_context(context),
             Statement::Characters(set) => self.config.chars = set.chars(),
-            Statement::Colours(colours) => self.colours = colours,
-            Statement::Severity(severity) => self.said.severity = severity,
-            Statement::Code(code) => self.said.code = Some(code),
-            Statement::Message(message) => self.said.message = message,
-            Statement::Label(label) => self.said.labels.push(label)?,
-            Statement::Note(note) => self.said.notes.push(note)?,
+            Statement::Colors(colors) => self.colors = colors,
+            Statement::Severity(severity) => self.diagnostic.severity = severity,
+            Statement::Code(code) => self.diagnostic.code = Some(code),
+            Statement::Message(message) => self.diagnostic.message = message,
+            Statement::Label(label) => self.diagnostic.labels.push(label)?,
+            Statement::Note(note) => self.diagnostic.notes.push(note)?,
         }
         Ok(())
     }
 
     /// Adds a file with an empty source.
-    fn add_file(&mut self, name: String) -> Result<(), Mistake>
+    fn add_file(&mut self, name: String) -> Result<(), LineError>
         ensures others { self.new ≡ record self.old { files = self.new.files } }
         ensures files { OnOk result (map file_view self.new.files.items
             ≡ map file_view self.old.files.items ++ (string_bytes name, []) ∷ []) }
-        ensures failed { IfErr result (λ mistake. mistake ≡ OutOfMemory) }
+        ensures failed { IfErr result (λ line_error. line_error ≡ OutOfMemory) }
     {
         let source = String::new(*self.files.allocator());
         self.files.push(File { name, source })?;
@@ -146,16 +146,16 @@ impl<'input> Case<'input> {
     }
 
     /// Appends a text to the source of the last file.
-    fn add_source(&mut self, text: &str) -> Result<(), Mistake>
+    fn add_source(&mut self, text: &str) -> Result<(), LineError>
         ensures others { self.new ≡ record self.old { files = self.new.files } }
         ensures files { OnOk result
-            (GoesOn text.now (map file_view self.old.files.items)
+            (ContinuesSource text.now (map file_view self.old.files.items)
             (map file_view self.new.files.items)) }
-        ensures failed { IfErr result (λ mistake. (mistake ≡ OutOfMemory)
-            ⊎ ((mistake ≡ NoFile) × (self.old.files.items ≡ []))) }
+        ensures failed { IfErr result (λ line_error. (line_error ≡ OutOfMemory)
+            ⊎ ((line_error ≡ NoFile) × (self.old.files.items ≡ []))) }
     {
         let Some(file) = self.files.last_mut() else {
-            return Err(Mistake::NoFile);
+            return Err(LineError::NoFile);
         };
         file.source.push_str(text)?;
         Ok(())

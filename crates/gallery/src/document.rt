@@ -6,7 +6,7 @@ ghost use Rattle.codespan_styled.specs.StyleSheet.{style_sheet};
 ghost use Rattle.gallery.specs.Documents.{IsDocument, format_named};
 
 use crate::case::Case;
-use crate::drawing::runs_of_case;
+use crate::rendering::runs_of_case;
 use codespan_reporting::files::Error;
 use codespan_reporting::term::Styles;
 use codespan_styled::{html_styles, to_html, to_svg, to_terminal};

@@ -3,9 +3,9 @@
 ghost use Rattle.std.specs.Prelude.{◌≡◌, ◌⊎◌, ℕ, ◌≤◌, ◌<◌, length, IfSome, MatchResult, Some, None, string_bytes};
 ghost use Rattle.std.specs.Option.{option_map};
 ghost use Rattle.gallery.specs.Escapes.{Unescapes, ReadsEscape, ReadsNumbered, IsNumbered};
-ghost use Rattle.gallery.specs.declared.fault.Mistake.TheVariants.{BadEscape, OutOfMemory};
+ghost use Rattle.gallery.specs.declared.fault.LineError.TheVariants.{BadEscape, OutOfMemory};
 
-use crate::fault::Mistake;
+use crate::fault::LineError;
 use std::alloc::Global;
 
 /// Returns the text that an escaped one stands for.
@@ -18,22 +18,23 @@ use std::alloc::Global;
 /// | `\0` | the character of the number 0 |
 /// | `\\` | the backslash |
 /// | `\u{HEX}` | the character of a number in hexadecimal digits |
-pub fn unescape(alloc: Global, text: &str) -> Result<String, Mistake>
-    ensures { MatchResult result (λ said. Unescapes text.now (Some (string_bytes said)))
-        (λ mistake. (mistake ≡ OutOfMemory) ⊎ ((mistake ≡ BadEscape) × Unescapes text.now None)) }
+pub fn unescape(alloc: Global, text: &str) -> Result<String, LineError>
+    ensures { MatchResult result (λ unescaped. Unescapes text.now (Some (string_bytes unescaped)))
+        (λ line_error. (line_error ≡ OutOfMemory) ⊎
+        ((line_error ≡ BadEscape) × Unescapes text.now None)) }
 {
-    let mut said = String::new(alloc);
+    let mut unescaped = String::new(alloc);
     let mut rest = text;
     'escapes: while let Some((plain, escape)) = rest.split_once('\\') {
-        said.push_str(plain)?;
+        unescaped.push_str(plain)?;
         let Some((character, left)) = read_escape(escape) else {
-            return Err(Mistake::BadEscape);
+            return Err(LineError::BadEscape);
         };
-        said.push(character)?;
+        unescaped.push(character)?;
         rest = left;
     }
-    said.push_str(rest)?;
-    Ok(said)
+    unescaped.push_str(rest)?;
+    Ok(unescaped)
 }
 
 /// Parses the escape at the start of a text, after its backslash, and returns its character with

@@ -1,8 +1,8 @@
 //! The errors of the program.
 
 ghost use Rattle.std.specs.Prelude.{◌≡◌};
-ghost use Rattle.gallery.specs.declared.fault.Mistake.TheVariants as mistakes;
-ghost use Rattle.gallery.specs.declared.fault.Fault.TheVariants as faults;
+ghost use Rattle.gallery.specs.declared.fault.LineError.TheVariants as line_errors;
+ghost use Rattle.gallery.specs.declared.fault.Fault.TheVariants as error_output;
 
 use codespan_reporting::files::Error;
 use program_io::arguments::ArgumentsError;
@@ -13,7 +13,7 @@ use std::{fmt, io};
 
 /// An error in a line of the input.
 #[derive(Clone, Copy, Debug, PartialEq, Eq)]
-pub enum Mistake {
+pub enum LineError {
     /// It begins with an unknown word.
     UnknownWord,
     /// Its rest is none of the names that may follow its word.
@@ -39,12 +39,12 @@ pub enum Fault {
     CannotReadInput,
     /// The input is not UTF-8.
     NotUtf8,
-    /// The line of this number, from 1, has a mistake.
-    Line(usize, Mistake),
+    /// The line of this number, from 1, has an error.
+    Line(usize, LineError),
     /// No case has this name.
     UnknownCase(String),
     /// Rendering the case failed.
-    Undrawn(Error),
+    CannotRender(Error),
     /// An allocation for the output failed.
     OutOfMemory,
     /// Writing or flushing the output failed.
@@ -53,26 +53,26 @@ pub enum Fault {
 
 impl Fault {
     /// Writes the message of the error as one line.
-    pub fn write_line<W: Write>(&self, faults: &mut W) -> io::Result<()> {
-        writeln!(faults, "{self}")
+    pub fn write_line<W: Write>(&self, error_output: &mut W) -> io::Result<()> {
+        writeln!(error_output, "{self}")
     }
 }
 
 /// Converts a failed allocation.
-impl From<AllocError> for Mistake {
-    ghost from_gives = { λ _ mistake. mistake ≡ mistakes.OutOfMemory };
+impl From<AllocError> for LineError {
+    ghost from_gives = { λ _ line_error. line_error ≡ line_errors.OutOfMemory };
 
-    fn from(_error: AllocError) -> Mistake {
-        Mistake::OutOfMemory
+    fn from(_error: AllocError) -> LineError {
+        LineError::OutOfMemory
     }
 }
 
 /// Converts a failed allocation.
-impl<T: Drop> From<AllocFailed<T>> for Mistake {
-    ghost from_gives = { λ _ mistake. mistake ≡ mistakes.OutOfMemory };
+impl<T: Drop> From<AllocFailed<T>> for LineError {
+    ghost from_gives = { λ _ line_error. line_error ≡ line_errors.OutOfMemory };
 
-    fn from(_error: AllocFailed<T>) -> Mistake {
-        Mistake::OutOfMemory
+    fn from(_error: AllocFailed<T>) -> LineError {
+        LineError::OutOfMemory
     }
 }
 
@@ -106,7 +106,7 @@ impl From<InputError> for Fault {
 
 /// Converts a failed allocation.
 impl From<AllocError> for Fault {
-    ghost from_gives = { λ _ fault. fault ≡ faults.OutOfMemory };
+    ghost from_gives = { λ _ fault. fault ≡ error_output.OutOfMemory };
 
     fn from(_error: AllocError) -> Fault {
         Fault::OutOfMemory
@@ -114,16 +114,16 @@ impl From<AllocError> for Fault {
 }
 
 /// Writes a message of a few words.
-impl fmt::Display for Mistake {
+impl fmt::Display for LineError {
     fn fmt<W: fmt::Write>(&self, f: &mut fmt::Formatter<W>) -> fmt::Result {
         match self {
-            Mistake::UnknownWord => write!(f, "unknown word"),
-            Mistake::UnknownName => write!(f, "unknown name"),
-            Mistake::BadNumber => write!(f, "bad number"),
-            Mistake::BadEscape => write!(f, "bad escape"),
-            Mistake::NoCase => write!(f, "no case before it"),
-            Mistake::NoFile => write!(f, "no file before it"),
-            Mistake::OutOfMemory => write!(f, "out of memory"),
+            LineError::UnknownWord => write!(f, "unknown word"),
+            LineError::UnknownName => write!(f, "unknown name"),
+            LineError::BadNumber => write!(f, "bad number"),
+            LineError::BadEscape => write!(f, "bad escape"),
+            LineError::NoCase => write!(f, "no case before it"),
+            LineError::NoFile => write!(f, "no file before it"),
+            LineError::OutOfMemory => write!(f, "out of memory"),
         }
     }
 }
@@ -138,9 +138,9 @@ impl fmt::Display for Fault {
             ),
             Fault::CannotReadInput => write!(f, "gallery: cannot read input"),
             Fault::NotUtf8 => write!(f, "gallery: input is not UTF-8"),
-            Fault::Line(number, mistake) => write!(f, "gallery: line {number}: {mistake}"),
+            Fault::Line(number, line_error) => write!(f, "gallery: line {number}: {line_error}"),
             Fault::UnknownCase(name) => write!(f, "gallery: no case {name}"),
-            Fault::Undrawn(error) => write!(f, "gallery: refused: {error}"),
+            Fault::CannotRender(error) => write!(f, "gallery: refused: {error}"),
             Fault::OutOfMemory => write!(f, "gallery: out of memory"),
             Fault::CannotWriteOutput => write!(f, "gallery: cannot write output"),
         }

@@ -1,25 +1,25 @@
 //! The output of every case, each under its name.
 
 ghost use Rattle.std.specs.Prelude.{◌≡◌, ℕ, List, ◌++◌, IfOk, OnOk};
-ghost use Rattle.gallery.specs.declared.case.Colours.TheVariants.{Plain, Svg};
-ghost use Rattle.gallery.specs.Pictures.{AddsPicture};
-ghost use Rattle.gallery.specs.Documents.{AddsSvg};
-ghost use Rattle.gallery.specs.Galleries.{title, shown, IsPictured, IsGallery, TellsFailure};
+ghost use Rattle.gallery.specs.declared.case.Colors.TheVariants.{Plain, Svg};
+ghost use Rattle.gallery.specs.CaseOutputs.{AppendsOutput};
+ghost use Rattle.gallery.specs.Documents.{AppendsSvg};
+ghost use Rattle.gallery.specs.Galleries.{title, shown, IsSection, IsGallery, IsErrorLine};
 
-use crate::case::{Case, Colours};
+use crate::case::{Case, Colors};
 use crate::document::{Format, document};
-use crate::drawing::draw;
+use crate::rendering::render;
 use codespan_reporting::files::Error;
 use std::alloc::{AllocError, Global};
 
 /// Returns the sections of the cases, one after another.
-pub fn draw_cases(alloc: Global, cases: &[Case<'_>]) -> Result<Vec<u8>, AllocError>
+pub fn render_cases(alloc: Global, cases: &[Case<'_>]) -> Result<Vec<u8>, AllocError>
     ensures { IfOk result (λ gallery. IsGallery cases.now gallery.items) }
 {
     let mut gallery = Vec::new(alloc);
     for case in cases {
         add_title(&mut gallery, case.name)?;
-        add_picture(alloc, &mut gallery, case)?;
+        add_output(alloc, &mut gallery, case)?;
     }
     Ok(gallery)
 }
@@ -35,32 +35,32 @@ fn add_title(gallery: &mut Vec<u8>, name: &str) -> Result<(), AllocError>
 }
 
 /// Appends the output of a case, and, if it failed, a line with the error.
-fn add_picture(alloc: Global, gallery: &mut Vec<u8>, case: &Case<'_>) -> Result<(), AllocError>
-    ensures { OnOk result ((pictured : List ℕ) × (gallery.new.items ≡ gallery.old.items ++ pictured)
-        × IsPictured case.now pictured) }
+fn add_output(alloc: Global, gallery: &mut Vec<u8>, case: &Case<'_>) -> Result<(), AllocError>
+    ensures { OnOk result ((section : List ℕ) × (gallery.new.items ≡ gallery.old.items ++ section)
+        × IsSection case.now section) }
 {
-    let mut picture = Vec::new(alloc);
-    let drawn = draw_as_asked(alloc, case, &mut picture);
-    add_shown(gallery, picture.as_slice())?;
-    add_failure(alloc, gallery, drawn)
+    let mut output = Vec::new(alloc);
+    let rendered = render_as_stated(alloc, case, &mut output);
+    add_shown(gallery, output.as_slice())?;
+    add_failure(alloc, gallery, rendered)
 }
 
 /// Renders a case as it states: as text, or as an SVG document.
 ///
 /// # Errors
 ///
-/// Those of [`draw`] and of [`document`].
-fn draw_as_asked(alloc: Global, case: &Case<'_>, picture: &mut Vec<u8>) -> Result<(), Error>
-    ensures plain { case.now.colours ≡ Plain
-        → OnOk result (AddsPicture case.now picture.old.items picture.new.items) }
-    ensures document { case.now.colours ≡ Svg
-        → OnOk result (AddsSvg case.now picture.old.items picture.new.items) }
+/// Those of [`render`] and of [`document`].
+fn render_as_stated(alloc: Global, case: &Case<'_>, output: &mut Vec<u8>) -> Result<(), Error>
+    ensures plain { case.now.colors ≡ Plain
+        → OnOk result (AppendsOutput case.now output.old.items output.new.items) }
+    ensures document { case.now.colors ≡ Svg
+        → OnOk result (AppendsSvg case.now output.old.items output.new.items) }
 {
-    match case.colours {
-        Colours::Plain | Colours::Ansi => draw(alloc, case, picture),
-        Colours::Svg => {
+    match case.colors {
+        Colors::Plain | Colors::Ansi => render(alloc, case, output),
+        Colors::Svg => {
             let document = document(alloc, case, Format::Svg)?;
-            picture.extend_from_slice(document.as_bytes())?;
+            output.extend_from_slice(document.as_bytes())?;
             Ok(())
         }
     }
@@ -70,12 +70,13 @@ fn draw_as_asked(alloc: Global, case: &Case<'_>, picture: &mut Vec<u8>) -> Resul
 fn add_failure(
     alloc: Global,
     gallery: &mut Vec<u8>,
-    drawn: Result<(), Error>,
+    rendered: Result<(), Error>,
 ) -> Result<(), AllocError>
-    ensures { OnOk result ((told : List ℕ) × (gallery.new.items ≡ gallery.old.items ++ told)
-        × TellsFailure drawn told) }
+    ensures { OnOk result ((error_line : List ℕ)
+        × (gallery.new.items ≡ gallery.old.items ++ error_line)
+        × IsErrorLine rendered error_line) }
 {
-    match drawn {
+    match rendered {
         Ok(()) => Ok(()),
         Err(error) => {
             let line = format!(in alloc; "refused: {error}\n")?;
@@ -85,10 +86,10 @@ fn add_failure(
 }
 
 /// Appends an output, with its control characters but newlines as escapes.
-fn add_shown(gallery: &mut Vec<u8>, drawn: &[u8]) -> Result<(), AllocError>
-    ensures { OnOk result (gallery.new.items ≡ gallery.old.items ++ shown drawn.now) }
+fn add_shown(gallery: &mut Vec<u8>, rendered: &[u8]) -> Result<(), AllocError>
+    ensures { OnOk result (gallery.new.items ≡ gallery.old.items ++ shown rendered.now) }
 {
-    for byte in drawn {
+    for byte in rendered {
         match *byte {
             0x1b => gallery.extend_from_slice(b"\\e")?,
             b'\0' => gallery.extend_from_slice(b"\\0")?,

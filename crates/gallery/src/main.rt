@@ -15,16 +15,16 @@
 
 mod case;
 mod cases;
+mod database;
 mod document;
-mod drawing;
 mod escape;
 mod fault;
 mod fields;
 mod gallery;
+mod rendering;
 mod request;
 mod run;
 mod statement;
-mod tables;
 mod words;
 
 use program_io::arguments::arguments;

@@ -17,11 +17,11 @@ pub enum Request<'args> {
 }
 
 impl<'args> Request<'args> {
-    ghost use Rattle.gallery.specs.Requests.{asked_of, request_view};
+    ghost use Rattle.gallery.specs.Requests.{request_of, request_view};
 
     /// Returns the request of the arguments; `None` if their number or the first word is another.
     pub fn from_arguments(args: &'args [String]) -> Option<Request<'args>>
-        ensures { option_map request_view result ≡ asked_of (map string_bytes args.now) }
+        ensures { option_map request_view result ≡ request_of (map string_bytes args.now) }
     {
         match args {
             [] => Some(Request::All),

@@ -3,13 +3,13 @@
 ghost use Rattle.std.specs.Prelude.{◌≡◌, ◌≢◌, ◌≤◌, ◌↔◌, ℕ, List, MatchResult, None, OnOk, IfErr, IfOk, IfSome, IsErrAnd, IsErrOf, IsOkAnd, map, string_bytes};
 ghost use Rattle.std.specs.Io.KnownBytes.{Appends};
 ghost use Rattle.std.specs.Option.{option_copied};
-ghost use Rattle.gallery.specs.Requests.{Answers, AnswersOf, FaultTells, IsStatusOf, FailsOf, asked_of, case_named, request_view};
+ghost use Rattle.gallery.specs.Requests.{IsResponse, IsResponseOf, FaultMeans, IsStatusOf, IsFailureOf, request_of, case_named, request_view};
 
 use crate::case::Case;
 use crate::cases::parse_cases;
 use crate::document::{default_style_sheet, document};
 use crate::fault::Fault;
-use crate::gallery::draw_cases;
+use crate::gallery::render_cases;
 use crate::request::Request;
 use codespan_reporting::files::Error;
 use program_io::input::read_text;
@@ -18,39 +18,40 @@ use std::alloc::Global;
 use std::io::{Read, Write};
 
 /// Writes the requested output of the cases of the input, and returns the program's status: 0, or,
-/// after one line about the error on `faults`, 2 for wrong arguments and 1 for any other error.
+/// after one line about the error on `error_output`, 2 for wrong arguments and 1 for any other
+/// error.
 ///
-/// Nothing is written to the output before all is rendered. An error of `faults` is ignored.
+/// Nothing is written to the output before all is rendered. An error of `error_output` is ignored.
 pub fn run<R: Read, W: Write, E: Write>(
     alloc: Global,
     args: &[String],
     input: &mut R,
     output: &mut W,
-    faults: &mut E,
+    error_output: &mut E,
 ) -> u8
     ensures status { result ≤ 2 }
-    ensures usage { (result ≡ 2) ↔ (asked_of (map string_bytes args.now) ≡ None) }
+    ensures usage { (result ≡ 2) ↔ (request_of (map string_bytes args.now) ≡ None) }
     ensures unread { result ≡ 2 → input.new ≡ input.old }
     ensures unwritten { result ≡ 2 → output.new ≡ output.old }
-    ensures silent { result ≡ 0 → faults.new ≡ faults.old }
-    ensures drawn { result ≡ 0 → IfSome (asked_of (map string_bytes args.now))
-        (λ asked. IfSome (R.remaining input.old) (λ text.
-        (answer : List ℕ) × Answers asked text answer
-        × Appends (W.contents output.old) (W.contents output.new) answer)) }
+    ensures no_error { result ≡ 0 → error_output.new ≡ error_output.old }
+    ensures rendered { result ≡ 0 → IfSome (request_of (map string_bytes args.now))
+        (λ request. IfSome (R.remaining input.old) (λ text.
+        (response : List ℕ) × IsResponse request text response
+        × Appends (W.contents output.old) (W.contents output.new) response)) }
 {
-    conclude(show(alloc, args, input, output), faults)
+    conclude(show(alloc, args, input, output), error_output)
 }
 
 /// Writes the error, if there is one, in one line, and returns the program's status. An error of
-/// `faults` is ignored.
-pub fn conclude<E: Write>(outcome: Result<(), Fault>, faults: &mut E) -> u8
+/// `error_output` is ignored.
+pub fn conclude<E: Write>(outcome: Result<(), Fault>, error_output: &mut E) -> u8
     ensures status { IsStatusOf outcome result }
-    ensures silent { OnOk outcome (faults.new ≡ faults.old) }
+    ensures no_error { OnOk outcome (error_output.new ≡ error_output.old) }
 {
     match outcome {
         Ok(()) => 0,
         Err(fault) => {
-            let _ = fault.write_line(faults);
+            let _ = fault.write_line(error_output);
             match fault {
                 Fault::WrongArguments => 2,
                 _ => 1,
@@ -67,22 +68,23 @@ fn show<R: Read, W: Write>(
     output: &mut W,
 ) -> Result<(), Fault>
     ensures usage { IsErrOf result Fault.WrongArguments
-        ↔ (asked_of (map string_bytes args.now) ≡ None) }
+        ↔ (request_of (map string_bytes args.now) ≡ None) }
     ensures unread { IsErrOf result Fault.WrongArguments → input.new ≡ input.old }
-    ensures drawn { OnOk result (IfSome (asked_of (map string_bytes args.now))
-        (λ asked. IfSome (R.remaining input.old) (λ text.
-        (answer : List ℕ) × Answers asked text answer
-        × Appends (W.contents output.old) (W.contents output.new) answer))) }
-    ensures told { IfErr result (λ fault.
-        IfSome (R.remaining input.old) (FaultTells (asked_of (map string_bytes args.now)) fault)) }
-    ensures kept { IfErr result (λ fault. fault ≢ Fault.CannotWriteOutput
+    ensures rendered { OnOk result (IfSome (request_of (map string_bytes args.now))
+        (λ request. IfSome (R.remaining input.old) (λ text.
+        (response : List ℕ) × IsResponse request text response
+        × Appends (W.contents output.old) (W.contents output.new) response))) }
+    ensures reported { IfErr result (λ fault.
+        IfSome (R.remaining input.old)
+        (FaultMeans (request_of (map string_bytes args.now)) fault)) }
+    ensures unchanged { IfErr result (λ fault. fault ≢ Fault.CannotWriteOutput
         → output.new ≡ output.old) }
 {
     let request = Request::from_arguments(args).ok_or(Fault::WrongArguments)?;
     let text = read_text(alloc, input)?;
     let cases = parse_cases(alloc, text.as_str())?;
-    let answer = answer(alloc, request, cases.as_slice())?;
-    write_bytes(output, answer.as_slice())
+    let response = response(alloc, request, cases.as_slice())?;
+    write_bytes(output, response.as_slice())
 }
 
 /// Writes the bytes to the output and flushes it.
@@ -98,13 +100,13 @@ fn write_bytes<W: Write>(output: &mut W, bytes: &[u8]) -> Result<(), Fault>
 }
 
 /// Renders what is requested of cases.
-fn answer(alloc: Global, request: Request<'_>, cases: &[Case<'_>]) -> Result<Vec<u8>, Fault>
-    ensures answers { IfOk result (λ bytes.
-        AnswersOf (request_view request.entry) cases.now bytes.items) }
-    ensures fails { IfErr result (FailsOf (request_view request.entry) cases.now) }
+fn response(alloc: Global, request: Request<'_>, cases: &[Case<'_>]) -> Result<Vec<u8>, Fault>
+    ensures responds { IfOk result (λ bytes.
+        IsResponseOf (request_view request.entry) cases.now bytes.items) }
+    ensures fails { IfErr result (IsFailureOf (request_view request.entry) cases.now) }
 {
     match request {
-        Request::All => Ok(draw_cases(alloc, cases)?),
+        Request::All => Ok(render_cases(alloc, cases)?),
         Request::Styles => bytes_of(default_style_sheet(alloc)),
         Request::Document(format, name) => {
             let Some(case) = named(cases, name) else {
@@ -119,11 +121,11 @@ fn answer(alloc: Global, request: Request<'_>, cases: &[Case<'_>]) -> Result<Vec
 fn bytes_of(document: Result<String, Error>) -> Result<Vec<u8>, Fault>
     ensures { MatchResult result
         (λ bytes. IsOkAnd document (λ text. bytes.items ≡ string_bytes text))
-        (λ fault. IsErrAnd document (λ error. fault ≡ Fault.Undrawn error)) }
+        (λ fault. IsErrAnd document (λ error. fault ≡ Fault.CannotRender error)) }
 {
     match document {
         Ok(document) => Ok(document.into_bytes()),
-        Err(error) => Err(Fault::Undrawn(error)),
+        Err(error) => Err(Fault::CannotRender(error)),
     }
 }
 

@@ -2,16 +2,16 @@
 
 ghost use Rattle.std.specs.Prelude.{◌≡◌, Some, IfOk, IfErr};
 ghost use Rattle.std.specs.Option.{ok_or};
-ghost use Rattle.gallery.specs.Statements.{LineSays, Says, IsWrong, IsWrongLine, style_word};
-ghost use Rattle.gallery.specs.declared.fault.Mistake.TheVariants.{UnknownName};
+ghost use Rattle.gallery.specs.Statements.{ParsesTo, Describes, IsWrong, IsWrongLine, style_word};
+ghost use Rattle.gallery.specs.declared.fault.LineError.TheVariants.{UnknownName};
 ghost use Rattle.gallery.specs.declared.words.Word.TheVariants as words;
 
-use crate::case::{CharacterSet, Colours, Table};
+use crate::case::{CharacterSet, Colors, Table};
 use crate::escape::unescape;
-use crate::fault::Mistake;
+use crate::fault::LineError;
 use crate::fields::{cut, cut_number, is_ignored, parse_number};
 use crate::words::{
-    Word, parse_characters, parse_colours, parse_layout, parse_severity, parse_style, parse_table,
+    Word, parse_characters, parse_colors, parse_layout, parse_severity, parse_style, parse_table,
     parse_word,
 };
 use codespan_reporting::diagnostic::{Label, LabelStyle, Severity};
@@ -22,11 +22,11 @@ use std::alloc::Global;
 #[derive(Debug, Drop)]
 pub enum Line<'input> {
     /// It is empty or begins with `#`, and is ignored.
-    Silent,
+    Ignored,
     /// `case NAME`: it begins a case of this name.
     Title(&'input str),
     /// It describes the last case.
-    Said(Statement),
+    Description(Statement),
 }
 
 /// A part of the description of a case.
@@ -51,7 +51,7 @@ pub enum Statement {
     /// `characters NAME`: the characters of borders, carets and lanes.
     Characters(CharacterSet),
     /// `colours NAME`: how colors are written.
-    Colours(Colours),
+    Colors(Colors),
     /// `severity NAME`: the severity.
     Severity(Severity),
     /// `code TEXT`: the code.
@@ -81,25 +81,25 @@ pub struct Context {
 ///
 /// # Errors
 ///
-/// The mistake of the line, and `OutOfMemory` if an allocation fails.
-pub fn parse_line<'input>(alloc: Global, line: &'input str) -> Result<Line<'input>, Mistake>
-    ensures says { IfOk result (LineSays line.now) }
+/// The error of the line, and `OutOfMemory` if an allocation fails.
+pub fn parse_line<'input>(alloc: Global, line: &'input str) -> Result<Line<'input>, LineError>
+    ensures parsed { IfOk result (ParsesTo line.now) }
     ensures wrong { IfErr result (IsWrongLine line.now) }
 {
     if is_ignored(line) {
-        return Ok(Line::Silent);
+        return Ok(Line::Ignored);
     }
     let (word, rest) = cut(line);
     if word == "case" {
         return Ok(Line::Title(rest));
     }
-    let word = parse_word(word).ok_or(Mistake::UnknownWord)?;
-    Ok(Line::Said(parse_statement(alloc, word, rest)?))
+    let word = parse_word(word).ok_or(LineError::UnknownWord)?;
+    Ok(Line::Description(parse_statement(alloc, word, rest)?))
 }
 
 /// Parses the rest of a line that begins with this word.
-fn parse_statement(alloc: Global, word: Word, rest: &str) -> Result<Statement, Mistake>
-    ensures says { IfOk result (Says (Some word) rest.now) }
+fn parse_statement(alloc: Global, word: Word, rest: &str) -> Result<Statement, LineError>
+    ensures parsed { IfOk result (Describes (Some word) rest.now) }
     ensures wrong { IfErr result (IsWrong (Some word) rest.now) }
 {
     match word {
@@ -112,7 +112,7 @@ fn parse_statement(alloc: Global, word: Word, rest: &str) -> Result<Statement, M
         Word::Tab => Ok(Statement::Tab(parse_number(rest)?)),
         Word::Context => parse_context(rest),
         Word::Characters => Ok(Statement::Characters(known(parse_characters(rest))?)),
-        Word::Colours => Ok(Statement::Colours(known(parse_colours(rest))?)),
+        Word::Colors => Ok(Statement::Colors(known(parse_colors(rest))?)),
         Word::Severity => Ok(Statement::Severity(known(parse_severity(rest))?)),
         Word::Code => Ok(Statement::Code(unescape(alloc, rest)?)),
         Word::Message => Ok(Statement::Message(unescape(alloc, rest)?)),
@@ -123,15 +123,15 @@ fn parse_statement(alloc: Global, word: Word, rest: &str) -> Result<Statement, M
 }
 
 /// Returns what a name stands for, or `UnknownName`.
-fn known<T: Drop>(named: Option<T>) -> Result<T, Mistake>
+fn known<T: Drop>(named: Option<T>) -> Result<T, LineError>
     ensures { result ≡ ok_or named UnknownName }
 {
-    named.ok_or(Mistake::UnknownName)
+    named.ok_or(LineError::UnknownName)
 }
 
 /// Parses the rest of a `number` line.
-fn parse_line_number(rest: &str) -> Result<Statement, Mistake>
-    ensures says { IfOk result (Says (Some words.Number) rest.now) }
+fn parse_line_number(rest: &str) -> Result<Statement, LineError>
+    ensures parsed { IfOk result (Describes (Some words.Number) rest.now) }
     ensures wrong { IfErr result (IsWrong (Some words.Number) rest.now) }
 {
     let (line, left) = cut_number(rest)?;
@@ -139,8 +139,8 @@ fn parse_line_number(rest: &str) -> Result<Statement, Mistake>
 }
 
 /// Parses the rest of a `context` line.
-fn parse_context(rest: &str) -> Result<Statement, Mistake>
-    ensures says { IfOk result (Says (Some words.Context) rest.now) }
+fn parse_context(rest: &str) -> Result<Statement, LineError>
+    ensures parsed { IfOk result (Describes (Some words.Context) rest.now) }
     ensures wrong { IfErr result (IsWrong (Some words.Context) rest.now) }
 {
     let (start, left) = cut_number(rest)?;
@@ -155,8 +155,8 @@ fn parse_context(rest: &str) -> Result<Statement, Mistake>
 }
 
 /// Parses the rest of a line of a label in this style.
-fn parse_label(alloc: Global, style: LabelStyle, rest: &str) -> Result<Statement, Mistake>
-    ensures says { IfOk result (Says (Some (style_word style)) rest.now) }
+fn parse_label(alloc: Global, style: LabelStyle, rest: &str) -> Result<Statement, LineError>
+    ensures parsed { IfOk result (Describes (Some (style_word style)) rest.now) }
     ensures wrong { IfErr result (IsWrong (Some (style_word style)) rest.now) }
 {
     let (file_id, left) = cut_number(rest)?;

@@ -1,9 +1,9 @@
 //! The words of lines, and the names that may follow them.
 
 ghost use Rattle.std.specs.Prelude.{◌≡◌};
-ghost use Rattle.gallery.specs.Words.{word_named, table_named, style_named, layout_named, characters_named, colours_named, severity_named};
+ghost use Rattle.gallery.specs.Words.{word_named, table_named, style_named, layout_named, characters_named, colors_named, severity_named};
 
-use crate::case::{CharacterSet, Colours, Table};
+use crate::case::{CharacterSet, Colors, Table};
 use codespan_reporting::diagnostic::Severity;
 use codespan_reporting::term::{DisplayStyle, Layout};
 
@@ -29,7 +29,7 @@ pub enum Word {
     /// The characters of borders, carets and lanes.
     Characters,
     /// How colors are written.
-    Colours,
+    Colors,
     /// The severity.
     Severity,
     /// The code.
@@ -59,7 +59,7 @@ pub fn parse_word(text: &str) -> Option<Word>
         "tab" => Some(Word::Tab),
         "context" => Some(Word::Context),
         "characters" => Some(Word::Characters),
-        "colours" => Some(Word::Colours),
+        "colours" => Some(Word::Colors),
         "severity" => Some(Word::Severity),
         "code" => Some(Word::Code),
         "message" => Some(Word::Message),
@@ -121,14 +121,14 @@ pub fn parse_characters(text: &str) -> Option<CharacterSet>
 }
 
 /// Returns the way to write colors of this name, or `None`.
-#[tactic(auto, unfolding(crate::specs::Words::colours_named))]
-pub fn parse_colours(text: &str) -> Option<Colours>
-    ensures { result ≡ colours_named text.now }
+#[tactic(auto, unfolding(crate::specs::Words::colors_named))]
+pub fn parse_colors(text: &str) -> Option<Colors>
+    ensures { result ≡ colors_named text.now }
 {
     match text {
-        "none" => Some(Colours::Plain),
-        "ansi" => Some(Colours::Ansi),
-        "svg" => Some(Colours::Svg),
+        "none" => Some(Colors::Plain),
+        "ansi" => Some(Colors::Ansi),
+        "svg" => Some(Colors::Svg),
         _ => None,
     }
 }

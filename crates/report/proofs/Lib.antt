@@ -1,8 +1,8 @@
-pub mod Drawn
+pub mod Rendered
 pub mod Numbers
 pub mod Outcomes
 pub mod Words
 pub mod ScriptCuts
-pub mod FaultPlaces
+pub mod FaultRanges
 pub mod ReadBack
 mod Received

@@ -2,11 +2,11 @@
 use Rattle.std.proofs.Common.{◌≤◌, IfErr, OnOk, Result, refl, ◌≡◌, ◌≢◌, ◌⊎◌, inl, inr, ℕ, List, Option, Some, None, Ok, Err, IfSome, IsErrOf, subst, arith, string_bytes}
 use Rattle.std.specs.Str.{IsUtf8}
 use Rattle.report.specs.declared.fault.Fault.{Fault}
-use Rattle.report.specs.declared.fault.Fault.TheVariants.{WrongArguments, CannotReadInput, NotUtf8, Drawing, BadScript, CannotWriteOutput}
-use Rattle.report.specs.Drawings.{drawing_of}
+use Rattle.report.specs.declared.fault.Fault.TheVariants.{WrongArguments, CannotReadInput, NotUtf8, CannotRender, BadScript, CannotWriteOutput}
+use Rattle.report.specs.RenderedTexts.{rendering_of}
 use Rattle.program_io.specs.Output.{AppendsPrefix}
-use Rattle.report.specs.Faults.{FaultTells, IfBadScript, IsStatusOf, StaysUnlessDrawn, failed_output_line}
-use Rattle.report.specs.Requests.{AskedView, WhereKnown, asked_of}
+use Rattle.report.specs.Faults.{FaultMeans, IfBadScript, IsStatusOf, UnchangedUnlessRendered, failed_output_line}
+use Rattle.report.specs.Requests.{CommandView, WhereKnown, command_of}
 
 -- the status is one of four
 pub status_at_most : (outcome : Result (Unit {0}) Fault) (status : ℕ) → IsStatusOf outcome status → status ≤ 3
@@ -14,8 +14,8 @@ status_at_most (Ok done) status is = omega arith
 status_at_most (Err WrongArguments) status is = omega arith
 status_at_most (Err CannotReadInput) status is = omega arith
 status_at_most (Err NotUtf8) status is = omega arith
-status_at_most (Err (Drawing error)) status is = omega arith
-status_at_most (Err (BadScript picture)) status is = elim is [ inl three ↦ omega arith | inr one ↦ omega arith ]
+status_at_most (Err (CannotRender error)) status is = omega arith
+status_at_most (Err (BadScript text)) status is = elim is [ inl three ↦ omega arith | inr one ↦ omega arith ]
 status_at_most (Err CannotWriteOutput) status is = omega arith
 
 -- the status 2 is that of wrong arguments
@@ -24,8 +24,8 @@ wrong_by_status (Ok done) status is two = absurd (omega arith)
 wrong_by_status (Err WrongArguments) status is two = refl
 wrong_by_status (Err CannotReadInput) status is two = absurd (omega arith)
 wrong_by_status (Err NotUtf8) status is two = absurd (omega arith)
-wrong_by_status (Err (Drawing error)) status is two = absurd (omega arith)
-wrong_by_status (Err (BadScript picture)) status is two = absurd (elim is [ inl three ↦ omega arith | inr one ↦ omega arith ])
+wrong_by_status (Err (CannotRender error)) status is two = absurd (omega arith)
+wrong_by_status (Err (BadScript text)) status is two = absurd (elim is [ inl three ↦ omega arith | inr one ↦ omega arith ])
 wrong_by_status (Err CannotWriteOutput) status is two = absurd (omega arith)
 
 -- wrong arguments have the status 2
@@ -35,24 +35,24 @@ status_of_wrong (Err fault) status is wrong = subst (λ (r : Result (Unit {0}) F
 
 -- the status 0 is that of success
 pub success_by_status : (outcome : Result (Unit {0}) Fault) (status : ℕ) {X : Type 0} → IsStatusOf outcome status → status ≡ 0 → OnOk outcome X → X
-success_by_status (Ok done) status is zero held = held
-success_by_status (Err WrongArguments) status is zero held = absurd (omega arith)
-success_by_status (Err CannotReadInput) status is zero held = absurd (omega arith)
-success_by_status (Err NotUtf8) status is zero held = absurd (omega arith)
-success_by_status (Err (Drawing error)) status is zero held = absurd (omega arith)
-success_by_status (Err (BadScript picture)) status is zero held = absurd (elim is [ inl three ↦ omega arith | inr one ↦ omega arith ])
-success_by_status (Err CannotWriteOutput) status is zero held = absurd (omega arith)
+success_by_status (Ok done) status is zero contents = contents
+success_by_status (Err WrongArguments) status is zero contents = absurd (omega arith)
+success_by_status (Err CannotReadInput) status is zero contents = absurd (omega arith)
+success_by_status (Err NotUtf8) status is zero contents = absurd (omega arith)
+success_by_status (Err (CannotRender error)) status is zero contents = absurd (omega arith)
+success_by_status (Err (BadScript text)) status is zero contents = absurd (elim is [ inl three ↦ omega arith | inr one ↦ omega arith ])
+success_by_status (Err CannotWriteOutput) status is zero contents = absurd (omega arith)
 
 -- the status 3 is that of a script's error
-pub faulty_by_status : (outcome : Result (Unit {0}) Fault) (status : ℕ) {X : Type 0} → IsStatusOf outcome status → status ≡ 3
-    → ((picture : _) → outcome ≡ Err (BadScript picture) → X) → X
-faulty_by_status (Ok done) status is three follows = absurd (omega arith)
-faulty_by_status (Err WrongArguments) status is three follows = absurd (omega arith)
-faulty_by_status (Err CannotReadInput) status is three follows = absurd (omega arith)
-faulty_by_status (Err NotUtf8) status is three follows = absurd (omega arith)
-faulty_by_status (Err (Drawing error)) status is three follows = absurd (omega arith)
-faulty_by_status (Err (BadScript picture)) status is three follows = follows picture refl
-faulty_by_status (Err CannotWriteOutput) status is three follows = absurd (omega arith)
+pub bad_script_by_status : (outcome : Result (Unit {0}) Fault) (status : ℕ) {X : Type 0} → IsStatusOf outcome status → status ≡ 3
+    → ((text : _) → outcome ≡ Err (BadScript text) → X) → X
+bad_script_by_status (Ok done) status is three follows = absurd (omega arith)
+bad_script_by_status (Err WrongArguments) status is three follows = absurd (omega arith)
+bad_script_by_status (Err CannotReadInput) status is three follows = absurd (omega arith)
+bad_script_by_status (Err NotUtf8) status is three follows = absurd (omega arith)
+bad_script_by_status (Err (CannotRender error)) status is three follows = absurd (omega arith)
+bad_script_by_status (Err (BadScript text)) status is three follows = follows text refl
+bad_script_by_status (Err CannotWriteOutput) status is three follows = absurd (omega arith)
 
 -- what follows from a fact of two known values
 known_weaker : {A B : Type 0} (a : Option A) (b : Option B) (P Q : A → B → Type 0) → ((x : A) (y : B) → P x y → Q x y)
@@ -62,95 +62,95 @@ known_weaker (Some x) None P Q follows known = tt
 known_weaker (Some x) (Some y) P Q follows known = follows x y known
 
 -- the same of a fact that always holds
-stays : {A B : Type 0} (a : Option A) (b : Option B) (X : Type 0) (Y : A → B → Type 0) → X → IfSome a (λ x. IfSome b (λ y. X ⊎ Y x y))
-stays None b X Y held = tt
-stays (Some x) None X Y held = tt
-stays (Some x) (Some y) X Y held = inl held
+is_unchanged : {A B : Type 0} (a : Option A) (b : Option B) (X : Type 0) (Y : A → B → Type 0) → X → IfSome a (λ x. IfSome b (λ y. X ⊎ Y x y))
+is_unchanged None b X Y contents = tt
+is_unchanged (Some x) None X Y contents = tt
+is_unchanged (Some x) (Some y) X Y contents = inl contents
 
 -- where the source is not UTF-8 the output stays
-pub kept_at_not_utf8 : (words : List (List ℕ)) (bytes : Option (List ℕ)) (X : Type 0) (outcome : Result (Unit {0}) Fault)
+pub unchanged_at_not_utf8 : (words : List (List ℕ)) (bytes : Option (List ℕ)) (X : Type 0) (outcome : Result (Unit {0}) Fault)
     → OnOk outcome (WhereKnown words bytes (λ _ source. IsUtf8 source))
-    → IfErr outcome (λ fault. WhereKnown words bytes (FaultTells fault))
+    → IfErr outcome (λ fault. WhereKnown words bytes (FaultMeans fault))
     → IfErr outcome (λ fault. fault ≢ CannotWriteOutput → X)
     → WhereKnown words bytes (λ _ source. ¬ (IsUtf8 source) → X)
-kept_at_not_utf8 words bytes X (Ok done) utf8 told kept =
-    known_weaker (asked_of words) bytes (λ _ source. IsUtf8 source) (λ _ source. ¬ (IsUtf8 source) → X)
-    (λ asked source is other. absurd (other is)) utf8
-kept_at_not_utf8 words bytes X (Err fault) utf8 told kept =
-    known_weaker (asked_of words) bytes (FaultTells fault) (λ _ source. ¬ (IsUtf8 source) → X)
-    (λ asked source are_known other. kept (λ output. let wrote : FaultTells CannotWriteOutput asked source = subst (λ (f : Fault). FaultTells f asked source) output are_known in other wrote.0)) told
+unchanged_at_not_utf8 words bytes X (Ok done) utf8 reported unchanged =
+    known_weaker (command_of words) bytes (λ _ source. IsUtf8 source) (λ _ source. ¬ (IsUtf8 source) → X)
+    (λ command source is other. absurd (other is)) utf8
+unchanged_at_not_utf8 words bytes X (Err fault) utf8 reported unchanged =
+    known_weaker (command_of words) bytes (FaultMeans fault) (λ _ source. ¬ (IsUtf8 source) → X)
+    (λ command source are_known other. unchanged (λ output. let wrote : FaultMeans CannotWriteOutput command source = subst (λ (f : Fault). FaultMeans f command source) output are_known in other wrote.0)) reported
 
 -- the script's error that was written is that of the request
-pub told_at_faulty : (words : List (List ℕ)) (bytes : Option (List ℕ)) (outcome : Result (Unit {0}) Fault) (status : ℕ) (Told : List ℕ → Type 0)
+pub reported_at_bad_script : (words : List (List ℕ)) (bytes : Option (List ℕ)) (outcome : Result (Unit {0}) Fault) (status : ℕ) (Reported : List ℕ → Type 0)
     → IsStatusOf outcome status → status ≡ 3
-    → IfErr outcome (λ fault. WhereKnown words bytes (FaultTells fault))
-    → IfErr outcome (λ fault. IfBadScript fault (λ picture. Told (string_bytes picture)))
-    → WhereKnown words bytes (λ asked source. (picture : List ℕ) × (drawing_of asked source ≡ Err picture) × Told picture)
-told_at_faulty words bytes (Ok done) status Told is three are_known told = absurd (omega arith)
-told_at_faulty words bytes (Err WrongArguments) status Told is three are_known told = absurd (omega arith)
-told_at_faulty words bytes (Err CannotReadInput) status Told is three are_known told = absurd (omega arith)
-told_at_faulty words bytes (Err NotUtf8) status Told is three are_known told = absurd (omega arith)
-told_at_faulty words bytes (Err (Drawing error)) status Told is three are_known told = absurd (omega arith)
-told_at_faulty words bytes (Err (BadScript picture)) status Told is three are_known told =
-    known_weaker (asked_of words) bytes (FaultTells (BadScript picture)) (λ asked source. (p : List ℕ) × (drawing_of asked source ≡ Err p) × Told p)
-    (λ asked source same. (string_bytes picture, same, told)) are_known
-told_at_faulty words bytes (Err CannotWriteOutput) status Told is three are_known told = absurd (omega arith)
+    → IfErr outcome (λ fault. WhereKnown words bytes (FaultMeans fault))
+    → IfErr outcome (λ fault. IfBadScript fault (λ text. Reported (string_bytes text)))
+    → WhereKnown words bytes (λ command source. (text : List ℕ) × (rendering_of command source ≡ Err text) × Reported text)
+reported_at_bad_script words bytes (Ok done) status Reported is three are_known reported = absurd (omega arith)
+reported_at_bad_script words bytes (Err WrongArguments) status Reported is three are_known reported = absurd (omega arith)
+reported_at_bad_script words bytes (Err CannotReadInput) status Reported is three are_known reported = absurd (omega arith)
+reported_at_bad_script words bytes (Err NotUtf8) status Reported is three are_known reported = absurd (omega arith)
+reported_at_bad_script words bytes (Err (CannotRender error)) status Reported is three are_known reported = absurd (omega arith)
+reported_at_bad_script words bytes (Err (BadScript text)) status Reported is three are_known reported =
+    known_weaker (command_of words) bytes (FaultMeans (BadScript text)) (λ command source. (p : List ℕ) × (rendering_of command source ≡ Err p) × Reported p)
+    (λ command source same. (string_bytes text, same, reported)) are_known
+reported_at_bad_script words bytes (Err CannotWriteOutput) status Reported is three are_known reported = absurd (omega arith)
 
 -- no rendering is both
-not_both : (drawing : Result (List ℕ) (List ℕ)) (good bad : List ℕ) → drawing ≡ Ok good → drawing ≡ Err bad → ⊥
-not_both drawing good bad is other = cc (is, other)
+not_both : (rendering : Result (List ℕ) (List ℕ)) (good bad : List ℕ) → rendering ≡ Ok good → rendering ≡ Err bad → ⊥
+not_both rendering good bad is other = cc (is, other)
 
 -- the same of an error
-faulty_fault : (fault : Fault) (status : ℕ) (X : Type 0) (asked : AskedView) (source picture : List ℕ) → IsStatusOf (Err fault) status → FaultTells fault asked source
-    → (fault ≢ CannotWriteOutput → X) → drawing_of asked source ≡ Err picture → ((status ≡ 3) ⊎ (status ≡ 1)) × X
-faulty_fault WrongArguments status X asked source picture is are_known kept bad = absurd are_known
-faulty_fault CannotReadInput status X asked source picture is are_known kept bad = (inr is, kept (λ output. cc output))
-faulty_fault NotUtf8 status X asked source picture is are_known kept bad = (inr is, kept (λ output. cc output))
-faulty_fault (Drawing error) status X asked source picture is are_known kept bad = (inr is, kept (λ output. cc output))
-faulty_fault (BadScript told) status X asked source picture is are_known kept bad = (is, kept (λ output. cc output))
-faulty_fault CannotWriteOutput status X asked source picture is are_known kept bad = absurd (not_both (drawing_of asked source) are_known.1.0 picture are_known.1.1 bad)
+bad_script_fault : (fault : Fault) (status : ℕ) (X : Type 0) (command : CommandView) (source text : List ℕ) → IsStatusOf (Err fault) status → FaultMeans fault command source
+    → (fault ≢ CannotWriteOutput → X) → rendering_of command source ≡ Err text → ((status ≡ 3) ⊎ (status ≡ 1)) × X
+bad_script_fault WrongArguments status X command source text is are_known unchanged bad = absurd are_known
+bad_script_fault CannotReadInput status X command source text is are_known unchanged bad = (inr is, unchanged (λ output. cc output))
+bad_script_fault NotUtf8 status X command source text is are_known unchanged bad = (inr is, unchanged (λ output. cc output))
+bad_script_fault (CannotRender error) status X command source text is are_known unchanged bad = (inr is, unchanged (λ output. cc output))
+bad_script_fault (BadScript reported) status X command source text is are_known unchanged bad = (is, unchanged (λ output. cc output))
+bad_script_fault CannotWriteOutput status X command source text is are_known unchanged bad = absurd (not_both (rendering_of command source) are_known.1.0 text are_known.1.1 bad)
 
 -- where the script has an error, that is written or not, and the output is unchanged
-pub faulty_status : (words : List (List ℕ)) (bytes : Option (List ℕ)) (outcome : Result (Unit {0}) Fault) (status : ℕ) (X : Type 0) (Wrote : List ℕ → Type 0)
+pub bad_script_status : (words : List (List ℕ)) (bytes : Option (List ℕ)) (outcome : Result (Unit {0}) Fault) (status : ℕ) (X : Type 0) (Wrote : List ℕ → Type 0)
     → IsStatusOf outcome status
-    → OnOk outcome (WhereKnown words bytes (λ asked source. (picture : List ℕ) × (drawing_of asked source ≡ Ok picture) × Wrote picture))
-    → IfErr outcome (λ fault. WhereKnown words bytes (FaultTells fault))
+    → OnOk outcome (WhereKnown words bytes (λ command source. (text : List ℕ) × (rendering_of command source ≡ Ok text) × Wrote text))
+    → IfErr outcome (λ fault. WhereKnown words bytes (FaultMeans fault))
     → IfErr outcome (λ fault. fault ≢ CannotWriteOutput → X)
-    → WhereKnown words bytes (λ asked source. (picture : List ℕ) → drawing_of asked source ≡ Err picture → ((status ≡ 3) ⊎ (status ≡ 1)) × X)
-faulty_status words bytes (Ok done) status X Wrote is drawn are_known kept =
-    known_weaker (asked_of words) bytes (λ asked source. (picture : List ℕ) × (drawing_of asked source ≡ Ok picture) × Wrote picture)
-    (λ asked source. (picture : List ℕ) → drawing_of asked source ≡ Err picture → ((status ≡ 3) ⊎ (status ≡ 1)) × X)
-    (λ asked source good picture bad. absurd (not_both (drawing_of asked source) good.0 picture good.1 bad)) drawn
-faulty_status words bytes (Err fault) status X Wrote is drawn are_known kept =
-    known_weaker (asked_of words) bytes (FaultTells fault)
-    (λ asked source. (picture : List ℕ) → drawing_of asked source ≡ Err picture → ((status ≡ 3) ⊎ (status ≡ 1)) × X)
-    (λ asked source told picture bad. faulty_fault fault status X asked source picture is told kept bad) are_known
+    → WhereKnown words bytes (λ command source. (text : List ℕ) → rendering_of command source ≡ Err text → ((status ≡ 3) ⊎ (status ≡ 1)) × X)
+bad_script_status words bytes (Ok done) status X Wrote is rendered are_known unchanged =
+    known_weaker (command_of words) bytes (λ command source. (text : List ℕ) × (rendering_of command source ≡ Ok text) × Wrote text)
+    (λ command source. (text : List ℕ) → rendering_of command source ≡ Err text → ((status ≡ 3) ⊎ (status ≡ 1)) × X)
+    (λ command source good text bad. absurd (not_both (rendering_of command source) good.0 text good.1 bad)) rendered
+bad_script_status words bytes (Err fault) status X Wrote is rendered are_known unchanged =
+    known_weaker (command_of words) bytes (FaultMeans fault)
+    (λ command source. (text : List ℕ) → rendering_of command source ≡ Err text → ((status ≡ 3) ⊎ (status ≡ 1)) × X)
+    (λ command source reported text bad. bad_script_fault fault status X command source text is reported unchanged bad) are_known
 
 -- the output is unchanged, or all of it was rendered
-pub stays_unless_drawn : (outcome : Result (Unit {0}) Fault) (status : ℕ) (X : Type 0) (old new : Option (List ℕ))
+pub unchanged_unless_rendered : (outcome : Result (Unit {0}) Fault) (status : ℕ) (X : Type 0) (old new : Option (List ℕ))
     → IsStatusOf outcome status
     → (IsErrOf outcome CannotWriteOutput → AppendsPrefix old new failed_output_line)
     → IfErr outcome (λ fault. fault ≢ CannotWriteOutput → X)
-    → StaysUnlessDrawn X status old new
-stays_unless_drawn (Ok done) status X old new is line kept = inr (inl is)
-stays_unless_drawn (Err WrongArguments) status X old new is line kept = inl (kept (λ output. cc output))
-stays_unless_drawn (Err CannotReadInput) status X old new is line kept = inl (kept (λ output. cc output))
-stays_unless_drawn (Err NotUtf8) status X old new is line kept = inl (kept (λ output. cc output))
-stays_unless_drawn (Err (Drawing error)) status X old new is line kept = inl (kept (λ output. cc output))
-stays_unless_drawn (Err (BadScript picture)) status X old new is line kept = inl (kept (λ output. cc output))
-stays_unless_drawn (Err CannotWriteOutput) status X old new is line kept = inr (inr (is, line refl))
+    → UnchangedUnlessRendered X status old new
+unchanged_unless_rendered (Ok done) status X old new is line unchanged = inr (inl is)
+unchanged_unless_rendered (Err WrongArguments) status X old new is line unchanged = inl (unchanged (λ output. cc output))
+unchanged_unless_rendered (Err CannotReadInput) status X old new is line unchanged = inl (unchanged (λ output. cc output))
+unchanged_unless_rendered (Err NotUtf8) status X old new is line unchanged = inl (unchanged (λ output. cc output))
+unchanged_unless_rendered (Err (CannotRender error)) status X old new is line unchanged = inl (unchanged (λ output. cc output))
+unchanged_unless_rendered (Err (BadScript text)) status X old new is line unchanged = inl (unchanged (λ output. cc output))
+unchanged_unless_rendered (Err CannotWriteOutput) status X old new is line unchanged = inr (inr (is, line refl))
 
 -- where the output changes, it has received a prefix of what was rendered
-pub prefix_written : (words : List (List ℕ)) (bytes : Option (List ℕ)) (outcome : Result (Unit {0}) Fault) (status : ℕ) (X : Type 0) (Wrote : AskedView → List ℕ → Type 0)
+pub prefix_written : (words : List (List ℕ)) (bytes : Option (List ℕ)) (outcome : Result (Unit {0}) Fault) (status : ℕ) (X : Type 0) (Wrote : CommandView → List ℕ → Type 0)
     → IsStatusOf outcome status → status ≡ 1
     → (IsErrOf outcome CannotWriteOutput → WhereKnown words bytes Wrote)
     → IfErr outcome (λ fault. fault ≢ CannotWriteOutput → X)
-    → WhereKnown words bytes (λ asked source. X ⊎ Wrote asked source)
-prefix_written words bytes (Ok done) status X Wrote is one wrote kept = absurd (omega arith)
-prefix_written words bytes (Err WrongArguments) status X Wrote is one wrote kept = absurd (omega arith)
-prefix_written words bytes (Err CannotReadInput) status X Wrote is one wrote kept = stays (asked_of words) bytes X Wrote (kept (λ output. cc output))
-prefix_written words bytes (Err NotUtf8) status X Wrote is one wrote kept = stays (asked_of words) bytes X Wrote (kept (λ output. cc output))
-prefix_written words bytes (Err (Drawing error)) status X Wrote is one wrote kept = stays (asked_of words) bytes X Wrote (kept (λ output. cc output))
-prefix_written words bytes (Err (BadScript picture)) status X Wrote is one wrote kept = stays (asked_of words) bytes X Wrote (kept (λ output. cc output))
-prefix_written words bytes (Err CannotWriteOutput) status X Wrote is one wrote kept =
-    known_weaker (asked_of words) bytes Wrote (λ asked source. X ⊎ Wrote asked source) (λ asked source came. inr came) (wrote refl)
+    → WhereKnown words bytes (λ command source. X ⊎ Wrote command source)
+prefix_written words bytes (Ok done) status X Wrote is one wrote unchanged = absurd (omega arith)
+prefix_written words bytes (Err WrongArguments) status X Wrote is one wrote unchanged = absurd (omega arith)
+prefix_written words bytes (Err CannotReadInput) status X Wrote is one wrote unchanged = is_unchanged (command_of words) bytes X Wrote (unchanged (λ output. cc output))
+prefix_written words bytes (Err NotUtf8) status X Wrote is one wrote unchanged = is_unchanged (command_of words) bytes X Wrote (unchanged (λ output. cc output))
+prefix_written words bytes (Err (CannotRender error)) status X Wrote is one wrote unchanged = is_unchanged (command_of words) bytes X Wrote (unchanged (λ output. cc output))
+prefix_written words bytes (Err (BadScript text)) status X Wrote is one wrote unchanged = is_unchanged (command_of words) bytes X Wrote (unchanged (λ output. cc output))
+prefix_written words bytes (Err CannotWriteOutput) status X Wrote is one wrote unchanged =
+    known_weaker (command_of words) bytes Wrote (λ command source. X ⊎ Wrote command source) (λ command source appended. inr appended) (wrote refl)

@@ -15,13 +15,13 @@ use Rattle.codespan_base.specs.declared.diagnostic.Severity.TheVariants.{Bug, Er
 use Rattle.report.specs.declared.script.Fault.{Fault}
 use Rattle.report.specs.declared.script.FaultNumber.TheVariants.{UnknownSeverity, RepeatedWord}
 use Rattle.report.specs.Requests.{number_of}
-use Rattle.report.specs.ScriptFaults.{fault_at, fault_from, given_line, line_fault, number_fault, or_fault, repetition, severity_fault}
+use Rattle.report.specs.ScriptFaults.{fault_at, fault_from, line_of_word, line_fault, number_fault, or_fault, repetition, severity_fault}
 use Rattle.report.specs.ScriptLaws.{ScriptReadsBack}
-use Rattle.report.specs.Statements.{IsLineEnd, IsStatable, Statement, code_stated, fields, label_fields, label_stated, message_stated, note_stated, one_stated, said_by, severity_name, severity_stated, statement_line, written}
+use Rattle.report.specs.Statements.{IsLineEnd, IsStatable, Statement, code_stated, fields, label_fields, label_stated, message_stated, note_stated, one_stated, stated_diagnostic, severity_name, severity_stated, statement_line, written}
 use Rattle.report.specs.Statements.Statement.{SeverityLine, CodeLine, MessageLine, LabelLine, NoteLine, CommentLine, EmptyLine}
-use Rattle.report.specs.ScriptLines.{ScriptLine, body, field_of, is_blank, is_newline, lines_from, lines_of, past_blank, range_at, rest_of, source_of, word_of, word_range}
+use Rattle.report.specs.ScriptLines.{ScriptLine, body, field_of, is_space, is_newline, lines_from, lines_of, past_space, range_at, rest_of, source_of, word_of, word_range}
 use Rattle.report.specs.ScriptWords.{severity_named, word_named}
-use Rattle.report.specs.Scripts.{diagnostic_of, label_by_word, label_given, labelled, note_given, read_lines, read_script, rest_given, severity_given, with_ends}
+use Rattle.report.specs.Scripts.{diagnostic_of, label_by_word, parsed_label, label_of_rest, parsed_note, read_lines, read_script, rest_of_word, parsed_severity, with_ends}
 use Rattle.report.proofs.Numbers.{digits_of_decimal, number_of-decimal}
 use Rattle.report.proofs.ScriptCuts.{Lacks, past_one, left_after, line_then, pieces_at, some_piece}
 
@@ -30,30 +30,30 @@ use Rattle.report.proofs.ScriptCuts.{Lacks, past_one, left_after, line_then, pie
 -- a text without a space is one field, and nothing follows it
 field_alone : (xs : List ℕ) → Lacks 32 xs → field_of xs ≡ xs
 field_alone xs lacks =
-    let end : position_or_len is_blank xs ≡ length xs = position_or_len_is is_blank xs (length xs) 0 (omega arith) (λ k below. ne_eqb _ _ (lacks k below)) (λ past. absurd (omega arith)) in
+    let end : position_or_len is_space xs ≡ length xs = position_or_len_is is_space xs (length xs) 0 (omega arith) (λ k below. ne_eqb _ _ (lacks k below)) (λ past. absurd (omega arith)) in
     ap (λ n. take n xs) end ∙ take_all (length xs) xs (omega arith)
 
-past_alone : (xs : List ℕ) → Lacks 32 xs → past_blank xs ≡ []
+past_alone : (xs : List ℕ) → Lacks 32 xs → past_space xs ≡ []
 past_alone xs lacks =
-    let end : position_or_len is_blank xs ≡ length xs = position_or_len_is is_blank xs (length xs) 0 (omega arith) (λ k below. ne_eqb _ _ (lacks k below)) (λ past. absurd (omega arith)) in
+    let end : position_or_len is_space xs ≡ length xs = position_or_len_is is_space xs (length xs) 0 (omega arith) (λ k below. ne_eqb _ _ (lacks k below)) (λ past. absurd (omega arith)) in
     ap (λ n. drop (n + 1) xs) end ∙ drop_all (length xs + 1) xs (omega arith)
 
 -- the first of two fields ends at the space between them
-blank_at : (xs ys : List ℕ) → Lacks 32 xs → position_or_len is_blank (fields xs ys) ≡ length xs
-blank_at xs ys lacks =
-    position_or_len_is is_blank (xs ++ 32 ∷ ys) (length xs) 0 (omega (arith, length-append xs (32 ∷ ys)))
+space_at : (xs ys : List ℕ) → Lacks 32 xs → position_or_len is_space (fields xs ys) ≡ length xs
+space_at xs ys lacks =
+    position_or_len_is is_space (xs ++ 32 ∷ ys) (length xs) 0 (omega (arith, length-append xs (32 ∷ ys)))
     (λ k below. ne_eqb _ _ (λ is. lacks k below (sym (get_or_append_left xs (32 ∷ ys) 0 k below) ∙ is)))
     (λ within. eq-eqb _ _ (get_or_at xs 32 ys 0 (length xs) refl))
 
 first_field : (xs ys : List ℕ) → Lacks 32 xs → field_of (fields xs ys) ≡ xs
-first_field xs ys lacks = ap (λ n. take n (xs ++ 32 ∷ ys)) (blank_at xs ys lacks) ∙ take_at xs (32 ∷ ys) (length xs) refl
+first_field xs ys lacks = ap (λ n. take n (xs ++ 32 ∷ ys)) (space_at xs ys lacks) ∙ take_at xs (32 ∷ ys) (length xs) refl
 
-past_field : (xs ys : List ℕ) → Lacks 32 xs → past_blank (fields xs ys) ≡ ys
-past_field xs ys lacks = ap (λ n. drop (n + 1) (xs ++ 32 ∷ ys)) (blank_at xs ys lacks) ∙ past_one 32 xs ys
+past_field : (xs ys : List ℕ) → Lacks 32 xs → past_space (fields xs ys) ≡ ys
+past_field xs ys lacks = ap (λ n. drop (n + 1) (xs ++ 32 ∷ ys)) (space_at xs ys lacks) ∙ past_one 32 xs ys
 
 -- digits have no space
-no_blank : (n : ℕ) → n < 2 ^ 64 → Lacks 32 (decimal n)
-no_blank n fits i below is = let digit = digits_of_decimal n fits i below in omega (arith, digit.0, is)
+no_space : (n : ℕ) → n < 2 ^ 64 → Lacks 32 (decimal n)
+no_space n fits i below is = let digit = digits_of_decimal n fits i below in omega (arith, digit.0, is)
 
 -- ---- the texts of lines
 
@@ -117,8 +117,8 @@ line_ends (CommentLine text) can = end_after (35 ∷ []) text (above (35 ∷ [])
 line_ends EmptyLine can = end_nothing
 
 -- it keeps its end
-line_kept : (s : Statement) → IsStatable s → strip_carriage_return (statement_line s) ≡ statement_line s
-line_kept s can = ap (λ b. if b then take (length (statement_line s) - 1) (statement_line s) else statement_line s) (ne_eqb _ _ (line_ends s can).no_return)
+line_unchanged : (s : Statement) → IsStatable s → strip_carriage_return (statement_line s) ≡ statement_line s
+line_unchanged s can = ap (λ b. if b then take (length (statement_line s) - 1) (statement_line s) else statement_line s) (ne_eqb _ _ (line_ends s can).no_return)
 
 -- and is not the end of the script
 line_goes_on : (s : Statement) → bytes_eq (statement_line s) (codes "---") ≡ false
@@ -138,9 +138,9 @@ abbrev line_at : ℕ → Statement → ScriptLine
 line_at start s = record { start = start; text = statement_line s; next = start + length (statement_line s) + 1 }
 
 -- the lines of statements, one after another
-abbrev placed : ℕ → List Statement → List ScriptLine
-placed start [] = []
-placed start (s ∷ ss) = line_at start s ∷ placed (start + length (statement_line s) + 1) ss
+abbrev statement_lines : ℕ → List Statement → List ScriptLine
+statement_lines start [] = []
+statement_lines start (s ∷ ss) = line_at start s ∷ statement_lines (start + length (statement_line s) + 1) ss
 
 -- the line of the first statement, and what is written after it
 written_after : (s : Statement) (ss : List Statement) (source : List ℕ) → written (s ∷ ss) source ≡ statement_line s ++ 10 ∷ written ss source
@@ -155,7 +155,7 @@ first_line start s ss source can =
     ap (λ text. lines_from start (slice_split is_newline text)) (written_after s ss source)
     ∙ ap (lines_from start) (pieces_at 10 (statement_line s) (written ss source) lacks)
     ∙ line_then start (statement_line s) pieces (some_piece is_newline (written ss source))
-    ∙ ap (λ text. record { start = start; text = text; next = start + length (statement_line s) + 1 } ∷ lines_from (start + length (statement_line s) + 1) pieces) (line_kept s can)
+    ∙ ap (λ text. record { start = start; text = text; next = start + length (statement_line s) + 1 } ∷ lines_from (start + length (statement_line s) + 1) pieces) (line_unchanged s can)
 
 end_line : (start : ℕ) (source : List ℕ)
     → lines_from start (slice_split is_newline (written [] source))
@@ -168,7 +168,7 @@ end_line start source =
     no_newline i below is = let large = above (codes "---") refl i below in omega (arith, large, is)
 
 body_written : (start : ℕ) (ss : List Statement) (source : List ℕ) → AllByRecursion IsStatable ss
-    → body (lines_from start (slice_split is_newline (written ss source))) ≡ placed start ss
+    → body (lines_from start (slice_split is_newline (written ss source))) ≡ statement_lines start ss
 body_written start [] source can = ap body (end_line start source)
 body_written start (s ∷ ss) source can =
     let next : ℕ = start + length (statement_line s) + 1 in
@@ -192,7 +192,7 @@ source_written input start (s ∷ ss) source can is =
 
 -- the word of a comment begins with `#`
 comment_word : (text : List ℕ) → field_of (35 ∷ text) ≡ 35 ∷ field_of text
-comment_word text = ap (λ n. take n (35 ∷ text)) (one-add (position_or_len is_blank text))
+comment_word text = ap (λ n. take n (35 ∷ text)) (one-add (position_or_len is_space text))
 
 -- the rest of a line that begins with the word
 abbrev rest_by : List ℕ → ScriptLine → Option (List ℕ)
@@ -206,7 +206,7 @@ severity_read start (MessageLine text) can = refl
 severity_read start (LabelLine Primary range message) can = refl
 severity_read start (LabelLine Secondary range message) can = refl
 severity_read start (NoteLine text) can = refl
-severity_read start (CommentLine text) can = ap (λ word. if bytes_eq word (codes "severity") then Some (past_blank (35 ∷ text)) else None) (comment_word text)
+severity_read start (CommentLine text) can = ap (λ word. if bytes_eq word (codes "severity") then Some (past_space (35 ∷ text)) else None) (comment_word text)
 severity_read start EmptyLine can = refl
 
 code_read : (start : ℕ) (s : Statement) → IsStatable s → rest_by (codes "code") (line_at start s) ≡ code_stated s
@@ -216,7 +216,7 @@ code_read start (MessageLine text) can = refl
 code_read start (LabelLine Primary range message) can = refl
 code_read start (LabelLine Secondary range message) can = refl
 code_read start (NoteLine text) can = refl
-code_read start (CommentLine text) can = ap (λ word. if bytes_eq word (codes "code") then Some (past_blank (35 ∷ text)) else None) (comment_word text)
+code_read start (CommentLine text) can = ap (λ word. if bytes_eq word (codes "code") then Some (past_space (35 ∷ text)) else None) (comment_word text)
 code_read start EmptyLine can = refl
 
 message_read : (start : ℕ) (s : Statement) → IsStatable s → rest_by (codes "message") (line_at start s) ≡ message_stated s
@@ -226,17 +226,17 @@ message_read start (MessageLine text) can = refl
 message_read start (LabelLine Primary range message) can = refl
 message_read start (LabelLine Secondary range message) can = refl
 message_read start (NoteLine text) can = refl
-message_read start (CommentLine text) can = ap (λ word. if bytes_eq word (codes "message") then Some (past_blank (35 ∷ text)) else None) (comment_word text)
+message_read start (CommentLine text) can = ap (λ word. if bytes_eq word (codes "message") then Some (past_space (35 ∷ text)) else None) (comment_word text)
 message_read start EmptyLine can = refl
 
-note_read : (start : ℕ) (s : Statement) → IsStatable s → note_given (line_at start s) ≡ note_stated s
+note_read : (start : ℕ) (s : Statement) → IsStatable s → parsed_note (line_at start s) ≡ note_stated s
 note_read start (SeverityLine severity) can = refl
 note_read start (CodeLine text) can = refl
 note_read start (MessageLine text) can = refl
 note_read start (LabelLine Primary range message) can = refl
 note_read start (LabelLine Secondary range message) can = refl
 note_read start (NoteLine text) can = refl
-note_read start (CommentLine text) can = ap (λ word. if bytes_eq word (codes "note") then Some (past_blank (35 ∷ text)) else None) (comment_word text)
+note_read start (CommentLine text) can = ap (λ word. if bytes_eq word (codes "note") then Some (past_space (35 ∷ text)) else None) (comment_word text)
 note_read start EmptyLine can = refl
 
 -- the name of a severity names it
@@ -256,39 +256,39 @@ both_ends style range message text first last p q r = rw (p, q, r)
 -- what is read of the fields of a label
 record AreRead (range : Range ℕ) (message rest : List ℕ) : Type 0 where
   first : number_of (field_of rest) ≡ Some range.start
-  last : number_of (field_of (past_blank rest)) ≡ Some range.end
-  text : past_blank (past_blank rest) ≡ message
+  last : number_of (field_of (past_space rest)) ≡ Some range.end
+  text : past_space (past_space rest) ≡ message
 
 fields_read : (range : Range ℕ) (message : Option (List ℕ)) → range.start < 2 ^ 64 → range.end < 2 ^ 64 → AreRead range (unwrap_or message []) (label_fields range message)
 fields_read range None first last =
-    let start = no_blank range.start first in
-    let end = no_blank range.end last in
-    let after : past_blank (label_fields range None) ≡ decimal range.end = past_field (decimal range.start) (decimal range.end) start in
+    let start = no_space range.start first in
+    let end = no_space range.end last in
+    let after : past_space (label_fields range None) ≡ decimal range.end = past_field (decimal range.start) (decimal range.end) start in
     record {
       first = ap number_of (first_field (decimal range.start) (decimal range.end) start) ∙ number_of-decimal range.start first;
       last = ap (λ rest. number_of (field_of rest)) after ∙ ap number_of (field_alone (decimal range.end) end) ∙ number_of-decimal range.end last;
-      text = ap past_blank after ∙ past_alone (decimal range.end) end;
+      text = ap past_space after ∙ past_alone (decimal range.end) end;
     }
 fields_read range (Some message) first last =
-    let start = no_blank range.start first in
-    let end = no_blank range.end last in
+    let start = no_space range.start first in
+    let end = no_space range.end last in
     let others : List ℕ = fields (decimal range.end) message in
-    let after : past_blank (label_fields range (Some message)) ≡ others = past_field (decimal range.start) others start in
+    let after : past_space (label_fields range (Some message)) ≡ others = past_field (decimal range.start) others start in
     record {
       first = ap number_of (first_field (decimal range.start) others start) ∙ number_of-decimal range.start first;
       last = ap (λ rest. number_of (field_of rest)) after ∙ ap number_of (first_field (decimal range.end) message end) ∙ number_of-decimal range.end last;
-      text = ap past_blank after ∙ past_field (decimal range.end) message end;
+      text = ap past_space after ∙ past_field (decimal range.end) message end;
     }
 
 label_fields_read : (style : LabelStyle) (range : Range ℕ) (message : Option (List ℕ)) → range.start < 2 ^ 64 → range.end < 2 ^ 64
-    → labelled style (label_fields range message) ≡ label_stated (LabelLine style range message)
+    → label_of_rest style (label_fields range message) ≡ label_stated (LabelLine style range message)
 label_fields_read style range message first last =
     let rest : List ℕ = label_fields range message in
     let read = fields_read range message first last in
-    both_ends style range (unwrap_or message []) (past_blank (past_blank rest)) (number_of (field_of rest)) (number_of (field_of (past_blank rest))) read.text read.first read.last
+    both_ends style range (unwrap_or message []) (past_space (past_space rest)) (number_of (field_of rest)) (number_of (field_of (past_space rest))) read.text read.first read.last
 
-label_read : (start : ℕ) (s : Statement) → IsStatable s → label_given (line_at start s) ≡ label_stated s
-unfolding label_given word_named
+label_read : (start : ℕ) (s : Statement) → IsStatable s → parsed_label (line_at start s) ≡ label_stated s
+unfolding parsed_label word_named
 label_read start (SeverityLine severity) can = refl
 label_read start (CodeLine text) can = refl
 label_read start (MessageLine text) can = refl
@@ -300,32 +300,32 @@ label_read start EmptyLine can = refl
 
 -- what is read of each line is read of all of them
 all_read : {T : Type 0} (read : ScriptLine → Option T) (stated : Statement → Option T) → ((start : ℕ) (s : Statement) → IsStatable s → read (line_at start s) ≡ stated s)
-    → (start : ℕ) (ss : List Statement) → AllByRecursion IsStatable ss → filter_map read (placed start ss) ≡ filter_map stated ss
+    → (start : ℕ) (ss : List Statement) → AllByRecursion IsStatable ss → filter_map read (statement_lines start ss) ≡ filter_map stated ss
 all_read read stated same start [] can = refl
 all_read read stated same start (s ∷ ss) can =
     let next : ℕ = start + length (statement_line s) + 1 in
-    ap (λ x. cons_option x (filter_map read (placed next ss))) (same start s can.0)
+    ap (λ x. cons_option x (filter_map read (statement_lines next ss))) (same start s can.0)
     ∙ ap (cons_option (stated s)) (all_read read stated same next ss can.1)
 
 -- ---- no line has an error
 
 -- the first line of a word has the first of the rests
-rest_given_first : (word : List ℕ) (lines : List ScriptLine) → rest_given word lines ≡ slice_get (filter_map (rest_by word) lines) 0
-rest_given_first word [] = refl
-rest_given_first word (line ∷ lines) = by_test (bytes_eq (word_of line) word) (rest_given_first word lines)
+rest_of_word_first : (word : List ℕ) (lines : List ScriptLine) → rest_of_word word lines ≡ slice_get (filter_map (rest_by word) lines) 0
+rest_of_word_first word [] = refl
+rest_of_word_first word (line ∷ lines) = by_test (bytes_eq (word_of line) word) (rest_of_word_first word lines)
   where
-    by_test : (b : Bool) → rest_given word lines ≡ slice_get (filter_map (rest_by word) lines) 0
-        → option_map rest_of (if b then Some line else given_line word lines) ≡ slice_get (cons_option (if b then Some (rest_of line) else None) (filter_map (rest_by word) lines)) 0
+    by_test : (b : Bool) → rest_of_word word lines ≡ slice_get (filter_map (rest_by word) lines) 0
+        → option_map rest_of (if b then Some line else line_of_word word lines) ≡ slice_get (cons_option (if b then Some (rest_of line) else None) (filter_map (rest_by word) lines)) 0
     by_test true is = refl
     by_test false is = is
 
 -- no line has the word where there are no rests
-none_given : (word : List ℕ) (lines : List ScriptLine) → length (filter_map (rest_by word) lines) ≡ 0 → given_line word lines ≡ None
-none_given word [] none = refl
-none_given word (line ∷ lines) none = by_test (bytes_eq (word_of line) word) none (none_given word lines)
+no_line_of_word : (word : List ℕ) (lines : List ScriptLine) → length (filter_map (rest_by word) lines) ≡ 0 → line_of_word word lines ≡ None
+no_line_of_word word [] none = refl
+no_line_of_word word (line ∷ lines) none = by_test (bytes_eq (word_of line) word) none (no_line_of_word word lines)
   where
     by_test : (b : Bool) → length (cons_option (if b then Some (rest_of line) else None) (filter_map (rest_by word) lines)) ≡ 0
-        → (length (filter_map (rest_by word) lines) ≡ 0 → given_line word lines ≡ None) → (if b then Some line else given_line word lines) ≡ None
+        → (length (filter_map (rest_by word) lines) ≡ 0 → line_of_word word lines ≡ None) → (if b then Some line else line_of_word word lines) ≡ None
     by_test true none later = absurd (omega arith)
     by_test false none later = later none
 
@@ -335,13 +335,13 @@ IsOnce word lines = length (filter_map (rest_by word) lines) ≤ 1
 
 -- so no line before one that does
 none_before : (word : List ℕ) (before : List ScriptLine) (line : ScriptLine) (lines : List ScriptLine) → IsOnce word (before ++ line ∷ lines)
-    → bytes_eq (word_of line) word ≡ true → given_line word before ≡ None
+    → bytes_eq (word_of line) word ≡ true → line_of_word word before ≡ None
 none_before word before line lines once is =
     let split : filter_map (rest_by word) (before ++ line ∷ lines) ≡ filter_map (rest_by word) before ++ filter_map (rest_by word) (line ∷ lines) = filter_map-append (rest_by word) before (line ∷ lines) in
     let here : filter_map (rest_by word) (line ∷ lines) ≡ rest_of line ∷ filter_map (rest_by word) lines = ap (λ b. cons_option (if b then Some (rest_of line) else None) (filter_map (rest_by word) lines)) is in
     let long : length (filter_map (rest_by word) (before ++ line ∷ lines)) ≡ length (filter_map (rest_by word) before) + length (rest_of line ∷ filter_map (rest_by word) lines) =
     ap length split ∙ length-append (filter_map (rest_by word) before) (filter_map (rest_by word) (line ∷ lines)) ∙ ap (λ rests. length (filter_map (rest_by word) before) + length rests) here in
-    none_given word before (omega arith)
+    no_line_of_word word before (omega arith)
 
 -- severity, code and message are stated once at most
 record AreOnce (lines : List ScriptLine) : Type 0 where
@@ -350,7 +350,7 @@ record AreOnce (lines : List ScriptLine) : Type 0 where
   message : IsOnce (codes "message") lines
 
 -- a word that no earlier line has is not repeated
-not_repeated : (before : List ScriptLine) (line : ScriptLine) → given_line (word_of line) before ≡ None → repetition before line ≡ None
+not_repeated : (before : List ScriptLine) (line : ScriptLine) → line_of_word (word_of line) before ≡ None → repetition before line ≡ None
 unfolding repetition
 not_repeated before line none = ap (option_map (λ first. record { number = RepeatedWord; range = word_range line; first = Some (word_range first) })) none
 
@@ -368,13 +368,13 @@ both_numbers : (first last : Option ℕ) (start end : Option Fault) (m n : ℕ) 
     → (if is_some first then (if is_some last then None else end) else start) ≡ None
 both_numbers first last start end m n p q = rw (p, q)
 
-label_right : (start : ℕ) (s : Statement) (range : Range ℕ) (message : Option (List ℕ)) → range.start < 2 ^ 64 → range.end < 2 ^ 64
+label_correct : (start : ℕ) (s : Statement) (range : Range ℕ) (message : Option (List ℕ)) → range.start < 2 ^ 64 → range.end < 2 ^ 64
     → rest_of (line_at start s) ≡ label_fields range message → number_fault (line_at start s) ≡ None
 unfolding number_fault
-label_right start s range message first last is =
+label_correct start s range message first last is =
     let line : ScriptLine = line_at start s in
     let read = fields_read range message first last in
-    both_numbers (number_of (field_of (rest_of line))) (number_of (field_of (past_blank (rest_of line)))) _ _ range.start range.end (ap (λ rest. number_of (field_of rest)) is ∙ read.first) (ap (λ rest. number_of (field_of (past_blank rest))) is ∙ read.last)
+    both_numbers (number_of (field_of (rest_of line))) (number_of (field_of (past_space (rest_of line)))) _ _ range.start range.end (ap (λ rest. number_of (field_of rest)) is ∙ read.first) (ap (λ rest. number_of (field_of (past_space rest))) is ∙ read.last)
 
 line_right : (before : List ScriptLine) (start : ℕ) (s : Statement) (lines : List ScriptLine) → IsStatable s → AreOnce (before ++ line_at start s ∷ lines)
     → line_fault before (line_at start s) ≡ None
@@ -384,21 +384,21 @@ line_right before start (CodeLine text) lines can once =
     not_repeated before (line_at start (CodeLine text)) (none_before (codes "code") before (line_at start (CodeLine text)) lines once.code refl)
 line_right before start (MessageLine text) lines can once =
     not_repeated before (line_at start (MessageLine text)) (none_before (codes "message") before (line_at start (MessageLine text)) lines once.message refl)
-line_right before start (LabelLine Primary range message) lines can once = label_right start (LabelLine Primary range message) range message can.0 can.1 refl
-line_right before start (LabelLine Secondary range message) lines can once = label_right start (LabelLine Secondary range message) range message can.0 can.1 refl
+line_right before start (LabelLine Primary range message) lines can once = label_correct start (LabelLine Primary range message) range message can.0 can.1 refl
+line_right before start (LabelLine Secondary range message) lines can once = label_correct start (LabelLine Secondary range message) range message can.0 can.1 refl
 line_right before start (NoteLine text) lines can once = refl
 line_right before start (CommentLine text) lines can once = refl
 line_right before start EmptyLine lines can once = refl
 
 -- no line of statements has an error
-lines_right : (before : List ScriptLine) (start : ℕ) (ss : List Statement) → AllByRecursion IsStatable ss → AreOnce (before ++ placed start ss)
-    → fault_from before (placed start ss) ≡ None
+lines_right : (before : List ScriptLine) (start : ℕ) (ss : List Statement) → AllByRecursion IsStatable ss → AreOnce (before ++ statement_lines start ss)
+    → fault_from before (statement_lines start ss) ≡ None
 lines_right before start [] can once = refl
 lines_right before start (s ∷ ss) can once =
     let line : ScriptLine = line_at start s in
     let next : ℕ = start + length (statement_line s) + 1 in
-    let moved : before ++ line ∷ placed next ss ≡ (before ++ line ∷ []) ++ placed next ss = sym (append_assoc before (line ∷ []) (placed next ss)) in
-    ap (λ fault. or_fault fault (fault_from (before ++ line ∷ []) (placed next ss))) (line_right before start s (placed next ss) can.0 once)
+    let moved : before ++ line ∷ statement_lines next ss ≡ (before ++ line ∷ []) ++ statement_lines next ss = sym (append_assoc before (line ∷ []) (statement_lines next ss)) in
+    ap (λ fault. or_fault fault (fault_from (before ++ line ∷ []) (statement_lines next ss))) (line_right before start s (statement_lines next ss) can.0 once)
     ∙ lines_right (before ++ line ∷ []) next ss can.1 (subst AreOnce moved once)
 
 -- ---- what is read of all lines
@@ -419,34 +419,34 @@ named_again (Some severity) = name_read severity
 
 module _ (ss : List Statement) (can : AllByRecursion IsStatable ss) where
   -- the names of the severities
-  names_read : filter_map (rest_by (codes "severity")) (placed 0 ss) ≡ map severity_name (filter_map severity_stated ss)
+  names_read : filter_map (rest_by (codes "severity")) (statement_lines 0 ss) ≡ map severity_name (filter_map severity_stated ss)
   names_read = all_read (rest_by (codes "severity")) (λ s. option_map severity_name (severity_stated s)) severity_read 0 ss can ∙ severities_read ss
 
-  severity_same : severity_given (placed 0 ss) ≡ unwrap_or (one_stated severity_stated ss) Error
-  unfolding severity_given
+  severity_same : parsed_severity (statement_lines 0 ss) ≡ unwrap_or (one_stated severity_stated ss) Error
+  unfolding parsed_severity
   severity_same =
       ap (λ name. unwrap_or (option_and_then severity_named name) Error)
-      (rest_given_first (codes "severity") (placed 0 ss) ∙ ap (λ names. slice_get names 0) names_read ∙ slice_get-map severity_name (filter_map severity_stated ss) 0)
+      (rest_of_word_first (codes "severity") (statement_lines 0 ss) ∙ ap (λ names. slice_get names 0) names_read ∙ slice_get-map severity_name (filter_map severity_stated ss) 0)
       ∙ ap (λ severity. unwrap_or severity Error) (named_again (one_stated severity_stated ss))
 
-  code_same : rest_given (codes "code") (placed 0 ss) ≡ one_stated code_stated ss
-  code_same = rest_given_first (codes "code") (placed 0 ss) ∙ ap (λ rests. slice_get rests 0) (all_read (rest_by (codes "code")) code_stated code_read 0 ss can)
+  code_same : rest_of_word (codes "code") (statement_lines 0 ss) ≡ one_stated code_stated ss
+  code_same = rest_of_word_first (codes "code") (statement_lines 0 ss) ∙ ap (λ rests. slice_get rests 0) (all_read (rest_by (codes "code")) code_stated code_read 0 ss can)
 
-  message_same : rest_given (codes "message") (placed 0 ss) ≡ one_stated message_stated ss
-  message_same = rest_given_first (codes "message") (placed 0 ss) ∙ ap (λ rests. slice_get rests 0) (all_read (rest_by (codes "message")) message_stated message_read 0 ss can)
+  message_same : rest_of_word (codes "message") (statement_lines 0 ss) ≡ one_stated message_stated ss
+  message_same = rest_of_word_first (codes "message") (statement_lines 0 ss) ∙ ap (λ rests. slice_get rests 0) (all_read (rest_by (codes "message")) message_stated message_read 0 ss can)
 
   -- the lines say what the statements do
-  said_same : diagnostic_of (placed 0 ss) ≡ said_by ss
-  said_same = λ i. record {
+  diagnostic_same : diagnostic_of (statement_lines 0 ss) ≡ stated_diagnostic ss
+  diagnostic_same = λ i. record {
     severity = severity_same i;
     code = code_same i;
     message = unwrap_or (message_same i) [];
-    labels = all_read label_given label_stated label_read 0 ss can i;
-    notes = all_read note_given note_stated note_read 0 ss can i;
+    labels = all_read parsed_label label_stated label_read 0 ss can i;
+    notes = all_read parsed_note note_stated note_read 0 ss can i;
   }
 
   -- and no word that may occur once is repeated
-  all_once : length (filter_map severity_stated ss) ≤ 1 → length (filter_map code_stated ss) ≤ 1 → length (filter_map message_stated ss) ≤ 1 → AreOnce (placed 0 ss)
+  all_once : length (filter_map severity_stated ss) ≤ 1 → length (filter_map code_stated ss) ≤ 1 → length (filter_map message_stated ss) ≤ 1 → AreOnce (statement_lines 0 ss)
   all_once severity code message = record {
     severity = rw (names_read, length-map) severity;
     code = rw (all_read (rest_by (codes "code")) code_stated code_read 0 ss can) code;
@@ -454,20 +454,20 @@ module _ (ss : List Statement) (can : AllByRecursion IsStatable ss) where
   }
 
 -- what holds by the indices of elements holds of each
-each_by_place : (P : Statement → Type 0) (ss : List Statement) → All P ss → AllByRecursion P ss
-each_by_place P [] all = tt
-each_by_place P (s ∷ ss) all = (all 0 s (omega arith), each_by_place P ss (λ k d below. all (suc k) d (omega arith)))
+each_by_recursion : (P : Statement → Type 0) (ss : List Statement) → All P ss → AllByRecursion P ss
+each_by_recursion P [] all = tt
+each_by_recursion P (s ∷ ss) all = (all 0 s (omega arith), each_by_recursion P ss (λ k d below. all (suc k) d (omega arith)))
 
 -- a script that is written out is read as its statements say
 pub reads_back : (statements : List Statement) (source : List ℕ) → ScriptReadsBack statements source
 unfolding read_script lines_of
 reads_back ss source script =
-    let can = each_by_place IsStatable ss script.statable in
+    let can = each_by_recursion IsStatable ss script.statable in
     let input : List ℕ = written ss source in
     let lines : List ScriptLine = lines_from 0 (slice_split is_newline input) in
     let found : source_of input lines ≡ Some source = source_written input 0 ss source can refl in
-    let right : fault_from [] (placed 0 ss) ≡ None = lines_right [] 0 ss can (all_once ss can script.one_severity script.one_code script.one_message) in
+    let right : fault_from [] (statement_lines 0 ss) ≡ None = lines_right [] 0 ss can (all_once ss can script.one_severity script.one_code script.one_message) in
     ap (λ ls. read_lines input ls (fault_from [] ls) (source_of input lines)) (body_written 0 ss source can)
-    ∙ ap (λ fault. read_lines input (placed 0 ss) fault (source_of input lines)) right
-    ∙ ap (read_lines input (placed 0 ss) None) found
-    ∙ ap (λ said. Ok (record { said = said; source = source })) (said_same ss can)
+    ∙ ap (λ fault. read_lines input (statement_lines 0 ss) fault (source_of input lines)) right
+    ∙ ap (read_lines input (statement_lines 0 ss) None) found
+    ∙ ap (λ diagnostic. Ok (record { diagnostic = diagnostic; source = source })) (diagnostic_same ss can)

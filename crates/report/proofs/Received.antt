@@ -9,5 +9,5 @@ use Rattle.report.specs.Faults.{fault_text, failed_output_line}
 -- the line of a failed output, as that of an error
 pub line_of_fault : {E : Type 0} (fault : Fault) (old new : Option (List ℕ)) (r : Result (Unit {0}) E) → fault ≡ CannotWriteOutput
     → OnOk r (Appends old new failed_output_line) → OnOk r (IfSome (with_newline (fault_text fault)) (Appends old new))
-line_of_fault fault old new r is came =
-    subst (λ (f : Fault). OnOk r (IfSome (with_newline (fault_text f)) (Appends old new))) (sym is) came
+line_of_fault fault old new r is appended =
+    subst (λ (f : Fault). OnOk r (IfSome (with_newline (fault_text f)) (Appends old new))) (sym is) appended

@@ -74,8 +74,8 @@ return_dropped text front is =
     let long : length text ≡ length front + 1 = ap length is ∙ length_push front 13 in
     let short : length text - 1 ≡ length front = omega arith in
     let last : get_or text (length text - 1) 0 ≡ 13 = ap (λ t. get_or t (length text - 1) 0) is ∙ get_or_push front 13 0 (length text - 1) (sym short) in
-    let taken : take (length text - 1) text ≡ front = ap (λ n. take n text) short ∙ ap (take (length front)) is ∙ take_at front (13 ∷ []) (length front) refl in
-    sym (ap (λ (b : ℕ). if b == 13 then take (length text - 1) text else text) last ∙ taken)
+    let accepted : take (length text - 1) text ≡ front = ap (λ n. take n text) short ∙ ap (take (length front)) is ∙ take_at front (13 ∷ []) (length front) refl in
+    sym (ap (λ (b : ℕ). if b == 13 then take (length text - 1) text else text) last ∙ accepted)
 
 -- a text without one
 pub no_return : (text : List ℕ) → ((front : List ℕ) → text ≢ front ++ 13 ∷ []) → text ≡ strip_carriage_return text

@@ -2,8 +2,8 @@
 use Rattle.std.proofs.Common.{◌≡◌, ℕ, ◌<◌, ◌≤◌, ◌⊎◌, inl, inr, List, [], ◌∷◌, length, get_or, map, Option, None, refl, ap, sym, ◌∙◌, arith}
 use Rattle.codespan_base.specs.declared.term.config.DisplayStyle.{DisplayStyle}
 use Rattle.std.specs.Option.{option_map}
-use Rattle.report.specs.Requests.{asked_of, number_of, request_of, style_of, with_parts}
-use Rattle.report.specs.Requests.AskedView.{OneLabel, OfScript}
+use Rattle.report.specs.Requests.{command_of, number_of, request_of, style_of, with_parts}
+use Rattle.report.specs.Requests.CommandView.{OneLabel, OfScript}
 
 -- five words by their indices
 five_words : {A : Type 0} (xs : List A) (a b c d e : A) → 5 ≤ length xs → length xs < 6
@@ -29,18 +29,18 @@ other_words text (v ∷ w ∷ x ∷ y ∷ z ∷ []) others = absurd (elim others
 other_words text (v ∷ w ∷ x ∷ y ∷ z ∷ u ∷ more) others = refl
 
 -- the request of five words, from what each of them says
-pub words_ask : {A : Type 0} (text : A → List ℕ) (xs : List A) (style name start end message : A) → 5 ≤ length xs → length xs < 6
+pub five_arguments : {A : Type 0} (text : A → List ℕ) (xs : List A) (style name start end message : A) → 5 ≤ length xs → length xs < 6
     → style ≡ get_or xs 0 style → name ≡ get_or xs 1 name → start ≡ get_or xs 2 start → end ≡ get_or xs 3 end → message ≡ get_or xs 4 message
     → (named : Option DisplayStyle) (first last : Option ℕ)
     → named ≡ style_of (text style) → first ≡ number_of (text start) → last ≡ number_of (text end)
     → with_parts (text name) (text message) named first last ≡ request_of (map text xs)
 unfolding request_of
-words_ask text xs style name start end message least most p q r s t named first last x y z =
+five_arguments text xs style name start end message least most p q r s t named first last x y z =
     let five = five_words xs style name start end message least most p q r s t in
-    let asked : with_parts (text name) (text message) named first last
+    let command : with_parts (text name) (text message) named first last
     ≡ request_of (text style ∷ text name ∷ text start ∷ text end ∷ text message ∷ []) =
     rw (x, y, z) refl in
-    asked ∙ ap (λ l. request_of (map text l)) (sym five)
+    command ∙ ap (λ l. request_of (map text l)) (sym five)
 
 -- two words by their indices
 two_words : {A : Type 0} (xs : List A) (a b : A) → 2 ≤ length xs → length xs < 3 → a ≡ get_or xs 0 a → b ≡ get_or xs 1 b → xs ≡ a ∷ b ∷ []
@@ -50,17 +50,17 @@ two_words (v ∷ w ∷ []) a b least most p q = cc
 two_words (v ∷ w ∷ x ∷ more) a b least most p q = absurd (omega arith)
 
 -- the request of two words
-pub two_ask : {A : Type 0} (text : A → List ℕ) (xs : List A) (style name : A) → 2 ≤ length xs → length xs < 3
+pub two_arguments : {A : Type 0} (text : A → List ℕ) (xs : List A) (style name : A) → 2 ≤ length xs → length xs < 3
     → style ≡ get_or xs 0 style → name ≡ get_or xs 1 name → (named : Option DisplayStyle) → named ≡ style_of (text style)
-    → option_map (λ s. OfScript s (text name)) named ≡ asked_of (map text xs)
-unfolding asked_of
-two_ask text xs style name least most p q named x =
-    ap (option_map (λ s. OfScript s (text name))) x ∙ ap (λ l. asked_of (map text l)) (sym (two_words xs style name least most p q))
+    → option_map (λ s. OfScript s (text name)) named ≡ command_of (map text xs)
+unfolding command_of
+two_arguments text xs style name least most p q named x =
+    ap (option_map (λ s. OfScript s (text name))) x ∙ ap (λ l. command_of (map text l)) (sym (two_words xs style name least most p q))
 
 -- what another number of words requests
-pub others_ask : {A : Type 0} (text : A → List ℕ) (xs : List A) → (length xs < 2) ⊎ (3 ≤ length xs) → asked_of (map text xs) ≡ option_map OneLabel (request_of (map text xs))
-unfolding asked_of
-others_ask text [] others = refl
-others_ask text (v ∷ []) others = refl
-others_ask text (v ∷ w ∷ []) others = absurd (elim others [ inl few ↦ omega arith | inr many ↦ omega arith ])
-others_ask text (v ∷ w ∷ x ∷ more) others = refl
+pub other_arguments : {A : Type 0} (text : A → List ℕ) (xs : List A) → (length xs < 2) ⊎ (3 ≤ length xs) → command_of (map text xs) ≡ option_map OneLabel (request_of (map text xs))
+unfolding command_of
+other_arguments text [] others = refl
+other_arguments text (v ∷ []) others = refl
+other_arguments text (v ∷ w ∷ []) others = absurd (elim others [ inl few ↦ omega arith | inr many ↦ omega arith ])
+other_arguments text (v ∷ w ∷ x ∷ more) others = refl

@@ -12,9 +12,9 @@ use Rattle.program_io.specs.declared.arguments.ArgumentsError.TheVariants as arg
 use Rattle.program_io.specs.declared.input.InputError.{InputError}
 use Rattle.program_io.specs.declared.input.InputError.TheVariants as input
 use Rattle.report.specs.declared.fault.Fault.{Fault}
-use Rattle.report.specs.declared.fault.Fault.TheVariants.{WrongArguments, CannotReadInput, NotUtf8, Drawing, BadScript, CannotWriteOutput}
-use Rattle.report.specs.Drawings.{drawing_of}
-use Rattle.report.specs.Requests.{AskedView}
+use Rattle.report.specs.declared.fault.Fault.TheVariants.{WrongArguments, CannotReadInput, NotUtf8, CannotRender, BadScript, CannotWriteOutput}
+use Rattle.report.specs.RenderedTexts.{rendering_of}
+use Rattle.report.specs.Requests.{CommandView}
 
 -- the program's status: 0 without an error, 2 for wrong arguments, 3 or 1 for a script's error, and
 -- 1 for any other
@@ -23,8 +23,8 @@ IsStatusOf (Ok done) status = status ≡ 0
 IsStatusOf (Err WrongArguments) status = status ≡ 2
 IsStatusOf (Err CannotReadInput) status = status ≡ 1
 IsStatusOf (Err NotUtf8) status = status ≡ 1
-IsStatusOf (Err (Drawing error)) status = status ≡ 1
-IsStatusOf (Err (BadScript picture)) status = (status ≡ 3) ⊎ (status ≡ 1)
+IsStatusOf (Err (CannotRender error)) status = status ≡ 1
+IsStatusOf (Err (BadScript text)) status = (status ≡ 3) ⊎ (status ≡ 1)
 IsStatusOf (Err CannotWriteOutput) status = status ≡ 1
 
 -- the line of an error, without its newline; that of rendering has the text of its error, that of a
@@ -33,32 +33,32 @@ abbrev pub fault_text : Fault → Option (List ℕ)
 fault_text WrongArguments = Some (codes "usage: report STYLE NAME START END MESSAGE")
 fault_text CannotReadInput = Some (codes "report: cannot read input")
 fault_text NotUtf8 = Some (codes "report: input is not UTF-8")
-fault_text (Drawing error) = option_map (λ text. codes "report: " ++ text) (error_text error)
-fault_text (BadScript picture) = Some (string_bytes picture)
+fault_text (CannotRender error) = option_map (λ text. codes "report: " ++ text) (error_text error)
+fault_text (BadScript text) = Some (string_bytes text)
 fault_text CannotWriteOutput = Some (codes "report: cannot write output")
 
 -- the error of arguments that are not known, and of an input that is no text
 abbrev pub arguments_fault : ArgumentsError → Fault
 arguments_fault arguments.NotUtf8 = WrongArguments
-arguments_fault arguments.OutOfMemory = Drawing OutOfMemory
+arguments_fault arguments.OutOfMemory = CannotRender OutOfMemory
 
 abbrev pub input_fault : InputError → Fault
 input_fault input.Unreadable = CannotReadInput
 input_fault input.NotUtf8 = NotUtf8
 
 -- what an error says of the request and of the input
-abbrev pub FaultTells : Fault → AskedView → List ℕ → Type 0
-FaultTells WrongArguments asked input = ⊥
-FaultTells CannotReadInput asked input = Unit {0}
-FaultTells NotUtf8 asked input = ¬ (IsUtf8 input)
-FaultTells (Drawing error) asked input = Unit {0}
-FaultTells (BadScript picture) asked input = drawing_of asked input ≡ Err (string_bytes picture)
-FaultTells CannotWriteOutput asked input =
-    IsUtf8 input × ((picture : List ℕ) × (drawing_of asked input ≡ Ok picture))
+abbrev pub FaultMeans : Fault → CommandView → List ℕ → Type 0
+FaultMeans WrongArguments command input = ⊥
+FaultMeans CannotReadInput command input = Unit {0}
+FaultMeans NotUtf8 command input = ¬ (IsUtf8 input)
+FaultMeans (CannotRender error) command input = Unit {0}
+FaultMeans (BadScript text) command input = rendering_of command input ≡ Err (string_bytes text)
+FaultMeans CannotWriteOutput command input =
+    IsUtf8 input × ((text : List ℕ) × (rendering_of command input ≡ Ok text))
 
 -- the fact holds of the diagnostic, where the error is that of a script
 abbrev pub IfBadScript : Fault → (String Global → Type 0) → Type 0
-IfBadScript (BadScript picture) P = P picture
+IfBadScript (BadScript text) P = P text
 IfBadScript _ P = Unit {0}
 
 -- the line of a failed output, with its newline
@@ -67,6 +67,6 @@ failed_output_line = codes "report: cannot write output\n"
 
 -- the output is unchanged, or all of it was rendered: the status is 0, or it is 1 and what `faults`
 -- has received is a prefix of the line of a failed output
-abbrev pub StaysUnlessDrawn : Type 0 → ℕ → Option (List ℕ) → Option (List ℕ) → Type 0
-StaysUnlessDrawn stays status old new =
-    stays ⊎ ((status ≡ 0) ⊎ ((status ≡ 1) × AppendsPrefix old new failed_output_line))
+abbrev pub UnchangedUnlessRendered : Type 0 → ℕ → Option (List ℕ) → Option (List ℕ) → Type 0
+UnchangedUnlessRendered is_unchanged status old new =
+    is_unchanged ⊎ ((status ≡ 0) ⊎ ((status ≡ 1) × AppendsPrefix old new failed_output_line))

@@ -9,5 +9,5 @@ pub mod Scripts
 pub mod Statements
 pub mod ScriptLaws
 -- what is rendered, and the errors of a run
-pub mod Drawings
+pub mod RenderedTexts
 pub mod Faults

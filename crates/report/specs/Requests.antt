@@ -5,8 +5,8 @@ use Rattle.std.specs.Str.Parse.{digits_value}
 use Rattle.codespan_base.specs.declared.term.config.DisplayStyle.{DisplayStyle}
 use Rattle.codespan_base.specs.declared.term.config.DisplayStyle.TheVariants.{Rich, Medium, Short}
 use Rattle.std.specs.Option.{option_map}
-use Rattle.report.specs.declared.request.Asked.{Asked}
-use Rattle.report.specs.declared.request.Asked.TheVariants as variants
+use Rattle.report.specs.declared.request.Command.{Command}
+use Rattle.report.specs.declared.request.Command.TheVariants as variants
 use Rattle.report.specs.declared.request.Request.{Request}
 
 -- a request by its fields, its texts as bytes
@@ -59,21 +59,21 @@ request_of _ = None
 
 -- what a run renders: an error with one label over the input, or the script at the input's start,
 -- in a style, over a file of a name
-pub data AskedView : Type 0 where
-  OneLabel : RequestView → AskedView
-  OfScript : DisplayStyle → List ℕ → AskedView
+pub data CommandView : Type 0 where
+  OneLabel : RequestView → CommandView
+  OfScript : DisplayStyle → List ℕ → CommandView
 
 -- the same, of the program's value
-abbrev pub asked_view : Asked → AskedView
-asked_view (variants.OneLabel request) = OneLabel (request_view request)
-asked_view (variants.OfScript style name) = OfScript style name.now
+abbrev pub command_view : Command → CommandView
+command_view (variants.OneLabel request) = OneLabel (request_view request)
+command_view (variants.OfScript style name) = OfScript style name.now
 
 -- what the arguments request: two of them a script, others an error with one label
-unfoldable pub asked_of : List (List ℕ) → Option AskedView
-asked_of (style ∷ name ∷ []) = option_map (λ s. OfScript s name) (style_of style)
-asked_of words = option_map OneLabel (request_of words)
+unfoldable pub command_of : List (List ℕ) → Option CommandView
+command_of (style ∷ name ∷ []) = option_map (λ s. OfScript s name) (style_of style)
+command_of words = option_map OneLabel (request_of words)
 
 -- the fact holds of what the words request and of the bytes that the reader has, where both are
 -- known
-abbrev pub WhereKnown : List (List ℕ) → Option (List ℕ) → (AskedView → List ℕ → Type 0) → Type 0
-WhereKnown words bytes P = IfSome (asked_of words) (λ asked. IfSome bytes (P asked))
+abbrev pub WhereKnown : List (List ℕ) → Option (List ℕ) → (CommandView → List ℕ → Type 0) → Type 0
+WhereKnown words bytes P = IfSome (command_of words) (λ command. IfSome bytes (P command))

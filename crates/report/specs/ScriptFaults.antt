@@ -11,7 +11,7 @@ use Rattle.report.specs.declared.script.ScriptError.TheVariants as errors
 use Rattle.report.specs.declared.script.words.Word.{Word}
 use Rattle.report.specs.declared.script.words.Word.TheVariants.{Severity, Code, Message, Primary, Secondary, Note}
 use Rattle.report.specs.Requests.{number_of}
-use Rattle.report.specs.ScriptLines.{ScriptLine, is_ignored, word_of, rest_of, field_of, past_blank, range_at, word_range}
+use Rattle.report.specs.ScriptLines.{ScriptLine, is_ignored, word_of, rest_of, field_of, past_space, range_at, word_range}
 use Rattle.report.specs.ScriptWords.{word_named, severity_named}
 
 -- an error with one range
@@ -24,10 +24,10 @@ or_fault (Some fault) other = Some fault
 or_fault None other = other
 
 -- the first line that begins with the word
-abbrev pub given_line : List ℕ → List ScriptLine → Option ScriptLine
-given_line word [] = None
-given_line word (line ∷ lines) =
-    if bytes_eq (word_of line) word then Some line else given_line word lines
+abbrev pub line_of_word : List ℕ → List ScriptLine → Option ScriptLine
+line_of_word word [] = None
+line_of_word word (line ∷ lines) =
+    if bytes_eq (word_of line) word then Some line else line_of_word word lines
 
 -- the word is that of an earlier line: the error is at the later word, and has the range of the
 -- first
@@ -39,7 +39,7 @@ repetition before line =
       range = word_range line;
       first = Some (word_range first);
     })
-    (given_line (word_of line) before)
+    (line_of_word (word_of line) before)
 
 -- the rest of a severity line is not the name of one
 unfoldable pub severity_fault : ScriptLine → Option Fault
@@ -52,7 +52,7 @@ severity_fault line =
 unfoldable pub number_fault : ScriptLine → Option Fault
 number_fault line =
     let rest = rest_of line in
-    let after = past_blank rest in
+    let after = past_space rest in
     if is_some (number_of (field_of rest))
     then (if is_some (number_of (field_of after))
     then None

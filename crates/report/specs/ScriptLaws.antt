@@ -5,14 +5,14 @@ use Rattle.std.specs.Str.{IsCharBoundary, IsUtf8}
 use Rattle.std.specs.declared.ops.Range.{Range}
 use Rattle.report.specs.declared.script.Fault.{Fault}
 use Rattle.report.specs.Scripts.{read_script}
-use Rattle.report.specs.Statements.{AreScript, Statement, said_by, written}
+use Rattle.report.specs.Statements.{AreScript, Statement, stated_diagnostic, written}
 
 -- a script that is written out from its statements is read as what they say
 abbrev pub ScriptReadsBack : List Statement → List ℕ → Type 0
 ScriptReadsBack statements source =
     AreScript statements
     → read_script (written statements source)
-    ≡ Ok (record { said = said_by statements; source = source })
+    ≡ Ok (record { diagnostic = stated_diagnostic statements; source = source })
 
 -- the range does not end before it starts, and lies inside the input, between characters
 pub record LiesIn (input : List ℕ) (range : Range ℕ) : Type 0 where
@@ -23,7 +23,7 @@ pub record LiesIn (input : List ℕ) (range : Range ℕ) : Type 0 where
 
 -- the ranges of an error lie inside the input
 pub record FaultLiesIn (input : List ℕ) (fault : Fault) : Type 0 where
-  pub place : LiesIn input fault.range
+  pub inside : LiesIn input fault.range
   pub first : IfSome fault.first (LiesIn input)
 
 -- where an input that is UTF-8 is no script, the ranges of its error lie inside it

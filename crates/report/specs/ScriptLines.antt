@@ -21,8 +21,8 @@ abbrev pub is_newline : ℕ → Bool
 is_newline b = b == 10
 
 -- the byte at which a line is cut into fields: one space
-abbrev pub is_blank : ℕ → Bool
-is_blank b = b == 32
+abbrev pub is_space : ℕ → Bool
+is_space b = b == 32
 
 -- the lines of pieces that are cut at each newline, of which the first starts at this byte; a `\r`
 -- right before a newline is dropped
@@ -69,11 +69,11 @@ is_ignored line = is_ignored_text line.text
 
 -- the first field of a text: what precedes its first space, or all of it
 abbrev pub field_of : List ℕ → List ℕ
-field_of text = before_first is_blank text
+field_of text = before_first is_space text
 
 -- what follows the first space of a text, or nothing
-abbrev pub past_blank : List ℕ → List ℕ
-past_blank text = after_first is_blank text
+abbrev pub past_space : List ℕ → List ℕ
+past_space text = after_first is_space text
 
 -- the word of a line
 abbrev pub word_of : ScriptLine → List ℕ
@@ -81,7 +81,7 @@ word_of line = field_of line.text
 
 -- the rest of a line
 abbrev pub rest_of : ScriptLine → List ℕ
-rest_of line = past_blank line.text
+rest_of line = past_space line.text
 
 -- the range in the input of a field with which a suffix of the line begins; a field that is not
 -- there is empty, at the line's end

@@ -15,41 +15,41 @@ use Rattle.report.specs.declared.script.Script.{Script}
 use Rattle.report.specs.declared.script.words.Word.{Word}
 use Rattle.report.specs.declared.script.words.Word.TheVariants.{Primary, Secondary}
 use Rattle.report.specs.Requests.{number_of}
-use Rattle.report.specs.ScriptFaults.{given_line, fault_from, missing_end}
-use Rattle.report.specs.ScriptLines.{ScriptLine, lines_of, body, source_of, word_of, rest_of, field_of, past_blank}
+use Rattle.report.specs.ScriptFaults.{line_of_word, fault_from, missing_end}
+use Rattle.report.specs.ScriptLines.{ScriptLine, lines_of, body, source_of, word_of, rest_of, field_of, past_space}
 use Rattle.report.specs.ScriptWords.{word_named, severity_named}
 
 -- what a script states: a diagnostic of one file, and that file's source
 pub record ScriptView : Type 0 where
-  pub said : DiagnosticView (Unit {0})
+  pub diagnostic : DiagnosticView (Unit {0})
   pub source : List ℕ
 
 -- a label by its style, its range and its message's bytes
-abbrev pub labelled_view : LabelStyle × Range ℕ × Bor (List ℕ) → LabelView (Unit {0})
-labelled_view label =
+abbrev pub script_label_view : LabelStyle × Range ℕ × Bor (List ℕ) → LabelView (Unit {0})
+script_label_view label =
     record { style = label.0; file_id = tt; range = label.1; message = label.2.now }
 
 -- a script by its fields, its texts as bytes
 abbrev pub script_view : Script → ScriptView
 script_view script = record {
-  said = record {
+  diagnostic = record {
     severity = script.severity;
     code = option_map (λ code. code.now) script.code;
     message = script.message.now;
-    labels = map labelled_view script.labels.items;
+    labels = map script_label_view script.labels.items;
     notes = map (λ note. note.now) script.notes.items;
   };
   source = script.source.now;
 }
 
 -- the rest of the first line that begins with the word
-abbrev pub rest_given : List ℕ → List ScriptLine → Option (List ℕ)
-rest_given word lines = option_map rest_of (given_line word lines)
+abbrev pub rest_of_word : List ℕ → List ScriptLine → Option (List ℕ)
+rest_of_word word lines = option_map rest_of (line_of_word word lines)
 
 -- the severity that is stated, an error without one
-unfoldable pub severity_given : List ScriptLine → Severity
-severity_given lines =
-    unwrap_or (option_and_then severity_named (rest_given (codes "severity") lines))
+unfoldable pub parsed_severity : List ScriptLine → Severity
+parsed_severity lines =
+    unwrap_or (option_and_then severity_named (rest_of_word (codes "severity") lines))
     severities.Error
 
 -- a label from the numbers of its start and its end
@@ -65,41 +65,41 @@ with_ends style message (Some start) None = None
 with_ends style message None end = None
 
 -- the label of a style that a rest states: its start, its end, and then its message
-abbrev pub labelled : LabelStyle → List ℕ → Option (LabelView (Unit {0}))
-labelled style rest =
-    with_ends style (past_blank (past_blank rest)) (number_of (field_of rest))
-    (number_of (field_of (past_blank rest)))
+abbrev pub label_of_rest : LabelStyle → List ℕ → Option (LabelView (Unit {0}))
+label_of_rest style rest =
+    with_ends style (past_space (past_space rest)) (number_of (field_of rest))
+    (number_of (field_of (past_space rest)))
 
 -- the label of a line with this word
 abbrev pub label_by_word : ScriptLine → Option Word → Option (LabelView (Unit {0}))
-label_by_word line (Some Primary) = labelled styles.Primary (rest_of line)
-label_by_word line (Some Secondary) = labelled styles.Secondary (rest_of line)
+label_by_word line (Some Primary) = label_of_rest styles.Primary (rest_of line)
+label_by_word line (Some Secondary) = label_of_rest styles.Secondary (rest_of line)
 label_by_word line _ = None
 
 -- the label of a line, if it states one
-unfoldable pub label_given : ScriptLine → Option (LabelView (Unit {0}))
-label_given line = label_by_word line (word_named (word_of line))
+unfoldable pub parsed_label : ScriptLine → Option (LabelView (Unit {0}))
+parsed_label line = label_by_word line (word_named (word_of line))
 
 -- all labels, in the order of their lines
-abbrev pub labels_given : List ScriptLine → List (LabelView (Unit {0}))
-labels_given lines = filter_map label_given lines
+abbrev pub parsed_labels : List ScriptLine → List (LabelView (Unit {0}))
+parsed_labels lines = filter_map parsed_label lines
 
 -- the note of a line, if it states one
-abbrev pub note_given : ScriptLine → Option (List ℕ)
-note_given line = if bytes_eq (word_of line) (codes "note") then Some (rest_of line) else None
+abbrev pub parsed_note : ScriptLine → Option (List ℕ)
+parsed_note line = if bytes_eq (word_of line) (codes "note") then Some (rest_of line) else None
 
 -- all notes, in the order of their lines
-abbrev pub notes_given : List ScriptLine → List (List ℕ)
-notes_given lines = filter_map note_given lines
+abbrev pub parsed_notes : List ScriptLine → List (List ℕ)
+parsed_notes lines = filter_map parsed_note lines
 
 -- what lines state
 abbrev pub diagnostic_of : List ScriptLine → DiagnosticView (Unit {0})
 diagnostic_of lines = record {
-  severity = severity_given lines;
-  code = rest_given (codes "code") lines;
-  message = unwrap_or (rest_given (codes "message") lines) [];
-  labels = labels_given lines;
-  notes = notes_given lines;
+  severity = parsed_severity lines;
+  code = rest_of_word (codes "code") lines;
+  message = unwrap_or (rest_of_word (codes "message") lines) [];
+  labels = parsed_labels lines;
+  notes = parsed_notes lines;
 }
 
 -- what is read of lines by their first error and the source: the error, else that the end is
@@ -109,7 +109,7 @@ abbrev pub read_lines : List ℕ → List ScriptLine → Option Fault → Option
 read_lines input lines (Some fault) source = Err fault
 read_lines input lines None None = Err (missing_end input)
 read_lines input lines None (Some source) =
-    Ok (record { said = diagnostic_of lines; source = source })
+    Ok (record { diagnostic = diagnostic_of lines; source = source })
 
 -- what an input states as a script, or its first error
 unfoldable pub read_script : List ℕ → Result ScriptView Fault

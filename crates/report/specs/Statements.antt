@@ -71,8 +71,8 @@ one_stated stated statements = slice_get (filter_map stated statements) 0
 
 -- what statements state: an error without a severity, an empty message without one, and the labels
 -- and notes in their order
-abbrev pub said_by : List Statement → DiagnosticView (Unit {0})
-said_by statements = record {
+abbrev pub stated_diagnostic : List Statement → DiagnosticView (Unit {0})
+stated_diagnostic statements = record {
   severity = unwrap_or (one_stated severity_stated statements) Error;
   code = one_stated code_stated statements;
   message = unwrap_or (one_stated message_stated statements) [];

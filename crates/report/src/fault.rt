@@ -3,7 +3,7 @@
 ghost use Rattle.std.specs.Prelude.{◌≡◌, IfSome, OnOk};
 ghost use Rattle.std.specs.Fmt.{with_newline};
 ghost use Rattle.std.specs.Io.KnownBytes.{Appends};
-ghost use Rattle.report.specs.declared.fault.Fault.TheVariants.{CannotWriteOutput, Drawing};
+ghost use Rattle.report.specs.declared.fault.Fault.TheVariants.{CannotWriteOutput, CannotRender};
 
 use codespan_reporting::files::Error;
 use program_io::arguments::ArgumentsError;
@@ -22,7 +22,7 @@ pub enum Fault {
     /// The input is not UTF-8.
     NotUtf8,
     /// Rendering failed.
-    Drawing(Error),
+    CannotRender(Error),
     /// The input is no script: the rendered diagnostic of its first error.
     BadScript(String),
     /// A write or the flush of the output failed.
@@ -39,16 +39,17 @@ impl Fault {
     ///
     /// An [`io::Error`] if a write fails. Of the line of a failed output a prefix has then been
     /// written; what has been written of another line is unspecified.
-    pub fn write_line<W: Write>(&self, faults: &mut W) -> io::Result<()>
+    pub fn write_line<W: Write>(&self, error_output: &mut W) -> io::Result<()>
         ensures written { OnOk result (IfSome (with_newline (fault_text self.now))
-            (Appends (W.contents faults.old) (W.contents faults.new))) }
-        ensures begun { self.now ≡ CannotWriteOutput
-            → AppendsPrefix (W.contents faults.old) (W.contents faults.new) failed_output_line }
+            (Appends (W.contents error_output.old) (W.contents error_output.new))) }
+        ensures prefix { self.now ≡ CannotWriteOutput
+            → AppendsPrefix (W.contents error_output.old) (W.contents error_output.new)
+            failed_output_line }
     {
         match self {
             // The contract of `writeln!` leaves open what a failed one has written.
-            Fault::CannotWriteOutput => write_whole(faults, b"report: cannot write output\n"),
-            _ => writeln!(faults, "{self}"),
+            Fault::CannotWriteOutput => write_whole(error_output, b"report: cannot write output\n"),
+            _ => writeln!(error_output, "{self}"),
         }
     }
 }
@@ -62,7 +63,7 @@ impl From<ArgumentsError> for Fault {
     fn from(error: ArgumentsError) -> Fault {
         match error {
             ArgumentsError::NotUtf8 => Fault::WrongArguments,
-            ArgumentsError::OutOfMemory => Fault::Drawing(Error::OutOfMemory),
+            ArgumentsError::OutOfMemory => Fault::CannotRender(Error::OutOfMemory),
         }
     }
 }
@@ -81,12 +82,12 @@ impl From<InputError> for Fault {
     }
 }
 
-/// An error of rendering becomes `Drawing`.
+/// An error of rendering becomes `CannotRender`.
 impl From<Error> for Fault {
-    ghost from_gives = { λ error fault. fault ≡ Drawing error };
+    ghost from_gives = { λ error fault. fault ≡ CannotRender error };
 
     fn from(error: Error) -> Fault {
-        Fault::Drawing(error)
+        Fault::CannotRender(error)
     }
 }
 
@@ -101,8 +102,8 @@ impl fmt::Display for Fault {
             Fault::WrongArguments => write!(f, "usage: report STYLE NAME START END MESSAGE"),
             Fault::CannotReadInput => write!(f, "report: cannot read input"),
             Fault::NotUtf8 => write!(f, "report: input is not UTF-8"),
-            Fault::Drawing(error) => write!(f, "report: {error}"),
-            Fault::BadScript(picture) => write!(f, "{picture}"),
+            Fault::CannotRender(error) => write!(f, "report: {error}"),
+            Fault::BadScript(text) => write!(f, "{text}"),
             Fault::CannotWriteOutput => write!(f, "report: cannot write output"),
         }
     }

@@ -17,12 +17,12 @@
 //! not UTF-8 are wrong; where memory for them runs out, the status is 1.
 #![tactic(auto)]
 
-mod drawing;
 mod fault;
 mod laws;
+mod messages;
+mod rendering;
 mod request;
 mod run;
-mod saying;
 mod script;
 #[cfg(test)]
 mod script_tests;

@@ -44,7 +44,7 @@ impl<'args> Request<'args> {
 
 /// What the arguments request.
 #[derive(Clone, Copy, Debug)]
-pub enum Asked<'args> {
+pub enum Command<'args> {
     /// An error with one label over the input.
     OneLabel(Request<'args>),
     /// The script at the input's start, in this display style; the file has this name, and its
@@ -52,17 +52,17 @@ pub enum Asked<'args> {
     OfScript(DisplayStyle, &'args str),
 }
 
-impl<'args> Asked<'args> {
-    ghost use Rattle.report.specs.Requests.{asked_of, asked_view};
+impl<'args> Command<'args> {
+    ghost use Rattle.report.specs.Requests.{command_of, command_view};
 
     /// Parses the arguments `STYLE NAME`, or those of a [`Request`]; `None` if their number or form
     /// is another.
-    pub fn from_arguments(args: &'args [String]) -> Option<Asked<'args>>
-        ensures { option_map asked_view result ≡ asked_of (map string_bytes args.now) }
+    pub fn from_arguments(args: &'args [String]) -> Option<Command<'args>>
+        ensures { option_map command_view result ≡ command_of (map string_bytes args.now) }
     {
         match args {
-            [style, name] => Some(Asked::OfScript(parse_style(style.as_str())?, name.as_str())),
-            _ => Some(Asked::OneLabel(Request::from_arguments(args)?)),
+            [style, name] => Some(Command::OfScript(parse_style(style.as_str())?, name.as_str())),
+            _ => Some(Command::OneLabel(Request::from_arguments(args)?)),
         }
     }
 }

@@ -3,14 +3,14 @@
 ghost use Rattle.std.specs.Prelude.{◌≡◌, ◌≢◌, ◌≤◌, ◌↔◌, ◌⊎◌, ℕ, List, None, Ok, Err, IfErr, IsErrOf, OnOk, map, string_bytes};
 ghost use Rattle.std.specs.Io.KnownBytes.{Appends, IsAtEnd};
 ghost use Rattle.std.specs.Str.{IsUtf8};
-ghost use Rattle.report.specs.Drawings.{drawing_of};
+ghost use Rattle.report.specs.RenderedTexts.{rendering_of};
 ghost use Rattle.program_io.specs.Output.{AppendsPrefix};
-ghost use Rattle.report.specs.Faults.{FaultTells, IfBadScript, IsStatusOf, StaysUnlessDrawn, failed_output_line};
-ghost use Rattle.report.specs.Requests.{WhereKnown, asked_of};
+ghost use Rattle.report.specs.Faults.{FaultMeans, IfBadScript, IsStatusOf, UnchangedUnlessRendered, failed_output_line};
+ghost use Rattle.report.specs.Requests.{WhereKnown, command_of};
 
-use crate::drawing::draw;
 use crate::fault::Fault;
-use crate::request::Asked;
+use crate::rendering::render;
+use crate::request::Command;
 use program_io::input::read_text;
 use program_io::output::write_and_flush;
 use std::alloc::Global;
@@ -18,71 +18,73 @@ use std::io::{Read, Write};
 
 /// Renders what the arguments request over the input, and returns the program's status.
 ///
-/// If nothing is rendered, or writing the output fails, the error is written to `faults`: that of
-/// a script as a rendered diagnostic, any other in one line. The status is 3 where a script's
-/// error was written whole; any other failure of `faults` is ignored.
+/// If nothing is rendered, or writing the output fails, the error is written to `error_output`:
+/// that of a script as a rendered diagnostic, any other in one line. The status is 3 where a
+/// script's error was written whole; any other failure of `error_output` is ignored.
 ///
 /// The output is changed only after the whole of it was rendered: with status 0, or with status 1
-/// where `faults` has received nothing but the line of a failed output or a prefix of it.
+/// where `error_output` has received nothing but the line of a failed output or a prefix of it.
 pub fn run<R: Read, W: Write, E: Write>(
     alloc: Global,
     args: &[String],
     input: &mut R,
     output: &mut W,
-    faults: &mut E,
+    error_output: &mut E,
 ) -> u8
     ensures status { result ≤ 3 }
-    ensures usage { (result ≡ 2) ↔ (asked_of (map string_bytes args.now) ≡ None) }
+    ensures usage { (result ≡ 2) ↔ (command_of (map string_bytes args.now) ≡ None) }
     ensures unread { result ≡ 2 → input.new ≡ input.old }
-    ensures silent { result ≡ 0 → faults.new ≡ faults.old }
+    ensures no_error { result ≡ 0 → error_output.new ≡ error_output.old }
     ensures read { result ≡ 0 → IsAtEnd (R.remaining input.new) }
-    ensures drawn { result ≡ 0 → WhereKnown (map string_bytes args.now) (R.remaining input.old)
-        (λ asked source.
-        (picture : List ℕ) × (drawing_of asked source ≡ Ok picture)
-        × Appends (W.contents output.old) (W.contents output.new) picture) }
+    ensures rendered { result ≡ 0 → WhereKnown (map string_bytes args.now) (R.remaining input.old)
+        (λ command source.
+        (text : List ℕ) × (rendering_of command source ≡ Ok text)
+        × Appends (W.contents output.old) (W.contents output.new) text) }
     ensures utf8 { result ≡ 0 → WhereKnown (map string_bytes args.now) (R.remaining input.old)
         (λ _ source. IsUtf8 source) }
-    ensures kept { WhereKnown (map string_bytes args.now) (R.remaining input.old) (λ _ source.
+    ensures unchanged { WhereKnown (map string_bytes args.now) (R.remaining input.old) (λ _ source.
         ¬ (IsUtf8 source) → output.new ≡ output.old) }
-    ensures told { result ≡ 3 → WhereKnown (map string_bytes args.now) (R.remaining input.old)
-        (λ asked source.
-        (picture : List ℕ) × (drawing_of asked source ≡ Err picture)
-        × Appends (E.contents faults.old) (E.contents faults.new) picture) }
-    ensures faulty { WhereKnown (map string_bytes args.now) (R.remaining input.old) (λ asked source.
-        (picture : List ℕ) → drawing_of asked source ≡ Err picture → ((result ≡ 3) ⊎ (result ≡ 1))
+    ensures reported { result ≡ 3 → WhereKnown (map string_bytes args.now) (R.remaining input.old)
+        (λ command source.
+        (text : List ℕ) × (rendering_of command source ≡ Err text)
+        × Appends (E.contents error_output.old) (E.contents error_output.new) text) }
+    ensures bad_script { WhereKnown (map string_bytes args.now) (R.remaining input.old)
+        (λ command source.
+        (text : List ℕ) → rendering_of command source ≡ Err text → ((result ≡ 3) ⊎ (result ≡ 1))
         × (output.new ≡ output.old)) }
-    ensures undrawn { StaysUnlessDrawn (output.new ≡ output.old) result
-        (E.contents faults.old) (E.contents faults.new) }
-    ensures begun { result ≡ 1 → WhereKnown (map string_bytes args.now) (R.remaining input.old)
-        (λ asked source. (output.new ≡ output.old)
-        ⊎ ((picture : List ℕ) × (drawing_of asked source ≡ Ok picture)
-        × AppendsPrefix (W.contents output.old) (W.contents output.new) picture)) }
+    ensures unrendered { UnchangedUnlessRendered (output.new ≡ output.old) result
+        (E.contents error_output.old) (E.contents error_output.new) }
+    ensures prefix { result ≡ 1 → WhereKnown (map string_bytes args.now) (R.remaining input.old)
+        (λ command source. (output.new ≡ output.old)
+        ⊎ ((text : List ℕ) × (rendering_of command source ≡ Ok text)
+        × AppendsPrefix (W.contents output.old) (W.contents output.new) text)) }
 {
-    conclude(report(alloc, args, input, output), faults)
+    conclude(report(alloc, args, input, output), error_output)
 }
 
 /// Writes the error, if there is one, and returns the program's status: the error of a script as a
 /// rendered diagnostic, any other in one line.
 ///
-/// A failure of `faults` is ignored, except that the status of a script's error is then 1.
-pub fn conclude<E: Write>(outcome: Result<(), Fault>, faults: &mut E) -> u8
+/// A failure of `error_output` is ignored, except that the status of a script's error is then 1.
+pub fn conclude<E: Write>(outcome: Result<(), Fault>, error_output: &mut E) -> u8
     ensures status { IsStatusOf outcome result }
-    ensures silent { OnOk outcome (faults.new ≡ faults.old) }
-    ensures told { result ≡ 3 → IfErr outcome
+    ensures no_error { OnOk outcome (error_output.new ≡ error_output.old) }
+    ensures reported { result ≡ 3 → IfErr outcome
         (λ fault. IfBadScript fault
-        (λ picture. Appends (E.contents faults.old) (E.contents faults.new)
-        (string_bytes picture))) }
-    ensures begun { IsErrOf outcome Fault.CannotWriteOutput
-        → AppendsPrefix (E.contents faults.old) (E.contents faults.new) failed_output_line }
+        (λ text. Appends (E.contents error_output.old) (E.contents error_output.new)
+        (string_bytes text))) }
+    ensures prefix { IsErrOf outcome Fault.CannotWriteOutput
+        → AppendsPrefix (E.contents error_output.old) (E.contents error_output.new)
+        failed_output_line }
 {
     match outcome {
         Ok(()) => 0,
-        Err(Fault::BadScript(picture)) => match write_and_flush(faults, picture.as_bytes()) {
+        Err(Fault::BadScript(text)) => match write_and_flush(error_output, text.as_bytes()) {
             Ok(()) => 3,
             Err(_) => 1,
         },
         Err(fault) => {
-            let _ = fault.write_line(faults);
+            let _ = fault.write_line(error_output);
             match fault {
                 Fault::WrongArguments => 2,
                 _ => 1,
@@ -99,27 +101,27 @@ fn report<R: Read, W: Write>(
     output: &mut W,
 ) -> Result<(), Fault>
     ensures usage { IsErrOf result Fault.WrongArguments
-        ↔ (asked_of (map string_bytes args.now) ≡ None) }
+        ↔ (command_of (map string_bytes args.now) ≡ None) }
     ensures unread { IsErrOf result Fault.WrongArguments → input.new ≡ input.old }
     ensures read { OnOk result (IsAtEnd (R.remaining input.new)) }
-    ensures drawn { OnOk result (WhereKnown (map string_bytes args.now) (R.remaining input.old)
-        (λ asked source.
-        (picture : List ℕ) × (drawing_of asked source ≡ Ok picture)
-        × Appends (W.contents output.old) (W.contents output.new) picture)) }
+    ensures rendered { OnOk result (WhereKnown (map string_bytes args.now) (R.remaining input.old)
+        (λ command source.
+        (text : List ℕ) × (rendering_of command source ≡ Ok text)
+        × Appends (W.contents output.old) (W.contents output.new) text)) }
     ensures utf8 { OnOk result (WhereKnown (map string_bytes args.now) (R.remaining input.old)
         (λ _ source. IsUtf8 source)) }
-    ensures told { IfErr result (λ fault.
-        WhereKnown (map string_bytes args.now) (R.remaining input.old) (FaultTells fault)) }
-    ensures kept { IfErr result (λ fault. fault ≢ Fault.CannotWriteOutput
+    ensures reported { IfErr result (λ fault.
+        WhereKnown (map string_bytes args.now) (R.remaining input.old) (FaultMeans fault)) }
+    ensures unchanged { IfErr result (λ fault. fault ≢ Fault.CannotWriteOutput
         → output.new ≡ output.old) }
-    ensures begun { IsErrOf result Fault.CannotWriteOutput
-        → WhereKnown (map string_bytes args.now) (R.remaining input.old) (λ asked source.
-        (picture : List ℕ) × (drawing_of asked source ≡ Ok picture)
-        × AppendsPrefix (W.contents output.old) (W.contents output.new) picture) }
+    ensures prefix { IsErrOf result Fault.CannotWriteOutput
+        → WhereKnown (map string_bytes args.now) (R.remaining input.old) (λ command source.
+        (text : List ℕ) × (rendering_of command source ≡ Ok text)
+        × AppendsPrefix (W.contents output.old) (W.contents output.new) text) }
 {
-    let asked = Asked::from_arguments(args).ok_or(Fault::WrongArguments)?;
+    let command = Command::from_arguments(args).ok_or(Fault::WrongArguments)?;
     let source = read_text(alloc, input)?;
-    let text = draw(alloc, &asked, source.as_str())?;
+    let text = render(alloc, &command, source.as_str())?;
     write_text(output, text.as_str())
 }
 

@@ -18,12 +18,12 @@ mod words;
 use codespan_reporting::diagnostic::{LabelStyle, Severity};
 use faults::first_fault;
 use lines::read_lines;
-use parts::{labels, notes, rest_given, severity_given};
+use parts::{labels, notes, parsed_severity, rest_of_word};
 use std::alloc::{AllocError, Global};
 use std::ops::Range;
 
 /// A label of a script: its style, the bytes of the source that it covers, and its message.
-pub type Labelled<'input> = (LabelStyle, Range<usize>, &'input str);
+pub type ScriptLabel<'input> = (LabelStyle, Range<usize>, &'input str);
 
 /// What a script states, with texts borrowed from the input that it was parsed from.
 #[derive(Debug, Drop)]
@@ -35,7 +35,7 @@ pub struct Script<'input> {
     /// The message; empty if the script states none.
     pub message: &'input str,
     /// The labels in the order of their lines.
-    pub labels: Vec<Labelled<'input>>,
+    pub labels: Vec<ScriptLabel<'input>>,
     /// The notes in the order of their lines.
     pub notes: Vec<&'input str>,
     /// The source: all that follows the line `---`.
@@ -58,7 +58,7 @@ pub enum FaultNumber {
 }
 
 impl FaultNumber {
-    ghost use Rattle.report.specs.Drawings.{fault_code, fault_message, fault_note};
+    ghost use Rattle.report.specs.RenderedTexts.{fault_code, fault_message, fault_note};
 
     /// Returns the code of the diagnostic, `S1` for the first kind.
     pub fn code(self) -> &'static str
@@ -154,9 +154,9 @@ pub fn parse_script(alloc: Global, input: &str) -> Result<Script<'_>, ScriptErro
         }));
     };
     Ok(Script {
-        severity: severity_given(lines.as_slice()),
-        code: rest_given("code", lines.as_slice()),
-        message: rest_given("message", lines.as_slice()).unwrap_or(""),
+        severity: parsed_severity(lines.as_slice()),
+        code: rest_of_word("code", lines.as_slice()),
+        message: rest_of_word("message", lines.as_slice()).unwrap_or(""),
         labels: labels(alloc, lines.as_slice())?,
         notes: notes(alloc, lines.as_slice())?,
         source,

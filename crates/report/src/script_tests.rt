@@ -5,18 +5,22 @@ use crate::tests::{Input, Output, arguments, ran};
 use std::process::Abort;
 use std::test::Fail;
 
-/// Runs a script in a style over the file `f.txt`: the output, what is written to `faults`, and the
-/// status.
+/// Runs a script in a style over the file `f.txt`: the output, what is written to `error_output`,
+/// and the status.
 fn check<R: Abort + AllocGlobal>(
     rt: &R,
     style: &str,
     input: &str,
-    wanted: (&str, &str, u8),
+    expected: (&str, &str, u8),
 ) -> Result<(), Fail> {
     let outcome = ran(rt.alloc(), &[style, "f.txt"], input.as_bytes())?;
     assert_eq!(rt;
-        (outcome.output.text(), outcome.faults.text(), outcome.status),
-        wanted,
+        (
+            outcome.output.text(),
+            outcome.error_output.text(),
+            outcome.status
+        ),
+        expected,
         "{input:?}"
     );
     Ok(())
@@ -404,17 +408,17 @@ fn script_fault_failed(rt: HostRuntime) -> Result<(), Fail> {
     let args = arguments(rt.alloc(), &["short", "f.txt"])?;
     for write in 0..11 {
         let mut output = Output::new(rt.alloc());
-        let mut faults = Output::new(rt.alloc());
-        faults.failed_write = Some(write);
+        let mut error_output = Output::new(rt.alloc());
+        error_output.failed_write = Some(write);
         let status = run(
             rt.alloc(),
             &args,
             &mut Input::new(b""),
             &mut output,
-            &mut faults,
+            &mut error_output,
         );
         assert_eq!(rt;
-            (output.text(), faults.taken.len(), status),
+            (output.text(), error_output.accepted.len(), status),
             ("", write * 4, 1)
         );
     }

@@ -10,7 +10,7 @@ use std::test::Fail;
 const REQUEST: [&str; 5] = ["rich", "f.txt", "0", "3", "bad"];
 
 /// Their output over `abc` and a newline.
-const PICTURE: &str = "error: bad\n  ┌─ f.txt:1:1\n  │\n1 │ abc\n  │ ^^^ bad\n\n";
+const OUTPUT: &str = "error: bad\n  ┌─ f.txt:1:1\n  │\n1 │ abc\n  │ ^^^ bad\n\n";
 
 /// The output of a label over both lines of `abc`, a newline and `d`.
 const TWO_LINES: &str = "error: bad\n  ┌─ f.txt:1:1\n  │  \n1 │ ╭ abc\n2 │ │ d\n  │ ╰^ bad\n\n";
@@ -51,7 +51,7 @@ impl Read for Input<'_> {
 /// An output that takes four bytes at a write, and fails one write, or each flush.
 #[derive(Drop)]
 pub struct Output {
-    pub taken: Vec<u8>,
+    pub accepted: Vec<u8>,
     writes: usize,
     pub failed_write: Option<usize>,
     fails_flush: bool,
@@ -61,7 +61,7 @@ impl Output {
     /// Returns an output that fails nothing.
     pub fn new(alloc: Global) -> Self {
         Output {
-            taken: Vec::new(alloc),
+            accepted: Vec::new(alloc),
             writes: 0,
             failed_write: None,
             fails_flush: false,
@@ -70,7 +70,7 @@ impl Output {
 
     /// Returns what it has taken, as a text.
     pub fn text(&self) -> &str {
-        match std::str::from_utf8(self.taken.as_slice()) {
+        match std::str::from_utf8(self.accepted.as_slice()) {
             Ok(text) => text,
             Err(_) => "not UTF-8",
         }
@@ -84,7 +84,7 @@ impl Write for Output {
         if self.failed_write == Some(write) {
             return Err(io::Error::from(ErrorKind::BrokenPipe));
         }
-        self.taken.write(&buf[..buf.len().min(4)])
+        self.accepted.write(&buf[..buf.len().min(4)])
     }
 
     fn flush(&mut self) -> io::Result<()> {
@@ -108,38 +108,42 @@ pub fn arguments(alloc: Global, words: &[&str]) -> Result<Vec<String>, AllocErro
 pub struct Outcome {
     pub status: u8,
     pub output: Output,
-    pub faults: Output,
+    pub error_output: Output,
 }
 
 /// Runs over an input and an output that fail nothing.
 pub fn ran(alloc: Global, words: &[&str], text: &[u8]) -> Result<Outcome, AllocError> {
     let args = arguments(alloc, words)?;
     let mut output = Output::new(alloc);
-    let mut faults = Output::new(alloc);
+    let mut error_output = Output::new(alloc);
     let status = run(
         alloc,
         &args,
         &mut Input::new(text),
         &mut output,
-        &mut faults,
+        &mut error_output,
     );
     Ok(Outcome {
         status,
         output,
-        faults,
+        error_output,
     })
 }
 
 #[test]
 fn report_run(rt: HostRuntime) -> Result<(), Fail> {
-    let drawn = ran(rt.alloc(), &REQUEST, b"abc\n")?;
+    let rendered = ran(rt.alloc(), &REQUEST, b"abc\n")?;
     assert_eq!(rt;
-        (drawn.output.text(), drawn.faults.text(), drawn.status),
-        (PICTURE, "", 0)
+        (
+            rendered.output.text(),
+            rendered.error_output.text(),
+            rendered.status
+        ),
+        (OUTPUT, "", 0)
     );
     let wrong = ran(rt.alloc(), &["rich", "f.txt", "0", "x", "bad"], b"abc\n")?;
     assert_eq!(rt;
-        (wrong.output.text(), wrong.faults.text(), wrong.status),
+        (wrong.output.text(), wrong.error_output.text(), wrong.status),
         ("", USAGE, 2)
     );
     Ok(())
@@ -148,9 +152,13 @@ fn report_run(rt: HostRuntime) -> Result<(), Fail> {
 #[test]
 fn report_short_and_medium(rt: HostRuntime) -> Result<(), Fail> {
     for style in ["short", "medium"] {
-        let drawn = ran(rt.alloc(), &[style, "f.txt", "0", "3", "bad"], b"abc\n")?;
+        let rendered = ran(rt.alloc(), &[style, "f.txt", "0", "3", "bad"], b"abc\n")?;
         assert_eq!(rt;
-            (drawn.output.text(), drawn.faults.text(), drawn.status),
+            (
+                rendered.output.text(),
+                rendered.error_output.text(),
+                rendered.status
+            ),
             ("f.txt:1:1: error: bad\n", "", 0),
             "{style}"
         );
@@ -162,7 +170,7 @@ fn report_short_and_medium(rt: HostRuntime) -> Result<(), Fail> {
 fn report_two_lines(rt: HostRuntime) -> Result<(), Fail> {
     let two = ran(rt.alloc(), &["rich", "f.txt", "0", "4", "bad"], b"abc\nd")?;
     assert_eq!(rt;
-        (two.output.text(), two.faults.text(), two.status),
+        (two.output.text(), two.error_output.text(), two.status),
         (TWO_LINES, "", 0)
     );
     Ok(())
@@ -191,10 +199,16 @@ fn wrong_arguments(rt: HostRuntime) -> Result<(), Fail> {
         let args = arguments(rt.alloc(), words)?;
         let mut input = Input::new(b"abc\n");
         let mut output = Output::new(rt.alloc());
-        let mut faults = Output::new(rt.alloc());
-        let status = run(rt.alloc(), &args, &mut input, &mut output, &mut faults);
+        let mut error_output = Output::new(rt.alloc());
+        let status = run(
+            rt.alloc(),
+            &args,
+            &mut input,
+            &mut output,
+            &mut error_output,
+        );
         assert_eq!(rt;
-            (output.text(), faults.text(), status),
+            (output.text(), error_output.text(), status),
             ("", USAGE, 2),
             "{words:?}"
         );
@@ -208,11 +222,11 @@ fn right_numbers(rt: HostRuntime) -> Result<(), Fail> {
     let leading_zeros = ran(rt.alloc(), &["rich", "f.txt", "000", "03", "bad"], b"abc\n")?;
     assert_eq!(rt;
         (leading_zeros.output.text(), leading_zeros.status),
-        (PICTURE, 0)
+        (OUTPUT, 0)
     );
     let words = ["rich", "f.txt", "0", "18446744073709551615", "bad"];
     let greatest = ran(rt.alloc(), &words, b"abc")?;
-    assert_eq!(rt; (greatest.faults.text(), greatest.status), ("", 0));
+    assert_eq!(rt; (greatest.error_output.text(), greatest.status), ("", 0));
     Ok(())
 }
 
@@ -222,7 +236,7 @@ fn input_not_utf8(rt: HostRuntime) -> Result<(), Fail> {
     for text in [b"\xff".as_slice(), b"abc\xe2\x94", b"\xc0\x80\n"] {
         let odd = ran(rt.alloc(), &REQUEST, text)?;
         assert_eq!(rt;
-            (odd.output.text(), odd.faults.text(), odd.status),
+            (odd.output.text(), odd.error_output.text(), odd.status),
             ("", line, 1)
         );
     }
@@ -236,11 +250,17 @@ fn failed_input(rt: HostRuntime) -> Result<(), Fail> {
         let mut input = Input::new(b"abc\n");
         input.failed_read = Some(read);
         let mut output = Output::new(rt.alloc());
-        let mut faults = Output::new(rt.alloc());
-        let status = run(rt.alloc(), &args, &mut input, &mut output, &mut faults);
+        let mut error_output = Output::new(rt.alloc());
+        let status = run(
+            rt.alloc(),
+            &args,
+            &mut input,
+            &mut output,
+            &mut error_output,
+        );
         let line = "report: cannot read input\n";
         assert_eq!(rt;
-            (output.text(), faults.text(), status),
+            (output.text(), error_output.text(), status),
             ("", line, 1),
             "read {read}"
         );
@@ -252,35 +272,38 @@ fn failed_input(rt: HostRuntime) -> Result<(), Fail> {
 fn failed_output(rt: HostRuntime) -> Result<(), Fail> {
     let args = arguments(rt.alloc(), &REQUEST)?;
     let line = "report: cannot write output\n";
-    for write in 0..PICTURE.len().div_ceil(4) {
+    for write in 0..OUTPUT.len().div_ceil(4) {
         let mut output = Output::new(rt.alloc());
         output.failed_write = Some(write);
-        let mut faults = Output::new(rt.alloc());
+        let mut error_output = Output::new(rt.alloc());
         let status = run(
             rt.alloc(),
             &args,
             &mut Input::new(b"abc\n"),
             &mut output,
-            &mut faults,
+            &mut error_output,
         );
-        assert_eq!(rt; (faults.text(), status), (line, 1), "write {write}");
+        assert_eq!(rt; (error_output.text(), status), (line, 1), "write {write}");
         assert_eq!(rt;
-            output.taken.as_slice(),
-            &PICTURE.as_bytes()[..write * 4],
+            output.accepted.as_slice(),
+            &OUTPUT.as_bytes()[..write * 4],
             "write {write}"
         );
     }
     let mut output = Output::new(rt.alloc());
     output.fails_flush = true;
-    let mut faults = Output::new(rt.alloc());
+    let mut error_output = Output::new(rt.alloc());
     let status = run(
         rt.alloc(),
         &args,
         &mut Input::new(b"abc\n"),
         &mut output,
-        &mut faults,
+        &mut error_output,
     );
-    assert_eq!(rt; (output.text(), faults.text(), status), (PICTURE, line, 1));
+    assert_eq!(rt;
+        (output.text(), error_output.text(), status),
+        (OUTPUT, line, 1)
+    );
     Ok(())
 }
 
@@ -291,16 +314,22 @@ fn failed_faults(rt: HostRuntime) -> Result<(), Fail> {
         (&REQUEST, b"\xff", None, 1),
         (&REQUEST, b"abc\n", Some(0), 1),
     ];
-    for (words, text, failed_read, wanted) in runs {
+    for (words, text, failed_read, expected) in runs {
         let args = arguments(rt.alloc(), words)?;
         let mut input = Input::new(text);
         input.failed_read = failed_read;
         let mut output = Output::new(rt.alloc());
-        let mut faults = Output::new(rt.alloc());
-        faults.failed_write = Some(1);
-        let status = run(rt.alloc(), &args, &mut input, &mut output, &mut faults);
-        assert_eq!(rt; (output.text(), status), ("", wanted), "{words:?}");
-        assert_eq!(rt; faults.taken.len(), 4, "{words:?}");
+        let mut error_output = Output::new(rt.alloc());
+        error_output.failed_write = Some(1);
+        let status = run(
+            rt.alloc(),
+            &args,
+            &mut input,
+            &mut output,
+            &mut error_output,
+        );
+        assert_eq!(rt; (output.text(), status), ("", expected), "{words:?}");
+        assert_eq!(rt; error_output.accepted.len(), 4, "{words:?}");
     }
     Ok(())
 }

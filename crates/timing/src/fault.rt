@@ -12,12 +12,12 @@ pub enum Fault {
     /// Reading the input or writing the output failed.
     Io(io::Error),
     /// Rendering or an allocation failed.
-    Drawing(Error),
+    CannotRender(Error),
 }
 
 impl From<AllocError> for Fault {
     fn from(cause: AllocError) -> Fault {
-        Fault::Drawing(Error::from(cause))
+        Fault::CannotRender(Error::from(cause))
     }
 }
 
@@ -29,6 +29,6 @@ impl From<io::Error> for Fault {
 
 impl From<Error> for Fault {
     fn from(cause: Error) -> Fault {
-        Fault::Drawing(cause)
+        Fault::CannotRender(cause)
     }
 }

@@ -28,14 +28,14 @@ fn main(rt: HostRuntime) -> Result<(), Fault> {
     let diagnostic = read_diagnostic(alloc, &mut fields)?;
 
     let config = Config::default();
-    let mut picture = String::new(alloc);
+    let mut output = String::new(alloc);
     let start = Instant::now(&rt)?;
     for _ in 0..times {
-        picture = emit_into_string(&config, &files, &diagnostic)?;
+        output = emit_into_string(&config, &files, &diagnostic)?;
     }
     let nanos = start.elapsed(&rt)?.as_nanos();
 
-    rt.stdout().write_all(picture.as_bytes())?;
+    rt.stdout().write_all(output.as_bytes())?;
     writeln!(rt.stderr(), "{nanos}")?;
     Ok(())
 }

@@ -1,2 +1,2 @@
 -- a style mark that is written in part
-mod BrokenMarks
+mod BrokenStyleMarks

@@ -15,5 +15,9 @@ sequence Reset = 0x1b ∷ codes "[0m"
 
 -- the writer, as the law of writers sees it
 abbrev pub spelling_sink : Bool → Option (List ℕ) → Sink
-spelling_sink failed held =
-    record { frame = record { spelling = sequence; failed = failed; through = [] }; held = held }
+spelling_sink failed contents =
+    record {
+      frame = record { spelling = sequence; failed = failed; through = [] };
+      contents
+          = contents;
+    }

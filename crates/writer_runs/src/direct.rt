@@ -1,6 +1,6 @@
 //! The calls of `Renderer` that write rows.
 
-use crate::drawing::Draws;
+use crate::rendering::Render;
 use codespan_reporting::diagnostic::{LabelStyle, Severity};
 use codespan_reporting::files::{Error, Location};
 use codespan_reporting::term::{
@@ -86,7 +86,7 @@ impl<'text> Direct<'text> {
 }
 
 /// Writes a source line. Fails if the lanes are not in order.
-fn draw_line<W: WriteStyle>(
+fn render_line<W: WriteStyle>(
     renderer: &mut Renderer<'_, '_, W>,
     line: Line<'_>,
 ) -> Result<(), Error> {
@@ -105,7 +105,7 @@ fn draw_line<W: WriteStyle>(
 }
 
 /// Writes a break. Fails if the lanes are not in order.
-fn draw_break<W: WriteStyle>(
+fn render_break<W: WriteStyle>(
     renderer: &mut Renderer<'_, '_, W>,
     padding: usize,
     lanes: usize,
@@ -117,8 +117,8 @@ fn draw_break<W: WriteStyle>(
     renderer.render_snippet_break(padding, Severity::Error, lanes, marks)
 }
 
-impl<'text> Draws for Direct<'text> {
-    fn draw<W: WriteStyle>(&self, writer: &mut W) -> Result<(), Error> {
+impl<'text> Render for Direct<'text> {
+    fn render<W: WriteStyle>(&self, writer: &mut W) -> Result<(), Error> {
         let config = Config::default();
         let mut renderer = Renderer::new(writer, &config);
         match self.call {
@@ -127,22 +127,22 @@ impl<'text> Draws for Direct<'text> {
             }
             RowCall::Empty => renderer.render_empty(),
             RowCall::Start => renderer.render_snippet_start(1, &self.locus),
-            RowCall::Source(line) => draw_line(&mut renderer, line),
+            RowCall::Source(line) => render_line(&mut renderer, line),
             RowCall::SnippetEmpty(padding, lanes) => {
                 renderer.render_snippet_empty(padding, Severity::Error, lanes, &[])
             }
             RowCall::Break(padding, lanes, marks) => {
-                draw_break(&mut renderer, padding, lanes, marks)
+                render_break(&mut renderer, padding, lanes, marks)
             }
             RowCall::Note(padding, message) => renderer.render_snippet_note(padding, message),
         }
     }
 
-    fn draw_plain<W: Write>(&self, writer: &mut W) -> Result<(), Error> {
-        self.draw(&mut PlainWriter::new(writer))
+    fn render_plain<W: Write>(&self, writer: &mut W) -> Result<(), Error> {
+        self.render(&mut PlainWriter::new(writer))
     }
 
-    fn has_marks(&self) -> bool {
+    fn has_style_marks(&self) -> bool {
         !matches!(self.call, RowCall::Empty)
     }
 }

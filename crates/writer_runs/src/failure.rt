@@ -1,7 +1,7 @@
 //! The errors of a run.
 
-use crate::drawing::Call;
 use crate::path::Path;
+use crate::rendering::Call;
 use codespan_base_tests::writers::stopping::Stop;
 use codespan_reporting::files::Error;
 use codespan_reporting::term::DisplayStyle;
@@ -16,7 +16,7 @@ pub enum Ending {
     /// In this way, at a write.
     AtWrite(Stop),
     /// It fails at a style mark, after the first byte of its spelling.
-    AtMark,
+    AtStyleMark,
 }
 
 /// An error of a run.
@@ -24,14 +24,14 @@ pub enum Ending {
 pub enum Failure {
     /// A call or an allocation failed, although no writer stops.
     Failed(Error),
-    /// The text differs from the one that the row states.
-    OtherRow,
+    /// The text differs from the one that the case states.
+    OtherCaseText,
     /// A string to which the text was appended is not its old text followed by the new one.
     OtherString,
     /// The bytes written on a path differ from the text.
     OtherText(Path),
-    /// The text in escape sequences differs from what the row states.
-    OtherColours,
+    /// The text in escape sequences differs from what the case states.
+    OtherColors,
     /// On a path, with a writer that stops in this way after this many writes or style marks: the
     /// result
     /// is not `Io`, the writer does not hold exactly what it accepted before, or it was called
@@ -41,7 +41,7 @@ pub enum Failure {
 
 /// An error, with the style and the call in which it occurred.
 #[derive(Drop)]
-pub struct Place {
+pub struct FailureAt {
     /// The style; `None` before any text is rendered.
     pub style: Option<DisplayStyle>,
     /// The call; `None` before one to a writer.
@@ -65,7 +65,7 @@ impl fmt::Display for Ending {
             Ending::AtWrite(Stop::TakesNothing) => write!(f, "takes nothing of a write"),
             Ending::AtWrite(Stop::IsInterrupted) => write!(f, "is interrupted"),
             Ending::AtWrite(Stop::TakesOneByte) => write!(f, "takes one byte and then refuses"),
-            Ending::AtMark => write!(f, "refuses a mark"),
+            Ending::AtStyleMark => write!(f, "refuses a mark"),
         }
     }
 }
@@ -75,10 +75,10 @@ impl fmt::Display for Failure {
     fn fmt<W: Write>(&self, f: &mut fmt::Formatter<W>) -> fmt::Result {
         match self {
             Failure::Failed(error) => write!(f, "refused: {error}"),
-            Failure::OtherRow => write!(f, "another text than the row says"),
+            Failure::OtherCaseText => write!(f, "another text than the row says"),
             Failure::OtherString => write!(f, "another string"),
             Failure::OtherText(path) => write!(f, "by {path}: another text"),
-            Failure::OtherColours => write!(f, "other colours than the row says"),
+            Failure::OtherColors => write!(f, "other colours than the row says"),
             Failure::Stopped(path, ending, after) => {
                 write!(f, "by {path}: wrong where a writer {ending}, after {after}")
             }
@@ -87,7 +87,7 @@ impl fmt::Display for Failure {
 }
 
 /// Writes the error, after its style and its call.
-impl fmt::Display for Place {
+impl fmt::Display for FailureAt {
     fn fmt<W: Write>(&self, f: &mut fmt::Formatter<W>) -> fmt::Result {
         match self.style {
             Some(DisplayStyle::Rich) => write!(f, "rich, ")?,

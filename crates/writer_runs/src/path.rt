@@ -1,9 +1,9 @@
 //! The writers of styles between a call and a writer of bytes.
 
-use crate::drawing::Draws;
 use crate::failure::Failure;
-use crate::marking::Marking;
 use crate::record::Record;
+use crate::rendering::Render;
+use crate::style_mark_writer::StyleMarkWriter;
 use codespan_base_tests::writers::sequences::without_sequences;
 use codespan_reporting::files::Error;
 use codespan_reporting::term::{Ansi, NoColor, Styles, StylesWriter};
@@ -21,11 +21,11 @@ pub enum Path {
     /// A `StylesWriter` over `NoColor`.
     NoColor,
     /// The writer of styles of this program.
-    Own,
+    Custom,
 }
 
 /// The writers of styles.
-pub const PATHS: [Path; 4] = [Path::Plain, Path::Ansi, Path::NoColor, Path::Own];
+pub const PATHS: [Path; 4] = [Path::Plain, Path::Ansi, Path::NoColor, Path::Custom];
 
 /// Returns the name of the writer.
 impl fmt::Display for Path {
@@ -34,34 +34,39 @@ impl fmt::Display for Path {
             Path::Plain => write!(f, "plain text"),
             Path::Ansi => write!(f, "Ansi"),
             Path::NoColor => write!(f, "NoColor"),
-            Path::Own => write!(f, "a writer of one's own"),
+            Path::Custom => write!(f, "a writer of one's own"),
         }
     }
 }
 
 impl Path {
     /// Renders on this path.
-    pub fn draw<D: Draws, W: Write>(self, drawn: &D, writer: &mut W) -> Result<(), Error> {
+    pub fn render<D: Render, W: Write>(self, output: &D, writer: &mut W) -> Result<(), Error> {
         let styles = Styles::default();
         match self {
-            Path::Plain => drawn.draw_plain(writer),
-            Path::Ansi => drawn.draw(&mut StylesWriter::new(Ansi::new(writer), &styles)),
-            Path::NoColor => drawn.draw(&mut StylesWriter::new(NoColor::new(writer), &styles)),
-            Path::Own => drawn.draw(&mut Marking::new(writer, usize::MAX)),
+            Path::Plain => output.render_plain(writer),
+            Path::Ansi => output.render(&mut StylesWriter::new(Ansi::new(writer), &styles)),
+            Path::NoColor => output.render(&mut StylesWriter::new(NoColor::new(writer), &styles)),
+            Path::Custom => output.render(&mut StyleMarkWriter::new(writer, usize::MAX)),
         }
     }
 
     /// Returns whether style marks are written as escape sequences on this path.
-    fn shows_marks(self) -> bool {
-        matches!(self, Path::Ansi | Path::Own)
+    fn shows_style_marks(self) -> bool {
+        matches!(self, Path::Ansi | Path::Custom)
     }
 
     /// Renders on this path into a writer that records, and returns it. Without the escape
     /// sequences that style marks are written as, its text has to be the plain text.
-    pub fn record<D: Draws>(self, alloc: Global, drawn: &D, text: &str) -> Result<Record, Failure> {
+    pub fn record<D: Render>(
+        self,
+        alloc: Global,
+        output: &D,
+        text: &str,
+    ) -> Result<Record, Failure> {
         let mut record = Record::new(alloc);
-        self.draw(drawn, &mut record)?;
-        let has_sequences = self.shows_marks() && drawn.has_marks();
+        self.render(output, &mut record)?;
+        let has_sequences = self.shows_style_marks() && output.has_style_marks();
         let bytes = record.text.as_slice();
         let is_text = if has_sequences {
             bytes.len() > text.len()

@@ -1,10 +1,10 @@
 //! Runs into writers that stop.
 
-use crate::drawing::Draws;
 use crate::failure::{Ending, Failure};
-use crate::marking::Marking;
 use crate::path::Path;
 use crate::record::Record;
+use crate::rendering::Render;
+use crate::style_mark_writer::StyleMarkWriter;
 use codespan_base_tests::writers::stopping::{Stop, Stopping, is_failed};
 use std::alloc::Global;
 
@@ -22,29 +22,29 @@ pub const WRITERS: usize = STOPS.len() + 2;
 
 /// Renders on a path into each writer that stops, at each write that rendering makes, and returns
 /// the number of runs.
-pub fn judge_stops<D: Draws>(
+pub fn judge_stops<D: Render>(
     alloc: Global,
     path: Path,
-    drawn: &D,
+    output: &D,
     record: &Record,
 ) -> Result<usize, Failure> {
     let whole = record.text.as_slice();
     let slow = Stopping::new(alloc, 1, usize::MAX, Stop::Fails);
-    if !stops_at(path, drawn, slow, whole, whole.len()) {
+    if !stops_at(path, output, slow, whole, whole.len()) {
         return Err(Failure::Stopped(path, Ending::Slow, 0));
     }
     let mut runs = 1usize;
     for stop in STOPS {
         for (writes, start) in record.starts.iter().enumerate() {
             let inner = Stopping::new(alloc, usize::MAX, writes, stop);
-            let length = held_length(stop, *start, whole.len());
-            if !stops_at(path, drawn, inner, whole, length) {
+            let length = written_length(stop, *start, whole.len());
+            if !stops_at(path, output, inner, whole, length) {
                 return Err(Failure::Stopped(path, Ending::AtWrite(stop), writes));
             }
             runs = runs.saturating_add(1);
         }
         let inner = Stopping::new(alloc, usize::MAX, record.starts.len(), stop);
-        if !stops_at(path, drawn, inner, whole, whole.len()) {
+        if !stops_at(path, output, inner, whole, whole.len()) {
             return Err(Failure::Stopped(path, Ending::AtWrite(stop), record.starts.len()));
         }
         runs = runs.saturating_add(1);
@@ -53,7 +53,7 @@ pub fn judge_stops<D: Draws>(
 }
 
 /// Returns the number of bytes in a writer that stops in this way, after this many bytes.
-fn held_length(stop: Stop, start: usize, whole: usize) -> usize {
+fn written_length(stop: Stop, start: usize, whole: usize) -> usize {
     match stop {
         Stop::TakesOneByte => start.saturating_add(1).min(whole),
         Stop::Fails | Stop::TakesNothing | Stop::IsInterrupted => start,
@@ -63,35 +63,39 @@ fn held_length(stop: Stop, start: usize, whole: usize) -> usize {
 /// Renders on a path into a writer, and returns whether it then holds this length of the whole text
 /// and, if that is less than all, the result is `Io`, the writer has stopped, and no write
 /// followed.
-fn stops_at<D: Draws>(
+fn stops_at<D: Render>(
     path: Path,
-    drawn: &D,
+    output: &D,
     mut inner: Stopping,
     whole: &[u8],
     length: usize,
 ) -> bool {
     let is_whole = length == whole.len();
-    let answer = path.draw(drawn, &mut inner);
-    is_failed(&answer) == Some(!is_whole)
+    let returned = path.render(output, &mut inner);
+    is_failed(&returned) == Some(!is_whole)
         && inner.is_right(is_whole, whole)
         && inner.text.len() == length
 }
 
 /// Renders to this program's writer of styles, which fails at each style mark in turn, and returns
 /// the number of runs.
-pub fn judge_marks<D: Draws>(alloc: Global, drawn: &D, whole: &[u8]) -> Result<usize, Failure> {
+pub fn judge_style_marks<D: Render>(
+    alloc: Global,
+    output: &D,
+    whole: &[u8],
+) -> Result<usize, Failure> {
     let mut marks = 0usize;
-    for (place, byte) in whole.iter().enumerate() {
+    for (position, byte) in whole.iter().enumerate() {
         if *byte == b'\x1b' {
-            let (held, _rest) = whole.split_at(place.saturating_add(1).min(whole.len()));
-            if !stops_at_mark(alloc, drawn, marks, held, true) {
-                return Err(Failure::Stopped(Path::Own, Ending::AtMark, marks));
+            let (written, _rest) = whole.split_at(position.saturating_add(1).min(whole.len()));
+            if !stops_at_style_mark(alloc, output, marks, written, true) {
+                return Err(Failure::Stopped(Path::Custom, Ending::AtStyleMark, marks));
             }
             marks = marks.saturating_add(1);
         }
     }
-    if !stops_at_mark(alloc, drawn, marks, whole, false) {
-        return Err(Failure::Stopped(Path::Own, Ending::AtMark, marks));
+    if !stops_at_style_mark(alloc, output, marks, whole, false) {
+        return Err(Failure::Stopped(Path::Custom, Ending::AtStyleMark, marks));
     }
     Ok(marks.saturating_add(1))
 }
@@ -99,17 +103,17 @@ pub fn judge_marks<D: Draws>(alloc: Global, drawn: &D, whole: &[u8]) -> Result<u
 /// Renders to a writer that fails at the style mark after this many, and returns whether it then
 /// holds these bytes and, if they are not all, the result is `Io` and no style mark and no write
 /// followed.
-fn stops_at_mark<D: Draws>(
+fn stops_at_style_mark<D: Render>(
     alloc: Global,
-    drawn: &D,
+    output: &D,
     marks: usize,
-    held: &[u8],
+    written: &[u8],
     is_stopped: bool,
 ) -> bool {
-    let mut writer = Marking::new(Vec::new(alloc), marks);
-    let answer = drawn.draw(&mut writer);
-    is_failed(&answer) == Some(is_stopped)
+    let mut writer = StyleMarkWriter::new(Vec::new(alloc), marks);
+    let returned = output.render(&mut writer);
+    is_failed(&returned) == Some(is_stopped)
         && writer.has_failed() == is_stopped
         && writer.calls_after == 0
-        && writer.into_inner().as_slice() == held
+        && writer.into_inner().as_slice() == written
 }

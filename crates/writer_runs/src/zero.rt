@@ -22,7 +22,7 @@ impl<'text> FromZero<'text> {
 }
 
 impl<'a, 'text: 'a> Files<'a> for FromZero<'text> {
-    ghost use Rattle.codespan_base.specs.FileTables.{name_of, source_of};
+    ghost use Rattle.codespan_base.specs.DatabaseViews.{name_of, source_of};
     ghost use Rattle.codespan_base.specs.FileModel.{line_of};
     ghost use Rattle.codespan_base.specs.FileModel.Lookup.{Name as NameLookup, Source as SourceLookup, LineIndex, LineNumber, ColumnNumber, LocationAt, LineRange};
     ghost use Rattle.codespan_base.specs.Lines.{line_starts_of};

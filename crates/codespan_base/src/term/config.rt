@@ -2,7 +2,7 @@
 
 ghost use Rattle.std.specs.Prelude.{◌≡◌, Ok, IsTrue, IfOk, OnErr, IsErrOf};
 ghost use Rattle.codespan_base.specs.SnippetStarts.{is_fixed};
-ghost use Rattle.codespan_base.specs.Lookalikes.{IsConfig};
+ghost use Rattle.codespan_base.specs.ConfigEquality.{IsConfig};
 ghost use Rattle.codespan_base.specs.Defaults.{default_config};
 
 pub mod ansi;
@@ -87,7 +87,7 @@ impl<'chars> Default for Config<'chars> {
     ghost is_default = { IsConfig default_config };
 
     fn default() -> Config<'chars>
-        ensures alike { IsConfig default_config result }
+        ensures equal { IsConfig default_config result }
         ensures fixed { IsTrue (is_fixed result.chars.snippet_start) }
     {
         Config {

@@ -3,7 +3,7 @@
 ghost use Rattle.std.specs.Prelude.{◌≡◌, false, codes, refl};
 ghost use Rattle.codespan_base.specs.Streams.{bytes};
 ghost use Rattle.codespan_base_tests.specs.Tags.{tag_sink, color_tag};
-ghost use Rattle.codespan_base.specs.WriterLaw.{Sends};
+ghost use Rattle.codespan_base.specs.WriterLaw.{Writes};
 
 use codespan_base::diagnostic::{LabelStyle, Severity};
 use codespan_base::term::config::writing::{forward_all, forward_put, write_all};
@@ -30,8 +30,8 @@ impl<W: Write> TagWriter<W> {
     }
 
     /// Writes a tag, or a prefix of it where it fails.
-    fn send_tag(&mut self, tag: &[u8]) -> io::Result<()>
-        ensures { Sends (tag_sink self.old.failed (W.contents self.old.inner)) (bytes tag.now)
+    fn write_tag(&mut self, tag: &[u8]) -> io::Result<()>
+        ensures { Writes (tag_sink self.old.failed (W.contents self.old.inner)) (bytes tag.now)
             result (tag_sink self.new.failed (W.contents self.new.inner)) }
     {
         forward_all(&mut self.inner, &mut self.failed, tag)
@@ -50,39 +50,39 @@ impl<W: Write> Write for TagWriter<W> {
     }
 }
 
-#[tactic(auto, using(codespan_base::proofs::Marks::marking))]
+#[tactic(auto, using(codespan_base::proofs::StyleMarks::marking))]
 impl<W: Write> WriteStyle for TagWriter<W> {
     ghost sink = { λ t. tag_sink t.failed (W.contents t.inner) };
 
     fn set_header(&mut self, _severity: Severity) -> io::Result<()> {
-        self.send_tag(b"[header]")
+        self.write_tag(b"[header]")
     }
 
     fn set_header_message(&mut self) -> io::Result<()> {
-        self.send_tag(b"[message]")
+        self.write_tag(b"[message]")
     }
 
     fn set_line_number(&mut self) -> io::Result<()> {
-        self.send_tag(b"[number]")
+        self.write_tag(b"[number]")
     }
 
     fn set_note_bullet(&mut self) -> io::Result<()> {
-        self.send_tag(b"[bullet]")
+        self.write_tag(b"[bullet]")
     }
 
     fn set_source_border(&mut self) -> io::Result<()> {
-        self.send_tag(b"[border]")
+        self.write_tag(b"[border]")
     }
 
     fn set_label(&mut self, _severity: Severity, label_style: LabelStyle) -> io::Result<()> {
         match label_style {
-            LabelStyle::Primary => self.send_tag(b"[primary]"),
-            LabelStyle::Secondary => self.send_tag(b"[secondary]"),
+            LabelStyle::Primary => self.write_tag(b"[primary]"),
+            LabelStyle::Secondary => self.write_tag(b"[secondary]"),
         }
     }
 
     fn reset(&mut self) -> io::Result<()> {
-        self.send_tag(b"[/]")
+        self.write_tag(b"[/]")
     }
 
     fn put(&mut self, bytes: &[u8]) -> io::Result<usize> {
@@ -118,7 +118,7 @@ impl<W: Write> Write for TagColor<W> {
     }
 }
 
-#[tactic(auto, using(codespan_base::proofs::AppendsBytes::paintings))]
+#[tactic(auto, using(codespan_base::proofs::AppendsBytes::append_chains))]
 impl<W: Write> WriteColor for TagColor<W> {
     ghost color_bytes = { color_tag };
 

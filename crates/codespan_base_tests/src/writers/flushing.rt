@@ -1,7 +1,7 @@
 //! Which calls flush.
 
 use crate::writers::counting::Counting;
-use crate::writers::marks::send_every_mark;
+use crate::writers::marks::write_style_marks;
 use codespan_base::term::config::plain_ref::PlainWriterRef;
 use codespan_base::term::config::writing::{put_all, put_spaces};
 use codespan_base::term::{Ansi, NoColor, PlainWriter, Styles, StylesWriter, WriteStyle};
@@ -9,8 +9,8 @@ use std::io;
 use std::test::Fail;
 
 /// Writes every style mark, some text in both ways, and then flushes once.
-fn send_and_flush<W: WriteStyle>(w: &mut W) -> io::Result<()> {
-    send_every_mark(w)?;
+fn write_and_flush<W: WriteStyle>(w: &mut W) -> io::Result<()> {
+    write_style_marks(w)?;
     put_all(w, b"text")?;
     put_spaces(w, 70)?;
     w.write_all(b"text")?;
@@ -22,13 +22,13 @@ fn send_and_flush<W: WriteStyle>(w: &mut W) -> io::Result<()> {
 fn only_flush_flushes(rt: HostRuntime) -> Result<(), Fail> {
     let styles = Styles::default();
     let mut inner = Counting::default();
-    send_and_flush(&mut PlainWriter::new(&mut inner))?;
+    write_and_flush(&mut PlainWriter::new(&mut inner))?;
     assert_eq!(rt; inner.flushes, 1);
-    send_and_flush(&mut PlainWriterRef::new(&mut inner))?;
+    write_and_flush(&mut PlainWriterRef::new(&mut inner))?;
     assert_eq!(rt; inner.flushes, 2);
-    send_and_flush(&mut StylesWriter::new(Ansi::new(&mut inner), &styles))?;
+    write_and_flush(&mut StylesWriter::new(Ansi::new(&mut inner), &styles))?;
     assert_eq!(rt; inner.flushes, 3);
-    send_and_flush(&mut StylesWriter::new(NoColor::new(&mut inner), &styles))?;
+    write_and_flush(&mut StylesWriter::new(NoColor::new(&mut inner), &styles))?;
     assert_eq!(rt; inner.flushes, 4);
     Ok(())
 }

@@ -14,7 +14,7 @@ use std::io;
 use std::test::Fail;
 
 /// Writes every style mark, each before a newline.
-pub fn send_every_mark<W: WriteStyle>(w: &mut W) -> io::Result<()> {
+pub fn write_style_marks<W: WriteStyle>(w: &mut W) -> io::Result<()> {
     for severity in [
         Severity::Bug,
         Severity::Error,
@@ -40,51 +40,51 @@ pub fn send_every_mark<W: WriteStyle>(w: &mut W) -> io::Result<()> {
     w.reset()
 }
 
-const NO_MARKS: &str = "\n\n\n\n\n\n\n\n\n\n\n\n\n\n\n\n\n\n\n";
+const NO_STYLE_MARKS: &str = "\n\n\n\n\n\n\n\n\n\n\n\n\n\n\n\n\n\n\n";
 
-const ANSI_MARKS: &str = "\x1b[0m\x1b[1m\x1b[38;5;9m\n\x1b[0m\x1b[31m\n\x1b[0m\x1b[36m\n\
+const ANSI_STYLE_MARKS: &str = "\x1b[0m\x1b[1m\x1b[38;5;9m\n\x1b[0m\x1b[31m\n\x1b[0m\x1b[36m\n\
     \x1b[0m\x1b[1m\x1b[38;5;9m\n\x1b[0m\x1b[31m\n\x1b[0m\x1b[36m\n\
     \x1b[0m\x1b[1m\x1b[38;5;11m\n\x1b[0m\x1b[33m\n\x1b[0m\x1b[36m\n\
     \x1b[0m\x1b[1m\x1b[38;5;10m\n\x1b[0m\x1b[32m\n\x1b[0m\x1b[36m\n\
     \x1b[0m\x1b[1m\x1b[38;5;14m\n\x1b[0m\x1b[36m\n\x1b[0m\x1b[36m\n\
     \x1b[0m\x1b[1m\n\x1b[0m\x1b[36m\n\x1b[0m\x1b[36m\n\x1b[0m\x1b[36m\n\x1b[0m";
 
-const BOLD_MARKS: &str =
+const BOLD_STYLE_MARKS: &str =
     "[bold]\n\n\n[bold]\n\n\n[bold]\n\n\n[bold]\n\n\n[bold]\n\n\n[bold]\n\n\n\n[/]";
 
-const TAG_MARKS: &str = "[header]\n[primary]\n[secondary]\n[header]\n[primary]\n[secondary]\n\
+const TAG_STYLE_MARKS: &str = "[header]\n[primary]\n[secondary]\n[header]\n[primary]\n[secondary]\n\
     [header]\n[primary]\n[secondary]\n[header]\n[primary]\n[secondary]\n\
     [header]\n[primary]\n[secondary]\n[message]\n[number]\n[bullet]\n[border]\n[/]";
 
 #[test]
-fn every_mark_of_every_writer(rt: HostRuntime) -> Result<(), Fail> {
+fn every_style_mark_of_every_writer(rt: HostRuntime) -> Result<(), Fail> {
     let mut plain = PlainWriter::new(Vec::new(rt.alloc()));
-    send_every_mark(&mut plain)?;
+    write_style_marks(&mut plain)?;
     assert!(rt; !plain.has_failed());
-    assert_eq!(rt; plain.into_inner().as_slice(), NO_MARKS.as_bytes());
+    assert_eq!(rt; plain.into_inner().as_slice(), NO_STYLE_MARKS.as_bytes());
 
     let styles = Styles::default();
     let mut ansi = StylesWriter::new(Ansi::new(Vec::new(rt.alloc())), &styles);
-    send_every_mark(&mut ansi)?;
+    write_style_marks(&mut ansi)?;
     assert_eq!(rt;
         ansi.into_inner().into_inner().as_slice(),
-        ANSI_MARKS.as_bytes()
+        ANSI_STYLE_MARKS.as_bytes()
     );
 
     let mut no_color = StylesWriter::new(NoColor::new(Vec::new(rt.alloc())), &styles);
-    send_every_mark(&mut no_color)?;
+    write_style_marks(&mut no_color)?;
     assert_eq!(rt;
         no_color.into_inner().into_inner().as_slice(),
-        NO_MARKS.as_bytes()
+        NO_STYLE_MARKS.as_bytes()
     );
 
     let mut text = Vec::new(rt.alloc());
-    send_every_mark(&mut StylesWriter::new(TagColor::new(&mut text), &styles))?;
-    assert_eq!(rt; text.as_slice(), BOLD_MARKS.as_bytes());
+    write_style_marks(&mut StylesWriter::new(TagColor::new(&mut text), &styles))?;
+    assert_eq!(rt; text.as_slice(), BOLD_STYLE_MARKS.as_bytes());
 
     let mut text = Vec::new(rt.alloc());
-    send_every_mark(&mut TagWriter::new(&mut text))?;
-    assert_eq!(rt; text.as_slice(), TAG_MARKS.as_bytes());
+    write_style_marks(&mut TagWriter::new(&mut text))?;
+    assert_eq!(rt; text.as_slice(), TAG_STYLE_MARKS.as_bytes());
     Ok(())
 }
 
@@ -99,10 +99,10 @@ fn coloured_header(rt: HostRuntime) -> Result<(), Fail> {
     put_all(&mut w, b": m")?;
     w.reset()?;
     put_all(&mut w, b"\n")?;
-    let want =
+    let expected =
         b"\x1b\x5b\x30\x6d\x1b\x5b\x31\x6d\x1b\x5b\x33\x38\x3b\x35\x3b\x39\x6d\x65\x72\x72\x6f\x72\
         \x1b\x5b\x30\x6d\x1b\x5b\x31\x6d\x3a\x20\x6d\x1b\x5b\x30\x6d\x0a";
-    assert_eq!(rt; text.as_slice(), want.as_slice());
+    assert_eq!(rt; text.as_slice(), expected.as_slice());
     Ok(())
 }
 
@@ -130,7 +130,7 @@ fn colors_in_both_planes(rt: HostRuntime) -> Result<(), Fail> {
         ),
         (None, None, true, "\x1b[0m"),
     ];
-    for (fg, bg, intense, want) in table {
+    for (fg, bg, intense, expected) in table {
         let mut text = Vec::new(rt.alloc());
         let spec = ColorSpec {
             fg,
@@ -139,22 +139,22 @@ fn colors_in_both_planes(rt: HostRuntime) -> Result<(), Fail> {
             ..ColorSpec::new()
         };
         Ansi::new(&mut text).set_color(&spec)?;
-        assert_eq!(rt; text.as_slice(), want.as_bytes(), "{want:?}");
+        assert_eq!(rt; text.as_slice(), expected.as_bytes(), "{expected:?}");
     }
     Ok(())
 }
 
 #[test]
 fn characters_and_numbers(rt: HostRuntime) -> Result<(), Fail> {
-    for (c, want) in [('a', "a"), ('é', "é"), ('─', "─"), ('🗻', "🗻")] {
+    for (c, expected) in [('a', "a"), ('é', "é"), ('─', "─"), ('🗻', "🗻")] {
         let mut w = PlainWriter::new(Vec::new(rt.alloc()));
         put_char(&mut w, c)?;
-        assert_eq!(rt; w.into_inner().as_slice(), want.as_bytes());
+        assert_eq!(rt; w.into_inner().as_slice(), expected.as_bytes());
 
         for count in [0, 1, 16, 21, 64, 65, 200] {
             let mut w = PlainWriter::new(Vec::new(rt.alloc()));
             put_repeated(&mut w, c, count)?;
-            let whole = want.repeat(rt.alloc(), count)?;
+            let whole = expected.repeat(rt.alloc(), count)?;
             assert_eq!(rt; w.into_inner().as_slice(), whole.as_bytes());
         }
     }
@@ -171,10 +171,10 @@ fn characters_and_numbers(rt: HostRuntime) -> Result<(), Fail> {
         (1024, "1024"),
         (usize::MAX, "18446744073709551615"),
     ];
-    for (number, want) in table {
+    for (number, expected) in table {
         let mut w = PlainWriter::new(Vec::new(rt.alloc()));
         put_number(&mut w, number)?;
-        assert_eq!(rt; w.into_inner().as_slice(), want.as_bytes());
+        assert_eq!(rt; w.into_inner().as_slice(), expected.as_bytes());
     }
     Ok(())
 }

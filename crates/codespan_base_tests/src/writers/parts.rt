@@ -11,7 +11,7 @@ use std::io;
 use std::test::Fail;
 
 /// A row with a part of each kind.
-fn send_row<W: WriteStyle>(w: &mut W) -> io::Result<()> {
+fn write_row<W: WriteStyle>(w: &mut W) -> io::Result<()> {
     put_number(w, 1024)?;
     put_all(w, "┌─".as_bytes())?;
     put_char(w, '·')?;
@@ -45,14 +45,14 @@ fn rows_over_writers_that_stop(rt: HostRuntime) -> Result<(), Fail> {
         for most in [1, 2, 5, 100] {
             for writes in 0..100 {
                 let mut inner = Stopping::new(rt.alloc(), most, writes, stop);
-                let result = send_row(&mut TagWriter::new(&mut inner));
+                let result = write_row(&mut TagWriter::new(&mut inner));
                 assert!(rt;
                     inner.is_right(result.is_ok(), TAG_ROW.as_bytes()),
                     "{stop:?} {most} {writes}"
                 );
 
                 let mut plain = PlainWriter::new(Stopping::new(rt.alloc(), most, writes, stop));
-                let result = send_row(&mut plain);
+                let result = write_row(&mut plain);
                 assert_eq!(rt; plain.has_failed(), result.is_err());
                 let inner = plain.into_inner();
                 assert!(rt;

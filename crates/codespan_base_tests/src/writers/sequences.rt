@@ -4,10 +4,10 @@ use codespan_base::files::Error;
 use std::alloc::Global;
 
 /// The bytes without the escape sequences among them, each of which ends with its first `m`.
-pub fn without_sequences(alloc: Global, coloured: &[u8]) -> Result<Vec<u8>, Error> {
+pub fn without_sequences(alloc: Global, colored: &[u8]) -> Result<Vec<u8>, Error> {
     let mut text = Vec::new(alloc);
     let mut is_sequence = false;
-    for byte in coloured {
+    for byte in colored {
         is_sequence = is_sequence || *byte == b'\x1b';
         if !is_sequence {
             text.push(*byte)?;

@@ -28,7 +28,7 @@ pub struct Stopping {
     most: usize,
     writes_left: usize,
     stop: Stop,
-    has_stopped: bool,
+    has_failed: bool,
     writes_after: usize,
 }
 
@@ -40,24 +40,24 @@ impl Stopping {
             most,
             writes_left: writes,
             stop,
-            has_stopped: false,
+            has_failed: false,
             writes_after: 0,
         }
     }
 
     /// Whether it has stopped.
-    pub fn has_stopped(&self) -> bool {
-        self.has_stopped
+    pub fn has_failed(&self) -> bool {
+        self.has_failed
     }
 
     /// Whether it holds what it should of the whole text: all of it, where it has not stopped, and
     /// else a beginning, and no write has followed the failed one.
     pub fn is_right(&self, succeeded: bool, whole: &[u8]) -> bool {
         let text = self.text.as_slice();
-        succeeded != self.has_stopped
+        succeeded != self.has_failed
             && self.writes_after == 0
             && whole.starts_with(text)
-            && (self.has_stopped || text.len() == whole.len())
+            && (self.has_failed || text.len() == whole.len())
     }
 
     /// Takes the first of these bytes, as many as it may.
@@ -72,7 +72,7 @@ impl Stopping {
 
 impl Write for Stopping {
     fn write(&mut self, buf: &[u8]) -> io::Result<usize> {
-        if self.has_stopped {
+        if self.has_failed {
             self.writes_after = self.writes_after.saturating_add(1);
         }
         if self.writes_left > 0 {
@@ -85,15 +85,15 @@ impl Write for Stopping {
                 self.take(buf, 1)
             }
             Stop::Fails => {
-                self.has_stopped = true;
+                self.has_failed = true;
                 Err(io::Error::from(ErrorKind::PermissionDenied))
             }
             Stop::IsInterrupted => {
-                self.has_stopped = true;
+                self.has_failed = true;
                 Err(io::Error::from(ErrorKind::Interrupted))
             }
             Stop::TakesNothing => {
-                self.has_stopped = true;
+                self.has_failed = true;
                 Ok(0)
             }
         }

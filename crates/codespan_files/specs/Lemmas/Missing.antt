@@ -36,12 +36,12 @@ missing_lawful = record {
 
 -- the files of a database are lawful, seen through a view of what it holds, and so is that of an id
 -- that names none
-pub table_lawful : {X Y : Type 0} (view : X → Y) (file : Y → FileModel) (xs : List X) (id : ℕ)
+pub database_lawful : {X Y : Type 0} (view : X → Y) (file : Y → FileModel) (xs : List X) (id : ℕ)
     → ((x : X) → IsLawful (file (view x)))
     → IsLawful (option_map_or file (slice_get (map view xs) id) missing_file)
-table_lawful view file [] id h = missing_lawful
-table_lawful view file (x ∷ xs) zero h = h x
-table_lawful view file (x ∷ xs) (suc id) h = table_lawful view file xs id h
+database_lawful view file [] id h = missing_lawful
+database_lawful view file (x ∷ xs) zero h = h x
+database_lawful view file (x ∷ xs) (suc id) h = database_lawful view file xs id h
 
 -- their errors past the last line are as the law has them
 pub past_end_or : {X : Type 0} (file : X → FileModel) (failure : X → Lookup → Option Error) (i : ℕ)

@@ -42,7 +42,7 @@ pub struct MappedFile<Name, Source: AsStr> {
 }
 
 impl<Name: Drop, Source: AsStr + Drop> MappedFile<Name, Source> {
-    ghost use Rattle.codespan_files.specs.FileTables.{mapped_name_of, mapped_source_of, settings_of};
+    ghost use Rattle.codespan_files.specs.DatabaseViews.{mapped_name_of, mapped_source_of, settings_of};
 
     /// Returns a database of this name and source, with no line number set.
     ///
@@ -67,7 +67,7 @@ impl<Name: Drop, Source: AsStr + Drop> MappedFile<Name, Source> {
 }
 
 impl<Name, Source: AsStr> MappedFile<Name, Source> {
-    ghost use Rattle.codespan_files.specs.FileTables.{mapped_name_of, mapped_source_of, mapped_text_of, settings_of};
+    ghost use Rattle.codespan_files.specs.DatabaseViews.{mapped_name_of, mapped_source_of, mapped_text_of, settings_of};
     ghost use Rattle.codespan_files.specs.LawfulFiles.{FailsBy};
     ghost use Rattle.codespan_files.specs.SimpleModel.{past_end};
     ghost use Rattle.codespan_files.specs.MappedModel.{setting, with_number};
@@ -135,7 +135,7 @@ impl<Name, Source: AsStr> MappedFile<Name, Source> {
 
 /// No call allocates. Names are borrowed, since the clone of a name need not display the same text.
 impl<'a, Name: Display + 'a, Source: AsStr + 'a> Files<'a> for MappedFile<Name, Source> {
-    ghost use Rattle.codespan_files.specs.FileTables.{mapped_error_of, mapped_file_of, mapped_name_of, mapped_text_of, settings_of};
+    ghost use Rattle.codespan_files.specs.DatabaseViews.{mapped_error_of, mapped_file_of, mapped_name_of, mapped_text_of, settings_of};
     ghost use Rattle.codespan_files.specs.SimpleModel.{past_end};
     ghost use Rattle.codespan_files.specs.MappedModel.{mapped_column, mapped_location, number_from, setting};
     ghost use Rattle.codespan_files.specs.FileModel.{line_of};
@@ -254,8 +254,9 @@ impl<'a, Name: Display + 'a, Source: AsStr + 'a> Files<'a> for MappedFile<Name, 
     /// Those of `line_number` of the byte's line.
     #[tactic(auto, using(crate::specs::Lemmas::Lines::line_of_below))]
     fn location(&'a self, id: (), byte_index: usize) -> Result<Location, Error>
-        ensures value { IfOk result (λ place.
-            place ≡ mapped_location (mapped_text_of self.now) (settings_of self.now) byte_index) }
+        ensures value { IfOk result (λ position.
+            position ≡ mapped_location (mapped_text_of self.now) (settings_of self.now)
+            byte_index) }
         ensures failed { FailsBy (mapped_error_of self.now (LocationAt byte_index)) result }
         ensures memory { NeedsNoMemory result }
     {

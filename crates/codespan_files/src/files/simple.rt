@@ -42,7 +42,7 @@ pub struct SimpleFile<Name, Source: AsStr> {
 }
 
 impl<Name: Drop, Source: AsStr + Drop> SimpleFile<Name, Source> {
-    ghost use Rattle.codespan_files.specs.FileTables.{name_of, source_of};
+    ghost use Rattle.codespan_files.specs.DatabaseViews.{name_of, source_of};
 
     /// Returns a database of this name and source.
     ///
@@ -65,7 +65,7 @@ impl<Name: Drop, Source: AsStr + Drop> SimpleFile<Name, Source> {
 }
 
 impl<Name, Source: AsStr> SimpleFile<Name, Source> {
-    ghost use Rattle.codespan_files.specs.FileTables.{name_of, source_of};
+    ghost use Rattle.codespan_files.specs.DatabaseViews.{name_of, source_of};
 
     /// Borrows the name.
     pub fn name(&self) -> &Name
@@ -84,7 +84,7 @@ impl<Name, Source: AsStr> SimpleFile<Name, Source> {
 
 /// No call allocates. Names are borrowed, since the clone of a name need not display the same text.
 impl<'a, Name: Display + 'a, Source: AsStr + 'a> Files<'a> for SimpleFile<Name, Source> {
-    ghost use Rattle.codespan_files.specs.FileTables.{file_of, name_of, text_of};
+    ghost use Rattle.codespan_files.specs.DatabaseViews.{file_of, name_of, text_of};
     ghost use Rattle.codespan_files.specs.SimpleModel.{simple_failure, simple_column, simple_location, past_end};
     ghost use Rattle.codespan_files.specs.FileModel.{line_of};
     ghost use Rattle.codespan_files.specs.LawfulFiles.{IsLineRange, NeedsNoMemory, FailsBy, line_number_failure};

@@ -11,7 +11,7 @@ pub struct LineStarts<'a> {
     // The byte index from which the next newline is searched.
     at: usize,
     // Whether the first start has been returned.
-    begun: bool,
+    started: bool,
     ghost within: { at ≤ length source.now },
 }
 
@@ -27,7 +27,7 @@ impl<'a> LineStarts<'a> {
         LineStarts {
             source,
             at: 0,
-            begun: false,
+            started: false,
         }
     }
 }
@@ -45,8 +45,8 @@ impl<'a> Iterator for LineStarts<'a> {
 
     #[tactic(auto, using(crate::specs::Lemmas::Lines::starts_steps))]
     fn next(&mut self) -> Option<usize> {
-        if !self.begun {
-            self.begun = true;
+        if !self.started {
+            self.started = true;
             return Some(0);
         }
         let bytes = self.source.as_bytes();

@@ -2,9 +2,9 @@
 
 ghost use Rattle.std.specs.Prelude.{◌≡◌};
 ghost use Rattle.std.specs.Char.{InScalarRange};
-ghost use Rattle.codespan_base.specs.Lookalikes.{IsChars};
-ghost use Rattle.codespan_native.specs.Meaning.{chars_of, own_chars};
-ghost use Rattle.codespan_native.specs.ValidParts.{AreOwnChars, AreValidChars};
+ghost use Rattle.codespan_base.specs.ConfigEquality.{IsChars};
+ghost use Rattle.codespan_native.specs.Meaning.{chars_of, custom_chars};
+ghost use Rattle.codespan_native.specs.ValidParts.{AreCustomChars, AreValidChars};
 
 use crate::convert::text::text_of;
 use crate::raw::{RawChars, RawConfig};
@@ -18,14 +18,14 @@ pub fn convert_chars<'a>(raw: &RawConfig<'a>) -> Chars<'a>
     match raw.characters {
         0 => Chars::box_drawing(),
         1 => Chars::ascii(),
-        _ => own_chars(&raw.chars),
+        _ => custom_chars(&raw.chars),
     }
 }
 
 /// Returns the caller's characters.
-fn own_chars<'a>(raw: &RawChars<'a>) -> Chars<'a>
-    requires { AreOwnChars raw.now }
-    ensures { IsChars (own_chars raw.now) result }
+fn custom_chars<'a>(raw: &RawChars<'a>) -> Chars<'a>
+    requires { AreCustomChars raw.now }
+    ensures { IsChars (custom_chars raw.now) result }
 {
     Chars {
         snippet_start: SnippetStart::Fixed(text_of(raw.snippet_start)),

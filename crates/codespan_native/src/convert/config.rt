@@ -1,7 +1,7 @@
 //! The configuration.
 
 ghost use Rattle.std.specs.Prelude.{◌≡◌};
-ghost use Rattle.codespan_base.specs.Lookalikes.{IsConfig};
+ghost use Rattle.codespan_base.specs.ConfigEquality.{IsConfig};
 ghost use Rattle.codespan_native.specs.Meaning.{config_of, display_style_of, layout_of, spelling_of};
 ghost use Rattle.codespan_native.specs.Spellings.{spelling_by_kind};
 ghost use Rattle.codespan_native.specs.ValidParts.{AreValidChars};
@@ -19,7 +19,7 @@ pub enum Spelling {
     /// As the escape sequences of these styles.
     Ansi(Styles),
     /// In band, as the byte 255 and the number of the mark.
-    Marked,
+    StyleMarks,
 }
 
 /// How a diagnostic is rendered.
@@ -89,6 +89,6 @@ fn spelling_of(raw: &RawConfig<'_>) -> Spelling
         0 => Spelling::Plain,
         1 => Spelling::Ansi(Styles::default()),
         2 => Spelling::Ansi(convert_styles(&raw.styles)),
-        _ => Spelling::Marked,
+        _ => Spelling::StyleMarks,
     }
 }

@@ -1,14 +1,14 @@
 //! The caller's styles.
 
 ghost use Rattle.std.specs.Prelude.{◌≡◌};
-ghost use Rattle.codespan_native.specs.Meaning.{color_of, color_spec_of, own_styles};
+ghost use Rattle.codespan_native.specs.Meaning.{color_of, color_spec_of, custom_styles};
 
 use crate::raw::{RawColorSpec, RawStyles};
 use codespan_reporting::term::{Color, ColorSpec, Styles};
 
 /// Returns the caller's styles.
 pub fn convert_styles(raw: &RawStyles) -> Styles
-    ensures { result ≡ own_styles raw.now }
+    ensures { result ≡ custom_styles raw.now }
 {
     Styles {
         header_bug: color_spec_of(&raw.header_bug),

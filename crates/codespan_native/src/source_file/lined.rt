@@ -4,7 +4,7 @@ ghost use Rattle.std.specs.Prelude.{◌≡◌, ◌^◌, ◌<◌, true, length, I
 ghost use Rattle.std.specs.Str.{IsUtf8};
 ghost use Rattle.codespan_base.specs.FileModel.{line_of};
 ghost use Rattle.codespan_base.specs.LawfulFiles.{FailsBy};
-ghost use Rattle.codespan_native.specs.GivenLines.{are_lines};
+ghost use Rattle.codespan_native.specs.StatedLines.{are_lines};
 ghost use Rattle.codespan_native.specs.SourceTexts.{IsRangeIn, lined_text, past_last};
 
 use crate::raw::RawLine;

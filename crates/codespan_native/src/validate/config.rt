@@ -9,17 +9,17 @@ use crate::raw::{RawChars, RawColorSpec, RawConfig, RawStyles};
 use crate::validate::values::{is_character, is_color_spec, is_text};
 
 /// The choice of the caller's characters.
-const OWN_CHARACTERS: u32 = 2;
+const CUSTOM_CHARACTERS: u32 = 2;
 
 /// The spelling in the caller's styles.
-const OWN_STYLES: u32 = 2;
+const CUSTOM_STYLES: u32 = 2;
 
 /// Tests whether the caller's text before a locus is UTF-8, where it is chosen.
 pub fn has_snippet_start(config: &RawConfig<'_>) -> bool
     ensures { IsTrue result
         ↔ (config.now.characters ≡ 2 → IsUtf8 config.now.chars.snippet_start.now) }
 {
-    config.characters != OWN_CHARACTERS || is_text(config.chars.snippet_start)
+    config.characters != CUSTOM_CHARACTERS || is_text(config.chars.snippet_start)
 }
 
 /// Returns the index of the first of the caller's characters that is none, where they are chosen.
@@ -27,7 +27,7 @@ pub fn character_index(config: &RawConfig<'_>) -> Option<usize>
     ensures { FindsInvalid (λ i. config.now.characters ≡ 2
         → HoldsIfAt InScalarRange (codes_of config.now.chars) i) result }
 {
-    if config.characters != OWN_CHARACTERS {
+    if config.characters != CUSTOM_CHARACTERS {
         return None;
     }
     code_index(&codes_of(&config.chars))
@@ -39,7 +39,7 @@ pub fn color_index(config: &RawConfig<'_>) -> Option<usize>
     ensures { FindsInvalid (λ i. config.now.spelling ≡ 2
         → HoldsIfAt IsColorSpec (color_specs_of config.now.styles) i) result }
 {
-    if config.spelling != OWN_STYLES {
+    if config.spelling != CUSTOM_STYLES {
         return None;
     }
     color_spec_index(&color_specs_of(&config.styles))

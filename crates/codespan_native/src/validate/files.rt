@@ -2,7 +2,7 @@
 
 ghost use Rattle.std.specs.Prelude.{◌≡◌, IsTrue, ◌↔◌};
 ghost use Rattle.codespan_base.specs.Lines.{is_char_boundary};
-ghost use Rattle.codespan_native.specs.GivenLines.{are_lines, ascends};
+ghost use Rattle.codespan_native.specs.StatedLines.{are_lines, ascends};
 ghost use Rattle.codespan_native.specs.Validity.{FindsWithout, HasTextName, HasTextSource, HasValidLines, HasValidLoci};
 
 use crate::raw::{RawFile, RawLine, RawLocus};
@@ -38,7 +38,7 @@ pub fn loci_index(files: &[RawFile<'_>]) -> Option<usize>
         .position(|file| !ascend(file.first_byte, file.loci))
 }
 
-/// Tests whether a file gives no lines, or lines of its source.
+/// Tests whether a file states no lines, or lines of its source.
 fn has_valid_lines(file: &RawFile<'_>) -> bool
     ensures { IsTrue result ↔ HasValidLines file.now }
 {

@@ -1,12 +1,12 @@
 //! The rows of a rendered diagnostic: [`Renderer`] has a call for each kind.
 
 ghost use Rattle.std.specs.Prelude.{◌≡◌};
-ghost use Rattle.codespan_picture.specs.Given.{lanes_in_order};
+ghost use Rattle.codespan_picture.specs.Arguments.{lanes_in_order};
 
-pub mod by_cells;
+pub mod cached;
 mod carets;
-mod cells;
 mod char_cursor;
+mod char_metrics;
 mod header;
 mod lanes;
 mod line;
@@ -15,7 +15,7 @@ mod messages;
 mod notes;
 mod parts;
 mod pointers;
-mod primary_marks;
+mod primary_lane_marks;
 mod row_writer;
 mod runs;
 mod scanned_line;
@@ -26,9 +26,9 @@ mod write_style;
 use codespan_base::diagnostic::{LabelStyle, Severity};
 use codespan_base::files::Error;
 use codespan_base::term::{Config, WriteStyle};
-pub use codespan_picture::given::{Locus, MultiLabel, SingleLabel};
+pub use codespan_picture::arguments::{Locus, MultiLabel, SingleLabel};
 use header::{write_header, write_start};
-use line::Look;
+use line::RowContext;
 pub use line::{Lanes, Line};
 use notes::{write_break, write_empty, write_note};
 pub use parts::count_digits;
@@ -76,8 +76,8 @@ pub struct Renderer<'writer, 'config, W> {
 impl<'writer, 'config, W: WriteStyle> Renderer<'writer, 'config, W> {
     ghost use Rattle.std.specs.Prelude.{◌≡◌, IsTrue};
     ghost use Rattle.codespan_base.specs.Streams.{newline};
-    ghost use Rattle.codespan_renderer.specs.Inner.GivenLine.{look_view};
-    ghost use Rattle.codespan_picture.specs.Picture.{look_of};
+    ghost use Rattle.codespan_renderer.specs.Private.LineViews.{context_view};
+    ghost use Rattle.codespan_picture.specs.Picture.{context_of};
     ghost use Rattle.codespan_renderer.specs.Renderers.{writer_of, reference_of, config_of, Renders};
     ghost use Rattle.codespan_renderer.specs.Renderers.{rendered_header, rendered_start, rendered_empty};
     ghost use Rattle.codespan_renderer.specs.Renderers.{rendered_break, rendered_note};
@@ -100,11 +100,11 @@ impl<'writer, 'config, W: WriteStyle> Renderer<'writer, 'config, W> {
     }
 
     /// Returns what all rows of one call share.
-    fn look(&self, severity: Severity, padding: usize) -> Look<'config>
-        ensures { look_view result ≡ look_of (config_of self.now) severity padding }
+    fn context(&self, severity: Severity, padding: usize) -> RowContext<'config>
+        ensures { context_view result ≡ context_of (config_of self.now) severity padding }
     {
         let config = self.config;
-        Look {
+        RowContext {
             chars: &config.chars,
             tab_width: config.tab_width,
             layout: config.layout,
@@ -194,14 +194,14 @@ impl<'writer, 'config, W: WriteStyle> Renderer<'writer, 'config, W> {
             marks: multi_labels,
         };
         let line = Line::new(line_number, source, single_labels, lanes);
-        let look = self.look(severity, outer_padding);
+        let context = self.context(severity, outer_padding);
         let scanned = ScannedLine {
-            tab_width: look.tab_width,
+            tab_width: context.tab_width,
             text: line.text,
             labels: single_labels,
         };
         let mut rows = RowWriter::new(self.writer, &self.saved);
-        let written = write_line(&mut rows, look, line, &scanned);
+        let written = write_line(&mut rows, context, line, &scanned);
         with_error(written, &self.saved)
     }
 
@@ -223,13 +223,13 @@ impl<'writer, 'config, W: WriteStyle> Renderer<'writer, 'config, W> {
         ensures { Renders W.sink (rendered_empty (config_of self.old) severity outer_padding
             num_multi_labels multi_labels.now) self.old result self.new }
     {
-        let look = self.look(severity, outer_padding);
+        let context = self.context(severity, outer_padding);
         let lanes = Lanes {
             count: num_multi_labels,
             marks: multi_labels,
         };
         let mut rows = RowWriter::new(self.writer, &self.saved);
-        let written = write_empty(&mut rows, look, lanes);
+        let written = write_empty(&mut rows, context, lanes);
         with_error(written, &self.saved)
     }
 
@@ -252,13 +252,13 @@ impl<'writer, 'config, W: WriteStyle> Renderer<'writer, 'config, W> {
         ensures { Renders W.sink (rendered_break (config_of self.old) severity outer_padding
             num_multi_labels multi_labels.now) self.old result self.new }
     {
-        let look = self.look(severity, outer_padding);
+        let context = self.context(severity, outer_padding);
         let lanes = Lanes {
             count: num_multi_labels,
             marks: multi_labels,
         };
         let mut rows = RowWriter::new(self.writer, &self.saved);
-        let written = write_break(&mut rows, look, lanes);
+        let written = write_break(&mut rows, context, lanes);
         with_error(written, &self.saved)
     }
 

@@ -5,32 +5,32 @@ use Rattle.std.specs.List.{AllByRecursion}
 use Rattle.codespan_picture.specs.Types.{Config}
 use Rattle.codespan_base.specs.FileModel.{FileModel, Lookup}
 use Rattle.codespan_base.specs.LawfulFiles.{IsLineRange}
-use Rattle.codespan_base.specs.Labels.{Labelled, MultiLabel, Top, Left, Bottom, from_line_start, mark_of, part_at}
+use Rattle.codespan_base.specs.Labels.{LabelModel, MultiLabel, Top, Left, Bottom, from_line_start, lane_mark_of, part_at}
 use Rattle.codespan_picture.specs.Picture.{label_of}
 use Rattle.codespan_reporting.specs.declared.term.views.annotation.Annotation.{Annotation as RustAnnotation}
 use Rattle.codespan_reporting.specs.declared.term.views.annotation.MultiPart.{MultiPart}
 use Rattle.codespan_reporting.specs.declared.term.views.annotation.MultiPart.TheVariants as part
 use Rattle.codespan_reporting.specs.declared.term.views.annotation.AnnotationKind.{AnnotationKind as RustKind}
-use Rattle.codespan_reporting.specs.declared.term.views.annotation.AnnotationKind.TheVariants as given
+use Rattle.codespan_reporting.specs.declared.term.views.annotation.AnnotationKind.TheVariants as rust
 use Rattle.codespan_reporting.specs.declared.term.views.annotation.LineInfo.{LineInfo}
 use Rattle.codespan_reporting.specs.declared.term.views.collect.label_annotations.LabelIndices.{LabelIndices}
 use Rattle.codespan_reporting.specs.Inner.Annotations.{Annotation, AnnotationKind, Shown, Single, Multi, line_annotations}
 use Rattle.codespan_picture.specs.Lines.{shows}
-use Rattle.codespan_picture.specs.Lookups.{is_asked, of_line}
+use Rattle.codespan_picture.specs.Lookups.{is_looked_up, line_lookups}
 use Rattle.codespan_reporting.specs.Inner.IndexedLabels.{IsIdAt}
 
 -- the part of a multi-line label on a line that starts at this byte index
-abbrev pub part_from : ℕ → Labelled → MultiPart → MultiLabel
+abbrev pub part_from : ℕ → LabelModel → MultiPart → MultiLabel
 part_from start x part.Top = Top (x.start - start)
 part_from start x part.Left = Left
 part_from start x part.Bottom = Bottom (x.end - start) x.message
 
 -- what a label does on a line that starts at this byte index
 abbrev pub kind_view : {Id : Type 0} → ℕ → RustKind Id → AnnotationKind
-kind_view start given.Shown = Shown
-kind_view start (given.Single index label) =
+kind_view start rust.Shown = Shown
+kind_view start (rust.Single index label) =
     Single index (from_line_start start (label_of label.now).label)
-kind_view start (given.Multi part lane label) =
+kind_view start (rust.Multi part lane label) =
     Multi (record {
       lane = lane;
       style = label.now.style;
@@ -60,7 +60,7 @@ pub record Adds {Id : Type 0} (P : RustAnnotation Id → Type 0) (old new : List
     (annotations : List Annotation) : Type 0 where
   pub more : List (RustAnnotation Id)
   pub whole : new ≡ old ++ more
-  pub say : map annotation_view more ≡ annotations
+  pub are : map annotation_view more ≡ annotations
   pub each : AllByRecursion P more
 
 -- annotations of lines of this file were appended
@@ -69,7 +69,7 @@ abbrev pub AddsOf : {Id : Type 0} → FileModel → List (RustAnnotation Id) →
 AddsOf f old new annotations = Adds (λ e. IsLineOf f e.line) old new annotations
 
 -- what a label from line `s` to line `e` does on line `l`, which starts at this byte index
-abbrev pub kind_at : Config → LabelIndices → ℕ → ℕ → ℕ → ℕ → Labelled → Option AnnotationKind
+abbrev pub kind_at : Config → LabelIndices → ℕ → ℕ → ℕ → ℕ → LabelModel → Option AnnotationKind
 kind_at config at s e l start x =
     if (s == e) && (s == l) then Some (Single at.index (from_line_start start x))
     else if shows config s e l then Some Shown else None
@@ -85,15 +85,15 @@ part_of s e l =
     else None
 
 -- such a part in its lane, where the line starts at this byte index
-abbrev pub multi_at : LabelIndices → ℕ → ℕ → ℕ → ℕ → Labelled → Option AnnotationKind
+abbrev pub multi_at : LabelIndices → ℕ → ℕ → ℕ → ℕ → LabelModel → Option AnnotationKind
 multi_at at s e l start x =
-    if s == e then None else option_map Multi (mark_of at.lane x (part_at s e l start x))
+    if s == e then None else option_map Multi (lane_mark_of at.lane x (part_at s e l start x))
 
-module _ (config : Config) (f : FileModel) (x : Labelled) where
+module _ (config : Config) (f : FileModel) (x : LabelModel) where
   -- the lookups of a line, where the label has it looked up
   abbrev pub lookups_on : ℕ → List Lookup
-  lookups_on l = if is_asked config f x l then of_line l else []
+  lookups_on l = if is_looked_up config f x l then line_lookups l else []
 
   -- the annotations of such a line
   abbrev pub annotations_on : LabelIndices → ℕ → List Annotation
-  annotations_on at l = if is_asked config f x l then line_annotations config f at x l else []
+  annotations_on at l = if is_looked_up config f x l then line_annotations config f at x l else []

@@ -5,17 +5,17 @@ use Rattle.std.specs.Ordering.{is_lt, nat_cmp, ordering_then}
 use Rattle.std.specs.declared.cmp.Ordering.{Ordering}
 use Rattle.codespan_picture.specs.Types.{Config}
 use Rattle.codespan_base.specs.FileModel.{FileModel}
-use Rattle.codespan_base.specs.Labels.{Labelled, LaneMark, first_line, last_line, is_single, drawn_label, mark_of, part_on}
+use Rattle.codespan_base.specs.Labels.{LabelModel, LaneMark, first_line, last_line, is_single, drawn_label, lane_mark_of, part_on}
 use Rattle.codespan_picture.specs.Lines.{shows}
-use Rattle.codespan_picture.specs.Lookups.{asked_lines}
+use Rattle.codespan_picture.specs.Lookups.{looked_up_lines}
 use Rattle.codespan_reporting.specs.declared.term.views.collect.label_annotations.LabelIndices.{LabelIndices}
 
 -- a label makes the line shown, or is a single-line label on it, or is a multi-line label that has
 -- a part on it
 pub data AnnotationKind : Type 0 where
   Shown : AnnotationKind
-  Single : (index : ℕ) (label : Labelled) → AnnotationKind
-  Multi : (mark : LaneMark) → AnnotationKind
+  Single : (index : ℕ) (label : LabelModel) → AnnotationKind
+  Multi : (lane_mark : LaneMark) → AnnotationKind
 
 -- an annotation of a line; the file by its index among those of the output
 pub record Annotation : Type 0 where
@@ -29,25 +29,25 @@ pub record Annotation : Type 0 where
 abbrev pub rank_of : AnnotationKind → ℕ
 rank_of Shown = 0
 rank_of (Single index label) = 1
-rank_of (Multi mark) = 2
+rank_of (Multi lane_mark) = 2
 
 -- the start of a single-line label, and the lane of a multi-line one
 abbrev pub first_of : AnnotationKind → ℕ
 first_of Shown = 0
 first_of (Single index label) = label.start
-first_of (Multi mark) = mark.lane
+first_of (Multi lane_mark) = lane_mark.lane
 
 -- the end of a single-line label
 abbrev pub second_of : AnnotationKind → ℕ
 second_of Shown = 0
 second_of (Single index label) = label.end
-second_of (Multi mark) = 0
+second_of (Multi lane_mark) = 0
 
 -- the index of a single-line label in the diagnostic's list
 abbrev pub index_in_list : AnnotationKind → ℕ
 index_in_list Shown = 0
 index_in_list (Single index label) = index
-index_in_list (Multi mark) = 0
+index_in_list (Multi lane_mark) = 0
 
 -- by kind; single-line labels by their ranges, of equal ranges the greater index first; parts of
 -- multi-line labels by their lanes
@@ -89,7 +89,7 @@ abbrev pub annotation_if_any : ℕ → ℕ → Option AnnotationKind → List An
 annotation_if_any file l None = []
 annotation_if_any file l (Some kind) = record { file = file; line = l; kind = kind } ∷ []
 
-module _ (config : Config) (f : FileModel) (at : LabelIndices) (x : Labelled) where
+module _ (config : Config) (f : FileModel) (at : LabelIndices) (x : LabelModel) where
   -- what it does on a line, its part of a multi-line label aside
   abbrev pub kind_on : ℕ → Option AnnotationKind
   kind_on l =
@@ -99,7 +99,7 @@ module _ (config : Config) (f : FileModel) (at : LabelIndices) (x : Labelled) wh
   -- its part on a line, where it is a multi-line label
   abbrev pub multi_on : ℕ → Option AnnotationKind
   multi_on l =
-      if is_single f x then None else option_map Multi (mark_of at.lane x (part_on f l x))
+      if is_single f x then None else option_map Multi (lane_mark_of at.lane x (part_on f l x))
 
   -- its annotations of a line
   abbrev pub line_annotations : ℕ → List Annotation
@@ -108,4 +108,4 @@ module _ (config : Config) (f : FileModel) (at : LabelIndices) (x : Labelled) wh
 
   -- its annotations of all lines that it has looked up
   abbrev pub annotations_of : List Annotation
-  annotations_of = flat_map line_annotations (asked_lines config f x)
+  annotations_of = flat_map line_annotations (looked_up_lines config f x)

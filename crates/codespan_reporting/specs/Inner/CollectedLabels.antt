@@ -2,8 +2,8 @@
 use Rattle.std.specs.Prelude.{◌≡◌, ℕ, ◌<◌, Bool, true, false, List, ◌++◌, flat_map, fold, max, Option, Some, IfOk, Result}
 use Rattle.codespan_picture.specs.Types.{Label, Error, Config}
 use Rattle.codespan_base.specs.FileModel.{FileDatabase, FileModel, line_count, Lookup}
-use Rattle.codespan_base.specs.Labels.{Labelled}
-use Rattle.codespan_picture.specs.Lookups.{Failures, asked_lines, asked_of, first_error, is_asked, label_lookups, of_label, of_line, lookup_past_end}
+use Rattle.codespan_base.specs.Labels.{LabelModel}
+use Rattle.codespan_picture.specs.Lookups.{Failures, looked_up_lines, lookups_of_file, first_error, is_looked_up, label_lookups, label_line_lookups, line_lookups, lookup_past_end}
 use Rattle.codespan_picture.specs.Picture.{label_of}
 use Rattle.codespan_picture.specs.Snippets.{InFile}
 use Rattle.codespan_reporting.specs.declared.term.views.annotation.Annotation.{Annotation as RustAnnotation}
@@ -21,7 +21,7 @@ use Rattle.codespan_reporting.specs.Inner.SpannedDigits.{digits_on, label_digits
 abbrev pub lookups_of_label : {Id : Type 0} → Config → FileDatabase Id → InFile Id
     → List (Id × Lookup)
 lookups_of_label config table x =
-    asked_of x.id (of_label config (table.file x.id) (table.failure x.id) x.label)
+    lookups_of_file x.id (label_line_lookups config (table.file x.id) (table.failure x.id) x.label)
 
 -- what the lookups of these labels fail with
 abbrev pub labels_failure : {Id : Type 0} → Config → FileDatabase Id → List (InFile Id)
@@ -36,7 +36,7 @@ pub record CollectedLabel (Id : Type 0) : Type 0 where
   pub failure : Failures Id
   pub config : Config
   pub at : LabelIndices
-  pub label : Labelled
+  pub label : LabelModel
 
 -- a label of the files of a database
 abbrev pub collected_label : {Id : Type 0} → FileDatabase Id → Config → LabelIndices → Label Id
@@ -66,12 +66,12 @@ module _ {Id : Type 0} (x : CollectedLabel Id) where
   -- ---- one line
 
   -- it has the line looked up
-  abbrev pub LooksUp : ℕ → Type 0
-  LooksUp l = is_asked x.config x.file x.label l ≡ true
+  abbrev pub IsLookedUp : ℕ → Type 0
+  IsLookedUp l = is_looked_up x.config x.file x.label l ≡ true
 
   -- the file has the line, where it is looked up
-  abbrev pub HasLookedUpLine : ℕ → Type 0
-  HasLookedUpLine l = LooksUp l → l < line_count x.file
+  abbrev pub HasLineLookedUp : ℕ → Type 0
+  HasLineLookedUp l = IsLookedUp l → l < line_count x.file
 
   -- its annotations of a line were appended
   abbrev pub AddsLine : List (RustAnnotation Id) → List (RustAnnotation Id) → ℕ → Type 0
@@ -84,8 +84,9 @@ module _ {Id : Type 0} (x : CollectedLabel Id) where
       (annotations_on x.config x.file x.label x.at l)
 
   -- the padding has grown as far as the number of a line needs, where it spans the line
-  abbrev pub MakesRoomForLine : FoundAnnotations Id → FoundAnnotations Id → ℕ → Type 0
-  MakesRoomForLine old new l = new.padding.digits ≡ fold max old.padding.digits (digits_on x.file x.label l)
+  abbrev pub ExtendsPaddingForLine : FoundAnnotations Id → FoundAnnotations Id → ℕ → Type 0
+  ExtendsPaddingForLine old new l =
+      new.padding.digits ≡ fold max old.padding.digits (digits_on x.file x.label l)
 
   -- what the lookups of a line fail with, where it is looked up
   abbrev pub failure_on : ℕ → Option Error
@@ -100,19 +101,21 @@ module _ {Id : Type 0} (x : CollectedLabel Id) where
       (annotations_of x.config x.file x.at x.label)
 
   -- the padding has grown as far as the numbers of the lines that it spans need
-  abbrev pub MakesRoom : FoundAnnotations Id → FoundAnnotations Id → Type 0
-  MakesRoom old new = new.padding.digits ≡ fold max old.padding.digits (label_digits x.file x.label)
+  abbrev pub ExtendsPadding : FoundAnnotations Id → FoundAnnotations Id → Type 0
+  ExtendsPadding old new =
+      new.padding.digits ≡ fold max old.padding.digits (label_digits x.file x.label)
 
   -- what the lookups of its lines fail with
   abbrev pub lines_failure : Option Error
   lines_failure =
       failure_in x.failure x.id
-      (flat_map of_line (asked_lines x.config x.file x.label)
+      (flat_map line_lookups (looked_up_lines x.config x.file x.label)
       ++ lookup_past_end x.config x.file (x.failure x.id) x.label)
 
   -- what its lookups fail with, those of the lines of its ends first
   abbrev pub label_failure : Option Error
-  label_failure = failure_in x.failure x.id (of_label x.config x.file (x.failure x.id) x.label)
+  label_failure =
+      failure_in x.failure x.id (label_line_lookups x.config x.file (x.failure x.id) x.label)
 
 -- where the call returns that the context goes on
 abbrev pub IfOn : Result Bool Error → Type 0 → Type 0
@@ -143,5 +146,5 @@ multi_by collector label line =
 abbrev pub FailsLine : {F Id Name Source : Type 0} → (F → FileDatabase Id)
     → LabelCollector F Id Name Source → Label Id → ℕ → Error → Type 0
 FailsLine table collector label l e =
-    LooksUp (label_collected table collector label) l
+    IsLookedUp (label_collected table collector label) l
     × (failure_unless_past_end table collector.file collector.lines.last l ≡ Some e)

@@ -2,11 +2,11 @@
 use Rattle.std.specs.Prelude.{List, Option, ◌≡◌, ◌≢◌, Some, None, Result, MatchResult}
 use Rattle.codespan_picture.specs.Types.{Error, FormatError, OutOfMemory}
 use Rattle.codespan_base.specs.FileModel.{Lookup}
-use Rattle.codespan_picture.specs.Lookups.{Failures, asked_of, first_error}
+use Rattle.codespan_picture.specs.Lookups.{Failures, lookups_of_file, first_error}
 
 -- the error of the first of these lookups of a file that fails
 abbrev pub failure_in : {Id : Type 0} → Failures Id → Id → List Lookup → Option Error
-failure_in failure id lookups = first_error failure (asked_of id lookups)
+failure_in failure id lookups = first_error failure (lookups_of_file id lookups)
 
 -- the result of lookups: an error is the first of theirs, `OutOfMemory`, or `FormatError` where the
 -- `Display` of a name fails

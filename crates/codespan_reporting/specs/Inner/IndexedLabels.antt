@@ -5,7 +5,7 @@ use Rattle.codespan_picture.specs.Types.{Config}
 use Rattle.codespan_base.specs.FileModel.{FileModel}
 use Rattle.codespan_reporting.specs.declared.term.views.collect.label_annotations.LabelIndices.{LabelIndices}
 use Rattle.codespan_reporting.specs.Inner.Annotations.{Annotation, annotations_of}
-use Rattle.codespan_picture.specs.Snippets.{InFile, file_ids, labelled_file, lane_count}
+use Rattle.codespan_picture.specs.Snippets.{InFile, file_ids, labeled_file_model, lane_count}
 
 -- the id at index f
 abbrev pub IsIdAt : {Id : Type 0} → List Id → ℕ → Id → Type 0
@@ -29,7 +29,7 @@ module _ {Id : Type 0} (same : Id → Id → Bool) where
     indices_after ids before x = record {
       file = index_of_file ids x.id;
       index = length before;
-      lane = lane_count (labelled_file same file before x.id);
+      lane = lane_count (labeled_file_model same file before x.id);
     }
 
     -- the annotations of these labels, after those before them

@@ -2,8 +2,8 @@
 use Rattle.std.specs.Prelude.{◌≡◌, ◌==◌, ℕ, ◌+◌, Bool, List, [], ◌∷◌, ◌++◌, if◌then◌else◌, map, slice_index_or, slice_set}
 use Rattle.std.specs.List.{list_any}
 use Rattle.codespan_base.specs.FileModel.{FileModel}
-use Rattle.codespan_base.specs.Labels.{Labelled}
-use Rattle.codespan_picture.specs.Snippets.{InFile, labelled_file, lane_count}
+use Rattle.codespan_base.specs.Labels.{LabelModel}
+use Rattle.codespan_picture.specs.Snippets.{InFile, labeled_file_model, lane_count}
 use Rattle.codespan_reporting.specs.declared.term.views.collect.labeled_files.LabeledFile.{LabeledFile as RustFile}
 use Rattle.codespan_reporting.specs.declared.term.views.collect.label_span.LabelSpan.{LabelSpan}
 use Rattle.codespan_reporting.specs.declared.term.views.file_start.FileStart.{FileStart}
@@ -26,7 +26,7 @@ lanes_view {Id} files = map (λ (f : RustFile Id). f.lane_count) files
 -- how many lanes the file of an id has for these labels
 abbrev pub lanes_in : {Id : Type 0} → (Id → Id → Bool) → (Id → FileModel) → List (InFile Id) → Id
     → ℕ
-lanes_in same file xs id = lane_count (labelled_file same file xs id)
+lanes_in same file xs id = lane_count (labeled_file_model same file xs id)
 
 -- the start and the lanes of the file are those of these labels
 pub record HasLabels {Id : Type 0} (same : Id → Id → Bool) (file : Id → FileModel)
@@ -48,7 +48,7 @@ abbrev pub lanes_by : LabelSpan → ℕ
 lanes_by lines = if lines.first == lines.last then 0 else 1
 
 -- where snippets start, with one more label of the file at this index
-abbrev pub starts_with_label : List FileStart → ℕ → Labelled → List FileStart
+abbrev pub starts_with_label : List FileStart → ℕ → LabelModel → List FileStart
 starts_with_label starts index x =
     slice_set starts index (start_with (slice_index_or starts index no_start) x)
 

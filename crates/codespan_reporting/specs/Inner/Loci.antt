@@ -2,8 +2,8 @@
 use Rattle.std.specs.Prelude.{ℕ, Bool, true, false, not, ◌&&◌, ◌||◌, min, List, [], ◌∷◌, map, flat_map, filter, fold, if◌then◌else◌, Option, Some, None, unwrap_or}
 use Rattle.codespan_base.specs.FileModel.{Lookup}
 use Rattle.codespan_base.specs.FileModel.Lookup.{LocationAt, Name}
-use Rattle.codespan_base.specs.Labels.{Labelled, is_primary}
-use Rattle.codespan_picture.specs.Lookups.{asked_of}
+use Rattle.codespan_base.specs.Labels.{LabelModel, is_primary}
+use Rattle.codespan_picture.specs.Lookups.{lookups_of_file}
 use Rattle.codespan_picture.specs.Snippets.{InFile}
 use Rattle.codespan_reporting.specs.declared.term.views.collect.labeled_files.LabeledFile.{LabeledFile as RustFile}
 use Rattle.codespan_reporting.specs.declared.term.views.file_start.FileStart.{FileStart}
@@ -13,14 +13,14 @@ abbrev pub least_if_any : List ℕ → Option ℕ
 least_if_any [] = None
 least_if_any (n ∷ ns) = Some (fold min n ns)
 
--- the label is of the file, and primary if only primary ones are wanted
-abbrev pub is_wanted_label : {Id : Type 0} → (Id → Id → Bool) → Id → Bool → InFile Id → Bool
-is_wanted_label same id only_primary x = same id x.id && (not only_primary || is_primary x.label)
+-- the label is of the file, and primary if only primary ones count
+abbrev pub is_locus_label : {Id : Type 0} → (Id → Id → Bool) → Id → Bool → InFile Id → Bool
+is_locus_label same id only_primary x = same id x.id && (not only_primary || is_primary x.label)
 
 -- the starts of the labels of a file, or of its primary ones alone
 abbrev pub label_starts : {Id : Type 0} → (Id → Id → Bool) → Id → Bool → List (InFile Id) → List ℕ
 label_starts {Id} same id only_primary xs =
-    map (λ (x : InFile Id). x.label.start) (filter (is_wanted_label same id only_primary) xs)
+    map (λ (x : InFile Id). x.label.start) (filter (is_locus_label same id only_primary) xs)
 
 -- where the snippet of a file starts, by these labels
 abbrev pub file_start : {Id : Type 0} → (Id → Id → Bool) → List (InFile Id) → Id → FileStart
@@ -39,7 +39,7 @@ abbrev pub no_start : FileStart
 no_start = record { primary = None; any = None }
 
 -- where it starts with one label more
-abbrev pub start_with : FileStart → Labelled → FileStart
+abbrev pub start_with : FileStart → LabelModel → FileStart
 start_with s x = record {
   primary = if is_primary x then Some (least_with s.primary x.start) else s.primary;
   any = Some (least_with s.any x.start);
@@ -51,7 +51,7 @@ start_byte s = unwrap_or s.primary (unwrap_or s.any 0)
 
 -- the lookups of the locus at which a file's snippet starts
 abbrev pub locus_lookups_of : {Id : Type 0} → RustFile Id → List (Id × Lookup)
-locus_lookups_of f = asked_of f.id (Name ∷ LocationAt (start_byte f.start) ∷ [])
+locus_lookups_of f = lookups_of_file f.id (Name ∷ LocationAt (start_byte f.start) ∷ [])
 
 -- those of all files
 abbrev pub loci_lookups : {Id : Type 0} → List (RustFile Id) → List (Id × Lookup)

@@ -16,11 +16,11 @@ WrotePrefix old items new =
     (new.frame ≡ failing old.frame) × (is_known old ≡ true → PrefixWritten old items new)
 
 -- a lookup or an allocation failed after a prefix of the stream
-pub record EndedWithLookups (failed : Option Error) (old : Sink) (items : Stream) (error : Error)
+pub record FailedWithLookups (failed : Option Error) (old : Sink) (items : Stream) (error : Error)
     (new : Sink) : Type 0 where
   pub frame : new.frame ≡ old.frame
-  pub begun : is_known old ≡ true → PrefixWritten old items new
-  pub told : error ≢ OutOfMemory → failed ≡ Some error
+  pub prefix : is_known old ≡ true → PrefixWritten old items new
+  pub error_is : error ≢ OutOfMemory → failed ≡ Some error
 
 -- the call writes the stream and makes lookups on the way, the first error of which is `failed`
 abbrev pub WritesWithLookups : Option Error → Sink → Stream → Result (Unit {0}) Error → Sink
@@ -28,4 +28,4 @@ abbrev pub WritesWithLookups : Option Error → Sink → Stream → Result (Unit
 WritesWithLookups failed old items r new =
     MatchResult r
     (λ _. (failed ≡ None) × WroteStream old items new)
-    (λ e. (IsIo e × WrotePrefix old items new) ⊎ EndedWithLookups failed old items e new)
+    (λ e. (IsIo e × WrotePrefix old items new) ⊎ FailedWithLookups failed old items e new)

@@ -5,12 +5,12 @@ use Rattle.std.specs.List.{AllByRecursion}
 use Rattle.std.specs.List.Sorted.{IsPermutation, IsSortedBy}
 use Rattle.codespan_picture.specs.Types.{Error, Config}
 use Rattle.codespan_base.specs.FileModel.{Lookup}
-use Rattle.codespan_picture.specs.Given.{locus_view}
+use Rattle.codespan_picture.specs.Arguments.{locus_view}
 use Rattle.codespan_picture.specs.Lines.{drawn_lines}
-use Rattle.codespan_picture.specs.Lookups.{asked_of, filled_lines, first_error, locus_lookups, numbers_for_padding, of_filled}
+use Rattle.codespan_picture.specs.Lookups.{lookups_of_file, filled_lines, first_error, locus_lookups, numbers_for_padding, filled_line_lookups}
 use Rattle.codespan_picture.specs.Padding.{padding_of}
 use Rattle.codespan_picture.specs.Rows.{Locus}
-use Rattle.codespan_picture.specs.Snippets.{InFile, LabelledFile, labelled_file, labelled_files, lane_count, rows_after, file_ids}
+use Rattle.codespan_picture.specs.Snippets.{InFile, LabeledFileModel, labeled_file_model, labeled_file_models, lane_count, rows_after, file_ids}
 use Rattle.codespan_reporting.specs.declared.term.views.collect.Collected.{Collected}
 use Rattle.codespan_reporting.specs.declared.term.views.plan.OutputPlan.{OutputPlan}
 use Rattle.codespan_reporting.specs.declared.term.views.plan.snippet_plans.SnippetPlan.{SnippetPlan}
@@ -36,7 +36,7 @@ ids_of {Id} files = map (λ (f : SnippetPlan Id). f.file.now.id) files
 
 -- the plan is that of a file with its labels: its lanes, its locus, the rows of its lines, and
 -- their lookups
-pub record IsSnippetPlan {Id : Type 0} (config : Config) (s : LabelledFile) (f : SnippetPlan Id)
+pub record IsSnippetPlan {Id : Type 0} (config : Config) (s : LabeledFileModel) (f : SnippetPlan Id)
     (own : List (RustLine Id)) : Type 0 where
   pub lanes_are : f.file.now.lane_count ≡ lane_count s
   pub index : IsLocusOfFile s (locus_view f.locus)
@@ -45,13 +45,14 @@ pub record IsSnippetPlan {Id : Type 0} (config : Config) (s : LabelledFile) (f :
   pub fits : DoFit (lane_count s) (map line_view own)
   pub rows : rows_of_lines s.file (lane_count s) (map line_view own)
       ≡ rows_after s None (drawn_lines config s.file s.labels)
-  pub asked : lookups_of_lines own ≡ flat_map (of_filled config.layout) (filled_lines config s)
+  pub lookups : lookups_of_lines own ≡ flat_map (filled_line_lookups config.layout)
+      (filled_lines config s)
 
 module _ {Id : Type 0} (table : FileDatabase Id) where
   -- the files of these labels were collected, and the padding width of the classic layout
   pub record AreFilesCollected (xs : List (InFile Id)) (collected : Collected Id) : Type 0 where
     pub ids_are : ids_view collected.files.items ≡ file_ids table.same xs
-    pub told : AllByRecursion (HasLabels table.same table.file xs) collected.files.items
+    pub labels_are : AllByRecursion (HasLabels table.same table.file xs) collected.files.items
     pub padding_is : collected.padding ≡ fold max 0 (all_digits table.file xs)
 
   -- this was collected of these labels, one after another
@@ -78,7 +79,7 @@ module _ {Id : Type 0} (table : FileDatabase Id) where
       → Type 0
   AreSnippetPlans config xs [] snippet_lines = Unit {0}
   AreSnippetPlans config xs (f ∷ fs) snippet_lines =
-      IsSnippetPlan config (labelled_file table.same table.file xs f.file.now.id) f
+      IsSnippetPlan config (labeled_file_model table.same table.file xs f.file.now.id) f
       (take f.line_total snippet_lines)
       × AreSnippetPlans config xs fs (drop f.line_total snippet_lines)
 
@@ -89,14 +90,14 @@ module _ {Id : Type 0} (table : FileDatabase Id) where
     pub files_are : AreSnippetPlans config xs output_plan.files.items
         output_plan.snippet_lines.items
     pub padding_is : output_plan.padding
-        ≡ padding_of config (labelled_files table.same table.file xs)
+        ≡ padding_of config (labeled_file_models table.same table.file xs)
 
 -- the lookups of the numbers of filled lines, where they are made before the header
 abbrev pub padding_lookups : {Id : Type 0} → Config → FileDatabase Id → List (InFile Id)
     → List (Id × Lookup)
 padding_lookups config table xs =
     flat_map
-    (λ id. asked_of id
+    (λ id. lookups_of_file id
     (numbers_for_padding table xs config config.layout id))
     (file_ids table.same xs)
 
@@ -104,7 +105,7 @@ padding_lookups config table xs =
 abbrev pub file_locus_lookups : {Id : Type 0} → FileDatabase Id → List (InFile Id)
     → List (Id × Lookup)
 file_locus_lookups table xs =
-    flat_map (λ id. asked_of id (locus_lookups table xs id))
+    flat_map (λ id. lookups_of_file id (locus_lookups table xs id))
     (file_ids table.same xs)
 
 -- both, which come after those of its labels

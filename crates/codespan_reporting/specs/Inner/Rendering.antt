@@ -2,8 +2,8 @@
 use Rattle.std.specs.Prelude.{ℕ, List, Option, Result}
 use Rattle.codespan_picture.specs.Types.{Severity, Error}
 use Rattle.codespan_base.specs.Streams.{Stream}
-use Rattle.codespan_base.specs.WriterLaw.{Sends, Sink}
-use Rattle.codespan_picture.specs.Picture.{look_of}
+use Rattle.codespan_base.specs.WriterLaw.{Writes, Sink}
+use Rattle.codespan_picture.specs.Picture.{context_of}
 use Rattle.codespan_picture.specs.Rows.{Row}
 use Rattle.codespan_picture.specs.RowStreams.{stream_of_rows}
 use Rattle.codespan_renderer.specs.declared.term.renderer.Renderer.{Renderer}
@@ -13,14 +13,14 @@ use Rattle.codespan_reporting.specs.Inner.LookupsOnTheWay.{WritesWithLookups}
 module _ {W : Type 0} (sink : W → Sink) where
   -- the call writes this stream
   abbrev pub WritesStream : Stream → Renderer W → Result (Unit {0}) Error → Renderer W → Type 0
-  WritesStream items old r new = Sends (sink (writer_of old)) items r (sink (writer_of new))
+  WritesStream items old r new = Writes (sink (writer_of old)) items r (sink (writer_of new))
 
   -- the call writes these rows
   abbrev pub RendersRows : Severity → ℕ → List Row → Renderer W → Result (Unit {0}) Error
       → Renderer W
       → Type 0
   RendersRows severity padding rows old =
-      WritesStream (stream_of_rows (look_of (config_of old) severity padding) rows) old
+      WritesStream (stream_of_rows (context_of (config_of old) severity padding) rows) old
 
   -- the call writes these rows and makes lookups on the way, the first error of which is
   -- `failed`
@@ -28,4 +28,4 @@ module _ {W : Type 0} (sink : W → Sink) where
       → Result (Unit {0}) Error → Renderer W → Type 0
   RendersRowsWithLookups failed severity padding rows old r new =
       WritesWithLookups failed (sink (writer_of old))
-      (stream_of_rows (look_of (config_of old) severity padding) rows) r (sink (writer_of new))
+      (stream_of_rows (context_of (config_of old) severity padding) rows) r (sink (writer_of new))

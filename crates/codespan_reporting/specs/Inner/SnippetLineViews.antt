@@ -7,7 +7,7 @@ use Rattle.codespan_base.specs.FileModel.Lookup.{LineNumber, LineRange}
 use Rattle.codespan_reporting.specs.declared.term.views.plan.snippet_lines.Gap.{Gap}
 use Rattle.codespan_reporting.specs.declared.term.views.plan.snippet_lines.Gap.TheVariants.{Nothing, Line, Lines}
 use Rattle.codespan_reporting.specs.declared.term.views.plan.snippet_lines.SnippetLine.{SnippetLine as RustLine}
-use Rattle.codespan_reporting.specs.declared.term.views.plan.snippet_lines.SnippetLine.TheVariants as given
+use Rattle.codespan_reporting.specs.declared.term.views.plan.snippet_lines.SnippetLine.TheVariants as rust
 use Rattle.codespan_reporting.specs.Inner.AnnotationViews.{IsLineOf, annotation_view}
 use Rattle.codespan_reporting.specs.Inner.Annotations.{Annotation}
 use Rattle.codespan_reporting.specs.Inner.SnippetLines.{SnippetLine, Labeled, Filled, Break, lines_between}
@@ -15,11 +15,11 @@ use Rattle.codespan_picture.specs.Sequences.{before_line}
 
 -- a line of a snippet
 abbrev pub line_view : {Id : Type 0} → RustLine Id → SnippetLine
-line_view (given.Labeled line annotations) = Labeled line.index
+line_view (rust.Labeled line annotations) = Labeled line.index
     (map annotation_view annotations.now)
-line_view (given.Filled index number annotations) = Filled index
+line_view (rust.Filled index number annotations) = Filled index
     (map annotation_view annotations.now)
-line_view (given.Break next) = Break (map annotation_view next.now)
+line_view (rust.Break next) = Break (map annotation_view next.now)
 
 -- what is in a gap before a line with these annotations, where the line between has those
 abbrev pub gap_lines : List Annotation → List Annotation → Gap → List SnippetLine
@@ -53,9 +53,9 @@ lookups_of_filled number l = LineRange l ∷ number_lookup number l
 
 -- the lookups when a line is rendered
 abbrev pub lookups_of_line : {Id : Type 0} → RustLine Id → List Lookup
-lookups_of_line (given.Labeled line annotations) = []
-lookups_of_line (given.Filled index number annotations) = lookups_of_filled number index
-lookups_of_line (given.Break next) = []
+lookups_of_line (rust.Labeled line annotations) = []
+lookups_of_line (rust.Filled index number annotations) = lookups_of_filled number index
+lookups_of_line (rust.Break next) = []
 
 -- those when lines are rendered
 abbrev pub lookups_of_lines : {Id : Type 0} → List (RustLine Id) → List Lookup
@@ -64,17 +64,17 @@ lookups_of_lines snippet_lines = flat_map lookups_of_line snippet_lines
 -- the line is one of the file's snippet: its lookups gave it, and a known number is that of the
 -- line
 abbrev pub IsSnippetLineOf : {Id : Type 0} → FileModel → RustLine Id → Type 0
-IsSnippetLineOf f (given.Labeled line annotations) = IsLineOf f line
-IsSnippetLineOf f (given.Filled index number annotations) = IfSome number
+IsSnippetLineOf f (rust.Labeled line annotations) = IsLineOf f line
+IsSnippetLineOf f (rust.Filled index number annotations) = IfSome number
     (λ known. known ≡ f.number index)
-IsSnippetLineOf f (given.Break next) = Unit {0}
+IsSnippetLineOf f (rust.Break next) = Unit {0}
 
 -- and its number is known as the layout has it
 abbrev pub IsSnippetLineIn : {Id : Type 0} → Layout → FileModel → RustLine Id → Type 0
-IsSnippetLineIn layout f (given.Labeled line annotations) = IsLineOf f line
-IsSnippetLineIn layout f (given.Filled index number annotations) =
+IsSnippetLineIn layout f (rust.Labeled line annotations) = IsLineOf f line
+IsSnippetLineIn layout f (rust.Filled index number annotations) =
     number ≡ known_number layout (f.number index)
-IsSnippetLineIn layout f (given.Break next) = Unit {0}
+IsSnippetLineIn layout f (rust.Break next) = Unit {0}
 
 -- these lines of the file's snippet were appended
 pub record AddsLines {Id : Type 0} (layout : Layout) (f : FileModel) (old new : List (RustLine Id))

@@ -2,12 +2,12 @@
 use Rattle.std.specs.Prelude.{ℕ, Bool, false, ◌==◌, ◌&&◌, List, [], ◌∷◌, ◌++◌, flat_map, Option, Some, None, if◌then◌else◌}
 use Rattle.std.specs.List.{filter_map}
 use Rattle.codespan_base.specs.FileModel.{FileModel, line_text}
-use Rattle.codespan_base.specs.Labels.{Labelled, LaneMark}
-use Rattle.codespan_picture.specs.Cells.{drawn_text}
-use Rattle.codespan_picture.specs.Given.{ascend_from}
+use Rattle.codespan_base.specs.Labels.{LabelModel, LaneMark}
+use Rattle.codespan_picture.specs.CharMetrics.{drawn_text}
+use Rattle.codespan_picture.specs.Arguments.{ascend_from}
 use Rattle.codespan_picture.specs.Rows.{Lanes, Line, Row, BreakRow, rows_of}
 use Rattle.codespan_picture.specs.Sequences.{before_line, gap_between}
-use Rattle.codespan_renderer.specs.Inner.Sweeps.{starts_in_order}
+use Rattle.codespan_renderer.specs.Private.LabelCursors.{starts_in_order}
 use Rattle.codespan_reporting.specs.Inner.Annotations.{Annotation, AnnotationKind, Shown, Single, Multi, shows_line}
 
 -- a shown line with its annotations, the one line between two shown ones with its annotations, or a
@@ -69,36 +69,36 @@ lines_of es = lines_from None [] (groups es)
 -- ---- the rows of lines
 
 -- the label of an annotation, where it is a single-line label
-abbrev pub single_of : AnnotationKind → Option Labelled
-single_of Shown = None
-single_of (Single index x) = Some x
-single_of (Multi mark) = None
+abbrev pub single_label_of : AnnotationKind → Option LabelModel
+single_label_of Shown = None
+single_label_of (Single index x) = Some x
+single_label_of (Multi lane_mark) = None
 
 -- the single-line labels
-abbrev pub singles_in : List Annotation → List Labelled
-singles_in es = filter_map (λ (e : Annotation). single_of e.kind) es
+abbrev pub single_labels_in : List Annotation → List LabelModel
+single_labels_in es = filter_map (λ (e : Annotation). single_label_of e.kind) es
 
 -- the lane mark of an annotation, where it is a part of a multi-line label
-abbrev pub mark_in : AnnotationKind → Option LaneMark
-mark_in Shown = None
-mark_in (Single index x) = None
-mark_in (Multi mark) = Some mark
+abbrev pub lane_mark_in : AnnotationKind → Option LaneMark
+lane_mark_in Shown = None
+lane_mark_in (Single index x) = None
+lane_mark_in (Multi lane_mark) = Some lane_mark
 
 -- the lane marks
-abbrev pub marks_in : List Annotation → List LaneMark
-marks_in es = filter_map (λ (e : Annotation). mark_in e.kind) es
+abbrev pub lane_marks_in : List Annotation → List LaneMark
+lane_marks_in es = filter_map (λ (e : Annotation). lane_mark_in e.kind) es
 
 module _ (f : FileModel) (count : ℕ) where
   -- so many lanes, with the lane marks of these annotations
   abbrev pub lanes_with : List Annotation → Lanes
-  lanes_with es = record { count = count; marks = marks_in es }
+  lanes_with es = record { count = count; marks = lane_marks_in es }
 
   -- a line of the file with these annotations
   abbrev pub line_of_group : ℕ → List Annotation → Line
   line_of_group l es = record {
     number = f.number l;
     text = drawn_text (line_text f l);
-    labels = singles_in es;
+    labels = single_labels_in es;
     lanes = lanes_with es;
   }
 
@@ -127,15 +127,15 @@ fills_of snippet_lines = flat_map fill_of snippet_lines
 -- ---- labels in order
 
 -- the lane marks of these annotations ascend in so many lanes
-abbrev pub do_marks_fit : ℕ → List Annotation → Bool
-do_marks_fit count es = ascend_from count 0 (marks_in es)
+abbrev pub do_lane_marks_fit : ℕ → List Annotation → Bool
+do_lane_marks_fit count es = ascend_from count 0 (lane_marks_in es)
 
 -- and the single-line labels are in the order of their starts
 abbrev pub do_annotations_fit : ℕ → List Annotation → Bool
-do_annotations_fit count es = starts_in_order (singles_in es) && do_marks_fit count es
+do_annotations_fit count es = starts_in_order (single_labels_in es) && do_lane_marks_fit count es
 
 -- so are those of a line of a snippet
 abbrev pub does_line_fit : ℕ → SnippetLine → Bool
 does_line_fit count (Labeled l es) = do_annotations_fit count es
 does_line_fit count (Filled l es) = do_annotations_fit count es
-does_line_fit count (Break es) = do_marks_fit count es
+does_line_fit count (Break es) = do_lane_marks_fit count es

@@ -3,14 +3,14 @@ use Rattle.std.specs.Prelude.{◌≡◌, ℕ, ◌+◌, List, [], ◌∷◌, ◌+
 use Rattle.std.specs.List.{AllByRecursion}
 use Rattle.codespan_picture.specs.Types.{Error, Layout}
 use Rattle.codespan_base.specs.FileModel.{FileModel, Lookup}
-use Rattle.codespan_picture.specs.Given.{locus_view}
-use Rattle.codespan_picture.specs.Lookups.{Failures, asked_of, first_error}
+use Rattle.codespan_picture.specs.Arguments.{locus_view}
+use Rattle.codespan_picture.specs.Lookups.{Failures, lookups_of_file, first_error}
 use Rattle.codespan_picture.specs.Padding.{digit_count}
 use Rattle.codespan_reporting.specs.declared.term.views.collect.labeled_files.LabeledFile.{LabeledFile as RustFile}
 use Rattle.codespan_reporting.specs.declared.term.views.collect.Collected.{Collected}
 use Rattle.codespan_reporting.specs.declared.term.views.plan.snippet_plans.SnippetPlan.{SnippetPlan}
 use Rattle.codespan_reporting.specs.declared.term.views.plan.snippet_lines.SnippetLine.{SnippetLine as RustLine}
-use Rattle.codespan_reporting.specs.declared.term.views.plan.snippet_lines.SnippetLine.TheVariants as given
+use Rattle.codespan_reporting.specs.declared.term.views.plan.snippet_lines.SnippetLine.TheVariants as rust
 use Rattle.codespan_reporting.specs.Inner.Annotations.{Annotation, is_of_file}
 use Rattle.codespan_reporting.specs.Inner.AnnotationViews.{annotation_view}
 use Rattle.codespan_reporting.specs.Inner.SnippetLineViews.{IsSnippetLineIn, numbers_looked_up, line_view}
@@ -25,13 +25,14 @@ lines_at es k = lines_of (filter (is_of_file k) es)
 
 -- the images of the ids, each with its index, which is counted from k on
 abbrev pub by_index : {Id A : Type 0} → (ℕ → Id → List A) → ℕ → List Id → List A
-by_index give k [] = []
-by_index give k (id ∷ ids) = give k id ++ by_index give (k + 1) ids
+by_index image k [] = []
+by_index image k (id ∷ ids) = image k id ++ by_index image (k + 1) ids
 
 -- the lookups of the numbers of lines that are filled in
 abbrev pub number_lookups : {Id : Type 0} → Layout → List Annotation → List Id → List (Id × Lookup)
 number_lookups layout es ids =
-    by_index (λ k id. asked_of id (numbers_looked_up layout (fills_of (lines_at es k)))) 0 ids
+    by_index (λ k id. lookups_of_file id (numbers_looked_up layout (fills_of (lines_at es k)))) 0
+    ids
 
 module _ {Id : Type 0} (layout : Layout) (file : Id → FileModel) (es : List Annotation) where
   -- the plan is that of this file, which is at an index: its locus and its lines
@@ -74,7 +75,7 @@ plans_failure layout failure collected = first_error failure (plan_lookups layou
 
 -- the digits of the known number of a line
 abbrev pub line_digits : {Id : Type 0} → RustLine Id → List ℕ
-line_digits (given.Labeled line annotations) = digit_count line.number ∷ []
-line_digits (given.Filled index (Some number) annotations) = digit_count number ∷ []
-line_digits (given.Filled index None annotations) = []
-line_digits (given.Break next) = []
+line_digits (rust.Labeled line annotations) = digit_count line.number ∷ []
+line_digits (rust.Filled index (Some number) annotations) = digit_count number ∷ []
+line_digits (rust.Filled index None annotations) = []
+line_digits (rust.Break next) = []

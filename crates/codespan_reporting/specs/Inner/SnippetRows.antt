@@ -4,7 +4,7 @@ use Rattle.codespan_picture.specs.Types.{Error}
 use Rattle.codespan_base.specs.FileModel.{FileDatabase, FileModel, Lookup}
 use Rattle.codespan_base.specs.FileModel.Lookup.{Source}
 use Rattle.codespan_base.specs.WriterLaw.{Sink}
-use Rattle.codespan_picture.specs.Given.{locus_view}
+use Rattle.codespan_picture.specs.Arguments.{locus_view}
 use Rattle.codespan_picture.specs.Rows.{Row, StartRow, EmptyRow}
 use Rattle.codespan_renderer.specs.declared.term.renderer.Renderer.{Renderer}
 use Rattle.codespan_reporting.specs.declared.term.views.snippet.lines.SnippetContext.{SnippetContext}

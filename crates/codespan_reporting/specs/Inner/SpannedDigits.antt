@@ -3,16 +3,16 @@
 use Rattle.std.specs.Prelude.{ℕ, List, [], ◌∷◌, flat_map, if◌then◌else◌}
 use Rattle.std.specs.List.{range_with_len}
 use Rattle.codespan_base.specs.FileModel.{FileModel, line_count}
-use Rattle.codespan_base.specs.Labels.{Labelled}
+use Rattle.codespan_base.specs.Labels.{LabelModel}
 use Rattle.codespan_picture.specs.Padding.{digit_count, spans}
 use Rattle.codespan_picture.specs.Snippets.{InFile}
 
 -- those of a line's number, where the label spans it
-abbrev pub digits_on : FileModel → Labelled → ℕ → List ℕ
+abbrev pub digits_on : FileModel → LabelModel → ℕ → List ℕ
 digits_on f x l = if spans f x l then digit_count (f.number l) ∷ [] else []
 
 -- those of all lines of a label
-abbrev pub label_digits : FileModel → Labelled → List ℕ
+abbrev pub label_digits : FileModel → LabelModel → List ℕ
 label_digits f x = flat_map (digits_on f x) (range_with_len 0 (line_count f))
 
 -- those of all labels

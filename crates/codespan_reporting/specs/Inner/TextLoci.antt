@@ -4,7 +4,7 @@ use Rattle.std.specs.Str.{IsUtf8}
 use Rattle.codespan_base.specs.FileModel.{FileModel}
 use Rattle.codespan_picture.specs.Picture.{IsLocus, label_start, snippet_start}
 use Rattle.codespan_picture.specs.Rows.{Locus}
-use Rattle.codespan_picture.specs.Snippets.{InFile, LabelledFile}
+use Rattle.codespan_picture.specs.Snippets.{InFile, LabeledFileModel}
 
 -- the locus of a byte index of a file, whose name is UTF-8
 pub record IsTextLocus (at : FileModel × ℕ) (locus : Locus) : Type 0 where
@@ -12,7 +12,7 @@ pub record IsTextLocus (at : FileModel × ℕ) (locus : Locus) : Type 0 where
   pub is_text : IsUtf8 locus.name
 
 -- that of a file's snippet
-abbrev pub IsLocusOfFile : LabelledFile → Locus → Type 0
+abbrev pub IsLocusOfFile : LabeledFileModel → Locus → Type 0
 IsLocusOfFile s locus = IsTextLocus (snippet_start s) locus
 
 -- that of a label's header

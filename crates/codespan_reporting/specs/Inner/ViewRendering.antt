@@ -4,11 +4,11 @@ use Rattle.codespan_picture.specs.Types.{Diagnostic, Error, Config, DisplayStyle
 use Rattle.codespan_base.specs.Streams.{Stream, newline}
 use Rattle.codespan_base.specs.WriterLaw.{Sink}
 use Rattle.codespan_picture.specs.Lookups.{first_error, late_lookups}
-use Rattle.codespan_picture.specs.Picture.{heading_of, labels_of, look_of, notes_of}
+use Rattle.codespan_picture.specs.Picture.{heading_of, labels_of, context_of, notes_of}
 use Rattle.codespan_picture.specs.Snippets.{snippets}
 use Rattle.codespan_picture.specs.Rows.{BlankRow, Locus, Row}
 use Rattle.codespan_picture.specs.RowStreams.{header_row, stream_of_rows}
-use Rattle.codespan_picture.specs.Snippets.{InFile, has_any, labelled_files, note_rows, primary_of}
+use Rattle.codespan_picture.specs.Snippets.{InFile, has_any, labeled_file_models, note_rows, primary_of}
 use Rattle.codespan_renderer.specs.declared.term.renderer.Renderer.{Renderer}
 use Rattle.codespan_renderer.specs.Renderers.{config_of, writer_of}
 use Rattle.codespan_reporting.specs.declared.term.views.rich.RichDiagnostic.{RichDiagnostic}
@@ -35,7 +35,7 @@ module _ {Id : Type 0} (d : Diagnostic Id) where
   abbrev pub output_without_labels : Config → Stream
   output_without_labels config =
       header_row d.severity None (heading_of d) ++ newline
-      ++ stream_of_rows (look_of config d.severity 0) closing_rows
+      ++ stream_of_rows (context_of config d.severity 0) closing_rows
 
 -- ---- calls
 
@@ -76,4 +76,4 @@ module _ {W Id : Type 0} (sink : W → Sink) (table : FileDatabase Id) where
         let d = diagnostic_of view in
         RendersRowsWithLookups sink snippets_failure d.severity output_plan.padding
         (snippets (view_config_of view) (has_any (notes_of d)) (loci_of output_plan.files.items)
-        (labelled_files table.same table.file (labels_of d)))
+        (labeled_file_models table.same table.file (labels_of d)))

@@ -2,7 +2,7 @@
 
 ghost use Rattle.std.specs.Prelude.{string_bytes};
 ghost use Rattle.codespan_reporting.specs.Output.{Appends, Emits};
-ghost use Rattle.codespan_reporting.specs.WriteCalls.{WritesStyled, Writes};
+ghost use Rattle.codespan_reporting.specs.WriteCalls.{WritesStyled, WritesText};
 
 use crate::term::characters::are_characters;
 use crate::term::renderer::Renderer;
@@ -66,8 +66,8 @@ pub fn emit_into_string<'files, F: Files<'files>>(
     are_characters(&config.chars);
     let bytes = Vec::with_capacity(*diagnostic.labels.allocator(), INITIAL_CAPACITY)?;
     let mut plain = PlainWriter::new(bytes);
-    let drawn = emit_to_write_style(&mut plain, config, files, diagnostic);
-    match drawn {
+    let rendered = emit_to_write_style(&mut plain, config, files, diagnostic);
+    match rendered {
         // SAFETY: an output is UTF-8: its characters are Unicode scalar values, its texts are
         // UTF-8, and a line is cut at character boundaries only. The condition of the call is
         // proved from `codespan_reporting::laws::outputs_are_texts`.
@@ -88,11 +88,11 @@ pub fn emit_into_string<'files, F: Files<'files>>(
 ///
 /// # Example
 ///
-/// The test `bare_bug` of `crates/codespan_tests` has this code, where `held` is a `&str`, and
+/// The test `bare_bug` of `crates/codespan_tests` has this code, where `prefix` is a `&str`, and
 /// `docs/USING.md` a proved caller.
 ///
 /// ```rust
-/// let mut string = held.to_string(alloc)?;
+/// let mut string = prefix.to_string(alloc)?;
 /// emit_to_string(&mut string, &config, &files, &bug)?;
 /// ```
 pub fn emit_to_string<'files, F: Files<'files>>(
@@ -145,7 +145,7 @@ pub fn emit_to_io_write<'files, F: Files<'files>, W: Write>(
     files: &'files F,
     diagnostic: &Diagnostic<F::FileId>,
 ) -> Result<(), Error>
-    ensures { Writes config.now (F.database files.now) diagnostic.now
+    ensures { WritesText config.now (F.database files.now) diagnostic.now
         (W.contents writer.old) result (W.contents writer.new) }
 {
     let mut plain = PlainWriterRef::new(writer);
@@ -204,7 +204,7 @@ pub fn emit<'files, F: Files<'files>, W: Write>(
     files: &'files F,
     diagnostic: &Diagnostic<F::FileId>,
 ) -> Result<(), Error>
-    ensures { Writes config.now (F.database files.now) diagnostic.now
+    ensures { WritesText config.now (F.database files.now) diagnostic.now
         (W.contents writer.old) result (W.contents writer.new) }
 {
     emit_to_io_write(writer, config, files, diagnostic)

@@ -1,6 +1,6 @@
 //! Which calls flush.
 
-use crate::rows::draw_crossing;
+use crate::rows::render_crossing;
 use codespan_base::diagnostic::{LabelStyle, Severity};
 use codespan_base::files::{Error, Location};
 use codespan_base::term::{Config, PlainWriter, WriteStyle};
@@ -12,7 +12,7 @@ use std::process::Abort;
 use std::test::Fail;
 
 /// Renders rows by each call.
-fn draw_rows<W: WriteStyle>(
+fn render_rows<W: WriteStyle>(
     rt: &impl Abort,
     renderer: &mut Renderer<'_, '_, W>,
     locus: &Locus,
@@ -20,14 +20,14 @@ fn draw_rows<W: WriteStyle>(
     renderer.render_header(Some(locus), Severity::Error, Some("E0001"), "m")?;
     renderer.render_snippet_start(1, locus)?;
     renderer.render_snippet_empty(1, Severity::Error, 2, &[])?;
-    draw_crossing(rt, renderer)?;
+    render_crossing(rt, renderer)?;
     renderer.render_snippet_break(1, Severity::Error, 2, &[])?;
     renderer.render_snippet_note(1, "a\nb")?;
     renderer.render_empty()
 }
 
 /// Writes every style mark, and some text.
-fn send_marks<W: WriteStyle>(w: &mut W) -> io::Result<()> {
+fn set_styles<W: WriteStyle>(w: &mut W) -> io::Result<()> {
     w.set_header(Severity::Error)?;
     w.set_header_message()?;
     w.set_line_number()?;
@@ -52,8 +52,8 @@ fn only_flush_flushes(rt: HostRuntime) -> Result<(), Fail> {
     let mut inner = Counting::default();
     let mut plain = PlainWriter::new(&mut inner);
     let mut renderer = Renderer::new(&mut plain, &config);
-    draw_rows(&rt, &mut renderer, &locus)?;
-    send_marks(&mut renderer)?;
+    render_rows(&rt, &mut renderer, &locus)?;
+    set_styles(&mut renderer)?;
     renderer.flush()?;
     assert_eq!(rt; inner.flushes, 1);
     Ok(())

@@ -1,6 +1,6 @@
 //! Writers that take little at a time, or stop.
 
-use crate::rows::{COLOURED, Given, Rows, draw_on};
+use crate::rows::{COLORED, Given, Rows, render_on};
 use codespan_base::diagnostic::{LabelStyle, Severity};
 use codespan_base::files::Error;
 use codespan_base::term::{Ansi, Config, PlainWriter, Styles, StylesWriter};
@@ -17,12 +17,12 @@ pub fn assert_rows_stop<R: Rows>(
     alloc: Global,
     config: &Config<'_>,
     rows: &R,
-    want: &str,
+    expected: &str,
 ) -> Result<(), Error> {
     let styles = Styles::default();
-    let mut coloured = StylesWriter::new(Ansi::new(Vec::new(alloc)), &styles);
-    rows.draw(rt, &mut Renderer::new(&mut coloured, config))?;
-    let coloured = coloured.into_inner().into_inner();
+    let mut colored = StylesWriter::new(Ansi::new(Vec::new(alloc)), &styles);
+    rows.render(rt, &mut Renderer::new(&mut colored, config))?;
+    let colored = colored.into_inner().into_inner();
     for stop in [
         Stop::Fails,
         Stop::IsInterrupted,
@@ -31,20 +31,20 @@ pub fn assert_rows_stop<R: Rows>(
     ] {
         for writes in 0..ENOUGH {
             let mut plain = PlainWriter::new(Stopping::new(alloc, usize::MAX, writes, stop));
-            let answer = rows.draw(rt, &mut Renderer::new(&mut plain, config));
+            let answer = rows.render(rt, &mut Renderer::new(&mut plain, config));
             assert!(rt;
-                is_known(&plain.into_inner(), &answer, want.as_bytes()),
+                is_known(&plain.into_inner(), &answer, expected.as_bytes()),
                 "{stop:?} {writes}"
             );
             let inner = Stopping::new(alloc, usize::MAX, writes, stop);
             let mut w = StylesWriter::new(Ansi::new(inner), &styles);
-            let answer = rows.draw(rt, &mut Renderer::new(&mut w, config));
+            let answer = rows.render(rt, &mut Renderer::new(&mut w, config));
             let inner = w.into_inner().into_inner();
             assert!(rt;
-                is_known(&inner, &answer, coloured.as_slice()),
+                is_known(&inner, &answer, colored.as_slice()),
                 "{stop:?} {writes}"
             );
-            if !inner.has_stopped() {
+            if !inner.has_failed() {
                 break;
             }
         }
@@ -55,7 +55,7 @@ pub fn assert_rows_stop<R: Rows>(
 /// Returns whether a call failed exactly where its writer stopped, and the writer has what it
 /// should of the whole text.
 fn is_known(inner: &Stopping, answer: &Result<(), Error>, whole: &[u8]) -> bool {
-    is_failed(answer) == Some(inner.has_stopped()) && inner.is_right(answer.is_ok(), whole)
+    is_failed(answer) == Some(inner.has_failed()) && inner.is_right(answer.is_ok(), whole)
 }
 
 /// The rows of `coloured_label` without their colors.
@@ -72,7 +72,7 @@ fn writers_that_stop(rt: HostRuntime) -> Result<(), Fail> {
     for most in [1, 3, 100] {
         for writes in 0..100 {
             let mut plain = PlainWriter::new(Stopping::new(rt.alloc(), most, writes, Stop::Fails));
-            let answer = draw_on(&rt, &mut plain, given);
+            let answer = render_on(&rt, &mut plain, given);
             assert!(rt;
                 is_known(&plain.into_inner(), &answer, PLAIN.as_bytes()),
                 "{most} {writes}"
@@ -80,9 +80,9 @@ fn writers_that_stop(rt: HostRuntime) -> Result<(), Fail> {
 
             let mut inner = Stopping::new(rt.alloc(), most, writes, Stop::Fails);
             let mut w = StylesWriter::new(Ansi::new(&mut inner), &styles);
-            let answer = draw_on(&rt, &mut w, given);
+            let answer = render_on(&rt, &mut w, given);
             assert!(rt;
-                is_known(&inner, &answer, COLOURED.as_bytes()),
+                is_known(&inner, &answer, COLORED.as_bytes()),
                 "{most} {writes}"
             );
         }
@@ -94,12 +94,12 @@ fn writers_that_stop(rt: HostRuntime) -> Result<(), Fail> {
 fn endless_padding(rt: HostRuntime) -> Result<(), Fail> {
     let config = Config::default();
     let marks: [(usize, LabelStyle, MultiLabel<'_>); 0] = [];
-    for (padding, lanes, want) in [(usize::MAX, 0, "          "), (0, usize::MAX, " │      ")] {
+    for (padding, lanes, expected) in [(usize::MAX, 0, "          "), (0, usize::MAX, " │      ")] {
         let mut plain = PlainWriter::new(Stopping::new(rt.alloc(), 1, 10, Stop::Fails));
         let mut renderer = Renderer::new(&mut plain, &config);
         let result = renderer.render_snippet_empty(padding, Severity::Error, lanes, &marks);
         assert!(rt; matches!(result, Err(Error::Io(_))));
-        assert_eq!(rt; plain.into_inner().text.as_slice(), want.as_bytes());
+        assert_eq!(rt; plain.into_inner().text.as_slice(), expected.as_bytes());
     }
     Ok(())
 }

@@ -6,7 +6,7 @@ ghost use Rattle.report.specs.ScriptFaults.{fault_from, line_fault, severity_fau
 
 use super::line::Line;
 use super::lines::cut;
-use super::parts::given;
+use super::parts::line_of_word;
 use super::words::{Word, parse_severity, parse_word};
 use super::{Fault, FaultNumber};
 use crate::request::parse_number;
@@ -62,7 +62,7 @@ fn fault(number: FaultNumber, range: Range<usize>) -> Fault
 fn repetition(before: &[Line<'_>], line: &Line<'_>) -> Option<Fault>
     ensures { result ≡ repetition (map line_view before.now) (line_view line.now) }
 {
-    let first = given(line.word(), before)?;
+    let first = line_of_word(line.word(), before)?;
     Some(Fault {
         number: FaultNumber::RepeatedWord,
         range: line.range_at(line.text, line.word()),

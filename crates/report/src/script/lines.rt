@@ -4,15 +4,15 @@ ghost use Rattle.std.specs.Prelude.{◌≡◌, ◌≤◌, ◌+◌, ◌-◌, ◌<
 ghost use Rattle.std.specs.List.{before_first, after_first};
 ghost use Rattle.std.specs.Option.{option_map};
 ghost use Rattle.std.specs.Str.Lines.{strip_carriage_return};
-ghost use Rattle.report.specs.ScriptLines.{is_blank, line_view, lines_of, lines_left, body, source_of};
+ghost use Rattle.report.specs.ScriptLines.{is_space, line_view, lines_of, lines_left, body, source_of};
 
 use super::line::Line;
 use std::alloc::{AllocError, Global};
 
 /// Splits a text at its first space, which is left out; without one the second part is empty.
 pub(super) fn cut(text: &str) -> (&str, &str)
-    ensures before { result.0.now ≡ before_first is_blank text.now }
-    ensures after { result.1.now ≡ after_first is_blank text.now }
+    ensures before { result.0.now ≡ before_first is_space text.now }
+    ensures after { result.1.now ≡ after_first is_space text.now }
     ensures before_short { length result.0.now ≤ length text.now }
     ensures after_short { length result.1.now ≤ length text.now }
 {

@@ -3,10 +3,10 @@
 ghost use Rattle.std.specs.Prelude.{◌≡◌, map, IfOk};
 ghost use Rattle.std.specs.Option.{option_map};
 ghost use Rattle.report.specs.ScriptLines.{line_view};
-ghost use Rattle.report.specs.ScriptFaults.{given_line};
-ghost use Rattle.report.specs.Scripts.{rest_given, severity_given, labels_given, label_given, notes_given, labelled_view, labelled};
+ghost use Rattle.report.specs.ScriptFaults.{line_of_word};
+ghost use Rattle.report.specs.Scripts.{rest_of_word, parsed_severity, parsed_labels, parsed_label, parsed_notes, script_label_view, label_of_rest};
 
-use super::Labelled;
+use super::ScriptLabel;
 use super::line::Line;
 use super::lines::cut;
 use super::words::{Word, parse_severity, parse_word};
@@ -15,8 +15,11 @@ use codespan_reporting::diagnostic::{LabelStyle, Severity};
 use std::alloc::{AllocError, Global};
 
 /// Returns the first line that begins with the word.
-pub(super) fn given<'a, 'input>(word: &str, lines: &'a [Line<'input>]) -> Option<Line<'input>>
-    ensures { option_map line_view result ≡ given_line word.now (map line_view lines.now) }
+pub(super) fn line_of_word<'a, 'input>(
+    word: &str,
+    lines: &'a [Line<'input>],
+) -> Option<Line<'input>>
+    ensures { option_map line_view result ≡ line_of_word word.now (map line_view lines.now) }
 {
     for line in lines {
         if line.word() == word {
@@ -27,39 +30,40 @@ pub(super) fn given<'a, 'input>(word: &str, lines: &'a [Line<'input>]) -> Option
 }
 
 /// Returns the rest of the first line that begins with the word.
-pub(super) fn rest_given<'input>(word: &str, lines: &[Line<'input>]) -> Option<&'input str>
-    ensures { option_map (λ rest. rest.now) result ≡ rest_given word.now (map line_view lines.now) }
+pub(super) fn rest_of_word<'input>(word: &str, lines: &[Line<'input>]) -> Option<&'input str>
+    ensures { option_map (λ rest. rest.now) result
+        ≡ rest_of_word word.now (map line_view lines.now) }
 {
-    let line = given(word, lines)?;
+    let line = line_of_word(word, lines)?;
     Some(line.rest())
 }
 
 /// Returns the severity that the lines state; an error if they state none.
-#[tactic(auto, unfolding(crate::specs::Scripts::severity_given))]
-pub(super) fn severity_given(lines: &[Line<'_>]) -> Severity
-    ensures { result ≡ severity_given (map line_view lines.now) }
+#[tactic(auto, unfolding(crate::specs::Scripts::parsed_severity))]
+pub(super) fn parsed_severity(lines: &[Line<'_>]) -> Severity
+    ensures { result ≡ parsed_severity (map line_view lines.now) }
 {
-    match rest_given("severity", lines) {
+    match rest_of_word("severity", lines) {
         Some(rest) => parse_severity(rest).unwrap_or(Severity::Error),
         None => Severity::Error,
     }
 }
 
 /// Returns the label that a line states, if it states one.
-#[tactic(auto, unfolding(crate::specs::Scripts::label_given))]
-fn label_given<'input>(line: &Line<'input>) -> Option<Labelled<'input>>
-    ensures { option_map labelled_view result ≡ label_given (line_view line.now) }
+#[tactic(auto, unfolding(crate::specs::Scripts::parsed_label))]
+fn parsed_label<'input>(line: &Line<'input>) -> Option<ScriptLabel<'input>>
+    ensures { option_map script_label_view result ≡ parsed_label (line_view line.now) }
 {
     match parse_word(line.word()) {
-        Some(Word::Primary) => labelled(LabelStyle::Primary, line.rest()),
-        Some(Word::Secondary) => labelled(LabelStyle::Secondary, line.rest()),
+        Some(Word::Primary) => label_of_rest(LabelStyle::Primary, line.rest()),
+        Some(Word::Secondary) => label_of_rest(LabelStyle::Secondary, line.rest()),
         Some(Word::Severity | Word::Code | Word::Message | Word::Note) | None => None,
     }
 }
 
 /// Parses the rest of a label's line: its start, its end, and its message.
-fn labelled(style: LabelStyle, rest: &str) -> Option<Labelled<'_>>
-    ensures { option_map labelled_view result ≡ labelled style rest.now }
+fn label_of_rest(style: LabelStyle, rest: &str) -> Option<ScriptLabel<'_>>
+    ensures { option_map script_label_view result ≡ label_of_rest style rest.now }
 {
     let (start, after) = cut(rest);
     let (end, message) = cut(after);
@@ -70,13 +74,13 @@ fn labelled(style: LabelStyle, rest: &str) -> Option<Labelled<'_>>
 pub(super) fn labels<'input>(
     alloc: Global,
     lines: &[Line<'input>],
-) -> Result<Vec<Labelled<'input>>, AllocError>
-    ensures { IfOk result (λ labels. map labelled_view labels.items
-        ≡ labels_given (map line_view lines.now)) }
+) -> Result<Vec<ScriptLabel<'input>>, AllocError>
+    ensures { IfOk result (λ labels. map script_label_view labels.items
+        ≡ parsed_labels (map line_view lines.now)) }
 {
     let mut labels = Vec::new(alloc);
     for line in lines {
-        if let Some(label) = label_given(line) {
+        if let Some(label) = parsed_label(line) {
             labels.push(label)?;
         }
     }
@@ -89,7 +93,7 @@ pub(super) fn notes<'input>(
     lines: &[Line<'input>],
 ) -> Result<Vec<&'input str>, AllocError>
     ensures { IfOk result (λ notes. map (λ note. note.now) notes.items
-        ≡ notes_given (map line_view lines.now)) }
+        ≡ parsed_notes (map line_view lines.now)) }
 {
     let mut notes = Vec::new(alloc);
     for line in lines {

@@ -61,28 +61,28 @@ impl<W: Write> WriteColor for Ansi<W> {
     ghost reset_bytes = { ansi_reset };
 
     fn set_color(&mut self, spec: &ColorSpec) -> io::Result<()> {
-        send_reset(&mut self.inner)?;
-        send_bold(&mut self.inner, spec.bold)?;
-        send_color(&mut self.inner, b'3', spec.intense, spec.fg)?;
-        send_color(&mut self.inner, b'4', spec.intense, spec.bg)
+        write_reset(&mut self.inner)?;
+        write_bold(&mut self.inner, spec.bold)?;
+        write_color(&mut self.inner, b'3', spec.intense, spec.fg)?;
+        write_color(&mut self.inner, b'4', spec.intense, spec.bg)
     }
 
     fn reset(&mut self) -> io::Result<()> {
-        send_reset(&mut self.inner)
+        write_reset(&mut self.inner)
     }
 }
 
 /// Writes the sequence that turns all styles off.
 #[tactic(auto, unfolding(crate::specs::Ansi::ansi_reset, crate::specs::Ansi::escape))]
-fn send_reset<W: Write>(w: &mut W) -> io::Result<()>
+fn write_reset<W: Write>(w: &mut W) -> io::Result<()>
     ensures { AppendsBytes (W.contents w.old) ansi_reset result (W.contents w.new) }
 {
     write_all(w, b"\x1b[0m")
 }
 
 /// Writes the sequence that turns bold on, where `bold` is set.
-#[tactic(auto, using(crate::proofs::AppendsBytes::paintings), unfolding(crate::specs::Ansi::ansi_bold, crate::specs::Ansi::escape))]
-fn send_bold<W: Write>(w: &mut W, bold: bool) -> io::Result<()>
+#[tactic(auto, using(crate::proofs::AppendsBytes::append_chains), unfolding(crate::specs::Ansi::ansi_bold, crate::specs::Ansi::escape))]
+fn write_bold<W: Write>(w: &mut W, bold: bool) -> io::Result<()>
     ensures { AppendsBytes (W.contents w.old) (ansi_bold bold) result (W.contents w.new) }
 {
     if bold {
@@ -94,8 +94,13 @@ fn send_bold<W: Write>(w: &mut W, bold: bool) -> io::Result<()>
 
 /// Writes the sequence that sets a color, where there is one; the plane is `3` for the text and `4`
 /// for the background.
-#[tactic(auto, using(crate::proofs::AppendsBytes::paintings, crate::proofs::AnsiLemmas::sequences))]
-fn send_color<W: Write>(w: &mut W, plane: u8, intense: bool, color: Option<Color>) -> io::Result<()>
+#[tactic(auto, using(crate::proofs::AppendsBytes::append_chains, crate::proofs::AnsiLemmas::sequences))]
+fn write_color<W: Write>(
+    w: &mut W,
+    plane: u8,
+    intense: bool,
+    color: Option<Color>,
+) -> io::Result<()>
     ensures { AppendsBytes (W.contents w.old) (ansi_color (plane ∷ []) intense color)
         result (W.contents w.new) }
 {

@@ -89,13 +89,13 @@ pub struct Chars<'chars> {
 }
 
 impl<'chars> Default for Chars<'chars> {
-    ghost use Rattle.codespan_base.specs.Lookalikes.{IsChars};
+    ghost use Rattle.codespan_base.specs.ConfigEquality.{IsChars};
     ghost use Rattle.codespan_base.specs.Characters.{box_drawing};
 
     ghost is_default = { IsChars box_drawing };
 
     fn default() -> Chars<'chars>
-        ensures alike { IsChars box_drawing result }
+        ensures equal { IsChars box_drawing result }
         ensures fixed { IsTrue (is_fixed result.snippet_start) }
     {
         Chars::box_drawing()
@@ -103,13 +103,13 @@ impl<'chars> Default for Chars<'chars> {
 }
 
 impl<'chars> Chars<'chars> {
-    ghost use Rattle.codespan_base.specs.Lookalikes.{IsChars};
+    ghost use Rattle.codespan_base.specs.ConfigEquality.{IsChars};
     ghost use Rattle.codespan_base.specs.Characters.{box_drawing, ascii};
 
     /// Returns the characters of box drawing, which are the default, with a text before a locus
     /// that is `Fixed`.
     pub fn box_drawing() -> Chars<'chars>
-        ensures alike { IsChars box_drawing result }
+        ensures equal { IsChars box_drawing result }
         ensures fixed { IsTrue (is_fixed result.snippet_start) }
     {
         Chars {
@@ -134,7 +134,7 @@ impl<'chars> Chars<'chars> {
 
     /// Returns characters of ASCII alone, with a text before a locus that is `Fixed`.
     pub fn ascii() -> Chars<'chars>
-        ensures alike { IsChars ascii result }
+        ensures equal { IsChars ascii result }
         ensures fixed { IsTrue (is_fixed result.snippet_start) }
     {
         Chars {

@@ -46,7 +46,7 @@ impl<W: Write> Write for NoColor<W> {
     }
 }
 
-#[tactic(auto, using(crate::proofs::AppendsBytes::paintings))]
+#[tactic(auto, using(crate::proofs::AppendsBytes::append_chains))]
 impl<W: Write> WriteColor for NoColor<W> {
     ghost use Rattle.codespan_base.specs.Writers.{no_color_inner};
 
@@ -55,17 +55,17 @@ impl<W: Write> WriteColor for NoColor<W> {
     ghost reset_bytes = { [] };
 
     fn set_color(&mut self, _spec: &ColorSpec) -> io::Result<()>
-        ensures paints { AppendsBytes (W.contents (no_color_inner self.old)) []
+        ensures appends { AppendsBytes (W.contents (no_color_inner self.old)) []
             result (W.contents (no_color_inner self.new)) }
-        ensures silent { WritesNothing self.old result self.new }
+        ensures nothing { WritesNothing self.old result self.new }
     {
         Ok(())
     }
 
     fn reset(&mut self) -> io::Result<()>
-        ensures paints { AppendsBytes (W.contents (no_color_inner self.old)) []
+        ensures appends { AppendsBytes (W.contents (no_color_inner self.old)) []
             result (W.contents (no_color_inner self.new)) }
-        ensures silent { WritesNothing self.old result self.new }
+        ensures nothing { WritesNothing self.old result self.new }
     {
         Ok(())
     }

@@ -1,8 +1,8 @@
 //! Plain text.
 
 ghost use Rattle.std.specs.Prelude.{◌≡◌, refl};
-ghost use Rattle.codespan_base.specs.Streams.{Header, HeaderMessage, LineNumber, NoteBullet, SourceBorder, LabelMark, Reset, no_marks, one_mark};
-ghost use Rattle.codespan_base.specs.WriterLaw.{Sends};
+ghost use Rattle.codespan_base.specs.Streams.{Header, HeaderMessage, LineNumber, NoteBullet, SourceBorder, LabelMark, Reset, no_style_marks, style_mark};
+ghost use Rattle.codespan_base.specs.WriterLaw.{Writes};
 ghost use Rattle.codespan_base.specs.Writers.{WritesNothing};
 
 use crate::term::config::write_style::WriteStyle;
@@ -38,7 +38,8 @@ impl<W: Write> PlainWriter<W> {
 
     /// Returns a writer of plain text over `writer`. Its flag is not set.
     pub fn new(writer: W) -> PlainWriter<W>
-        ensures begins { plain_sink W.contents result ≡ fresh_sink no_marks (W.contents writer) }
+        ensures begins { plain_sink W.contents result
+            ≡ fresh_sink no_style_marks (W.contents writer) }
         ensures inner { plain_inner result ≡ writer }
     {
         PlainWriter {
@@ -78,64 +79,65 @@ impl<W: Write> Write for PlainWriter<W> {
     }
 }
 
-#[tactic(auto, using(crate::proofs::Marks::sent_no_mark))]
+#[tactic(auto, using(crate::proofs::StyleMarks::written_no_style_mark))]
 impl<W: Write> WriteStyle for PlainWriter<W> {
     ghost use Rattle.codespan_base.specs.Writers.{plain_sink};
 
     ghost sink = { λ p. plain_sink W.contents p };
 
     fn set_header(&mut self, _severity: Severity) -> io::Result<()>
-        ensures sends { Sends (plain_sink W.contents self.old) (one_mark (Header _severity))
+        ensures writes { Writes (plain_sink W.contents self.old) (style_mark (Header _severity))
             result (plain_sink W.contents self.new) }
-        ensures silent { WritesNothing self.old result self.new }
+        ensures nothing { WritesNothing self.old result self.new }
     {
         Ok(())
     }
 
     fn set_header_message(&mut self) -> io::Result<()>
-        ensures sends { Sends (plain_sink W.contents self.old) (one_mark HeaderMessage)
+        ensures writes { Writes (plain_sink W.contents self.old) (style_mark HeaderMessage)
             result (plain_sink W.contents self.new) }
-        ensures silent { WritesNothing self.old result self.new }
+        ensures nothing { WritesNothing self.old result self.new }
     {
         Ok(())
     }
 
     fn set_line_number(&mut self) -> io::Result<()>
-        ensures sends { Sends (plain_sink W.contents self.old) (one_mark LineNumber)
+        ensures writes { Writes (plain_sink W.contents self.old) (style_mark LineNumber)
             result (plain_sink W.contents self.new) }
-        ensures silent { WritesNothing self.old result self.new }
+        ensures nothing { WritesNothing self.old result self.new }
     {
         Ok(())
     }
 
     fn set_note_bullet(&mut self) -> io::Result<()>
-        ensures sends { Sends (plain_sink W.contents self.old) (one_mark NoteBullet)
+        ensures writes { Writes (plain_sink W.contents self.old) (style_mark NoteBullet)
             result (plain_sink W.contents self.new) }
-        ensures silent { WritesNothing self.old result self.new }
+        ensures nothing { WritesNothing self.old result self.new }
     {
         Ok(())
     }
 
     fn set_source_border(&mut self) -> io::Result<()>
-        ensures sends { Sends (plain_sink W.contents self.old) (one_mark SourceBorder)
+        ensures writes { Writes (plain_sink W.contents self.old) (style_mark SourceBorder)
             result (plain_sink W.contents self.new) }
-        ensures silent { WritesNothing self.old result self.new }
+        ensures nothing { WritesNothing self.old result self.new }
     {
         Ok(())
     }
 
     fn set_label(&mut self, _severity: Severity, _label_style: LabelStyle) -> io::Result<()>
-        ensures sends { Sends (plain_sink W.contents self.old)
-            (one_mark (LabelMark _severity _label_style)) result (plain_sink W.contents self.new) }
-        ensures silent { WritesNothing self.old result self.new }
+        ensures writes { Writes (plain_sink W.contents self.old)
+            (style_mark (LabelMark _severity _label_style)) result
+            (plain_sink W.contents self.new) }
+        ensures nothing { WritesNothing self.old result self.new }
     {
         Ok(())
     }
 
     fn reset(&mut self) -> io::Result<()>
-        ensures sends { Sends (plain_sink W.contents self.old) (one_mark Reset)
+        ensures writes { Writes (plain_sink W.contents self.old) (style_mark Reset)
             result (plain_sink W.contents self.new) }
-        ensures silent { WritesNothing self.old result self.new }
+        ensures nothing { WritesNothing self.old result self.new }
     {
         Ok(())
     }

@@ -51,7 +51,7 @@ impl<W: Write> Write for PlainWriterRef<'_, W> {
     }
 }
 
-#[tactic(auto, using(crate::proofs::Marks::sent_no_mark))]
+#[tactic(auto, using(crate::proofs::StyleMarks::written_no_style_mark))]
 impl<W: Write> WriteStyle for PlainWriterRef<'_, W> {
     ghost use Rattle.codespan_base.specs.Writers.{plain_ref_sink};
 

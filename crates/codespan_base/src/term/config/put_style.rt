@@ -3,8 +3,8 @@
 ghost use Rattle.std.specs.Prelude.{◌≡◌};
 ghost use Rattle.std.specs.Io.{WritesAtMost};
 ghost use Rattle.std.specs.IoError.{error_kind};
-ghost use Rattle.codespan_base.specs.Streams.{Header, HeaderMessage, LineNumber, NoteBullet, SourceBorder, LabelMark, Reset, one_mark};
-ghost use Rattle.codespan_base.specs.WriterLaw.{Sends, Puts};
+ghost use Rattle.codespan_base.specs.Streams.{Header, HeaderMessage, LineNumber, NoteBullet, SourceBorder, LabelMark, Reset, style_mark};
+ghost use Rattle.codespan_base.specs.WriterLaw.{Writes, Puts};
 
 use crate::term::config::write_style::WriteStyle;
 use codespan_files::diagnostic::{LabelStyle, Severity};
@@ -31,32 +31,32 @@ pub trait PutStyle {
 
     /// Does what [`WriteStyle::set_header`] does.
     fn set_header(&mut self, severity: Severity) -> Result<(), Self::Error>
-        ensures { Sends (sink self.old) (one_mark (Header severity)) result (sink self.new) };
+        ensures { Writes (sink self.old) (style_mark (Header severity)) result (sink self.new) };
 
     /// Does what [`WriteStyle::set_header_message`] does.
     fn set_header_message(&mut self) -> Result<(), Self::Error>
-        ensures { Sends (sink self.old) (one_mark HeaderMessage) result (sink self.new) };
+        ensures { Writes (sink self.old) (style_mark HeaderMessage) result (sink self.new) };
 
     /// Does what [`WriteStyle::set_line_number`] does.
     fn set_line_number(&mut self) -> Result<(), Self::Error>
-        ensures { Sends (sink self.old) (one_mark LineNumber) result (sink self.new) };
+        ensures { Writes (sink self.old) (style_mark LineNumber) result (sink self.new) };
 
     /// Does what [`WriteStyle::set_note_bullet`] does.
     fn set_note_bullet(&mut self) -> Result<(), Self::Error>
-        ensures { Sends (sink self.old) (one_mark NoteBullet) result (sink self.new) };
+        ensures { Writes (sink self.old) (style_mark NoteBullet) result (sink self.new) };
 
     /// Does what [`WriteStyle::set_source_border`] does.
     fn set_source_border(&mut self) -> Result<(), Self::Error>
-        ensures { Sends (sink self.old) (one_mark SourceBorder) result (sink self.new) };
+        ensures { Writes (sink self.old) (style_mark SourceBorder) result (sink self.new) };
 
     /// Does what [`WriteStyle::set_label`] does.
     fn set_label(&mut self, severity: Severity, label_style: LabelStyle) -> Result<(), Self::Error>
-        ensures { Sends (sink self.old) (one_mark (LabelMark severity label_style))
+        ensures { Writes (sink self.old) (style_mark (LabelMark severity label_style))
             result (sink self.new) };
 
     /// Does what [`WriteStyle::reset`] does.
     fn reset(&mut self) -> Result<(), Self::Error>
-        ensures { Sends (sink self.old) (one_mark Reset) result (sink self.new) };
+        ensures { Writes (sink self.old) (style_mark Reset) result (sink self.new) };
 
     /// Does what [`WriteStyle::put`] does.
     fn put(&mut self, bytes: &[u8]) -> Result<usize, Self::Error>

@@ -2,7 +2,7 @@
 
 ghost use Rattle.std.specs.Prelude.{◌≡◌, refl};
 ghost use Rattle.codespan_base.specs.Streams.{bytes};
-ghost use Rattle.codespan_base.specs.WriterLaw.{Sends};
+ghost use Rattle.codespan_base.specs.WriterLaw.{Writes};
 
 use crate::term::config::color::{ColorSpec, WriteColor};
 use crate::term::config::styles::Styles;
@@ -62,7 +62,7 @@ impl<'a, W: WriteColor> StylesWriter<'a, W> {
 
     /// Writes the bytes of a style, and sets the flag where that fails.
     fn set_color(&mut self, spec: &ColorSpec) -> io::Result<()>
-        ensures { Sends (styles_sink W.contents W.color_bytes W.reset_bytes self.old)
+        ensures { Writes (styles_sink W.contents W.color_bytes W.reset_bytes self.old)
             (bytes (W.color_bytes spec.now)) result
             (styles_sink W.contents W.color_bytes W.reset_bytes self.new) }
     {
@@ -77,7 +77,7 @@ impl<'a, W: WriteColor> StylesWriter<'a, W> {
 
     /// Writes the bytes of the reset, and sets the flag where that fails.
     fn reset_color(&mut self) -> io::Result<()>
-        ensures { Sends (styles_sink W.contents W.color_bytes W.reset_bytes self.old)
+        ensures { Writes (styles_sink W.contents W.color_bytes W.reset_bytes self.old)
             (bytes W.reset_bytes) result
             (styles_sink W.contents W.color_bytes W.reset_bytes self.new) }
     {
@@ -106,7 +106,7 @@ impl<W: WriteColor> Write for StylesWriter<'_, W> {
     }
 }
 
-#[tactic(auto, using(crate::proofs::Marks::marking))]
+#[tactic(auto, using(crate::proofs::StyleMarks::marking))]
 impl<W: WriteColor> WriteStyle for StylesWriter<'_, W> {
     ghost use Rattle.codespan_base.specs.Writers.{styles_sink};
 

@@ -1,8 +1,8 @@
 //! Writers of bytes and style marks.
 
 ghost use Rattle.std.specs.Io.{WritesAtMost};
-ghost use Rattle.codespan_base.specs.Streams.{Header, HeaderMessage, LineNumber, NoteBullet, SourceBorder, LabelMark, Reset, one_mark};
-ghost use Rattle.codespan_base.specs.WriterLaw.{Sends, Puts};
+ghost use Rattle.codespan_base.specs.Streams.{Header, HeaderMessage, LineNumber, NoteBullet, SourceBorder, LabelMark, Reset, style_mark};
+ghost use Rattle.codespan_base.specs.WriterLaw.{Writes, Puts};
 
 use codespan_files::diagnostic::{LabelStyle, Severity};
 use std::io;
@@ -26,39 +26,39 @@ pub type GeneralWriteResult = io::Result<()>;
 /// A writer of tags in brackets:
 ///
 /// ```rust
-/// #[tactic(auto, using(codespan_base::proofs::Marks::marking))]
+/// #[tactic(auto, using(codespan_base::proofs::StyleMarks::marking))]
 /// impl<W: Write> WriteStyle for TagWriter<W> {
 ///     ghost sink = { λ t. tag_sink t.failed (W.contents t.inner) };
 ///
 ///     fn set_header(&mut self, _severity: Severity) -> io::Result<()> {
-///         self.send_tag(b"[header]")
+///         self.write_tag(b"[header]")
 ///     }
 ///
 ///     fn set_header_message(&mut self) -> io::Result<()> {
-///         self.send_tag(b"[message]")
+///         self.write_tag(b"[message]")
 ///     }
 ///
 ///     fn set_line_number(&mut self) -> io::Result<()> {
-///         self.send_tag(b"[number]")
+///         self.write_tag(b"[number]")
 ///     }
 ///
 ///     fn set_note_bullet(&mut self) -> io::Result<()> {
-///         self.send_tag(b"[bullet]")
+///         self.write_tag(b"[bullet]")
 ///     }
 ///
 ///     fn set_source_border(&mut self) -> io::Result<()> {
-///         self.send_tag(b"[border]")
+///         self.write_tag(b"[border]")
 ///     }
 ///
 ///     fn set_label(&mut self, _severity: Severity, label_style: LabelStyle) -> io::Result<()> {
 ///         match label_style {
-///             LabelStyle::Primary => self.send_tag(b"[primary]"),
-///             LabelStyle::Secondary => self.send_tag(b"[secondary]"),
+///             LabelStyle::Primary => self.write_tag(b"[primary]"),
+///             LabelStyle::Secondary => self.write_tag(b"[secondary]"),
 ///         }
 ///     }
 ///
 ///     fn reset(&mut self) -> io::Result<()> {
-///         self.send_tag(b"[/]")
+///         self.write_tag(b"[/]")
 ///     }
 ///
 ///     fn put(&mut self, bytes: &[u8]) -> io::Result<usize> {
@@ -82,37 +82,37 @@ pub trait WriteStyle: Write {
     /// An [`io::Error`] if a write fails or takes none of its bytes; a prefix of the style mark's
     /// spelling has then been written.
     fn set_header(&mut self, severity: Severity) -> io::Result<()>
-        ensures { Sends (sink self.old) (one_mark (Header severity)) result (sink self.new) };
+        ensures { Writes (sink self.old) (style_mark (Header severity)) result (sink self.new) };
 
     /// Writes the style mark before the message of a header. Fails as
     /// [`set_header`](Self::set_header) does.
     fn set_header_message(&mut self) -> io::Result<()>
-        ensures { Sends (sink self.old) (one_mark HeaderMessage) result (sink self.new) };
+        ensures { Writes (sink self.old) (style_mark HeaderMessage) result (sink self.new) };
 
     /// Writes the style mark before a line number. Fails as [`set_header`](Self::set_header) does.
     fn set_line_number(&mut self) -> io::Result<()>
-        ensures { Sends (sink self.old) (one_mark LineNumber) result (sink self.new) };
+        ensures { Writes (sink self.old) (style_mark LineNumber) result (sink self.new) };
 
     /// Writes the style mark before the bullet of a note. Fails as [`set_header`](Self::set_header)
     /// does.
     fn set_note_bullet(&mut self) -> io::Result<()>
-        ensures { Sends (sink self.old) (one_mark NoteBullet) result (sink self.new) };
+        ensures { Writes (sink self.old) (style_mark NoteBullet) result (sink self.new) };
 
     /// Writes the style mark before the border left of the source, and before the start of a
     /// snippet. Fails as [`set_header`](Self::set_header) does.
     fn set_source_border(&mut self) -> io::Result<()>
-        ensures { Sends (sink self.old) (one_mark SourceBorder) result (sink self.new) };
+        ensures { Writes (sink self.old) (style_mark SourceBorder) result (sink self.new) };
 
     /// Writes the style mark before a label's carets, lanes and message. Fails as
     /// [`set_header`](Self::set_header) does.
     fn set_label(&mut self, severity: Severity, label_style: LabelStyle) -> io::Result<()>
-        ensures { Sends (sink self.old) (one_mark (LabelMark severity label_style))
+        ensures { Writes (sink self.old) (style_mark (LabelMark severity label_style))
             result (sink self.new) };
 
     /// Writes the style mark after a part, which ends its style. Fails as
     /// [`set_header`](Self::set_header) does.
     fn reset(&mut self) -> io::Result<()>
-        ensures { Sends (sink self.old) (one_mark Reset) result (sink self.new) };
+        ensures { Writes (sink self.old) (style_mark Reset) result (sink self.new) };
 
     /// Writes once: takes a number of the first bytes and returns it.
     ///
@@ -124,5 +124,5 @@ pub trait WriteStyle: Write {
         ensures took { Puts (sink self.old) bytes.now result (sink self.new) };
 
     /// The bytes of the sink are those of the writer's `Write`.
-    ghost holds_contents: { (w : Self) → (sink w).held ≡ Self.contents w };
+    ghost holds_contents: { (w : Self) → (sink w).contents ≡ Self.contents w };
 }

@@ -7,8 +7,8 @@ ghost use Rattle.std.specs.Prelude.{◌≡◌, ◌≤◌, ◌*◌, [], length, t
 ghost use Rattle.std.specs.List.{repeat};
 ghost use Rattle.std.specs.Io.{WritesAtMost};
 ghost use Rattle.codespan_base.specs.ColorLaw.{AppendsBytes};
-ghost use Rattle.codespan_base.specs.Streams.{bytes, glyph, blanks, repeated};
-ghost use Rattle.codespan_base.specs.WriterLaw.{Frame, Puts, Sends, with_flag};
+ghost use Rattle.codespan_base.specs.Streams.{bytes, glyph, spaces, repeated};
+ghost use Rattle.codespan_base.specs.WriterLaw.{Frame, Puts, Writes, with_flag};
 ghost use Rattle.codespan_base.specs.Writers.{WritesNothing};
 
 use crate::term::config::plain_ref::PlainWriterRef;
@@ -20,7 +20,7 @@ use std::io::Write;
 const CHUNK_LEN: usize = 64;
 
 /// The spaces that are written at once.
-static BLANKS: [u8; CHUNK_LEN] = [b' '; CHUNK_LEN];
+static SPACES: [u8; CHUNK_LEN] = [b' '; CHUNK_LEN];
 
 /// The number of digits of `usize::MAX`.
 const DIGITS: usize = 20;
@@ -32,7 +32,7 @@ const DIGITS: usize = 20;
 /// That of a `put` that fails, and `ErrorKind::WriteZero` where a `put` takes none of some bytes.
 /// A prefix has then been written.
 pub fn put_all<W: PutStyle>(w: &mut W, text: &[u8]) -> Result<(), W::Error>
-    ensures { Sends (W.sink w.old) (bytes text.now) result (W.sink w.new) }
+    ensures { Writes (W.sink w.old) (bytes text.now) result (W.sink w.new) }
 {
     let mut rest = text;
     while !rest.is_empty() {
@@ -52,7 +52,7 @@ pub fn put_all<W: PutStyle>(w: &mut W, text: &[u8]) -> Result<(), W::Error>
 /// Those of [`put_all`].
 #[inline(always)]
 pub fn put_char<W: PutStyle>(w: &mut W, c: char) -> Result<(), W::Error>
-    ensures { Sends (W.sink w.old) (glyph c) result (W.sink w.new) }
+    ensures { Writes (W.sink w.old) (glyph c) result (W.sink w.new) }
 {
     let mut buffer = [0u8; 4];
     let text = c.encode_utf8(&mut buffer);
@@ -63,7 +63,7 @@ pub fn put_char<W: PutStyle>(w: &mut W, c: char) -> Result<(), W::Error>
 /// a `put` of a known number of bytes needs no call to copy them.
 #[inline(always)]
 fn put_glyph<W: PutStyle>(w: &mut W, text: &[u8]) -> Result<(), W::Error>
-    ensures { Sends (W.sink w.old) (bytes text.now) result (W.sink w.new) }
+    ensures { Writes (W.sink w.old) (bytes text.now) result (W.sink w.new) }
 {
     match *text {
         [first, second, third] => put_all(w, &[first, second, third]),
@@ -77,14 +77,14 @@ fn put_glyph<W: PutStyle>(w: &mut W, text: &[u8]) -> Result<(), W::Error>
 ///
 /// Those of [`put_all`].
 pub fn put_spaces<W: PutStyle>(w: &mut W, count: usize) -> Result<(), W::Error>
-    ensures { Sends (W.sink w.old) (blanks count) result (W.sink w.new) }
+    ensures { Writes (W.sink w.old) (spaces count) result (W.sink w.new) }
 {
     let mut left = count;
     while left > CHUNK_LEN {
-        put_all(w, &BLANKS)?;
+        put_all(w, &SPACES)?;
         left -= CHUNK_LEN;
     }
-    put_all(w, &BLANKS[..left])
+    put_all(w, &SPACES[..left])
 }
 
 /// Writes `count` copies of a character in UTF-8.
@@ -94,7 +94,7 @@ pub fn put_spaces<W: PutStyle>(w: &mut W, count: usize) -> Result<(), W::Error>
 /// Those of [`put_all`].
 #[inline(always)]
 pub fn put_repeated<W: PutStyle>(w: &mut W, c: char, count: usize) -> Result<(), W::Error>
-    ensures { Sends (W.sink w.old) (repeated count c) result (W.sink w.new) }
+    ensures { Writes (W.sink w.old) (repeated count c) result (W.sink w.new) }
 {
     match count {
         1 => put_char(w, c),
@@ -106,7 +106,7 @@ pub fn put_repeated<W: PutStyle>(w: &mut W, c: char, count: usize) -> Result<(),
 /// Writes two copies of a character. Those of box drawing are written as an array, as one is.
 #[inline(always)]
 fn put_pair<W: PutStyle>(w: &mut W, c: char) -> Result<(), W::Error>
-    ensures { Sends (W.sink w.old) (repeated 2 c) result (W.sink w.new) }
+    ensures { Writes (W.sink w.old) (repeated 2 c) result (W.sink w.new) }
 {
     let mut buffer = [0u8; 4];
     match *c.encode_utf8(&mut buffer).as_bytes() {
@@ -120,7 +120,7 @@ fn put_pair<W: PutStyle>(w: &mut W, c: char) -> Result<(), W::Error>
 
 /// Writes `count` copies of a character, as many at once as fit into a chunk.
 fn put_runs<W: PutStyle>(w: &mut W, c: char, count: usize) -> Result<(), W::Error>
-    ensures { Sends (W.sink w.old) (repeated count c) result (W.sink w.new) }
+    ensures { Writes (W.sink w.old) (repeated count c) result (W.sink w.new) }
 {
     let mut buffer = [0u8; 4];
     let glyph = c.encode_utf8(&mut buffer).as_bytes();
@@ -153,7 +153,7 @@ fn fill(run: &mut [u8], bytes: &[u8], copies: usize)
 ///
 /// Those of [`put_all`].
 pub fn put_number<W: PutStyle>(w: &mut W, number: usize) -> Result<(), W::Error>
-    ensures { Sends (W.sink w.old) (bytes (decimal number)) result (W.sink w.new) }
+    ensures { Writes (W.sink w.old) (bytes (decimal number)) result (W.sink w.new) }
 {
     let mut digits = [0u8; DIGITS];
     let start = write_digits(&mut digits, number);
@@ -184,7 +184,7 @@ fn write_digits(digits: &mut [u8; DIGITS], number: usize) -> usize
 /// That of a write that fails, and `ErrorKind::WriteZero` where a write takes none of some bytes.
 /// A prefix has then been written.
 pub fn write_all<W: Write>(w: &mut W, bytes: &[u8]) -> io::Result<()>
-    ensures paints { AppendsBytes (W.contents w.old) bytes.now result (W.contents w.new) }
+    ensures appends { AppendsBytes (W.contents w.old) bytes.now result (W.contents w.new) }
     ensures nothing { bytes.now ≡ [] → WritesNothing w.old result w.new }
 {
     if bytes.is_empty() {
@@ -227,7 +227,7 @@ pub fn forward_put<W: Write>(writer: &mut W, failed: &mut bool, bytes: &[u8]) ->
 ///
 /// Those of [`write_all`]; each sets the flag.
 pub fn forward_all<W: Write>(writer: &mut W, failed: &mut bool, text: &[u8]) -> io::Result<()>
-    ensures { (f : Frame) → Sends (with_flag f failed.old (W.contents writer.old)) (bytes text.now)
+    ensures { (f : Frame) → Writes (with_flag f failed.old (W.contents writer.old)) (bytes text.now)
         result (with_flag f failed.new (W.contents writer.new)) }
 {
     match write_all(writer, text) {

@@ -2,4 +2,4 @@ use Rattle.codespan_laws.proofs.PointerLemmas as pointers
 use Rattle.codespan_laws.proofs.laws.pointers_are_cells.Goals as goal
 
 pub returns : goal.returns
-returns c = λ look line wide. pointers.pointers_are_cells look line wide
+returns c = λ context line wide. pointers.pointers_are_cells context line wide

@@ -2,4 +2,4 @@ use Rattle.codespan_laws.proofs.ResetLemmas as resets
 use Rattle.codespan_laws.proofs.laws.rows_end_reset.Goals as goal
 
 pub returns : goal.returns
-returns c = λ look row. resets.rows_end_reset look row
+returns c = λ context row. resets.rows_end_reset context row

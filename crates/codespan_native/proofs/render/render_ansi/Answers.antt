@@ -2,20 +2,20 @@ use Rattle.std.proofs.Common.{◌∙◌, ◌++◌, ap, refl, ℕ, List, Vec, Glo
 use Rattle.codespan_base.specs.declared.term.config.ansi.Ansi.{Ansi}
 use Rattle.codespan_base.specs.Streams.{spelled}
 use Rattle.codespan_base.specs.Writers.{ansi_inner}
-use Rattle.codespan_native.proofs.Rendered.{fresh_known, held_after}
+use Rattle.codespan_native.proofs.Rendered.{fresh_known, text_after}
 use Rattle.codespan_native.specs.Meaning.{ansi_spelling}
 use Rattle.codespan_native.specs.SourceModel.{sources_of}
-use Rattle.codespan_native.specs.Spellings.{picture_of}
+use Rattle.codespan_native.specs.Spellings.{stream_of_output}
 use Rattle.codespan_native.proofs.render.render_ansi.Goals as goal
 
 pub returns-clause-value : goal.returns-clause-value
 returns-clause-value c =
-    let stream = picture_of c.args.config.now (sources_of c.args.files.now) c.args.diagnostic.now in
+    let stream = stream_of_output c.args.config.now (sources_of c.args.files.now) c.args.diagnostic.now in
     let spelling = ansi_spelling c.args.styles.now in
     let first : List ℕ = (ansi_inner {W = Vec ℕ Global} c.new.result).items in
     let begins = c.new-writer.ensures.begins in
-    let came = c.in_ok-write_to.ensures.value (fresh_known spelling _ first begins) in
+    let written = c.in_ok-write_to.ensures.value (fresh_known spelling _ first begins) in
     ap (λ (v : Vec ℕ Global). v.items) c.into_inner-2.ensures
     ∙ ap (λ (a : Ansi (Vec ℕ Global)). (ansi_inner a).items) c.into_inner.ensures
-    ∙ held_after spelling _ _ stream first _ begins came refl
+    ∙ text_after spelling _ _ stream first _ begins written refl
     ∙ ap (λ (v : Vec ℕ Global). v.items ++ spelled spelling stream) c.new.ensures

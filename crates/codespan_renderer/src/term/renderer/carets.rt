@@ -2,21 +2,21 @@
 
 ghost use Rattle.std.specs.Prelude.{◌≡◌, ◌+◌, ◌++◌, None};
 ghost use Rattle.codespan_base.specs.Streams.{newline};
-ghost use Rattle.codespan_base.specs.WriterLaw.{Sends};
+ghost use Rattle.codespan_base.specs.WriterLaw.{Writes};
 ghost use Rattle.codespan_picture.specs.Carets.{covers, covers_part, style_under, greatest_end};
-ghost use Rattle.codespan_picture.specs.Given.{single_label_view, single_label_views};
-ghost use Rattle.codespan_renderer.specs.Inner.Runs.{better, caret_run, given_label};
-ghost use Rattle.codespan_renderer.specs.Inner.GivenLine.{look_view, line_view};
-ghost use Rattle.codespan_renderer.specs.Inner.GivenRows.{given_carets, given_cells_to_end, given_label_message};
+ghost use Rattle.codespan_picture.specs.Arguments.{single_label_view, single_label_views};
+ghost use Rattle.codespan_renderer.specs.Private.Runs.{better, caret_run, optional_label_view};
+ghost use Rattle.codespan_renderer.specs.Private.LineViews.{context_view, line_view};
+ghost use Rattle.codespan_renderer.specs.Private.RowViews.{carets_view, line_metrics_to_end_view, label_message_view};
 ghost use Rattle.codespan_picture.specs.RowParts.{carets, change, trailing_message};
 ghost use Rattle.codespan_picture.specs.RowStreams.{caret_row};
 ghost use Rattle.codespan_picture.specs.Rows.{trailing};
-ghost use Rattle.codespan_renderer.specs.Inner.LineSources.{sourced_line};
+ghost use Rattle.codespan_renderer.specs.Private.LineSources.{sourced_line};
 
 use crate::term::renderer::SingleLabel;
-use crate::term::renderer::cells::Cell;
 use crate::term::renderer::char_cursor::CharCursor;
-use crate::term::renderer::line::{Line, Look};
+use crate::term::renderer::char_metrics::Metrics;
+use crate::term::renderer::line::{Line, RowContext};
 use crate::term::renderer::line_source::LineSource;
 use crate::term::renderer::messages::Messages;
 use crate::term::renderer::parts::{change_style, write_newline, write_row_start, write_space};
@@ -45,11 +45,11 @@ pub fn greatest_end(labels: &[SingleLabel<'_>]) -> usize
 }
 
 /// Returns whether the label has a byte of the character.
-pub fn covers(label: &SingleLabel<'_>, cell: Cell) -> bool
-    ensures { result ≡ covers (single_label_view label.now) cell }
+pub fn covers(label: &SingleLabel<'_>, metrics: Metrics) -> bool
+    ensures { result ≡ covers (single_label_view label.now) metrics }
 {
-    let first = label.1.start.max(cell.place);
-    first < label.1.end && first - cell.place < cell.bytes
+    let first = label.1.start.max(metrics.byte_index);
+    first < label.1.end && first - metrics.byte_index < metrics.bytes
 }
 
 /// Returns the better of two styles: a primary one takes precedence.
@@ -63,12 +63,12 @@ pub fn better(found: Option<LabelStyle>, style: LabelStyle) -> Option<LabelStyle
 }
 
 /// Returns the style of the labels over a character: a primary one takes precedence.
-pub fn style_under(labels: &[SingleLabel<'_>], cell: Cell) -> Option<LabelStyle>
-    ensures { result ≡ style_under (single_label_views labels.now) cell }
+pub fn style_under(labels: &[SingleLabel<'_>], metrics: Metrics) -> Option<LabelStyle>
+    ensures { result ≡ style_under (single_label_views labels.now) metrics }
 {
     let mut found = None;
     for label in labels {
-        if covers(label, cell) {
+        if covers(label, metrics) {
             found = better(found, label.0);
         }
     }
@@ -76,7 +76,7 @@ pub fn style_under(labels: &[SingleLabel<'_>], cell: Cell) -> Option<LabelStyle>
 }
 
 /// Writes `count` carets of a style, or spaces.
-#[tactic(auto, unfolding(crate::specs::Inner::Runs::caret_run))]
+#[tactic(auto, unfolding(crate::specs::Private::Runs::caret_run))]
 #[inline(always)]
 fn write_caret_run<W: PutStyle>(
     w: &mut W,
@@ -84,7 +84,7 @@ fn write_caret_run<W: PutStyle>(
     style: Option<LabelStyle>,
     count: u128,
 ) -> Result<(), W::Error>
-    ensures { Sends (W.sink w.old) (caret_run chars.now style count) result (W.sink w.new) }
+    ensures { Writes (W.sink w.old) (caret_run chars.now style count) result (W.sink w.new) }
 {
     match style {
         None => write_spaces(w, count)?,
@@ -98,48 +98,50 @@ fn write_caret_run<W: PutStyle>(
 #[inline(always)]
 pub fn end_caret_run<W: PutStyle>(
     w: &mut W,
-    look: Look<'_>,
-    was: Option<LabelStyle>,
+    context: RowContext<'_>,
+    previous: Option<LabelStyle>,
     count: u128,
     style: Option<LabelStyle>,
 ) -> Result<(), W::Error>
-    ensures { Sends (W.sink w.old)
-        (caret_run look.entry.chars.now was count ++ change look.entry.severity was style)
+    ensures { Writes (W.sink w.old)
+        (caret_run context.entry.chars.now previous count
+        ++ change context.entry.severity previous style)
         result (W.sink w.new) }
 {
-    write_caret_run(w, look.chars, was, count)?;
-    change_style(w, look.severity, was, style)
+    write_caret_run(w, context.chars, previous, count)?;
+    change_style(w, context.severity, previous, style)
 }
 
 /// Writes the carets under the characters of a line, the last of which is the position after the
 /// text.
 fn write_carets<W: PutStyle, S: LineSource>(
     w: &mut W,
-    look: Look<'_>,
+    context: RowContext<'_>,
     line: Line<'_, '_>,
     source: &S,
 ) -> Result<(), W::Error>
-    requires of { S.of source.now ≡ sourced_line look line }
-    ensures { Sends (W.sink w.old)
-        (given_carets look.entry line.entry.labels.now (given_cells_to_end look.entry line.entry))
+    requires of { S.of source.now ≡ sourced_line context line }
+    ensures { Writes (W.sink w.old)
+        (carets_view context.entry line.entry.labels.now
+        (line_metrics_to_end_view context.entry line.entry))
         result (W.sink w.new) }
 {
     let end = greatest_end(line.labels);
     let (mut run, mut characters) = source.characters_from_labels(end);
-    let mut was = None;
-    while let Some(cell) = characters.next_cell() {
-        if cell.place >= end {
+    let mut previous = None;
+    while let Some(metrics) = characters.next_metrics() {
+        if metrics.byte_index >= end {
             break;
         }
-        let style = characters.style_under(cell);
-        if style != was {
-            end_caret_run(w, look, was, run, style)?;
+        let style = characters.style_under(metrics);
+        if style != previous {
+            end_caret_run(w, context, previous, run, style)?;
             run = 0;
-            was = style;
+            previous = style;
         }
-        run += cell.width as u128;
+        run += metrics.width as u128;
     }
-    end_caret_run(w, look, was, run, None)
+    end_caret_run(w, context, previous, run, None)
 }
 
 /// Writes a label's message in its style.
@@ -148,7 +150,7 @@ pub fn write_message<W: PutStyle>(
     severity: Severity,
     label: &SingleLabel<'_>,
 ) -> Result<(), W::Error>
-    ensures { Sends (W.sink w.old) (given_label_message severity label.now)
+    ensures { Writes (W.sink w.old) (label_message_view severity label.now)
         result (W.sink w.new) }
 {
     w.set_label(severity, label.0)?;
@@ -157,14 +159,14 @@ pub fn write_message<W: PutStyle>(
 }
 
 /// Writes a space and the trailing message, where there is one.
-#[tactic(auto, using(codespan_base::proofs::Sends::sendings), unfolding(codespan_picture::specs::RowParts::trailing_message))]
+#[tactic(auto, using(codespan_base::proofs::Writes::write_chains), unfolding(codespan_picture::specs::RowParts::trailing_message))]
 #[inline(always)]
 pub fn write_trailing<W: PutStyle>(
     w: &mut W,
     severity: Severity,
     trailing: Option<&SingleLabel<'_>>,
 ) -> Result<(), W::Error>
-    ensures { Sends (W.sink w.old) (trailing_message severity (given_label trailing.entry))
+    ensures { Writes (W.sink w.old) (trailing_message severity (optional_label_view trailing.entry))
         result (W.sink w.new) }
 {
     match trailing {
@@ -179,19 +181,20 @@ pub fn write_trailing<W: PutStyle>(
 /// Writes the carets under a line, and the message that trails them.
 pub fn write_caret_row<W: PutStyle, S: LineSource>(
     w: &mut W,
-    look: Look<'_>,
+    context: RowContext<'_>,
     line: Line<'_, '_>,
     source: &S,
     messages: Messages<'_, '_>,
 ) -> Result<(), W::Error>
-    requires of { S.of source.now ≡ sourced_line look line }
-    requires trailing { given_label messages.trailing
+    requires of { S.of source.now ≡ sourced_line context line }
+    requires trailing { optional_label_view messages.trailing
         ≡ trailing (single_label_views line.labels.now) }
-    ensures { Sends (W.sink w.old)
-        (caret_row (look_view look.entry) (line_view line.entry) ++ newline) result (W.sink w.new) }
+    ensures { Writes (W.sink w.old)
+        (caret_row (context_view context.entry) (line_view line.entry) ++ newline) result
+        (W.sink w.new) }
 {
-    write_row_start(w, look, line)?;
-    write_carets(w, look, line, source)?;
-    write_trailing(w, look.severity, messages.trailing)?;
+    write_row_start(w, context, line)?;
+    write_carets(w, context, line, source)?;
+    write_trailing(w, context.severity, messages.trailing)?;
     write_newline(w)
 }

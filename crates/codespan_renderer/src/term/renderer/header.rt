@@ -3,12 +3,12 @@
 ghost use Rattle.std.specs.Prelude.{◌≡◌, ◌++◌};
 ghost use Rattle.std.specs.Option.{option_map};
 ghost use Rattle.codespan_base.specs.Streams.{newline};
-ghost use Rattle.codespan_base.specs.WriterLaw.{Sends};
+ghost use Rattle.codespan_base.specs.WriterLaw.{Writes};
 ghost use Rattle.codespan_base.specs.SnippetStarts.{start_text};
-ghost use Rattle.codespan_picture.specs.Given.{locus_view, text_now};
+ghost use Rattle.codespan_picture.specs.Arguments.{locus_view, text_now};
 ghost use Rattle.codespan_picture.specs.RowParts.{severity_name};
 ghost use Rattle.codespan_picture.specs.RowStreams.{bracketed, leading_locus, start_row};
-ghost use Rattle.codespan_renderer.specs.Inner.GivenRows.{given_heading};
+ghost use Rattle.codespan_renderer.specs.Private.RowViews.{header_start_view};
 ghost use Rattle.codespan_renderer.specs.Renderers.{rendered_header};
 
 use crate::term::renderer::Locus;
@@ -32,9 +32,9 @@ fn severity_name(severity: Severity) -> &'static str
 }
 
 /// Writes the locus before a header, where there is one.
-#[tactic(auto, using(codespan_base::proofs::Sends::sendings), unfolding(codespan_picture::specs::RowStreams::leading_locus))]
+#[tactic(auto, using(codespan_base::proofs::Writes::write_chains), unfolding(codespan_picture::specs::RowStreams::leading_locus))]
 fn write_leading_locus<W: PutStyle>(w: &mut W, locus: Option<&Locus>) -> Result<(), W::Error>
-    ensures { Sends (W.sink w.old)
+    ensures { Writes (W.sink w.old)
         (leading_locus (option_map (λ at. locus_view at.now) locus.entry)) result (W.sink w.new) }
 {
     if let Some(locus) = locus {
@@ -45,9 +45,9 @@ fn write_leading_locus<W: PutStyle>(w: &mut W, locus: Option<&Locus>) -> Result<
 }
 
 /// Writes the code in brackets, where there is one that is not empty.
-#[tactic(auto, using(codespan_base::proofs::Sends::sendings), unfolding(codespan_picture::specs::RowStreams::bracketed))]
+#[tactic(auto, using(codespan_base::proofs::Writes::write_chains), unfolding(codespan_picture::specs::RowStreams::bracketed))]
 fn write_code<W: PutStyle>(w: &mut W, code: Option<&str>) -> Result<(), W::Error>
-    ensures { Sends (W.sink w.old) (bracketed (option_map text_now code.entry))
+    ensures { Writes (W.sink w.old) (bracketed (option_map text_now code.entry))
         result (W.sink w.new) }
 {
     match code {
@@ -61,13 +61,13 @@ fn write_code<W: PutStyle>(w: &mut W, code: Option<&str>) -> Result<(), W::Error
 }
 
 /// Writes a header up to its message.
-fn write_heading<W: PutStyle>(
+fn write_header_start<W: PutStyle>(
     w: &mut W,
     locus: Option<&Locus>,
     severity: Severity,
     code: Option<&str>,
 ) -> Result<(), W::Error>
-    ensures { Sends (W.sink w.old) (given_heading locus.entry severity code.entry)
+    ensures { Writes (W.sink w.old) (header_start_view locus.entry severity code.entry)
         result (W.sink w.new) }
 {
     write_leading_locus(w, locus)?;
@@ -84,10 +84,10 @@ pub fn write_header<W: PutStyle>(
     code: Option<&str>,
     message: &str,
 ) -> Result<(), W::Error>
-    ensures { Sends (W.sink w.old) (rendered_header locus.entry severity code.entry message.now)
+    ensures { Writes (W.sink w.old) (rendered_header locus.entry severity code.entry message.now)
         result (W.sink w.new) }
 {
-    write_heading(w, locus, severity, code)?;
+    write_header_start(w, locus, severity, code)?;
     w.set_header_message()?;
     put_all(w, b": ")?;
     put_all(w, message.as_bytes())?;
@@ -112,7 +112,7 @@ pub fn write_start<W: PutStyle>(
     padding: usize,
     locus: &Locus,
 ) -> Result<(), W::Error>
-    ensures { Sends (W.sink w.old) (start_row chars.now padding (locus_view locus.now) ++ newline)
+    ensures { Writes (W.sink w.old) (start_row chars.now padding (locus_view locus.now) ++ newline)
         result (W.sink w.new) }
 {
     outer_gutter(w, padding)?;

@@ -2,15 +2,15 @@
 
 ghost use Rattle.std.specs.Prelude.{◌≡◌, ◌+◌, ◌<◌, ◌≤◌, ◌&&◌, ℕ, None, drop, max};
 ghost use Rattle.std.specs.Option.{option_map};
-ghost use Rattle.codespan_base.specs.WriterLaw.{Sends};
-ghost use Rattle.codespan_picture.specs.Given.{mark_view, multi_label_view};
-ghost use Rattle.codespan_renderer.specs.Inner.GivenLine.{look_view, lanes_of_given, lane_row_view, given_lane, given_lanes};
-ghost use Rattle.codespan_renderer.specs.Inner.GivenRows.{given_filled};
-ghost use Rattle.codespan_renderer.specs.Inner.MarksLeft.{mark_here, marks_after};
-ghost use Rattle.codespan_picture.specs.Lanes.{filling, lane_cells, corner_line, is_unbroken, turns_early, row_crossing, row_shape, underline_shape};
+ghost use Rattle.codespan_base.specs.WriterLaw.{Writes};
+ghost use Rattle.codespan_picture.specs.Arguments.{lane_mark_view, multi_label_view};
+ghost use Rattle.codespan_renderer.specs.Private.LineViews.{context_view, lanes_view, lane_row_view, lane_of_view, row_lanes_view};
+ghost use Rattle.codespan_renderer.specs.Private.RowViews.{filled_lane_view};
+ghost use Rattle.codespan_renderer.specs.Private.LaneMarksLeft.{lane_mark_here, lane_marks_after};
+ghost use Rattle.codespan_picture.specs.Lanes.{filling, lane_cells, corner_line, is_unbroken, begins_in_source_row, row_crossing, row_shape, underline_shape};
 
 use crate::term::renderer::MultiLabel;
-use crate::term::renderer::line::{Lanes, Look};
+use crate::term::renderer::line::{Lanes, RowContext};
 use crate::term::renderer::parts::write_label_glyph;
 use codespan_base::diagnostic::LabelStyle;
 use codespan_base::term::config::put_style::PutStyle;
@@ -47,8 +47,8 @@ fn shape_in(
         (LaneRow::Source | LaneRow::Plain, MultiLabel::Top(_)) => Shape::Gap,
         (LaneRow::Below, MultiLabel::Top(start)) if goes_on(layout, leading, start) => Shape::Bar,
         (LaneRow::Below, MultiLabel::Top(_)) => Shape::Gap,
-        (LaneRow::Underline(turning, _, _), part) => {
-            underline_shape(layout, leading, turning, lane, part)
+        (LaneRow::Underline(corner_lane, _, _), part) => {
+            underline_shape(layout, leading, corner_lane, lane, part)
         }
         (_, _) => Shape::Bar,
     }
@@ -56,7 +56,7 @@ fn shape_in(
 
 /// Returns whether a lane with its corner in the source row goes on below it.
 fn goes_on(layout: Layout, leading: usize, start: usize) -> bool
-    ensures { result ≡ is_unbroken layout && turns_early leading start }
+    ensures { result ≡ is_unbroken layout && begins_in_source_row leading start }
 {
     match layout {
         Layout::Classic => false,
@@ -64,34 +64,39 @@ fn goes_on(layout: Layout, leading: usize, start: usize) -> bool
     }
 }
 
-/// Returns what a multi-line label mark shows in the underline row of the lane `turning`.
+/// Returns what a multi-line label mark shows in the underline row of the lane `corner_lane`.
 fn underline_shape(
     layout: Layout,
     leading: usize,
-    turning: usize,
+    corner_lane: usize,
     lane: usize,
     part: MultiLabel<'_>,
 ) -> Shape
-    ensures { result ≡ underline_shape layout leading turning lane (multi_label_view part.entry) }
+    ensures { result ≡ underline_shape layout leading corner_lane lane
+        (multi_label_view part.entry) }
 {
     match part {
         MultiLabel::Top(start) if goes_on(layout, leading, start) => Shape::Bar,
-        MultiLabel::Top(_) if lane == turning => Shape::TopCorner,
-        MultiLabel::Top(_) if lane < turning => Shape::Bar,
+        MultiLabel::Top(_) if lane == corner_lane => Shape::TopCorner,
+        MultiLabel::Top(_) if lane < corner_lane => Shape::Bar,
         MultiLabel::Top(_) => Shape::Gap,
         MultiLabel::Left => Shape::Bar,
-        MultiLabel::Bottom(_, _) if lane == turning => Shape::BottomCorner,
-        MultiLabel::Bottom(_, _) if lane < turning => Shape::Gap,
+        MultiLabel::Bottom(_, _) if lane == corner_lane => Shape::BottomCorner,
+        MultiLabel::Bottom(_, _) if lane < corner_lane => Shape::Gap,
         MultiLabel::Bottom(_, _) => Shape::Bar,
     }
 }
 
 /// Returns the multi-line label mark of an underline row whose corner is left of the lane.
 fn crossing<'d>(row: LaneRow<'d>, lane: usize) -> Option<(usize, LabelStyle, MultiLabel<'d>)>
-    ensures { option_map mark_view result ≡ row_crossing (lane_row_view row.entry) lane }
+    ensures { option_map lane_mark_view result ≡ row_crossing (lane_row_view row.entry) lane }
 {
     match row {
-        LaneRow::Underline(turning, style, part) if turning < lane => Some((turning, style, part)),
+        LaneRow::Underline(corner_lane, style, part) if corner_lane < lane => Some((
+            corner_lane,
+            style,
+            part,
+        )),
         _ => None,
     }
 }
@@ -110,19 +115,20 @@ fn corner_line(chars: &Chars<'_>, part: MultiLabel<'_>) -> char
 #[inline(always)]
 fn write_filling<W: PutStyle>(
     w: &mut W,
-    look: Look<'_>,
+    context: RowContext<'_>,
     crossing: Option<(usize, LabelStyle, MultiLabel<'_>)>,
     count: usize,
 ) -> Result<(), W::Error>
-    ensures { Sends (W.sink w.old)
-        (filling look.entry.severity look.entry.chars.now (option_map mark_view crossing.entry)
+    ensures { Writes (W.sink w.old)
+        (filling context.entry.severity context.entry.chars.now
+        (option_map lane_mark_view crossing.entry)
         count) result (W.sink w.new) }
 {
     match crossing {
         None => put_spaces(w, count),
         Some((_, style, part)) => {
-            w.set_label(look.severity, style)?;
-            put_repeated(w, corner_line(look.chars, part), count)?;
+            w.set_label(context.severity, style)?;
+            put_repeated(w, corner_line(context.chars, part), count)?;
             w.reset()
         }
     }
@@ -132,16 +138,16 @@ fn write_filling<W: PutStyle>(
 #[inline(always)]
 fn write_filled<W: PutStyle>(
     w: &mut W,
-    look: Look<'_>,
+    context: RowContext<'_>,
     crossing: Option<(usize, LabelStyle, MultiLabel<'_>)>,
     style: LabelStyle,
     own: char,
 ) -> Result<(), W::Error>
-    ensures { Sends (W.sink w.old) (given_filled look.entry crossing.entry style own)
+    ensures { Writes (W.sink w.old) (filled_lane_view context.entry crossing.entry style own)
         result (W.sink w.new) }
 {
-    write_filling(w, look, crossing, 1)?;
-    write_label_glyph(w, look.severity, style, own)
+    write_filling(w, context, crossing, 1)?;
+    write_label_glyph(w, context.severity, style, own)
 }
 
 /// Writes the two characters of a lane.
@@ -149,61 +155,68 @@ fn write_filled<W: PutStyle>(
 #[inline(always)]
 fn write_lane_cells<W: PutStyle>(
     w: &mut W,
-    look: Look<'_>,
+    context: RowContext<'_>,
     crossing: Option<(usize, LabelStyle, MultiLabel<'_>)>,
     style: LabelStyle,
     shape: Shape,
 ) -> Result<(), W::Error>
-    ensures { Sends (W.sink w.old)
-        (lane_cells look.entry.severity look.entry.chars.now (option_map mark_view crossing.entry)
+    ensures { Writes (W.sink w.old)
+        (lane_cells context.entry.severity context.entry.chars.now
+        (option_map lane_mark_view crossing.entry)
         style shape) result (W.sink w.new) }
 {
     match shape {
-        Shape::Gap => write_filling(w, look, crossing, 2),
-        Shape::Bar => write_filled(w, look, crossing, style, look.chars.multi_left),
-        Shape::TopCorner => write_filled(w, look, crossing, style, look.chars.multi_top_left),
-        Shape::BottomCorner => write_filled(w, look, crossing, style, look.chars.multi_bottom_left),
+        Shape::Gap => write_filling(w, context, crossing, 2),
+        Shape::Bar => write_filled(w, context, crossing, style, context.chars.multi_left),
+        Shape::TopCorner => write_filled(w, context, crossing, style, context.chars.multi_top_left),
+        Shape::BottomCorner => write_filled(
+            w,
+            context,
+            crossing,
+            style,
+            context.chars.multi_bottom_left,
+        ),
     }
 }
 
 /// Writes one lane, from the multi-line label mark in it.
-#[tactic(auto, unfolding(codespan_picture::specs::RowParts::lane_of, crate::specs::Inner::GivenLine::given_lane))]
+#[tactic(auto, unfolding(codespan_picture::specs::RowParts::lane_of, crate::specs::Private::LineViews::lane_of_view))]
 fn inner_gutter_column<W: PutStyle>(
     w: &mut W,
-    look: Look<'_>,
+    context: RowContext<'_>,
     leading: usize,
     row: LaneRow<'_>,
     lane: usize,
-    mark: Option<(usize, LabelStyle, MultiLabel<'_>)>,
+    lane_mark: Option<(usize, LabelStyle, MultiLabel<'_>)>,
 ) -> Result<(), W::Error>
-    ensures { Sends (W.sink w.old)
-        (given_lane (look_view look.entry) leading row.entry lane mark.entry)
+    ensures { Writes (W.sink w.old)
+        (lane_of_view (context_view context.entry) leading row.entry lane lane_mark.entry)
         result (W.sink w.new) }
 {
     let crossing = crossing(row, lane);
-    match mark {
-        None => write_lane_cells(w, look, crossing, LabelStyle::Primary, Shape::Gap),
+    match lane_mark {
+        None => write_lane_cells(w, context, crossing, LabelStyle::Primary, Shape::Gap),
         Some((_, style, part)) => {
-            let shape = shape_in(look.layout, leading, row, lane, part);
-            write_lane_cells(w, look, crossing, style, shape)
+            let shape = shape_in(context.layout, leading, row, lane, part);
+            write_lane_cells(w, context, crossing, style, shape)
         }
     }
 }
 
 /// Returns the next multi-line label mark, if it is in the lane, and the index of the one after it.
-#[tactic(auto, using(crate::proofs::LaneWalk::taking))]
-fn take_mark<'d>(
+#[tactic(auto, using(crate::proofs::LaneCursor::taking))]
+fn take_lane_mark<'d>(
     marks: &[(usize, LabelStyle, MultiLabel<'d>)],
     next: usize,
     lane: usize,
 ) -> (Option<(usize, LabelStyle, MultiLabel<'d>)>, usize)
-    ensures mark { result.0 ≡ mark_here (drop next marks.now) lane }
-    ensures after { drop result.1 marks.now ≡ marks_after (drop next marks.now) lane }
+    ensures lane_mark { result.0 ≡ lane_mark_here (drop next marks.now) lane }
+    ensures after { drop result.1 marks.now ≡ lane_marks_after (drop next marks.now) lane }
 {
     if next < marks.len() {
-        let mark = marks[next];
-        if mark.0 == lane {
-            return (Some(mark), next + 1);
+        let lane_mark = marks[next];
+        if lane_mark.0 == lane {
+            return (Some(lane_mark), next + 1);
         }
     }
     (None, next)
@@ -212,7 +225,7 @@ fn take_mark<'d>(
 /// Returns the lane of the next multi-line label mark, or the number of lanes where none is left.
 fn next_lane(lanes: Lanes<'_, '_>, next: usize) -> usize
     ensures bare { (lane : ℕ) → lane < result
-        → mark_here (drop next lanes.entry.marks.now) lane ≡ None }
+        → lane_mark_here (drop next lanes.entry.marks.now) lane ≡ None }
     ensures within { result ≤ lanes.entry.count }
 {
     if next < lanes.marks.len() {
@@ -223,21 +236,21 @@ fn next_lane(lanes: Lanes<'_, '_>, next: usize) -> usize
 }
 
 /// The greatest number of empty lanes that are written at once.
-const MAX_BLANK_LANES: usize = 32;
+const MAX_EMPTY_LANES: usize = 32;
 
 /// Returns how many lanes from this one on, up to that of the next multi-line label mark, are
 /// empty: no line runs through them from a corner. At most as many as are written at once.
-fn blank_lanes(row: LaneRow<'_>, lane: usize, until: usize) -> usize
+fn num_empty_lanes(row: LaneRow<'_>, lane: usize, until: usize) -> usize
     ensures bare { (other : ℕ) → lane ≤ other → other < lane + result
         → row_crossing (lane_row_view row.entry) other ≡ None }
     ensures within { lane + result ≤ max lane until }
-    ensures few { result ≤ MAX_BLANK_LANES }
+    ensures few { result ≤ MAX_EMPTY_LANES }
 {
     let end = match row {
-        LaneRow::Underline(turning, _, _) => until.min(turning.saturating_add(1)),
+        LaneRow::Underline(corner_lane, _, _) => until.min(corner_lane.saturating_add(1)),
         _ => until,
     };
-    end.saturating_sub(lane).min(MAX_BLANK_LANES)
+    end.saturating_sub(lane).min(MAX_EMPTY_LANES)
 }
 
 /// Writes the lanes of a row, from left to right. Most rows have none, which is tested before any
@@ -245,44 +258,44 @@ fn blank_lanes(row: LaneRow<'_>, lane: usize, until: usize) -> usize
 #[inline(always)]
 pub fn inner_gutter<W: PutStyle>(
     w: &mut W,
-    look: Look<'_>,
+    context: RowContext<'_>,
     leading: usize,
     row: LaneRow<'_>,
     lanes: Lanes<'_, '_>,
 ) -> Result<(), W::Error>
-    ensures { Sends (W.sink w.old)
-        (given_lanes (look_view look.entry) leading row.entry (lanes_of_given lanes.entry))
+    ensures { Writes (W.sink w.old)
+        (row_lanes_view (context_view context.entry) leading row.entry (lanes_view lanes.entry))
         result (W.sink w.new) }
 {
     if lanes.count == 0 {
         Ok(())
     } else {
-        inner_gutter_columns(w, look, leading, row, lanes)
+        inner_gutter_columns(w, context, leading, row, lanes)
     }
 }
 
 /// Writes each lane of a row.
 fn inner_gutter_columns<W: PutStyle>(
     w: &mut W,
-    look: Look<'_>,
+    context: RowContext<'_>,
     leading: usize,
     row: LaneRow<'_>,
     lanes: Lanes<'_, '_>,
 ) -> Result<(), W::Error>
-    ensures { Sends (W.sink w.old)
-        (given_lanes (look_view look.entry) leading row.entry (lanes_of_given lanes.entry))
+    ensures { Writes (W.sink w.old)
+        (row_lanes_view (context_view context.entry) leading row.entry (lanes_view lanes.entry))
         result (W.sink w.new) }
 {
     let mut next = 0;
     let mut lane = 0;
     while lane < lanes.count {
-        let blank = blank_lanes(row, lane, next_lane(lanes, next));
-        if blank > 0 {
-            put_spaces(w, blank + blank)?;
-            lane += blank;
+        let empty = num_empty_lanes(row, lane, next_lane(lanes, next));
+        if empty > 0 {
+            put_spaces(w, empty + empty)?;
+            lane += empty;
         } else {
-            let (mark, after) = take_mark(lanes.marks, next, lane);
-            inner_gutter_column(w, look, leading, row, lane, mark)?;
+            let (lane_mark, after) = take_lane_mark(lanes.marks, next, lane);
+            inner_gutter_column(w, context, leading, row, lane, lane_mark)?;
             next = after;
             lane += 1;
         }

@@ -2,8 +2,8 @@
 
 ghost use Rattle.std.specs.Prelude.{◌≡◌, IsTrue};
 ghost use Rattle.std.specs.Str.{IsUtf8};
-ghost use Rattle.codespan_picture.specs.Cells.{leading_whitespace, drawn_text, is_line_end};
-ghost use Rattle.codespan_picture.specs.Given.{lanes_in_order};
+ghost use Rattle.codespan_picture.specs.CharMetrics.{leading_whitespace, drawn_text, is_line_end};
+ghost use Rattle.codespan_picture.specs.Arguments.{lanes_in_order};
 
 use crate::term::renderer::{MultiLabel, SingleLabel};
 use codespan_base::diagnostic::{LabelStyle, Severity};
@@ -11,7 +11,7 @@ use codespan_base::term::{Chars, Layout};
 
 /// What all rows of one call share.
 #[derive(Clone, Copy)]
-pub struct Look<'config> {
+pub struct RowContext<'config> {
     /// The characters of borders, carets and lanes.
     pub chars: &'config Chars<'config>,
     /// The number of cells from one tab stop to the next.
@@ -52,7 +52,7 @@ pub struct Line<'row, 'd> {
 }
 
 impl<'row, 'd> Line<'row, 'd> {
-    ghost use Rattle.codespan_renderer.specs.Inner.GivenLine.{line_view};
+    ghost use Rattle.codespan_renderer.specs.Private.LineViews.{line_view};
     ghost use Rattle.codespan_renderer.specs.Renderers.{source_line};
 
     /// Returns a line of this number, whose text is the source without the line feeds, carriage

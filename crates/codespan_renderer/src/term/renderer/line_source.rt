@@ -1,16 +1,16 @@
 //! The characters of a line, as its rows need them.
 
 ghost use Rattle.std.specs.Prelude.{◌≡◌, ◌≤◌};
-ghost use Rattle.codespan_base.specs.WriterLaw.{Sends};
-ghost use Rattle.codespan_picture.specs.Cells.{width_of};
-ghost use Rattle.codespan_picture.specs.Given.{single_label_views};
-ghost use Rattle.codespan_picture.specs.RowParts.{cells_before, cells_up_to, greatest_start};
-ghost use Rattle.codespan_renderer.specs.Inner.GivenRows.{given_cells, given_pointers, given_pointers_before};
-ghost use Rattle.codespan_renderer.specs.Inner.Runs.{AreHanging, least_start};
-ghost use Rattle.codespan_renderer.specs.Inner.LineSources.{LeavesOut, SourcedLine, sourced_line, characters_of, characters_to_end_of};
+ghost use Rattle.codespan_base.specs.WriterLaw.{Writes};
+ghost use Rattle.codespan_picture.specs.CharMetrics.{width_of};
+ghost use Rattle.codespan_picture.specs.Arguments.{single_label_views};
+ghost use Rattle.codespan_picture.specs.RowParts.{metrics_before, metrics_up_to, greatest_start};
+ghost use Rattle.codespan_renderer.specs.Private.RowViews.{line_metrics_view, pointers_view, pointers_before_view};
+ghost use Rattle.codespan_renderer.specs.Private.Runs.{AreHanging, least_start};
+ghost use Rattle.codespan_renderer.specs.Private.LineSources.{LeavesOut, SourcedLine, sourced_line, characters_of, characters_to_end_of};
 
 use crate::term::renderer::char_cursor::CharCursor;
-use crate::term::renderer::line::{Line, Look};
+use crate::term::renderer::line::{Line, RowContext};
 use crate::term::renderer::messages::Messages;
 use codespan_base::term::config::put_style::PutStyle;
 
@@ -39,15 +39,15 @@ pub trait LineSource {
         ensures labels { Self.Cursor.labels result.1 ≡ (of self.now).labels };
 
     /// Returns how many cells the characters take that begin at this byte index or before it.
-    fn width_up_to(&self, place: usize) -> u128
-        ensures { result ≡ width_of (cells_up_to place (characters_of (of self.now))) };
+    fn width_up_to(&self, byte_index: usize) -> u128
+        ensures { result ≡ width_of (metrics_up_to byte_index (characters_of (of self.now))) };
 
     /// Returns how many cells the characters take that begin before this byte index.
     #[tactic(auto, using(crate::proofs::Underlines::widths_before))]
-    fn width_before(&self, place: usize) -> u128
-        ensures { result ≡ width_of (cells_before place (characters_of (of self.now))) }
+    fn width_before(&self, byte_index: usize) -> u128
+        ensures { result ≡ width_of (metrics_before byte_index (characters_of (of self.now))) }
     {
-        match place.checked_sub(1) {
+        match byte_index.checked_sub(1) {
             Some(last) => self.width_up_to(last),
             None => 0,
         }
@@ -57,14 +57,14 @@ pub trait LineSource {
     fn caret_pointers<W: PutStyle>(
         &self,
         w: &mut W,
-        look: Look<'_>,
+        context: RowContext<'_>,
         line: Line<'_, '_>,
         messages: Messages<'_, '_>,
     ) -> Result<(), W::Error>
-        requires of { of self.now ≡ sourced_line look line }
+        requires of { of self.now ≡ sourced_line context line }
         requires hanging { AreHanging line.labels.now messages.before.now messages.after.now }
-        ensures { Sends (W.sink w.old)
-            (given_pointers look.entry line.entry (given_cells look.entry line.entry))
+        ensures { Writes (W.sink w.old)
+            (pointers_view context.entry line.entry (line_metrics_view context.entry line.entry))
             result (W.sink w.new) };
 
     /// Writes the pointers of the characters that begin before this byte index, which is at most
@@ -72,14 +72,14 @@ pub trait LineSource {
     fn caret_pointers_before<W: PutStyle>(
         &self,
         w: &mut W,
-        look: Look<'_>,
+        context: RowContext<'_>,
         line: Line<'_, '_>,
         messages: Messages<'_, '_>,
         before: usize,
     ) -> Result<(), W::Error>
-        requires of { of self.now ≡ sourced_line look line }
+        requires of { of self.now ≡ sourced_line context line }
         requires hanging { AreHanging line.labels.now messages.before.now messages.after.now }
         requires near { before ≤ greatest_start (single_label_views line.labels.now) }
-        ensures { Sends (W.sink w.old) (given_pointers_before look.entry line.entry before)
+        ensures { Writes (W.sink w.old) (pointers_before_view context.entry line.entry before)
             result (W.sink w.new) };
 }

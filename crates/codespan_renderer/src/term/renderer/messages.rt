@@ -2,8 +2,8 @@
 
 ghost use Rattle.std.specs.Prelude.{◌≡◌, ◌<◌, length, false, IfSome};
 ghost use Rattle.std.specs.Option.{option_map_or};
-ghost use Rattle.codespan_picture.specs.Given.{single_label_view, single_label_views};
-ghost use Rattle.codespan_renderer.specs.Inner.Runs.{given_label, entry_given, AreHanging, ArePieces};
+ghost use Rattle.codespan_picture.specs.Arguments.{single_label_view, single_label_views};
+ghost use Rattle.codespan_renderer.specs.Private.Runs.{optional_label_view, label_entry_view, AreHanging, ArePieces};
 ghost use Rattle.codespan_picture.specs.Rows.{trailing, last_with_end, is_overlapped, does_trail};
 
 use crate::term::renderer::SingleLabel;
@@ -24,15 +24,16 @@ impl<'row, 'd> Messages<'row, 'd> {
     /// Finds the trailing label: the last of those with the greatest end, where it has a message
     /// and overlaps no other label. Each other label with a message hangs.
     pub fn of(labels: &'row [SingleLabel<'d>]) -> Messages<'row, 'd>
-        ensures trailing { given_label result.trailing ≡ trailing (single_label_views labels.now) }
+        ensures trailing { optional_label_view result.trailing
+            ≡ trailing (single_label_views labels.now) }
         ensures hanging { AreHanging labels.now result.before.now result.after.now }
         ensures pieces { ArePieces labels.now result.before.now result.after.now }
     {
         match last_with_end(labels, greatest_end(labels)) {
-            Some(place) if does_trail(labels, place) => Messages {
-                trailing: Some(&labels[place]),
-                before: &labels[..place],
-                after: &labels[place + 1..],
+            Some(index) if does_trail(labels, index) => Messages {
+                trailing: Some(&labels[index]),
+                before: &labels[..index],
+                after: &labels[index + 1..],
             },
             _ => Messages {
                 trailing: None,
@@ -46,12 +47,12 @@ impl<'row, 'd> Messages<'row, 'd> {
 /// Returns the index of the last label with this end.
 fn last_with_end(labels: &[SingleLabel<'_>], end: usize) -> Option<usize>
     ensures value { last_with_end end (single_label_views labels.now)
-        ≡ entry_given labels.now result }
-    ensures within { IfSome result (λ place. place < length labels.now) }
+        ≡ label_entry_view labels.now result }
+    ensures within { IfSome result (λ index. index < length labels.now) }
 {
-    for place in (0..labels.len()).rev() {
-        if labels[place].1.end == end {
-            return Some(place);
+    for index in (0..labels.len()).rev() {
+        if labels[index].1.end == end {
+            return Some(index);
         }
     }
     None
@@ -59,15 +60,15 @@ fn last_with_end(labels: &[SingleLabel<'_>], end: usize) -> Option<usize>
 
 /// Returns whether the message of the label at this index trails: it has one, and overlaps no other
 /// label of the line.
-fn does_trail(labels: &[SingleLabel<'_>], place: usize) -> bool
-    requires { place < length labels.now }
+fn does_trail(labels: &[SingleLabel<'_>], index: usize) -> bool
+    requires { index < length labels.now }
     ensures { result ≡ option_map_or (does_trail (single_label_views labels.now))
-        (entry_given labels.now (Some place)) false }
+        (label_entry_view labels.now (Some index)) false }
 {
-    let label = &labels[place];
+    let label = &labels[index];
     !label.2.is_empty()
-        && !is_overlapped(label, &labels[..place])
-        && !is_overlapped(label, &labels[place + 1..])
+        && !is_overlapped(label, &labels[..index])
+        && !is_overlapped(label, &labels[index + 1..])
 }
 
 /// Returns whether one of the others overlaps the label.

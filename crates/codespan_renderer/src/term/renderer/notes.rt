@@ -3,13 +3,13 @@
 ghost use Rattle.std.specs.Prelude.{◌++◌};
 ghost use Rattle.std.specs.Str.Lines.{lines};
 ghost use Rattle.codespan_base.specs.Streams.{newline};
-ghost use Rattle.codespan_base.specs.WriterLaw.{Sends};
-ghost use Rattle.codespan_renderer.specs.Inner.GivenLine.{look_view, lanes_of_given};
+ghost use Rattle.codespan_base.specs.WriterLaw.{Writes};
+ghost use Rattle.codespan_renderer.specs.Private.LineViews.{context_view, lanes_view};
 ghost use Rattle.codespan_picture.specs.RowStreams.{empty_row, break_row, first_note_row, later_note_row};
 ghost use Rattle.codespan_renderer.specs.Renderers.{note_stream};
 
 use crate::term::renderer::lanes::{LaneRow, inner_gutter};
-use crate::term::renderer::line::{Lanes, Look};
+use crate::term::renderer::line::{Lanes, RowContext};
 use crate::term::renderer::parts::{
     border_left, border_left_break, outer_gutter, write_newline, write_space,
 };
@@ -20,32 +20,32 @@ use codespan_base::term::config::writing::{put_all, put_char};
 /// Writes a row of a snippet without source.
 pub fn write_empty<W: PutStyle>(
     w: &mut W,
-    look: Look<'_>,
+    context: RowContext<'_>,
     lanes: Lanes<'_, '_>,
 ) -> Result<(), W::Error>
-    ensures { Sends (W.sink w.old)
-        (empty_row (look_view look.entry) (lanes_of_given lanes.entry) ++ newline)
+    ensures { Writes (W.sink w.old)
+        (empty_row (context_view context.entry) (lanes_view lanes.entry) ++ newline)
         result (W.sink w.new) }
 {
-    outer_gutter(w, look.padding)?;
-    border_left(w, look.chars)?;
-    inner_gutter(w, look, 0, LaneRow::Plain, lanes)?;
+    outer_gutter(w, context.padding)?;
+    border_left(w, context.chars)?;
+    inner_gutter(w, context, 0, LaneRow::Plain, lanes)?;
     write_newline(w)
 }
 
 /// Writes the row of a break.
 pub fn write_break<W: PutStyle>(
     w: &mut W,
-    look: Look<'_>,
+    context: RowContext<'_>,
     lanes: Lanes<'_, '_>,
 ) -> Result<(), W::Error>
-    ensures { Sends (W.sink w.old)
-        (break_row (look_view look.entry) (lanes_of_given lanes.entry) ++ newline)
+    ensures { Writes (W.sink w.old)
+        (break_row (context_view context.entry) (lanes_view lanes.entry) ++ newline)
         result (W.sink w.new) }
 {
-    outer_gutter(w, look.padding)?;
-    border_left_break(w, look.chars)?;
-    inner_gutter(w, look, 0, LaneRow::Plain, lanes)?;
+    outer_gutter(w, context.padding)?;
+    border_left_break(w, context.chars)?;
+    inner_gutter(w, context, 0, LaneRow::Plain, lanes)?;
     write_newline(w)
 }
 
@@ -56,7 +56,7 @@ fn write_first_piece<W: PutStyle>(
     padding: usize,
     piece: &str,
 ) -> Result<(), W::Error>
-    ensures { Sends (W.sink w.old) (first_note_row chars.now padding piece.now ++ newline)
+    ensures { Writes (W.sink w.old) (first_note_row chars.now padding piece.now ++ newline)
         result (W.sink w.new) }
 {
     outer_gutter(w, padding)?;
@@ -70,7 +70,7 @@ fn write_first_piece<W: PutStyle>(
 
 /// Writes a later row of a note.
 fn write_later_piece<W: PutStyle>(w: &mut W, padding: usize, piece: &str) -> Result<(), W::Error>
-    ensures { Sends (W.sink w.old) (later_note_row padding piece.now ++ newline)
+    ensures { Writes (W.sink w.old) (later_note_row padding piece.now ++ newline)
         result (W.sink w.new) }
 {
     outer_gutter(w, padding)?;
@@ -87,7 +87,7 @@ pub fn write_note<W: PutStyle>(
     padding: usize,
     message: &str,
 ) -> Result<(), W::Error>
-    ensures { Sends (W.sink w.old) (note_stream chars.now padding (lines message.now))
+    ensures { Writes (W.sink w.old) (note_stream chars.now padding (lines message.now))
         result (W.sink w.new) }
 {
     let mut pieces = message.lines();

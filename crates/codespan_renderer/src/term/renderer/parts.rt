@@ -2,16 +2,16 @@
 
 ghost use Rattle.std.specs.Prelude.{◌≡◌, length, decimal};
 ghost use Rattle.codespan_base.specs.Streams.{space, newline};
-ghost use Rattle.codespan_base.specs.WriterLaw.{Sends};
-ghost use Rattle.codespan_picture.specs.Given.{locus_view};
-ghost use Rattle.codespan_renderer.specs.Inner.GivenLine.{look_view, line_view};
+ghost use Rattle.codespan_base.specs.WriterLaw.{Writes};
+ghost use Rattle.codespan_picture.specs.Arguments.{locus_view};
+ghost use Rattle.codespan_renderer.specs.Private.LineViews.{context_view, line_view};
 ghost use Rattle.codespan_picture.specs.Lanes.{label_glyph};
 ghost use Rattle.codespan_picture.specs.RowParts.{gutter, numbered_gutter, border, break_border, locus, change};
-ghost use Rattle.codespan_picture.specs.RowStreams.{opening};
+ghost use Rattle.codespan_picture.specs.RowStreams.{row_start};
 
 use crate::term::renderer::Locus;
 use crate::term::renderer::lanes::{LaneRow, inner_gutter};
-use crate::term::renderer::line::{Line, Look};
+use crate::term::renderer::line::{Line, RowContext};
 use crate::term::renderer::runs::write_spaces;
 use codespan_base::diagnostic::{LabelStyle, Severity};
 use codespan_base::term::Chars;
@@ -20,14 +20,14 @@ use codespan_base::term::config::writing::{put_all, put_char, put_number, put_sp
 
 /// Writes the end of a row: a line feed.
 pub fn write_newline<W: PutStyle>(w: &mut W) -> Result<(), W::Error>
-    ensures { Sends (W.sink w.old) newline result (W.sink w.new) }
+    ensures { Writes (W.sink w.old) newline result (W.sink w.new) }
 {
     put_all(w, b"\n")
 }
 
 /// Writes a space.
 pub fn write_space<W: PutStyle>(w: &mut W) -> Result<(), W::Error>
-    ensures { Sends (W.sink w.old) space result (W.sink w.new) }
+    ensures { Writes (W.sink w.old) space result (W.sink w.new) }
 {
     put_all(w, b" ")
 }
@@ -35,7 +35,7 @@ pub fn write_space<W: PutStyle>(w: &mut W) -> Result<(), W::Error>
 /// Writes the outer gutter without a line number: the padding and one space more.
 #[inline(always)]
 pub fn outer_gutter<W: PutStyle>(w: &mut W, padding: usize) -> Result<(), W::Error>
-    ensures { Sends (W.sink w.old) (gutter padding) result (W.sink w.new) }
+    ensures { Writes (W.sink w.old) (gutter padding) result (W.sink w.new) }
 {
     write_spaces(w, padding as u128 + 1)
 }
@@ -62,7 +62,7 @@ pub fn outer_gutter_number<W: PutStyle>(
     padding: usize,
     number: usize,
 ) -> Result<(), W::Error>
-    ensures { Sends (W.sink w.old) (numbered_gutter padding number) result (W.sink w.new) }
+    ensures { Writes (W.sink w.old) (numbered_gutter padding number) result (W.sink w.new) }
 {
     w.set_line_number()?;
     put_spaces(w, padding.saturating_sub(count_digits(number)))?;
@@ -74,7 +74,7 @@ pub fn outer_gutter_number<W: PutStyle>(
 /// Writes the left border.
 #[inline(always)]
 pub fn border_left<W: PutStyle>(w: &mut W, chars: &Chars<'_>) -> Result<(), W::Error>
-    ensures { Sends (W.sink w.old) (border chars.now) result (W.sink w.new) }
+    ensures { Writes (W.sink w.old) (border chars.now) result (W.sink w.new) }
 {
     w.set_source_border()?;
     put_char(w, chars.source_border_left)?;
@@ -83,7 +83,7 @@ pub fn border_left<W: PutStyle>(w: &mut W, chars: &Chars<'_>) -> Result<(), W::E
 
 /// Writes the left border of a break row.
 pub fn border_left_break<W: PutStyle>(w: &mut W, chars: &Chars<'_>) -> Result<(), W::Error>
-    ensures { Sends (W.sink w.old) (break_border chars.now) result (W.sink w.new) }
+    ensures { Writes (W.sink w.old) (break_border chars.now) result (W.sink w.new) }
 {
     w.set_source_border()?;
     put_char(w, chars.source_border_left_break)?;
@@ -98,7 +98,7 @@ pub fn write_label_glyph<W: PutStyle>(
     style: LabelStyle,
     c: char,
 ) -> Result<(), W::Error>
-    ensures { Sends (W.sink w.old) (label_glyph severity style c) result (W.sink w.new) }
+    ensures { Writes (W.sink w.old) (label_glyph severity style c) result (W.sink w.new) }
 {
     w.set_label(severity, style)?;
     put_char(w, c)?;
@@ -106,16 +106,16 @@ pub fn write_label_glyph<W: PutStyle>(
 }
 
 /// Writes the style mark where the style changes, and the reset where it ends.
-#[tactic(auto, using(codespan_base::proofs::Sends::sendings), unfolding(codespan_picture::specs::RowParts::change))]
+#[tactic(auto, using(codespan_base::proofs::Writes::write_chains), unfolding(codespan_picture::specs::RowParts::change))]
 pub fn change_style<W: PutStyle>(
     w: &mut W,
     severity: Severity,
-    was: Option<LabelStyle>,
+    previous: Option<LabelStyle>,
     style: Option<LabelStyle>,
 ) -> Result<(), W::Error>
-    ensures { Sends (W.sink w.old) (change severity was style) result (W.sink w.new) }
+    ensures { Writes (W.sink w.old) (change severity previous style) result (W.sink w.new) }
 {
-    match (was, style) {
+    match (previous, style) {
         (None, None)
         | (Some(LabelStyle::Primary), Some(LabelStyle::Primary))
         | (Some(LabelStyle::Secondary), Some(LabelStyle::Secondary)) => Ok(()),
@@ -127,7 +127,7 @@ pub fn change_style<W: PutStyle>(
 /// Writes a locus: name, line number and column number.
 #[inline(always)]
 pub fn snippet_locus<W: PutStyle>(w: &mut W, at: &Locus) -> Result<(), W::Error>
-    ensures { Sends (W.sink w.old) (locus (locus_view at.now)) result (W.sink w.new) }
+    ensures { Writes (W.sink w.old) (locus (locus_view at.now)) result (W.sink w.new) }
 {
     put_all(w, at.name.as_bytes())?;
     put_all(w, b":")?;
@@ -141,14 +141,14 @@ pub fn snippet_locus<W: PutStyle>(w: &mut W, at: &Locus) -> Result<(), W::Error>
 #[inline(always)]
 pub fn write_row_start<W: PutStyle>(
     w: &mut W,
-    look: Look<'_>,
+    context: RowContext<'_>,
     line: Line<'_, '_>,
 ) -> Result<(), W::Error>
-    ensures { Sends (W.sink w.old) (opening (look_view look.entry) (line_view line.entry))
+    ensures { Writes (W.sink w.old) (row_start (context_view context.entry) (line_view line.entry))
         result (W.sink w.new) }
 {
-    outer_gutter(w, look.padding)?;
-    border_left(w, look.chars)?;
-    inner_gutter(w, look, line.leading, LaneRow::Below, line.lanes)?;
+    outer_gutter(w, context.padding)?;
+    border_left(w, context.chars)?;
+    inner_gutter(w, context, line.leading, LaneRow::Below, line.lanes)?;
     write_space(w)
 }

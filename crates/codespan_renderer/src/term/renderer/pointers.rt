@@ -3,23 +3,23 @@
 ghost use Rattle.std.specs.Prelude.{◌≡◌, ◌≤◌, ◌++◌, filter};
 ghost use Rattle.std.specs.List.{list_any};
 ghost use Rattle.codespan_base.specs.Labels.{has_message};
-ghost use Rattle.codespan_base.specs.Streams.{newline, blanks};
-ghost use Rattle.codespan_base.specs.WriterLaw.{Sends};
-ghost use Rattle.codespan_picture.specs.Cells.{cells};
-ghost use Rattle.codespan_picture.specs.Given.{single_label_view, single_label_views};
-ghost use Rattle.codespan_renderer.specs.Inner.GivenLine.{look_view, line_view};
-ghost use Rattle.codespan_renderer.specs.Inner.GivenRows.{given_cells, given_hanging, given_hanging_rows, given_messages, given_pointers_before};
+ghost use Rattle.codespan_base.specs.Streams.{newline, spaces};
+ghost use Rattle.codespan_base.specs.WriterLaw.{Writes};
+ghost use Rattle.codespan_picture.specs.CharMetrics.{char_metrics};
+ghost use Rattle.codespan_picture.specs.Arguments.{single_label_view, single_label_views};
+ghost use Rattle.codespan_renderer.specs.Private.LineViews.{context_view, line_view};
+ghost use Rattle.codespan_renderer.specs.Private.RowViews.{line_metrics_view, hanging_stream_view, hanging_rows_view, messages_view, pointers_before_view};
 ghost use Rattle.codespan_picture.specs.Lanes.{label_glyph};
 ghost use Rattle.codespan_picture.specs.Rows.{hanging};
-ghost use Rattle.codespan_picture.specs.RowParts.{cells_before, greatest_start, pointers, starts_in};
+ghost use Rattle.codespan_picture.specs.RowParts.{metrics_before, greatest_start, pointers, starts_in};
 ghost use Rattle.codespan_picture.specs.RowStreams.{pointer_row, hanging_row};
-ghost use Rattle.codespan_renderer.specs.Inner.Runs.{best_from, pointer_found, AreHanging, ArePieces};
-ghost use Rattle.codespan_renderer.specs.Inner.LineSources.{sourced_line};
+ghost use Rattle.codespan_renderer.specs.Private.Runs.{best_from, pointer_found, AreHanging, ArePieces};
+ghost use Rattle.codespan_renderer.specs.Private.LineSources.{sourced_line};
 
 use crate::term::renderer::SingleLabel;
 use crate::term::renderer::carets::{better, write_message};
-use crate::term::renderer::cells::{Cell, Cells};
-use crate::term::renderer::line::{Line, Look};
+use crate::term::renderer::char_metrics::{CharMetrics, Metrics};
+use crate::term::renderer::line::{Line, RowContext};
 use crate::term::renderer::line_source::LineSource;
 use crate::term::renderer::messages::Messages;
 use crate::term::renderer::parts::{write_label_glyph, write_newline, write_row_start};
@@ -39,11 +39,11 @@ pub fn greatest_start(labels: &[SingleLabel<'_>]) -> usize
 }
 
 /// Returns whether the label starts in the character.
-fn starts_in(cell: Cell, label: &SingleLabel<'_>) -> bool
-    ensures { result ≡ starts_in cell (single_label_view label.now) }
+fn starts_in(metrics: Metrics, label: &SingleLabel<'_>) -> bool
+    ensures { result ≡ starts_in metrics (single_label_view label.now) }
 {
-    match label.1.start.checked_sub(cell.place) {
-        Some(inside) => inside < cell.bytes,
+    match label.1.start.checked_sub(metrics.byte_index) {
+        Some(inside) => inside < metrics.bytes,
         None => false,
     }
 }
@@ -53,14 +53,14 @@ fn starts_in(cell: Cell, label: &SingleLabel<'_>) -> bool
 fn best_start(
     found: Option<LabelStyle>,
     labels: &[SingleLabel<'_>],
-    cell: Cell,
+    metrics: Metrics,
 ) -> Option<LabelStyle>
     ensures { result
-        ≡ best_from (starts_in cell) found (filter has_message (single_label_views labels.now)) }
+        ≡ best_from (starts_in metrics) found (filter has_message (single_label_views labels.now)) }
 {
     let mut best = found;
     for label in labels {
-        if !label.2.is_empty() && starts_in(cell, label) {
+        if !label.2.is_empty() && starts_in(metrics, label) {
             best = better(best, label.0);
         }
     }
@@ -72,15 +72,15 @@ fn best_start(
 fn pointer_in(
     labels: &[SingleLabel<'_>],
     messages: Messages<'_, '_>,
-    cell: Cell,
+    metrics: Metrics,
 ) -> Option<LabelStyle>
     requires { AreHanging labels.now messages.before.now messages.after.now }
-    ensures { result ≡ pointer_found (hanging (single_label_views labels.now)) cell }
+    ensures { result ≡ pointer_found (hanging (single_label_views labels.now)) metrics }
 {
     best_start(
-        best_start(None, messages.before, cell),
+        best_start(None, messages.before, metrics),
         messages.after,
-        cell,
+        metrics,
     )
 }
 
@@ -88,113 +88,115 @@ fn pointer_in(
 #[inline(always)]
 pub fn caret_pointer<W: PutStyle>(
     w: &mut W,
-    look: Look<'_>,
-    blank: u128,
+    context: RowContext<'_>,
+    pending: u128,
     style: LabelStyle,
 ) -> Result<(), W::Error>
-    ensures { Sends (W.sink w.old)
-        (blanks blank ++ label_glyph look.entry.severity style look.entry.chars.now.pointer_left)
+    ensures { Writes (W.sink w.old)
+        (spaces pending ++ label_glyph context.entry.severity style
+        context.entry.chars.now.pointer_left)
         result (W.sink w.new) }
 {
-    write_spaces(w, blank)?;
-    write_label_glyph(w, look.severity, style, look.chars.pointer_left)
+    write_spaces(w, pending)?;
+    write_label_glyph(w, context.severity, style, context.chars.pointer_left)
 }
 
 /// Writes the pointers of the characters of a line that begin before a byte index. It tests each
 /// label at each of them.
 pub fn scanned_caret_pointers<W: PutStyle>(
     w: &mut W,
-    look: Look<'_>,
+    context: RowContext<'_>,
     line: Line<'_, '_>,
     messages: Messages<'_, '_>,
     before: usize,
 ) -> Result<(), W::Error>
     requires { AreHanging line.labels.now messages.before.now messages.after.now }
-    ensures { Sends (W.sink w.old) (given_pointers_before look.entry line.entry before)
+    ensures { Writes (W.sink w.old) (pointers_before_view context.entry line.entry before)
         result (W.sink w.new) }
 {
     let reach = greatest_start(line.labels);
-    let mut blank = 0u128;
-    for cell in Cells::new(line.text, look.tab_width) {
-        if cell.place >= before {
+    let mut pending = 0u128;
+    for metrics in CharMetrics::new(line.text, context.tab_width) {
+        if metrics.byte_index >= before {
             continue;
         }
-        let mut width = cell.width;
-        if let Some(style) = pointer_in(line.labels, messages, cell) {
-            caret_pointer(w, look, blank, style)?;
-            blank = 0;
+        let mut width = metrics.width;
+        if let Some(style) = pointer_in(line.labels, messages, metrics) {
+            caret_pointer(w, context, pending, style)?;
+            pending = 0;
             width = width.saturating_sub(1);
         }
-        if cell.place <= reach {
-            blank += width as u128;
+        if metrics.byte_index <= reach {
+            pending += width as u128;
         }
     }
-    write_spaces(w, blank)
+    write_spaces(w, pending)
 }
 
 /// Writes the row of the pointers under a line.
 fn write_pointer_row<W: PutStyle, S: LineSource>(
     w: &mut W,
-    look: Look<'_>,
+    context: RowContext<'_>,
     line: Line<'_, '_>,
     source: &S,
     messages: Messages<'_, '_>,
 ) -> Result<(), W::Error>
-    requires of { S.of source.now ≡ sourced_line look line }
+    requires of { S.of source.now ≡ sourced_line context line }
     requires hanging { AreHanging line.labels.now messages.before.now messages.after.now }
-    ensures { Sends (W.sink w.old)
-        (pointer_row (look_view look.entry) (line_view line.entry) ++ newline)
+    ensures { Writes (W.sink w.old)
+        (pointer_row (context_view context.entry) (line_view line.entry) ++ newline)
         result (W.sink w.new) }
 {
-    write_row_start(w, look, line)?;
-    source.caret_pointers(w, look, line, messages)?;
+    write_row_start(w, context, line)?;
+    source.caret_pointers(w, context, line, messages)?;
     write_newline(w)
 }
 
 /// Writes a hanging message under its pointer.
 fn write_hanging_row<W: PutStyle, S: LineSource>(
     w: &mut W,
-    look: Look<'_>,
+    context: RowContext<'_>,
     line: Line<'_, '_>,
     source: &S,
     messages: Messages<'_, '_>,
     label: &SingleLabel<'_>,
 ) -> Result<(), W::Error>
-    requires of { S.of source.now ≡ sourced_line look line }
+    requires of { S.of source.now ≡ sourced_line context line }
     requires hanging { AreHanging line.labels.now messages.before.now messages.after.now }
     requires near { (single_label_view label.now).start
         ≤ greatest_start (single_label_views line.labels.now) }
-    ensures { Sends (W.sink w.old)
-        (hanging_row (look_view look.entry) (line_view line.entry) (single_label_view label.now)
+    ensures { Writes (W.sink w.old)
+        (hanging_row (context_view context.entry) (line_view line.entry)
+        (single_label_view label.now)
         ++ newline) result (W.sink w.new) }
 {
-    write_row_start(w, look, line)?;
-    source.caret_pointers_before(w, look, line, messages, label.1.start)?;
-    write_message(w, look.severity, label)?;
+    write_row_start(w, context, line)?;
+    source.caret_pointers_before(w, context, line, messages, label.1.start)?;
+    write_message(w, context.severity, label)?;
     write_newline(w)
 }
 
 /// Writes the rows of the hanging messages of these labels, the last one first.
 fn write_hanging_rows<W: PutStyle, S: LineSource>(
     w: &mut W,
-    look: Look<'_>,
+    context: RowContext<'_>,
     line: Line<'_, '_>,
     source: &S,
     messages: Messages<'_, '_>,
     labels: &[SingleLabel<'_>],
 ) -> Result<(), W::Error>
-    requires of { S.of source.now ≡ sourced_line look line }
+    requires of { S.of source.now ≡ sourced_line context line }
     requires hanging { AreHanging line.labels.now messages.before.now messages.after.now }
     requires near { greatest_start (single_label_views labels.now)
         ≤ greatest_start (single_label_views line.labels.now) }
-    ensures { Sends (W.sink w.old) (given_hanging look.entry line.entry labels.now)
+    ensures { Writes (W.sink w.old) (hanging_stream_view context.entry line.entry labels.now)
         result (W.sink w.new) }
 {
     for label in labels.iter().rev() {
         if label.2.is_empty() {
             continue;
         }
-        write_hanging_row(w, look, line, source, messages, label)?;
+        write_hanging_row(w, context, line, source, messages, label)?;
     }
     Ok(())
 }
@@ -202,20 +204,20 @@ fn write_hanging_rows<W: PutStyle, S: LineSource>(
 /// Writes the pointers, and a row for each hanging message.
 fn write_pointers_and_messages<W: PutStyle, S: LineSource>(
     w: &mut W,
-    look: Look<'_>,
+    context: RowContext<'_>,
     line: Line<'_, '_>,
     source: &S,
     messages: Messages<'_, '_>,
 ) -> Result<(), W::Error>
-    requires of { S.of source.now ≡ sourced_line look line }
+    requires of { S.of source.now ≡ sourced_line context line }
     requires hanging { AreHanging line.labels.now messages.before.now messages.after.now }
     requires pieces { ArePieces line.labels.now messages.before.now messages.after.now }
-    ensures { Sends (W.sink w.old) (given_messages look.entry line.entry messages.entry)
+    ensures { Writes (W.sink w.old) (messages_view context.entry line.entry messages.entry)
         result (W.sink w.new) }
 {
-    write_pointer_row(w, look, line, source, messages)?;
-    write_hanging_rows(w, look, line, source, messages, messages.after)?;
-    write_hanging_rows(w, look, line, source, messages, messages.before)
+    write_pointer_row(w, context, line, source, messages)?;
+    write_hanging_rows(w, context, line, source, messages, messages.after)?;
+    write_hanging_rows(w, context, line, source, messages, messages.before)
 }
 
 /// Returns whether one of the labels has a message.
@@ -233,19 +235,19 @@ pub fn has_any_message(labels: &[SingleLabel<'_>]) -> bool
 /// Writes the pointers and a row for each hanging message, where there is one.
 pub fn write_hanging<W: PutStyle, S: LineSource>(
     w: &mut W,
-    look: Look<'_>,
+    context: RowContext<'_>,
     line: Line<'_, '_>,
     source: &S,
     messages: Messages<'_, '_>,
 ) -> Result<(), W::Error>
-    requires of { S.of source.now ≡ sourced_line look line }
+    requires of { S.of source.now ≡ sourced_line context line }
     requires hanging { AreHanging line.labels.now messages.before.now messages.after.now }
     requires pieces { ArePieces line.labels.now messages.before.now messages.after.now }
-    ensures { Sends (W.sink w.old) (given_hanging_rows look.entry line.entry)
+    ensures { Writes (W.sink w.old) (hanging_rows_view context.entry line.entry)
         result (W.sink w.new) }
 {
     if !has_any_message(messages.before) && !has_any_message(messages.after) {
         return Ok(());
     }
-    write_pointers_and_messages(w, look, line, source, messages)
+    write_pointers_and_messages(w, context, line, source, messages)
 }

@@ -2,7 +2,7 @@
 
 ghost use Rattle.std.specs.Prelude.{◌≡◌, IfErr};
 ghost use Rattle.codespan_base.specs.Errors.{IsIo};
-ghost use Rattle.codespan_renderer.specs.Inner.RowWriters.{SameOutcome};
+ghost use Rattle.codespan_renderer.specs.Private.RowWriters.{SameOutcome};
 
 use codespan_base::diagnostic::{LabelStyle, Severity};
 use codespan_base::files::Error;
@@ -25,7 +25,7 @@ pub struct RowWriter<'row, W> {
 }
 
 impl<'row, W: WriteStyle> RowWriter<'row, W> {
-    ghost use Rattle.codespan_renderer.specs.Inner.RowWriters.{inner_writer, inner_reference};
+    ghost use Rattle.codespan_renderer.specs.Private.RowWriters.{inner_writer, inner_reference};
 
     /// Returns a writer to `inner` that saves its error in `saved`.
     #[inline(always)]
@@ -78,7 +78,7 @@ fn save<T>(saved: &Cell<io::Error>, outcome: io::Result<T>) -> Result<T, Failed>
 }
 
 impl<W: WriteStyle> PutStyle for RowWriter<'_, W> {
-    ghost use Rattle.codespan_renderer.specs.Inner.RowWriters.{row_writer_sink};
+    ghost use Rattle.codespan_renderer.specs.Private.RowWriters.{row_writer_sink};
 
     type Error = Failed;
 

@@ -1,7 +1,7 @@
 //! Runs of one character, which may be longer than `usize::MAX`.
 
-ghost use Rattle.codespan_base.specs.Streams.{blanks, repeated};
-ghost use Rattle.codespan_base.specs.WriterLaw.{Sends};
+ghost use Rattle.codespan_base.specs.Streams.{spaces, repeated};
+ghost use Rattle.codespan_base.specs.WriterLaw.{Writes};
 
 use codespan_base::term::config::put_style::PutStyle;
 use codespan_base::term::config::writing::{put_repeated, put_spaces};
@@ -12,7 +12,7 @@ const MAX_COUNT: u128 = usize::MAX as u128;
 /// Writes `count` spaces.
 #[inline(always)]
 pub fn write_spaces<W: PutStyle>(w: &mut W, count: u128) -> Result<(), W::Error>
-    ensures { Sends (W.sink w.old) (blanks count) result (W.sink w.new) }
+    ensures { Writes (W.sink w.old) (spaces count) result (W.sink w.new) }
 {
     let mut left = count;
     while left > MAX_COUNT {
@@ -24,7 +24,7 @@ pub fn write_spaces<W: PutStyle>(w: &mut W, count: u128) -> Result<(), W::Error>
 
 /// Writes one character `count` times.
 pub fn write_repeated<W: PutStyle>(w: &mut W, c: char, count: u128) -> Result<(), W::Error>
-    ensures { Sends (W.sink w.old) (repeated count c) result (W.sink w.new) }
+    ensures { Writes (W.sink w.old) (repeated count c) result (W.sink w.new) }
 {
     let mut left = count;
     while left > MAX_COUNT {

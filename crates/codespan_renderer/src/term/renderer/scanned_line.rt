@@ -5,9 +5,9 @@ ghost use Rattle.std.specs.Prelude.{⊤};
 
 use crate::term::renderer::SingleLabel;
 use crate::term::renderer::carets::style_under;
-use crate::term::renderer::cells::{Cell, Cells};
 use crate::term::renderer::char_cursor::CharCursor;
-use crate::term::renderer::line::{Line, Look};
+use crate::term::renderer::char_metrics::{CharMetrics, Metrics};
+use crate::term::renderer::line::{Line, RowContext};
 use crate::term::renderer::line_source::LineSource;
 use crate::term::renderer::messages::Messages;
 use crate::term::renderer::pointers::scanned_caret_pointers;
@@ -19,32 +19,32 @@ use codespan_base::term::config::put_style::PutStyle;
 /// any order.
 #[derive(Drop)]
 pub struct ScanCursor<'row, 'd> {
-    cells: Cells<'row>,
+    char_metrics: CharMetrics<'row>,
     labels: &'row [SingleLabel<'d>],
 }
 
 impl<'row, 'd> CharCursor for ScanCursor<'row, 'd> {
-    ghost use Rattle.codespan_renderer.specs.Inner.CellsLeft.{cells_left};
+    ghost use Rattle.codespan_renderer.specs.Private.MetricsLeft.{metrics_left};
 
-    ghost left = { λ s. cells_left s.cells };
+    ghost left = { λ s. metrics_left s.char_metrics };
 
     ghost labels = { λ s. s.labels.now };
 
     ghost has_returned = { λ _ _. ⊤ };
 
     #[inline(always)]
-    fn next_cell(&mut self) -> Option<Cell> {
-        self.cells.next()
+    fn next_metrics(&mut self) -> Option<Metrics> {
+        self.char_metrics.next()
     }
 
     #[inline(always)]
-    fn style_under(&mut self, cell: Cell) -> Option<LabelStyle> {
-        style_under(self.labels, cell)
+    fn style_under(&mut self, metrics: Metrics) -> Option<LabelStyle> {
+        style_under(self.labels, metrics)
     }
 
     #[inline(always)]
-    fn has_primary(&mut self, cell: Cell) -> bool {
-        has_primary_label(self.labels, cell)
+    fn has_primary(&mut self, metrics: Metrics) -> bool {
+        has_primary_label(self.labels, metrics)
     }
 }
 
@@ -69,7 +69,7 @@ impl<'row, 'd> LineSource for ScannedLine<'row, 'd> {
     #[inline(always)]
     fn characters(&self) -> ScanCursor<'row, 'd> {
         ScanCursor {
-            cells: Cells::new(self.text, self.tab_width),
+            char_metrics: CharMetrics::new(self.text, self.tab_width),
             labels: self.labels,
         }
     }
@@ -77,37 +77,37 @@ impl<'row, 'd> LineSource for ScannedLine<'row, 'd> {
     #[inline(always)]
     fn characters_from_labels(&self, _end: usize) -> (u128, ScanCursor<'row, 'd>) {
         let cursor = ScanCursor {
-            cells: Cells::to_end(self.text, self.tab_width),
+            char_metrics: CharMetrics::to_end(self.text, self.tab_width),
             labels: self.labels,
         };
         (0, cursor)
     }
 
     #[inline(always)]
-    fn width_up_to(&self, place: usize) -> u128 {
-        Cells::new(self.text, self.tab_width).column_past(place)
+    fn width_up_to(&self, byte_index: usize) -> u128 {
+        CharMetrics::new(self.text, self.tab_width).column_past(byte_index)
     }
 
     #[inline(always)]
     fn caret_pointers<W: PutStyle>(
         &self,
         w: &mut W,
-        look: Look<'_>,
+        context: RowContext<'_>,
         line: Line<'_, '_>,
         messages: Messages<'_, '_>,
     ) -> Result<(), W::Error> {
-        scanned_caret_pointers(w, look, line, messages, usize::MAX)
+        scanned_caret_pointers(w, context, line, messages, usize::MAX)
     }
 
     #[inline(always)]
     fn caret_pointers_before<W: PutStyle>(
         &self,
         w: &mut W,
-        look: Look<'_>,
+        context: RowContext<'_>,
         line: Line<'_, '_>,
         messages: Messages<'_, '_>,
         before: usize,
     ) -> Result<(), W::Error> {
-        scanned_caret_pointers(w, look, line, messages, before)
+        scanned_caret_pointers(w, context, line, messages, before)
     }
 }

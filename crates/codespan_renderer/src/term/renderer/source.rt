@@ -3,33 +3,33 @@
 ghost use Rattle.std.specs.Prelude.{◌≡◌, ◌<◌, ◌≤◌, ◌++◌, ◌==◌, None, drop, false, length, map, true};
 ghost use Rattle.std.specs.List.{list_any};
 ghost use Rattle.codespan_base.specs.Labels.{LaneMark, is_primary, is_primary_style};
-ghost use Rattle.codespan_base.specs.Streams.{blanks, bytes, newline};
-ghost use Rattle.codespan_base.specs.WriterLaw.{Sends};
-ghost use Rattle.codespan_picture.specs.Cells.{cells};
-ghost use Rattle.codespan_picture.specs.declared.cells.Cell as cell;
-ghost use Rattle.codespan_picture.specs.Given.{single_label_views, mark_view};
-ghost use Rattle.codespan_renderer.specs.Inner.GivenLine.{look_view, line_view};
-ghost use Rattle.codespan_renderer.specs.Inner.GivenRows.{given_caret_rows, given_source_lanes};
-ghost use Rattle.codespan_renderer.specs.Inner.PrimaryMarks.{AreMarksOf};
-ghost use Rattle.codespan_renderer.specs.Inner.Runs.{given_label};
-ghost use Rattle.codespan_renderer.specs.Inner.LineSources.{sourced_line};
-ghost use Rattle.codespan_renderer.specs.Inner.Sweeps.{is_covered};
-ghost use Rattle.codespan_picture.specs.Rows.{Look as LookWord, rows_of, trailing};
-ghost use Rattle.codespan_picture.specs.RowParts.{border, change, coloured_text, source_style};
+ghost use Rattle.codespan_base.specs.Streams.{spaces, bytes, newline};
+ghost use Rattle.codespan_base.specs.WriterLaw.{Writes};
+ghost use Rattle.codespan_picture.specs.CharMetrics.{char_metrics};
+ghost use Rattle.codespan_picture.specs.declared.char_metrics.Metrics as metrics;
+ghost use Rattle.codespan_picture.specs.Arguments.{single_label_views, lane_mark_view};
+ghost use Rattle.codespan_renderer.specs.Private.LineViews.{context_view, line_view};
+ghost use Rattle.codespan_renderer.specs.Private.RowViews.{caret_rows_view, source_lanes_view};
+ghost use Rattle.codespan_renderer.specs.Private.PrimaryLaneMarks.{AreLaneMarksOf};
+ghost use Rattle.codespan_renderer.specs.Private.Runs.{optional_label_view};
+ghost use Rattle.codespan_renderer.specs.Private.LineSources.{sourced_line};
+ghost use Rattle.codespan_renderer.specs.Private.LabelCursors.{is_covered};
+ghost use Rattle.codespan_picture.specs.Rows.{RowContext as RowContextSpec, rows_of, trailing};
+ghost use Rattle.codespan_picture.specs.RowParts.{border, change, colored_text, source_style};
 ghost use Rattle.codespan_picture.specs.RowStreams.{source_row, stream_of_rows};
 
 use crate::term::renderer::carets::{covers, greatest_end, write_caret_row};
-use crate::term::renderer::cells::Cell;
 use crate::term::renderer::char_cursor::CharCursor;
+use crate::term::renderer::char_metrics::Metrics;
 use crate::term::renderer::lanes::{LaneRow, inner_gutter};
-use crate::term::renderer::line::{Line, Look};
+use crate::term::renderer::line::{Line, RowContext};
 use crate::term::renderer::line_source::LineSource;
 use crate::term::renderer::messages::Messages;
 use crate::term::renderer::parts::{
     border_left, change_style, outer_gutter_number, write_newline, write_space,
 };
 use crate::term::renderer::pointers::write_hanging;
-use crate::term::renderer::primary_marks::PrimaryMarks;
+use crate::term::renderer::primary_lane_marks::PrimaryLaneMarks;
 use crate::term::renderer::underlines::write_underlines;
 use crate::term::renderer::{MultiLabel, SingleLabel};
 use codespan_base::diagnostic::LabelStyle;
@@ -37,11 +37,11 @@ use codespan_base::term::config::put_style::PutStyle;
 use codespan_base::term::config::writing::{put_all, put_spaces};
 
 /// Returns whether a primary label has a byte of the character.
-pub fn has_primary_label(labels: &[SingleLabel<'_>], cell: Cell) -> bool
-    ensures { result ≡ is_covered is_primary (single_label_views labels.now) cell }
+pub fn has_primary_label(labels: &[SingleLabel<'_>], metrics: Metrics) -> bool
+    ensures { result ≡ is_covered is_primary (single_label_views labels.now) metrics }
 {
     for label in labels {
-        if label.0 == LabelStyle::Primary && covers(label, cell) {
+        if label.0 == LabelStyle::Primary && covers(label, metrics) {
             return true;
         }
     }
@@ -52,19 +52,19 @@ pub fn has_primary_label(labels: &[SingleLabel<'_>], cell: Cell) -> bool
 /// the line or by these multi-line label marks.
 fn text_style<C: CharCursor>(
     characters: &mut C,
-    marks: PrimaryMarks,
+    marks: PrimaryLaneMarks,
     line: Line<'_, '_>,
-    cell: Cell,
+    metrics: Metrics,
 ) -> Option<LabelStyle>
-    requires some { 1 ≤ cell.bytes }
-    requires returned { C.has_returned cell characters.old }
+    requires some { 1 ≤ metrics.bytes }
+    requires returned { C.has_returned metrics characters.old }
     requires labels { C.labels characters.old ≡ line.labels.now }
-    requires marks { AreMarksOf (map mark_view line.lanes.marks.now) marks }
+    requires marks { AreLaneMarksOf (map lane_mark_view line.lanes.marks.now) marks }
     ensures left { C.left characters.new ≡ C.left characters.old }
     ensures labels { C.labels characters.new ≡ C.labels characters.old }
-    ensures style { result ≡ source_style (line_view line.entry) cell }
+    ensures style { result ≡ source_style (line_view line.entry) metrics }
 {
-    if characters.has_primary(cell) || marks.take_in(cell) {
+    if characters.has_primary(metrics) || marks.covers_char(metrics) {
         Some(LabelStyle::Primary)
     } else {
         None
@@ -84,12 +84,12 @@ fn has_primary(labels: &[SingleLabel<'_>]) -> bool
 }
 
 /// Returns whether one of these multi-line label marks is primary.
-fn has_primary_mark(marks: &[(usize, LabelStyle, MultiLabel<'_>)]) -> bool
+fn has_primary_lane_mark(marks: &[(usize, LabelStyle, MultiLabel<'_>)]) -> bool
     ensures { result
-        ≡ list_any (λ (m : LaneMark). is_primary_style m.style) (map mark_view marks.now) }
+        ≡ list_any (λ (m : LaneMark). is_primary_style m.style) (map lane_mark_view marks.now) }
 {
-    for mark in marks {
-        if mark.1 == LabelStyle::Primary {
+    for lane_mark in marks {
+        if lane_mark.1 == LabelStyle::Primary {
             return true;
         }
     }
@@ -107,19 +107,20 @@ fn has_tab(text: &str) -> bool
 /// is primary.
 #[inline(always)]
 pub fn is_plain(line: Line<'_, '_>) -> bool
-    ensures { result ≡ true → (look : LookWord)
-        → coloured_text look (line_view line.entry) ≡ bytes line.entry.text.now }
+    ensures { result ≡ true → (context : RowContextSpec)
+        → colored_text context (line_view line.entry) ≡ bytes line.entry.text.now }
 {
-    !has_primary(line.labels) && !has_primary_mark(line.lanes.marks) && !has_tab(line.text)
+    !has_primary(line.labels) && !has_primary_lane_mark(line.lanes.marks) && !has_tab(line.text)
 }
 
 /// Returns the byte index from which on the text of a line is written unchanged: no primary label
 /// covers it, inside the line or by these multi-line label marks, and it has no tab. It is the end
 /// of the text where there is no other.
 #[inline(always)]
-fn plain_from(line: Line<'_, '_>, marks: PrimaryMarks) -> usize
-    requires marks { AreMarksOf (map mark_view line.lanes.marks.now) marks }
-    ensures style { (c : cell.Cell) → result ≤ c.place → c.place < length line.entry.text.now
+fn plain_from(line: Line<'_, '_>, marks: PrimaryLaneMarks) -> usize
+    requires marks { AreLaneMarksOf (map lane_mark_view line.lanes.marks.now) marks }
+    ensures style { (c : metrics.Metrics) → result ≤ c.byte_index
+        → c.byte_index < length line.entry.text.now
         → 1 ≤ c.bytes → source_style (line_view line.entry) c ≡ None }
     ensures tab { list_any (λ b. b == 9) (drop result line.entry.text.now) ≡ false }
 {
@@ -136,57 +137,66 @@ fn plain_from(line: Line<'_, '_>, marks: PrimaryMarks) -> usize
 /// where its style changes.
 fn write_colored_text<W: PutStyle, C: CharCursor>(
     w: &mut W,
-    look: Look<'_>,
+    context: RowContext<'_>,
     line: Line<'_, '_>,
     mut characters: C,
 ) -> Result<(), W::Error>
-    requires left { C.left characters ≡ cells look.tab_width line.text.now }
+    requires left { C.left characters ≡ char_metrics context.tab_width line.text.now }
     requires labels { C.labels characters ≡ line.labels.now }
-    ensures { Sends (W.sink w.old) (coloured_text (look_view look.entry) (line_view line.entry))
+    ensures { Writes (W.sink w.old)
+        (colored_text (context_view context.entry) (line_view line.entry))
         result (W.sink w.new) }
 {
     let text = line.text.as_bytes();
-    let marks = PrimaryMarks::of(line.lanes.marks);
+    let marks = PrimaryLaneMarks::of(line.lanes.marks);
     let plain = plain_from(line, marks);
-    let mut was = None;
+    let mut previous = None;
     let mut start = 0;
     let mut end = 0;
-    while let Some(cell) = characters.next_cell() {
+    while let Some(metrics) = characters.next_metrics() {
         if end >= plain {
             break;
         }
-        let style = text_style(&mut characters, marks, line, cell);
-        let next = end + cell.bytes;
-        if cell.code == '\t' {
-            write_tab(w, look, &text[start..end], was, style, cell.width)?;
+        let style = text_style(&mut characters, marks, line, metrics);
+        let next = end + metrics.bytes;
+        if metrics.code == '\t' {
+            write_tab(
+                w,
+                context,
+                &text[start..end],
+                previous,
+                style,
+                metrics.width,
+            )?;
             start = next;
-            was = style;
-        } else if style != was {
-            end_text_run(w, look, &text[start..end], was, style)?;
+            previous = style;
+        } else if style != previous {
+            end_text_run(w, context, &text[start..end], previous, style)?;
             start = end;
-            was = style;
+            previous = style;
         }
         end = next;
     }
-    end_text_run(w, look, &text[start..end], was, None)?;
+    end_text_run(w, context, &text[start..end], previous, None)?;
     put_all(w, &text[end..])
 }
 
 /// Writes the text of a line: at once where it is plain.
 fn write_text<W: PutStyle, S: LineSource>(
     w: &mut W,
-    look: Look<'_>,
+    context: RowContext<'_>,
     line: Line<'_, '_>,
     source: &S,
 ) -> Result<(), W::Error>
-    requires of { S.of source.now ≡ sourced_line look line }
-    ensures { Sends (W.sink w.old) (coloured_text (look_view look.entry) (line_view line.entry))
+    requires of { S.of source.now ≡ sourced_line context line }
+    ensures { Writes (W.sink w.old)
+        (colored_text (context_view context.entry) (line_view line.entry))
         result (W.sink w.new) }
 {
     if is_plain(line) {
         put_all(w, line.text.as_bytes())?;
     } else {
-        write_colored_text(w, look, line, source.characters())?;
+        write_colored_text(w, context, line, source.characters())?;
     }
     Ok(())
 }
@@ -194,32 +204,32 @@ fn write_text<W: PutStyle, S: LineSource>(
 /// Writes the end of a run of text of one style, and the style mark of the next.
 pub fn end_text_run<W: PutStyle>(
     w: &mut W,
-    look: Look<'_>,
+    context: RowContext<'_>,
     text: &[u8],
-    was: Option<LabelStyle>,
+    previous: Option<LabelStyle>,
     style: Option<LabelStyle>,
 ) -> Result<(), W::Error>
-    ensures { Sends (W.sink w.old) (bytes text.now ++ change look.entry.severity was style)
+    ensures { Writes (W.sink w.old) (bytes text.now ++ change context.entry.severity previous style)
         result (W.sink w.new) }
 {
     put_all(w, text)?;
-    change_style(w, look.severity, was, style)
+    change_style(w, context.severity, previous, style)
 }
 
 /// Writes the end of a run of text before a tab, and the tab's spaces.
 pub fn write_tab<W: PutStyle>(
     w: &mut W,
-    look: Look<'_>,
+    context: RowContext<'_>,
     text: &[u8],
-    was: Option<LabelStyle>,
+    previous: Option<LabelStyle>,
     style: Option<LabelStyle>,
     width: usize,
 ) -> Result<(), W::Error>
-    ensures { Sends (W.sink w.old)
-        (bytes text.now ++ change look.entry.severity was style ++ blanks width)
+    ensures { Writes (W.sink w.old)
+        (bytes text.now ++ change context.entry.severity previous style ++ spaces width)
         result (W.sink w.new) }
 {
-    end_text_run(w, look, text, was, style)?;
+    end_text_run(w, context, text, previous, style)?;
     put_spaces(w, width)
 }
 
@@ -227,52 +237,53 @@ pub fn write_tab<W: PutStyle>(
 #[inline(always)]
 pub fn write_source_lanes<W: PutStyle>(
     w: &mut W,
-    look: Look<'_>,
+    context: RowContext<'_>,
     line: Line<'_, '_>,
 ) -> Result<(), W::Error>
-    ensures { Sends (W.sink w.old) (given_source_lanes look.entry line.entry)
+    ensures { Writes (W.sink w.old) (source_lanes_view context.entry line.entry)
         result (W.sink w.new) }
 {
-    outer_gutter_number(w, look.padding, line.number)?;
-    border_left(w, look.chars)?;
-    inner_gutter(w, look, line.leading, LaneRow::Source, line.lanes)?;
+    outer_gutter_number(w, context.padding, line.number)?;
+    border_left(w, context.chars)?;
+    inner_gutter(w, context, line.leading, LaneRow::Source, line.lanes)?;
     write_space(w)
 }
 
 /// Writes the source row of a line.
 fn write_source_row<W: PutStyle, S: LineSource>(
     w: &mut W,
-    look: Look<'_>,
+    context: RowContext<'_>,
     line: Line<'_, '_>,
     source: &S,
 ) -> Result<(), W::Error>
-    requires of { S.of source.now ≡ sourced_line look line }
-    ensures { Sends (W.sink w.old)
-        (source_row (look_view look.entry) (line_view line.entry) ++ newline)
+    requires of { S.of source.now ≡ sourced_line context line }
+    ensures { Writes (W.sink w.old)
+        (source_row (context_view context.entry) (line_view line.entry) ++ newline)
         result (W.sink w.new) }
 {
-    write_source_lanes(w, look, line)?;
-    write_text(w, look, line, source)?;
+    write_source_lanes(w, context, line)?;
+    write_text(w, context, line, source)?;
     write_newline(w)
 }
 
 /// Writes the caret row of a line, where it has labels.
 fn write_caret_rows<W: PutStyle, S: LineSource>(
     w: &mut W,
-    look: Look<'_>,
+    context: RowContext<'_>,
     line: Line<'_, '_>,
     source: &S,
     messages: Messages<'_, '_>,
 ) -> Result<(), W::Error>
-    requires of { S.of source.now ≡ sourced_line look line }
-    requires trailing { given_label messages.trailing
+    requires of { S.of source.now ≡ sourced_line context line }
+    requires trailing { optional_label_view messages.trailing
         ≡ trailing (single_label_views line.labels.now) }
-    ensures { Sends (W.sink w.old) (given_caret_rows look.entry line.entry) result (W.sink w.new) }
+    ensures { Writes (W.sink w.old) (caret_rows_view context.entry line.entry) result
+        (W.sink w.new) }
 {
     if line.labels.is_empty() {
         Ok(())
     } else {
-        write_caret_row(w, look, line, source, messages)
+        write_caret_row(w, context, line, source, messages)
     }
 }
 
@@ -280,18 +291,18 @@ fn write_caret_rows<W: PutStyle, S: LineSource>(
 /// underlines.
 pub fn write_line<W: PutStyle, S: LineSource>(
     w: &mut W,
-    look: Look<'_>,
+    context: RowContext<'_>,
     line: Line<'_, '_>,
     source: &S,
 ) -> Result<(), W::Error>
-    requires of { S.of source.now ≡ sourced_line look line }
-    ensures { Sends (W.sink w.old)
-        (stream_of_rows (look_view look.entry) (rows_of (line_view line.entry)))
+    requires of { S.of source.now ≡ sourced_line context line }
+    ensures { Writes (W.sink w.old)
+        (stream_of_rows (context_view context.entry) (rows_of (line_view line.entry)))
         result (W.sink w.new) }
 {
     let messages = Messages::of(line.labels);
-    write_source_row(w, look, line, source)?;
-    write_caret_rows(w, look, line, source, messages)?;
-    write_hanging(w, look, line, source, messages)?;
-    write_underlines(w, look, line, source)
+    write_source_row(w, context, line, source)?;
+    write_caret_rows(w, context, line, source, messages)?;
+    write_hanging(w, context, line, source, messages)?;
+    write_underlines(w, context, line, source)
 }

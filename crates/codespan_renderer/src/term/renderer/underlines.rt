@@ -2,20 +2,20 @@
 
 ghost use Rattle.std.specs.Prelude.{◌≡◌, ◌++◌};
 ghost use Rattle.codespan_base.specs.Streams.{newline, bytes};
-ghost use Rattle.codespan_base.specs.WriterLaw.{Sends};
-ghost use Rattle.codespan_picture.specs.Cells.{cells};
-ghost use Rattle.codespan_picture.specs.Given.{mark_view, multi_label_view};
-ghost use Rattle.codespan_renderer.specs.Inner.GivenLine.{look_view, line_view};
-ghost use Rattle.codespan_renderer.specs.Inner.GivenRows.{given_underline_lanes};
-ghost use Rattle.codespan_renderer.specs.Inner.Underlines.{run_underline, run_width};
-ghost use Rattle.codespan_renderer.specs.Inner.LineSources.{sourced_line, characters_of};
+ghost use Rattle.codespan_base.specs.WriterLaw.{Writes};
+ghost use Rattle.codespan_picture.specs.CharMetrics.{char_metrics};
+ghost use Rattle.codespan_picture.specs.Arguments.{lane_mark_view, multi_label_view};
+ghost use Rattle.codespan_renderer.specs.Private.LineViews.{context_view, line_view};
+ghost use Rattle.codespan_renderer.specs.Private.RowViews.{underline_lanes_view};
+ghost use Rattle.codespan_renderer.specs.Private.Underlines.{run_underline, run_width};
+ghost use Rattle.codespan_renderer.specs.Private.LineSources.{sourced_line, characters_of};
 ghost use Rattle.codespan_picture.specs.Rows.{has_underline, underline_rows};
-ghost use Rattle.codespan_picture.specs.RowParts.{underline_message, start_caret, end_caret, cells_before, cells_up_to};
+ghost use Rattle.codespan_picture.specs.RowParts.{underline_message, start_caret, end_caret, metrics_before, metrics_up_to};
 ghost use Rattle.codespan_picture.specs.RowStreams.{underline_row, stream_of_rows};
 
 use crate::term::renderer::MultiLabel;
 use crate::term::renderer::lanes::{LaneRow, inner_gutter};
-use crate::term::renderer::line::{Line, Look};
+use crate::term::renderer::line::{Line, RowContext};
 use crate::term::renderer::line_source::LineSource;
 use crate::term::renderer::parts::{border_left, outer_gutter, write_newline, write_space};
 use crate::term::renderer::runs::write_repeated;
@@ -45,9 +45,9 @@ fn end_caret(chars: &Chars<'_>, style: LabelStyle) -> char
 }
 
 /// Writes a space and the message, where there is one.
-#[tactic(auto, using(codespan_base::proofs::Sends::sendings, crate::proofs::Underlines::underline_messages))]
+#[tactic(auto, using(codespan_base::proofs::Writes::write_chains, crate::proofs::Underlines::underline_messages))]
 fn write_underline_message<W: PutStyle>(w: &mut W, message: &str) -> Result<(), W::Error>
-    ensures { Sends (W.sink w.old) (underline_message (bytes message.now)) result (W.sink w.new) }
+    ensures { Writes (W.sink w.old) (underline_message (bytes message.now)) result (W.sink w.new) }
 {
     if message.is_empty() {
         return Ok(());
@@ -68,7 +68,7 @@ fn run_width<S: LineSource>(source: &S, part: MultiLabel<'_>) -> u128
 }
 
 /// Writes an underline from its corner on: `width` cells, the caret, and the message.
-#[tactic(auto, using(codespan_base::proofs::Sends::sendings), unfolding(crate::specs::Inner::Underlines::run_underline))]
+#[tactic(auto, using(codespan_base::proofs::Writes::write_chains), unfolding(crate::specs::Private::Underlines::run_underline))]
 fn label_multi_caret<W: PutStyle>(
     w: &mut W,
     chars: &Chars<'_>,
@@ -76,7 +76,7 @@ fn label_multi_caret<W: PutStyle>(
     part: MultiLabel<'_>,
     width: u128,
 ) -> Result<(), W::Error>
-    ensures { Sends (W.sink w.old)
+    ensures { Writes (W.sink w.old)
         (run_underline chars.now style width (multi_label_view part.entry)) result (W.sink w.new) }
 {
     match part {
@@ -96,19 +96,19 @@ fn label_multi_caret<W: PutStyle>(
 /// Writes the start of an underline row: up to its lanes.
 fn write_underline_lanes<W: PutStyle>(
     w: &mut W,
-    look: Look<'_>,
+    context: RowContext<'_>,
     line: Line<'_, '_>,
-    mark: (usize, LabelStyle, MultiLabel<'_>),
+    lane_mark: (usize, LabelStyle, MultiLabel<'_>),
 ) -> Result<(), W::Error>
-    ensures { Sends (W.sink w.old) (given_underline_lanes look.entry line.entry mark.entry)
+    ensures { Writes (W.sink w.old) (underline_lanes_view context.entry line.entry lane_mark.entry)
         result (W.sink w.new) }
 {
-    let (lane, style, part) = mark;
-    outer_gutter(w, look.padding)?;
-    border_left(w, look.chars)?;
+    let (lane, style, part) = lane_mark;
+    outer_gutter(w, context.padding)?;
+    border_left(w, context.chars)?;
     inner_gutter(
         w,
-        look,
+        context,
         line.leading,
         LaneRow::Underline(lane, style, part),
         line.lanes,
@@ -119,20 +119,22 @@ fn write_underline_lanes<W: PutStyle>(
 /// its caret.
 fn write_underline_row<W: PutStyle>(
     w: &mut W,
-    look: Look<'_>,
+    context: RowContext<'_>,
     line: Line<'_, '_>,
-    mark: (usize, LabelStyle, MultiLabel<'_>),
+    lane_mark: (usize, LabelStyle, MultiLabel<'_>),
     width: u128,
 ) -> Result<(), W::Error>
-    requires { width ≡ run_width (cells look.tab_width line.text.now) (multi_label_view mark.2) }
-    ensures { Sends (W.sink w.old)
-        (underline_row (look_view look.entry) (line_view line.entry) (mark_view mark.entry)
+    requires { width ≡ run_width (char_metrics context.tab_width line.text.now)
+        (multi_label_view lane_mark.2) }
+    ensures { Writes (W.sink w.old)
+        (underline_row (context_view context.entry) (line_view line.entry)
+        (lane_mark_view lane_mark.entry)
         ++ newline) result (W.sink w.new) }
 {
-    let (_, style, part) = mark;
-    write_underline_lanes(w, look, line, mark)?;
-    w.set_label(look.severity, style)?;
-    label_multi_caret(w, look.chars, style, part, width)?;
+    let (_, style, part) = lane_mark;
+    write_underline_lanes(w, context, line, lane_mark)?;
+    w.set_label(context.severity, style)?;
+    label_multi_caret(w, context.chars, style, part, width)?;
     w.reset()?;
     write_newline(w)
 }
@@ -152,19 +154,19 @@ fn has_underline(leading: usize, part: MultiLabel<'_>) -> bool
 /// Writes the underline rows of a line, in the order of the lanes.
 pub fn write_underlines<W: PutStyle, S: LineSource>(
     w: &mut W,
-    look: Look<'_>,
+    context: RowContext<'_>,
     line: Line<'_, '_>,
     source: &S,
 ) -> Result<(), W::Error>
-    requires of { S.of source.now ≡ sourced_line look line }
-    ensures { Sends (W.sink w.old)
-        (stream_of_rows (look_view look.entry) (underline_rows (line_view line.entry)))
+    requires of { S.of source.now ≡ sourced_line context line }
+    ensures { Writes (W.sink w.old)
+        (stream_of_rows (context_view context.entry) (underline_rows (line_view line.entry)))
         result (W.sink w.new) }
 {
-    for mark in line.lanes.marks {
-        if has_underline(line.leading, mark.2) {
-            let width = run_width(source, mark.2);
-            write_underline_row(w, look, line, *mark, width)?;
+    for lane_mark in line.lanes.marks {
+        if has_underline(line.leading, lane_mark.2) {
+            let width = run_width(source, lane_mark.2);
+            write_underline_row(w, context, line, *lane_mark, width)?;
         }
     }
     Ok(())

@@ -2,7 +2,7 @@
 
 ghost use Rattle.std.specs.Prelude.{◌≡◌};
 ghost use Rattle.codespan_base.specs.Labels.{from_line_start};
-ghost use Rattle.codespan_picture.specs.Given.{multi_label_view};
+ghost use Rattle.codespan_picture.specs.Arguments.{multi_label_view};
 ghost use Rattle.codespan_picture.specs.Picture.{label_of};
 ghost use Rattle.codespan_reporting.specs.Inner.AnnotationViews.{part_from};
 

@@ -3,8 +3,8 @@
 ghost use Rattle.std.specs.Prelude.{◌≡◌, ◌∷◌, [], IfOk};
 ghost use Rattle.codespan_base.specs.FileModel.Lookup.{Name as NameLookup, LocationAt};
 ghost use Rattle.codespan_base.specs.Labels.{is_primary};
-ghost use Rattle.codespan_picture.specs.Given.{locus_view};
-ghost use Rattle.codespan_picture.specs.Lookups.{asked_of, first_error};
+ghost use Rattle.codespan_picture.specs.Arguments.{locus_view};
+ghost use Rattle.codespan_picture.specs.Lookups.{lookups_of_file, first_error};
 ghost use Rattle.codespan_reporting.specs.Inner.FileLookups.{FailsByOrFormat};
 ghost use Rattle.codespan_picture.specs.Picture.{label_of};
 ghost use Rattle.codespan_reporting.specs.Inner.TextLoci.{IsTextLocus};

@@ -3,7 +3,7 @@
 ghost use Rattle.std.specs.Prelude.{IfErr};
 ghost use Rattle.std.specs.Option.{option_map};
 ghost use Rattle.codespan_base.specs.Errors.{IsIo};
-ghost use Rattle.codespan_picture.specs.Given.{locus_view};
+ghost use Rattle.codespan_picture.specs.Arguments.{locus_view};
 ghost use Rattle.codespan_picture.specs.Picture.{notes_of};
 ghost use Rattle.codespan_picture.specs.Snippets.{note_rows};
 ghost use Rattle.codespan_renderer.specs.Renderers.{SameRenderer};
@@ -26,7 +26,7 @@ pub fn render_heading<FileId, W: WriteStyle>(
     locus: Option<&Locus>,
 ) -> Result<(), Error>
     ensures same { SameRenderer renderer.old renderer.new }
-    ensures sends { WritesStream W.sink
+    ensures writes { WritesStream W.sink
         (header_line diagnostic.now (option_map (λ at. locus_view at.now) locus.entry)) renderer.old
         result renderer.new }
     ensures io { IfErr result IsIo }
@@ -51,7 +51,7 @@ pub fn render_notes<FileId, W: WriteStyle>(
     padding: usize,
 ) -> Result<(), Error>
     ensures same { SameRenderer renderer.old renderer.new }
-    ensures sends { RendersRows W.sink diagnostic.now.severity padding
+    ensures writes { RendersRows W.sink diagnostic.now.severity padding
         (note_rows (notes_of diagnostic.now)) renderer.old result renderer.new }
     ensures io { IfErr result IsIo }
 {

@@ -57,7 +57,7 @@ pub fn plan_output<'files, 'e, 'd, F: Files<'files>>(
 ) -> Result<OutputPlan<'e, 'd, F::FileId>, Error>
     requires { IsCollected (F.database files.now) config.now (map label_of collected.now.labels.now)
         collected.now }
-    ensures prepared { IfOk result (IsOutputPlan (F.database files.now) config.now
+    ensures planned { IfOk result (IsOutputPlan (F.database files.now) config.now
         (map label_of collected.now.labels.now)) }
     ensures failed { FailsByOrFormat (output_plan_failure config.now (F.database files.now)
         (map label_of collected.now.labels.now)) result }

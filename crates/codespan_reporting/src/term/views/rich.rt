@@ -94,7 +94,7 @@ impl<'diagnostic, 'config, FileId: Copy + Eq> RichDiagnostic<'diagnostic, 'confi
         W: WriteStyle,
         FileId: 'files,
         ensures same { SameRenderer renderer.old renderer.new }
-        ensures draws { WritesStyled Rich (config_of renderer.old) (view_config_of self.now)
+        ensures renders { WritesStyled Rich (config_of renderer.old) (view_config_of self.now)
             (F.database files.now) (diagnostic_of self.now)
             (W.sink (writer_of renderer.old)) result (W.sink (writer_of renderer.new)) }
     {
@@ -118,7 +118,7 @@ impl<'diagnostic, 'config, FileId: Copy + Eq> RichDiagnostic<'diagnostic, 'confi
         FileId: 'files,
         requires { 0 < length (diagnostic_of self.now).labels.items }
         ensures same { SameRenderer renderer.old renderer.new }
-        ensures draws { RendersView W.sink (F.database files.now)
+        ensures renders { RendersView W.sink (F.database files.now)
             self.now renderer.old result renderer.new }
     {
         let diagnostic = self.diagnostic;
@@ -146,7 +146,7 @@ impl<'diagnostic, 'config, FileId: Copy + Eq> RichDiagnostic<'diagnostic, 'confi
         requires { IsOutputPlan (F.database files.now)
             (view_config_of self.now) (labels_of (diagnostic_of self.now)) output_plan.now }
         ensures same { SameRenderer renderer.old renderer.new }
-        ensures draws { RendersSnippets W.sink (F.database files.now)
+        ensures renders { RendersSnippets W.sink (F.database files.now)
             self.now output_plan.now renderer.old result renderer.new }
     {
         let diagnostic = self.diagnostic;
@@ -155,14 +155,14 @@ impl<'diagnostic, 'config, FileId: Copy + Eq> RichDiagnostic<'diagnostic, 'confi
             padding: output_plan.padding,
             severity: diagnostic.severity,
         };
-        let mut marks = LineLabels::new(*diagnostic.labels.allocator());
+        let mut labels = LineLabels::new(*diagnostic.labels.allocator());
         let notes_follow = has_notes(diagnostic);
         let mut start = 0;
         for (index, file) in output_plan.files.iter().enumerate() {
             let snippet_lines = &output_plan.snippet_lines[start..start + file.line_total];
             start += file.line_total;
             let is_followed = notes_follow | (index + 1 < output_plan.files.len());
-            render_snippet(&context, renderer, &mut marks, file, snippet_lines)?;
+            render_snippet(&context, renderer, &mut labels, file, snippet_lines)?;
             render_end(&context, renderer, file, is_followed)?;
         }
         Ok(())
@@ -184,7 +184,8 @@ fn render_closing<FileId, W: WriteStyle>(
     padding: usize,
 ) -> Result<(), Error>
     ensures same { SameRenderer renderer.old renderer.new }
-    ensures sends { RendersRows W.sink diagnostic.now.severity padding (closing_rows diagnostic.now)
+    ensures writes { RendersRows W.sink diagnostic.now.severity padding
+        (closing_rows diagnostic.now)
         renderer.old result renderer.new }
     ensures io { IfErr result IsIo }
 {
@@ -199,7 +200,7 @@ fn render_without_labels<FileId, W: WriteStyle>(
     renderer: &mut Renderer<'_, '_, W>,
 ) -> Result<(), Error>
     ensures same { SameRenderer renderer.old renderer.new }
-    ensures sends { WritesStream W.sink
+    ensures writes { WritesStream W.sink
         (output_without_labels diagnostic.now (config_of renderer.old))
         renderer.old result renderer.new }
     ensures io { IfErr result IsIo }

@@ -80,7 +80,7 @@ impl<'diagnostic, FileId: Copy + Eq> ShortDiagnostic<'diagnostic, FileId> {
         W: WriteStyle,
         FileId: 'files,
         ensures same { SameRenderer renderer.old renderer.new }
-        ensures draws { let config = config_of renderer.old in
+        ensures renders { let config = config_of renderer.old in
             WritesStyled (short_style_of self.now) config config
             (F.database files.now) (short_diagnostic_of self.now)
             (W.sink (writer_of renderer.old)) result (W.sink (writer_of renderer.new)) }
@@ -100,7 +100,7 @@ fn render_medium<'files, F: Files<'files>, W: WriteStyle>(
     renderer: &mut Renderer<'_, '_, W>,
 ) -> Result<(), Error>
     ensures same { SameRenderer renderer.old renderer.new }
-    ensures draws { RendersInStyle W.sink (F.database files.now)
+    ensures renders { RendersInStyle W.sink (F.database files.now)
         Medium diagnostic.now renderer.old result renderer.new }
 {
     render_headers(files, diagnostic, renderer)?;
@@ -114,7 +114,7 @@ fn render_headers<'files, F: Files<'files>, W: WriteStyle>(
     renderer: &mut Renderer<'_, '_, W>,
 ) -> Result<(), Error>
     ensures same { SameRenderer renderer.old renderer.new }
-    ensures draws { RendersInStyle W.sink (F.database files.now)
+    ensures renders { RendersInStyle W.sink (F.database files.now)
         Short diagnostic.now renderer.old result renderer.new }
 {
     if render_located(files, diagnostic, renderer)? {
@@ -131,7 +131,7 @@ fn render_located<'files, F: Files<'files>, W: WriteStyle>(
     renderer: &mut Renderer<'_, '_, W>,
 ) -> Result<bool, Error>
     ensures same { SameRenderer renderer.old renderer.new }
-    ensures draws { RendersHeadersOf W.sink (F.database files.now)
+    ensures renders { RendersHeadersOf W.sink (F.database files.now)
         diagnostic.now (labels_of diagnostic.now) renderer.old result renderer.new }
 {
     let mut is_located = false;
@@ -149,7 +149,7 @@ fn render_if_primary<'files, F: Files<'files>, W: WriteStyle>(
     label: &Label<F::FileId>,
 ) -> Result<bool, Error>
     ensures same { SameRenderer renderer.old renderer.new }
-    ensures draws { RendersHeadersOf W.sink (F.database files.now)
+    ensures renders { RendersHeadersOf W.sink (F.database files.now)
         diagnostic.now (label_of label.now ∷ []) renderer.old result renderer.new }
 {
     if !is_primary(label) {

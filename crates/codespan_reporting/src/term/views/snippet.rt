@@ -27,14 +27,14 @@ pub mod lines;
 /// # Errors
 ///
 /// `Io` alone: the writer fails or takes no bytes.
-#[tactic(auto, using(codespan_base::proofs::Sends::sendings))]
+#[tactic(auto, using(codespan_base::proofs::Writes::write_chains))]
 fn render_start<F, FileId, W: WriteStyle>(
     context: &SnippetContext<'_, F>,
     renderer: &mut Renderer<'_, '_, W>,
     snippet: &SnippetPlan<'_, FileId>,
 ) -> Result<(), Error>
     ensures same { SameRenderer renderer.old renderer.new }
-    ensures sends { RendersRows W.sink context.now.severity context.now.padding
+    ensures writes { RendersRows W.sink context.now.severity context.now.padding
         (start_rows snippet.now)
         renderer.old result renderer.new }
     ensures io { IfErr result IsIo }
@@ -65,7 +65,7 @@ fn render_start<F, FileId, W: WriteStyle>(
 pub fn render_snippet<'files, 'd, F: Files<'files>, W: WriteStyle>(
     context: &SnippetContext<'files, F>,
     renderer: &mut Renderer<'_, '_, W>,
-    marks: &mut LineLabels<'d>,
+    labels: &mut LineLabels<'d>,
     snippet: &SnippetPlan<'_, F::FileId>,
     snippet_lines: &[SnippetLine<'_, 'd, F::FileId>],
 ) -> Result<(), Error>
@@ -73,7 +73,7 @@ pub fn render_snippet<'files, 'd, F: Files<'files>, W: WriteStyle>(
         ((F.database context.now.files.now).file snippet.now.file.now.id)) snippet_lines.now }
     requires fits { DoFit snippet.now.file.now.lane_count (map line_view snippet_lines.now) }
     ensures same { SameRenderer renderer.old renderer.new }
-    ensures draws { RendersSnippet W.sink F.database context.now snippet.now snippet_lines.now
+    ensures renders { RendersSnippet W.sink F.database context.now snippet.now snippet_lines.now
         renderer.old
         result renderer.new }
 {
@@ -88,7 +88,7 @@ pub fn render_snippet<'files, 'd, F: Files<'files>, W: WriteStyle>(
         text: source.as_str(),
         lane_count: snippet.file.lane_count,
     };
-    lines.render_lines(renderer, marks, snippet_lines)?;
+    lines.render_lines(renderer, labels, snippet_lines)?;
     Ok(())
 }
 
@@ -104,7 +104,7 @@ pub fn render_end<F, FileId, W: WriteStyle>(
     is_followed: bool,
 ) -> Result<(), Error>
     ensures same { SameRenderer renderer.old renderer.new }
-    ensures sends { RendersRows W.sink context.now.severity context.now.padding
+    ensures writes { RendersRows W.sink context.now.severity context.now.padding
         (end_rows snippet.now is_followed) renderer.old result renderer.new }
     ensures io { IfErr result IsIo }
 {

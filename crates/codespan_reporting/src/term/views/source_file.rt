@@ -3,8 +3,8 @@
 ghost use Rattle.std.specs.Prelude.{◌≡◌, ◌∷◌, [], None, IfOk, IfSome};
 ghost use Rattle.codespan_base.specs.FileModel.Lookup.{LineNumber, LocationAt, Name as NameLookup, Source as SourceLookup};
 ghost use Rattle.codespan_base.specs.LawfulFiles.{FailsBy};
-ghost use Rattle.codespan_picture.specs.Given.{locus_view};
-ghost use Rattle.codespan_picture.specs.Lookups.{of_line};
+ghost use Rattle.codespan_picture.specs.Arguments.{locus_view};
+ghost use Rattle.codespan_picture.specs.Lookups.{line_lookups};
 ghost use Rattle.codespan_reporting.specs.Inner.AnnotationViews.{IsLineAt};
 ghost use Rattle.codespan_reporting.specs.Inner.FileLookups.{FailsByOrFormat};
 ghost use Rattle.codespan_reporting.specs.Inner.SnippetLineViews.{lookups_of_filled};
@@ -65,8 +65,8 @@ impl<'files, F: Files<'files>> SourceFile<'files, F> {
     pub fn line_unless_past_end(&self, index: usize, last: usize) -> Result<Option<LineInfo>, Error>
         ensures found { IfOk result (λ found. IfSome found
             (λ line. IsLineAt (model_of F.database self.now) index line)) }
-        ensures answered { IfOk result (λ found. IfSome found
-            (λ _. failure_of F.database self.now (of_line index) ≡ None)) }
+        ensures succeeded { IfOk result (λ found. IfSome found
+            (λ _. failure_of F.database self.now (line_lookups index) ≡ None)) }
         ensures ended { IfOk result (λ found. found ≡ None
             → EndsBefore F.database self.now index) }
         ensures failed { FailsBy (failure_unless_past_end F.database self.now last index) result }

@@ -1,4 +1,4 @@
-use Rattle.gallery.proofs.Outcomes.{kept_at_wrong, status_at_most, status_of_wrong, success_by_status, wrong_by_status}
+use Rattle.gallery.proofs.Outcomes.{unchanged_at_error, status_at_most, status_of_wrong, success_by_status, wrong_by_status}
 use Rattle.gallery.proofs.run.run.Goals as goal
 
 pub returns-clause-status : goal.returns-clause-status
@@ -15,10 +15,10 @@ returns-clause-unread g c = λ two. c.show.ensures.unread (wrong_by_status c.sho
 
 pub returns-clause-unwritten : goal.returns-clause-unwritten
 returns-clause-unwritten g c =
-    λ two. kept_at_wrong c.show.result c.show.ensures.kept (wrong_by_status c.show.result c.conclude.result c.conclude.ensures.status two)
+    λ two. unchanged_at_error c.show.result c.show.ensures.unchanged (wrong_by_status c.show.result c.conclude.result c.conclude.ensures.status two)
 
-pub returns-clause-silent : goal.returns-clause-silent
-returns-clause-silent g c = λ zero. success_by_status c.show.result c.conclude.result c.conclude.ensures.status zero c.conclude.ensures.silent
+pub returns-clause-no_error : goal.returns-clause-no_error
+returns-clause-no_error g c = λ zero. success_by_status c.show.result c.conclude.result c.conclude.ensures.status zero c.conclude.ensures.no_error
 
-pub returns-clause-drawn : goal.returns-clause-drawn
-returns-clause-drawn g c = λ zero. success_by_status c.show.result c.conclude.result c.conclude.ensures.status zero c.show.ensures.drawn
+pub returns-clause-rendered : goal.returns-clause-rendered
+returns-clause-rendered g c = λ zero. success_by_status c.show.result c.conclude.result c.conclude.ensures.status zero c.show.ensures.rendered

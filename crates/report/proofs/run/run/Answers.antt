@@ -1,4 +1,4 @@
-use Rattle.report.proofs.Outcomes.{faulty_status, kept_at_not_utf8, prefix_written, status_at_most, status_of_wrong, stays_unless_drawn, success_by_status, told_at_faulty, wrong_by_status}
+use Rattle.report.proofs.Outcomes.{bad_script_status, unchanged_at_not_utf8, prefix_written, status_at_most, status_of_wrong, unchanged_unless_rendered, success_by_status, reported_at_bad_script, wrong_by_status}
 use Rattle.report.proofs.run.run.Goals as goal
 
 pub returns-clause-status : goal.returns-clause-status
@@ -13,30 +13,30 @@ returns-clause-usage g c = (
 pub returns-clause-unread : goal.returns-clause-unread
 returns-clause-unread g c = λ two. c.report.ensures.unread (wrong_by_status c.report.result c.conclude.result c.conclude.ensures.status two)
 
-pub returns-clause-silent : goal.returns-clause-silent
-returns-clause-silent g c = λ zero. success_by_status c.report.result c.conclude.result c.conclude.ensures.status zero c.conclude.ensures.silent
+pub returns-clause-no_error : goal.returns-clause-no_error
+returns-clause-no_error g c = λ zero. success_by_status c.report.result c.conclude.result c.conclude.ensures.status zero c.conclude.ensures.no_error
 
 pub returns-clause-read : goal.returns-clause-read
 returns-clause-read g c = λ zero. success_by_status c.report.result c.conclude.result c.conclude.ensures.status zero c.report.ensures.read
 
-pub returns-clause-drawn : goal.returns-clause-drawn
-returns-clause-drawn g c = λ zero. success_by_status c.report.result c.conclude.result c.conclude.ensures.status zero c.report.ensures.drawn
+pub returns-clause-rendered : goal.returns-clause-rendered
+returns-clause-rendered g c = λ zero. success_by_status c.report.result c.conclude.result c.conclude.ensures.status zero c.report.ensures.rendered
 
 pub returns-clause-utf8 : goal.returns-clause-utf8
 returns-clause-utf8 g c = λ zero. success_by_status c.report.result c.conclude.result c.conclude.ensures.status zero c.report.ensures.utf8
 
-pub returns-clause-kept : goal.returns-clause-kept
-returns-clause-kept g c = kept_at_not_utf8 _ _ _ c.report.result c.report.ensures.utf8 c.report.ensures.told c.report.ensures.kept
+pub returns-clause-unchanged : goal.returns-clause-unchanged
+returns-clause-unchanged g c = unchanged_at_not_utf8 _ _ _ c.report.result c.report.ensures.utf8 c.report.ensures.reported c.report.ensures.unchanged
 
-pub returns-clause-told : goal.returns-clause-told
-returns-clause-told g c =
-    λ three. told_at_faulty _ _ c.report.result c.conclude.result _ c.conclude.ensures.status three c.report.ensures.told (c.conclude.ensures.told three)
+pub returns-clause-reported : goal.returns-clause-reported
+returns-clause-reported g c =
+    λ three. reported_at_bad_script _ _ c.report.result c.conclude.result _ c.conclude.ensures.status three c.report.ensures.reported (c.conclude.ensures.reported three)
 
-pub returns-clause-faulty : goal.returns-clause-faulty
-returns-clause-faulty g c = faulty_status _ _ c.report.result c.conclude.result _ _ c.conclude.ensures.status c.report.ensures.drawn c.report.ensures.told c.report.ensures.kept
+pub returns-clause-bad_script : goal.returns-clause-bad_script
+returns-clause-bad_script g c = bad_script_status _ _ c.report.result c.conclude.result _ _ c.conclude.ensures.status c.report.ensures.rendered c.report.ensures.reported c.report.ensures.unchanged
 
-pub returns-clause-undrawn : goal.returns-clause-undrawn
-returns-clause-undrawn g c = stays_unless_drawn c.report.result c.conclude.result _ _ _ c.conclude.ensures.status c.conclude.ensures.begun c.report.ensures.kept
+pub returns-clause-unrendered : goal.returns-clause-unrendered
+returns-clause-unrendered g c = unchanged_unless_rendered c.report.result c.conclude.result _ _ _ c.conclude.ensures.status c.conclude.ensures.prefix c.report.ensures.unchanged
 
-pub returns-clause-begun : goal.returns-clause-begun
-returns-clause-begun g c = λ one. prefix_written _ _ c.report.result c.conclude.result _ _ c.conclude.ensures.status one c.report.ensures.begun c.report.ensures.kept
+pub returns-clause-prefix : goal.returns-clause-prefix
+returns-clause-prefix g c = λ one. prefix_written _ _ c.report.result c.conclude.result _ _ c.conclude.ensures.status one c.report.ensures.prefix c.report.ensures.unchanged

@@ -1,5 +1,5 @@
 use Rattle.std.proofs.Common.{◌≡◌, drop}
-use Rattle.codespan_native.specs.GivenLines.{are_lines, follow}
+use Rattle.codespan_native.specs.StatedLines.{are_lines, follow}
 use Rattle.codespan_native.proofs.validate.files.are_lines.Given as goal
 
 -- the lines that are left decide

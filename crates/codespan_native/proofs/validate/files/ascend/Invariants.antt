@@ -1,5 +1,5 @@
 use Rattle.std.proofs.Common.{◌≡◌, drop}
-use Rattle.codespan_native.specs.GivenLines.{ascend_from, ascends}
+use Rattle.codespan_native.specs.StatedLines.{ascend_from, ascends}
 use Rattle.codespan_native.proofs.validate.files.ascend.Given as goal
 
 -- the loci that are left decide

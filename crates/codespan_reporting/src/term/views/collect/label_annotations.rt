@@ -5,7 +5,7 @@ ghost use Rattle.std.specs.Option.{option_map};
 ghost use Rattle.codespan_base.specs.LawfulFiles.{FailsBy};
 ghost use Rattle.codespan_base.specs.Labels.{first_line, last_line};
 ghost use Rattle.codespan_picture.specs.Picture.{label_of};
-ghost use Rattle.codespan_reporting.specs.Inner.CollectedLabels.{AddsLine, FindsLine, FindsLines, HasLookedUpLine, IfEnded, IfOn, MakesRoom, MakesRoomForLine, FailsLine, label_collected, collected_label, label_failure, lines_failure, failure_on, multi_by, kind_by};
+ghost use Rattle.codespan_reporting.specs.Inner.CollectedLabels.{AddsLine, FindsLine, FindsLines, HasLineLookedUp, IfEnded, IfOn, ExtendsPadding, ExtendsPaddingForLine, FailsLine, label_collected, collected_label, label_failure, lines_failure, failure_on, multi_by, kind_by};
 ghost use Rattle.codespan_reporting.specs.Inner.SourceFiles.{EndsBefore, model_of};
 ghost use Rattle.codespan_reporting.specs.Inner.AnnotationViews.{Adds, IsLineOf, kind_view};
 ghost use Rattle.codespan_reporting.specs.Inner.Annotations.{annotation_if_any};
@@ -76,7 +76,7 @@ impl<'a, 'c, 'files, F: Files<'files>> LabelCollector<'a, 'c, 'files, F> {
     }
 
     /// Returns the label's part on a line, if it is a multi-line label that has one.
-    fn mark_on_line<'d>(
+    fn part_on_line<'d>(
         &self,
         label: &'d Label<F::FileId>,
         line: LineInfo,
@@ -122,7 +122,7 @@ impl<'a, 'c, 'files, F: Files<'files>> LabelCollector<'a, 'c, 'files, F> {
         push_annotation(
             self.at.file,
             line,
-            self.mark_on_line(label, line),
+            self.part_on_line(label, line),
             annotations,
         )?;
         Ok(())
@@ -146,14 +146,14 @@ impl<'a, 'c, 'files, F: Files<'files>> LabelCollector<'a, 'c, 'files, F> {
         requires last { last_line (model_of F.database self.now.file) (label_of label.now).label
             ≡ self.now.lines.last }
         ensures inside { IfOn result
-            (HasLookedUpLine (label_collected F.database self.now label.now) index) }
+            (HasLineLookedUp (label_collected F.database self.now label.now) index) }
         ensures added { IfOn result
             (FindsLine (label_collected F.database self.now label.now) found.old
             found.new index) }
         ensures padding { IfOn result
-            (MakesRoomForLine (label_collected F.database self.now label.now)
+            (ExtendsPaddingForLine (label_collected F.database self.now label.now)
             found.old found.new index) }
-        ensures answered { IfOn result
+        ensures succeeded { IfOn result
             (failure_on (label_collected F.database self.now label.now) index ≡ None) }
         ensures ended { IfEnded result ((found.new ≡ found.old)
             × EndsBefore F.database self.now.file index) }
@@ -193,7 +193,7 @@ impl<'a, 'c, 'files, F: Files<'files>> LabelCollector<'a, 'c, 'files, F> {
             (FindsLines (label_collected F.database self.now label.now) found.old
             found.new) }
         ensures padding { OnOk result
-            (MakesRoom (label_collected F.database self.now label.now) found.old
+            (ExtendsPadding (label_collected F.database self.now label.now) found.old
             found.new) }
         ensures failed { FailsBy (lines_failure (label_collected F.database self.now label.now))
             result }
@@ -252,7 +252,7 @@ pub fn collect_label<'files, 'd, F: Files<'files>>(
         ≡ line_of_end (F.database files.now).file label.now) }
     ensures added { OnOk result (FindsLines
         (collected_label (F.database files.now) config.now at label.now) found.old found.new) }
-    ensures padding { OnOk result (MakesRoom
+    ensures padding { OnOk result (ExtendsPadding
         (collected_label (F.database files.now) config.now at label.now) found.old found.new) }
     ensures failed { FailsBy (label_failure
         (collected_label (F.database files.now) config.now at label.now)) result }

@@ -54,7 +54,7 @@ pub fn add_label<FileId>(
     lines: LabelSpan,
 )
     requires index { index < length files.old.items }
-    requires room { slice_index_or (lanes_view files.old.items) index 0 + 1 < 2 ^ 64 }
+    requires bound { slice_index_or (lanes_view files.old.items) index 0 + 1 < 2 ^ 64 }
     ensures ids { ids_view files.new.items ≡ ids_view files.old.items }
     ensures starts { starts_view files.new.items
         ≡ starts_with_label (starts_view files.old.items) index (label_of label.now).label }

@@ -66,7 +66,7 @@ pub fn plan_snippets<'files, 'e, 'd, F: Files<'files>>(
         (plans_failure layout (F.database files.now).failure collected.now) result }
 {
     let mut plans = Vec::with_capacity(alloc, collected.files.len())?;
-    let mut placed = Ok(());
+    let mut located = Ok(());
     let mut start = 0;
     for (index, file) in collected.files.iter().enumerate() {
         let len = file_len(&collected.annotations[start..], index);
@@ -84,9 +84,9 @@ pub fn plan_snippets<'files, 'e, 'd, F: Files<'files>>(
                 locus,
                 line_total,
             })?,
-            Err(failed) => placed = placed.and(Err(failed)),
+            Err(failed) => located = located.and(Err(failed)),
         }
     }
-    placed?;
+    located?;
     Ok(plans)
 }

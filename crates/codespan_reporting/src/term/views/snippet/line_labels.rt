@@ -2,16 +2,16 @@
 
 ghost use Rattle.std.specs.Prelude.{◌≡◌, [], IfOk, OnErr, IsErrOf, map};
 ghost use Rattle.codespan_base.specs.Labels.{from_line_start};
-ghost use Rattle.codespan_picture.specs.Given.{single_label_views, single_label_view, mark_view};
+ghost use Rattle.codespan_picture.specs.Arguments.{single_label_views, single_label_view, lane_mark_view};
 ghost use Rattle.codespan_picture.specs.Picture.{label_of};
 ghost use Rattle.codespan_reporting.specs.Inner.AnnotationViews.{annotation_view};
-ghost use Rattle.codespan_reporting.specs.Inner.SnippetLines.{marks_in, singles_in};
+ghost use Rattle.codespan_reporting.specs.Inner.SnippetLines.{lane_marks_in, single_labels_in};
 
 use crate::term::renderer::{MultiLabel, SingleLabel};
 use crate::term::views::annotation::{Annotation, AnnotationKind, multi_label, range_in_line};
 use codespan_base::diagnostic::{Label, LabelStyle};
 use codespan_base::files::Error;
-use codespan_renderer::term::renderer::by_cells::LineCells;
+use codespan_renderer::term::renderer::cached::LineMetrics;
 use std::alloc::Global;
 
 /// The labels of a line, as a renderer takes them.
@@ -24,7 +24,7 @@ pub struct LineLabels<'d> {
     /// The lane, the style and the part of each multi-line label.
     pub multi_labels: Vec<(usize, LabelStyle, MultiLabel<'d>)>,
     /// The characters of the line and the pointers under them, as far as its rows reach.
-    pub cells: LineCells,
+    pub metrics: LineMetrics,
 }
 
 impl<'d> LineLabels<'d> {
@@ -36,7 +36,7 @@ impl<'d> LineLabels<'d> {
         LineLabels {
             single_labels: Vec::new(alloc),
             multi_labels: Vec::new(alloc),
-            cells: LineCells::new(alloc),
+            metrics: LineMetrics::new(alloc),
         }
     }
 
@@ -48,9 +48,9 @@ impl<'d> LineLabels<'d> {
     #[inline(always)]
     pub fn refill<FileId>(&mut self, annotations: &[Annotation<'d, FileId>]) -> Result<(), Error>
         ensures single_labels { IfOk result (λ _. single_label_views self.new.single_labels.items
-            ≡ singles_in (map annotation_view annotations.now)) }
-        ensures multi_labels { IfOk result (λ _. map mark_view self.new.multi_labels.items
-            ≡ marks_in (map annotation_view annotations.now)) }
+            ≡ single_labels_in (map annotation_view annotations.now)) }
+        ensures multi_labels { IfOk result (λ _. map lane_mark_view self.new.multi_labels.items
+            ≡ lane_marks_in (map annotation_view annotations.now)) }
         ensures failed { OnErr result (IsErrOf result Error.OutOfMemory) }
     {
         fill_multi_labels(&mut self.multi_labels, annotations)?;
@@ -67,8 +67,8 @@ pub fn fill_multi_labels<'d, FileId>(
     multi_labels: &mut Vec<(usize, LabelStyle, MultiLabel<'d>)>,
     annotations: &[Annotation<'d, FileId>],
 ) -> Result<(), Error>
-    ensures multi_labels { IfOk result (λ _. map mark_view multi_labels.new.items
-        ≡ marks_in (map annotation_view annotations.now)) }
+    ensures multi_labels { IfOk result (λ _. map lane_mark_view multi_labels.new.items
+        ≡ lane_marks_in (map annotation_view annotations.now)) }
     ensures failed { OnErr result (IsErrOf result Error.OutOfMemory) }
 {
     multi_labels.clear();
@@ -77,8 +77,8 @@ pub fn fill_multi_labels<'d, FileId>(
             AnnotationKind::Shown => {}
             AnnotationKind::Single { .. } => {}
             AnnotationKind::Multi { part, lane, label } => {
-                let mark = multi_label(label, part, annotation.line.start);
-                multi_labels.push((lane, label.style, mark))?;
+                let multi = multi_label(label, part, annotation.line.start);
+                multi_labels.push((lane, label.style, multi))?;
             }
         }
     }
@@ -95,7 +95,7 @@ fn fill_single_labels<'d, FileId>(
     annotations: &[Annotation<'d, FileId>],
 ) -> Result<(), Error>
     ensures single_labels { IfOk result (λ _. single_label_views single_labels.new.items
-        ≡ singles_in (map annotation_view annotations.now)) }
+        ≡ single_labels_in (map annotation_view annotations.now)) }
     ensures failed { OnErr result (IsErrOf result Error.OutOfMemory) }
 {
     single_labels.clear();

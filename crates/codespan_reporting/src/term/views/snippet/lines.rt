@@ -9,7 +9,7 @@ ghost use Rattle.codespan_reporting.specs.Inner.AnnotationViews.{IsLineAt, IsLin
 ghost use Rattle.codespan_reporting.specs.Inner.SnippetLineViews.{IsSnippetLineOf, lookups_of_line, lookups_of_filled, line_view};
 ghost use Rattle.codespan_reporting.specs.Inner.LineRendering.{DoFit, RendersLine, RendersLines};
 ghost use Rattle.codespan_reporting.specs.Inner.SourceFiles.{model_of};
-ghost use Rattle.codespan_reporting.specs.Inner.SnippetLines.{Labeled, Break, do_annotations_fit, do_marks_fit, does_line_fit};
+ghost use Rattle.codespan_reporting.specs.Inner.SnippetLines.{Labeled, Break, do_annotations_fit, do_lane_marks_fit, does_line_fit};
 
 use crate::term::renderer::Renderer;
 use crate::term::views::annotation::{Annotation, LineInfo};
@@ -59,7 +59,7 @@ impl<'context, 'files, F: Files<'files>> Snippet<'context, 'files, F> {
     pub fn render_lines<'d, W: WriteStyle>(
         &self,
         renderer: &mut Renderer<'_, '_, W>,
-        marks: &mut LineLabels<'d>,
+        labels: &mut LineLabels<'d>,
         snippet_lines: &[SnippetLine<'_, 'd, F::FileId>],
     ) -> Result<(), Error>
         requires text { self.now.text.now
@@ -68,12 +68,12 @@ impl<'context, 'files, F: Files<'files>> Snippet<'context, 'files, F> {
             (IsSnippetLineOf (model_of F.database self.now.file)) snippet_lines.now }
         requires fits { DoFit self.now.lane_count (map line_view snippet_lines.now) }
         ensures same { SameRenderer renderer.old renderer.new }
-        ensures draws { RendersLines W.sink F.database self.now snippet_lines.now renderer.old
+        ensures renders { RendersLines W.sink F.database self.now snippet_lines.now renderer.old
             result
             renderer.new }
     {
         for snippet_line in snippet_lines {
-            self.render_snippet_line(renderer, marks, snippet_line)?;
+            self.render_snippet_line(renderer, labels, snippet_line)?;
         }
         Ok(())
     }
@@ -86,7 +86,7 @@ impl<'context, 'files, F: Files<'files>> Snippet<'context, 'files, F> {
     fn render_snippet_line<'d, W: WriteStyle>(
         &self,
         renderer: &mut Renderer<'_, '_, W>,
-        marks: &mut LineLabels<'d>,
+        labels: &mut LineLabels<'d>,
         snippet_line: &SnippetLine<'_, 'd, F::FileId>,
     ) -> Result<(), Error>
         requires text { self.now.text.now
@@ -95,14 +95,14 @@ impl<'context, 'files, F: Files<'files>> Snippet<'context, 'files, F> {
             snippet_line.now }
         requires fits { IsTrue (does_line_fit self.now.lane_count (line_view snippet_line.now)) }
         ensures same { SameRenderer renderer.old renderer.new }
-        ensures draws { RendersLine W.sink F.database self.now (lookups_of_line snippet_line.now)
+        ensures renders { RendersLine W.sink F.database self.now (lookups_of_line snippet_line.now)
             (line_view snippet_line.now)
             renderer.old result renderer.new }
     {
         match snippet_line {
             SnippetLine::Labeled { line, annotations } => self.render_line(
                 renderer,
-                marks,
+                labels,
                 *line,
                 *annotations,
             )?,
@@ -112,9 +112,9 @@ impl<'context, 'files, F: Files<'files>> Snippet<'context, 'files, F> {
                 annotations,
             } => {
                 let line = self.file.line(*index, *number)?;
-                self.render_line(renderer, marks, line, *annotations)?;
+                self.render_line(renderer, labels, line, *annotations)?;
             }
-            SnippetLine::Break { next } => self.render_break(renderer, marks, *next)?,
+            SnippetLine::Break { next } => self.render_break(renderer, labels, *next)?,
         }
         Ok(())
     }
@@ -129,7 +129,7 @@ impl<'context, 'files, F: Files<'files>> Snippet<'context, 'files, F> {
     fn render_line<'d, W: WriteStyle>(
         &self,
         renderer: &mut Renderer<'_, '_, W>,
-        marks: &mut LineLabels<'d>,
+        labels: &mut LineLabels<'d>,
         line: LineInfo,
         annotations: &[Annotation<'d, F::FileId>],
     ) -> Result<(), Error>
@@ -139,18 +139,18 @@ impl<'context, 'files, F: Files<'files>> Snippet<'context, 'files, F> {
         requires fits { IsTrue
             (do_annotations_fit self.now.lane_count (map annotation_view annotations.now)) }
         ensures same { SameRenderer renderer.old renderer.new }
-        ensures draws { RendersLine W.sink F.database self.now []
+        ensures renders { RendersLine W.sink F.database self.now []
             (Labeled line.index (map annotation_view annotations.now)) renderer.old result
             renderer.new }
     {
-        marks.refill(annotations)?;
+        labels.refill(annotations)?;
         let source = &self.text[line.start..line.end];
         let lanes = Lanes {
             count: self.lane_count,
-            marks: marks.multi_labels.as_slice(),
+            marks: labels.multi_labels.as_slice(),
         };
-        let line = Line::new(line.number, source, marks.single_labels.as_slice(), lanes);
-        let cached = marks.cells.take_line(renderer, line)?;
+        let line = Line::new(line.number, source, labels.single_labels.as_slice(), lanes);
+        let cached = labels.metrics.take_line(renderer, line)?;
         cached.render(renderer, self.context.padding, self.context.severity)
     }
 
@@ -163,21 +163,22 @@ impl<'context, 'files, F: Files<'files>> Snippet<'context, 'files, F> {
     fn render_break<'d, W: WriteStyle>(
         &self,
         renderer: &mut Renderer<'_, '_, W>,
-        marks: &mut LineLabels<'d>,
+        labels: &mut LineLabels<'d>,
         next: &[Annotation<'d, F::FileId>],
     ) -> Result<(), Error>
-        requires fits { IsTrue (do_marks_fit self.now.lane_count (map annotation_view next.now)) }
+        requires fits { IsTrue (do_lane_marks_fit self.now.lane_count
+            (map annotation_view next.now)) }
         ensures same { SameRenderer renderer.old renderer.new }
-        ensures draws { RendersLine W.sink F.database self.now []
+        ensures renders { RendersLine W.sink F.database self.now []
             (Break (map annotation_view next.now))
             renderer.old result renderer.new }
     {
-        fill_multi_labels(&mut marks.multi_labels, next)?;
+        fill_multi_labels(&mut labels.multi_labels, next)?;
         renderer.render_snippet_break(
             self.context.padding,
             self.context.severity,
             self.lane_count,
-            marks.multi_labels.as_slice(),
+            labels.multi_labels.as_slice(),
         )
     }
 }

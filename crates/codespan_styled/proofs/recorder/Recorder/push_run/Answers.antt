@@ -1,9 +1,9 @@
 use Rattle.std.proofs.Common.{rules, ◌≡◌, ◌++◌, map, refl, ap, ◌∙◌, string_bytes}
 use Rattle.codespan_styled.specs.declared.recorder.Recorder.{Recorder}
 use Rattle.codespan_styled.specs.declared.text.Run.{Run}
-use Rattle.codespan_styled.specs.Recorded.{held_run, held_runs}
+use Rattle.codespan_styled.specs.Recorded.{recorded_run, recorded_runs}
 use Rattle.codespan_styled.specs.Runs.{run_view}
-use Rattle.codespan_styled.proofs.Recording.{held-ended, nothing_appended, recorded-failed, recorded-started}
+use Rattle.codespan_styled.proofs.Recording.{contents-ended, nothing_appended, recorded-failed, recorded-started}
 use Rattle.codespan_styled.proofs.recorder.Recorder.push_run.Goals as goal
 
 pub returns-in_default-clause-appends : goal.returns-in_default-clause-appends
@@ -17,7 +17,7 @@ pub returns-in_err-push-clause-appends : goal.returns-in_err-push-clause-appends
 returns-in_err-push-clause-appends c =
     let self = c.args.self.now in
     recorded-failed self (record self { runs = c.push.new.self }) _ c.from_residual-in_err-push.result c.from_residual-in_err-push.ensures.0
-    (ap (λ runs. held_runs (map run_view runs) ++ held_run (record { style = self.style; text = self.text.items })) c.in_err-push.ensures.items)
+    (ap (λ runs. recorded_runs (map run_view runs) ++ recorded_run (record { style = self.style; text = self.text.items })) c.in_err-push.ensures.items)
 
 pub returns-clause-appends : goal.returns-clause-appends
 returns-clause-appends c = λ known.
@@ -26,4 +26,4 @@ returns-clause-appends c = λ known.
     let same : c.in-Ok.bytes.now ≡ self.text.items = search rules in
     let text : string_bytes c.push_str.new.self ≡ self.text.items = c.in_ok-push_str.ensures.bytes ∙ ap (λ bytes. bytes ++ c.in-Ok.bytes.now) c.new-text.ensures.bytes ∙ same in
     let run : Run = record { style = self.style; text = c.push_str.new.self } in
-    recorded-started self new c.args.next (held-ended self new run c.in_ok-push.ensures.items refl text) refl c.clear.ensures.items
+    recorded-started self new c.args.next (contents-ended self new run c.in_ok-push.ensures.items refl text) refl c.clear.ensures.items

@@ -5,5 +5,5 @@ pub returns-in-CannotWriteOutput-clause-written : goal.returns-in-CannotWriteOut
 returns-in-CannotWriteOutput-clause-written g c =
     line_of_fault _ _ _ c.write_whole.result c.in-CannotWriteOutput.is c.write_whole.ensures.written
 
-pub returns-in-CannotWriteOutput-clause-begun : goal.returns-in-CannotWriteOutput-clause-begun
-returns-in-CannotWriteOutput-clause-begun g c = λ _. c.write_whole.ensures.prefix
+pub returns-in-CannotWriteOutput-clause-prefix : goal.returns-in-CannotWriteOutput-clause-prefix
+returns-in-CannotWriteOutput-clause-prefix g c = λ _. c.write_whole.ensures.prefix

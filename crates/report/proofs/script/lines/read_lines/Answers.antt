@@ -12,6 +12,6 @@ lines-init c =
     record {
       within = omega arith;
       end = sym (ap (λ n. drop n input) none);
-      read = ap (λ held. map line_view held ++ body (lines_from (length input - length input) pieces)) c.new-lines.ensures.items ∙ ap (λ n. body (lines_from n pieces)) none;
+      read = ap (λ contents. map line_view contents ++ body (lines_from (length input - length input) pieces)) c.new-lines.ensures.items ∙ ap (λ n. body (lines_from n pieces)) none;
       source = ap (λ n. source_of input (lines_from n pieces)) none;
     }

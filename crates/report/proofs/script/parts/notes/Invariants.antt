@@ -1,8 +1,8 @@
 use Rattle.std.proofs.Common.{◌≡◌, ◌++◌, map, drop}
 use Rattle.report.specs.ScriptLines.{line_view}
-use Rattle.report.specs.Scripts.{notes_given}
+use Rattle.report.specs.Scripts.{parsed_notes}
 use Rattle.report.proofs.script.parts.notes.Given as goal
 
 abbrev pub invariant-loop-line : goal.invariant-loop-line
 invariant-loop-line l =
-    map (λ note. note.now) l.notes.items ++ notes_given (map line_view (drop l.line-index l.lines)) ≡ notes_given (map line_view l.lines)
+    map (λ note. note.now) l.notes.items ++ parsed_notes (map line_view (drop l.line-index l.lines)) ≡ parsed_notes (map line_view l.lines)

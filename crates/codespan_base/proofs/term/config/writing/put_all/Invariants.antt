@@ -1,10 +1,10 @@
 use Rattle.std.proofs.Common.{length}
 use Rattle.codespan_base.specs.Streams.{bytes}
-use Rattle.codespan_base.proofs.Loops.{StillToCome}
+use Rattle.codespan_base.proofs.Loops.{StillToWrite}
 use Rattle.codespan_base.proofs.term.config.writing.put_all.Given as goal
 
 abbrev pub invariant-loop-rest : goal.invariant-loop-rest
-invariant-loop-rest g l = StillToCome (g.W.PutStyle.sink l.fn.w) (bytes l.text) (bytes l.rest) (g.W.PutStyle.sink l.w)
+invariant-loop-rest g l = StillToWrite (g.W.PutStyle.sink l.fn.w) (bytes l.text) (bytes l.rest) (g.W.PutStyle.sink l.w)
 
 abbrev pub decreases-loop-rest : goal.decreases-loop-rest
 decreases-loop-rest g l = length l.rest

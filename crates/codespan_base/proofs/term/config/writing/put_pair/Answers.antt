@@ -1,11 +1,11 @@
 use Rattle.std.proofs.Common.{arith, ◌∙◌, ◌≡◌, length}
-use Rattle.codespan_base.proofs.Chains.{stopped-before, failed, sends-last}
+use Rattle.codespan_base.proofs.Chains.{failed-before, failed, writes-last}
 use Rattle.codespan_base.proofs.Repeats.{repeated-pair, repeated-two}
 use Rattle.codespan_base.proofs.term.config.writing.put_pair.Goals as goal
 
 pub returns-in_err-put_char-in_default : goal.returns-in_err-put_char-in_default
 returns-in_err-put_char-in_default g c =
-    rw (repeated-two c.args.c) (failed _ _ _ _ _ c.from_residual.ensures.1 (stopped-before _ c.in_err-put_char-in_default.ensures))
+    rw (repeated-two c.args.c) (failed _ _ _ _ _ c.from_residual.ensures.1 (failed-before _ c.in_err-put_char-in_default.ensures))
 
 pub returns-in-len3 : goal.returns-in-len3
 returns-in-len3 g c =
@@ -14,4 +14,4 @@ returns-in-len3 g c =
 
 pub returns-in_ok-put_char-in_default : goal.returns-in_ok-put_char-in_default
 returns-in_ok-put_char-in_default g c =
-    rw (repeated-two c.args.c) (sends-last _ _ _ _ _ c.in_ok-put_char-in_default.ensures c.put_char-in_default.ensures)
+    rw (repeated-two c.args.c) (writes-last _ _ _ _ _ c.in_ok-put_char-in_default.ensures c.put_char-in_default.ensures)

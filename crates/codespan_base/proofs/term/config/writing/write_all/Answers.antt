@@ -1,15 +1,15 @@
 use Rattle.std.proofs.Common.{◌≡◌, [], rules, arith, sym, ap, ◌∙◌}
 use Rattle.std.proofs.lemmas.Grind.{common_steps}
 use Rattle.codespan_base.specs.WriterLaw.{extended}
-use Rattle.codespan_base.proofs.HeldBytes.{extended-nil}
-use Rattle.codespan_base.proofs.AppendsBytes.{sent_to_plain_ref}
+use Rattle.codespan_base.proofs.KnownBytes.{extended-nil}
+use Rattle.codespan_base.proofs.AppendsBytes.{written_to_plain_ref}
 use Rattle.codespan_base.proofs.term.config.writing.write_all.Goals as goal
 
-pub returns-then-is_empty-clause-paints : goal.returns-then-is_empty-clause-paints
-returns-then-is_empty-clause-paints g c = λ told.
+pub returns-then-is_empty-clause-appends : goal.returns-then-is_empty-clause-appends
+returns-then-is_empty-clause-appends g c = λ known.
     let none : c.args.bytes.now ≡ [] = grind (arith, common_steps) in
     sym (ap (extended (g.W.Write.contents c.args.w.now)) none ∙ extended-nil _)
 
-pub returns-clause-paints : goal.returns-clause-paints
-returns-clause-paints g c =
-    sent_to_plain_ref g.W.Write.contents c.new.result c.put_all.new.w _ _ _ _ _ c.new.ensures.begins c.put_all.ensures (search rules)
+pub returns-clause-appends : goal.returns-clause-appends
+returns-clause-appends g c =
+    written_to_plain_ref g.W.Write.contents c.new.result c.put_all.new.w _ _ _ _ _ c.new.ensures.begins c.put_all.ensures (search rules)

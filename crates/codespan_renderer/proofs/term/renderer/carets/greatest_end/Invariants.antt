@@ -1,10 +1,10 @@
 use Rattle.std.proofs.Common.{◌≡◌, drop, max, fold}
-use Rattle.codespan_base.specs.Labels.{Labelled}
+use Rattle.codespan_base.specs.Labels.{LabelModel}
 use Rattle.codespan_picture.specs.Carets.{greatest_end}
-use Rattle.codespan_picture.specs.Given.{single_label_views}
+use Rattle.codespan_picture.specs.Arguments.{single_label_views}
 use Rattle.codespan_renderer.proofs.term.renderer.carets.greatest_end.Given as goal
 
 -- the remaining labels decide
 abbrev pub invariant-loop-label : goal.invariant-loop-label
 invariant-loop-label l =
-    fold (λ m (x : Labelled). max m x.end) l.greatest (single_label_views (drop l.label-index l.labels)) ≡ greatest_end (single_label_views l.labels)
+    fold (λ m (x : LabelModel). max m x.end) l.greatest (single_label_views (drop l.label-index l.labels)) ≡ greatest_end (single_label_views l.labels)

@@ -1,7 +1,7 @@
 use Rattle.std.proofs.Common.{◌≡◌, ◌+◌, ◌≤◌, length, take}
 use Rattle.std.specs.List.{suffix_len}
 use Rattle.std.specs.Str.{IsCharBoundary}
-use Rattle.codespan_picture.specs.Cells.{is_line_end}
+use Rattle.codespan_picture.specs.CharMetrics.{is_line_end}
 use Rattle.codespan_renderer.proofs.term.renderer.line.drawn_text.Given as goal
 
 abbrev pub invariant-loop-end : goal.invariant-loop-end

@@ -1,7 +1,7 @@
 use Rattle.std.proofs.Common.{◌≡◌, ℕ, length, length-append, ap, sym, ◌∙◌, arith}
 use Rattle.std.specs.Str.Iter.{chars_rest}
 use Rattle.std.proofs.lemmas.Str.{IsUtf8-past_char, length-encode}
-use Rattle.codespan_renderer.proofs.CellSteps.{leading-more, leading-stop, leading-end}
+use Rattle.codespan_renderer.proofs.MetricsSteps.{leading-more, leading-stop, leading-end}
 use Rattle.codespan_renderer.proofs.term.renderer.line.leading_whitespace.Goals as goal
 
 pub loop-c-init : goal.loop-c-init

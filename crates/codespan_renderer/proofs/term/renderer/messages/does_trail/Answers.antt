@@ -7,10 +7,10 @@ use Rattle.codespan_renderer.proofs.term.renderer.messages.does_trail.Goals as g
 
 pub returns-then-not-is_overlapped : goal.returns-then-not-is_overlapped
 returns-then-not-is_overlapped c =
-    let here = trails_at c.args.labels.now c.args.place _ _ c.requires c.is_empty.ensures in
+    let here = trails_at c.args.labels.now c.args.index _ _ c.requires c.is_empty.ensures in
     elim c.if-not-is_empty.branch [ then-not-is_empty w ↦ grind (arith, common_steps, nat_tests, here) | else-not-is_empty w ↦ cc ]
 
 pub returns-else-not-is_overlapped : goal.returns-else-not-is_overlapped
 returns-else-not-is_overlapped c =
-    let here = trails_at c.args.labels.now c.args.place _ _ c.requires c.is_empty.ensures in
+    let here = trails_at c.args.labels.now c.args.index _ _ c.requires c.is_empty.ensures in
     elim c.if-not-is_empty.branch [ then-not-is_empty w ↦ grind (arith, common_steps, nat_tests, here) | else-not-is_empty w ↦ grind (arith, common_steps, nat_tests, here) ]

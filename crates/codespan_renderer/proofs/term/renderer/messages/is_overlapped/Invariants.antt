@@ -1,5 +1,5 @@
 use Rattle.std.proofs.Common.{◌≡◌, drop}
-use Rattle.codespan_picture.specs.Given.{single_label_view, single_label_views}
+use Rattle.codespan_picture.specs.Arguments.{single_label_view, single_label_views}
 use Rattle.codespan_picture.specs.Rows.{is_overlapped}
 use Rattle.codespan_renderer.proofs.term.renderer.messages.is_overlapped.Given as goal
 

@@ -3,5 +3,5 @@ use Rattle.codespan_renderer.proofs.Hanging.{NoneEnds}
 use Rattle.codespan_renderer.proofs.term.renderer.messages.last_with_end.Given as goal
 
 -- none of the labels from here on ends there
-abbrev pub invariant-loop-place : goal.invariant-loop-place
-invariant-loop-place l = NoneEnds l.end (drop l.place l.labels)
+abbrev pub invariant-loop-index : goal.invariant-loop-index
+invariant-loop-index l = NoneEnds l.end (drop l.index l.labels)

@@ -1,7 +1,7 @@
 use Rattle.std.proofs.Common.{◌≡◌, drop}
 use Rattle.std.specs.List.{list_any}
 use Rattle.codespan_base.specs.Labels.{has_message}
-use Rattle.codespan_picture.specs.Given.{single_label_views}
+use Rattle.codespan_picture.specs.Arguments.{single_label_views}
 use Rattle.codespan_renderer.proofs.term.renderer.pointers.has_any_message.Given as goal
 
 -- the remaining labels decide

@@ -1,5 +1,5 @@
 use Rattle.std.proofs.Common.{refl, sym, ◌∙◌, inl, inr}
-use Rattle.codespan_base.proofs.Loops.{StillToCome-start, StillToCome-end}
+use Rattle.codespan_base.proofs.Loops.{StillToWrite-start, StillToWrite-end}
 use Rattle.codespan_renderer.proofs.Hanging.{nothing_hangs, all_hanging}
 use Rattle.codespan_renderer.proofs.term.renderer.pointers.write_hanging.Goals.{else-not-has_any_message-via-then-not-has_any_message+else-not-has_any_message-2, else-not-has_any_message-via-else-not-has_any_message}
 use Rattle.codespan_renderer.proofs.term.renderer.pointers.write_hanging.Goals as goal
@@ -8,7 +8,7 @@ pub returns-then-not-has_any_message-2 : goal.returns-then-not-has_any_message-2
 returns-then-not-has_any_message-2 g c =
     let early = sym c.has_any_message.ensures ∙ c.if-not-has_any_message.true in
     let late = sym c.has_any_message-then-not-has_any_message.ensures ∙ c.if-not-has_any_message-2.true in
-    StillToCome-end _ _ _ _ (StillToCome-start _ _ _ refl) (nothing_hangs _ _ _ _ _ c.requires.hanging early late)
+    StillToWrite-end _ _ _ _ (StillToWrite-start _ _ _ refl) (nothing_hangs _ _ _ _ _ c.requires.hanging early late)
 
 pub returns : goal.returns
 returns g c =

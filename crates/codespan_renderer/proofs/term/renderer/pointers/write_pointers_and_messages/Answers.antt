@@ -1,9 +1,9 @@
-use Rattle.codespan_base.proofs.Chains.{came-then, stopped-then, stopped-before, failed, sends-last}
+use Rattle.codespan_base.proofs.Chains.{written-then, failed-then, failed-before, failed, writes-last}
 use Rattle.codespan_renderer.proofs.Pieces.{before-near, after-near}
 use Rattle.codespan_renderer.proofs.term.renderer.pointers.write_pointers_and_messages.Goals as goal
 
 pub returns-in_err-write_pointer_row : goal.returns-in_err-write_pointer_row
-returns-in_err-write_pointer_row g c = failed _ _ _ _ _ c.from_residual.ensures.1 (stopped-before _ (stopped-before _ c.in_err-write_pointer_row.ensures))
+returns-in_err-write_pointer_row g c = failed _ _ _ _ _ c.from_residual.ensures.1 (failed-before _ (failed-before _ c.in_err-write_pointer_row.ensures))
 
 pub write_hanging_rows-requires-clause-near : goal.write_hanging_rows-requires-clause-near
 write_hanging_rows-requires-clause-near g c = after-near _ _ _ c.requires.pieces
@@ -12,7 +12,7 @@ pub write_hanging_rows-requires-2-clause-near : goal.write_hanging_rows-requires
 write_hanging_rows-requires-2-clause-near g c = before-near _ _ _ c.requires.pieces
 
 pub returns-in_err-write_hanging_rows : goal.returns-in_err-write_hanging_rows
-returns-in_err-write_hanging_rows g c = failed _ _ _ _ _ c.from_residual-in_err-write_hanging_rows.ensures.1 (stopped-before _ (stopped-then _ c.in_ok-write_pointer_row.ensures c.in_err-write_hanging_rows.ensures))
+returns-in_err-write_hanging_rows g c = failed _ _ _ _ _ c.from_residual-in_err-write_hanging_rows.ensures.1 (failed-before _ (failed-then _ c.in_ok-write_pointer_row.ensures c.in_err-write_hanging_rows.ensures))
 
 pub returns : goal.returns
-returns g c = sends-last _ _ _ _ _ (came-then _ _ _ c.in_ok-write_pointer_row.ensures c.in_ok-write_hanging_rows.ensures) c.write_hanging_rows-2.ensures
+returns g c = writes-last _ _ _ _ _ (written-then _ _ _ c.in_ok-write_pointer_row.ensures c.in_ok-write_hanging_rows.ensures) c.write_hanging_rows-2.ensures

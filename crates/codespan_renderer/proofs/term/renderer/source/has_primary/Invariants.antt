@@ -1,7 +1,7 @@
 use Rattle.std.proofs.Common.{◌≡◌, drop}
 use Rattle.std.specs.List.{list_any}
 use Rattle.codespan_base.specs.Labels.{is_primary}
-use Rattle.codespan_picture.specs.Given.{single_label_views}
+use Rattle.codespan_picture.specs.Arguments.{single_label_views}
 use Rattle.codespan_renderer.proofs.term.renderer.source.has_primary.Given as goal
 
 -- the remaining labels decide

@@ -1,5 +1,5 @@
 use Rattle.codespan_picture.specs.Snippets.{file_ids}
-use Rattle.codespan_reporting.proofs.LabelTurns.{before}
+use Rattle.codespan_reporting.proofs.LabelsBefore.{before}
 use Rattle.codespan_reporting.proofs.LabelsCollected.{AreCollected}
 use Rattle.codespan_reporting.proofs.term.views.collect.collect_in_turn.Given as goal
 

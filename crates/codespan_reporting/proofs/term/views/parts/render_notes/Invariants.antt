@@ -1,7 +1,7 @@
 use Rattle.std.proofs.Common.{take}
 use Rattle.std.specs.Prelude.{string_bytes}
 use Rattle.codespan_reporting.specs.Inner.LookupsOnTheWay.{WroteStream}
-use Rattle.codespan_picture.specs.Picture.{look_of}
+use Rattle.codespan_picture.specs.Picture.{context_of}
 use Rattle.codespan_renderer.specs.Renderers.{SameRenderer, config_of, writer_of}
 use Rattle.codespan_reporting.proofs.NoteRows.{stream_of_notes}
 use Rattle.codespan_reporting.proofs.term.views.parts.render_notes.Given as goal
@@ -10,5 +10,5 @@ use Rattle.codespan_reporting.proofs.term.views.parts.render_notes.Given as goal
 abbrev pub invariant-loop-note : goal.invariant-loop-note
 invariant-loop-note g l = record {
   same : SameRenderer l.initial.renderer l.renderer;
-  came : WroteStream (g.W.WriteStyle.sink (writer_of l.initial.renderer)) (stream_of_notes string_bytes (look_of (config_of l.initial.renderer) l.diagnostic.severity l.padding) (take l.note-index l.diagnostic.notes.items)) (g.W.WriteStyle.sink (writer_of l.renderer));
+  written : WroteStream (g.W.WriteStyle.sink (writer_of l.initial.renderer)) (stream_of_notes string_bytes (context_of (config_of l.initial.renderer) l.diagnostic.severity l.padding) (take l.note-index l.diagnostic.notes.items)) (g.W.WriteStyle.sink (writer_of l.renderer));
 }

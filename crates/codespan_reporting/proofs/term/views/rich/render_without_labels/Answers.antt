@@ -1,19 +1,19 @@
 use Rattle.std.proofs.Common.{Err, ap, ◌∙◌}
 use Rattle.std.proofs.lemmas.Result.{err_from_is_err_and}
 use Rattle.codespan_base.specs.declared.term.config.Config.{Config}
-use Rattle.codespan_picture.specs.Picture.{look_of, notes_of}
-use Rattle.codespan_base.proofs.Chains.{stopped-before}
+use Rattle.codespan_picture.specs.Picture.{context_of, notes_of}
+use Rattle.codespan_base.proofs.Chains.{failed-before}
 use Rattle.codespan_reporting.proofs.NoteRows.{whole_of_notes}
-use Rattle.codespan_reporting.proofs.SnippetParts.{sends_after, sends_at}
+use Rattle.codespan_reporting.proofs.SnippetParts.{written_after, write_at}
 use Rattle.codespan_reporting.proofs.term.views.rich.render_without_labels.Goals as goal
 
-pub returns-in_err-render_heading-clause-sends : goal.returns-in_err-render_heading-clause-sends
-returns-in_err-render_heading-clause-sends g c =
+pub returns-in_err-render_heading-clause-writes : goal.returns-in_err-render_heading-clause-writes
+returns-in_err-render_heading-clause-writes g c =
     let p = err_from_is_err_and c.from_residual.result c.from_residual.ensures.1 in
-    rw (p.1 ∙ ap Err p.2) (stopped-before _ c.in_err-render_heading.ensures.sends)
+    rw (p.1 ∙ ap Err p.2) (failed-before _ c.in_err-render_heading.ensures.writes)
 
-pub returns-clause-sends : goal.returns-clause-sends
-returns-clause-sends g c =
+pub returns-clause-writes : goal.returns-clause-writes
+returns-clause-writes g c =
     let d = c.args.diagnostic.now in
-    sends_after _ _ _ _ _ c.render_closing.result c.in_ok-render_heading.ensures.sends
-    (sends_at (λ (k : Config). whole_of_notes (look_of k d.severity 0) (notes_of d)) c.in_ok-render_heading.ensures.same.config _ _ c.render_closing.result c.render_closing.ensures.sends)
+    written_after _ _ _ _ _ c.render_closing.result c.in_ok-render_heading.ensures.writes
+    (write_at (λ (k : Config). whole_of_notes (context_of k d.severity 0) (notes_of d)) c.in_ok-render_heading.ensures.same.config _ _ c.render_closing.result c.render_closing.ensures.writes)

@@ -2,6 +2,6 @@ use Rattle.std.proofs.Common.{refl}
 use Rattle.std.specs.Char.{encode_utf8}
 use Rattle.codespan_base.proofs.term.config.chars.Chars.box_drawing.Goals as goal
 
-pub returns-clause-alike : goal.returns-clause-alike
+pub returns-clause-equal : goal.returns-clause-equal
 unfolding encode_utf8
-returns-clause-alike c = record { start = refl; others = refl }
+returns-clause-equal c = record { start = refl; others = refl }

@@ -1,6 +1,6 @@
 use Rattle.std.proofs.Common.{rules}
-use Rattle.codespan_renderer.proofs.Passing.{sends_behind}
+use Rattle.codespan_renderer.proofs.ThroughReference.{writes_through}
 use Rattle.codespan_renderer.proofs.term.renderer.write_style.RendererWriteStyle.set_header_message.Goals as goal
 
 pub returns : goal.returns
-returns g c = sends_behind _ _ _ _ _ (search rules)
+returns g c = writes_through _ _ _ _ _ (search rules)

@@ -1,5 +1,5 @@
-use Rattle.codespan_renderer.proofs.Passing.{sends_behind}
+use Rattle.codespan_renderer.proofs.ThroughReference.{writes_through}
 use Rattle.codespan_renderer.proofs.term.renderer.write_style.RendererWriteStyle.set_label.Goals as goal
 
 pub returns : goal.returns
-returns g c = sends_behind _ _ _ _ _ c.set_label.ensures
+returns g c = writes_through _ _ _ _ _ c.set_label.ensures

@@ -15,7 +15,7 @@ not_true false h = refl
 pub returns : goal.returns
 returns g c = λ ordered.
     let xs = c.args.annotations.now in
-    let told = c.is_sorted_by.ensures.cases (λ x y. not (is_below (annotation_view y) (annotation_view x)))
+    let known = c.is_sorted_by.ensures.cases (λ x y. not (is_below (annotation_view y) (annotation_view x)))
     (answers_always _ (λ a r. r ≡ not (is_below (annotation_view a.1.0.now) (annotation_view a.0.now))) _ (λ f a r f' k. search rules)) in
-    let each = subst (λ r. IsAllAdjacentAnswer (λ x y b. b ≡ not (is_below (annotation_view y) (annotation_view x))) xs r) ordered told in
+    let each = subst (λ r. IsAllAdjacentAnswer (λ x y b. b ≡ not (is_below (annotation_view y) (annotation_view x))) xs r) ordered known in
     sorted-map annotation_view is_below xs (λ k d _ l. not_true _ (each k d l))

@@ -5,13 +5,13 @@ use Rattle.codespan_reporting.specs.declared.term.views.collect.labeled_files.La
 use Rattle.codespan_reporting.specs.declared.term.views.file_start.FileStart.{FileStart}
 use Rattle.codespan_reporting.specs.Inner.LabeledFiles.{ids_view, lanes_by}
 use Rattle.codespan_reporting.specs.Inner.Loci.{no_start, start_with}
-use Rattle.codespan_reporting.proofs.LabelIndexing.{StandsAt, map-changed}
+use Rattle.codespan_reporting.proofs.LabelIndexing.{IsElementAt, map-changed}
 use Rattle.codespan_reporting.proofs.term.views.collect.labeled_files.add_label.Given.{Over}
 use Rattle.codespan_reporting.proofs.term.views.collect.labeled_files.add_label.Goals.{After-add}
 use Rattle.codespan_reporting.proofs.term.views.collect.labeled_files.add_label.Goals as goal
 
 -- the file at the index
-at : (g : Over) (c : After-add g) → StandsAt c.args.files.now.items c.args.index c.index_mut.result.now
+at : (g : Over) (c : After-add g) → IsElementAt c.args.files.now.items c.args.index c.index_mut.result.now
 at g c = record { inside = c.requires.index; is = c.index_mut.ensures.value }
 
 pub returns-clause-ids : goal.returns-clause-ids

@@ -2,7 +2,7 @@ use Rattle.std.proofs.Common.{◌≡◌, List, [], ◌∷◌, ◌++◌, sym, ap,
 use Rattle.codespan_reporting.specs.Inner.LabeledFiles.{ids_view, lanes_view, starts_view, with_file}
 use Rattle.codespan_reporting.specs.Inner.Loci.{no_start}
 use Rattle.codespan_reporting.specs.Inner.IndexedLabels.{index_of_file}
-use Rattle.codespan_reporting.proofs.LabelFiles.{file-added, file-kept}
+use Rattle.codespan_reporting.proofs.LabelFiles.{file-added, file-unchanged}
 use Rattle.codespan_reporting.proofs.term.views.collect.labeled_files.file_index.Given.{Over}
 use Rattle.codespan_reporting.proofs.term.views.collect.labeled_files.file_index.Goals as goal
 
@@ -15,11 +15,11 @@ added g c =
     file-added g.met.FileId.Eq.laws c.args.files.now.items c.args.id is (c.if-index-len.true ∙ c.len.ensures ∙ c.args.files.now.ok.0)
 
 -- it is one of those that are there
-kept : (g : Over) (c : goal.Else-index-len g) {A : Type 0} (known : List A) (one : A) → known ≡ with_file g.FileId.PartialEq.eq (ids_view c.args.files.now.items) c.args.id known one
-kept g c =
+unchanged : (g : Over) (c : goal.Else-index-len g) {A : Type 0} (known : List A) (one : A) → known ≡ with_file g.FileId.PartialEq.eq (ids_view c.args.files.now.items) c.args.id known one
+unchanged g c =
     let same = g.FileId.PartialEq.eq in
     let is = c.find_file-index.ensures ∙ ap (λ fs. index_of_file same (ids_view fs) c.args.id) c.deref.ensures.value in
-    file-kept g.met.FileId.Eq.laws c.args.files.now.items c.args.id is
+    file-unchanged g.met.FileId.Eq.laws c.args.files.now.items c.args.id is
     (λ past. c.if-index-len.false (past ∙ sym (c.len.ensures ∙ c.args.files.now.ok.0)))
 
 pub returns-in_ok-push_file-clause-ids : goal.returns-in_ok-push_file-clause-ids
@@ -32,10 +32,10 @@ pub returns-in_ok-push_file-clause-lanes : goal.returns-in_ok-push_file-clause-l
 returns-in_ok-push_file-clause-lanes g c = c.in_ok-push_file.ensures.lanes ∙ added g c (lanes_view c.args.files.now.items) 0
 
 pub returns-else-index-len-clause-ids : goal.returns-else-index-len-clause-ids
-returns-else-index-len-clause-ids g c = kept g c (ids_view c.args.files.now.items) c.args.id
+returns-else-index-len-clause-ids g c = unchanged g c (ids_view c.args.files.now.items) c.args.id
 
 pub returns-else-index-len-clause-starts : goal.returns-else-index-len-clause-starts
-returns-else-index-len-clause-starts g c = kept g c (starts_view c.args.files.now.items) no_start
+returns-else-index-len-clause-starts g c = unchanged g c (starts_view c.args.files.now.items) no_start
 
 pub returns-else-index-len-clause-lanes : goal.returns-else-index-len-clause-lanes
-returns-else-index-len-clause-lanes g c = kept g c (lanes_view c.args.files.now.items) 0
+returns-else-index-len-clause-lanes g c = unchanged g c (lanes_view c.args.files.now.items) 0

@@ -4,7 +4,7 @@ use Rattle.std.proofs.lemmas.List.{get_or-map, length-map}
 use Rattle.codespan_reporting.specs.declared.term.views.collect.labeled_files.LabeledFile.{LabeledFile as RustFile}
 use Rattle.codespan_reporting.specs.Inner.LabeledFiles.{ids_view}
 use Rattle.codespan_reporting.specs.Inner.IndexedLabels.{IsIdAt}
-use Rattle.codespan_reporting.proofs.FileIndices.{at-get, guessed-index}
+use Rattle.codespan_reporting.proofs.FileIndices.{at-get, same_id-index}
 use Rattle.codespan_reporting.proofs.term.views.collect.labeled_files.find_file.Goals as goal
 
 pub returns-in-Some : goal.returns-in-Some
@@ -17,5 +17,5 @@ returns-in-Some g c =
     let found = c.in-Some.ensures.lookup in
     let inside : previous < length files = ltb-true previous _ (sym found.0) in
     let there : file.id ≡ get_or ids previous file.id = ap name found.1 ∙ sym (get_or-map name files previous file file.id inside) in
-    guessed-index g.met.FileId.Eq.laws ids file.id c.args.id c.requires
+    same_id-index g.met.FileId.Eq.laws ids file.id c.args.id c.requires
     (subst (IsIdAt ids previous) (sym there) (at-get ids previous file.id (omega (arith, inside, length-map files name)))) (sym c.if-eq.ensures)

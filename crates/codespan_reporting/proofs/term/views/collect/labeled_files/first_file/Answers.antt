@@ -3,7 +3,7 @@ use Rattle.std.specs.List.{AllByRecursion}
 use Rattle.codespan_reporting.specs.declared.term.views.collect.labeled_files.LabeledFile.{LabeledFile as RustFile}
 use Rattle.codespan_reporting.specs.Inner.LabeledFiles.{ids_view}
 use Rattle.codespan_reporting.proofs.LabelFiles.{none-more, index-first}
-use Rattle.codespan_reporting.proofs.LabelIndexing.{StandsAt}
+use Rattle.codespan_reporting.proofs.LabelIndexing.{IsElementAt}
 use Rattle.codespan_reporting.proofs.term.views.collect.labeled_files.first_file.Given.{Over}
 use Rattle.codespan_reporting.proofs.term.views.collect.labeled_files.first_file.Goals.{After-index-files-index, After-index-files-next, Else-eq}
 use Rattle.codespan_reporting.proofs.term.views.collect.labeled_files.first_file.Goals as goal
@@ -13,11 +13,11 @@ more : (g : Over) (c : After-index-files-index g) → c.loop-index.index + 1 < l
 more g c = omega (arith, c.loop-index-test.true, c.saturating_sub-last.ensures)
 
 -- the file at the index
-here : (g : Over) (c : After-index-files-index g) → StandsAt c.args.files.now c.loop-index.index c.index-files-index.result
+here : (g : Over) (c : After-index-files-index g) → IsElementAt c.args.files.now c.loop-index.index c.index-files-index.result
 here g c = record { inside = omega (arith, more g c); is = c.index-files-index.is }
 
 -- it is not of the id
-none_here : (g : Over) (c : Else-eq g) → StandsAt c.args.files.now c.loop-index.index c.index-files-index.result
+none_here : (g : Over) (c : Else-eq g) → IsElementAt c.args.files.now c.loop-index.index c.index-files-index.result
     → AllByRecursion (λ j. g.FileId.PartialEq.eq j c.args.id ≡ false) (ids_view (take (c.loop-index.index + 1) c.args.files.now))
 none_here g c at =
     let same = g.FileId.PartialEq.eq in
@@ -25,7 +25,7 @@ none_here g c at =
 
 -- the file after it
 next : (g : Over) (c : After-index-files-next g) → c.loop-index.index + 1 < length c.args.files.now
-    → StandsAt c.args.files.now (c.loop-index.index + 1) c.index-files-next.result
+    → IsElementAt c.args.files.now (c.loop-index.index + 1) c.index-files-next.result
 next g c inside = record { inside = inside; is = c.index-files-next.is }
 
 pub loop-index-preserved : goal.loop-index-preserved

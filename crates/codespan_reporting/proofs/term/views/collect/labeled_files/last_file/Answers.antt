@@ -2,13 +2,13 @@ use Rattle.std.proofs.Common.{◌+◌, sym, ap, ◌∙◌}
 use Rattle.std.specs.Option.{is_some}
 use Rattle.std.proofs.lemmas.Bool.{ltb-false, ltb-true}
 use Rattle.codespan_reporting.proofs.LabelFiles.{none-more, index-first, index-nowhere}
-use Rattle.codespan_reporting.proofs.LabelIndexing.{StandsAt}
+use Rattle.codespan_reporting.proofs.LabelIndexing.{IsElementAt}
 use Rattle.codespan_reporting.proofs.term.views.collect.labeled_files.last_file.Given.{Over}
 use Rattle.codespan_reporting.proofs.term.views.collect.labeled_files.last_file.Goals.{In-Some}
 use Rattle.codespan_reporting.proofs.term.views.collect.labeled_files.last_file.Goals as goal
 
 -- there is a file at the index
-here : (g : Over) (c : In-Some g) → StandsAt c.args.files.now c.args.index c.in-Some.file.now
+here : (g : Over) (c : In-Some g) → IsElementAt c.args.files.now c.args.index c.in-Some.file.now
 here g c = let found = c.in-Some.ensures.lookup in record { inside = ltb-true _ _ (sym found.0); is = found.1 }
 
 pub returns-in_default : goal.returns-in_default

@@ -4,9 +4,9 @@ use Rattle.codespan_reporting.specs.Inner.FileLookups.{FailsByOrFormat}
 use Rattle.codespan_reporting.specs.Inner.AnnotationViews.{annotation_view}
 use Rattle.codespan_reporting.specs.Inner.SnippetPlans.{ArePlans, plans_failure}
 use Rattle.codespan_reporting.proofs.FileParts.{from_file-first}
-use Rattle.codespan_reporting.proofs.PlansFound.{IsTurn, added-count, next_inside, next_left, own_asked, own_lines, own_steps, planned-more, planned-fails, planned-unplaced, plans-add}
+use Rattle.codespan_reporting.proofs.PlansFound.{IsAtFile, added-count, next_inside, next_left, own_lookups, own_lines, own_snippet_lines, planned-more, planned-fails, planned-unlocated, plans-add}
 use Rattle.codespan_reporting.proofs.term.views.plan.snippet_plans.plan_snippets.Given.{Over}
-use Rattle.codespan_reporting.proofs.term.views.plan.snippet_plans.plan_snippets.Goals.{After-branch-placed, After-file_len-len, in-Err, in-Ok+in_ok-push-in-Ok}
+use Rattle.codespan_reporting.proofs.term.views.plan.snippet_plans.plan_snippets.Goals.{After-branch-located, After-file_len-len, in-Err, in-Ok+in_ok-push-in-Ok}
 use Rattle.codespan_reporting.proofs.term.views.plan.snippet_plans.plan_snippets.Goals as goal
 
 pub loop-index-init : goal.loop-index-init
@@ -17,14 +17,14 @@ loop-index-init g c = record {
     plans =
         subst (λ plans. ArePlans c.args.layout (((g.F.Files.database c.args.files.now).file)) (map annotation_view c.args.collected.now.annotations.items) 0 [] plans c.args.snippet_lines.now.items)
         (sym c.in_ok-plans.ensures.items) c.requires.empty;
-    answered = refl;
-    kept = refl;
+    succeeded = refl;
+    located_fails = refl;
   };
 }
 
 -- the loop is at a file, whose annotations are counted
 turn : (g : Over) (c : After-file_len-len g)
-    → IsTurn c.args.collected.now.files.items c.args.collected.now.annotations.items c.loop-index.start c.file_len-len.result c.loop-index.index c.file-item.result
+    → IsAtFile c.args.collected.now.files.items c.args.collected.now.annotations.items c.loop-index.start c.file_len-len.result c.loop-index.index c.file-item.result
 turn g c =
     let own = c.file-item.result in
     let k = c.loop-index.index in
@@ -46,9 +46,9 @@ push_lines-requires g c κs = ((refl, tt), own_lines (turn g (goal.at.push_lines
 pub returns-in_err-push_lines-clause-failed : goal.returns-in_err-push_lines-clause-failed
 returns-in_err-push_lines-clause-failed g c =
     let at = turn g (goal.at.returns-in_err-push_lines-clause-failed g c).After-file_len-len in
-    let asked = own_asked at c.deref-in-loop-index.ensures.value c.args.layout (((g.F.Files.database c.args.files.now).failure)) in
+    let lookups = own_lookups at c.deref-in-loop-index.ensures.value c.args.layout (((g.F.Files.database c.args.files.now).failure)) in
     let p = err_from_is_err_and c.from_residual-in_err-push_lines.result c.from_residual-in_err-push_lines.ensures.1 in
-    rw (p.1 ∙ ap Err p.2) (λ memory display. planned-fails at.here c.loop-index.invariant.planned (sym asked ∙ c.in_err-push_lines.ensures.failed memory))
+    rw (p.1 ∙ ap Err p.2) (λ memory display. planned-fails at.here c.loop-index.invariant.planned (sym lookups ∙ c.in_err-push_lines.ensures.failed memory))
 
 pub loop-index-preserved : goal.loop-index-preserved
 loop-index-preserved g c =
@@ -56,39 +56,39 @@ loop-index-preserved g c =
     let at = turn g (goal.at.loop-index-preserved g c).After-file_len-len in
     let before = c.loop-index.invariant.planned in
     let zs_are = c.deref-in-loop-index.ensures.value in
-    let numbers = sym (own_asked at zs_are c.args.layout (((g.F.Files.database c.args.files.now).failure))) ∙ c.in_ok-push_lines.ensures.failed in
+    let numbers = sym (own_lookups at zs_are c.args.layout (((g.F.Files.database c.args.files.now).failure))) ∙ c.in_ok-push_lines.ensures.failed in
     let added = c.in_ok-push_lines.ensures.added in
     record {
       inside = next_inside at;
       left = next_left at;
       planned = elim c.match-locus.branch [
         | in-Ok+in_ok-push-in-Ok w ↦
-            rw w.placed-is (planned-more at.here before (ap (λ plans. plans.items) w.plans-is ∙ w.in_ok-push-in-Ok.ensures.items) added.whole
+            rw w.located-is (planned-more at.here before (ap (λ plans. plans.items) w.plans-is ∙ w.in_ok-push-in-Ok.ensures.items) added.whole
             (record {
               file_is = refl;
               index = rw c.byte.ensures at w.in-Ok.ensures.locus;
               count_is = added-count (c.len-in-loop-index.ensures ∙ c.push_lines.new.snippet_lines.ok.0) (c.len-before.ensures ∙ c.loop-index.snippet_lines.ok.0) added;
-              are = added.are ∙ own_steps at zs_are;
+              are = added.are ∙ own_snippet_lines at zs_are;
               each = added.each;
             })
             numbers (rw c.byte.ensures at w.in-Ok.ensures.failed))
-        | in-Err w ↦ rw (w.plans-is, w.placed-is ∙ w.and-placed.ensures) (planned-unplaced at.here before numbers (rw c.byte.ensures at w.in-Err.ensures.failed))
+        | in-Err w ↦ rw (w.plans-is, w.located-is ∙ w.and-located.ensures) (planned-unlocated at.here before numbers (rw c.byte.ensures at w.in-Err.ensures.failed))
       ];
     }
 
 -- after the last file what is kept is the error of the lookups of all
-all-add : (g : Over) (c : After-branch-placed g) → FailsByOrFormat (plans_failure c.args.layout (((g.F.Files.database c.args.files.now).failure)) c.args.collected.now) c.loop-index.placed
+all-add : (g : Over) (c : After-branch-located g) → FailsByOrFormat (plans_failure c.args.layout (((g.F.Files.database c.args.files.now).failure)) c.args.collected.now) c.loop-index.located
 all-add g c =
     plans-add c.args.collected.now.files.items c.loop-index.index
     (subst (λ fs. length fs ≤ c.loop-index.index) c.deref-file-items.ensures.value c.loop-index-test.false) c.loop-index.invariant.planned
 
-pub returns-in_err-placed-clause-failed : goal.returns-in_err-placed-clause-failed
-returns-in_err-placed-clause-failed g c =
-    let are_known = all-add g (goal.at.returns-in_err-placed-clause-failed g c).After-branch-placed in
-    let p = err_from_is_err_and c.from_residual-in_err-placed.result c.from_residual-in_err-placed.ensures.1 in
-    rw (p.1 ∙ ap Err p.2) (rw c.in_err-placed.was at are_known)
+pub returns-in_err-located-clause-failed : goal.returns-in_err-located-clause-failed
+returns-in_err-located-clause-failed g c =
+    let are_known = all-add g (goal.at.returns-in_err-located-clause-failed g c).After-branch-located in
+    let p = err_from_is_err_and c.from_residual-in_err-located.result c.from_residual-in_err-located.ensures.1 in
+    rw (p.1 ∙ ap Err p.2) (rw c.in_err-located.was at are_known)
 
 pub returns-clause-failed : goal.returns-clause-failed
 returns-clause-failed g c =
-    let are_known = all-add g (goal.at.returns-clause-failed g c).After-branch-placed in
-    rw c.in_ok-placed.was at are_known
+    let are_known = all-add g (goal.at.returns-clause-failed g c).After-branch-located in
+    rw c.in_ok-located.was at are_known

@@ -3,7 +3,7 @@ use Rattle.std.proofs.lemmas.Result.{err_from_is_err_and}
 use Rattle.codespan_picture.specs.Picture.{label_of}
 use Rattle.codespan_reporting.specs.Inner.OutputPlans.{IsCollected}
 use Rattle.codespan_reporting.specs.Views.{view_config_of}
-use Rattle.codespan_reporting.proofs.RichParts.{drawn-whole, prepared-of_all, ready, stopped-gathering, stopped-in_header, stopped-in_snippets, stopped-preparing}
+use Rattle.codespan_reporting.proofs.RichParts.{rendered-whole, planned-of_all, ready, failed-collecting, failed-in_header, failed-in_snippets, failed-planning}
 use Rattle.codespan_reporting.proofs.term.views.rich.RichDiagnostic.render_labels.Goals as goal
 
 pub plan_output-requires : goal.plan_output-requires
@@ -14,7 +14,7 @@ plan_output-requires g c κs =
     )
 
 pub render_snippets-requires : goal.render_snippets-requires
-render_snippets-requires g c κs = ((refl, (refl, (refl, tt))), prepared-of_all c.as_slice-labels.ensures.value c.in_ok-collected.ensures.labels c.in_ok-output_plan.ensures.prepared)
+render_snippets-requires g c κs = ((refl, (refl, (refl, tt))), planned-of_all c.as_slice-labels.ensures.value c.in_ok-collected.ensures.labels c.in_ok-output_plan.ensures.planned)
 
 pub returns-in_err-collected-clause-same : goal.returns-in_err-collected-clause-same
 returns-in_err-collected-clause-same g c = record { reference = refl; config = refl }
@@ -38,34 +38,34 @@ returns-clause-same g c =
     let third = c.render_closing.ensures.same in
     record { reference = third.reference ∙ second.reference ∙ first.reference; config = third.config ∙ second.config ∙ first.config }
 
-pub returns-in_err-collected-clause-draws : goal.returns-in_err-collected-clause-draws
-returns-in_err-collected-clause-draws g c =
+pub returns-in_err-collected-clause-renders : goal.returns-in_err-collected-clause-renders
+returns-in_err-collected-clause-renders g c =
     let p = err_from_is_err_and c.from_residual.result c.from_residual.ensures.1 in
-    rw (p.1 ∙ ap Err p.2) (stopped-gathering c.as_slice-labels.ensures.value c.requires c.in_err-collected.ensures.failed)
+    rw (p.1 ∙ ap Err p.2) (failed-collecting c.as_slice-labels.ensures.value c.requires c.in_err-collected.ensures.failed)
 
-pub returns-in_err-output_plan-clause-draws : goal.returns-in_err-output_plan-clause-draws
-returns-in_err-output_plan-clause-draws g c =
+pub returns-in_err-output_plan-clause-renders : goal.returns-in_err-output_plan-clause-renders
+returns-in_err-output_plan-clause-renders g c =
     let p = err_from_is_err_and c.from_residual-in_err-output_plan.result c.from_residual-in_err-output_plan.ensures.1 in
     rw (p.1 ∙ ap Err p.2)
-    (stopped-preparing c.as_slice-labels.ensures.value c.in_ok-collected.ensures.labels c.in_ok-collected.ensures.failed c.requires c.in_err-output_plan.ensures.failed)
+    (failed-planning c.as_slice-labels.ensures.value c.in_ok-collected.ensures.labels c.in_ok-collected.ensures.failed c.requires c.in_err-output_plan.ensures.failed)
 
-pub returns-in_err-render_heading-clause-draws : goal.returns-in_err-render_heading-clause-draws
-returns-in_err-render_heading-clause-draws g c =
+pub returns-in_err-render_heading-clause-renders : goal.returns-in_err-render_heading-clause-renders
+returns-in_err-render_heading-clause-renders g c =
     let p = err_from_is_err_and c.from_residual-in_err-render_heading.result c.from_residual-in_err-render_heading.ensures.1 in
     rw (p.1 ∙ ap Err p.2)
-    (stopped-in_header (ready c.as_slice-labels.ensures.value c.in_ok-collected.ensures.labels c.in_ok-collected.ensures.failed c.in_ok-output_plan.ensures.prepared c.in_ok-output_plan.ensures.failed)
-    c.in_err-render_heading.ensures.sends c.in_err-render_heading.ensures.io)
+    (failed-in_header (ready c.as_slice-labels.ensures.value c.in_ok-collected.ensures.labels c.in_ok-collected.ensures.failed c.in_ok-output_plan.ensures.planned c.in_ok-output_plan.ensures.failed)
+    c.in_err-render_heading.ensures.writes c.in_err-render_heading.ensures.io)
 
-pub returns-in_err-render_snippets-clause-draws : goal.returns-in_err-render_snippets-clause-draws
-returns-in_err-render_snippets-clause-draws g c =
+pub returns-in_err-render_snippets-clause-renders : goal.returns-in_err-render_snippets-clause-renders
+returns-in_err-render_snippets-clause-renders g c =
     let p = err_from_is_err_and c.from_residual-in_err-render_snippets.result c.from_residual-in_err-render_snippets.ensures.1 in
     rw (p.1 ∙ ap Err p.2)
-    (stopped-in_snippets (ready c.as_slice-labels.ensures.value c.in_ok-collected.ensures.labels c.in_ok-collected.ensures.failed c.in_ok-output_plan.ensures.prepared c.in_ok-output_plan.ensures.failed)
-    c.requires c.in_ok-render_heading.ensures.sends c.in_ok-render_heading.ensures.same.config c.in_err-render_snippets.ensures.draws)
+    (failed-in_snippets (ready c.as_slice-labels.ensures.value c.in_ok-collected.ensures.labels c.in_ok-collected.ensures.failed c.in_ok-output_plan.ensures.planned c.in_ok-output_plan.ensures.failed)
+    c.requires c.in_ok-render_heading.ensures.writes c.in_ok-render_heading.ensures.same.config c.in_err-render_snippets.ensures.renders)
 
-pub returns-clause-draws : goal.returns-clause-draws
-returns-clause-draws g c =
+pub returns-clause-renders : goal.returns-clause-renders
+returns-clause-renders g c =
     let first = c.in_ok-render_heading.ensures.same.config in
     let second = c.in_ok-render_snippets.ensures.same.config in
-    drawn-whole (ready c.as_slice-labels.ensures.value c.in_ok-collected.ensures.labels c.in_ok-collected.ensures.failed c.in_ok-output_plan.ensures.prepared c.in_ok-output_plan.ensures.failed)
-    c.render_closing.result c.in_ok-render_heading.ensures.sends first c.in_ok-render_snippets.ensures.draws (second ∙ first) c.render_closing.ensures.sends c.render_closing.ensures.io
+    rendered-whole (ready c.as_slice-labels.ensures.value c.in_ok-collected.ensures.labels c.in_ok-collected.ensures.failed c.in_ok-output_plan.ensures.planned c.in_ok-output_plan.ensures.failed)
+    c.render_closing.result c.in_ok-render_heading.ensures.writes first c.in_ok-render_snippets.ensures.renders (second ∙ first) c.render_closing.ensures.writes c.render_closing.ensures.io

@@ -1,6 +1,6 @@
 use Rattle.std.proofs.Common.{Err, refl, ap, ◌∙◌, arith}
 use Rattle.std.proofs.lemmas.Result.{err_from_is_err_and}
-use Rattle.codespan_reporting.proofs.LabelIndexing.{stands-alike}
+use Rattle.codespan_reporting.proofs.LabelIndexing.{element-equal}
 use Rattle.codespan_reporting.proofs.OutputPlanRendering.{cut-after_snippet, cut-after_snippet, cut-in_snippet, later-files, left-end, left-start, next-file, own-snippet_lines}
 use Rattle.codespan_reporting.proofs.term.views.rich.RichDiagnostic.render_snippets.Goals as goal
 
@@ -9,32 +9,32 @@ loop-index-init g c = record { same = record { reference = refl; config = refl }
 
 pub render_snippet-requires : goal.render_snippet-requires
 render_snippet-requires g c κs =
-    let at = stands-alike c.deref-file-items.ensures.value c.loop-index-test.true c.file-item.is in
+    let at = element-equal c.deref-file-items.ensures.value c.loop-index-test.true c.file-item.is in
     let own = own-snippet_lines at c.loop-index.invariant.files c.deref.ensures.value in
     ((refl, tt), (own.each, rw own.lanes_are own.fits))
 
-pub returns-in_err-render_snippet-clause-draws : goal.returns-in_err-render_snippet-clause-draws
-returns-in_err-render_snippet-clause-draws g c =
-    let at = stands-alike c.deref-file-items.ensures.value c.loop-index-test.true c.file-item.is in
+pub returns-in_err-render_snippet-clause-renders : goal.returns-in_err-render_snippet-clause-renders
+returns-in_err-render_snippet-clause-renders g c =
+    let at = element-equal c.deref-file-items.ensures.value c.loop-index-test.true c.file-item.is in
     let own = own-snippet_lines at c.loop-index.invariant.files c.deref.ensures.value in
     let count = c.len.ensures ∙ c.args.output_plan.now.files.ok.0 in
     let p = err_from_is_err_and c.from_residual.result c.from_residual.ensures.1 in
     rw (p.1 ∙ ap Err p.2)
-    (cut-in_snippet c.requires c.loop-index.invariant.left at own c.has_notes-notes_follow.ensures count c.loop-index.invariant.same.config c.in_err-render_snippet.ensures.draws)
+    (cut-in_snippet c.requires c.loop-index.invariant.left at own c.has_notes-notes_follow.ensures count c.loop-index.invariant.same.config c.in_err-render_snippet.ensures.renders)
 
-pub returns-in_err-render_end-clause-draws : goal.returns-in_err-render_end-clause-draws
-returns-in_err-render_end-clause-draws g c =
-    let at = stands-alike c.deref-file-items.ensures.value c.loop-index-test.true c.file-item.is in
+pub returns-in_err-render_end-clause-renders : goal.returns-in_err-render_end-clause-renders
+returns-in_err-render_end-clause-renders g c =
+    let at = element-equal c.deref-file-items.ensures.value c.loop-index-test.true c.file-item.is in
     let own = own-snippet_lines at c.loop-index.invariant.files c.deref.ensures.value in
     let count = c.len.ensures ∙ c.args.output_plan.now.files.ok.0 in
     let p = err_from_is_err_and c.from_residual-in_err-render_end.result c.from_residual-in_err-render_end.ensures.1 in
     rw (p.1 ∙ ap Err p.2)
-    (cut-after_snippet c.requires c.loop-index.invariant.left at own c.has_notes-notes_follow.ensures count c.loop-index.invariant.same.config c.in_ok-render_snippet.ensures.draws
-    c.in_ok-render_snippet.ensures.same.config c.in_err-render_end.ensures.sends c.in_err-render_end.ensures.io)
+    (cut-after_snippet c.requires c.loop-index.invariant.left at own c.has_notes-notes_follow.ensures count c.loop-index.invariant.same.config c.in_ok-render_snippet.ensures.renders
+    c.in_ok-render_snippet.ensures.same.config c.in_err-render_end.ensures.writes c.in_err-render_end.ensures.io)
 
 pub loop-index-preserved : goal.loop-index-preserved
 loop-index-preserved g c =
-    let at = stands-alike c.deref-file-items.ensures.value c.loop-index-test.true c.file-item.is in
+    let at = element-equal c.deref-file-items.ensures.value c.loop-index-test.true c.file-item.is in
     let own = own-snippet_lines at c.loop-index.invariant.files c.deref.ensures.value in
     let count = c.len.ensures ∙ c.args.output_plan.now.files.ok.0 in
     let first = c.in_ok-render_snippet.ensures.same in
@@ -43,9 +43,9 @@ loop-index-preserved g c =
     record {
       same = record { reference = second.reference ∙ first.reference ∙ was.reference; config = second.config ∙ first.config ∙ was.config };
       files = later-files at c.loop-index.invariant.files;
-      left = next-file c.requires c.loop-index.invariant.left at own c.has_notes-notes_follow.ensures count was.config c.in_ok-render_snippet.ensures.draws
-          first.config c.in_ok-render_end.ensures.sends;
+      left = next-file c.requires c.loop-index.invariant.left at own c.has_notes-notes_follow.ensures count was.config c.in_ok-render_snippet.ensures.renders
+          first.config c.in_ok-render_end.ensures.writes;
     }
 
-pub returns-clause-draws : goal.returns-clause-draws
-returns-clause-draws g c = left-end c.requires c.loop-index.invariant.left c.deref-file-items.ensures.value c.loop-index-test.false
+pub returns-clause-renders : goal.returns-clause-renders
+returns-clause-renders g c = left-end c.requires c.loop-index.invariant.left c.deref-file-items.ensures.value c.loop-index-test.false

@@ -5,7 +5,7 @@ use Rattle.codespan_base.specs.declared.files.Error.{Error}
 use Rattle.codespan_base.specs.FileModel.{or_failure}
 use Rattle.codespan_base.specs.FileModel.Lookup.{LocationAt, Name}
 use Rattle.codespan_reporting.specs.Inner.SourceFiles.{model_of}
-use Rattle.codespan_reporting.proofs.LocusStarts.{located_place}
+use Rattle.codespan_reporting.proofs.LocusStarts.{locus_located}
 use Rattle.codespan_reporting.proofs.term.views.source_file.SourceFile.locus.Given.{Over}
 use Rattle.codespan_reporting.proofs.term.views.source_file.SourceFile.locus.Goals.{In_ok-named}
 use Rattle.codespan_reporting.proofs.term.views.source_file.SourceFile.locus.Goals as goal
@@ -21,13 +21,13 @@ location-are_known g c is =
 pub returns-in_err-location-clause-failed : goal.returns-in_err-location-clause-failed
 returns-in_err-location-clause-failed g c =
     let p = err_from_is_err_and c.from_residual-in_err-location.result c.from_residual-in_err-location.ensures.1 in
-    rw (p.1 ∙ ap Err p.2) (λ told _. location-are_known g (goal.at.returns-in_err-location-clause-failed g c).In_ok-named (c.in_err-location.ensures.failed told))
+    rw (p.1 ∙ ap Err p.2) (λ known _. location-are_known g (goal.at.returns-in_err-location-clause-failed g c).In_ok-named (c.in_err-location.ensures.failed known))
 
 pub returns-clause-locus : goal.returns-clause-locus
 returns-clause-locus g c =
     let file = model_of g.F.Files.database c.args.self.now in
     let text : IfSome file.name (λ bytes. string_bytes c.in_ok-name.name ≡ bytes) = rw (sym c.in_ok-named.ensures.value) c.in_ok-name.ensures.text in
-    located_place file c.args.byte_index (record { name = c.in_ok-name.name; location = c.in_ok-location.location }) text c.in_ok-location.ensures.value
+    locus_located file c.args.byte_index (record { name = c.in_ok-name.name; location = c.in_ok-location.location }) text c.in_ok-location.ensures.value
 
 pub returns-clause-failed : goal.returns-clause-failed
 returns-clause-failed g c = location-are_known g (goal.at.returns-clause-failed g c).In_ok-named c.in_ok-location.ensures.failed

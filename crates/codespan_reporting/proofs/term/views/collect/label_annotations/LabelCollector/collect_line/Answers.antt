@@ -1,7 +1,7 @@
 use Rattle.std.proofs.Common.{rules, ◌≡◌, ap, false, [], Bool}
 use Rattle.std.specs.Prelude.{if◌then◌else◌}
 use Rattle.codespan_reporting.specs.Inner.Annotations.{line_annotations}
-use Rattle.codespan_picture.specs.Lookups.{is_asked}
+use Rattle.codespan_picture.specs.Lookups.{is_looked_up}
 use Rattle.codespan_picture.specs.Picture.{label_of}
 use Rattle.codespan_reporting.specs.Inner.SourceFiles.{model_of}
 use Rattle.codespan_reporting.proofs.Collecting.{Adds-none, Adds-as}
@@ -11,7 +11,7 @@ pub returns-then-not-is_around-clause-added : goal.returns-then-not-is_around-cl
 returns-then-not-is_around-clause-added g c =
     let f = model_of g.F.Files.database c.args.self.now.file in
     let x = (label_of c.args.label.now).label in
-    let not_asked : is_asked c.args.self.now.config.now f x c.args.index ≡ false = search rules in
+    let not_looked_up : is_looked_up c.args.self.now.config.now f x c.args.index ≡ false = search rules in
     λ _. Adds-as
-    (ap (λ (b : Bool). if b then line_annotations c.args.self.now.config.now f c.args.self.now.at x c.args.index else []) not_asked)
+    (ap (λ (b : Bool). if b then line_annotations c.args.self.now.config.now f c.args.self.now.at x c.args.index else []) not_looked_up)
     Adds-none

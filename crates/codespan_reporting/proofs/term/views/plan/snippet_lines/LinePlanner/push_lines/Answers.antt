@@ -3,7 +3,7 @@ use Rattle.std.proofs.lemmas.List.{get_or_default}
 use Rattle.std.proofs.lemmas.Result.{err_from_is_err_and}
 use Rattle.codespan_reporting.specs.Inner.Annotations.{shows_line}
 use Rattle.codespan_reporting.specs.Inner.AnnotationViews.{annotation_view}
-use Rattle.codespan_reporting.proofs.SnippetLineViews.{IsCounted, given-hidden, given-shown, given_group-len, shown_steps}
+use Rattle.codespan_reporting.proofs.SnippetLineViews.{IsCounted, views_of-hidden, views_of-shown, group_of_views-len, lines_to_shown}
 use Rattle.codespan_reporting.proofs.LinesFound.{left_all, left_more, left_failed}
 use Rattle.codespan_reporting.proofs.term.views.plan.snippet_lines.LinePlanner.push_lines.Given.{Over}
 use Rattle.codespan_reporting.proofs.term.views.plan.snippet_lines.LinePlanner.push_lines.Goals.{After-shows_line}
@@ -27,23 +27,23 @@ pub returns-in_err-push_shown-clause-failed : goal.returns-in_err-push_shown-cla
 returns-in_err-push_shown-clause-failed g c =
     let xs = c.args.annotations.now in
     let line = counted g (goal.at.returns-in_err-push_shown-clause-failed g c).After-shows_line in
-    let opens = given-shown xs c.loop-at.hidden c.loop-at.at c.line_len.result c.index-annotations-at.result c.loop-at.last line (is_shown g (goal.at.returns-in_err-push_shown-clause-failed g c).After-shows_line (sym c.if-shows_line.ensures)) in
-    let snippet_lines = shown_steps xs c.loop-at.hidden c.loop-at.at c.line_len.result c.index-annotations-at.result c.loop-at.last in
+    let opens = views_of-shown xs c.loop-at.hidden c.loop-at.at c.line_len.result c.index-annotations-at.result c.loop-at.last line (is_shown g (goal.at.returns-in_err-push_shown-clause-failed g c).After-shows_line (sym c.if-shows_line.ensures)) in
+    let snippet_lines = lines_to_shown xs c.loop-at.hidden c.loop-at.at c.line_len.result c.index-annotations-at.result c.loop-at.last in
     let p = err_from_is_err_and c.from_residual.result c.from_residual.ensures.1 in
-    rw (p.1 ∙ ap Err p.2) (λ told. left_failed c.loop-at.invariant.left snippet_lines _ opens (c.in_err-push_shown.ensures.failed told))
+    rw (p.1 ∙ ap Err p.2) (λ known. left_failed c.loop-at.invariant.left snippet_lines _ opens (c.in_err-push_shown.ensures.failed known))
 
 pub loop-at-smaller-in_ok-push_shown : goal.loop-at-smaller-in_ok-push_shown
 loop-at-smaller-in_ok-push_shown g c =
     let line = counted g (goal.at.loop-at-smaller-in_ok-push_shown g c).After-shows_line in
-    let size = given_group-len c.args.annotations.now c.loop-at.at c.line_len.result c.index-annotations-at.result line in
+    let size = group_of_views-len c.args.annotations.now c.loop-at.at c.line_len.result c.index-annotations-at.result line in
     omega (arith, size.0, size.1)
 
 pub loop-at-preserved-in_ok-push_shown : goal.loop-at-preserved-in_ok-push_shown
 loop-at-preserved-in_ok-push_shown g c =
     let xs = c.args.annotations.now in
     let line = counted g (goal.at.loop-at-preserved-in_ok-push_shown g c).After-shows_line in
-    let opens = given-shown xs c.loop-at.hidden c.loop-at.at c.line_len.result c.index-annotations-at.result c.loop-at.last line (is_shown g (goal.at.loop-at-preserved-in_ok-push_shown g c).After-shows_line (sym c.if-shows_line.ensures)) in
-    let size = given_group-len xs c.loop-at.at c.line_len.result c.index-annotations-at.result line in
+    let opens = views_of-shown xs c.loop-at.hidden c.loop-at.at c.line_len.result c.index-annotations-at.result c.loop-at.last line (is_shown g (goal.at.loop-at-preserved-in_ok-push_shown g c).After-shows_line (sym c.if-shows_line.ensures)) in
+    let size = group_of_views-len xs c.loop-at.at c.line_len.result c.index-annotations-at.result line in
     record {
       within = size.1;
       hidden_within = omega arith;
@@ -54,10 +54,10 @@ pub loop-at-preserved : goal.loop-at-preserved
 loop-at-preserved g c =
     let xs = c.args.annotations.now in
     let line = counted g (goal.at.loop-at-preserved g c).After-shows_line in
-    let size = given_group-len xs c.loop-at.at c.line_len.result c.index-annotations-at.result line in
+    let size = group_of_views-len xs c.loop-at.at c.line_len.result c.index-annotations-at.result line in
     let planner = c.args.self.now in
     record {
       within = size.1;
       hidden_within = omega arith;
-      left = rw (sym (given-hidden xs c.loop-at.hidden c.loop-at.at c.line_len.result c.index-annotations-at.result c.loop-at.last line (is_shown g (goal.at.loop-at-preserved g c).After-shows_line (sym c.if-shows_line.ensures)))) c.loop-at.invariant.left;
+      left = rw (sym (views_of-hidden xs c.loop-at.hidden c.loop-at.at c.line_len.result c.index-annotations-at.result c.loop-at.last line (is_shown g (goal.at.loop-at-preserved g c).After-shows_line (sym c.if-shows_line.ensures)))) c.loop-at.invariant.left;
     }

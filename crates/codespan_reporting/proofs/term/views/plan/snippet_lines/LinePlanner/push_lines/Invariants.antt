@@ -2,8 +2,8 @@ use Rattle.std.proofs.Common.{◌-◌, ◌≤◌, length, map}
 use Rattle.codespan_reporting.specs.Inner.AnnotationViews.{annotation_view}
 use Rattle.codespan_reporting.specs.Inner.SnippetLines.{lines_of}
 use Rattle.codespan_reporting.specs.Inner.SourceFiles.{model_of}
-use Rattle.codespan_reporting.proofs.SnippetLineViews.{steps_left}
-use Rattle.codespan_reporting.proofs.LinesFound.{StepsLeft}
+use Rattle.codespan_reporting.proofs.SnippetLineViews.{lines_left}
+use Rattle.codespan_reporting.proofs.LinesFound.{LinesLeft}
 use Rattle.codespan_reporting.proofs.term.views.plan.snippet_lines.LinePlanner.push_lines.Given as goal
 
 -- some snippet lines have been found, and the walk over the remaining annotations makes the rest
@@ -11,7 +11,7 @@ abbrev pub invariant-loop-at : goal.invariant-loop-at
 invariant-loop-at g l = record {
   within : l.at ≤ length l.annotations;
   hidden_within : l.hidden ≤ l.at;
-  left : StepsLeft (g.F.Files.database l.self.file.files.now).failure l.self.file.id l.self.layout (model_of g.F.Files.database l.self.file) (lines_of (map annotation_view l.annotations)) (steps_left l.annotations l.hidden l.at l.last) l.fn.snippet_lines.items l.snippet_lines.items;
+  left : LinesLeft (g.F.Files.database l.self.file.files.now).failure l.self.file.id l.self.layout (model_of g.F.Files.database l.self.file) (lines_of (map annotation_view l.annotations)) (lines_left l.annotations l.hidden l.at l.last) l.fn.snippet_lines.items l.snippet_lines.items;
 }
 
 abbrev pub decreases-loop-at : goal.decreases-loop-at

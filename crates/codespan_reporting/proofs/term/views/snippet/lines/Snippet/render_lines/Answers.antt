@@ -5,8 +5,8 @@ use Rattle.codespan_laws.proofs.SortedLists.{all-mapped}
 use Rattle.codespan_reporting.specs.Inner.SnippetLineViews.{IsSnippetLineOf, line_view}
 use Rattle.codespan_reporting.specs.Inner.SnippetLines.{does_line_fit}
 use Rattle.codespan_reporting.specs.Inner.SourceFiles.{model_of}
-use Rattle.codespan_reporting.proofs.LabelIndexing.{StandsAt}
-use Rattle.codespan_reporting.proofs.LinesRendered.{drawn-cut, drawn-next, drawn-nothing}
+use Rattle.codespan_reporting.proofs.LabelIndexing.{IsElementAt}
+use Rattle.codespan_reporting.proofs.LinesRendered.{rendered-cut, rendered-next, rendered-nothing}
 use Rattle.codespan_reporting.proofs.term.views.snippet.lines.Snippet.render_lines.Given.{Over}
 use Rattle.codespan_reporting.proofs.term.views.snippet.lines.Snippet.render_lines.Goals.{After-render_snippet_line}
 use Rattle.codespan_reporting.proofs.term.views.snippet.lines.Snippet.render_lines.Goals as goal
@@ -14,11 +14,11 @@ use Rattle.codespan_reporting.proofs.term.views.snippet.lines.Snippet.render_lin
 pub loop-snippet_line-init : goal.loop-snippet_line-init
 loop-snippet_line-init g c = record {
   same = record { reference = refl; config = refl };
-  drawn = drawn-nothing;
+  rendered = rendered-nothing;
 }
 
 -- it is the snippet line's turn
-turn : (g : Over) (c : After-render_snippet_line g) → StandsAt c.args.snippet_lines.now c.loop-snippet_line.snippet_line-index c.snippet_line-item.result
+turn : (g : Over) (c : After-render_snippet_line g) → IsElementAt c.args.snippet_lines.now c.loop-snippet_line.snippet_line-index c.snippet_line-item.result
 turn g c = record { inside = c.loop-snippet_line-test.true; is = c.snippet_line-item.is }
 
 pub render_snippet_line-requires : goal.render_snippet_line-requires
@@ -39,12 +39,12 @@ render_snippet_line-requires g c κs =
       ),
     )
 
-pub returns-in_err-render_snippet_line-clause-draws : goal.returns-in_err-render_snippet_line-clause-draws
-returns-in_err-render_snippet_line-clause-draws g c =
-    let at = turn g (goal.at.returns-in_err-render_snippet_line-clause-draws g c).After-render_snippet_line in
+pub returns-in_err-render_snippet_line-clause-renders : goal.returns-in_err-render_snippet_line-clause-renders
+returns-in_err-render_snippet_line-clause-renders g c =
+    let at = turn g (goal.at.returns-in_err-render_snippet_line-clause-renders g c).After-render_snippet_line in
     let was = c.loop-snippet_line.invariant in
     let p = err_from_is_err_and c.from_residual.result c.from_residual.ensures.1 in
-    rw (p.1 ∙ ap Err p.2) (drawn-cut c.args.snippet_lines.now (c.loop-snippet_line.snippet_line-index + 1) (drawn-next at was.drawn was.same.config c.in_err-render_snippet_line.ensures.draws)).drawn.draws
+    rw (p.1 ∙ ap Err p.2) (rendered-cut c.args.snippet_lines.now (c.loop-snippet_line.snippet_line-index + 1) (rendered-next at was.rendered was.same.config c.in_err-render_snippet_line.ensures.renders)).rendered.renders
 
 pub loop-snippet_line-preserved : goal.loop-snippet_line-preserved
 loop-snippet_line-preserved g c =
@@ -52,5 +52,5 @@ loop-snippet_line-preserved g c =
     let was = c.loop-snippet_line.invariant in
     record {
       same = record { reference = same.reference ∙ was.same.reference; config = same.config ∙ was.same.config };
-      drawn = drawn-next (turn g (goal.at.loop-snippet_line-preserved g c).After-render_snippet_line) was.drawn was.same.config c.in_ok-render_snippet_line.ensures.draws;
+      rendered = rendered-next (turn g (goal.at.loop-snippet_line-preserved g c).After-render_snippet_line) was.rendered was.same.config c.in_ok-render_snippet_line.ensures.renders;
     }

@@ -1,0 +1,286 @@
+//! Worked diagnostics, and their expected outputs.
+
+use codespan_reporting::diagnostic::LabelStyle::{Primary, Secondary};
+use codespan_reporting::diagnostic::{Diagnostic, Label, LabelStyle, Severity};
+use codespan_reporting::files::Error;
+use codespan_reporting::term::{Config, DisplayStyle};
+use std::alloc::Global;
+use std::ops::Range;
+
+/// A worked diagnostic.
+#[derive(Clone, Copy)]
+pub enum CaseName {
+    /// Three labels of one line.
+    MutableBorrows,
+    /// A multi-line label, with a break and a filled line, and a note.
+    MismatchedTypes,
+    /// A header in short style, without a lookup, and in colors if the call has some.
+    ColouredHeader,
+    /// Labels of two files, and a note.
+    TwoFiles,
+    /// The same in medium style.
+    Medium,
+    /// The same in short style.
+    Short,
+    /// A file with custom line numbers.
+    MappedNumbers,
+    /// Lines before and after a label's, each of whose lookups allocates.
+    SurroundingLines,
+}
+
+/// A label: its style, the index of its file, its range in bytes and its message.
+type LabelFields<'text> = (LabelStyle, usize, Range<usize>, &'text str);
+
+/// A diagnostic, its files, and its expected output.
+#[derive(Drop)]
+pub struct Case<'text> {
+    /// The configuration.
+    pub config: Config<'text>,
+    /// The name and the text of each file.
+    pub files: &'text [(&'text str, &'text str)],
+    /// The code of an error.
+    pub code: Option<&'text str>,
+    /// Its message.
+    pub message: &'text str,
+    /// Its labels.
+    pub labels: &'text [LabelFields<'text>],
+    /// Its notes.
+    pub notes: &'text [&'text str],
+    /// The output, in plain text.
+    pub output: &'text str,
+    /// The output in escape sequences, if it is rendered in these.
+    pub colored: Option<&'text str>,
+}
+
+impl<'text> Default for Case<'text> {
+    /// Returns an empty error, by the default configuration.
+    fn default() -> Case<'text> {
+        Case {
+            config: Config::default(),
+            files: &[],
+            code: None,
+            message: "",
+            labels: &[],
+            notes: &[],
+            output: "",
+            colored: None,
+        }
+    }
+}
+
+impl CaseName {
+    /// Returns the diagnostic and its output.
+    pub fn case<'text>(self) -> Case<'text> {
+        match self {
+            CaseName::MutableBorrows => mutable_borrows(),
+            CaseName::MismatchedTypes => mismatched_types(),
+            CaseName::ColouredHeader => coloured_header(),
+            CaseName::TwoFiles => type_error(DisplayStyle::Rich, TWO_FILES),
+            CaseName::Medium => type_error(DisplayStyle::Medium, MEDIUM),
+            CaseName::Short => type_error(DisplayStyle::Short, SHORT),
+            CaseName::MappedNumbers => mapped_numbers(),
+            CaseName::SurroundingLines => surrounding_lines(),
+        }
+    }
+}
+
+/// Returns the diagnostic, over files of these ids. Fails with `OutOfMemory`.
+pub fn diagnostic_of<FileId: Copy + Drop>(
+    alloc: Global,
+    case: &Case<'_>,
+    ids: &[FileId],
+) -> Result<Diagnostic<FileId>, Error> {
+    let mut diagnostic = Diagnostic::new(alloc, Severity::Error).with_message(case.message)?;
+    if let Some(code) = case.code {
+        diagnostic = diagnostic.with_code(code)?;
+    }
+    for (style, row_locus, range, message) in case.labels {
+        let id = ids.get(*row_locus).ok_or(Error::FileMissing)?;
+        let label = Label::new(alloc, *style, *id, range.start..range.end);
+        diagnostic = diagnostic.with_label(label.with_message(*message)?)?;
+    }
+    for note in case.notes {
+        diagnostic = diagnostic.with_note(*note)?;
+    }
+    Ok(diagnostic)
+}
+
+/// Returns three labels of one line, two of whose messages hang.
+fn mutable_borrows<'text>() -> Case<'text> {
+    Case {
+        files: &[(
+            "one_line.rs",
+            "fn main() {\n\
+             \x20   let mut v = vec![Some(\"foo\"), Some(\"bar\")];\n\
+             \x20   v.push(v.pop().unwrap());\n\
+             }\n",
+        )],
+        code: Some("E0499"),
+        message: "cannot borrow `v` as mutable more than once at a time",
+        labels: &[
+            (Primary, 0, 71..72, "second mutable borrow occurs here"),
+            (Secondary, 0, 64..65, "first borrow later used by call"),
+            (Secondary, 0, 66..70, "first mutable borrow occurs here"),
+        ],
+        output: "error[E0499]: cannot borrow `v` as mutable more than once at a time\n\
+                  \x20 ┌─ one_line.rs:3:12\n\
+                  \x20 │\n\
+                  3 │     v.push(v.pop().unwrap());\n\
+                  \x20 │     - ---- ^ second mutable borrow occurs here\n\
+                  \x20 │     │ │     \n\
+                  \x20 │     │ first mutable borrow occurs here\n\
+                  \x20 │     first borrow later used by call\n\n",
+        ..Case::default()
+    }
+}
+
+/// Returns a label over nine lines, of which some are left out, and one inside it.
+fn mismatched_types<'text>() -> Case<'text> {
+    Case {
+        config: Config {
+            start_context_lines: 2,
+            ..Config::default()
+        },
+        files: &[(
+            "src/lib.rs",
+            "fn main() {\n    1\n    + 1\n    + 1\n    + 1\n    + 1\n    +1\n    + 1\n    + 1\n    + 1\n}",
+        )],
+        code: Some("E0308"),
+        message: "mismatched types",
+        labels: &[
+            (Primary, 0, 17..80, "expected (), found integer"),
+            (Secondary, 0, 55..55, "missing whitespace"),
+        ],
+        notes: &["note:\texpected type `()`\n\tfound type `{integer}`"],
+        output: "error[E0308]: mismatched types\n\
+                  \x20  ┌─ src/lib.rs:2:6\n\
+                  \x20  │  \n\
+                  \x202 │       1\n\
+                  \x20  │ ╭─────^\n\
+                  \x203 │ │     + 1\n\
+                  \x204 │ │     + 1\n\
+                  \x20  · │\n\
+                  \x207 │ │     +1\n\
+                  \x20  │ │      - missing whitespace\n\
+                  \x208 │ │     + 1\n\
+                  \x209 │ │     + 1\n\
+                  10 │ │     + 1\n\
+                  \x20  │ ╰───────^ expected (), found integer\n\
+                  \x20  │  \n\
+                  \x20  = note:\texpected type `()`\n\
+                  \x20    \tfound type `{integer}`\n\n",
+        ..Case::default()
+    }
+}
+
+/// Returns a header alone.
+fn coloured_header<'text>() -> Case<'text> {
+    Case {
+        config: Config {
+            display_style: DisplayStyle::Short,
+            ..Config::default()
+        },
+        message: "m",
+        output: "error: m\n",
+        colored: Some("\x1b[0m\x1b[1m\x1b[38;5;9merror\x1b[0m\x1b[1m: m\x1b[0m\n"),
+        ..Case::default()
+    }
+}
+
+/// Returns a type error that another file explains, in a style.
+fn type_error<'text>(display_style: DisplayStyle, output: &'text str) -> Case<'text> {
+    Case {
+        config: Config {
+            display_style,
+            ..Config::default()
+        },
+        files: &[
+            (
+                "Data/Nat.fun",
+                "module Data.Nat where\n\n\
+                 data Nat : Type where\n\
+                 \x20   zero : Nat\n\
+                 \x20   succ : Nat → Nat\n\n\
+                 {-# BUILTIN NATRAL Nat #-}\n\n\
+                 infixl 6 _+_ _-_\n\n\
+                 _+_ : Nat → Nat → Nat\n",
+            ),
+            (
+                "Test.fun",
+                "module Test where\n\n_ : Nat\n_ = 123 + \"hello\"\n",
+            ),
+        ],
+        code: Some("E0001"),
+        message: "unexpected type in application of `_+_`",
+        labels: &[
+            (Primary, 1, 37..44, "expected `Nat`, found `String`"),
+            (Secondary, 0, 130..155, "based on the definition of `_+_`"),
+        ],
+        notes: &["expected type `Nat`\n   found type `String`\n"],
+        output,
+        ..Case::default()
+    }
+}
+
+/// The type error in rich style.
+const TWO_FILES: &str = "error[E0001]: unexpected type in application of `_+_`\n\
+    \x20  ┌─ Test.fun:4:11\n\
+    \x20  │\n\
+    \x204 │ _ = 123 + \"hello\"\n\
+    \x20  │           ^^^^^^^ expected `Nat`, found `String`\n\
+    \x20  │\n\
+    \x20  ┌─ Data/Nat.fun:11:1\n\
+    \x20  │\n\
+    11 │ _+_ : Nat → Nat → Nat\n\
+    \x20  │ --------------------- based on the definition of `_+_`\n\
+    \x20  │\n\
+    \x20  = expected type `Nat`\n\
+    \x20       found type `String`\n\n";
+
+/// The type error in medium style.
+const MEDIUM: &str = "Test.fun:4:11: error[E0001]: unexpected type in application of `_+_`\n \
+    = expected type `Nat`\n      found type `String`\n";
+
+/// The type error in short style.
+const SHORT: &str = "Test.fun:4:11: error[E0001]: unexpected type in application of `_+_`\n";
+
+/// Returns a label over three lines, of which the second has the number 100.
+fn mapped_numbers<'text>() -> Case<'text> {
+    Case {
+        files: &[("m", "a\nb\nc\nd")],
+        labels: &[(Primary, 0, 2..7, "x")],
+        output: "error: \n\
+                  \x20   ┌─ m:2:1\n\
+                  \x20   │  \n\
+                  \x20 2 │ ╭ b\n\
+                  100 │ │ c\n\
+                  101 │ │ d\n\
+                  \x20   │ ╰─^ x\n\n",
+        ..Case::default()
+    }
+}
+
+/// Returns the end of a file, with lines before it.
+fn surrounding_lines<'text>() -> Case<'text> {
+    Case {
+        config: Config {
+            before_label_lines: 2,
+            after_label_lines: 1,
+            ..Config::default()
+        },
+        files: &[(
+            "surroundingLines.fun",
+            "#[foo]\nfn main() {\n    println!(\n        \"{}\",\n        Foo\n    );\n}\n\nstruct Foo",
+        )],
+        message: "Syntax error",
+        labels: &[(Primary, 0, 79..79, "Missing a semicolon")],
+        output: "error: Syntax error\n\
+                  \x20 ┌─ surroundingLines.fun:9:11\n\
+                  \x20 │\n\
+                  7 │ }\n\
+                  8 │ \n\
+                  9 │ struct Foo\n\
+                  \x20 │           ^ Missing a semicolon\n\n",
+        ..Case::default()
+    }
+}

@@ -1,0 +1,101 @@
+//! The calls that make file databases or add to them.
+
+use crate::outcome::{Outcome, judge_failure, judge_made};
+use codespan_reporting::files::{Error, Files, MappedFile, SimpleFile, SimpleFiles};
+use std::alloc::Global;
+use std::convert::AsStr;
+
+/// A call of a file database.
+#[derive(Clone, Copy)]
+pub enum DatabaseCall {
+    /// `SimpleFile::new`
+    SimpleFileNew,
+    /// `SimpleFiles::add`
+    Add,
+    /// `MappedFile::new`
+    MappedFileNew,
+    /// `MappedFile::set_line`
+    SetLine,
+}
+
+/// The text of a file.
+const TEXT: &str = "a\nb\nc\nd";
+
+/// Makes a call of a file database, and judges its result and what it leaves.
+pub fn judge_database(alloc: Global, call: DatabaseCall) -> Result<Outcome, Error> {
+    match call {
+        DatabaseCall::SimpleFileNew => Ok(match SimpleFile::new(alloc, "f", TEXT) {
+            Ok(file) => judge_made(is_file(&file, (), [1, 2, 3, 4])),
+            Err(error) => judge_failure(&error, true),
+        }),
+        DatabaseCall::MappedFileNew => Ok(match MappedFile::new(alloc, "f", TEXT) {
+            Ok(file) => judge_made(is_file(&file, (), [1, 2, 3, 4])),
+            Err(error) => judge_failure(&error, true),
+        }),
+        DatabaseCall::Add => judge_add(alloc),
+        DatabaseCall::SetLine => judge_set_line(alloc),
+    }
+}
+
+/// Returns whether a file has the text, and lines of these numbers.
+fn is_file<'files, F: Files<'files>>(files: &'files F, id: F::FileId, numbers: [usize; 4]) -> bool {
+    has_text(files, id) && has_numbers(files, id, numbers)
+}
+
+/// Returns whether a file has the text, in lines of two bytes.
+fn has_text<'files, F: Files<'files>>(files: &'files F, id: F::FileId) -> bool {
+    let has_text = match files.source(id) {
+        Ok(source) => source.as_str() == TEXT,
+        Err(_) => false,
+    };
+    has_text && matches!(files.line_index(id, 6), Ok(3))
+}
+
+/// Returns whether the lines of a file have these numbers.
+fn has_numbers<'files, F: Files<'files>>(
+    files: &'files F,
+    id: F::FileId,
+    numbers: [usize; 4],
+) -> bool {
+    for (line, number) in numbers.iter().enumerate() {
+        let is_right = match files.line_number(id, line) {
+            Ok(found) => found == *number,
+            Err(_) => false,
+        };
+        if !is_right {
+            return false;
+        }
+    }
+    true
+}
+
+/// Returns whether a database has this many files, each of them with the text.
+fn has_files(files: &SimpleFiles<&'static str, &'static str>, count: usize) -> bool {
+    for id in 0..count {
+        if !is_file(files, id, [1, 2, 3, 4]) {
+            return false;
+        }
+    }
+    matches!(files.get(count), Err(Error::FileMissing))
+}
+
+/// Adds a fifth file to four, and judges it.
+fn judge_add(alloc: Global) -> Result<Outcome, Error> {
+    let mut files = SimpleFiles::new(alloc);
+    for name in ["f", "g", "h", "i"] {
+        files.add(name, TEXT)?;
+    }
+    Ok(match files.add("j", TEXT) {
+        Ok(id) => judge_made(id == 4 && has_files(&files, 5)),
+        Err(error) => judge_failure(&error, has_files(&files, 4)),
+    })
+}
+
+/// Sets the first line number, and judges it.
+fn judge_set_line(alloc: Global) -> Result<Outcome, Error> {
+    let mut file = MappedFile::new(alloc, "f", TEXT)?;
+    Ok(match file.set_line(2, 100) {
+        Ok(()) => judge_made(is_file(&file, (), [1, 2, 100, 101])),
+        Err(error) => judge_failure(&error, is_file(&file, (), [1, 2, 3, 4])),
+    })
+}

@@ -1,0 +1,178 @@
+//! The calls of `codespan_styled` and `codespan_lsp` that allocate, each over a small text.
+
+use crate::outcome::{Outcome, judge_made, judge_value};
+use crate::rendering::judge_string;
+use codespan_lsp::{DiagnosticSeverity, LspDiagnostic, Position, Range, to_lsp_diagnostics};
+use codespan_reporting::diagnostic::{Diagnostic, Label, Severity};
+use codespan_reporting::files::{Error, SimpleFile};
+use codespan_reporting::term::{Config, DisplayStyle, Styles};
+use codespan_styled::terminal::safe_text;
+use codespan_styled::{
+    Run, Style, StyledText, html_styles, styled_text, to_html, to_svg, to_terminal,
+};
+use std::alloc::{AllocError, Global};
+
+/// A call that makes text in runs, a document of these, or diagnostics for an editor.
+#[derive(Clone, Copy)]
+pub enum DocumentCall {
+    /// `styled_text`
+    StyledText,
+    /// `to_html`
+    ToHtml,
+    /// `html_styles`
+    HtmlStyles,
+    /// `to_svg`
+    ToSvg,
+    /// `to_terminal`
+    ToTerminal,
+    /// `safe_text`
+    SafeText,
+    /// `to_lsp_diagnostics`
+    ToLspDiagnostics,
+}
+
+/// The runs of the output of the diagnostic, in short style.
+const RUNS: [(Style, &str); 4] = [
+    (Style::Plain, "f&g:2:1: "),
+    (Style::Header(Severity::Error), "error"),
+    (Style::HeaderMessage, ": b\x07d"),
+    (Style::Plain, "\n"),
+];
+
+/// Its HTML document.
+const HTML: &str =
+    "<pre class=\"diagnostic\">\nf&amp;g:2:1: <span class=\"header-error\">error</span>\
+                    <span class=\"header-message\">: b\u{fffd}d</span>\n</pre>";
+
+/// Its SVG document.
+const SVG: &str = "<svg xmlns=\"http://www.w3.org/2000/svg\" width=\"186\" height=\"42\" \
+                   viewBox=\"0 0 186 42\" \
+                   font-family=\"DejaVu Sans Mono, Menlo, Consolas, monospace\" font-size=\"15\" \
+                   fill=\"#e6edf3\" xml:space=\"preserve\">\n\
+                   <rect width=\"100%\" height=\"100%\" rx=\"6\" fill=\"#161b22\"/>\n\
+                   <text x=\"12\" y=\"25\" textLength=\"81\">f&amp;g:2:1: </text>\
+                   <text x=\"93\" y=\"25\" textLength=\"45\" fill=\"#ff7b72\" font-weight=\"bold\">\
+                   error</text>\
+                   <text x=\"138\" y=\"25\" textLength=\"36\" font-weight=\"bold\">: b\u{fffd}d</text>\n\
+                   </svg>\n";
+
+/// Its text for a terminal.
+const TERMINAL: &str = "f&g:2:1: \x1b[0m\x1b[1m\x1b[38;5;9merror\x1b[0m\x1b[1m: bd\x1b[0m\n";
+
+/// The style sheet of no colors.
+const CSS: &str = ".diagnostic .header-bug { }\n\
+                   .diagnostic .header-error { }\n\
+                   .diagnostic .header-warning { }\n\
+                   .diagnostic .header-note { }\n\
+                   .diagnostic .header-help { }\n\
+                   .diagnostic .header-message { }\n\
+                   .diagnostic .primary-label-bug { }\n\
+                   .diagnostic .primary-label-error { }\n\
+                   .diagnostic .primary-label-warning { }\n\
+                   .diagnostic .primary-label-note { }\n\
+                   .diagnostic .primary-label-help { }\n\
+                   .diagnostic .secondary-label { }\n\
+                   .diagnostic .line-number { }\n\
+                   .diagnostic .source-border { }\n\
+                   .diagnostic .note-bullet { }\n";
+
+/// Makes a call and judges it. Fails if preparing it fails.
+pub fn judge_document(alloc: Global, call: DocumentCall) -> Result<Outcome, Error> {
+    let styles = Styles::default();
+    match call {
+        DocumentCall::StyledText => judge_styled(alloc),
+        DocumentCall::ToHtml => Ok(judge_string(&to_html(alloc, &document_text(alloc)?), HTML)),
+        DocumentCall::HtmlStyles => {
+            let returned = html_styles(alloc, &Styles::no_color());
+            Ok(judge_string(&returned, CSS))
+        }
+        DocumentCall::ToSvg => {
+            let text = document_text(alloc)?;
+            Ok(judge_string(&to_svg(alloc, &text, &styles), SVG))
+        }
+        DocumentCall::ToTerminal => {
+            let text = document_text(alloc)?;
+            let returned = with_error(to_terminal(alloc, &text, &styles));
+            Ok(judge_string(&returned, TERMINAL))
+        }
+        DocumentCall::SafeText => {
+            let returned = with_error(safe_text(alloc, "a\u{202e}b\x1b[c"));
+            Ok(judge_string(&returned, "ab[c"))
+        }
+        DocumentCall::ToLspDiagnostics => judge_lsp(alloc),
+    }
+}
+
+/// Returns a result with the error of the library.
+fn with_error(returned: Result<String, AllocError>) -> Result<String, Error> {
+    Ok(returned?)
+}
+
+/// Returns the text of the runs.
+fn document_text(alloc: Global) -> Result<StyledText, Error> {
+    let mut runs = Vec::with_capacity(alloc, RUNS.len())?;
+    for (style, text) in RUNS {
+        let text = String::from_str(alloc, text)?;
+        runs.push(Run { style, text })?;
+    }
+    Ok(StyledText { runs })
+}
+
+/// Returns the file and the diagnostic.
+fn document_diagnostic<'text>(
+    alloc: Global,
+) -> Result<(SimpleFile<&'text str, &'text str>, Diagnostic<()>), Error> {
+    let file = SimpleFile::new(alloc, "f&g", "a\n𐐀b\n")?;
+    let diagnostic = Diagnostic::error(alloc)
+        .with_message("b\x07d")?
+        .with_label(Label::primary(alloc, (), 2..6))?;
+    Ok((file, diagnostic))
+}
+
+/// Makes a call of `styled_text` and judges it.
+fn judge_styled(alloc: Global) -> Result<Outcome, Error> {
+    let (file, diagnostic) = document_diagnostic(alloc)?;
+    let expected = document_text(alloc)?;
+    let config = Config {
+        display_style: DisplayStyle::Short,
+        ..Config::default()
+    };
+    match styled_text(alloc, &config, &file, &diagnostic) {
+        Ok(text) => Ok(judge_made(are_same(&text, &expected))),
+        Err(error) => Ok(judge_value(&Err(error), &())),
+    }
+}
+
+/// Returns whether two texts have the same runs.
+fn are_same(text: &StyledText, other: &StyledText) -> bool {
+    text.runs.len() == other.runs.len()
+        && text
+            .runs
+            .iter()
+            .zip(&other.runs)
+            .all(|(a, b)| a.style == b.style && a.text == b.text)
+}
+
+/// Makes a call of `to_lsp_diagnostics` and judges it.
+fn judge_lsp(alloc: Global) -> Result<Outcome, Error> {
+    let (file, diagnostic) = document_diagnostic(alloc)?;
+    let mut expected = Vec::with_capacity(alloc, 1)?;
+    expected.push(LspDiagnostic {
+        file_id: (),
+        range: Range {
+            start: Position {
+                line: 1,
+                character: 0,
+            },
+            end: Position {
+                line: 1,
+                character: 2,
+            },
+        },
+        severity: DiagnosticSeverity::Error,
+        code: None,
+        message: String::from_str(alloc, "b\x07d")?,
+        related_information: Vec::new(alloc),
+    })?;
+    Ok(judge_value(&to_lsp_diagnostics(&file, &diagnostic), &expected))
+}

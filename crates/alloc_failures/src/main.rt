@@ -1,0 +1,51 @@
+//! `alloc_failures SUBJECT` makes one call that allocates, and judges the outcome.
+//! `alloc_failures` does so for each subject, one after another.
+//!
+//! It is made to be run while one allocation after another fails: `tools/alloc_failures` does that.
+//! A subject is prepared, its one call is made, and one line reports the outcome: `unprepared`, an
+//! allocation failed before the call; `done`, the call returned `Ok` with exactly what is expected;
+//! `failed`, it failed with an error that it may return, and all that must stay unchanged is
+//! unchanged; or `wrong`. What is expected is written down in this crate: worked outputs, and what
+//! the contract of each call promises.
+//!
+//! | status | meaning |
+//! |---|---|
+//! | 0 | no error |
+//! | 1 | a wrong outcome, or writing the output failed |
+//! | 2 | nothing: no subject has this name |
+#![tactic(auto)]
+
+mod cases;
+mod clones;
+mod copying;
+mod data;
+mod databases;
+mod documents;
+mod native;
+mod outcome;
+mod recording;
+mod rendering;
+mod run;
+mod subject;
+mod without_alloc;
+
+use outcome::Outcome;
+use program_io::arguments::{ArgumentsError, arguments};
+use run::{conclude, run};
+use std::process::ExitCode;
+
+fn main(rt: HostRuntime) -> ExitCode {
+    let status = match arguments(&rt) {
+        Ok(args) => run(rt.alloc(), args.as_slice(), &mut rt.stdout()),
+        Err(error) => conclude(unknown_arguments(error), &mut rt.stdout()),
+    };
+    ExitCode::from(status)
+}
+
+/// Returns the outcome without arguments: those that are not UTF-8 name no subject.
+fn unknown_arguments(error: ArgumentsError) -> Outcome {
+    match error {
+        ArgumentsError::NotUtf8 => Outcome::Unknown,
+        ArgumentsError::OutOfMemory => Outcome::Unprepared,
+    }
+}

@@ -1,0 +1,207 @@
+//! The views and the emit calls, each over each worked diagnostic.
+
+ghost use Rattle.std.specs.Prelude.{◌≡◌, ◌++◌, ℕ, List, IfOk, IsOk, IsErrAnd, IsErrOf, IsTrue, codes, string_bytes, false, true};
+ghost use Rattle.codespan_base.specs.Errors.{IsIo};
+
+use crate::cases::{Case, CaseName, diagnostic_of};
+use crate::copying::Copying;
+use crate::outcome::{Outcome, Wrong, judge_failure, judge_made};
+use crate::recording::Recording;
+use codespan_reporting::diagnostic::Diagnostic;
+use codespan_reporting::files::{Error, Files, MappedFile, SimpleFiles};
+use codespan_reporting::term::{
+    Ansi, Config, DisplayStyle, PlainWriter, Renderer, RichDiagnostic, ShortDiagnostic, Styles,
+    StylesWriter, WriteStyle, emit, emit_into_string, emit_to_io_write, emit_to_string,
+    emit_to_write_style,
+};
+use std::alloc::Global;
+
+/// A call that renders.
+#[derive(Clone, Copy)]
+pub enum RenderCall {
+    /// `render` of the view of the style
+    Render,
+    /// `emit_to_write_style`
+    EmitToWriteStyle,
+    /// `emit_to_io_write`
+    EmitToIoWrite,
+    /// `emit`
+    Emit,
+    /// `emit_into_string`
+    EmitIntoString,
+    /// `emit_to_string`
+    EmitToString,
+}
+
+/// The old text of a string that is appended to.
+const OLD_TEXT: &str = "kept";
+
+/// Makes a call over a worked diagnostic and judges it.
+pub fn judge_rendering(
+    alloc: Global,
+    call: RenderCall,
+    case_name: CaseName,
+) -> Result<Outcome, Error> {
+    let case = case_name.case();
+    match case_name {
+        CaseName::MappedNumbers => judge_mapped(alloc, call, &case),
+        CaseName::SurroundingLines => judge_copying(alloc, call, &case),
+        _ => judge_simple(alloc, call, &case),
+    }
+}
+
+/// Makes a call over a file database and judges it.
+fn judge_simple(alloc: Global, call: RenderCall, case: &Case<'_>) -> Result<Outcome, Error> {
+    let mut files = SimpleFiles::new(alloc);
+    for (name, source) in case.files {
+        files.add(*name, *source)?;
+    }
+    let diagnostic = diagnostic_of(alloc, case, &[0, 1])?;
+    judge_call(alloc, call, case, &files, &diagnostic)
+}
+
+/// Makes a call over the first file, whose third line has the number 100, and judges it.
+fn judge_mapped(alloc: Global, call: RenderCall, case: &Case<'_>) -> Result<Outcome, Error> {
+    let (name, source) = case.files.first().ok_or(Error::FileMissing)?;
+    let mut file = MappedFile::new(alloc, *name, *source)?;
+    file.set_line(2, 100)?;
+    let diagnostic = diagnostic_of(alloc, case, &[()])?;
+    judge_call(alloc, call, case, &file, &diagnostic)
+}
+
+/// Makes a call over the first file, where each lookup of a line allocates, and judges it.
+fn judge_copying(alloc: Global, call: RenderCall, case: &Case<'_>) -> Result<Outcome, Error> {
+    let (name, source) = case.files.first().ok_or(Error::FileMissing)?;
+    let file = Copying::new(alloc, name, source)?;
+    let diagnostic = diagnostic_of(alloc, case, &[()])?;
+    judge_call(alloc, call, case, &file, &diagnostic)
+}
+
+/// Makes a call and judges it. Fails if making the string to append to fails.
+fn judge_call<'files, F: Files<'files>>(
+    alloc: Global,
+    call: RenderCall,
+    case: &Case<'_>,
+    files: &'files F,
+    diagnostic: &Diagnostic<F::FileId>,
+) -> Result<Outcome, Error> {
+    match call {
+        RenderCall::EmitIntoString => {
+            let returned = emit_into_string(&case.config, files, diagnostic);
+            Ok(judge_string(&returned, case.output))
+        }
+        RenderCall::EmitToString => {
+            let mut string = String::from_str(alloc, OLD_TEXT)?;
+            let returned = emit_to_string(&mut string, &case.config, files, diagnostic);
+            Ok(judge_appended(&returned, string.as_str(), case.output))
+        }
+        _ => Ok(judge_written(alloc, call, case, files, diagnostic)),
+    }
+}
+
+/// Makes a call that writes to a writer and judges it.
+fn judge_written<'files, F: Files<'files>>(
+    alloc: Global,
+    call: RenderCall,
+    case: &Case<'_>,
+    files: &'files F,
+    diagnostic: &Diagnostic<F::FileId>,
+) -> Outcome {
+    let config = &case.config;
+    let mut recording = Recording::new(alloc);
+    match (call, case.colored) {
+        (RenderCall::Emit, _) => {
+            let returned = emit(&mut recording, config, files, diagnostic);
+            judge_recording(&returned, &recording, case.output)
+        }
+        (RenderCall::Render | RenderCall::EmitToWriteStyle, Some(colored)) => {
+            let styles = Styles::default();
+            let mut writer = StylesWriter::new(Ansi::new(&mut recording), &styles);
+            let returned = render_styled(&mut writer, call, config, files, diagnostic);
+            judge_recording(&returned, &recording, colored)
+        }
+        (RenderCall::Render | RenderCall::EmitToWriteStyle, None) => {
+            let mut writer = PlainWriter::new(&mut recording);
+            let returned = render_styled(&mut writer, call, config, files, diagnostic);
+            judge_recording(&returned, &recording, case.output)
+        }
+        _ => {
+            let returned = emit_to_io_write(&mut recording, config, files, diagnostic);
+            judge_recording(&returned, &recording, case.output)
+        }
+    }
+}
+
+/// Renders to a writer of styles: by the view of the style, or by the emit call.
+fn render_styled<'files, F: Files<'files>, W: WriteStyle>(
+    writer: &mut W,
+    call: RenderCall,
+    config: &Config<'_>,
+    files: &'files F,
+    diagnostic: &Diagnostic<F::FileId>,
+) -> Result<(), Error> {
+    if matches!(call, RenderCall::EmitToWriteStyle) {
+        return emit_to_write_style(writer, config, files, diagnostic);
+    }
+    let mut renderer = Renderer::new(writer, config);
+    match config.display_style {
+        DisplayStyle::Rich => RichDiagnostic::new(diagnostic, config).render(files, &mut renderer),
+        DisplayStyle::Medium => ShortDiagnostic::new(diagnostic, true).render(files, &mut renderer),
+        DisplayStyle::Short => ShortDiagnostic::new(diagnostic, false).render(files, &mut renderer),
+    }
+}
+
+/// Judges a call that returns a string: it is the output, or an allocation failed.
+pub fn judge_string(returned: &Result<String, Error>, output: &str) -> Outcome
+    ensures done { result ≡ Outcome.Done
+        → IfOk returned.now (λ text. string_bytes text ≡ output.now) }
+    ensures failed { result ≡ Outcome.Failed → IsErrOf returned.now Error.OutOfMemory }
+{
+    match returned {
+        Ok(text) => judge_made(text.as_str() == output),
+        Err(error) => judge_failure(error, true),
+    }
+}
+
+/// Judges a call that appends to a string: the output has been appended; or an allocation failed,
+/// and the string is unchanged.
+fn judge_appended(returned: &Result<(), Error>, string: &str, output: &str) -> Outcome
+    ensures done { result ≡ Outcome.Done → (IsOk returned.now)
+        × (string.now ≡ codes "kept" ++ output.now) }
+    ensures failed { result ≡ Outcome.Failed → (IsErrOf returned.now Error.OutOfMemory)
+        × (string.now ≡ codes "kept") }
+{
+    match returned {
+        Ok(()) => judge_made(string.strip_prefix(OLD_TEXT) == Some(output)),
+        Err(error) => judge_failure(error, string == OLD_TEXT),
+    }
+}
+
+/// Returns whether bytes are a prefix of a text.
+fn is_prefix(bytes: &[u8], text: &str) -> bool
+    ensures { IsTrue result → (rest : List ℕ) × (text.now ≡ bytes.now ++ rest) }
+{
+    text.as_bytes().starts_with(bytes)
+}
+
+/// Judges a call that writes to a vector: it holds the output; or the call failed, and it holds a
+/// prefix: with `Io` if an allocation for the vector failed, and otherwise with `OutOfMemory`.
+fn judge_recording(returned: &Result<(), Error>, recording: &Recording, output: &str) -> Outcome
+    ensures done { result ≡ Outcome.Done → (IsOk returned.now) × (recording.now.has_failed ≡ false)
+        × (recording.now.bytes.items ≡ output.now) }
+    ensures failed { result ≡ Outcome.Failed → recording.now.has_failed ≡ false
+        → IsErrOf returned.now Error.OutOfMemory }
+    ensures writer { result ≡ Outcome.Failed → recording.now.has_failed ≡ true
+        → IsErrAnd returned.now IsIo }
+    ensures prefix { result ≡ Outcome.Failed → (rest : List ℕ)
+        × (output.now ≡ recording.now.bytes.items ++ rest) }
+{
+    let bytes = recording.bytes.as_slice();
+    let is_prefix = is_prefix(bytes, output);
+    match returned {
+        Ok(()) => judge_made(!recording.has_failed && bytes == output.as_bytes()),
+        Err(Error::Io(_)) if recording.has_failed && is_prefix => Outcome::Failed,
+        Err(_) if recording.has_failed => Outcome::Wrong(Wrong::Failure),
+        Err(error) => judge_failure(error, is_prefix),
+    }
+}

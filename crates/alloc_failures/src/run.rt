@@ -1,0 +1,55 @@
+//! One run of the program.
+
+ghost use Rattle.std.specs.Prelude.{◌≤◌};
+
+use crate::outcome::Outcome;
+use crate::subject::{CALLS, CASES, RENDER_CALLS, Subject};
+use std::alloc::Global;
+use std::io;
+use std::io::Write;
+
+/// Judges the subject that the arguments name, or all subjects if there are none, writes the
+/// outcome, and returns the program's status.
+pub fn run<W: Write>(alloc: Global, args: &[String], output: &mut W) -> u8
+    ensures { result ≤ 2 }
+{
+    if args.is_empty() {
+        return match judge_all(alloc, output) {
+            Ok(true) => 0,
+            Ok(false) | Err(_) => 1,
+        };
+    }
+    let outcome = match Subject::from_arguments(args) {
+        Some(subject) => subject.judge(alloc),
+        None => Outcome::Unknown,
+    };
+    conclude(outcome, output)
+}
+
+/// Writes an outcome as one line, and returns the program's status.
+pub fn conclude<W: Write>(outcome: Outcome, output: &mut W) -> u8
+    ensures { result ≤ 2 }
+{
+    match writeln!(output, "{outcome}") {
+        Ok(()) => outcome.status(),
+        Err(_) => 1,
+    }
+}
+
+/// Judges all subjects, writes a line for each, and returns whether all are done.
+fn judge_all<W: Write>(alloc: Global, output: &mut W) -> io::Result<bool> {
+    let mut are_done = true;
+    for (name, subject) in &CALLS {
+        let outcome = subject.judge(alloc);
+        writeln!(output, "{name}: {outcome}")?;
+        are_done = are_done && outcome == Outcome::Done;
+    }
+    for (call_name, call) in &RENDER_CALLS {
+        for (name, case_name) in &CASES {
+            let outcome = Subject::Rendering(*call, *case_name).judge(alloc);
+            writeln!(output, "{call_name} {name}: {outcome}")?;
+            are_done = are_done && outcome == Outcome::Done;
+        }
+    }
+    Ok(are_done)
+}

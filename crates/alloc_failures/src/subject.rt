@@ -1,0 +1,173 @@
+//! The subjects, and their names.
+
+use crate::cases::CaseName;
+use crate::clones::{CloneCall, judge_clone};
+use crate::data::{DiagnosticCall, LabelCall, judge_diagnostic, judge_label};
+use crate::databases::{DatabaseCall, judge_database};
+use crate::documents::{DocumentCall, judge_document};
+use crate::native::judge_native;
+use crate::outcome::{Outcome, prepared};
+use crate::rendering::{RenderCall, judge_rendering};
+use crate::without_alloc::{Extent, judge_without_alloc};
+use std::alloc::Global;
+
+/// A call that is made and judged.
+#[derive(Clone, Copy)]
+pub enum Subject {
+    /// A call of a label.
+    Label(LabelCall),
+    /// A call of a diagnostic.
+    Diagnostic(DiagnosticCall),
+    /// A clone of a configuration or of a part of it.
+    CloneCall(CloneCall),
+    /// A call of a file database.
+    Database(DatabaseCall),
+    /// A call that renders, and what it renders.
+    Rendering(RenderCall, CaseName),
+    /// A call of `codespan_styled` or `codespan_lsp`.
+    Document(DocumentCall),
+    /// The call of `codespan_native`.
+    Native,
+    /// The calls that do not allocate.
+    WithoutAlloc(Extent),
+}
+
+/// The subjects named by one word.
+pub const CALLS: [(&str, Subject); 28] = [
+    (
+        "Label::with_message",
+        Subject::Label(LabelCall::WithMessage),
+    ),
+    ("Label::clone", Subject::Label(LabelCall::Clone)),
+    (
+        "Diagnostic::with_code",
+        Subject::Diagnostic(DiagnosticCall::WithCode),
+    ),
+    (
+        "Diagnostic::with_message",
+        Subject::Diagnostic(DiagnosticCall::WithMessage),
+    ),
+    (
+        "Diagnostic::with_label",
+        Subject::Diagnostic(DiagnosticCall::WithLabel),
+    ),
+    (
+        "Diagnostic::with_labels",
+        Subject::Diagnostic(DiagnosticCall::WithLabels),
+    ),
+    (
+        "Diagnostic::with_labels_iter",
+        Subject::Diagnostic(DiagnosticCall::WithLabelsIter),
+    ),
+    (
+        "Diagnostic::with_note",
+        Subject::Diagnostic(DiagnosticCall::WithNote),
+    ),
+    (
+        "Diagnostic::with_notes",
+        Subject::Diagnostic(DiagnosticCall::WithNotes),
+    ),
+    (
+        "Diagnostic::with_notes_iter",
+        Subject::Diagnostic(DiagnosticCall::WithNotesIter),
+    ),
+    (
+        "Diagnostic::clone",
+        Subject::Diagnostic(DiagnosticCall::Clone),
+    ),
+    (
+        "SnippetStart::clone",
+        Subject::CloneCall(CloneCall::SnippetStart),
+    ),
+    ("Chars::clone", Subject::CloneCall(CloneCall::Chars)),
+    ("Config::clone", Subject::CloneCall(CloneCall::Config)),
+    (
+        "SimpleFile::new",
+        Subject::Database(DatabaseCall::SimpleFileNew),
+    ),
+    ("SimpleFiles::add", Subject::Database(DatabaseCall::Add)),
+    (
+        "MappedFile::new",
+        Subject::Database(DatabaseCall::MappedFileNew),
+    ),
+    (
+        "MappedFile::set_line",
+        Subject::Database(DatabaseCall::SetLine),
+    ),
+    ("styled_text", Subject::Document(DocumentCall::StyledText)),
+    ("to_html", Subject::Document(DocumentCall::ToHtml)),
+    ("html_styles", Subject::Document(DocumentCall::HtmlStyles)),
+    ("to_svg", Subject::Document(DocumentCall::ToSvg)),
+    ("to_terminal", Subject::Document(DocumentCall::ToTerminal)),
+    ("safe_text", Subject::Document(DocumentCall::SafeText)),
+    (
+        "to_lsp_diagnostics",
+        Subject::Document(DocumentCall::ToLspDiagnostics),
+    ),
+    ("codespan_emit", Subject::Native),
+    (
+        "no_memory_prepared",
+        Subject::WithoutAlloc(Extent::Preparation),
+    ),
+    ("no_memory", Subject::WithoutAlloc(Extent::Calls)),
+];
+
+/// The first words of the subjects named by two words.
+pub const RENDER_CALLS: [(&str, RenderCall); 6] = [
+    ("render", RenderCall::Render),
+    ("emit_to_write_style", RenderCall::EmitToWriteStyle),
+    ("emit_to_io_write", RenderCall::EmitToIoWrite),
+    ("emit", RenderCall::Emit),
+    ("emit_into_string", RenderCall::EmitIntoString),
+    ("emit_to_string", RenderCall::EmitToString),
+];
+
+/// The second words of the subjects named by two words.
+pub const CASES: [(&str, CaseName); 8] = [
+    ("mutable_borrows", CaseName::MutableBorrows),
+    ("mismatched_types", CaseName::MismatchedTypes),
+    ("coloured_header", CaseName::ColouredHeader),
+    ("two_files", CaseName::TwoFiles),
+    ("medium", CaseName::Medium),
+    ("short", CaseName::Short),
+    ("mapped_numbers", CaseName::MappedNumbers),
+    ("surrounding_lines", CaseName::SurroundingLines),
+];
+
+impl Subject {
+    /// Returns the subject that the arguments name.
+    pub fn from_arguments(args: &[String]) -> Option<Subject> {
+        match args {
+            [word] => named(&CALLS, word.as_str()),
+            [call, case_name] => Some(Subject::Rendering(
+                named(&RENDER_CALLS, call.as_str())?,
+                named(&CASES, case_name.as_str())?,
+            )),
+            _ => None,
+        }
+    }
+
+    /// Prepares the subject, makes its call, and judges the outcome.
+    pub fn judge(self, alloc: Global) -> Outcome {
+        prepared(match self {
+            Subject::Label(call) => judge_label(alloc, call),
+            Subject::Diagnostic(call) => judge_diagnostic(alloc, call),
+            Subject::CloneCall(clone_call) => judge_clone(alloc, clone_call),
+            Subject::Database(call) => judge_database(alloc, call),
+            Subject::Rendering(call, case_name) => judge_rendering(alloc, call, case_name),
+            Subject::Document(call) => judge_document(alloc, call),
+            Subject::Native => Ok(judge_native(alloc)),
+            Subject::WithoutAlloc(extent) => judge_without_alloc(alloc, extent),
+        })
+    }
+}
+
+/// Returns the entry of a table of this name.
+fn named<T: Copy>(table: &[(&str, T)], name: &str) -> Option<T> {
+    for (known, value) in table {
+        if *known == name {
+            return Some(*value);
+        }
+    }
+    None
+}

@@ -1,0 +1,293 @@
+//! The calls that do not allocate.
+
+use crate::outcome::{Outcome, judge_made};
+use codespan_reporting::diagnostic::LabelStyle::{Primary, Secondary};
+use codespan_reporting::diagnostic::{Diagnostic, Label, LabelStyle, Severity};
+use codespan_reporting::files::{
+    Error, Files, Location, MappedFile, SimpleFile, SimpleFiles, column_index,
+    default_column_number, default_line_number, default_location, line_starts,
+};
+use codespan_reporting::term::{
+    Ansi, Chars, Color, Config, Locus, MultiLabel, PlainWriter, Renderer, Styles, StylesWriter,
+    WriteStyle, emit, lanes_in_order,
+};
+use std::alloc::Global;
+use std::convert::AsStr;
+
+/// How much of the subject is done.
+#[derive(Clone, Copy)]
+pub enum Extent {
+    /// What the calls need is prepared, and no call is made.
+    Preparation,
+    /// The calls are made too.
+    Calls,
+}
+
+/// The text of each file.
+const TEXT: &str = "foo\nbär\nbaz";
+
+/// What the calls need.
+#[derive(Drop)]
+struct Prepared<'text> {
+    /// Vectors with capacity for all that is written to them.
+    rows: Vec<u8>,
+    colored_output: Vec<u8>,
+    output: Vec<u8>,
+    start: Locus,
+    row_locus: Locus,
+    file: SimpleFile<&'text str, &'text str>,
+    files: SimpleFiles<&'text str, &'text str>,
+    mapped: MappedFile<&'text str, &'text str>,
+}
+
+/// Prepares what the calls need, which allocates, and then makes the calls.
+pub fn judge_without_alloc(alloc: Global, extent: Extent) -> Result<Outcome, Error> {
+    let needed = prepare(alloc)?;
+    match extent {
+        Extent::Preparation => Ok(Outcome::Done),
+        Extent::Calls => Ok(judge_made(are_right(alloc, needed)?)),
+    }
+}
+
+/// Prepares what the calls need.
+fn prepare<'text>(alloc: Global) -> Result<Prepared<'text>, Error> {
+    let mut files = SimpleFiles::new(alloc);
+    files.add("f", TEXT)?;
+    let mut mapped = MappedFile::new(alloc, "f", TEXT)?;
+    mapped.set_line(1, 40)?;
+    Ok(Prepared {
+        rows: Vec::with_capacity(alloc, 1024)?,
+        colored_output: Vec::with_capacity(alloc, 1024)?,
+        output: Vec::with_capacity(alloc, 1024)?,
+        start: locus_of(alloc, "f", 1, 1)?,
+        row_locus: locus_of(alloc, "Test.fun", 4, 11)?,
+        file: SimpleFile::new(alloc, "f", TEXT)?,
+        files,
+        mapped,
+    })
+}
+
+/// A location of a file: a line and a column.
+fn locus_of(
+    alloc: Global,
+    name: &str,
+    line_number: usize,
+    column_number: usize,
+) -> Result<Locus, Error> {
+    Ok(Locus {
+        name: String::from_str(alloc, name)?,
+        location: Location {
+            line_number,
+            column_number,
+        },
+    })
+}
+
+/// Makes each call, and returns whether all results are as expected. An error of a call is reported
+/// as one of the preparation would be.
+fn are_right(alloc: Global, needed: Prepared<'_>) -> Result<bool, Error> {
+    let Prepared {
+        mut rows,
+        mut colored_output,
+        mut output,
+        start,
+        row_locus,
+        file,
+        files,
+        mapped,
+    } = needed;
+    render_rows(&mut rows, &start, &row_locus)?;
+    render_colored(&mut colored_output)?;
+    render_bug(alloc, &mut output, &files)?;
+    Ok(
+        rows.as_slice() == ROWS.as_bytes()
+            && colored_output.as_slice() == COLORED.as_bytes()
+            && output.as_slice() == b"bug: \n\n".as_slice()
+            && looks_up(&file, (), 2)
+            && looks_up(&files, 0, 2)
+            && looks_up(&mapped, (), 40)
+            && matches!(files.get(1), Err(Error::FileMissing))
+            && is_got(&files)
+            && are_defaults(&files)
+            && are_styles(&Styles::default())
+            && are_starts()
+            && column_index("\n\n🗻∈🌏\n\n", 2..13, 10) == 2
+            && are_made(alloc),
+    )
+}
+
+/// Returns whether the lookups of byte 7 of a file return what is expected.
+fn looks_up<'files, F: Files<'files>>(files: &'files F, id: F::FileId, number: usize) -> bool {
+    let has_text = match files.source(id) {
+        Ok(source) => source.as_str() == TEXT,
+        Err(_) => false,
+    };
+    let is_number = match files.line_number(id, 1) {
+        Ok(found) => found == number,
+        Err(_) => false,
+    };
+    let is_location = match files.location(id, 7) {
+        Ok(row_locus) => row_locus.line_number == number && row_locus.column_number == 3,
+        Err(_) => false,
+    };
+    let starts_there = match files.line_range(id, 1) {
+        Ok(range) => range.start == 4,
+        Err(_) => false,
+    };
+    has_text
+        && is_number
+        && is_location
+        && starts_there
+        && files.name(id).is_ok()
+        && matches!(files.line_index(id, 7), Ok(1))
+        && matches!(files.column_number(id, 1, 7), Ok(3))
+}
+
+/// Returns whether an existing file is found.
+fn is_got(files: &SimpleFiles<&str, &str>) -> bool {
+    match files.get(0) {
+        Ok(file) => file.source().as_str() == TEXT,
+        Err(_) => false,
+    }
+}
+
+/// Returns whether the free functions for the lookups of a custom database return what is expected
+/// at byte 7.
+fn are_defaults(files: &SimpleFiles<&str, &str>) -> bool {
+    let is_location = match default_location(files, 0, 7) {
+        Ok(row_locus) => row_locus.line_number == 2 && row_locus.column_number == 3,
+        Err(_) => false,
+    };
+    is_location
+        && matches!(default_line_number(1), Ok(2))
+        && matches!(
+            default_line_number(usize::MAX),
+            Err(Error::LineTooLarge { .. })
+        )
+        && matches!(default_column_number(files, 0, 1, 7), Ok(3))
+}
+
+/// Returns whether each lookup of the default styles returns what is expected.
+fn are_styles(styles: &Styles) -> bool {
+    let color = Some(Color::Cyan);
+    styles.header(Severity::Warning).fg == Some(Color::Yellow)
+        && styles.header_message().bold
+        && styles.line_number().fg == color
+        && styles.note_bullet().fg == color
+        && styles.source_border().fg == color
+        && styles.label(Severity::Bug, Primary).fg == Some(Color::Red)
+        && styles.label(Severity::Bug, Secondary).fg == color
+}
+
+/// Returns whether the lines of a text start where they should.
+fn are_starts() -> bool {
+    let mut are_right = true;
+    let mut count = 0usize;
+    for (start, expected) in line_starts("foo\nbar\r\n\nbaz").zip([0, 4, 9, 10]) {
+        are_right = are_right && start == expected;
+        count = count.saturating_add(1);
+    }
+    are_right && count == 4
+}
+
+/// Returns whether constructors, and clones of what owns no text, return what is expected.
+fn are_made(alloc: Global) -> bool {
+    let label = Label::primary(alloc, 3, 5..2);
+    let diagnostic: Diagnostic<usize> = Diagnostic::help(alloc);
+    let is_config = match Config::default().clone() {
+        Ok(config) => config.tab_width == 4,
+        Err(_) => false,
+    };
+    let are_chars = match Chars::ascii().clone() {
+        Ok(chars) => chars.multi_top_left == '/',
+        Err(_) => false,
+    };
+    label.file_id == 3 && diagnostic.labels.is_empty() && is_config && are_chars
+}
+
+/// Renders a diagnostic without a lookup.
+fn render_bug(
+    alloc: Global,
+    output: &mut Vec<u8>,
+    files: &SimpleFiles<&str, &str>,
+) -> Result<(), Error> {
+    emit(output, &Config::default(), files, &Diagnostic::bug(alloc))
+}
+
+/// Writes each kind of row, in plain text.
+fn render_rows(text: &mut Vec<u8>, start: &Locus, row_locus: &Locus) -> Result<(), Error> {
+    let config = Config::default();
+    let mut writer = PlainWriter::new(text);
+    let mut renderer = Renderer::new(&mut writer, &config);
+    renderer.render_header(None, Severity::Error, None, "")?;
+    renderer.render_snippet_start(1, start)?;
+    renderer.render_snippet_empty(1, Severity::Error, 2, &[])?;
+    render_crossing(&mut renderer)?;
+    renderer.render_empty()?;
+    render_other_rows(&mut renderer, row_locus)
+}
+
+/// Writes rows of other kinds.
+fn render_other_rows<W: WriteStyle>(
+    renderer: &mut Renderer<'_, '_, W>,
+    row_locus: &Locus,
+) -> Result<(), Error> {
+    let bars = [(0, Primary, MultiLabel::Left)];
+    if !lanes_in_order(1, &bars) {
+        return Err(Error::FormatError);
+    }
+    renderer.render_snippet_break(2, Severity::Error, 1, &bars)?;
+    let message = "unexpected type in application of `_+_`";
+    renderer.render_header(Some(row_locus), Severity::Error, Some("E0001"), message)?;
+    renderer.render_snippet_note(0, "a\r\n\nb\n")
+}
+
+/// Writes source lines with two multi-line labels whose underlines cross.
+fn render_crossing<W: WriteStyle>(renderer: &mut Renderer<'_, '_, W>) -> Result<(), Error> {
+    let first = [
+        (0, Secondary, MultiLabel::Top(1)),
+        (1, Primary, MultiLabel::Top(0)),
+    ];
+    let second = [
+        (0, Secondary, MultiLabel::Bottom(1, "q")),
+        (1, Primary, MultiLabel::Left),
+    ];
+    let third = [(1, Primary, MultiLabel::Bottom(1, "p"))];
+    render_line(renderer, 1, "ab\n", &first)?;
+    render_line(renderer, 2, "cd\n", &second)?;
+    render_line(renderer, 3, "ef", &third)
+}
+
+/// Writes a source line with two lanes.
+fn render_line<W: WriteStyle>(
+    renderer: &mut Renderer<'_, '_, W>,
+    number: usize,
+    text: &str,
+    lanes: &[(usize, LabelStyle, MultiLabel<'_>)],
+) -> Result<(), Error> {
+    if !lanes_in_order(2, lanes) {
+        return Err(Error::FormatError);
+    }
+    renderer.render_snippet_source(1, number, text, Severity::Error, &[], 2, lanes)
+}
+
+/// Writes a source line with a label and its message, in colors.
+fn render_colored(text: &mut Vec<u8>) -> Result<(), Error> {
+    let config = Config::default();
+    let styles = Styles::default();
+    let mut writer = StylesWriter::new(Ansi::new(text), &styles);
+    let mut renderer = Renderer::new(&mut writer, &config);
+    let labels = [(Primary, 1..2, "m")];
+    renderer.render_snippet_source(1, 1, "abc", Severity::Error, &labels, 0, &[])
+}
+
+/// The rows of `render_rows`.
+const ROWS: &str = "error: \n  ┌─ f:1:1\n  │    \n1 │   ╭ ab\n  │ ╭────'\n2 │ │ │ cd\n\
+    \x20 │ ╰─│─' q\n3 │   │ ef\n  │   ╰─^ p\n\n\
+    \x20  · │\n\
+    Test.fun:4:11: error[E0001]: unexpected type in application of `_+_`\n \
+    = a\n   \n   b\n";
+
+/// The rows of `render_colored`.
+const COLORED: &str = "\x1b[0m\x1b[36m1\x1b[0m \x1b[0m\x1b[36m│\x1b[0m a\x1b[0m\x1b[31mb\x1b[0mc\n\
+    \x20 \x1b[0m\x1b[36m│\x1b[0m  \x1b[0m\x1b[31m^\x1b[0m \x1b[0m\x1b[31mm\x1b[0m\n";

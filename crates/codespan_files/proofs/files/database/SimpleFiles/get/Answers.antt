@@ -1,0 +1,16 @@
+use Rattle.std.proofs.Common.{◌<◌, ◌≤◌, length, ap, refl, ◌∙◌, arith}
+use Rattle.std.specs.Option.{option_map}
+use Rattle.std.proofs.lemmas.Bool.Decides.{nat_tests}
+use Rattle.std.proofs.lemmas.Option.{slice_get-map, slice_get_past, slice_get_read}
+use Rattle.codespan_files.proofs.files.database.SimpleFiles.get.Goals as goal
+
+pub returns-in-Some-clause-found : goal.returns-in-Some-clause-found
+returns-in-Some-clause-found g c =
+    let within : c.args.id < length c.args.self.now.files.items = grind (arith, nat_tests, c.deref.ensures.len, c.in-Some.ensures.lookup.0) in
+    slice_get-map _ c.args.self.now.files.items c.args.id
+    ∙ ap (option_map _) (slice_get_read _ _ _ _ refl within (rw c.deref.ensures.value at c.in-Some.ensures.lookup.1))
+
+pub returns-in-None-clause-missing : goal.returns-in-None-clause-missing
+returns-in-None-clause-missing g c =
+    let past : length c.args.self.now.files.items ≤ c.args.id = grind (arith, nat_tests, c.deref.ensures.len, c.in-None.ensures.lookup.0) in
+    (slice_get-map _ c.args.self.now.files.items c.args.id ∙ ap (option_map _) (slice_get_past _ _ past), refl)

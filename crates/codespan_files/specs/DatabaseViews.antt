@@ -1,0 +1,64 @@
+-- What file databases show: the names and sources that they have, and set line numbers.
+use Rattle.std.specs.Prelude.{ℕ, List, map, Option}
+use Rattle.std.specs.declared.convert.AsStr.{Ghosts}
+use Rattle.codespan_files.specs.declared.files.error.Error.{Error}
+use Rattle.codespan_files.specs.declared.files.simple.SimpleFile.{SimpleFile}
+use Rattle.codespan_files.specs.declared.files.database.SimpleFiles.{SimpleFiles}
+use Rattle.codespan_files.specs.declared.files.mapped.MappedFile.{MappedFile}
+use Rattle.codespan_files.specs.FileModel.{FileModel, Lookup}
+use Rattle.codespan_files.specs.SimpleModel.{simple_file, database_file, database_failure}
+use Rattle.codespan_files.specs.MappedModel.{mapped_file, mapped_failure}
+
+module _ {Name Source : Type 0} {texts : Ghosts Source} where
+  -- the name of a file
+  abbrev pub name_of : SimpleFile Name Source texts → Name
+  name_of file = file.name
+
+  -- the source of a file
+  abbrev pub source_of : SimpleFile Name Source texts → Source
+  source_of file = file.source
+
+  -- the text of a file
+  abbrev pub text_of : SimpleFile Name Source texts → List ℕ
+  text_of file = texts.text file.source
+
+  -- the file that its lookups return, where `output` is what names display
+  abbrev pub file_of : (Name → Option (List ℕ)) → SimpleFile Name Source texts → FileModel
+  file_of output file = simple_file (output (name_of file)) (text_of file)
+
+  -- the names and sources of a database's files, in the order of their ids
+  abbrev pub entries : SimpleFiles Name Source texts → List (Name × Source)
+  entries database = map (λ file. (name_of file, source_of file)) database.files.items
+
+  -- the file of an id in a database, where `output` is what names display
+  abbrev pub file_in : (Name → Option (List ℕ)) → SimpleFiles Name Source texts → ℕ → FileModel
+  file_in output database id = database_file output texts.text (entries database) id
+
+  -- what a lookup fails with there
+  abbrev pub error_in : SimpleFiles Name Source texts → ℕ → Lookup → Option Error
+  error_in database id lookup = database_failure texts.text (entries database) id lookup
+
+  -- the name of a file whose line numbers are set
+  abbrev pub mapped_name_of : MappedFile Name Source texts → Name
+  mapped_name_of file = file.name
+
+  -- its source
+  abbrev pub mapped_source_of : MappedFile Name Source texts → Source
+  mapped_source_of file = file.source
+
+  -- its text
+  abbrev pub mapped_text_of : MappedFile Name Source texts → List ℕ
+  mapped_text_of file = texts.text file.source
+
+  -- its set line indices with their numbers, the indices ascending
+  abbrev pub settings_of : MappedFile Name Source texts → List (ℕ × ℕ)
+  settings_of file = file.numbers.items
+
+  -- the file that its lookups return, where `output` is what names display
+  abbrev pub mapped_file_of : (Name → Option (List ℕ)) → MappedFile Name Source texts → FileModel
+  mapped_file_of output file =
+      mapped_file (output (mapped_name_of file)) (mapped_text_of file) (settings_of file)
+
+  -- what they fail with
+  abbrev pub mapped_error_of : MappedFile Name Source texts → Lookup → Option Error
+  mapped_error_of file lookup = mapped_failure (mapped_text_of file) (settings_of file) lookup

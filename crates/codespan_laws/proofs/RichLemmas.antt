@@ -1,0 +1,51 @@
+-- A rich output means its labels: the laws of its parts, together.
+use Rattle.std.proofs.Common.{◌<◌}
+use Rattle.std.specs.Cmp.{IsEquivalence}
+use Rattle.codespan_base.specs.declared.term.config.Config.{Config}
+use Rattle.codespan_base.specs.declared.diagnostic.Diagnostic.{Diagnostic}
+use Rattle.codespan_base.specs.FileModel.{FileDatabase, line_count}
+use Rattle.codespan_picture.specs.Rows.{RowContext}
+use Rattle.codespan_picture.specs.Snippets.{LabeledFileModel, line_at}
+use Rattle.codespan_picture.specs.RowStreams.{caret_row}
+use Rattle.codespan_picture.specs.Picture.{files_of}
+use Rattle.codespan_laws.specs.CaretLaws.{CaretsAreCells}
+use Rattle.codespan_laws.specs.RichLaws.{SnippetMeansLabels, MeansLabels}
+use Rattle.codespan_laws.proofs.Texts.{text_of-append}
+use Rattle.codespan_laws.proofs.CaretLemmas.{text_of-line_carets}
+use Rattle.codespan_laws.proofs.BreakLemmas as breaks
+use Rattle.codespan_laws.proofs.FillLemmas.{rows_of_shown_lines}
+use Rattle.codespan_laws.proofs.LaneLineRuns as runs
+use Rattle.codespan_laws.proofs.LanesShown.{lanes_are_shown}
+use Rattle.codespan_laws.proofs.MessagesOnce as messages
+use Rattle.codespan_laws.proofs.PaddingLemmas as padding
+use Rattle.codespan_laws.proofs.PointerLemmas as pointers
+use Rattle.codespan_laws.proofs.RangeLemmas as ranges
+use Rattle.codespan_laws.proofs.RowBoundLemmas as bounds
+
+-- the text of a caret row is its caret cells
+pub carets_are_cells : (context : RowContext) → CaretsAreCells context
+unfolding caret_row
+carets_are_cells context = λ line. simp (text_of-append, text_of-line_carets)
+
+-- the snippet of a file means the labels of the file
+pub snippet_means_labels : (view : Config) (context : RowContext) (s : LabeledFileModel) → SnippetMeansLabels view context s
+snippet_means_labels view context s = record {
+  drawn = rows_of_shown_lines view s;
+  breaks = breaks.breaks_are_gaps view s (rows_of_shown_lines view s);
+  few = bounds.source_rows_few view s;
+  pointers = λ l wide. pointers.pointers_are_cells context (line_at s l) wide;
+  bars = λ ordered. ranges.bars_are_labels context.layout s ordered;
+  covered = λ ordered. ranges.breaks_are_covered view context.layout s ordered;
+  lanes = λ ordered. runs.lanes_are_lines view context.layout s ordered;
+}
+
+-- the output means the labels of the diagnostic
+pub output_means_labels : {Id : Type 0} (renderer view : Config) (files : FileDatabase Id) (d : Diagnostic Id)
+    → IsEquivalence files.same → ((id : Id) → 0 < line_count (files.file id)) → MeansLabels renderer view files d
+output_means_labels renderer view files d equal some_line = record {
+  each_file = λ s inside. snippet_means_labels view _ s;
+  carets = carets_are_cells;
+  lanes = lanes_are_shown;
+  messages = messages.messages_appear_once renderer view files d equal some_line;
+  room = padding.padding_fits view (files_of files d);
+}

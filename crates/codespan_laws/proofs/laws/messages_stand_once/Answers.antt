@@ -1,5 +1,0 @@
-use Rattle.codespan_laws.proofs.MessagesOnce as messages
-use Rattle.codespan_laws.proofs.laws.messages_stand_once.Goals as goal
-
-pub returns : goal.returns
-returns g c = λ renderer view files d equal some_line loci are. messages.messages_stand_once renderer view files d equal some_line loci are

@@ -1,0 +1,15 @@
+use Rattle.std.proofs.Common.{◌∙◌, ap, refl, ℕ, Vec, Global}
+use Rattle.codespan_native.specs.StyleMarkBytes.{style_mark_spelling}
+use Rattle.codespan_native.proofs.Rendered.{fresh_known, text_after}
+use Rattle.codespan_native.specs.SourceModel.{sources_of}
+use Rattle.codespan_native.specs.Spellings.{stream_of_output}
+use Rattle.codespan_native.proofs.render.render_style_marks.Goals as goal
+
+pub returns-clause-value : goal.returns-clause-value
+returns-clause-value c =
+    let stream = stream_of_output c.args.config.now (sources_of c.args.files.now) c.args.diagnostic.now in
+    let first = c.args.buffer.items in
+    let begins = c.new-writer.ensures.begins in
+    let written = c.in_ok-write_to.ensures.value (fresh_known style_mark_spelling _ first begins) in
+    ap (λ (v : Vec ℕ Global). v.items) c.into_inner.ensures
+    ∙ text_after style_mark_spelling _ _ stream first _ begins written refl

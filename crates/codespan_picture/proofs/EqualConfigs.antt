@@ -1,0 +1,68 @@
+-- Equal configurations render the same.
+use Rattle.std.proofs.Common.{◌≡◌, ℕ, List, [], ◌∷◌, ◌++◌, refl, ap, ◌∙◌}
+use Rattle.codespan_base.specs.declared.term.config.Config.{Config}
+use Rattle.codespan_base.specs.declared.term.config.chars.SnippetStart.{SnippetStart}
+use Rattle.codespan_base.specs.declared.diagnostic.Severity.{Severity}
+use Rattle.codespan_base.specs.SnippetStarts.{start_text}
+use Rattle.codespan_base.specs.declared.term.config.DisplayStyle.{DisplayStyle}
+use Rattle.codespan_base.specs.declared.term.config.DisplayStyle.TheVariants.{Rich, Medium, Short}
+use Rattle.codespan_base.specs.ConfigEquality.{IsConfig}
+use Rattle.codespan_base.specs.Streams.{bytes, style_mark, Reset, SourceBorder, space}
+use Rattle.codespan_picture.specs.Rows.{Heading, Locus, RowContext, Row, HeaderRow, StartRow, EmptyRow, BreakRow, SourceRow, CaretRow, PointerRow, HangingRow, UnderlineRow, FirstNoteRow, LaterNoteRow, BlankRow}
+use Rattle.codespan_picture.specs.RowParts.{gutter, locus}
+use Rattle.codespan_picture.specs.RowStreams.{stream_of, stream_of_rows}
+use Rattle.codespan_picture.specs.RowWords.{row_words}
+use Rattle.codespan_picture.specs.Padding.{padding_of}
+use Rattle.codespan_picture.specs.Picture.{context_of, rendered}
+use Rattle.codespan_picture.specs.Snippets.{LabeledFileModel, header_rows, note_rows, rich_rows}
+
+-- the configuration with this text before a locus
+abbrev with_start : Config → SnippetStart → Config
+with_start config start = record config { chars = record config.chars { snippet_start = start } }
+
+-- what is equal so differs in no more than where that text lies
+is_with_start : (table config : Config) → IsConfig table config → config ≡ with_start table config.chars.snippet_start
+is_with_start table config equal = equal.others ∙ ap (λ chars. record table { chars = chars }) equal.chars.others
+
+module _ (config : Config) (severity : Severity) (padding : ℕ) (start other : SnippetStart) (same : start_text start ≡ start_text other) where
+  -- what rows share under each of two such texts
+  abbrev context : SnippetStart → RowContext
+  context text = context_of (with_start config text) severity padding
+
+  -- each row is the same
+  row_equal : (row : Row) → stream_of (context start) row ≡ stream_of (context other) row
+  unfolding row_words
+  row_equal (HeaderRow at heading) = refl
+  row_equal (StartRow at) =
+      ap (λ text. gutter padding ++ style_mark SourceBorder ++ bytes text ++ style_mark Reset ++ space ++ locus at) same
+  row_equal (EmptyRow lanes) = refl
+  row_equal (BreakRow lanes) = refl
+  row_equal (SourceRow line) = refl
+  row_equal (CaretRow line) = refl
+  row_equal (PointerRow line) = refl
+  row_equal (HangingRow line x) = refl
+  row_equal (UnderlineRow line m) = refl
+  row_equal (FirstNoteRow piece) = refl
+  row_equal (LaterNoteRow piece) = refl
+  row_equal BlankRow = refl
+
+  -- all rows are the same
+  rows_equal : (rows : List Row) → stream_of_rows (context start) rows ≡ stream_of_rows (context other) rows
+  rows_equal [] = refl
+  rows_equal (row ∷ rows) = cc (row_equal row, rows_equal rows)
+
+-- what is rendered is the same, in each style
+module _ (table config : Config) (equal : IsConfig table config) (severity : Severity) (heading : Heading) (loci : List Locus) (ss : List LabeledFileModel) (notes : List (List ℕ)) where
+  -- rows of this padding width are the same
+  all_equal : (padding : ℕ) (rows : List Row) → stream_of_rows (context_of config severity padding) rows ≡ stream_of_rows (context_of table severity padding) rows
+  all_equal padding rows =
+      ap (λ c. stream_of_rows (context_of c severity padding) rows) (is_with_start table config equal)
+      ∙ rows_equal table severity padding config.chars.snippet_start table.chars.snippet_start equal.chars.start rows
+
+  pub rendered_equal : (style : DisplayStyle) → rendered style config config severity heading loci ss notes ≡ rendered style table table severity heading loci ss notes
+  rendered_equal Rich =
+      ap (λ c. rendered Rich c c severity heading loci ss notes) (is_with_start table config equal)
+      ∙ rows_equal table severity (padding_of table ss) config.chars.snippet_start table.chars.snippet_start equal.chars.start
+      (rich_rows table heading loci ss notes)
+  rendered_equal Medium = all_equal 0 (header_rows heading loci ++ note_rows notes)
+  rendered_equal Short = all_equal 0 (header_rows heading loci)

@@ -1,0 +1,61 @@
+-- Labels, multi-line label marks and loci as the calls of a renderer take them.
+use Rattle.std.specs.Prelude.{ℕ, Bool, List, map, string_bytes, ◌+◌, true, ◌&&◌, nat_lt, nat_le, [], ◌∷◌}
+use Rattle.std.specs.Borrow.{Bor}
+use Rattle.std.specs.declared.ops.Range.{Range}
+use Rattle.codespan_picture.specs.Types.{LabelStyle}
+use Rattle.codespan_base.specs.Labels.{LabelModel, LaneMark, MultiLabel, Top, Left, Bottom}
+use Rattle.codespan_base.specs.Streams.{bytes}
+use Rattle.codespan_picture.specs.declared.arguments.Locus as rust_locus
+use Rattle.codespan_picture.specs.declared.arguments.MultiLabel as rust_multi_label
+use Rattle.codespan_picture.specs.declared.arguments.MultiLabel.TheVariants as rust_variant
+use Rattle.codespan_picture.specs.Rows.{Locus, Lanes}
+
+-- a single-line label, as an argument
+abbrev pub SingleLabelTuple : Type 0
+SingleLabelTuple = LabelStyle × Range ℕ × Bor (List ℕ)
+
+-- a multi-line label mark, as an argument
+abbrev pub LaneMarkTuple : Type 0
+LaneMarkTuple = ℕ × LabelStyle × rust_multi_label.MultiLabel
+
+-- a label inside a line
+abbrev pub single_label_view : SingleLabelTuple → LabelModel
+single_label_view x =
+    record { style = x.0; start = x.1.start; end = x.1.end; message = bytes x.2.now }
+
+-- the labels inside a line
+abbrev pub single_label_views : List SingleLabelTuple → List LabelModel
+single_label_views xs = map single_label_view xs
+
+-- what a multi-line label does on a line
+abbrev pub multi_label_view : rust_multi_label.MultiLabel → MultiLabel
+multi_label_view (rust_variant.Top start) = Top start
+multi_label_view rust_variant.Left = Left
+multi_label_view (rust_variant.Bottom end message) = Bottom end (bytes message.now)
+
+-- a multi-line label mark
+abbrev pub lane_mark_view : LaneMarkTuple → LaneMark
+lane_mark_view m = record { lane = m.0; style = m.1; part = multi_label_view m.2 }
+
+-- the multi-line label marks in a row's lanes
+abbrev pub lanes_of : ℕ → List LaneMarkTuple → Lanes
+lanes_of count ms = record { count = count; marks = map lane_mark_view ms }
+
+-- the lanes ascend strictly from `least` on and stay below their number
+abbrev pub ascend_from : ℕ → ℕ → List LaneMark → Bool
+ascend_from count least [] = true
+ascend_from count least (m ∷ ms) =
+    nat_le least m.lane && nat_lt m.lane count && ascend_from count (m.lane + 1) ms
+
+-- the one condition on a caller that passes multi-line label marks: their lanes ascend strictly and
+-- are below the number of lanes
+abbrev pub lanes_in_order : ℕ → List LaneMarkTuple → Bool
+lanes_in_order count ms = ascend_from count 0 (map lane_mark_view ms)
+
+-- a locus, as an argument
+abbrev pub locus_view : rust_locus.Locus → Locus
+locus_view at = record { name = string_bytes at.name; location = at.location }
+
+-- the bytes of a borrowed text
+abbrev pub text_now : Bor (List ℕ) → List ℕ
+text_now s = s.now

@@ -1,0 +1,57 @@
+-- The characters of a drawn line and the cells that they own.
+use Rattle.std.specs.Prelude.{ℕ, ◌+◌, ◌-◌, ◌%◌, Bool, false, ◌||◌, ◌==◌, if◌then◌else◌, unwrap_or, List, ◌∷◌, length, sum_by, take, take_while, []}
+use Rattle.std.specs.List.{suffix_len}
+use Rattle.std.specs.Str.{chars}
+use Rattle.std.specs.Char.{len_utf8, is_whitespace}
+use Rattle.codespan_picture.specs.declared.char_metrics.Metrics.{Metrics}
+use Rattle.unicode_width.specs.Width.{char_width}
+
+-- line feeds, carriage returns and NULs are not rendered at a line's end
+abbrev pub is_line_end : ℕ → Bool
+is_line_end b = (b == 10) || (b == 13) || (b == 0)
+
+-- the text of a line as it is rendered
+abbrev pub drawn_text : List ℕ → List ℕ
+drawn_text text = take (length text - suffix_len is_line_end text) text
+
+-- the cells of a character at a column: of a tab those up to its next stop, none where the tab
+-- width is 0; of any other as many as `unicode_width` returns, none where it returns none
+abbrev pub width_at : ℕ → ℕ → ℕ → ℕ
+width_at tab column c =
+    if c == 9 then (if tab == 0 then 0 else tab - column % tab)
+    else unwrap_or (char_width false c) 0
+
+-- these characters with their cells, from a byte index and a column on, and then what `after` is
+-- where they end
+abbrev pub metrics_then : (ℕ → ℕ → List Metrics) → ℕ → ℕ → ℕ → List ℕ → List Metrics
+metrics_then after tab byte_index column [] = after byte_index column
+metrics_then after tab byte_index column (c ∷ cs) =
+    record {
+      code = c;
+      byte_index = byte_index;
+      bytes = len_utf8 c;
+      column = column;
+      width = width_at tab column c;
+    }
+    ∷ metrics_then after tab (byte_index + len_utf8 c) (column + width_at tab column c) cs
+
+-- the characters of a line with their cells
+abbrev pub char_metrics : ℕ → List ℕ → List Metrics
+char_metrics tab line = metrics_then (λ _ _. []) tab 0 0 (chars line)
+
+-- the placeholder after the last character: one more, of one byte and one cell
+abbrev pub placeholder : ℕ → ℕ → List Metrics
+placeholder byte_index column =
+    record { code = 32; byte_index = byte_index; bytes = 1; column = column; width = 1 } ∷ []
+
+-- the same, and the placeholder after the last one
+abbrev pub char_metrics_to_end : ℕ → List ℕ → List Metrics
+char_metrics_to_end tab line = metrics_then placeholder tab 0 0 (chars line)
+
+-- the widths of these characters together
+abbrev pub width_of : List Metrics → ℕ
+width_of cs = sum_by (λ (c : Metrics). c.width) cs
+
+-- the bytes of the white space that the line begins with
+abbrev pub leading_whitespace : List ℕ → ℕ
+leading_whitespace line = sum_by len_utf8 (take_while is_whitespace (chars line))

@@ -1,0 +1,44 @@
+-- The cached characters of a line and the scan of the others: serves `cache_metrics`, and the
+-- cursors of a cached line.
+use Rattle.std.proofs.Common.{◌≡◌, ℕ, ◌-◌, ◌<◌, Bool, List, [], ◌∷◌, ◌++◌, take, drop, length, append_assoc, sym, ap, ◌∙◌, arith}
+use Rattle.std.specs.Str.{chars}
+use Rattle.std.specs.Str.Iter.{chars_rest}
+use Rattle.codespan_picture.specs.declared.char_metrics.Metrics.{Metrics}
+use Rattle.codespan_picture.specs.CharMetrics.{metrics_then}
+use Rattle.codespan_picture.specs.RowParts.{metrics_up_to}
+use Rattle.codespan_picture.proofs.Consecutive.{char_metrics-consecutive}
+use Rattle.codespan_renderer.specs.declared.term.renderer.char_metrics.CharMetrics.{CharMetrics}
+use Rattle.codespan_renderer.specs.Private.MetricsLeft.{Afters, GoesOver, after_last, metrics_from, metrics_left, no_more}
+use Rattle.codespan_renderer.specs.Private.CachedMetrics.{AreCached}
+use Rattle.codespan_renderer.proofs.Pieces.{taken-dropped}
+use Rattle.codespan_renderer.proofs.WidthSearch.{past-none}
+
+-- a scan that goes on elsewhere yields what the first one would
+cached-after : (tab : ℕ) (text : List ℕ) (cached : List Metrics) (rest fork : CharMetrics) (to_end : Bool) → AreCached tab text cached rest
+    → ((after : Afters) → metrics_from after fork ≡ metrics_from after rest) → fork.to_end ≡ to_end
+    → cached ++ metrics_left fork ≡ metrics_then (after_last to_end) tab 0 0 (chars text)
+cached-after tab text cached rest fork to_end are same end =
+    ap (λ (e : Bool). cached ++ metrics_from (after_last e) fork) end
+    ∙ ap (λ (cs : List Metrics). cached ++ cs) (same (after_last to_end))
+    ∙ are (after_last to_end)
+
+-- as it would where the first ones are left out
+pub cached-from : (tab : ℕ) (text : List ℕ) (cached : List Metrics) (rest fork : CharMetrics) (to_end : Bool) (n : ℕ) → AreCached tab text cached rest
+    → ((after : Afters) → metrics_from after fork ≡ metrics_from after rest) → fork.to_end ≡ to_end
+    → take n cached ++ (take (length cached - n) (drop n cached) ++ metrics_left fork) ≡ metrics_then (after_last to_end) tab 0 0 (chars text)
+cached-from tab text cached rest fork to_end n are same end =
+    sym (append_assoc (take n cached) (take (length cached - n) (drop n cached)) (metrics_left fork))
+    ∙ ap (λ (cs : List Metrics). cs ++ metrics_left fork) (taken-dropped n cached)
+    ∙ cached-after tab text cached rest fork to_end are same end
+
+-- one more character is cached
+pub cached-more : (tab : ℕ) (text : List ℕ) (cached : List Metrics) (c : Metrics) (old new : CharMetrics) → GoesOver c old new → AreCached tab text cached old
+    → AreCached tab text (cached ++ c ∷ []) new
+cached-more tab text cached c old new over are = λ (after : Afters).
+    append_assoc cached (c ∷ []) (metrics_from after new) ∙ ap (λ (cs : List Metrics). cached ++ cs) (sym (over.yields after)) ∙ are after
+
+-- after a character past a byte index all begin past it
+pub past-scan : (byte_index : ℕ) (c : Metrics) (old new : CharMetrics) → GoesOver c old new → byte_index < c.byte_index → metrics_up_to byte_index (metrics_from no_more new) ≡ []
+past-scan byte_index c old new over far =
+    past-none byte_index new.byte_index new.column (metrics_from no_more new) (char_metrics-consecutive new.tab_width new.byte_index new.column (chars (chars_rest new.chars)))
+    (omega (arith, over.byte_index, over.here, far))

@@ -1,0 +1,201 @@
+-- A cursor over the characters of a line that passes its labels as they begin.
+use Rattle.std.proofs.Props.{props}
+use Rattle.std.proofs.Math.Logic.{∥∥₁_elim}
+use Rattle.std.proofs.Common.{◌≡◌, ℕ, ◌+◌, ◌<◌, ◌≤◌, max, Bool, true, false, ◌&&◌, ◌||◌, nat_lt, nat_le, List, [], ◌∷◌, ◌++◌, length, drop, get_or, drop-cons, add-one, refl, sym, ap, subst, ◌∙◌, arith, Option, Some, None}
+use Rattle.std.specs.Prelude.{if◌then◌else◌, IfSome}
+use Rattle.std.specs.Iterator.{YieldsFirst}
+use Rattle.std.proofs.lemmas.Bool.{and_parts}
+use Rattle.std.proofs.lemmas.Bool.Decides.{nat_tests}
+use Rattle.codespan_base.specs.Labels.{LabelModel}
+use Rattle.codespan_picture.specs.declared.char_metrics.Metrics.{Metrics}
+use Rattle.std.specs.Char.{len_utf8}
+use Rattle.std.specs.Str.{chars}
+use Rattle.std.proofs.lemmas.Str.{len_utf8_bounds}
+use Rattle.codespan_renderer.specs.declared.term.renderer.cached.label_cursor.LabelCursor.{LabelCursor}
+use Rattle.codespan_picture.specs.CharMetrics.{metrics_then, placeholder, width_at}
+use Rattle.codespan_renderer.specs.Private.MetricsLeft.{after_last, no_more}
+use Rattle.codespan_picture.specs.Carets.{covers}
+use Rattle.codespan_picture.specs.Arguments.{SingleLabelTuple, single_label_view, single_label_views}
+use Rattle.codespan_renderer.specs.declared.term.renderer.cached.cached_metrics.CachedMetrics.{CachedMetrics}
+use Rattle.codespan_renderer.specs.Private.CachedMetrics.{cached_left}
+use Rattle.codespan_renderer.specs.Private.CursorStates.{Follow, IsBefore, HasReturned}
+use Rattle.codespan_renderer.specs.Private.LabelCursors.{starts_from, is_covered, end_with, IsReached, HasPassedLabels}
+
+-- a label that starts before the character's end has a byte of it where it has one at all and ends
+-- past the byte index of the character
+covers-prefix : (x : LabelModel) (c : Metrics) → x.start < c.byte_index + c.bytes → 1 ≤ c.bytes → covers x c ≡ (nat_lt x.start x.end && nat_lt c.byte_index x.end)
+covers-prefix x c h some = grind (arith, nat_tests)
+
+-- such a label is over the character where its end raises the greatest one past the byte index of
+-- the character
+end-raised : (counts : Bool) (end : ℕ) (x : LabelModel) (c : Metrics) → x.start < c.byte_index + c.bytes → 1 ≤ c.bytes
+    → nat_lt c.byte_index (end_with counts end x) ≡ (nat_lt c.byte_index end || (counts && covers x c))
+end-raised counts end x c h some = rw (covers-prefix x c h some) (by_test counts (nat_lt x.start x.end))
+  where
+    by_test : (b d : Bool) → nat_lt c.byte_index (if b && d then max end x.end else end) ≡ (nat_lt c.byte_index end || (b && (d && nat_lt c.byte_index x.end)))
+    by_test true true = grind (arith, nat_tests)
+    by_test true false = grind (arith, nat_tests)
+    by_test false d = grind (arith, nat_tests)
+
+or-assoc : (a b c : Bool) → (a || (b || c)) ≡ ((a || b) || c)
+or-assoc true b c = refl
+or-assoc false b c = refl
+
+-- the next label has begun
+pub reached-more : (passes : LabelModel → Bool) (labels left rest : List LabelModel) (x : LabelModel) (byte_index end : ℕ) → left ≡ x ∷ rest → x.start < byte_index
+    → IsReached passes labels left byte_index end → IsReached passes labels rest byte_index (end_with (passes x) end x)
+reached-more passes labels left rest x byte_index end step prefix r = record {
+  is = λ c h some. r.is c h some
+      ∙ ap (λ (xs : List LabelModel). nat_lt c.byte_index end || is_covered passes xs c) step
+      ∙ or-assoc (nat_lt c.byte_index end) (passes x && covers x c) (is_covered passes rest c)
+      ∙ ap (λ (b : Bool). b || is_covered passes rest c) (sym (end-raised (passes x) end x c (omega arith) some));
+}
+
+-- labels that begin from the character's end on have no byte of it
+uncovered : (passes : LabelModel → Bool) (xs : List LabelModel) (byte_index : ℕ) (c : Metrics) → starts_from byte_index xs ≡ true → c.byte_index + c.bytes ≤ byte_index
+    → is_covered passes xs c ≡ false
+uncovered passes [] byte_index c ordered past = refl
+uncovered passes (x ∷ xs) byte_index c ordered past =
+    let parts = and_parts (nat_le byte_index x.start) (starts_from x.start xs) ordered in
+    let low : byte_index ≤ x.start = grind (arith, nat_tests) in
+    let here : covers x c ≡ false = grind (arith, nat_tests) in
+    rw (here, uncovered passes xs x.start c parts.1 (omega arith)) (by_test (passes x))
+  where
+    by_test : (b : Bool) → ((b && false) || false) ≡ false
+    by_test true = refl
+    by_test false = refl
+
+or-false : (b : Bool) → (b || false) ≡ b
+or-false true = refl
+or-false false = refl
+
+-- all labels that begin before the character's end have been passed
+pub reached-here : (passes : LabelModel → Bool) (labels left : List LabelModel) (byte_index end : ℕ) (c : Metrics) → c.byte_index + c.bytes ≡ byte_index → 1 ≤ c.bytes
+    → starts_from byte_index left ≡ true → IsReached passes labels left byte_index end → is_covered passes labels c ≡ nat_lt c.byte_index end
+reached-here passes labels left byte_index end c ends some ordered r =
+    r.is c (omega arith) some
+    ∙ ap (λ (b : Bool). nat_lt c.byte_index end || b) (uncovered passes left byte_index c ordered (omega arith))
+    ∙ or-false (nat_lt c.byte_index end)
+
+-- ---- labels in order
+
+-- a label of a list, and those after it in the same list
+pub labels-step : (ys xs : List SingleLabelTuple) (i : ℕ) (d : SingleLabelTuple) → ys ≡ xs → i < length xs
+    → single_label_views (drop i ys) ≡ single_label_view (get_or xs i d) ∷ single_label_views (drop (i + 1) ys)
+labels-step ys xs i d same h = rw (same, drop-cons xs i d h, add-one) refl
+
+-- they start from an earlier byte index on
+pub starts-lower : (xs : List LabelModel) (low byte_index : ℕ) → low ≤ byte_index → starts_from byte_index xs ≡ true → starts_from low xs ≡ true
+starts-lower [] low byte_index h ordered = refl
+starts-lower (x ∷ xs) low byte_index h ordered =
+    let parts = and_parts (nat_le byte_index x.start) (starts_from x.start xs) ordered in
+    let here : nat_le low x.start ≡ true = (let far = parts.0 in grind (arith, nat_tests)) in
+    rw (here, parts.1) refl
+
+-- those after the first one
+pub starts-next : (low : ℕ) (left rest : List LabelModel) (x : LabelModel) → left ≡ x ∷ rest → starts_from low left ≡ true → starts_from low rest ≡ true
+starts-next low left rest x step ordered =
+    let parts = and_parts (nat_le low x.start) (starts_from x.start rest) (rw step at ordered) in
+    let far : low ≤ x.start = (let test = parts.0 in grind (arith, nat_tests)) in
+    starts-lower rest low x.start far parts.1
+
+-- the first one of those that are left begins no earlier than they do
+pub starts-first : (low : ℕ) (ys xs : List SingleLabelTuple) (i : ℕ) (d : SingleLabelTuple) → ys ≡ xs → i < length xs → starts_from low (single_label_views (drop i ys)) ≡ true
+    → low ≤ (get_or xs i d).1.start
+starts-first low ys xs i d same h ordered =
+    let x = single_label_view (get_or xs i d) in
+    let parts = and_parts (nat_le low x.start) (starts_from x.start (single_label_views (drop (i + 1) ys))) (rw (labels-step ys xs i d same h) at ordered) in
+    let test = parts.0 in grind (arith, nat_tests)
+
+-- those after one that starts before a byte index
+pub starts-rest : (low : ℕ) (ys xs : List SingleLabelTuple) (i : ℕ) (d : SingleLabelTuple) (byte_index : ℕ) → ys ≡ xs → i < length xs → (get_or xs i d).1.start < byte_index
+    → starts_from low (single_label_views (drop i ys)) ≡ true → starts_from low (single_label_views (drop (i + 1) ys)) ≡ true
+starts-rest low ys xs i d byte_index same h prefix ordered =
+    starts-next low (single_label_views (drop i ys)) (single_label_views (drop (i + 1) ys)) (single_label_view (get_or xs i d)) (labels-step ys xs i d same h) ordered
+
+-- where it does not start before a byte index, all start there or later
+pub starts-past : (low : ℕ) (ys xs : List SingleLabelTuple) (i byte_index : ℕ) (d : SingleLabelTuple) → ys ≡ xs → i < length xs
+    → nat_lt (single_label_view (get_or xs i d)).start byte_index ≡ false → starts_from low (single_label_views (drop i ys)) ≡ true → starts_from byte_index (single_label_views (drop i ys)) ≡ true
+starts-past low ys xs i byte_index d same h late ordered =
+    let step = labels-step ys xs i d same h in
+    let x = single_label_view (get_or xs i d) in
+    let parts = and_parts (nat_le low x.start) (starts_from x.start (single_label_views (drop (i + 1) ys))) (rw step at ordered) in
+    let here : nat_le byte_index x.start ≡ true = grind (arith, nat_tests) in
+    rw (step, here, parts.1) refl
+
+-- ---- characters one after another
+
+-- the characters of a line, and what comes after the last one
+follow-then : (after : ℕ → ℕ → List Metrics) (tab byte_index column : ℕ) (codes : List ℕ) → ((p q : ℕ) → Follow p (after p q))
+    → Follow byte_index (metrics_then after tab byte_index column codes)
+follow-then after tab byte_index column [] last = last byte_index column
+follow-then after tab byte_index column (c ∷ cs) last =
+    (refl, omega (arith, (len_utf8_bounds c).0), follow-then after tab (byte_index + len_utf8 c) (column + width_at tab column c) cs last)
+
+-- the characters of a line, and the placeholder where `to_end` is set
+pub follow-after : (to_end : Bool) (tab : ℕ) (text : List ℕ) → Follow 0 (metrics_then (after_last to_end) tab 0 0 (chars text))
+follow-after true tab text = follow-then placeholder tab 0 0 (chars text) (λ p q. (refl, omega arith, tt))
+follow-after false tab text = follow-then no_more tab 0 0 (chars text) (λ p q. tt)
+
+-- one of the characters that are left
+pub char_metrics-step : (cs : List Metrics) (i : ℕ) (d : Metrics) → i < length cs → drop i cs ≡ get_or cs i d ∷ drop (i + 1) cs
+char_metrics-step cs i d h = rw (drop-cons cs i d h, add-one) refl
+
+-- ---- a cursor over them
+
+passed-prop : (byte_index : ℕ) (s : LabelCursor) → IsProp (HasPassedLabels byte_index s)
+passed-prop byte_index s = Prim.hlevel props
+
+passed-later : (s : LabelCursor) (p q : ℕ) → p ≤ q → HasPassedLabels p s → HasPassedLabels q s
+passed-later s p q h m = record {
+  primary = record { is = λ c low some. m.primary.is c (omega arith) some };
+  any = record { is = λ c low some. m.any.is c (omega arith) some };
+  ordered = m.ordered;
+}
+
+-- the characters after some of those that follow one another
+follow-rest : (byte_index : ℕ) (before left : List Metrics) → Follow byte_index (before ++ left) → (q : ℕ) × (byte_index ≤ q) × Follow q left
+follow-rest byte_index [] left follow = (byte_index, omega arith, follow)
+follow-rest byte_index (c ∷ cs) left follow =
+    let later = follow-rest (byte_index + c.bytes) cs left follow.2 in
+    (later.0, omega (arith, later.1), later.2)
+
+-- before some characters of a line, the first ones left out
+pub cursor-start : (s : LabelCursor) (before left : List Metrics) → HasPassedLabels 0 s → Follow 0 (before ++ left) → ∥ IsBefore s left ∥₁
+cursor-start s before left passed follow =
+    let later = follow-rest 0 before left follow in
+    ∣ record { byte_index = later.0; passed = passed-later s 0 later.0 later.1 passed; follow = later.2 } ∣₁
+
+module _ (s : LabelCursor) (left rest : List Metrics) (c : Metrics) (step : left ≡ c ∷ rest) where
+  here : (w : IsBefore s left) → Follow w.byte_index (c ∷ rest)
+  here w = rw step at w.follow
+
+  -- it returns the next character
+  pub cursor-returns : ∥ IsBefore s left ∥₁ → ∥ HasReturned c s rest ∥₁
+  cursor-returns cached = ∥∥₁_elim cached (Prim.hlevel props) (λ w. ∣ record { some = (here w).1; passed = rw (here w).0 w.passed; follow = rw (here w).0 (here w).2 } ∣₁)
+
+-- and goes on after it, whether or not the style under it was requested
+pub cursor-goes_on : (s : LabelCursor) (rest : List Metrics) (c : Metrics) → ∥ HasReturned c s rest ∥₁ → ∥ IsBefore s rest ∥₁
+cursor-goes_on s rest c cached =
+    ∥∥₁_elim cached (Prim.hlevel props) (λ g. ∣ record { byte_index = c.byte_index + c.bytes; passed = passed-later s c.byte_index (c.byte_index + c.bytes) (omega arith) g.passed; follow = g.follow } ∣₁)
+
+-- as it does where none is left
+pub cursor-turn : (s : LabelCursor) (old new : CachedMetrics) (r : Option Metrics) → YieldsFirst cached_left old r new → ∥ IsBefore s (cached_left old) ∥₁ → ∥ IsBefore s (cached_left new) ∥₁
+cursor-turn s old new (Some c) step cached = cursor-goes_on s (cached_left new) c (cursor-returns s (cached_left old) (cached_left new) c step cached)
+cursor-turn s old new None ends cached = subst (λ (cs : List Metrics). ∥ IsBefore s cs ∥₁) (ends.0 ∙ sym ends.1) cached
+
+-- what it has returned
+pub cursor-turned : (s : LabelCursor) (old new : CachedMetrics) (r : Option Metrics) → YieldsFirst cached_left old r new → ∥ IsBefore s (cached_left old) ∥₁
+    → IfSome r (λ c. ∥ HasReturned c s (cached_left new) ∥₁)
+cursor-turned s old new (Some c) step cached = cursor-returns s (cached_left old) (cached_left new) c step cached
+cursor-turned s old new None ends cached = tt
+
+pub cursor-looked_up : (s t : LabelCursor) (rest : List Metrics) (c : Metrics) → ∥ HasReturned c s rest ∥₁ → HasPassedLabels (c.byte_index + c.bytes) t → ∥ IsBefore t rest ∥₁
+cursor-looked_up s t rest c cached passed = ∥∥₁_elim cached (Prim.hlevel props) (λ g. ∣ record { byte_index = c.byte_index + c.bytes; passed = passed; follow = g.follow } ∣₁)
+
+-- the labels that it has passed, and the character that it has returned
+pub returned-passed : (s : LabelCursor) (rest : List Metrics) (c : Metrics) → ∥ HasReturned c s rest ∥₁ → HasPassedLabels c.byte_index s
+returned-passed s rest c cached = ∥∥₁_elim cached (passed-prop c.byte_index s) (λ g. g.passed)
+
+pub returned-some : (s : LabelCursor) (rest : List Metrics) (c : Metrics) → ∥ HasReturned c s rest ∥₁ → 1 ≤ c.bytes
+returned-some s rest c cached = ∥∥₁_elim cached (Prim.hlevel props) (λ g. g.some)

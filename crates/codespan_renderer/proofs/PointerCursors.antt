@@ -1,0 +1,128 @@
+-- A cursor that finds the pointers of a line.
+use Rattle.std.proofs.Common.{◌≡◌, ℕ, ◌+◌, ◌<◌, ◌≤◌, Bool, true, false, arith, List, [], ◌∷◌, ◌++◌, Option, Some, None, refl, ◌∙◌, append_assoc, filter}
+use Rattle.codespan_base.specs.declared.diagnostic.LabelStyle.{LabelStyle}
+use Rattle.codespan_base.specs.Labels.{LabelModel, has_message}
+use Rattle.codespan_picture.specs.declared.char_metrics.Metrics.{Metrics}
+use Rattle.codespan_renderer.specs.declared.term.renderer.cached.label_cursor.StartCursor.{StartCursor}
+use Rattle.codespan_renderer.specs.declared.term.renderer.cached.pointers.Pointer.{Pointer}
+use Rattle.codespan_picture.specs.Arguments.{SingleLabelTuple, single_label_views}
+use Rattle.codespan_renderer.specs.Private.PointerLists.{pointer_under, pointers_in, HasPassed}
+use Rattle.codespan_picture.specs.Rows.{hanging}
+use Rattle.codespan_picture.specs.RowParts.{greatest_start, starts_in}
+use Rattle.codespan_picture.proofs.HangingStarts.{any-below, any-hanging, starts_in-low}
+use Rattle.std.specs.List.{list_any}
+use Rattle.codespan_renderer.specs.Private.Runs.{best_from, pointer_found, AreHanging}
+use Rattle.codespan_renderer.proofs.Hanging.{pointer_is}
+use Rattle.codespan_picture.proofs.Consecutive.{AreConsecutive}
+
+-- two cursors have passed the labels of two lists that begin before these characters
+pub record IsPassing (before after : List SingleLabelTuple) (s t : StartCursor) (left : List Metrics) : Type 0 where
+  pub byte_index : ℕ
+  pub column : ℕ
+  pub early : HasPassed byte_index s
+  pub late : HasPassed byte_index t
+  pub same_early : s.labels.now ≡ before
+  pub same_late : t.labels.now ≡ after
+  pub consecutive : AreConsecutive byte_index column left
+
+-- at the next cell
+pub record IsPassingAt (before after : List SingleLabelTuple) (s t : StartCursor) (c : Metrics) (left : List Metrics) : Type 0 where
+  pub some : 1 ≤ c.bytes
+  pub early : HasPassed c.byte_index s
+  pub late : HasPassed c.byte_index t
+  pub same_early : s.labels.now ≡ before
+  pub same_late : t.labels.now ≡ after
+  pub consecutive : AreConsecutive (c.byte_index + c.bytes) (c.column + c.width) left
+
+pub passing-at : (before after : List SingleLabelTuple) (s t : StartCursor) (cs left : List Metrics) (c : Metrics) → cs ≡ c ∷ left → IsPassing before after s t cs
+    → IsPassingAt before after s t c left
+passing-at before after s t cs left c step w =
+    let consecutive : AreConsecutive w.byte_index w.column (c ∷ left) = rw step at w.consecutive in
+    let here = consecutive.0 in
+    let at = consecutive.1 in
+    record {
+      some = consecutive.2;
+      early = rw here w.early;
+      late = rw here w.late;
+      same_early = w.same_early;
+      same_late = w.same_late;
+      consecutive = rw (here, at) consecutive.3;
+    }
+
+pub passing-more : (before after : List SingleLabelTuple) (s t u v : StartCursor) (c : Metrics) (left : List Metrics) → IsPassingAt before after s t c left
+    → HasPassed (c.byte_index + c.bytes) u → HasPassed (c.byte_index + c.bytes) v → u.labels.now ≡ s.labels.now → v.labels.now ≡ t.labels.now
+    → IsPassing before after u v left
+passing-more before after s t u v c left w early late same same2 = record {
+  byte_index = c.byte_index + c.bytes;
+  column = c.column + c.width;
+  early = early;
+  late = late;
+  same_early = same ∙ w.same_early;
+  same_late = same2 ∙ w.same_late;
+  consecutive = w.consecutive;
+}
+
+-- the style that the two cursors find
+pub found-style : (labels before after bs ds : List SingleLabelTuple) (c : Metrics) (first second : Option LabelStyle) → AreHanging labels before after → bs ≡ before → ds ≡ after
+    → first ≡ best_from (starts_in c) None (filter has_message (single_label_views bs))
+    → second ≡ best_from (starts_in c) first (filter has_message (single_label_views ds))
+    → second ≡ pointer_found (hanging (single_label_views labels)) c
+found-style labels before after bs ds c first second h e f p q = rw (q, p, e, f) (pointer_is labels before after c h)
+
+-- there is no pointer where no label hangs
+pub no-pointers : (cs : List Metrics) → pointers_in [] cs ≡ []
+no-pointers [] = refl
+no-pointers (c ∷ cs) = no-pointers cs
+
+-- a pointer comes to those that were found
+pub found-some : (labels : List LabelModel) (ps : List Pointer) (cs left : List Metrics) (c : Metrics) (style : LabelStyle) → cs ≡ c ∷ left
+    → pointer_found (hanging labels) c ≡ Some style
+    → (ps ++ pointer_under c style ∷ []) ++ pointers_in (hanging labels) left ≡ ps ++ pointers_in (hanging labels) cs
+found-some labels ps cs left c style step is = rw (step, is) (append_assoc ps (pointer_under c style ∷ []) (pointers_in (hanging labels) left))
+
+-- none does
+pub found-none : (labels : List LabelModel) (ps : List Pointer) (cs left : List Metrics) (c : Metrics) → cs ≡ c ∷ left
+    → pointer_found (hanging labels) c ≡ None
+    → ps ++ pointers_in (hanging labels) left ≡ ps ++ pointers_in (hanging labels) cs
+found-none labels ps cs left c step is = rw (step, is) refl
+
+-- both cursors are at the line's start
+pub passing-start : (before after : List SingleLabelTuple) (s t : StartCursor) (cs : List Metrics) → HasPassed 0 s → HasPassed 0 t → s.labels.now ≡ before → t.labels.now ≡ after
+    → AreConsecutive 0 0 cs → IsPassing before after s t cs
+passing-start before after s t cs early late same_early same_late consecutive = record {
+  byte_index = 0;
+  column = 0;
+  early = early;
+  late = late;
+  same_early = same_early;
+  same_late = same_late;
+  consecutive = consecutive;
+}
+
+-- ---- past the greatest start
+
+-- the test of a character from which labels hang
+none-test : (labels : List LabelModel) (c : Metrics) (b : Bool) → greatest_start labels < c.byte_index → list_any (starts_in c) (hanging labels) ≡ b → b ≡ false
+none-test labels c true past is =
+    let low = any-below 0 c.byte_index (starts_in c) labels (λ x. starts_in-low c x) (any-hanging (starts_in c) labels is) in
+    absurd (omega arith)
+none-test labels c false past is = refl
+
+-- no label hangs from a character there
+none-past : (labels : List LabelModel) (c : Metrics) → greatest_start labels < c.byte_index → pointer_found (hanging labels) c ≡ None
+none-past labels c past = rw (none-test labels c (list_any (starts_in c) (hanging labels)) past refl) refl
+
+-- where all characters begin there, there is no pointer
+pointers-past : (labels : List LabelModel) (byte_index column : ℕ) (cs : List Metrics) → AreConsecutive byte_index column cs → greatest_start labels < byte_index → pointers_in (hanging labels) cs ≡ []
+pointers-past labels byte_index column [] consecutive past = refl
+pointers-past labels byte_index column (c ∷ cs) consecutive past =
+    let there : greatest_start labels < c.byte_index = omega (arith, consecutive.0) in
+    rw (none-past labels c there) (pointers-past labels (byte_index + c.bytes) (column + c.width) cs consecutive.3 (omega arith))
+
+-- the next cell begins past the starts, and so do all that follow
+pub pointers-past-at : (labels before after : List SingleLabelTuple) (s t : StartCursor) (last : ℕ) (cs left : List Metrics) (c : Metrics) → cs ≡ c ∷ left
+    → IsPassing before after s t cs → last < c.byte_index → last ≡ greatest_start (single_label_views labels)
+    → pointers_in (hanging (single_label_views labels)) cs ≡ []
+pointers-past-at labels before after s t last cs left c step w past e =
+    let consecutive : AreConsecutive w.byte_index w.column (c ∷ left) = rw step at w.consecutive in
+    pointers-past (single_label_views labels) w.byte_index w.column cs w.consecutive (omega (arith, e, past, consecutive.0))

@@ -1,8 +1,0 @@
-use Rattle.codespan_renderer.proofs.Sweeping.{cursor-asked, returned-met, returned-some}
-use Rattle.codespan_renderer.proofs.term.renderer.by_cells.cached_line.CachedCursorCharCursor.style_under.Goals as goal
-
-pub style_under-requires : goal.style_under-requires
-style_under-requires c = record { some = returned-some _ _ _ c.requires; met = returned-met _ _ _ c.requires }
-
-pub invariant_of-self : goal.invariant_of-self
-invariant_of-self c = record { state = cursor-asked _ _ _ _ c.requires c.style_under.ensures.met }

@@ -1,0 +1,13 @@
+use Rattle.std.proofs.Common.{◌≡◌, ◌+◌, ◌-◌, length}
+use Rattle.codespan_renderer.specs.Private.LabelCursors.{HasPassedLabels}
+use Rattle.codespan_renderer.proofs.term.renderer.cached.label_cursor.LabelCursor.advance.Given as goal
+
+-- of the labels that begin before the character's end some have come
+abbrev pub invariant-loop-self : goal.invariant-loop-self
+invariant-loop-self l = record {
+  passed : HasPassedLabels (l.metrics.byte_index + l.metrics.bytes) l.self;
+  same : l.self.labels.now ≡ l.fn.self.labels.now;
+}
+
+abbrev pub decreases-loop-self : goal.decreases-loop-self
+decreases-loop-self l = length l.labels - l.self.next

@@ -1,0 +1,60 @@
+use Rattle.std.proofs.Common.{◌≡◌, ◌∙◌, ◌++◌, ap, append-nil, refl, sym, arith}
+use Rattle.std.specs.Str.{chars}
+use Rattle.std.proofs.lemmas.Str.{IsUtf8-had}
+use Rattle.codespan_picture.specs.CharMetrics.{char_metrics}
+use Rattle.codespan_picture.specs.Arguments.{single_label_views}
+use Rattle.codespan_picture.proofs.Consecutive.{char_metrics-consecutive}
+use Rattle.codespan_renderer.specs.Private.CachedMetrics.{cached_left}
+use Rattle.codespan_renderer.proofs.Hanging.{none_hangs}
+use Rattle.codespan_renderer.proofs.ScanState.{scan_state-char_metrics, scan_state-more}
+use Rattle.codespan_renderer.proofs.PointerCursors.{no-pointers, passing-start, passing-at, passing-more, found-style, found-some, found-none, pointers-past-at}
+use Rattle.codespan_renderer.proofs.term.renderer.cached.pointers.find_pointers.Goals as goal
+
+pub returns-then-not-has_any_message-2-clause-found : goal.returns-then-not-has_any_message-2-clause-found
+returns-then-not-has_any_message-2-clause-found c =
+    let early = sym c.has_any_message.ensures ∙ c.if-not-has_any_message.true in
+    let late = sym c.has_any_message-then-not-has_any_message.ensures ∙ c.if-not-has_any_message-2.true in
+    rw (c.clear.ensures.items, none_hangs _ _ _ c.requires.hanging early late) (sym (no-pointers (char_metrics c.args.tab_width c.args.line.text.now)))
+
+pub loop-metrics-init : goal.loop-metrics-init
+loop-metrics-init c =
+    let all : cached_left c.into_iter-metrics-iterator.result ≡ char_metrics c.args.tab_width c.args.line.text.now = ap cached_left c.into_iter-metrics-iterator.ensures.into_iter_gives ∙ c.requires.characters in
+    rw (all, c.clear.ensures.items) record {
+      cursor = passing-start _ _ _ _ _ c.new-before.ensures.passed c.new-after.ensures.passed c.new-before.ensures.labels c.new-after.ensures.labels
+          (char_metrics-consecutive c.args.tab_width 0 0 (chars c.args.line.text.now));
+      scan_state = scan_state-char_metrics _ _ (IsUtf8-had _ c.args.line.utf8);
+      found = refl;
+    }
+
+pub returns-then-metrics-last-clause-found : goal.returns-then-metrics-last-clause-found
+returns-then-metrics-last-clause-found c =
+    let i = c.loop-metrics.invariant in
+    let none = pointers-past-at c.args.line.labels.now _ _ _ _ c.greatest_start-last.result _ _ c.in-Some.metrics c.in-Some.ensures.steps i.cursor c.if-metrics-last.true c.greatest_start-last.ensures in
+    sym (append-nil c.loop-metrics.pointers.items) ∙ ap (λ ps. c.loop-metrics.pointers.items ++ ps) (sym none) ∙ i.found
+
+pub loop-metrics-preserved-in-Continue-1 : goal.loop-metrics-preserved-in-Continue-1
+loop-metrics-preserved-in-Continue-1 c =
+    let i = c.loop-metrics.invariant in
+    let step = c.in-Some.ensures.steps in
+    let early = c.best_start-early.ensures in
+    let late = c.best_start.ensures in
+    let style = found-style c.args.line.labels.now _ _ _ _ c.in-Some.metrics _ _ c.requires.hanging i.cursor.same_early i.cursor.same_late early.best late.best in
+    record {
+      cursor = passing-more _ _ _ _ _ _ _ _ (passing-at _ _ _ _ _ _ c.in-Some.metrics step i.cursor) early.passed late.passed early.labels late.labels;
+      scan_state = scan_state-more _ _ _ c.in-Some.metrics _ (omega arith) (omega arith) (rw step at i.scan_state);
+      found = rw (c.in_ok-push.ensures.items, c.pointer_under.ensures)
+          (found-some (single_label_views c.args.line.labels.now) c.loop-metrics.pointers.items _ _ c.in-Some.metrics _ step (sym style ∙ c.in-Some-best_start.is) ∙ i.found);
+    }
+
+pub loop-metrics-preserved : goal.loop-metrics-preserved
+loop-metrics-preserved c =
+    let i = c.loop-metrics.invariant in
+    let step = c.in-Some.ensures.steps in
+    let early = c.best_start-early.ensures in
+    let late = c.best_start.ensures in
+    let style = found-style c.args.line.labels.now _ _ _ _ c.in-Some.metrics _ _ c.requires.hanging i.cursor.same_early i.cursor.same_late early.best late.best in
+    record {
+      cursor = passing-more _ _ _ _ _ _ _ _ (passing-at _ _ _ _ _ _ c.in-Some.metrics step i.cursor) early.passed late.passed early.labels late.labels;
+      scan_state = scan_state-more _ _ _ c.in-Some.metrics _ (omega arith) (omega arith) (rw step at i.scan_state);
+      found = found-none (single_label_views c.args.line.labels.now) c.loop-metrics.pointers.items _ _ c.in-Some.metrics step (sym style ∙ c.in_default.is) ∙ i.found;
+    }

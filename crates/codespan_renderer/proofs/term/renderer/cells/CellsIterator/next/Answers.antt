@@ -1,5 +1,0 @@
-use Rattle.codespan_renderer.specs.Inner.CellsLeft.{after_last}
-use Rattle.codespan_renderer.proofs.term.renderer.cells.CellsIterator.next.Goals as goal
-
-pub returns-in-Some-clause-steps : goal.returns-in-Some-clause-steps
-returns-in-Some-clause-steps c = rw c.next_character.ensures.end (c.in-Some.ensures.yields.yields (after_last c.args.self.now.to_end))

@@ -1,0 +1,15 @@
+use Rattle.std.proofs.Common.{ap, arith}
+use Rattle.codespan_picture.specs.CharMetrics.{width_of}
+use Rattle.codespan_picture.specs.RowParts.{metrics_up_to}
+use Rattle.codespan_renderer.specs.Private.MetricsLeft.{metrics_from, no_more}
+use Rattle.codespan_renderer.proofs.CachedScans.{past-scan}
+use Rattle.codespan_renderer.proofs.Underlines.{width-out}
+use Rattle.codespan_renderer.proofs.term.renderer.char_metrics.CharMetrics.column_past.Goals as goal
+
+pub returns-then-metrics-byte_index : goal.returns-then-metrics-byte_index
+returns-then-metrics-byte_index c =
+    let over = c.in-Some.ensures.yields in
+    let rest = metrics_from no_more c.next_character.new.self in
+    let step = ap (λ cs. width_of (metrics_up_to c.args.byte_index cs)) (over.yields no_more) in
+    let none = ap width_of (past-scan c.args.byte_index c.in-Some.metrics c.loop-metrics.scan c.next_character.new.self over c.if-metrics-byte_index.true) in
+    omega (arith, c.loop-metrics.invariant, over.at, step, width-out c.args.byte_index c.in-Some.metrics rest c.if-metrics-byte_index.true, none)

@@ -1,0 +1,47 @@
+-- The cached characters of a line, and how far they reach.
+use Rattle.std.specs.Prelude.{◌≡◌, ℕ, max, List, [], ◌++◌, fold, Option, Some, None}
+use Rattle.std.specs.Str.{chars}
+use Rattle.codespan_base.specs.Labels.{LabelModel, LaneMark, MultiLabel, Top, Left, Bottom}
+use Rattle.codespan_picture.specs.declared.char_metrics.Metrics.{Metrics}
+use Rattle.codespan_picture.specs.CharMetrics.{metrics_then}
+use Rattle.codespan_picture.specs.RowParts.{metrics_up_to}
+use Rattle.codespan_renderer.specs.declared.term.renderer.char_metrics.CharMetrics.{CharMetrics}
+use Rattle.codespan_renderer.specs.declared.term.renderer.cached.cached_metrics.CachedMetrics.{CachedMetrics}
+use Rattle.codespan_renderer.specs.Private.MetricsLeft.{Afters, metrics_from, metrics_left, no_more}
+
+-- the characters that are left: the cached ones, and then those of the scan
+abbrev pub cached_left : CachedMetrics → List Metrics
+cached_left s = s.cached.now ++ metrics_left s.rest
+
+-- the cached characters of a text and those of the scan are all of them, whatever is after the
+-- last one
+abbrev pub AreCached : ℕ → List ℕ → List Metrics → CharMetrics → Type 0
+AreCached tab text cached rest =
+    (after : Afters) → cached ++ metrics_from after rest ≡ metrics_then after tab 0 0 (chars text)
+
+-- the characters that begin within a reach
+abbrev pub metrics_within : Option ℕ → List Metrics → List Metrics
+metrics_within None cs = []
+metrics_within (Some byte_index) cs = metrics_up_to byte_index cs
+
+-- all characters that the scan has left begin past the byte index up to which they are cached
+abbrev pub ReachesPast : Option ℕ → CharMetrics → Type 0
+ReachesPast reach rest = metrics_within reach (metrics_from no_more rest) ≡ []
+
+-- the greater of a reach and a byte index
+abbrev pub farther : Option ℕ → ℕ → Option ℕ
+farther None byte_index = Some byte_index
+farther (Some reach) byte_index = Some (max reach byte_index)
+
+-- the byte index at which an underline's caret is, or before which it is
+abbrev pub farther_lane_mark : Option ℕ → MultiLabel → Option ℕ
+farther_lane_mark reach (Top start) = farther reach start
+farther_lane_mark reach Left = reach
+farther_lane_mark reach (Bottom end message) = farther reach end
+
+-- how far the rows under a line reach: the greatest start or end of its labels, and of what
+-- underlines have; none where it has neither
+abbrev pub reach_of : List LabelModel → List LaneMark → Option ℕ
+reach_of labels marks =
+    fold (λ reach (m : LaneMark). farther_lane_mark reach m.part)
+    (fold (λ reach (x : LabelModel). farther (farther reach x.start) x.end) None labels) marks

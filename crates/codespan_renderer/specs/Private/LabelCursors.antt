@@ -1,0 +1,44 @@
+-- A cursor over the characters of a line that passes its labels as they begin.
+use Rattle.std.specs.Prelude.{◌≡◌, ℕ, ◌+◌, ◌≤◌, Bool, true, ◌||◌, ◌&&◌, nat_lt, nat_le, max, if◌then◌else◌, List, [], ◌∷◌, drop}
+use Rattle.std.specs.List.{list_any}
+use Rattle.codespan_base.specs.Labels.{LabelModel, is_primary}
+use Rattle.codespan_picture.specs.declared.char_metrics.Metrics.{Metrics}
+use Rattle.codespan_renderer.specs.declared.term.renderer.cached.label_cursor.LabelCursor.{LabelCursor}
+use Rattle.codespan_picture.specs.Carets.{covers}
+use Rattle.codespan_picture.specs.Arguments.{single_label_views}
+
+-- the labels start at this byte index or later, each no earlier than the one before it
+abbrev pub starts_from : ℕ → List LabelModel → Bool
+starts_from least [] = true
+starts_from least (x ∷ xs) = nat_le least x.start && starts_from x.start xs
+
+-- the labels are in the order of their starts
+abbrev pub starts_in_order : List LabelModel → Bool
+starts_in_order xs = starts_from 0 xs
+
+-- one of the labels that pass has a byte of the character
+abbrev pub is_covered : (LabelModel → Bool) → List LabelModel → Metrics → Bool
+is_covered passes xs c = list_any (λ x. passes x && covers x c) xs
+
+-- the greatest end with that of a label that counts; one with no byte has none
+abbrev pub end_with : Bool → ℕ → LabelModel → ℕ
+end_with counts end x = if counts && nat_lt x.start x.end then max end x.end else end
+
+-- of a character that ends at this byte index or later: one of the labels that pass has a byte of
+-- it where it begins before the end, or where one of the remaining ones has
+pub record IsReached (passes : LabelModel → Bool) (labels left : List LabelModel)
+    (byte_index end : ℕ) : Type 0 where
+  pub is : (c : Metrics) → byte_index ≤ c.byte_index + c.bytes → 1 ≤ c.bytes
+      → is_covered passes labels c ≡ (nat_lt c.byte_index end || is_covered passes left c)
+
+-- the labels that a cursor has not passed
+abbrev pub labels_left : LabelCursor → List LabelModel
+labels_left s = single_label_views (drop s.next s.labels.now)
+
+-- a cursor has passed the labels that begin before this byte index
+pub record HasPassedLabels (byte_index : ℕ) (s : LabelCursor) : Type 0 where
+  pub primary :
+      IsReached is_primary (single_label_views s.labels.now) (labels_left s) byte_index
+      s.primary_end
+  pub any : IsReached (λ _. true) (single_label_views s.labels.now) (labels_left s) byte_index s.end
+  pub ordered : starts_in_order (labels_left s) ≡ true

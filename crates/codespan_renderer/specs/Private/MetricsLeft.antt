@@ -1,0 +1,50 @@
+-- The characters that an iterator over the characters of a line has left.
+use Rattle.std.specs.Prelude.{◌≡◌, ℕ, ◌+◌, ◌≤◌, Bool, true, false, List, [], ◌∷◌, Option, Some, None}
+use Rattle.std.specs.Str.{chars}
+use Rattle.std.specs.Str.Iter.{chars_rest}
+use Rattle.codespan_picture.specs.declared.char_metrics.Metrics.{Metrics}
+use Rattle.codespan_renderer.specs.declared.term.renderer.char_metrics.CharMetrics.{CharMetrics}
+use Rattle.codespan_picture.specs.CharMetrics.{metrics_then, placeholder}
+
+-- what is after the last character, by the byte index and the column there
+abbrev pub Afters : Type 0
+Afters = ℕ → ℕ → List Metrics
+
+-- nothing does
+abbrev pub no_more : Afters
+no_more = λ _ _. []
+
+-- by a test, the placeholder or nothing
+abbrev pub after_last : Bool → Afters
+after_last true = placeholder
+after_last false = no_more
+
+-- the characters that are left, and what is after the last one
+abbrev pub metrics_from : Afters → CharMetrics → List Metrics
+metrics_from after s =
+    metrics_then after s.tab_width s.byte_index s.column (chars (chars_rest s.chars))
+
+-- the characters that it has not returned yet
+abbrev pub metrics_left : CharMetrics → List Metrics
+metrics_left s = metrics_from (after_last s.to_end) s
+
+-- a scan goes over a character
+pub record GoesOver (c : Metrics) (old new : CharMetrics) : Type 0 where
+  pub yields : (after : Afters) → metrics_from after old ≡ c ∷ metrics_from after new
+  pub here : c.byte_index ≡ old.byte_index
+  pub at : c.column ≡ old.column
+  pub some : 1 ≤ c.bytes
+  pub byte_index : new.byte_index ≡ old.byte_index + c.bytes
+  pub column : new.column ≡ old.column + c.width
+
+-- a scan has gone over all characters, and stays where it is
+pub record IsPastLast (old new : CharMetrics) : Type 0 where
+  pub none : (after : Afters) → metrics_from after old ≡ after old.byte_index old.column
+  pub still : (after : Afters) → metrics_from after new ≡ after old.byte_index old.column
+  pub byte_index : new.byte_index ≡ old.byte_index
+  pub column : new.column ≡ old.column
+
+-- a scan returns its next character, or none is left
+abbrev pub YieldsCharacter : CharMetrics → Option Metrics → CharMetrics → Type 0
+YieldsCharacter old (Some c) new = GoesOver c old new
+YieldsCharacter old None new = IsPastLast old new

@@ -1,0 +1,52 @@
+-- The pointers of a line, found once for all its rows.
+use Rattle.std.specs.Prelude.{◌≡◌, ℕ, ◌+◌, ◌-◌, ◌≤◌, true, nat_lt, min, List, [], ◌∷◌, ◌++◌, filter, drop, Option}
+use Rattle.std.specs.Option.{option_map}
+use Rattle.std.specs.List.{filter_map}
+use Rattle.codespan_picture.specs.Types.{LabelStyle}
+use Rattle.codespan_base.specs.Labels.{LabelModel, has_message}
+use Rattle.codespan_base.specs.Streams.{Stream, spaces}
+use Rattle.codespan_picture.specs.declared.char_metrics.Metrics.{Metrics}
+use Rattle.codespan_renderer.specs.declared.term.renderer.cached.pointers.Pointer.{Pointer}
+use Rattle.codespan_renderer.specs.declared.term.renderer.cached.label_cursor.StartCursor.{StartCursor}
+use Rattle.codespan_picture.specs.Arguments.{single_label_views}
+use Rattle.codespan_picture.specs.Lanes.{label_glyph}
+use Rattle.codespan_picture.specs.Rows.{RowContext}
+use Rattle.codespan_picture.specs.RowParts.{starts_in}
+use Rattle.codespan_renderer.specs.Private.Runs.{best_from, pointer_found}
+use Rattle.codespan_renderer.specs.Private.LabelCursors.{starts_from}
+
+-- the pointer under a character, of this style
+abbrev pub pointer_under : Metrics → LabelStyle → Pointer
+pointer_under c style = record {
+  byte_index = c.byte_index;
+  column = c.column;
+  after = c.column + min c.width 1;
+  style = style;
+}
+
+-- the pointers under characters, where labels hang from them
+abbrev pub pointers_in : List LabelModel → List Metrics → List Pointer
+pointers_in hanging cs = filter_map (λ c. option_map (pointer_under c) (pointer_found hanging c)) cs
+
+-- the pointers of characters that begin before a byte index
+abbrev pub pointers_before : ℕ → List Pointer → List Pointer
+pointers_before byte_index ps = filter (λ (p : Pointer). nat_lt p.byte_index byte_index) ps
+
+-- pointers from a column on, with spaces between them and up to the edge
+abbrev pub spaced : RowContext → ℕ → ℕ → List Pointer → Stream
+spaced context edge column [] = spaces (edge - column)
+spaced context edge column (p ∷ ps) =
+    spaces (p.column - column) ++ label_glyph context.severity p.style context.chars.pointer_left
+    ++ spaced context edge p.after ps
+
+-- the labels that a cursor has not passed
+abbrev pub starts_left : StartCursor → List LabelModel
+starts_left s = single_label_views (drop s.next s.labels.now)
+
+-- the cursor has passed the labels that start before this byte index: none of them starts in a
+-- later character
+pub record HasPassed (byte_index : ℕ) (s : StartCursor) : Type 0 where
+  pub is : (c : Metrics) (found : Option LabelStyle) → byte_index ≤ c.byte_index
+      → best_from (starts_in c) found (filter has_message (single_label_views s.labels.now))
+      ≡ best_from (starts_in c) found (filter has_message (starts_left s))
+  pub ordered : starts_from byte_index (starts_left s) ≡ true

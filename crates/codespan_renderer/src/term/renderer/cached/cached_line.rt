@@ -1,0 +1,213 @@
+//! A line whose characters and pointers are cached, and whose labels are in the order of their
+//! starts.
+
+ghost use Rattle.std.specs.Prelude.{◌≡◌, ◌≤◌, ◌++◌, IsTrue, length, map, take};
+ghost use Rattle.std.specs.Str.{chars};
+ghost use Rattle.codespan_picture.specs.CharMetrics.{char_metrics, metrics_then, width_of};
+ghost use Rattle.codespan_picture.specs.Arguments.{lane_mark_view, single_label_views};
+ghost use Rattle.codespan_picture.specs.Rows.{hanging};
+ghost use Rattle.codespan_renderer.specs.Private.MetricsLeft.{after_last};
+ghost use Rattle.codespan_renderer.specs.Private.CursorStates.{IsBefore, HasReturned};
+ghost use Rattle.codespan_renderer.specs.Private.CachedMetrics.{AreCached, ReachesPast, cached_left, reach_of};
+ghost use Rattle.codespan_renderer.specs.Private.LineSources.{EndBy};
+ghost use Rattle.codespan_renderer.specs.Private.PointerLists.{pointers_in};
+ghost use Rattle.codespan_renderer.specs.Private.Runs.{least_start};
+ghost use Rattle.codespan_renderer.specs.Private.LabelCursors.{starts_in_order};
+
+use crate::term::renderer::Renderer;
+use crate::term::renderer::cached::cached_metrics::CachedMetrics;
+use crate::term::renderer::cached::label_cursor::LabelCursor;
+use crate::term::renderer::cached::pointers::{Pointer, write_spaced};
+use crate::term::renderer::char_cursor::CharCursor;
+use crate::term::renderer::char_metrics::{CharMetrics, Metrics};
+use crate::term::renderer::line::{Line, RowContext};
+use crate::term::renderer::line_source::LineSource;
+use crate::term::renderer::messages::Messages;
+use crate::term::renderer::pointers::greatest_start;
+use crate::term::renderer::row_writer::{RowWriter, with_error};
+use crate::term::renderer::source::write_line;
+use codespan_base::diagnostic::{LabelStyle, Severity};
+use codespan_base::files::Error;
+use codespan_base::term::WriteStyle;
+use codespan_base::term::config::put_style::PutStyle;
+
+/// A cursor over cached characters. It goes through the labels in the order of their starts, each
+/// of them once.
+#[derive(Drop)]
+pub struct CachedCursor<'char_metrics, 'row, 'd> {
+    characters: CachedMetrics<'char_metrics, 'row>,
+    label_cursor: LabelCursor<'row, 'd>,
+    ghost state: { ∥ IsBefore label_cursor (cached_left characters) ∥₁ },
+}
+
+impl<'char_metrics, 'row, 'd> CharCursor for CachedCursor<'char_metrics, 'row, 'd> {
+    ghost left = { λ s. cached_left s.characters };
+
+    ghost labels = { λ s. s.label_cursor.labels.now };
+
+    ghost has_returned = { λ c s. ∥ HasReturned c s.label_cursor (cached_left s.characters) ∥₁ };
+
+    #[inline(always)]
+    fn next_metrics(&mut self) -> Option<Metrics> {
+        self.characters.next()
+    }
+
+    #[inline(always)]
+    fn style_under(&mut self, metrics: Metrics) -> Option<LabelStyle> {
+        self.label_cursor.style_under(metrics)
+    }
+
+    #[inline(always)]
+    fn has_primary(&mut self, metrics: Metrics) -> bool {
+        self.label_cursor.has_primary(metrics)
+    }
+}
+
+/// A line with a cache of its characters and pointers.
+#[derive(Drop)]
+pub struct CachedLine<'char_metrics, 'row, 'd> {
+    /// The number of cells from one tab stop to the next.
+    pub tab_width: usize,
+    /// The line, whose labels are in the order of their starts.
+    pub line: Line<'row, 'd>,
+    /// Its first characters, up to the first one past the reach of the rows under it.
+    pub cached: &'char_metrics [Metrics],
+    /// The scan of those after them.
+    pub rest: CharMetrics<'row>,
+    /// The pointers under its characters.
+    pub pointers: &'char_metrics [Pointer],
+    ghost metrics_are: { AreCached tab_width line.text.now cached.now rest },
+    ghost enough: { ReachesPast (reach_of (single_label_views line.labels.now)
+        (map lane_mark_view line.lanes.marks.now)) rest },
+    ghost ordered: { IsTrue (starts_in_order (single_label_views line.labels.now)) },
+    ghost found: { pointers.now ≡ pointers_in (hanging (single_label_views line.labels.now))
+        (char_metrics tab_width line.text.now) },
+}
+
+impl<'char_metrics, 'row, 'd> CachedLine<'char_metrics, 'row, 'd> {
+    ghost use Rattle.codespan_renderer.specs.Private.LineViews.{line_view};
+    ghost use Rattle.codespan_renderer.specs.Renderers.{config_of, rendered_source, Renders};
+
+    /// Renders the line with its carets, its messages and its underlines. `outer_padding` is the
+    /// padding width, in characters.
+    ///
+    /// # Errors
+    ///
+    /// `Io` alone: the writer fails or takes no bytes. A prefix of the rows has then been written.
+    pub fn render<W: WriteStyle>(
+        &self,
+        renderer: &mut Renderer<'_, '_, W>,
+        outer_padding: usize,
+        severity: Severity,
+    ) -> Result<(), Error>
+        requires { self.now.tab_width ≡ (config_of renderer.old).tab_width }
+        ensures { Renders W.sink (rendered_source (config_of renderer.old) severity outer_padding
+            (line_view self.now.line)) renderer.old result renderer.new }
+    {
+        let context = renderer.context(severity, outer_padding);
+        let mut rows = RowWriter::new(renderer.writer, &renderer.saved);
+        let written = write_line(&mut rows, context, self.line, self);
+        with_error(written, &renderer.saved)
+    }
+
+    /// Returns the least start of its labels, or `end` where all start past it or there is none.
+    #[inline(always)]
+    fn least_start(&self, end: usize) -> usize
+        ensures { result ≡ least_start end (single_label_views self.now.line.labels.now) }
+    {
+        match self.line.labels.first() {
+            Some(label) => label.1.start.min(end),
+            None => end,
+        }
+    }
+
+    /// Returns how many cells the characters before a byte index take, and how many they are, where
+    /// each has one byte, so that the one there is found without a search; else two zeros.
+    #[inline(always)]
+    fn skipped_before(&self, byte_index: usize) -> (u128, usize)
+        ensures within { result.1 ≤ length self.now.cached.now }
+        ensures ended { EndBy byte_index (take result.1 self.now.cached.now) }
+        ensures width { result.0 ≡ width_of (take result.1 self.now.cached.now) }
+    {
+        match self.cached.get(byte_index) {
+            Some(metrics) if metrics.byte_index == byte_index => (metrics.column, byte_index),
+            _ => (0, 0),
+        }
+    }
+
+    /// Returns a cursor over its characters without the first `skipped` ones of the cache, and over
+    /// the position after the last one where `to_end` is set.
+    #[inline(always)]
+    fn cursor(&self, skipped: usize, to_end: bool) -> CachedCursor<'char_metrics, 'row, 'd>
+        requires { skipped ≤ length self.now.cached.now }
+        ensures left { take skipped self.now.cached.now ++ cached_left result.characters
+            ≡ metrics_then (after_last to_end) self.now.tab_width 0 0
+            (chars self.now.line.text.now) }
+        ensures labels { result.label_cursor.labels.now ≡ self.now.line.labels.now }
+    {
+        CachedCursor {
+            characters: CachedMetrics {
+                cached: &self.cached[skipped..],
+                rest: self.rest.fork(to_end),
+            },
+            label_cursor: LabelCursor::new(self.line.labels),
+        }
+    }
+}
+
+impl<'char_metrics, 'row, 'd> LineSource for CachedLine<'char_metrics, 'row, 'd> {
+    type Cursor = CachedCursor<'char_metrics, 'row, 'd>;
+
+    ghost of = { λ s. record {
+      tab_width = s.tab_width;
+      text = s.line.text.now;
+      labels = s.line.labels.now;
+    } };
+
+    #[inline(always)]
+    fn characters(&self) -> CachedCursor<'char_metrics, 'row, 'd> {
+        self.cursor(0, false)
+    }
+
+    #[inline(always)]
+    fn characters_from_labels(&self, end: usize) -> (u128, CachedCursor<'char_metrics, 'row, 'd>) {
+        let (column, skipped) = self.skipped_before(self.least_start(end));
+        (column, self.cursor(skipped, true))
+    }
+
+    #[inline(always)]
+    fn width_up_to(&self, byte_index: usize) -> u128 {
+        let count = self
+            .cached
+            .partition_point(|metrics| metrics.byte_index <= byte_index);
+        match self.cached.get(count) {
+            Some(next) => next.column,
+            None => self.rest.column_past(byte_index),
+        }
+    }
+
+    #[inline(always)]
+    fn caret_pointers<W: PutStyle>(
+        &self,
+        w: &mut W,
+        context: RowContext<'_>,
+        _line: Line<'_, '_>,
+        _messages: Messages<'_, '_>,
+    ) -> Result<(), W::Error> {
+        let edge = self.width_up_to(greatest_start(self.line.labels));
+        write_spaced(w, context, self.pointers, usize::MAX, edge)
+    }
+
+    #[inline(always)]
+    fn caret_pointers_before<W: PutStyle>(
+        &self,
+        w: &mut W,
+        context: RowContext<'_>,
+        _line: Line<'_, '_>,
+        _messages: Messages<'_, '_>,
+        before: usize,
+    ) -> Result<(), W::Error> {
+        let edge = self.width_before(before);
+        write_spaced(w, context, self.pointers, before, edge)
+    }
+}

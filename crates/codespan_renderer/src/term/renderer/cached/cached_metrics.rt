@@ -1,0 +1,35 @@
+//! The characters of a line, of which the first ones are cached.
+
+use crate::term::renderer::char_metrics::{CharMetrics, Metrics};
+
+/// The characters of a line, from left to right: those that are cached, and then those that a scan
+/// goes on with.
+#[derive(Drop)]
+pub struct CachedMetrics<'char_metrics, 'text> {
+    /// The cached ones that are left.
+    pub cached: &'char_metrics [Metrics],
+    /// The scan of those after them.
+    pub rest: CharMetrics<'text>,
+}
+
+impl<'char_metrics, 'text> Iterator for CachedMetrics<'char_metrics, 'text> {
+    ghost use Rattle.std.specs.Iterator.{YieldsFirst, item_count};
+    ghost use Rattle.codespan_renderer.specs.Private.CachedMetrics.{cached_left};
+
+    type Item = Metrics;
+
+    ghost next_gives = { YieldsFirst cached_left };
+
+    ghost remaining = { item_count cached_left };
+
+    #[inline(always)]
+    fn next(&mut self) -> Option<Metrics> {
+        match self.cached.split_first() {
+            Some((metrics, cached)) => {
+                self.cached = cached;
+                Some(*metrics)
+            }
+            None => self.rest.next(),
+        }
+    }
+}

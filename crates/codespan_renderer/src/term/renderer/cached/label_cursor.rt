@@ -1,0 +1,164 @@
+//! Cursors over the labels of a line, in the order of their starts.
+
+ghost use Rattle.std.specs.Prelude.{◌≡◌, ◌+◌, ◌<◌, ◌≤◌, ◌&&◌, IsTrue, nat_lt, true, max, filter};
+ghost use Rattle.codespan_base.specs.Labels.{has_message, is_primary};
+ghost use Rattle.codespan_picture.specs.Carets.{style_under};
+ghost use Rattle.codespan_picture.specs.Arguments.{single_label_view, single_label_views};
+ghost use Rattle.codespan_renderer.specs.Private.PointerLists.{HasPassed};
+ghost use Rattle.codespan_picture.specs.RowParts.{starts_in};
+ghost use Rattle.codespan_renderer.specs.Private.Runs.{best_from};
+ghost use Rattle.codespan_renderer.specs.Private.LabelCursors.{starts_in_order, is_covered, end_with, HasPassedLabels};
+
+use crate::term::renderer::SingleLabel;
+use crate::term::renderer::carets::better;
+use crate::term::renderer::char_metrics::Metrics;
+use codespan_base::diagnostic::LabelStyle;
+
+/// A cursor over the labels of a line, which passes a label once a character is under it.
+#[derive(Clone, Copy)]
+pub struct LabelCursor<'row, 'd> {
+    /// The labels of the line, in the order of their starts.
+    labels: &'row [SingleLabel<'d>],
+    /// How many of them it has passed.
+    next: usize,
+    /// The greatest end of the primary ones that it has passed, 0 where there is none.
+    primary_end: usize,
+    /// The greatest end of all that it has passed, 0 where there is none.
+    end: usize,
+}
+
+impl<'row, 'd> LabelCursor<'row, 'd> {
+    /// Returns a cursor before the first label.
+    pub fn new(labels: &'row [SingleLabel<'d>]) -> LabelCursor<'row, 'd>
+        requires { IsTrue (starts_in_order (single_label_views labels.now)) }
+        ensures passed { HasPassedLabels 0 result }
+        ensures labels { result.labels.now ≡ labels.now }
+    {
+        LabelCursor {
+            labels,
+            next: 0,
+            primary_end: 0,
+            end: 0,
+        }
+    }
+
+    /// Passes the labels that start before the character's end.
+    pub fn advance(&mut self, metrics: Metrics)
+        requires some { 1 ≤ metrics.bytes }
+        requires passed { HasPassedLabels metrics.byte_index self.old }
+        ensures passed { HasPassedLabels (metrics.byte_index + metrics.bytes) self.new }
+        ensures labels { self.new.labels.now ≡ self.old.labels.now }
+        ensures primary { is_covered is_primary (single_label_views self.new.labels.now) metrics
+            ≡ nat_lt metrics.byte_index self.new.primary_end }
+        ensures any { is_covered (λ _. true) (single_label_views self.new.labels.now) metrics
+            ≡ nat_lt metrics.byte_index self.new.end }
+    {
+        let labels = self.labels;
+        while self.next < labels.len() && begins_by(&labels[self.next], metrics) {
+            self.pass(&labels[self.next]);
+            self.next += 1;
+        }
+    }
+
+    /// Passes the labels that start before the character's end, and returns the style of those over
+    /// it: a primary one takes precedence.
+    pub fn style_under(&mut self, metrics: Metrics) -> Option<LabelStyle>
+        requires some { 1 ≤ metrics.bytes }
+        requires passed { HasPassedLabels metrics.byte_index self.old }
+        ensures passed { HasPassedLabels (metrics.byte_index + metrics.bytes) self.new }
+        ensures labels { self.new.labels.now ≡ self.old.labels.now }
+        ensures style { result ≡ style_under (single_label_views self.old.labels.now) metrics }
+    {
+        self.advance(metrics);
+        if metrics.byte_index < self.primary_end {
+            Some(LabelStyle::Primary)
+        } else if metrics.byte_index < self.end {
+            Some(LabelStyle::Secondary)
+        } else {
+            None
+        }
+    }
+
+    /// Passes the labels that start before the character's end, and returns whether a primary one
+    /// has a byte of it.
+    pub fn has_primary(&mut self, metrics: Metrics) -> bool
+        requires some { 1 ≤ metrics.bytes }
+        requires passed { HasPassedLabels metrics.byte_index self.old }
+        ensures passed { HasPassedLabels (metrics.byte_index + metrics.bytes) self.new }
+        ensures labels { self.new.labels.now ≡ self.old.labels.now }
+        ensures primary { result
+            ≡ is_covered is_primary (single_label_views self.old.labels.now) metrics }
+    {
+        self.advance(metrics);
+        metrics.byte_index < self.primary_end
+    }
+
+    /// Passes a label: one without a byte is over no character.
+    fn pass(&mut self, label: &SingleLabel<'_>)
+        ensures primary { self.new.primary_end
+            ≡ end_with (is_primary (single_label_view label.now)) self.old.primary_end
+            (single_label_view label.now) }
+        ensures any { self.new.end ≡ end_with true self.old.end (single_label_view label.now) }
+        ensures labels { self.new.labels.now ≡ self.old.labels.now }
+        ensures next { self.new.next ≡ self.old.next }
+    {
+        if label.1.start < label.1.end {
+            self.end = self.end.max(label.1.end);
+            if label.0 == LabelStyle::Primary {
+                self.primary_end = self.primary_end.max(label.1.end);
+            }
+        }
+    }
+}
+
+/// A cursor over labels of a line that have messages or none, which passes a label once a character
+/// is under its start.
+#[derive(Clone, Copy)]
+pub struct StartCursor<'row, 'd> {
+    /// The labels, in the order of their starts.
+    labels: &'row [SingleLabel<'d>],
+    /// How many of them it has passed.
+    next: usize,
+}
+
+impl<'row, 'd> StartCursor<'row, 'd> {
+    /// Returns a cursor before the first label.
+    pub fn new(labels: &'row [SingleLabel<'d>]) -> StartCursor<'row, 'd>
+        requires { IsTrue (starts_in_order (single_label_views labels.now)) }
+        ensures passed { HasPassed 0 result }
+        ensures labels { result.labels.now ≡ labels.now }
+    {
+        StartCursor { labels, next: 0 }
+    }
+
+    /// Passes the labels that start before the character's end, and returns the best style of
+    /// `found` and of those with a message that start in it.
+    pub fn best_start(&mut self, found: Option<LabelStyle>, metrics: Metrics) -> Option<LabelStyle>
+        requires some { 1 ≤ metrics.bytes }
+        requires passed { HasPassed metrics.byte_index self.old }
+        ensures passed { HasPassed (metrics.byte_index + metrics.bytes) self.new }
+        ensures labels { self.new.labels.now ≡ self.old.labels.now }
+        ensures best { result ≡ best_from (starts_in metrics) found
+            (filter has_message (single_label_views self.old.labels.now)) }
+    {
+        let labels = self.labels;
+        let mut best = found;
+        while self.next < labels.len() && begins_by(&labels[self.next], metrics) {
+            let label = &labels[self.next];
+            if !label.2.is_empty() {
+                best = better(best, label.0);
+            }
+            self.next += 1;
+        }
+        best
+    }
+}
+
+/// Returns whether the label starts before the character's end.
+fn begins_by(label: &SingleLabel<'_>, metrics: Metrics) -> bool
+    requires { 1 ≤ metrics.bytes }
+    ensures { result ≡ nat_lt (single_label_view label.now).start
+        (metrics.byte_index + metrics.bytes) }
+{
+    label.1.start.saturating_sub(metrics.byte_index) < metrics.bytes
+}

@@ -1,0 +1,106 @@
+//! The characters of a line and the pointers under them, in memory that serves many lines.
+
+ghost use Rattle.std.specs.Prelude.{◌≡◌, IfOk, IsErrOf, IsTrue, OnErr};
+ghost use Rattle.codespan_picture.specs.Arguments.{single_label_views};
+ghost use Rattle.codespan_renderer.specs.Private.CachedMetrics.{AreCached, ReachesPast};
+ghost use Rattle.codespan_renderer.specs.Private.LabelCursors.{starts_in_order};
+ghost use Rattle.codespan_renderer.specs.Renderers.{config_of};
+
+use crate::term::renderer::Renderer;
+use crate::term::renderer::cached::cached_line::CachedLine;
+use crate::term::renderer::cached::cached_metrics::CachedMetrics;
+use crate::term::renderer::cached::pointers::{Pointer, find_pointers};
+use crate::term::renderer::cached::reach::reach_of;
+use crate::term::renderer::char_metrics::{CharMetrics, Metrics};
+use crate::term::renderer::line::Line;
+use crate::term::renderer::messages::Messages;
+use codespan_base::files::Error;
+use codespan_base::term::WriteStyle;
+use std::alloc::Global;
+
+/// The characters of a line and the pointers under them, cached for all its rows.
+///
+/// One value serves many lines, so that its memory is allocated once.
+#[derive(Drop)]
+pub struct LineMetrics {
+    /// The first characters, from left to right, as far as the rows reach.
+    cached: Vec<Metrics>,
+    /// The pointers under those from which labels hang.
+    pointers: Vec<Pointer>,
+}
+
+impl LineMetrics {
+    /// Returns an empty cache. It allocates nothing.
+    pub fn new(alloc: Global) -> LineMetrics {
+        LineMetrics {
+            cached: Vec::new(alloc),
+            pointers: Vec::new(alloc),
+        }
+    }
+
+    /// Replaces the cached characters and pointers by those of a line, as far as its rows need
+    /// them. Nothing is allocated for a line that has neither labels nor underlines.
+    ///
+    /// # Errors
+    ///
+    /// `OutOfMemory` where an allocation fails.
+    #[inline(always)]
+    pub fn take_line<'char_metrics, 'row, 'd, W: WriteStyle>(
+        &'char_metrics mut self,
+        renderer: &Renderer<'_, '_, W>,
+        line: Line<'row, 'd>,
+    ) -> Result<CachedLine<'char_metrics, 'row, 'd>, Error>
+        requires ordered { IsTrue (starts_in_order (single_label_views line.labels.now)) }
+        ensures line { IfOk result (λ cached. cached.line ≡ line.entry) }
+        ensures tab_width { IfOk result (λ cached. cached.tab_width
+            ≡ (config_of renderer.now).tab_width) }
+        ensures failed { OnErr result (IsErrOf result Error.OutOfMemory) }
+    {
+        let tab_width = renderer.config.tab_width;
+        let rest = cache_metrics(&mut self.cached, line.text, tab_width, reach_of(line))?;
+        let characters = CachedMetrics {
+            cached: self.cached.as_slice(),
+            rest: rest.fork(false),
+        };
+        let messages = Messages::of(line.labels);
+        find_pointers(&mut self.pointers, tab_width, line, messages, characters)?;
+        Ok(CachedLine {
+            tab_width,
+            line,
+            cached: self.cached.as_slice(),
+            rest,
+            pointers: self.pointers.as_slice(),
+        })
+    }
+}
+
+/// Replaces the cached characters by those of a text, up to the first one that begins past the
+/// reach, and returns the scan of those after it. Without a reach none is cached.
+///
+/// # Errors
+///
+/// `OutOfMemory` where an allocation fails.
+#[inline(always)]
+fn cache_metrics<'row>(
+    cached: &mut Vec<Metrics>,
+    text: &'row str,
+    tab_width: usize,
+    reach: Option<usize>,
+) -> Result<CharMetrics<'row>, Error>
+    ensures cached { IfOk result (λ rest. AreCached tab_width text.now cached.new.items rest) }
+    ensures past { IfOk result (λ rest. ReachesPast reach rest) }
+    ensures failed { OnErr result (IsErrOf result Error.OutOfMemory) }
+{
+    cached.clear();
+    let mut rest = CharMetrics::new(text, tab_width);
+    if let Some(reach) = reach {
+        cached.reserve(reach.saturating_add(2).min(text.len()))?;
+        while let Some(metrics) = rest.next_character() {
+            cached.push(metrics)?;
+            if metrics.byte_index > reach {
+                return Ok(rest);
+            }
+        }
+    }
+    Ok(rest)
+}

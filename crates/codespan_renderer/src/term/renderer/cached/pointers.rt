@@ -1,0 +1,119 @@
+//! The pointers under the carets of a line, cached for its pointer row and its hanging messages.
+
+ghost use Rattle.std.specs.Prelude.{◌≡◌, ◌+◌, ◌^◌, ◌++◌, ◌<◌, ◌≤◌, IfOk, IsErrOf, IsTrue, OnErr};
+ghost use Rattle.codespan_base.specs.Streams.{newline};
+ghost use Rattle.codespan_base.specs.WriterLaw.{Writes};
+ghost use Rattle.codespan_picture.specs.CharMetrics.{char_metrics, width_of};
+ghost use Rattle.codespan_picture.specs.Arguments.{single_label_view, single_label_views};
+ghost use Rattle.codespan_renderer.specs.Private.LineViews.{context_view, line_view};
+ghost use Rattle.codespan_renderer.specs.Private.RowViews.{line_metrics_view, hanging_stream_view, hanging_rows_view, messages_view, pointers_view};
+ghost use Rattle.codespan_renderer.specs.Private.CachedMetrics.{cached_left};
+ghost use Rattle.codespan_renderer.specs.Private.PointerLists.{pointer_under, pointers_in, pointers_before, spaced};
+ghost use Rattle.codespan_picture.specs.Rows.{hanging};
+ghost use Rattle.codespan_picture.specs.RowParts.{metrics_before, metrics_up_to, greatest_start, pointers};
+ghost use Rattle.codespan_picture.specs.RowStreams.{pointer_row, hanging_row};
+ghost use Rattle.codespan_renderer.specs.Private.Runs.{AreHanging, ArePieces};
+ghost use Rattle.codespan_renderer.specs.Private.LabelCursors.{starts_in_order};
+
+use crate::term::renderer::SingleLabel;
+use crate::term::renderer::cached::cached_metrics::CachedMetrics;
+use crate::term::renderer::cached::label_cursor::StartCursor;
+use crate::term::renderer::carets::write_message;
+use crate::term::renderer::char_metrics::Metrics;
+use crate::term::renderer::line::{Line, RowContext};
+use crate::term::renderer::messages::Messages;
+use crate::term::renderer::parts::{write_newline, write_row_start};
+use crate::term::renderer::pointers::{caret_pointer, greatest_start, has_any_message};
+use crate::term::renderer::runs::write_spaces;
+use codespan_base::diagnostic::LabelStyle;
+use codespan_base::files::Error;
+use codespan_base::term::config::put_style::PutStyle;
+
+/// A character from which labels hang.
+#[derive(Clone, Copy, Debug)]
+pub struct Pointer {
+    /// The byte index in the line at which the character begins.
+    pub byte_index: usize,
+    /// The cell of the pointer: the first one of the character.
+    pub column: u128,
+    /// The cell after the pointer: the next one, or the same where the character owns none.
+    pub after: u128,
+    /// The best style of the labels that hang from it.
+    pub style: LabelStyle,
+}
+
+/// Writes the pointers of the characters that begin before a byte index, with spaces between them
+/// and up to the column `edge`.
+#[inline(always)]
+pub fn write_spaced<W: PutStyle>(
+    w: &mut W,
+    context: RowContext<'_>,
+    found: &[Pointer],
+    before: usize,
+    edge: u128,
+) -> Result<(), W::Error>
+    ensures { Writes (W.sink w.old)
+        (spaced (context_view context.entry) edge 0 (pointers_before before found.now))
+        result (W.sink w.new) }
+{
+    let mut column = 0u128;
+    for pointer in found {
+        if pointer.byte_index < before {
+            let pending = pointer.column.saturating_sub(column);
+            caret_pointer(w, context, pending, pointer.style)?;
+            column = pointer.after;
+        }
+    }
+    write_spaces(w, edge.saturating_sub(column))
+}
+
+/// Replaces the pointers by those of the labels of a line that hang. If none hangs, no character is
+/// read. Fails with `OutOfMemory`.
+#[inline(always)]
+pub fn find_pointers(
+    pointers: &mut Vec<Pointer>,
+    tab_width: usize,
+    line: Line<'_, '_>,
+    messages: Messages<'_, '_>,
+    characters: CachedMetrics<'_, '_>,
+) -> Result<(), Error>
+    requires hanging { AreHanging line.labels.now messages.before.now messages.after.now }
+    requires before { IsTrue (starts_in_order (single_label_views messages.before.now)) }
+    requires after { IsTrue (starts_in_order (single_label_views messages.after.now)) }
+    requires characters { cached_left characters ≡ char_metrics tab_width line.text.now }
+    ensures found { IfOk result (λ _. pointers.new.items
+        ≡ pointers_in (hanging (single_label_views line.entry.labels.now))
+        (char_metrics tab_width line.entry.text.now)) }
+    ensures failed { OnErr result (IsErrOf result Error.OutOfMemory) }
+{
+    pointers.clear();
+    if !has_any_message(messages.before) && !has_any_message(messages.after) {
+        return Ok(());
+    }
+    let mut before = StartCursor::new(messages.before);
+    let mut after = StartCursor::new(messages.after);
+    let last = greatest_start(line.labels);
+    for metrics in characters {
+        if metrics.byte_index > last {
+            return Ok(());
+        }
+        let early = before.best_start(None, metrics);
+        if let Some(style) = after.best_start(early, metrics) {
+            pointers.push(pointer_under(metrics, style))?;
+        }
+    }
+    Ok(())
+}
+
+/// Returns the pointer under a character.
+fn pointer_under(metrics: Metrics, style: LabelStyle) -> Pointer
+    requires { metrics.column + metrics.width < 2 ^ 128 }
+    ensures { result ≡ pointer_under metrics style }
+{
+    Pointer {
+        byte_index: metrics.byte_index,
+        column: metrics.column,
+        after: metrics.column + metrics.width.min(1) as u128,
+        style,
+    }
+}

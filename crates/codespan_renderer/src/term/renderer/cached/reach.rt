@@ -1,0 +1,46 @@
+//! How far the rows under a line reach into its text.
+
+ghost use Rattle.std.specs.Prelude.{◌≡◌, map};
+ghost use Rattle.codespan_picture.specs.Arguments.{lane_mark_view, multi_label_view, single_label_views};
+ghost use Rattle.codespan_renderer.specs.Private.CachedMetrics.{farther, farther_lane_mark, reach_of};
+
+use crate::term::renderer::MultiLabel;
+use crate::term::renderer::line::Line;
+
+/// Returns the greatest byte index that a row under the line needs: the greatest start or end of
+/// its labels, and of what underlines have; `None` where it has neither labels nor underlines.
+pub fn reach_of(line: Line<'_, '_>) -> Option<usize>
+    ensures { result ≡ reach_of (single_label_views line.entry.labels.now)
+        (map lane_mark_view line.entry.lanes.marks.now) }
+{
+    let mut reach = None;
+    for label in line.labels {
+        reach = farther(farther(reach, label.1.start), label.1.end);
+    }
+    for lane_mark in line.lanes.marks {
+        reach = farther_lane_mark(reach, lane_mark.2);
+    }
+    reach
+}
+
+/// Returns the greater of a reach and the byte index that the underline of a multi-line label mark
+/// needs.
+fn farther_lane_mark(reach: Option<usize>, part: MultiLabel<'_>) -> Option<usize>
+    ensures { result ≡ farther_lane_mark reach (multi_label_view part.entry) }
+{
+    match part {
+        MultiLabel::Top(start) => farther(reach, start),
+        MultiLabel::Left => reach,
+        MultiLabel::Bottom(end, _) => farther(reach, end),
+    }
+}
+
+/// Returns the greater of a reach and a byte index.
+fn farther(reach: Option<usize>, byte_index: usize) -> Option<usize>
+    ensures { result ≡ farther reach byte_index }
+{
+    match reach {
+        Some(reach) => Some(reach.max(byte_index)),
+        None => Some(byte_index),
+    }
+}

@@ -1,0 +1,176 @@
+//! The characters of a rendered line and the cells that they own.
+
+ghost use Rattle.std.specs.Prelude.{◌≡◌, ◌+◌, ◌*◌, ◌^◌, ◌<◌, ◌≤◌, length, drop, unwrap_or, false};
+ghost use Rattle.std.specs.Str.{IsUtf8};
+ghost use Rattle.std.specs.Str.Iter.{chars_rest};
+ghost use Rattle.codespan_picture.specs.CharMetrics.{width_at};
+
+pub use codespan_picture::char_metrics::Metrics;
+use std::str::Chars;
+use unicode_width::UnicodeWidthChar;
+
+/// An iterator over the characters of a line, from left to right; by [`CharMetrics::to_end`] also
+/// over the position after the last one, which counts as one more character of one byte and one
+/// cell.
+#[derive(Drop)]
+pub struct CharMetrics<'text> {
+    text: &'text str,
+    chars: Chars<'text>,
+    tab_width: usize,
+    byte_index: usize,
+    column: u128,
+    to_end: bool,
+    ghost left: { chars_rest chars ≡ drop byte_index text.now },
+    ghost utf8: { ∥ IsUtf8 (chars_rest chars) ∥₁ },
+    ghost within: { byte_index ≤ length text.now },
+    ghost narrow: { column ≤ byte_index * 2 ^ 64 },
+}
+
+impl<'text> CharMetrics<'text> {
+    ghost use Rattle.std.specs.Prelude.{true};
+    ghost use Rattle.codespan_picture.specs.CharMetrics.{char_metrics, char_metrics_to_end, metrics_then, width_of};
+    ghost use Rattle.codespan_picture.specs.RowParts.{metrics_up_to};
+    ghost use Rattle.codespan_renderer.specs.Private.MetricsLeft.{Afters, YieldsCharacter, metrics_from, metrics_left, no_more};
+    ghost use Rattle.std.specs.Str.{chars};
+
+    /// Returns a scan of the characters of the line alone.
+    pub fn new(text: &'text str, tab_width: usize) -> CharMetrics<'text>
+        ensures whole { (after : Afters) → metrics_from after result
+            ≡ metrics_then after tab_width 0 0 (chars text.now) }
+        ensures char_metrics { metrics_left result ≡ char_metrics tab_width text.now }
+        ensures text { result.text.now ≡ text.now }
+        ensures byte_index { result.byte_index ≡ 0 }
+        ensures utf8 { ∥ IsUtf8 text.now ∥₁ }
+    {
+        CharMetrics {
+            text,
+            chars: text.chars(),
+            tab_width,
+            byte_index: 0,
+            column: 0,
+            to_end: false,
+        }
+    }
+
+    /// Returns a scan of the characters of the line, and the position after the last one.
+    pub fn to_end(text: &'text str, tab_width: usize) -> CharMetrics<'text>
+        ensures char_metrics { metrics_left result ≡ char_metrics_to_end tab_width text.now }
+        ensures utf8 { ∥ IsUtf8 text.now ∥₁ }
+    {
+        CharMetrics {
+            text,
+            chars: text.chars(),
+            tab_width,
+            byte_index: 0,
+            column: 0,
+            to_end: true,
+        }
+    }
+
+    /// Returns another scan that goes on where this one is. After the last character it yields the
+    /// position there where `to_end` is set.
+    #[inline(always)]
+    pub fn fork(&self, to_end: bool) -> CharMetrics<'text>
+        ensures same { (after : Afters) → metrics_from after result ≡ metrics_from after self.now }
+        ensures end { result.to_end ≡ to_end }
+        ensures byte_index { result.byte_index ≡ self.now.byte_index }
+        ensures column { result.column ≡ self.now.column }
+    {
+        CharMetrics {
+            text: self.text,
+            chars: self.chars.as_str().chars(),
+            tab_width: self.tab_width,
+            byte_index: self.byte_index,
+            column: self.column,
+            to_end,
+        }
+    }
+
+    /// Returns the next character, or `None` after the last one.
+    #[inline(always)]
+    pub fn next_character(&mut self) -> Option<Metrics>
+        ensures yields { YieldsCharacter self.old result self.new }
+        ensures end { self.new.to_end ≡ self.old.to_end }
+    {
+        let left = self.chars.as_str().len();
+        match self.chars.next() {
+            Some(code) => {
+                let metrics = Metrics {
+                    code,
+                    byte_index: self.byte_index,
+                    bytes: left - self.chars.as_str().len(),
+                    column: self.column,
+                    width: width_at(self.tab_width, self.column, code),
+                };
+                self.byte_index += metrics.bytes;
+                self.column += metrics.width as u128;
+                Some(metrics)
+            }
+            None => None,
+        }
+    }
+
+    /// Returns the column after those of the remaining characters that begin at this byte index or
+    /// before it.
+    pub fn column_past(&self, byte_index: usize) -> u128
+        ensures { result
+            ≡ self.now.column + width_of
+            (metrics_up_to byte_index (metrics_from no_more self.now)) }
+    {
+        let mut scan = self.fork(false);
+        while let Some(metrics) = scan.next_character() {
+            if metrics.byte_index > byte_index {
+                return metrics.column;
+            }
+        }
+        scan.column
+    }
+}
+
+/// Returns how many cells a character takes at a column, counted from 0: a tab as many as there are
+/// up to the next tab stop, any other character its width by `unicode_width`, or 0 where that is
+/// `None`. Printable ASCII takes one cell each, and is tested first, since most text is of it.
+#[inline(always)]
+fn width_at(tab_width: usize, column: u128, c: char) -> usize
+    ensures { result ≡ width_at tab_width column c }
+{
+    if matches!(c, ' '..='~') {
+        return 1;
+    }
+    if c != '\t' {
+        return c.width().unwrap_or(0);
+    }
+    if tab_width == 0 {
+        return 0;
+    }
+    tab_width - (column % tab_width as u128) as usize
+}
+
+impl<'text> Iterator for CharMetrics<'text> {
+    ghost use Rattle.std.specs.Iterator.{YieldsFirst, item_count};
+    ghost use Rattle.codespan_renderer.specs.Private.MetricsLeft.{metrics_left};
+
+    type Item = Metrics;
+
+    ghost next_gives = { YieldsFirst metrics_left };
+
+    ghost remaining = { item_count metrics_left };
+
+    #[inline(always)]
+    fn next(&mut self) -> Option<Metrics> {
+        match self.next_character() {
+            Some(metrics) => Some(metrics),
+            None if self.to_end => {
+                self.to_end = false;
+                Some(Metrics {
+                    code: ' ',
+                    byte_index: self.byte_index,
+                    bytes: 1,
+                    column: self.column,
+                    width: 1,
+                })
+            }
+            None => None,
+        }
+    }
+}

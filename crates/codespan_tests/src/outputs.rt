@@ -1,0 +1,11 @@
+//! Tests of the public calls whose texts are in no table of `writer_runs`.
+
+mod endless;
+mod failures;
+mod flushing;
+mod label_orders;
+mod listing;
+mod longest_file;
+mod other_files;
+mod rendering;
+mod styles;

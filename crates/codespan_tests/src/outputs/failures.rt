@@ -1,0 +1,297 @@
+//! Rendering that fails.
+
+use crate::outputs::listing::{Failed, Listing};
+use crate::outputs::rendering::assert_view_writes;
+use codespan_reporting::diagnostic::{Diagnostic, Label};
+use codespan_reporting::files::{Error, Files, SimpleFile};
+use codespan_reporting::term::{
+    Config, Layout, PlainWriter, Renderer, RichDiagnostic, emit_into_string,
+};
+use std::alloc::Global;
+use std::fmt::Display;
+use std::io::{ErrorKind, Write};
+use std::process::Abort;
+use std::test::Fail;
+use std::{fmt, io};
+
+/// A lookup of a [`Listing`].
+#[derive(Clone, Copy)]
+enum LookupCall {
+    Name,
+    Source,
+    Location(usize),
+    LineIndex(usize),
+    LineNumber(usize),
+    LineRange(usize),
+}
+
+impl LookupCall {
+    /// Returns these failures and that of this lookup. With the line of a byte those of later bytes
+    /// fail too.
+    fn failed_beside(self, failed: Failed) -> Failed {
+        match self {
+            LookupCall::Name => Failed {
+                name: true,
+                ..failed
+            },
+            LookupCall::Source => Failed {
+                source: true,
+                ..failed
+            },
+            LookupCall::Location(_) => Failed {
+                location: true,
+                ..failed
+            },
+            LookupCall::LineIndex(byte) => Failed {
+                line_index: Some(byte),
+                ..failed
+            },
+            LookupCall::LineNumber(line) => Failed {
+                line_number: Some(line),
+                ..failed
+            },
+            LookupCall::LineRange(line) => Failed {
+                line_range: Some(line),
+                ..failed
+            },
+        }
+    }
+
+    /// Returns whether the error is that of this lookup.
+    fn is_known(self, returned: &Result<(), Error>) -> bool {
+        let numbers = match self {
+            LookupCall::Name => (1, 0),
+            LookupCall::Source => (2, 0),
+            LookupCall::Location(byte) => (3, byte),
+            LookupCall::LineIndex(byte) => (4, byte),
+            LookupCall::LineNumber(line) => (5, line),
+            LookupCall::LineRange(line) => (6, line),
+        };
+        match returned {
+            Err(Error::ColumnTooLarge { given, max }) => (*given, *max) == numbers,
+            _ => false,
+        }
+    }
+}
+
+/// The error of a failed lookup is returned before anything is written; that of the source, after
+/// the header.
+#[test]
+fn failed_lookups(rt: HostRuntime) -> Result<(), Fail> {
+    let alloc = rt.alloc();
+    let cases = [
+        (LookupCall::LineIndex(0), ""),
+        (LookupCall::LineIndex(1), ""),
+        (LookupCall::LineRange(0), ""),
+        (LookupCall::LineNumber(0), ""),
+        (LookupCall::Name, ""),
+        (LookupCall::Location(0), ""),
+        (LookupCall::Source, "error: \n"),
+    ];
+    let config = Config::default();
+    let diagnostic = Diagnostic::error(alloc).with_label(Label::primary(alloc, (), 0..1))?;
+    for (lookup, prefix) in cases {
+        let failed = lookup.failed_beside(Failed::default());
+        let files = Listing::new(alloc, "f", "ab", failed)?;
+        let view = RichDiagnostic::new(&diagnostic, &config);
+        let returned = assert_view_writes(&rt, alloc, &config, view, &files, prefix)?;
+        assert!(rt; lookup.is_known(&returned));
+        let returned = emit_into_string(&config, &files, &diagnostic).map(|_| ());
+        assert!(rt; lookup.is_known(&returned));
+    }
+    Ok(())
+}
+
+/// Returns, in their order, the lookups of a label over the lines 1 to 3, of one inside line 7, and
+/// of the line 5, which is filled in between those around them.
+fn lookups_in_order(alloc: Global, layout: Layout) -> Result<Vec<LookupCall>, Error> {
+    let mut order = Vec::new(alloc);
+    for (start, end, lines) in [(2, 7, 0..5), (14, 15, 6..9)] {
+        order.push(LookupCall::LineIndex(start))?;
+        order.push(LookupCall::LineIndex(end))?;
+        for line in lines {
+            order.push(LookupCall::LineRange(line))?;
+            order.push(LookupCall::LineNumber(line))?;
+        }
+    }
+    if matches!(layout, Layout::Unbroken) {
+        order.push(LookupCall::LineNumber(5))?;
+    }
+    order.push(LookupCall::Name)?;
+    order.push(LookupCall::Location(2))?;
+    order.push(LookupCall::Source)?;
+    order.push(LookupCall::LineRange(5))?;
+    if matches!(layout, Layout::Classic) {
+        order.push(LookupCall::LineNumber(5))?;
+    }
+    Ok(order)
+}
+
+/// Returns what is written before this lookup of those.
+fn written_before(lookup: LookupCall, layout: Layout) -> &'static str {
+    let lines_before = "error: \n\
+                        \x20 ┌─ f:1:1\n\
+                        \x20 │  \n\
+                        0 │   a\n\
+                        1 │ ╭ b\n\
+                        2 │ │ c\n\
+                        3 │ │ d\n\
+                        \x20 │ ╰─^\n\
+                        4 │   e\n";
+    match lookup {
+        LookupCall::Source => "error: \n",
+        LookupCall::LineRange(5) => lines_before,
+        LookupCall::LineNumber(5) if matches!(layout, Layout::Classic) => lines_before,
+        _ => "",
+    }
+}
+
+/// Of two lookups that fail the first one's error is returned. Each lookup of an output fails in
+/// turn, together with the next one.
+#[test]
+fn first_error(rt: HostRuntime) -> Result<(), Fail> {
+    let alloc = rt.alloc();
+    let diagnostic = Diagnostic::error(alloc)
+        .with_label(Label::primary(alloc, (), 2..7))?
+        .with_label(Label::primary(alloc, (), 14..15))?;
+    for layout in [Layout::Classic, Layout::Unbroken] {
+        let config = Config {
+            before_label_lines: 1,
+            after_label_lines: 1,
+            layout,
+            ..Config::default()
+        };
+        let order = lookups_in_order(alloc, layout)?;
+        for (position, first) in order.iter().enumerate() {
+            let next = order.get(position + 1).unwrap_or(first);
+            let failed = first.failed_beside(next.failed_beside(Failed::default()));
+            let files = Listing::new(alloc, "f", "a\nb\nc\nd\ne\nf\ng\nh\ni", failed)?;
+            let view = RichDiagnostic::new(&diagnostic, &config);
+            let prefix = written_before(*first, layout);
+            let returned = assert_view_writes(&rt, alloc, &config, view, &files, prefix)?;
+            assert!(rt; first.is_known(&returned), "{position}");
+        }
+    }
+    Ok(())
+}
+
+/// The number of a filled line is looked up with the line in the classic layout, and before the
+/// header in the unbroken one.
+#[test]
+fn failed_number_of_filled_line(rt: HostRuntime) -> Result<(), Fail> {
+    let alloc = rt.alloc();
+    let lookup = LookupCall::LineNumber(1);
+    let failed = lookup.failed_beside(Failed::default());
+    let files = Listing::new(alloc, "f", "a\nb\nc", failed)?;
+    let diagnostic = Diagnostic::error(alloc)
+        .with_label(Label::primary(alloc, (), 0..1))?
+        .with_label(Label::primary(alloc, (), 4..5))?;
+    let cases = [
+        (Layout::Classic, "error: \n  ┌─ f:0:1\n  │\n0 │ a\n  │ ^\n"),
+        (Layout::Unbroken, ""),
+    ];
+    for (layout, prefix) in cases {
+        let config = Config {
+            layout,
+            ..Config::default()
+        };
+        let view = RichDiagnostic::new(&diagnostic, &config);
+        let returned = assert_view_writes(&rt, alloc, &config, view, &files, prefix)?;
+        assert!(rt; lookup.is_known(&returned));
+    }
+    Ok(())
+}
+
+/// A name whose `Display` fails.
+#[derive(Clone, Copy, Drop)]
+struct Unprintable;
+
+impl Display for Unprintable {
+    fn fmt<W: fmt::Write>(&self, f: &mut fmt::Formatter<W>) -> fmt::Result {
+        f.write_str("ab")?;
+        Err(fmt::Error)
+    }
+}
+
+/// A name whose `Display` fails leads to `FormatError`, and nothing is written.
+#[test]
+fn unprintable_name(rt: HostRuntime) -> Result<(), Fail> {
+    let files = SimpleFile::new(rt.alloc(), Unprintable, "ab")?;
+    let diagnostic = Diagnostic::error(rt.alloc()).with_label(Label::primary(
+        rt.alloc(),
+        (),
+        0..1,
+    ))?;
+    let config = Config::default();
+    let view = RichDiagnostic::new(&diagnostic, &config);
+    let returned = assert_view_writes(&rt, rt.alloc(), &config, view, &files, "")?;
+    assert!(rt; matches!(returned, Err(Error::FormatError)));
+    let returned = emit_into_string(&config, &files, &diagnostic);
+    assert!(rt; matches!(returned, Err(Error::FormatError)));
+    Ok(())
+}
+
+/// A writer that takes at most three bytes at a time, and fails after so many writes.
+#[derive(Drop)]
+struct Stopping {
+    text: Vec<u8>,
+    writes_left: usize,
+}
+
+impl Write for Stopping {
+    fn write(&mut self, buf: &[u8]) -> io::Result<usize> {
+        if self.writes_left == 0 {
+            return Err(io::Error::from(ErrorKind::Interrupted));
+        }
+        self.writes_left -= 1;
+        let count = buf.len().min(3);
+        self.text.extend_from_slice(&buf[..count])?;
+        Ok(count)
+    }
+
+    fn flush(&mut self) -> io::Result<()> {
+        Ok(())
+    }
+}
+
+/// Renders to a writer that fails after so many writes, and returns whether the whole output was
+/// written. If it was not, the error is `Io`, and the writer has a prefix of it.
+fn is_whole_after(
+    rt: &impl Abort,
+    alloc: Global,
+    config: &Config<'_>,
+    diagnostic: &Diagnostic<()>,
+    writes: usize,
+) -> Result<bool, Error> {
+    let files = SimpleFile::new(alloc, "f", "ab")?;
+    let mut plain = PlainWriter::new(Stopping {
+        text: Vec::new(alloc),
+        writes_left: writes,
+    });
+    let mut renderer = Renderer::new(&mut plain, config);
+    let returned = RichDiagnostic::new(diagnostic, config).render(&files, &mut renderer);
+    let text = plain.into_inner().text;
+    let whole = "error: m\n  ┌─ f:1:1\n  │\n1 │ ab\n  │ ^ x\n\n".as_bytes();
+    assert!(rt; whole.starts_with(text.as_slice()));
+    let is_whole = text.len() == whole.len();
+    match returned {
+        Ok(()) => assert!(rt; is_whole),
+        Err(error) => assert!(rt; !is_whole && matches!(error, Error::Io(_))),
+    }
+    Ok(is_whole)
+}
+
+#[test]
+fn writer_that_stops(rt: HostRuntime) -> Result<(), Fail> {
+    let alloc = rt.alloc();
+    let config = Config::default();
+    let diagnostic = Diagnostic::error(alloc)
+        .with_message("m")?
+        .with_label(Label::primary(alloc, (), 0..1).with_message("x")?)?;
+    for writes in 0..100 {
+        is_whole_after(&rt, alloc, &config, &diagnostic, writes)?;
+    }
+    assert!(rt; !is_whole_after(&rt, alloc, &config, &diagnostic, 20)?);
+    assert!(rt; is_whole_after(&rt, alloc, &config, &diagnostic, 100)?);
+    Ok(())
+}

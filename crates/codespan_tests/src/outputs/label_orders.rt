@@ -1,0 +1,79 @@
+//! An output of many labels, in three orders.
+
+use crate::outputs::rendering::assert_view_writes;
+use codespan_reporting::diagnostic::{Diagnostic, Label, LabelStyle};
+use codespan_reporting::files::{Error, SimpleFile};
+use codespan_reporting::term::{Config, RichDiagnostic, emit_into_string};
+use std::alloc::Global;
+use std::test::Fail;
+
+/// Returns the text: fifty equal lines.
+fn source_of(alloc: Global) -> Result<String, Error> {
+    let mut source = String::new(alloc);
+    for _ in 0..50 {
+        source.push_str("abcdefgh\n")?;
+    }
+    Ok(source)
+}
+
+/// Returns a label on the line that its index says, with its index as its message. Those of a line
+/// have ranges that overlap.
+fn label_of(alloc: Global, position: usize) -> Result<Label<()>, Error> {
+    let style = if position % 2 == 0 {
+        LabelStyle::Primary
+    } else {
+        LabelStyle::Secondary
+    };
+    let start = position % 50 * 9 + position / 50;
+    Label::new(alloc, style, (), start..start + 2).with_message(format_args!("m{position}"))
+}
+
+/// Returns the output: on each line its labels hang from the last to the first.
+fn output(alloc: Global) -> Result<String, Error> {
+    let mut text = String::new(alloc);
+    text.push_str("error: \n   ┌─ f:1:1\n   │\n")?;
+    for line in 0..50_usize {
+        let carets = if line % 2 == 0 { "^^^^^" } else { "-----" };
+        let rows = format!(in alloc;
+            "{:>2} │ abcdefgh\n   │ {carets}\n   │ ││││\n   │ │││m{}\n   │ ││m{}\n   │ │m{}\n   │ m{}\n",
+            line + 1,
+            line + 150,
+            line + 100,
+            line + 50,
+            line,
+        )?;
+        text.push_str(rows.as_str())?;
+    }
+    text.push('\n')?;
+    Ok(text)
+}
+
+/// In the order of their indices, in reverse order, and odd ones before even ones.
+fn position_at(order: usize, index: usize) -> usize {
+    match order {
+        0 => index,
+        1 => 199_usize.saturating_sub(index),
+        _ => index % 100 * 2 + (index < 100) as usize,
+    }
+}
+
+#[test]
+fn label_orders(rt: HostRuntime) -> Result<(), Fail> {
+    let alloc = rt.alloc();
+    let source = source_of(alloc)?;
+    let files = SimpleFile::new(alloc, "f", source.as_str())?;
+    let expected = output(alloc)?;
+    let config = Config::default();
+    for order in 0..3 {
+        let mut diagnostic = Diagnostic::error(alloc);
+        for index in 0..200 {
+            let label = label_of(alloc, position_at(order, index))?;
+            diagnostic = diagnostic.with_label(label)?;
+        }
+        let text = emit_into_string(&config, &files, &diagnostic)?;
+        assert_eq!(rt; text.as_str(), expected.as_str(), "order {order}");
+        let view = RichDiagnostic::new(&diagnostic, &config);
+        assert_view_writes(&rt, alloc, &config, view, &files, expected.as_str())??;
+    }
+    Ok(())
+}

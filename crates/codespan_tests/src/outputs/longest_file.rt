@@ -1,0 +1,104 @@
+//! A file that has a line for each index, so that contexts meet the greatest one.
+
+ghost use Rattle.std.specs.Prelude.{refl};
+
+use crate::outputs::rendering::assert_view_writes;
+use codespan_reporting::diagnostic::{Diagnostic, Label};
+use codespan_reporting::files::{Error, Files, Location};
+use codespan_reporting::term::{Config, Layout, RichDiagnostic};
+use std::ops::Range;
+use std::test::Fail;
+
+/// A text of newlines that is as long as a text can be. Its lines are empty and numbered by their
+/// indices, and its source fails.
+#[derive(Drop)]
+struct LongestFile<'text> {
+    name: &'text str,
+}
+
+impl<'a, 'text: 'a> Files<'a> for LongestFile<'text> {
+    ghost use Rattle.codespan_tests.specs.LongestFiles.{longest_file, longest_failure, longest_lawful, longest_past_end};
+
+    type FileId = ();
+
+    type Name = &'text str;
+
+    type Source = &'text str;
+
+    ghost database = { λ s. record {
+      same = ⟦<() as PartialEq>⟧.eq;
+      file = λ _. longest_file s.name.now;
+      failure = λ _. longest_failure;
+    } };
+
+    fn name(&'a self, _id: ()) -> Result<&'text str, Error> {
+        Ok(self.name)
+    }
+
+    fn source(&'a self, _id: ()) -> Result<&'text str, Error> {
+        Err(Error::FileMissing)
+    }
+
+    #[tactic(auto, using(crate::specs::LongestFiles::longest_lines))]
+    fn line_index(&'a self, _id: (), byte_index: usize) -> Result<usize, Error> {
+        Ok(byte_index)
+    }
+
+    fn line_number(&'a self, _id: (), line_index: usize) -> Result<usize, Error> {
+        Ok(line_index)
+    }
+
+    fn column_number(
+        &'a self,
+        _id: (),
+        _line_index: usize,
+        _byte_index: usize,
+    ) -> Result<usize, Error> {
+        Ok(1)
+    }
+
+    fn location(&'a self, _id: (), byte_index: usize) -> Result<Location, Error> {
+        Ok(Location {
+            line_number: byte_index,
+            column_number: 1,
+        })
+    }
+
+    #[tactic(auto, using(crate::specs::LongestFiles::longest_lines))]
+    fn line_range(&'a self, _id: (), line_index: usize) -> Result<Range<usize>, Error> {
+        Ok(line_index..line_index)
+    }
+
+    ghost lawful = { λ s _. longest_lawful s.name.now };
+
+    ghost same_file = { λ s i j e. (refl, refl) };
+
+    ghost same_is = { λ s. refl };
+
+    ghost past_end = { λ s _ i. longest_past_end s.name.now i };
+}
+
+/// A context ends with the greatest index, and rendering goes on: the header is written, and then
+/// the source is looked up.
+#[test]
+fn context_past_all_indices(rt: HostRuntime) -> Result<(), Fail> {
+    let alloc = rt.alloc();
+    let files = LongestFile { name: "f" };
+    let (position, last) = (usize::MAX - 3, usize::MAX);
+    let diagnostic = Diagnostic::error(alloc)
+        .with_label(Label::primary(alloc, (), position..position))?
+        .with_label(Label::secondary(alloc, (), last..last))?;
+    for layout in [Layout::Classic, Layout::Unbroken] {
+        for after_label_lines in [0, 3, 4, 5, usize::MAX] {
+            let config = Config {
+                after_label_lines,
+                layout,
+                ..Config::default()
+            };
+            let view = RichDiagnostic::new(&diagnostic, &config);
+            let returned = assert_view_writes(&rt, alloc, &config, view, &files, "error: \n")?;
+            assert!(rt; matches!(returned, Err(Error::FileMissing)));
+        }
+    }
+    Ok(())
+}

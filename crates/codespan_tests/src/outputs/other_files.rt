@@ -1,0 +1,110 @@
+//! A failed line number, a missing file, and a view and a renderer of two configurations.
+
+use crate::outputs::rendering::{assert_view_writes, files_of};
+use codespan_reporting::diagnostic::{Diagnostic, Label};
+use codespan_reporting::files::{Error, MappedFile, SimpleFile};
+use codespan_reporting::term::{
+    Chars, Config, Layout, PlainWriter, Renderer, RichDiagnostic, emit_into_string,
+};
+use std::alloc::Global;
+use std::process::Abort;
+use std::test::Fail;
+
+/// A context line whose number fails fails the call; it does not end the context.
+#[test]
+fn mapped_overflow(rt: HostRuntime) -> Result<(), Fail> {
+    let mut file = MappedFile::new(rt.alloc(), "m", "a\nb\nc\nd")?;
+    file.set_line(1, usize::MAX)?;
+    let label = Label::primary(rt.alloc(), (), 0..1);
+    let diagnostic = Diagnostic::error(rt.alloc()).with_label(label)?;
+    let config = Config {
+        after_label_lines: 2,
+        ..Config::default()
+    };
+    let failed = emit_into_string(&config, &file, &diagnostic);
+    assert!(rt; matches!(failed, Err(Error::LineTooLarge { given: 2, max: 1 })));
+    Ok(())
+}
+
+/// A missing file fails with its error, and nothing is written.
+#[test]
+fn missing_file(rt: HostRuntime) -> Result<(), Fail> {
+    let alloc = rt.alloc();
+    let files = files_of(alloc, &[("f", "ab")])?;
+    let diagnostic = Diagnostic::error(alloc)
+        .with_message("m")?
+        .with_label(Label::primary(alloc, 0, 0..1))?
+        .with_label(Label::primary(alloc, 7, 0..1))?;
+    let config = Config::default();
+    let failed = emit_into_string(&config, &files, &diagnostic);
+    assert!(rt; matches!(failed, Err(Error::FileMissing)));
+    let mut plain = PlainWriter::new(Vec::new(alloc));
+    let mut renderer = Renderer::new(&mut plain, &config);
+    let failed = RichDiagnostic::new(&diagnostic, &config).render(&files, &mut renderer);
+    assert!(rt; matches!(failed, Err(Error::FileMissing)));
+    assert!(rt; plain.into_inner().is_empty());
+    Ok(())
+}
+
+/// Renders a multi-line label where the configurations of the view and of the renderer differ in
+/// all that the output shows.
+fn assert_rendered_by_two(
+    rt: &impl Abort,
+    alloc: Global,
+    view_layout: Layout,
+    renderer_layout: Layout,
+    output: &str,
+) -> Result<(), Error> {
+    let renderer_config = Config {
+        chars: Chars::ascii(),
+        tab_width: 2,
+        layout: renderer_layout,
+        ..Config::default()
+    };
+    let view_config = Config {
+        start_context_lines: 1,
+        end_context_lines: 0,
+        before_label_lines: 1,
+        after_label_lines: 1,
+        layout: view_layout,
+        ..Config::default()
+    };
+    let file = SimpleFile::new(alloc, "f", "a\nb\nc\nd\n\tgh\ni\nj\nk\n\tl\nm")?;
+    let diagnostic = Diagnostic::error(alloc)
+        .with_label(Label::primary(alloc, (), 9..20).with_message("p")?)?
+        .with_label(Label::secondary(alloc, (), 10..11).with_message("q")?)?;
+    let view = RichDiagnostic::new(&diagnostic, &view_config);
+    assert_view_writes(rt, alloc, &renderer_config, view, &file, output)?
+}
+
+/// The view's configuration chooses the lines and the padding width; the renderer's chooses the
+/// characters, the tab stops and whether a lane goes on below its corner.
+#[test]
+fn two_configurations(rt: HostRuntime) -> Result<(), Fail> {
+    let unbroken_numbers = "error: \n\
+                            \x20  --> f:5:2\n\
+                            \x20  |  \n\
+                            \x204 |   d\n\
+                            \x205 | /   gh\n\
+                            \x20  |      - q\n\
+                            \x206 | | i\n\
+                            \x20  . |\n\
+                            \x209 | |   l\n\
+                            \x20  | \\---^ p\n\
+                            10 |   m\n\n";
+    let unbroken_lanes = "error: \n\
+                          \x20 --> f:5:2\n\
+                          \x20 |  \n\
+                          4 |   d\n\
+                          5 | /   gh\n\
+                          \x20 | |    - q\n\
+                          6 | | i\n\
+                          \x20 . |\n\
+                          9 | |   l\n\
+                          \x20 | \\---^ p\n\
+                          10 |   m\n\n";
+    let (classic, unbroken) = (Layout::Classic, Layout::Unbroken);
+    assert_rendered_by_two(&rt, rt.alloc(), unbroken, classic, unbroken_numbers)?;
+    assert_rendered_by_two(&rt, rt.alloc(), classic, unbroken, unbroken_lanes)?;
+    Ok(())
+}

@@ -1,8 +1,0 @@
-use Rattle.std.proofs.Common.{◌≡◌, map, take}
-use Rattle.codespan_base.specs.FileTables.{entries}
-use Rattle.gallery.specs.Cases.{file_view}
-use Rattle.gallery.specs.Pictures.{lent_view}
-use Rattle.gallery.proofs.tables.several_files.Given as goal
-
-abbrev pub invariant-loop-file : goal.invariant-loop-file
-invariant-loop-file l = map lent_view (entries l.table) ≡ map file_view (take l.file-index l.files)

@@ -1,0 +1,61 @@
+-- The output of a diagnostic.
+use Rattle.std.proofs.Common.{◌≡◌, ℕ, true, List, [], ◌∷◌, map, Result, Ok, Err, IfOk, refl, ap, ◌∙◌}
+use Rattle.codespan_base.specs.declared.diagnostic.Diagnostic.{Diagnostic}
+use Rattle.codespan_base.specs.declared.diagnostic.Label.{Label}
+use Rattle.codespan_base.specs.declared.files.Error.{Error}
+use Rattle.codespan_base.specs.declared.term.config.Config.{Config}
+use Rattle.codespan_base.specs.declared.term.config.DisplayStyle.{DisplayStyle}
+use Rattle.codespan_base.specs.Defaults.{default_config}
+use Rattle.codespan_base.specs.Diagnostics.{diagnostic_view, label_view}
+use Rattle.codespan_base.specs.FileModel.{FileDatabase}
+use Rattle.codespan_base.specs.ConfigEquality.{IsConfig}
+use Rattle.codespan_base.specs.Streams.{Stream, text_of}
+use Rattle.codespan_reporting.specs.Output.{Emits, IsRendered}
+use Rattle.codespan_laws.proofs.StatedNames.{output_stated}
+use Rattle.codespan_reporting.specs.Lookups.{Failures}
+use Rattle.codespan_reporting.specs.Picture.{heading_of, label_of, labels_of, notes_of, rendered, starts}
+use Rattle.codespan_reporting.specs.StatedPicture.{stated_locus}
+use Rattle.codespan_reporting.specs.Snippets.{InFile, labeled_file_models}
+use Rattle.codespan_picture.proofs.EqualConfigs.{rendered_equal}
+use Rattle.report.specs.RenderedTexts.{config_of, view_label, only_file, output_text}
+
+-- the same configurations, in another style
+restyled : (table config : Config) (style : DisplayStyle) → IsConfig table config → IsConfig (record table { display_style = style }) (record config { display_style = style })
+restyled table config style equal = record { chars = equal.chars; others = ap (λ (c : Config). record c { display_style = style }) equal.others }
+
+-- labels as the definition of the output takes them are those of the diagnostic
+labels_equal : (xs : List (Label (Unit {0}))) → map label_of xs ≡ map view_label (map label_view xs)
+labels_equal [] = refl
+labels_equal (x ∷ xs) = ap (λ rest. label_of x ∷ rest) (labels_equal xs)
+
+module _ (style : DisplayStyle) (d : Diagnostic (Unit {0})) where
+  -- a file database of that file alone
+  abbrev table_at : List ℕ → List ℕ → Failures (Unit {0}) → FileDatabase (Unit {0})
+  table_at name source failure = record { same = λ i j. true; file = only_file name source; failure = failure }
+
+  -- the output of the diagnostic with these labels
+  abbrev rendered_by : Config → List ℕ → List ℕ → List (InFile (Unit {0})) → Stream
+  rendered_by config name source xs =
+      rendered style config config d.severity (heading_of d) (map stated_locus (starts (λ i j. true) (only_file name source) xs style)) (labeled_file_models (λ i j. true) (only_file name source) xs) (notes_of d)
+
+  -- the text rendered of the diagnostic over a name and a source, by a configuration equal to the
+  -- default one, is that of its output
+  pub rendered_text : (name source : List ℕ) (config : Config) (failure : Failures (Unit {0})) (text : List ℕ)
+      → IsConfig default_config config → IsRendered (record config { display_style = style }) (table_at name source failure) d text
+      → (named contents : List ℕ) → name ≡ named → source ≡ contents → text ≡ output_text style named contents (diagnostic_view d)
+  unfolding output_text
+  rendered_text name source config failure text equal is_rendered named contents n s =
+      is_rendered.text_is
+      ∙ ap text_of (output_stated (table_at name source failure) d (λ x has. refl) style (record config { display_style = style }) (record config { display_style = style }) is_rendered.loci is_rendered.are_loci)
+      ∙ ap text_of (rendered_equal (config_of style) (record config { display_style = style }) (restyled default_config config style equal) d.severity (heading_of d)
+      (map stated_locus (starts (λ i j. true) (only_file name source) (labels_of d) style)) (labeled_file_models (λ i j. true) (only_file name source) (labels_of d)) (notes_of d) style)
+      ∙ ap (λ m. text_of (rendered_by (config_of style) m source (labels_of d))) n
+      ∙ ap (λ m. text_of (rendered_by (config_of style) named m (labels_of d))) s
+      ∙ ap (λ xs. text_of (rendered_by (config_of style) named contents xs)) (labels_equal d.labels.items)
+
+  -- the same of a call that returns a text
+  pub rendered_result : {T : Type 0} (text : T → List ℕ) (name source : List ℕ) (config : Config) (failure : Failures (Unit {0})) (r : Result T Error)
+      → IsConfig default_config config → Emits (record config { display_style = style }) (table_at name source failure) d text r
+      → (named contents : List ℕ) → name ≡ named → source ≡ contents → IfOk r (λ t. text t ≡ output_text style named contents (diagnostic_view d))
+  rendered_result text name source config failure (Ok t) equal is_rendered named contents n s = rendered_text name source config failure (text t) equal is_rendered named contents n s
+  rendered_result text name source config failure (Err e) equal is_rendered named contents n s = tt

@@ -1,0 +1,150 @@
+-- The output of a diagnostic over one file, and what a run renders.
+use Rattle.std.specs.Prelude.{◌≡◌, ℕ, true, List, [], ◌∷◌, map, Option, Some, None, Result, Ok, Err, codes, string_bytes}
+use Rattle.std.specs.declared.ops.Range.{Range}
+use Rattle.codespan_base.specs.declared.diagnostic.LabelStyle.TheVariants.{Primary, Secondary}
+use Rattle.codespan_base.specs.declared.diagnostic.Severity.TheVariants as severities
+use Rattle.codespan_base.specs.declared.term.config.Config.{Config}
+use Rattle.codespan_base.specs.declared.term.config.DisplayStyle.{DisplayStyle}
+use Rattle.codespan_base.specs.Defaults.{default_config}
+use Rattle.codespan_base.specs.Diagnostics.{DiagnosticView, LabelView}
+use Rattle.codespan_base.specs.FileModel.{FileModel}
+use Rattle.codespan_base.specs.SimpleModel.{simple_file}
+use Rattle.codespan_base.specs.Streams.{bytes, text_of}
+use Rattle.codespan_reporting.specs.Rows.{Heading}
+use Rattle.codespan_reporting.specs.Picture.{rendered, starts}
+use Rattle.codespan_reporting.specs.StatedPicture.{stated_locus}
+use Rattle.codespan_reporting.specs.Snippets.{InFile, labeled_file_models}
+use Rattle.report.specs.declared.fault.Fault as faults
+use Rattle.report.specs.declared.fault.Fault.TheVariants as fault
+use Rattle.report.specs.declared.script.Fault.{Fault}
+use Rattle.report.specs.declared.script.FaultNumber.{FaultNumber}
+use Rattle.report.specs.declared.script.FaultNumber.TheVariants.{UnknownWord, UnknownSeverity, BadNumber, RepeatedWord, MissingEnd}
+use Rattle.report.specs.Requests.{RequestView, CommandView}
+use Rattle.report.specs.Requests.CommandView.{OneLabel, OfScript}
+use Rattle.report.specs.Scripts.{ScriptView, read_script}
+
+-- ---- the output of a diagnostic
+
+-- the header
+abbrev pub view_heading : DiagnosticView (Unit {0}) → Heading
+view_heading diagnostic = record { code = diagnostic.code; message = diagnostic.message }
+
+-- a label, as the definition of the output takes it
+abbrev pub view_label : LabelView (Unit {0}) → InFile (Unit {0})
+view_label label = record {
+  id = label.file_id;
+  label = record {
+    style = label.style;
+    start = label.range.start;
+    end = label.range.end;
+    message = bytes label.message;
+  };
+}
+
+-- the labels in their order
+abbrev pub view_labels : DiagnosticView (Unit {0}) → List (InFile (Unit {0}))
+view_labels diagnostic = map view_label diagnostic.labels
+
+-- the configuration: the default one, in this display style
+abbrev pub config_of : DisplayStyle → Config
+config_of style = record default_config { display_style = style }
+
+-- the one file of a name and a source, whatever its id
+abbrev pub only_file : List ℕ → List ℕ → Unit {0} → FileModel
+only_file name source id = simple_file (Some name) source
+
+-- the text of the diagnostic's output, in a style, over the file of a name and a source
+unfoldable pub output_text : DisplayStyle → List ℕ → List ℕ → DiagnosticView (Unit {0}) → List ℕ
+output_text style name source diagnostic =
+    text_of (rendered style (config_of style) (config_of style) diagnostic.severity
+    (view_heading diagnostic)
+    (map stated_locus (starts (λ i j. true) (only_file name source) (view_labels diagnostic) style))
+    (labeled_file_models (λ i j. true) (only_file name source) (view_labels diagnostic))
+    diagnostic.notes)
+
+-- ---- the diagnostics
+
+-- the diagnostic of a request: an error with its message, and one primary label with the same
+abbrev pub request_diagnostic : RequestView → DiagnosticView (Unit {0})
+request_diagnostic request = record {
+  severity = severities.Error;
+  code = None;
+  message = request.message;
+  labels = record {
+    style = Primary;
+    file_id = tt;
+    range = record { start = request.start; end = request.end };
+    message = request.message;
+  } ∷ [];
+  notes = [];
+}
+
+-- the code of a script's error
+abbrev pub fault_code : FaultNumber → List ℕ
+fault_code UnknownWord = codes "S1"
+fault_code UnknownSeverity = codes "S2"
+fault_code BadNumber = codes "S3"
+fault_code RepeatedWord = codes "S4"
+fault_code MissingEnd = codes "S5"
+
+-- its message
+abbrev pub fault_message : FaultNumber → List ℕ
+fault_message UnknownWord = codes "unknown word"
+fault_message UnknownSeverity = codes "unknown severity"
+fault_message BadNumber = codes "bad number"
+fault_message RepeatedWord = codes "repeated word"
+fault_message MissingEnd = codes "missing end of script"
+
+-- the message of its primary label
+abbrev pub fault_note : FaultNumber → List ℕ
+fault_note UnknownWord = codes "expected severity, code, message, primary, secondary or note"
+fault_note UnknownSeverity = codes "expected bug, error, warning, note or help"
+fault_note BadNumber = codes "expected a decimal number"
+fault_note RepeatedWord = codes "given again"
+fault_note MissingEnd = codes "expected ---"
+
+-- the label over the first occurrence of a repeated word, if there is one
+abbrev pub first_label : Option (Range ℕ) → List (LabelView (Unit {0}))
+first_label None = []
+first_label (Some range) =
+    record { style = Secondary; file_id = tt; range = range; message = codes "first given here" }
+    ∷ []
+
+-- the diagnostic of a script's error: its code, and a primary label over its range
+abbrev pub fault_diagnostic : Fault → DiagnosticView (Unit {0})
+fault_diagnostic fault = record {
+  severity = severities.Error;
+  code = Some (fault_code fault.number);
+  message = fault_message fault.number;
+  labels = record {
+    style = Primary;
+    file_id = tt;
+    range = fault.range;
+    message = fault_note fault.number;
+  } ∷ first_label fault.first;
+  notes = [];
+}
+
+-- ---- what a run renders
+
+-- what is rendered of an input that was read as a script: its diagnostic over its source, or its
+-- error over the whole input
+abbrev pub rendering_of_script : DisplayStyle → List ℕ → List ℕ → Result ScriptView Fault
+    → Result (List ℕ) (List ℕ)
+rendering_of_script style name input (Ok script) =
+    Ok (output_text style name script.source script.diagnostic)
+rendering_of_script style name input (Err fault) =
+    Err (output_text style (codes "script") input (fault_diagnostic fault))
+
+-- what is rendered of an input: `Ok` what goes to the output, `Err` the diagnostic of a script's
+-- error
+abbrev pub rendering_of : CommandView → List ℕ → Result (List ℕ) (List ℕ)
+rendering_of (OneLabel request) input =
+    Ok (output_text request.style request.name input (request_diagnostic request))
+rendering_of (OfScript style name) input = rendering_of_script style name input (read_script input)
+
+-- the error of rendering: it failed, or the script has the error of this diagnostic
+abbrev pub IsRenderFailure : Result (List ℕ) (List ℕ) → faults.Fault → Type 0
+IsRenderFailure rendering (fault.CannotRender error) = Unit {0}
+IsRenderFailure rendering (fault.BadScript text) = rendering ≡ Err (string_bytes text)
+IsRenderFailure rendering _ = ⊥

@@ -1,0 +1,93 @@
+//! Renders the diagnostic that the arguments request.
+
+ghost use Rattle.std.specs.Prelude.{◌≡◌, IfOk, IfErr, Ok, string_bytes};
+ghost use Rattle.codespan_base.specs.Diagnostics.{diagnostic_view};
+ghost use Rattle.report.specs.RenderedTexts.{rendering_of, rendering_of_script, output_text, IsRenderFailure};
+ghost use Rattle.report.specs.Requests.{command_view};
+ghost use Rattle.report.specs.Scripts.{read_script};
+
+use crate::fault::Fault;
+use crate::messages::{of_fault, of_request, of_script};
+use crate::request::{Command, Request};
+use crate::script::{ScriptError, parse_script};
+use codespan_reporting::diagnostic::Diagnostic;
+use codespan_reporting::files::{Error, SimpleFile};
+use codespan_reporting::term::{Config, DisplayStyle, emit_into_string};
+use std::alloc::Global;
+
+/// Returns the requested output.
+///
+/// # Errors
+///
+/// - `BadScript` if a script is requested and the input is none: the rendered diagnostic of its
+///   first error.
+/// - `CannotRender` if rendering fails.
+pub fn render(alloc: Global, command: &Command<'_>, input: &str) -> Result<String, Fault>
+    ensures text { IfOk result (λ text. rendering_of (command_view command.now) input.now
+        ≡ Ok (string_bytes text)) }
+    ensures failed { IfErr result
+        (IsRenderFailure (rendering_of (command_view command.now) input.now)) }
+{
+    match command {
+        Command::OneLabel(request) => render_request(alloc, request, input),
+        Command::OfScript(style, name) => render_script(alloc, *style, name, input),
+    }
+}
+
+/// Renders a request over the input.
+fn render_request(alloc: Global, request: &Request<'_>, input: &str) -> Result<String, Fault>
+    ensures text { IfOk result (λ text.
+        rendering_of (command_view (Command.OneLabel request.now)) input.now
+        ≡ Ok (string_bytes text)) }
+    ensures failed { IfErr result (IsRenderFailure
+        (rendering_of (command_view (Command.OneLabel request.now)) input.now)) }
+{
+    let diagnostic = of_request(alloc, request)?;
+    Ok(render_over(alloc, request.style, request.name, input, &diagnostic)?)
+}
+
+/// Renders the diagnostic of a script over its source, or its first error over the whole input.
+fn render_script(
+    alloc: Global,
+    style: DisplayStyle,
+    name: &str,
+    input: &str,
+) -> Result<String, Fault>
+    ensures text { IfOk result (λ text.
+        rendering_of_script style name.now input.now (read_script input.now)
+        ≡ Ok (string_bytes text)) }
+    ensures failed { IfErr result (IsRenderFailure
+        (rendering_of_script style name.now input.now (read_script input.now))) }
+{
+    match parse_script(alloc, input) {
+        Ok(script) => {
+            let diagnostic = of_script(alloc, &script)?;
+            Ok(render_over(alloc, style, name, script.source, &diagnostic)?)
+        }
+        Err(ScriptError::Fault(fault)) => {
+            let diagnostic = of_fault(alloc, fault)?;
+            let text = render_over(alloc, style, "script", input, &diagnostic)?;
+            Err(Fault::BadScript(text))
+        }
+        Err(ScriptError::OutOfMemory) => Err(Fault::CannotRender(Error::OutOfMemory)),
+    }
+}
+
+/// Renders a diagnostic over the file of a name and a source.
+fn render_over(
+    alloc: Global,
+    style: DisplayStyle,
+    name: &str,
+    source: &str,
+    diagnostic: &Diagnostic<()>,
+) -> Result<String, Error>
+    ensures { IfOk result (λ text. string_bytes text
+        ≡ output_text style name.now source.now (diagnostic_view diagnostic.now)) }
+{
+    let file = SimpleFile::new(alloc, name, source)?;
+    let config = Config {
+        display_style: style,
+        ..Config::default()
+    };
+    emit_into_string(&config, &file, diagnostic)
+}
