@@ -1,5 +1,7 @@
-//! Tests of the call that C makes: what no contract says.
+//! Tests of the call that C makes, and of its writer: what no contract says.
 #![tactic(auto)]
 
 #[cfg(test)]
 mod calls;
+#[cfg(test)]
+mod flushing;
