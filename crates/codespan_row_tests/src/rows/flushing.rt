@@ -1,6 +1,6 @@
 //! Which calls flush.
 
-use crate::rows::render_crossing;
+use crate::rows::lanes::render_crossing;
 use codespan_base::diagnostic::{LabelStyle, Severity};
 use codespan_base::files::{Error, Location};
 use codespan_base::term::{Config, PlainWriter, WriteStyle};

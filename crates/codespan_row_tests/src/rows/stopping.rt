@@ -1,6 +1,6 @@
 //! Writers that take little at a time, or stop.
 
-use crate::rows::{COLORED, Given, Rows, render_on};
+use crate::rows::{COLORED, LineInput, Rows, render_on};
 use codespan_base::diagnostic::{LabelStyle, Severity};
 use codespan_base::files::Error;
 use codespan_base::term::{Ansi, Config, PlainWriter, Styles, StylesWriter};
@@ -31,17 +31,17 @@ pub fn assert_rows_stop<R: Rows>(
     ] {
         for writes in 0..ENOUGH {
             let mut plain = PlainWriter::new(Stopping::new(alloc, usize::MAX, writes, stop));
-            let answer = rows.render(rt, &mut Renderer::new(&mut plain, config));
+            let returned = rows.render(rt, &mut Renderer::new(&mut plain, config));
             assert!(rt;
-                is_known(&plain.into_inner(), &answer, expected.as_bytes()),
+                is_as_expected(&plain.into_inner(), &returned, expected.as_bytes()),
                 "{stop:?} {writes}"
             );
             let inner = Stopping::new(alloc, usize::MAX, writes, stop);
             let mut w = StylesWriter::new(Ansi::new(inner), &styles);
-            let answer = rows.render(rt, &mut Renderer::new(&mut w, config));
+            let returned = rows.render(rt, &mut Renderer::new(&mut w, config));
             let inner = w.into_inner().into_inner();
             assert!(rt;
-                is_known(&inner, &answer, colored.as_slice()),
+                is_as_expected(&inner, &returned, colored.as_slice()),
                 "{stop:?} {writes}"
             );
             if !inner.has_failed() {
@@ -54,8 +54,8 @@ pub fn assert_rows_stop<R: Rows>(
 
 /// Returns whether a call failed exactly where its writer stopped, and the writer has what it
 /// should of the whole text.
-fn is_known(inner: &Stopping, answer: &Result<(), Error>, whole: &[u8]) -> bool {
-    is_failed(answer) == Some(inner.has_failed()) && inner.is_right(answer.is_ok(), whole)
+fn is_as_expected(inner: &Stopping, returned: &Result<(), Error>, whole: &[u8]) -> bool {
+    is_failed(returned) == Some(inner.has_failed()) && inner.is_right(returned.is_ok(), whole)
 }
 
 /// The rows of `coloured_label` without their colors.
@@ -68,21 +68,21 @@ const ENOUGH: usize = 100_000;
 fn writers_that_stop(rt: HostRuntime) -> Result<(), Fail> {
     let styles = Styles::default();
     let labels = [(LabelStyle::Primary, 1..2, "m")];
-    let given = Given::labelled("abc", &labels);
+    let line = LineInput::labeled("abc", &labels);
     for most in [1, 3, 100] {
         for writes in 0..100 {
             let mut plain = PlainWriter::new(Stopping::new(rt.alloc(), most, writes, Stop::Fails));
-            let answer = render_on(&rt, &mut plain, given);
+            let returned = render_on(&rt, &mut plain, line);
             assert!(rt;
-                is_known(&plain.into_inner(), &answer, PLAIN.as_bytes()),
+                is_as_expected(&plain.into_inner(), &returned, PLAIN.as_bytes()),
                 "{most} {writes}"
             );
 
             let mut inner = Stopping::new(rt.alloc(), most, writes, Stop::Fails);
             let mut w = StylesWriter::new(Ansi::new(&mut inner), &styles);
-            let answer = render_on(&rt, &mut w, given);
+            let returned = render_on(&rt, &mut w, line);
             assert!(rt;
-                is_known(&inner, &answer, COLORED.as_bytes()),
+                is_as_expected(&inner, &returned, COLORED.as_bytes()),
                 "{most} {writes}"
             );
         }
