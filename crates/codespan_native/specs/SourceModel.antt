@@ -10,7 +10,7 @@ use Rattle.codespan_base.specs.FileModel.Lookup.{LineRange}
 use Rattle.codespan_base.specs.DatabaseViews.{name_of, source_of as simple_source_of}
 use Rattle.codespan_base.specs.Lemmas.Simple.{past_end_is, text_fits, text_is_utf8}
 use Rattle.codespan_base.specs.Lemmas.Lines.{line_of_below}
-use Rattle.codespan_base.specs.Lemmas.Missing.{past_end_or, table_lawful}
+use Rattle.codespan_base.specs.Lemmas.Missing.{past_end_or, database_lawful}
 use Rattle.codespan_native.specs.declared.source_file.lined.LinedText.{LinedText}
 use Rattle.codespan_native.specs.declared.source_file.numbered.NumberedText.{NumberedText}
 use Rattle.codespan_native.specs.declared.source_file.SourceFile.{SourceFile}
@@ -72,7 +72,7 @@ byte_has_line f byte =
 pub database_is_lawful : (files : SourceFiles) (id : ℕ)
     → IsLawful ((database_of (sources_of files)).file id)
 database_is_lawful files id =
-    table_lawful source_of file_of files.files.items id
+    database_lawful source_of file_of files.files.items id
     (λ f. text_is_lawful f.text (locus_at f.first_byte f.loci.now))
 
 -- the range of a line fails past the last one
