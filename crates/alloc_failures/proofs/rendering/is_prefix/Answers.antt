@@ -1,7 +1,7 @@
 use Rattle.std.proofs.Common.{rules}
 use Rattle.std.proofs.lemmas.Slice.Eq.{starts_is}
 use Rattle.std.proofs.lemmas.Bool.Decides.{Decides-eqb}
-use Rattle.alloc_failures.proofs.case.is_prefix.Goals as goal
+use Rattle.alloc_failures.proofs.rendering.is_prefix.Goals as goal
 
 -- the bytes are a prefix of the text, and what is left of it is the rest
 pub returns : goal.returns
