@@ -4,7 +4,7 @@ ghost use Rattle.std.specs.Prelude.{◌≡◌, ◌∷◌, [], IfOk, string_bytes
 
 use codespan_base::diagnostic::{Diagnostic, Label, LabelStyle, Severity};
 use codespan_base::files::Error;
-use std::alloc::Global;
+use std::alloc::{AllocError, Global};
 use std::fmt;
 use std::fmt::{Display, Write};
 use std::test::Fail;
@@ -73,6 +73,12 @@ fn constructors(rt: HostRuntime) -> Result<(), Fail> {
         assert!(rt; diagnostic.labels.is_empty());
         assert!(rt; diagnostic.notes.is_empty());
     }
+    Ok(())
+}
+
+#[test]
+fn constructors_of_labels(rt: HostRuntime) -> Result<(), Fail> {
+    let alloc = rt.alloc();
     let labels = [
         (
             Label::new(alloc, LabelStyle::Secondary, 3usize, 5..2),
@@ -91,52 +97,106 @@ fn constructors(rt: HostRuntime) -> Result<(), Fail> {
     Ok(())
 }
 
-#[test]
-fn texts(rt: HostRuntime) -> Result<(), Fail> {
-    let alloc = rt.alloc();
-    let label = Label::primary(alloc, 'a', 0..1).with_message("here")?;
-    assert_eq!(rt; label.message.as_str(), "here");
-    let diagnostic = Diagnostic::error(alloc)
+/// A label in the file `'a'`.
+fn label(alloc: Global) -> Result<Label<char>, Error> {
+    Label::primary(alloc, 'a', 0..1).with_message("here")
+}
+
+/// A diagnostic with a text of each kind: two notes, a label, and a code of digits.
+fn with_texts(alloc: Global) -> Result<Diagnostic<char>, Error> {
+    Diagnostic::error(alloc)
         .with_code(308)?
         .with_message("mismatched types")?
         .with_note("one")?
         .with_note('2')?
-        .with_label(label)?;
+        .with_label(label(alloc)?)
+}
+
+/// The texts of a diagnostic's notes, each ended by a newline.
+fn joined_notes<FileId>(
+    alloc: Global,
+    diagnostic: &Diagnostic<FileId>,
+) -> Result<String, AllocError> {
+    let mut joined = String::new(alloc);
+    for note in &diagnostic.notes {
+        joined.push_str(note.as_str())?;
+        joined.push('\n')?;
+    }
+    Ok(joined)
+}
+
+#[test]
+fn texts(rt: HostRuntime) -> Result<(), Fail> {
+    let diagnostic = with_texts(rt.alloc())?;
+    assert_eq!(rt; diagnostic.message.as_str(), "mismatched types");
     assert_eq!(rt;
         diagnostic.code.as_ref().map(|code| code.as_str()),
         Some("308")
     );
-    assert_eq!(rt; diagnostic.message.as_str(), "mismatched types");
-    assert_eq!(rt; diagnostic.notes.len(), 2);
-    assert_eq!(rt; diagnostic.notes[0].as_str(), "one");
-    assert_eq!(rt; diagnostic.notes[1].as_str(), "2");
-    let copy = diagnostic.clone()?;
-    assert!(rt; copy == diagnostic);
-    assert!(rt; copy.labels[0].clone()? == diagnostic.labels[0]);
     Ok(())
 }
 
 #[test]
+fn texts_of_notes_and_labels(rt: HostRuntime) -> Result<(), Fail> {
+    let diagnostic = with_texts(rt.alloc())?;
+    assert_eq!(rt; joined_notes(rt.alloc(), &diagnostic)?.as_str(), "one\n2\n");
+    for label in &diagnostic.labels {
+        assert_eq!(rt; label.message.as_str(), "here");
+    }
+    assert_eq!(rt; diagnostic.labels.len(), 1);
+    Ok(())
+}
+
+#[test]
+fn clone_of_diagnostic(rt: HostRuntime) -> Result<(), Fail> {
+    let diagnostic = with_texts(rt.alloc())?;
+    let copy = diagnostic.clone()?;
+    assert!(rt; copy == diagnostic);
+    Ok(())
+}
+
+#[test]
+fn clone_of_label(rt: HostRuntime) -> Result<(), Fail> {
+    let label = label(rt.alloc())?;
+    let copy = label.clone()?;
+    assert!(rt; copy == label);
+    Ok(())
+}
+
+/// The labels of a chain, of a vector and of an iterator, one after another.
+fn with_labels_of_three(alloc: Global) -> Result<Diagnostic<usize>, Error> {
+    let second = with_vector(alloc, chain(alloc, 8)?.labels)?.labels;
+    let third = chain(alloc, 9)?.labels;
+    chain(alloc, 7)?
+        .with_labels(second)?
+        .with_labels_iter(third)
+}
+
+/// The notes of a chain, of a vector and of an iterator, one after another.
+fn with_notes_of_three(alloc: Global) -> Result<Diagnostic<usize>, Error> {
+    let second = with_iterator(alloc, chain(alloc, 9)?.notes)?.notes;
+    let third = vec![in alloc; String::from_str(alloc, "last")?]?;
+    chain(alloc, 7)?
+        .with_notes(second)?
+        .with_notes_iter(third.into_iter())
+}
+
+#[test]
 fn lists(rt: HostRuntime) -> Result<(), Fail> {
-    let alloc = rt.alloc();
-    let first = chain(alloc, 7)?;
-    let second = with_vector(alloc, chain(alloc, 8)?.labels)?;
-    let third = with_iterator(alloc, chain(alloc, 9)?.notes)?;
-    let more = vec![in alloc; String::from_str(alloc, "last")?]?;
-    let whole = first
-        .with_labels(second.labels)?
-        .with_labels_iter(chain(alloc, 9)?.labels)?
-        .with_notes(third.notes)?
-        .with_notes_iter(more.into_iter())?;
+    let whole = with_labels_of_three(rt.alloc())?;
     let ids: Vec<usize> = whole
         .labels
         .iter()
         .map(|label| label.file_id)
-        .collect(alloc)?;
+        .collect(rt.alloc())?;
     assert_eq!(rt; ids.as_slice(), [7, 8, 9].as_slice());
-    assert_eq!(rt; whole.notes.len(), 3);
-    assert_eq!(rt; whole.notes[0].as_str(), "n");
-    assert_eq!(rt; whole.notes[2].as_str(), "last");
+    Ok(())
+}
+
+#[test]
+fn lists_of_notes(rt: HostRuntime) -> Result<(), Fail> {
+    let whole = with_notes_of_three(rt.alloc())?;
+    assert_eq!(rt; joined_notes(rt.alloc(), &whole)?.as_str(), "n\nn\nlast\n");
     Ok(())
 }
 

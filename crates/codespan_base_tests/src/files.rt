@@ -1,48 +1,16 @@
-//! Worked lookups, errors, and file databases called through the trait alone.
+//! Worked lookups and errors.
 
 mod example;
+mod generic;
 mod keys;
 
-use crate::files::example::Listing;
 use codespan_base::files::{
-    Error, Files, Location, MappedFile, SimpleFile, SimpleFiles, column_index,
-    default_column_number, default_line_number, default_location, line_starts,
+    Error, Files, MappedFile, SimpleFile, SimpleFiles, column_index, default_line_number,
+    line_starts,
 };
 use std::alloc::{AllocError, Global};
-use std::convert::AsStr;
 use std::test::Fail;
 use std::{fmt, io};
-
-/// What the lookups of one byte of a file return.
-#[derive(Drop)]
-struct Answers {
-    name: String,
-    line_index: usize,
-    line_number: usize,
-    column_number: usize,
-    location: Location,
-    line: String,
-}
-
-/// Looks up all of a byte, through the trait. The law keeps the line inside the source.
-fn answers_at<'a, F: Files<'a>>(
-    alloc: Global,
-    files: &'a F,
-    id: F::FileId,
-    byte_index: usize,
-) -> Result<Answers, Error> {
-    let line_index = files.line_index(id, byte_index)?;
-    let source = files.source(id)?;
-    let range = files.line_range(id, line_index)?;
-    Ok(Answers {
-        name: files.name(id)?.to_string(alloc)?,
-        line_index,
-        line_number: files.line_number(id, line_index)?,
-        column_number: files.column_number(id, line_index, byte_index)?,
-        location: files.location(id, byte_index)?,
-        line: String::from_str(alloc, &source.as_str()[range])?,
-    })
-}
 
 #[test]
 fn columns_and_starts(rt: HostRuntime) -> Result<(), Fail> {
@@ -61,14 +29,27 @@ fn columns_and_starts(rt: HostRuntime) -> Result<(), Fail> {
     for (byte, column) in bytes {
         assert_eq!(rt; column_index(text, 2..13, byte), column, "at {byte}");
     }
-    let text = "foo\nbar\r\n\nbaz";
-    let starts: Vec<usize> = line_starts(text).collect(rt.alloc())?;
+    let starts: Vec<usize> = line_starts(FOUR_LINES).collect(rt.alloc())?;
     assert_eq!(rt; starts.as_slice(), [0, 4, 9, 10].as_slice());
-    let file = SimpleFile::new(rt.alloc(), "f", text)?;
+    Ok(())
+}
+
+/// A text of four lines, the second of which ends with two characters, and the last with none.
+const FOUR_LINES: &str = "foo\nbar\r\n\nbaz";
+
+#[test]
+fn ranges_of_lines(rt: HostRuntime) -> Result<(), Fail> {
+    let file = SimpleFile::new(rt.alloc(), "f", FOUR_LINES)?;
     for (line, part) in ["foo\n", "bar\r\n", "\n", "baz"].iter().enumerate() {
         let range = file.line_range((), line)?;
-        assert_eq!(rt; text.get(range), Some(*part), "line {line}");
+        assert_eq!(rt; FOUR_LINES.get(range), Some(*part), "line {line}");
     }
+    Ok(())
+}
+
+#[test]
+fn indices_of_lines(rt: HostRuntime) -> Result<(), Fail> {
+    let file = SimpleFile::new(rt.alloc(), "f", FOUR_LINES)?;
     assert_eq!(rt; file.line_index((), 5)?, 1);
     assert_eq!(rt; file.line_index((), 99)?, 3);
     Ok(())
@@ -154,63 +135,34 @@ fn mapped_overflow(rt: HostRuntime) -> Result<(), Fail> {
     Ok(())
 }
 
+/// Returns whether a lookup failed with these limits of a line.
+fn is_line_too_large<T>(returned: &Result<T, Error>, limits: (usize, usize)) -> bool {
+    match returned {
+        Err(Error::LineTooLarge { given, max }) => (*given, *max) == limits,
+        _ => false,
+    }
+}
+
 #[test]
 fn greatest_indices(rt: HostRuntime) -> Result<(), Fail> {
     assert_eq!(rt; column_index("é", 0..9, usize::MAX), 1);
     assert_eq!(rt; column_index("ab", 5..1, 9), 0);
     let file = SimpleFile::new(rt.alloc(), "f", "a\nb")?;
-    match file.line_range((), usize::MAX) {
-        Err(Error::LineTooLarge { given, max }) => assert_eq!(rt; (given, max), (usize::MAX, 1)),
-        _ => panic!(rt; "a line past the last"),
-    }
-    assert_eq!(rt; file.line_number((), usize::MAX - 1)?, usize::MAX);
-    for failed in [
-        file.line_number((), usize::MAX),
-        default_line_number(usize::MAX),
-    ] {
-        match failed {
-            Err(Error::LineTooLarge { given, max }) => {
-                assert_eq!(rt; (given, max), (usize::MAX, usize::MAX - 1))
-            }
-            _ => panic!(rt; "a number past the greatest"),
-        }
-    }
+    let past_end = file.line_range((), usize::MAX);
+    assert!(rt; is_line_too_large(&past_end, (usize::MAX, 1)));
     Ok(())
 }
 
 #[test]
-fn generic_calls(rt: HostRuntime) -> Result<(), Fail> {
-    let alloc = rt.alloc();
-    let simple = SimpleFile::new(alloc, "f", "foo\nbär\nbaz")?;
-    let mut table = SimpleFiles::new(alloc);
-    let id = table.add("f", "foo\nbär\nbaz")?;
-    let mut mapped = MappedFile::new(alloc, "f", "foo\nbär\nbaz")?;
-    mapped.set_line(1, 40)?;
-    let listing = Listing::new(alloc, "f", "foo\nbär\nbaz")?;
-    let rows = [
-        (answers_at(alloc, &simple, (), 7)?, "bär\n", 2),
-        (answers_at(alloc, &table, id, 7)?, "bär\n", 2),
-        (answers_at(alloc, &mapped, (), 7)?, "bär", 40),
-        (answers_at(alloc, &listing, (), 7)?, "bär\n", 1),
-    ];
-    for (row, line, number) in &rows {
-        assert_eq!(rt; row.name.as_str(), "f");
-        assert_eq!(rt; row.line_index, 1);
-        assert_eq!(rt; row.line_number, *number);
-        assert_eq!(rt; row.column_number, 3);
-        assert_eq!(rt; row.location.line_number, *number);
-        assert_eq!(rt; row.location.column_number, 3);
-        assert_eq!(rt; row.line.as_str(), *line);
+fn greatest_numbers(rt: HostRuntime) -> Result<(), Fail> {
+    let file = SimpleFile::new(rt.alloc(), "f", "a\nb")?;
+    assert_eq!(rt; file.line_number((), usize::MAX - 1)?, usize::MAX);
+    for past in [
+        file.line_number((), usize::MAX),
+        default_line_number(usize::MAX),
+    ] {
+        assert!(rt; is_line_too_large(&past, (usize::MAX, usize::MAX - 1)));
     }
-    assert_eq!(rt; default_column_number(&table, id, 1, 7)?, 3);
-    assert_eq!(rt;
-        default_location(&mapped, (), 7)?,
-        Location {
-            line_number: 40,
-            column_number: 3
-        }
-    );
-    assert!(rt; matches!(answers_at(alloc, &table, 7, 0), Err(Error::FileMissing)));
     Ok(())
 }
 

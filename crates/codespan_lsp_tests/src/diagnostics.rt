@@ -3,7 +3,7 @@
 use codespan_base::diagnostic::{Diagnostic, Label, Severity};
 use codespan_base::files::{Error, SimpleFile, SimpleFiles};
 use codespan_lsp::{
-    DiagnosticSeverity, Position, PositionEncoding, Range, byte_index_to_position,
+    DiagnosticSeverity, LspDiagnostic, Position, PositionEncoding, Range, byte_index_to_position,
     position_to_byte_index, to_lsp_diagnostics,
 };
 use std::alloc::Global;
@@ -75,55 +75,94 @@ fn severities(rt: HostRuntime) {
     }
 }
 
-/// One diagnostic for each primary label, each with the secondary one.
-#[test]
-fn two_primary_labels(rt: HostRuntime) -> Result<(), Fail> {
-    let alloc = rt.alloc();
+/// Returns what is sent for that error: the caller is file 0, and the callee is file 1.
+fn sent(alloc: Global) -> Result<Vec<LspDiagnostic<usize>>, Error> {
     let mut files = SimpleFiles::new(alloc);
     let caller = files.add("main", "ab\n\nf()\n f()")?;
     let callee = files.add("lib", "/*𐐀*/fn f(x)")?;
     let diagnostic = missing_argument(alloc, caller, callee)?;
+    to_lsp_diagnostics(&files, &diagnostic)
+}
 
-    let returned = to_lsp_diagnostics(&files, &diagnostic)?;
-    let [called, again] = returned.as_slice() else {
-        return Err(Fail::from("not one for each primary label"));
-    };
-    assert_eq!(rt; called.file_id, caller);
-    assert_eq!(rt; called.range, on_line(2, 0, 3));
-    assert_eq!(rt; called.severity, DiagnosticSeverity::Error);
-    assert!(rt; matches!(&called.code, Some(code) if code.as_str() == "E0061"));
-    assert_eq!(rt;
-        called.message.as_str(),
-        "too few arguments\none argument is missing\nnote: `f` takes one argument"
-    );
-    assert_eq!(rt; again.range, on_line(3, 1, 4));
-    assert_eq!(rt;
-        again.message.as_str(),
-        "too few arguments\nnote: `f` takes one argument"
-    );
-    for one in &returned {
-        let [related] = one.related_information.as_slice() else {
-            return Err(Fail::from("not one for each secondary label"));
-        };
-        assert_eq!(rt; related.file_id, callee);
-        assert_eq!(rt; related.range, on_line(0, 6, 10));
-        assert_eq!(rt; related.message.as_str(), "declared here");
+/// One diagnostic for each primary label.
+#[test]
+fn two_primary_labels(rt: HostRuntime) -> Result<(), Fail> {
+    let sent = sent(rt.alloc())?;
+    assert_eq!(rt; sent.len(), 2);
+    let labels = [
+        (
+            on_line(2, 0, 3),
+            "too few arguments\none argument is missing\nnote: `f` takes one argument",
+        ),
+        (
+            on_line(3, 1, 4),
+            "too few arguments\nnote: `f` takes one argument",
+        ),
+    ];
+    for (one, (range, message)) in sent.iter().zip(labels.iter()) {
+        assert_eq!(rt; one.range, *range);
+        assert_eq!(rt; one.message.as_str(), *message);
     }
     Ok(())
 }
 
-/// Nothing is sent where no label is primary, and a missing file fails.
+/// Each has the file of its label, and what the diagnostic has.
+#[test]
+fn same_of_each_primary_label(rt: HostRuntime) -> Result<(), Fail> {
+    for one in &sent(rt.alloc())? {
+        assert_eq!(rt; one.file_id, 0);
+        assert_eq!(rt; one.severity, DiagnosticSeverity::Error);
+        assert!(rt; matches!(&one.code, Some(code) if code.as_str() == "E0061"));
+    }
+    Ok(())
+}
+
+/// Each has the secondary label.
+#[test]
+fn related_information(rt: HostRuntime) -> Result<(), Fail> {
+    for one in &sent(rt.alloc())? {
+        assert_eq!(rt; one.related_information.len(), 1);
+        for related in &one.related_information {
+            assert_eq!(rt; related.file_id, 1);
+            assert_eq!(rt; related.range, on_line(0, 6, 10));
+            assert_eq!(rt; related.message.as_str(), "declared here");
+        }
+    }
+    Ok(())
+}
+
+/// Nothing is sent where no label is primary.
 #[test]
 fn no_primary_label(rt: HostRuntime) -> Result<(), Fail> {
-    let alloc = rt.alloc();
-    let file = SimpleFile::new(alloc, "f", "abc")?;
-    let bare = Diagnostic::warning(alloc).with_label(Label::secondary(alloc, (), 0..9))?;
-    assert!(rt; to_lsp_diagnostics(&file, &bare)?.is_empty());
-    let late = Diagnostic::warning(alloc).with_label(Label::primary(alloc, (), 0..9))?;
-    let result = to_lsp_diagnostics(&file, &late);
-    assert!(rt; matches!(result, Err(Error::ColumnTooLarge { given: 9, max: 3 })));
-    let files: SimpleFiles<&str, &str> = SimpleFiles::new(alloc);
-    let lost = Diagnostic::warning(alloc).with_label(Label::primary(alloc, 0, 0..0))?;
-    assert!(rt; matches!(to_lsp_diagnostics(&files, &lost), Err(Error::FileMissing)));
+    let file = SimpleFile::new(rt.alloc(), "f", "abc")?;
+    let label = Label::secondary(rt.alloc(), (), 0..9);
+    let diagnostic = Diagnostic::warning(rt.alloc()).with_label(label)?;
+    assert!(rt; to_lsp_diagnostics(&file, &diagnostic)?.is_empty());
+    Ok(())
+}
+
+/// A primary label past the end fails.
+#[test]
+fn label_past_end(rt: HostRuntime) -> Result<(), Fail> {
+    let file = SimpleFile::new(rt.alloc(), "f", "abc")?;
+    let label = Label::primary(rt.alloc(), (), 0..9);
+    let diagnostic = Diagnostic::warning(rt.alloc()).with_label(label)?;
+    let failed = to_lsp_diagnostics(&file, &diagnostic);
+    assert!(rt; matches!(failed, Err(Error::ColumnTooLarge { given: 9, max: 3 })));
+    Ok(())
+}
+
+/// A missing file fails.
+#[test]
+fn missing_file(rt: HostRuntime) -> Result<(), Fail> {
+    let files: SimpleFiles<&str, &str> = SimpleFiles::new(rt.alloc());
+    let label = Label::primary(rt.alloc(), 0, 0..0);
+    let diagnostic = Diagnostic::warning(rt.alloc()).with_label(label)?;
+    assert!(rt;
+        matches!(
+            to_lsp_diagnostics(&files, &diagnostic),
+            Err(Error::FileMissing)
+        )
+    );
     Ok(())
 }

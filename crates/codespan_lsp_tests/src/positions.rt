@@ -5,6 +5,7 @@ use codespan_lsp::{
     Position, PositionEncoding, Range, byte_index_to_position, byte_span_to_range,
     position_to_byte_index, range_to_byte_span,
 };
+use std::alloc::Global;
 use std::test::Fail;
 
 /// A position from its numbers.
@@ -105,46 +106,63 @@ fn line_ends(rt: HostRuntime) -> Result<(), Fail> {
     Ok(())
 }
 
+/// A number that is too large, and the greatest that is not.
+#[derive(Clone, Copy, Debug, PartialEq)]
+enum TooLarge {
+    Line(usize, usize),
+    Column(usize, usize),
+}
+
+/// Returns the numbers of a lookup that failed since a line or a column is too large.
+fn too_large<T>(returned: &Result<T, Error>) -> Option<TooLarge> {
+    match returned {
+        Err(Error::LineTooLarge { given, max }) => Some(TooLarge::Line(*given, *max)),
+        Err(Error::ColumnTooLarge { given, max }) => Some(TooLarge::Column(*given, *max)),
+        _ => None,
+    }
+}
+
 /// Past the end of a line, of the text and of the lines.
 #[test]
 fn past_ends(rt: HostRuntime) -> Result<(), Fail> {
     let file = SimpleFile::new(rt.alloc(), "f", "é𐐀\nb")?;
-    let past_line = position_to_byte_index(&file, (), &at(0, 5));
-    assert!(rt; matches!(past_line, Err(Error::ColumnTooLarge { given: 5, max: 4 })));
-    let past_text = position_to_byte_index(&file, (), &at(1, u32::MAX));
-    assert!(rt;
-        matches!(
-            past_text,
-            Err(Error::ColumnTooLarge {
-                given: 4294967295,
-                max: 1
-            })
-        )
-    );
-    let past_lines = position_to_byte_index(&file, (), &at(2, 0));
-    assert!(rt; matches!(past_lines, Err(Error::LineTooLarge { given: 2, max: 1 })));
-    let past_bytes = byte_index_to_position(&file, (), 9);
-    assert!(rt; matches!(past_bytes, Err(Error::ColumnTooLarge { given: 2, max: 1 })));
+    let cases = [
+        (at(0, 5), TooLarge::Column(5, 4)),
+        (at(1, u32::MAX), TooLarge::Column(4294967295, 1)),
+        (at(2, 0), TooLarge::Line(2, 1)),
+    ];
+    for (position, failure) in cases {
+        let past = position_to_byte_index(&file, (), &position);
+        assert_eq!(rt; too_large(&past), Some(failure));
+    }
+    let past = byte_index_to_position(&file, (), 9);
+    assert_eq!(rt; too_large(&past), Some(TooLarge::Column(2, 1)));
     Ok(())
 }
 
-/// An empty file has one line and one position.
+/// An empty file has one line and one position ..
 #[test]
 fn empty_file(rt: HostRuntime) -> Result<(), Fail> {
     let file = SimpleFile::new(rt.alloc(), "f", "")?;
     assert_eq!(rt; byte_index_to_position(&file, (), 0)?, at(0, 0));
     assert_eq!(rt; position_to_byte_index(&file, (), &at(0, 0))?, 0);
-    let past_text = byte_index_to_position(&file, (), 1);
-    assert!(rt; matches!(past_text, Err(Error::ColumnTooLarge { given: 1, max: 0 })));
-    let past_line = position_to_byte_index(&file, (), &at(0, 1));
-    assert!(rt; matches!(past_line, Err(Error::ColumnTooLarge { given: 1, max: 0 })));
-    let past_lines = position_to_byte_index(&file, (), &at(1, 0));
-    assert!(rt; matches!(past_lines, Err(Error::LineTooLarge { given: 1, max: 0 })));
     Ok(())
 }
 
-/// The Rust crate's values: the byte at a position is where users see it, and of `åä t𐐀b` the
-/// characters 3 and 6 are the bytes 5 and 10.
+/// .. and nothing past them.
+#[test]
+fn past_empty_file(rt: HostRuntime) -> Result<(), Fail> {
+    let file = SimpleFile::new(rt.alloc(), "f", "")?;
+    let past_text = byte_index_to_position(&file, (), 1);
+    assert_eq!(rt; too_large(&past_text), Some(TooLarge::Column(1, 0)));
+    let past_line = position_to_byte_index(&file, (), &at(0, 1));
+    assert_eq!(rt; too_large(&past_line), Some(TooLarge::Column(1, 0)));
+    let past_lines = position_to_byte_index(&file, (), &at(1, 0));
+    assert_eq!(rt; too_large(&past_lines), Some(TooLarge::Line(1, 0)));
+    Ok(())
+}
+
+/// The Rust crate's values: the byte at a position is where users see it.
 #[test]
 fn rust_crate_values(rt: HostRuntime) -> Result<(), Fail> {
     let text = "\nlet test = 2\nlet test1 = \"\"\nte\n";
@@ -158,27 +176,42 @@ fn rust_crate_values(rt: HostRuntime) -> Result<(), Fail> {
             column_number: 3
         }
     );
+    Ok(())
+}
 
-    let mut files = SimpleFiles::new(rt.alloc());
-    let one = files.add("unicode", "åä t𐐀b")?;
-    let two = files.add("unicode newline", "\nåä t𐐀b")?;
-    assert_eq!(rt; position_to_byte_index(&files, one, &at(0, 3))?, 5);
-    assert_eq!(rt; position_to_byte_index(&files, one, &at(0, 6))?, 10);
-    assert_eq!(rt; byte_index_to_position(&files, one, 5)?, at(0, 3));
-    assert_eq!(rt; byte_index_to_position(&files, one, 10)?, at(0, 6));
-    assert_eq!(rt; byte_index_to_position(&files, two, 11)?, at(1, 6));
-    assert!(rt;
-        matches!(
-            byte_index_to_position(&files, 2, 0),
-            Err(Error::FileMissing)
-        )
-    );
-    assert!(rt;
-        matches!(
-            position_to_byte_index(&files, 2, &at(0, 0)),
-            Err(Error::FileMissing)
-        )
-    );
+/// The files `åä t𐐀b`, and the same after a newline.
+fn unicode_files(alloc: Global) -> Result<SimpleFiles<&'static str, &'static str>, Error> {
+    let mut files = SimpleFiles::new(alloc);
+    files.add("unicode", "åä t𐐀b")?;
+    files.add("unicode newline", "\nåä t𐐀b")?;
+    Ok(files)
+}
+
+/// Of these, in the Rust crate too, the characters 3 and 6 are the bytes 5 and 10.
+#[test]
+fn rust_crate_values_in_files(rt: HostRuntime) -> Result<(), Fail> {
+    let files = unicode_files(rt.alloc())?;
+    let cases = [
+        (0, 5, at(0, 3)),
+        (0, 10, at(0, 6)),
+        (1, 6, at(1, 3)),
+        (1, 11, at(1, 6)),
+    ];
+    for (id, byte_index, position) in cases {
+        assert_eq!(rt; position_to_byte_index(&files, id, &position)?, byte_index);
+        assert_eq!(rt; byte_index_to_position(&files, id, byte_index)?, position);
+    }
+    Ok(())
+}
+
+/// A missing file fails.
+#[test]
+fn missing_file(rt: HostRuntime) -> Result<(), Fail> {
+    let files = unicode_files(rt.alloc())?;
+    let position = byte_index_to_position(&files, 2, 0);
+    assert!(rt; matches!(position, Err(Error::FileMissing)));
+    let byte_index = position_to_byte_index(&files, 2, &at(0, 0));
+    assert!(rt; matches!(byte_index, Err(Error::FileMissing)));
     Ok(())
 }
 

@@ -83,6 +83,45 @@ impl<'a> Rows for LineInput<'a> {
     }
 }
 
+/// Returns the rows, plain.
+fn plain_rows<R: Rows>(
+    rt: &impl Abort,
+    alloc: Global,
+    config: &Config<'_>,
+    rows: &R,
+) -> Result<Vec<u8>, Error> {
+    let mut plain = PlainWriter::new(Vec::new(alloc));
+    rows.render(rt, &mut Renderer::new(&mut plain, config))?;
+    Ok(plain.into_inner())
+}
+
+/// Returns the rows over [`NoColor`].
+fn rows_without_color<R: Rows>(
+    rt: &impl Abort,
+    alloc: Global,
+    config: &Config<'_>,
+    rows: &R,
+) -> Result<Vec<u8>, Error> {
+    let styles = Styles::default();
+    let mut bytes = Vec::new(alloc);
+    let mut without_color = StylesWriter::new(NoColor::new(&mut bytes), &styles);
+    rows.render(rt, &mut Renderer::new(&mut without_color, config))?;
+    Ok(bytes)
+}
+
+/// Returns the rows over [`Ansi`], in escape sequences.
+fn rows_in_color<R: Rows>(
+    rt: &impl Abort,
+    alloc: Global,
+    config: &Config<'_>,
+    rows: &R,
+) -> Result<Vec<u8>, Error> {
+    let styles = Styles::default();
+    let mut colored = StylesWriter::new(Ansi::new(Vec::new(alloc)), &styles);
+    rows.render(rt, &mut Renderer::new(&mut colored, config))?;
+    Ok(colored.into_inner().into_inner())
+}
+
 /// Asserts that the rows are this text: plain, over [`NoColor`], and over [`Ansi`] once the escape
 /// sequences are taken out; and a prefix of it where a writer stops.
 fn assert_rows<R: Rows>(
@@ -92,22 +131,14 @@ fn assert_rows<R: Rows>(
     rows: &R,
     expected: &str,
 ) -> Result<(), Error> {
-    let styles = Styles::default();
-    let mut plain = PlainWriter::new(Vec::new(alloc));
-    rows.render(rt, &mut Renderer::new(&mut plain, config))?;
-    assert_eq!(rt; plain.into_inner().as_slice(), expected.as_bytes());
-    let mut bytes = Vec::new(alloc);
-    let mut without_color = StylesWriter::new(NoColor::new(&mut bytes), &styles);
-    rows.render(rt, &mut Renderer::new(&mut without_color, config))?;
-    assert_eq!(rt; bytes.as_slice(), expected.as_bytes());
-    let mut bytes = Vec::new(alloc);
-    let mut colored = StylesWriter::new(Ansi::new(&mut bytes), &styles);
-    rows.render(rt, &mut Renderer::new(&mut colored, config))?;
-    assert_eq!(rt;
-        without_sequences(alloc, bytes.as_slice())?.as_slice(),
-        expected.as_bytes()
-    );
-    assert_rows_stop(rt, alloc, config, rows, expected)
+    let plain = plain_rows(rt, alloc, config, rows)?;
+    assert_eq!(rt; plain.as_slice(), expected.as_bytes());
+    let without_color = rows_without_color(rt, alloc, config, rows)?;
+    assert_eq!(rt; without_color.as_slice(), expected.as_bytes());
+    let colored = rows_in_color(rt, alloc, config, rows)?;
+    let text = without_sequences(alloc, colored.as_slice())?;
+    assert_eq!(rt; text.as_slice(), expected.as_bytes());
+    assert_rows_stop(rt, config, rows, &plain, &colored)
 }
 
 #[test]

@@ -8,4 +8,5 @@ mod listing;
 mod longest_file;
 mod other_files;
 mod rendering;
+mod stopping;
 mod styles;

@@ -17,18 +17,45 @@ fn write_and_flush<W: WriteStyle>(w: &mut W) -> io::Result<()> {
     w.flush()
 }
 
+/// How often a writer of plain text flushes.
+fn flushes_of_plain() -> io::Result<usize> {
+    let mut inner = Counting::default();
+    write_and_flush(&mut PlainWriter::new(&mut inner))?;
+    Ok(inner.flushes)
+}
+
+/// How often a writer of plain text over a borrowed one flushes.
+fn flushes_of_plain_ref() -> io::Result<usize> {
+    let mut inner = Counting::default();
+    write_and_flush(&mut PlainWriterRef::new(&mut inner))?;
+    Ok(inner.flushes)
+}
+
+/// How often a writer in color flushes.
+fn flushes_of_ansi() -> io::Result<usize> {
+    let styles = Styles::default();
+    let mut inner = Counting::default();
+    write_and_flush(&mut StylesWriter::new(Ansi::new(&mut inner), &styles))?;
+    Ok(inner.flushes)
+}
+
+/// How often a writer without color flushes.
+fn flushes_of_no_color() -> io::Result<usize> {
+    let styles = Styles::default();
+    let mut inner = Counting::default();
+    write_and_flush(&mut StylesWriter::new(NoColor::new(&mut inner), &styles))?;
+    Ok(inner.flushes)
+}
+
 /// Each writer passes on a write and a flush, and nothing else flushes.
 #[test]
 fn only_flush_flushes(rt: HostRuntime) -> Result<(), Fail> {
-    let styles = Styles::default();
-    let mut inner = Counting::default();
-    write_and_flush(&mut PlainWriter::new(&mut inner))?;
-    assert_eq!(rt; inner.flushes, 1);
-    write_and_flush(&mut PlainWriterRef::new(&mut inner))?;
-    assert_eq!(rt; inner.flushes, 2);
-    write_and_flush(&mut StylesWriter::new(Ansi::new(&mut inner), &styles))?;
-    assert_eq!(rt; inner.flushes, 3);
-    write_and_flush(&mut StylesWriter::new(NoColor::new(&mut inner), &styles))?;
-    assert_eq!(rt; inner.flushes, 4);
+    let flushes = [
+        flushes_of_plain()?,
+        flushes_of_plain_ref()?,
+        flushes_of_ansi()?,
+        flushes_of_no_color()?,
+    ];
+    assert_eq!(rt; flushes, [1, 1, 1, 1]);
     Ok(())
 }

@@ -1,55 +1,73 @@
 //! Writers that take little at a time, or stop.
 
-use crate::rows::{COLORED, LineInput, Rows, render_on};
+use crate::rows::{COLORED, LineInput, Rows};
 use codespan_base::diagnostic::{LabelStyle, Severity};
 use codespan_base::files::Error;
 use codespan_base::term::{Ansi, Config, PlainWriter, Styles, StylesWriter};
 use codespan_base_tests::writers::stopping::{Stop, Stopping, is_failed};
 use codespan_renderer::term::renderer::{MultiLabel, Renderer};
-use std::alloc::Global;
 use std::process::Abort;
 use std::test::Fail;
+
+/// How a writer stops, each in turn.
+const STOPS: [Stop; 4] = [
+    Stop::Fails,
+    Stop::IsInterrupted,
+    Stop::TakesNothing,
+    Stop::TakesOneByte,
+];
 
 /// Asserts that rows fail with `Io` wherever their writer stops, plain and by escape sequences;
 /// that a prefix has then been written, and that no write follows the failed one.
 pub fn assert_rows_stop<R: Rows>(
     rt: &impl Abort,
-    alloc: Global,
     config: &Config<'_>,
     rows: &R,
-    expected: &str,
+    plain: &Vec<u8>,
+    colored: &Vec<u8>,
 ) -> Result<(), Error> {
-    let styles = Styles::default();
-    let mut colored = StylesWriter::new(Ansi::new(Vec::new(alloc)), &styles);
-    rows.render(rt, &mut Renderer::new(&mut colored, config))?;
-    let colored = colored.into_inner().into_inner();
-    for stop in [
-        Stop::Fails,
-        Stop::IsInterrupted,
-        Stop::TakesNothing,
-        Stop::TakesOneByte,
-    ] {
+    let alloc = *plain.allocator();
+    for stop in STOPS {
         for writes in 0..ENOUGH {
-            let mut plain = PlainWriter::new(Stopping::new(alloc, usize::MAX, writes, stop));
-            let returned = rows.render(rt, &mut Renderer::new(&mut plain, config));
-            assert!(rt;
-                is_as_expected(&plain.into_inner(), &returned, expected.as_bytes()),
-                "{stop:?} {writes}"
-            );
             let inner = Stopping::new(alloc, usize::MAX, writes, stop);
-            let mut w = StylesWriter::new(Ansi::new(inner), &styles);
-            let returned = rows.render(rt, &mut Renderer::new(&mut w, config));
-            let inner = w.into_inner().into_inner();
-            assert!(rt;
-                is_as_expected(&inner, &returned, colored.as_slice()),
-                "{stop:?} {writes}"
-            );
-            if !inner.has_failed() {
+            assert_plain_stops(rt, config, rows, inner, plain.as_slice());
+            let inner = Stopping::new(alloc, usize::MAX, writes, stop);
+            if !assert_colored_stops(rt, config, rows, inner, colored.as_slice()) {
                 break;
             }
         }
     }
     Ok(())
+}
+
+/// Asserts that plain rows are as expected over this writer.
+fn assert_plain_stops<R: Rows>(
+    rt: &impl Abort,
+    config: &Config<'_>,
+    rows: &R,
+    inner: Stopping,
+    whole: &[u8],
+) {
+    let mut plain = PlainWriter::new(inner);
+    let returned = rows.render(rt, &mut Renderer::new(&mut plain, config));
+    assert!(rt; is_as_expected(&plain.into_inner(), &returned, whole));
+}
+
+/// Asserts that rows in escape sequences are as expected over this writer. Returns whether it
+/// stopped.
+fn assert_colored_stops<R: Rows>(
+    rt: &impl Abort,
+    config: &Config<'_>,
+    rows: &R,
+    inner: Stopping,
+    whole: &[u8],
+) -> bool {
+    let styles = Styles::default();
+    let mut w = StylesWriter::new(Ansi::new(inner), &styles);
+    let returned = rows.render(rt, &mut Renderer::new(&mut w, config));
+    let inner = w.into_inner().into_inner();
+    assert!(rt; is_as_expected(&inner, &returned, whole));
+    inner.has_failed()
 }
 
 /// Returns whether a call failed exactly where its writer stopped, and the writer has what it
@@ -66,25 +84,15 @@ const ENOUGH: usize = 100_000;
 
 #[test]
 fn writers_that_stop(rt: HostRuntime) -> Result<(), Fail> {
-    let styles = Styles::default();
+    let config = Config::default();
     let labels = [(LabelStyle::Primary, 1..2, "m")];
     let line = LineInput::labeled("abc", &labels);
     for most in [1, 3, 100] {
         for writes in 0..100 {
-            let mut plain = PlainWriter::new(Stopping::new(rt.alloc(), most, writes, Stop::Fails));
-            let returned = render_on(&rt, &mut plain, line);
-            assert!(rt;
-                is_as_expected(&plain.into_inner(), &returned, PLAIN.as_bytes()),
-                "{most} {writes}"
-            );
-
-            let mut inner = Stopping::new(rt.alloc(), most, writes, Stop::Fails);
-            let mut w = StylesWriter::new(Ansi::new(&mut inner), &styles);
-            let returned = render_on(&rt, &mut w, line);
-            assert!(rt;
-                is_as_expected(&inner, &returned, COLORED.as_bytes()),
-                "{most} {writes}"
-            );
+            let inner = Stopping::new(rt.alloc(), most, writes, Stop::Fails);
+            assert_plain_stops(&rt, &config, &line, inner, PLAIN.as_bytes());
+            let inner = Stopping::new(rt.alloc(), most, writes, Stop::Fails);
+            assert_colored_stops(&rt, &config, &line, inner, COLORED.as_bytes());
         }
     }
     Ok(())

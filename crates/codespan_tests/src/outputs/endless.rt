@@ -8,31 +8,59 @@ use codespan_reporting::term::{
     Config, NoColor, RichDiagnostic, Styles, StylesWriter, emit_into_string, emit_to_io_write,
     emit_to_write_style,
 };
+use std::alloc::Global;
 use std::test::Fail;
+
+/// A configuration whose tabs have the greatest width.
+fn widest_tabs() -> Config<'static> {
+    Config {
+        tab_width: usize::MAX,
+        ..Config::default()
+    }
+}
+
+/// A diagnostic with a label at the character after a tab.
+fn after_tab(alloc: Global) -> Result<Diagnostic<()>, Error> {
+    let label = Label::primary(alloc, (), 1..2).with_message("m")?;
+    Diagnostic::error(alloc).with_label(label)
+}
+
+/// What is written of a tab of the greatest width by 40 writes of a byte each.
+const PREFIX: &str = "error: \n  ┌─ f:1:2\n  │\n1 │      ";
 
 /// A tab of the greatest width is written as spaces until the writer fails.
 #[test]
 fn endless_tab(rt: HostRuntime) -> Result<(), Fail> {
-    let alloc = rt.alloc();
-    let file = SimpleFile::new(alloc, "f", "\tx")?;
-    let label = Label::primary(alloc, (), 1..2).with_message("m")?;
-    let diagnostic = Diagnostic::error(alloc).with_label(label)?;
-    let config = Config {
-        tab_width: usize::MAX,
-        ..Config::default()
-    };
-    let mut inner = Stopping::new(alloc, 1, 40, Stop::Fails);
-    let failed = emit_to_io_write(&mut inner, &config, &file, &diagnostic);
+    let file = SimpleFile::new(rt.alloc(), "f", "\tx")?;
+    let diagnostic = after_tab(rt.alloc())?;
+    let mut inner = Stopping::new(rt.alloc(), 1, 40, Stop::Fails);
+    let failed = emit_to_io_write(&mut inner, &widest_tabs(), &file, &diagnostic);
     assert!(rt; matches!(failed, Err(Error::Io(_))));
-    let prefix = "error: \n  ┌─ f:1:2\n  │\n1 │      ";
-    assert_eq!(rt; inner.text.as_slice(), prefix.as_bytes());
-    let styles = Styles::default();
-    let mut inner = Stopping::new(alloc, 1, 40, Stop::Fails);
-    let mut without_color = StylesWriter::new(NoColor::new(&mut inner), &styles);
-    let failed = emit_to_write_style(&mut without_color, &config, &file, &diagnostic);
-    assert!(rt; matches!(failed, Err(Error::Io(_))));
-    assert_eq!(rt; inner.text.as_slice(), prefix.as_bytes());
+    assert_eq!(rt; inner.text.as_slice(), PREFIX.as_bytes());
     Ok(())
+}
+
+/// So it is by a writer of styles.
+#[test]
+fn endless_tab_without_color(rt: HostRuntime) -> Result<(), Fail> {
+    let file = SimpleFile::new(rt.alloc(), "f", "\tx")?;
+    let diagnostic = after_tab(rt.alloc())?;
+    let styles = Styles::default();
+    let mut inner = Stopping::new(rt.alloc(), 1, 40, Stop::Fails);
+    let mut without_color = StylesWriter::new(NoColor::new(&mut inner), &styles);
+    let failed = emit_to_write_style(&mut without_color, &widest_tabs(), &file, &diagnostic);
+    assert!(rt; matches!(failed, Err(Error::Io(_))));
+    assert_eq!(rt; inner.text.as_slice(), PREFIX.as_bytes());
+    Ok(())
+}
+
+/// A diagnostic with a label in one line, and one over the next two.
+fn with_two_labels(alloc: Global) -> Result<Diagnostic<()>, Error> {
+    let single = Label::primary(alloc, (), 2..4).with_message("m")?;
+    let multi = Label::secondary(alloc, (), 5..8).with_message("n")?;
+    Diagnostic::error(alloc)
+        .with_label(single)?
+        .with_label(multi)
 }
 
 /// Context lines end with the file, however many the configuration has.
@@ -40,9 +68,7 @@ fn endless_tab(rt: HostRuntime) -> Result<(), Fail> {
 fn endless_context(rt: HostRuntime) -> Result<(), Fail> {
     let alloc = rt.alloc();
     let file = SimpleFile::new(alloc, "f", "a\nbb\nc\nd\ne\n")?;
-    let diagnostic = Diagnostic::error(alloc)
-        .with_label(Label::primary(alloc, (), 2..4).with_message("m")?)?
-        .with_label(Label::secondary(alloc, (), 5..8).with_message("n")?)?;
+    let diagnostic = with_two_labels(alloc)?;
     let config = Config {
         start_context_lines: usize::MAX,
         end_context_lines: usize::MAX,

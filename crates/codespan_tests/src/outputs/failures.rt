@@ -4,15 +4,13 @@ use crate::outputs::listing::{Failed, Listing};
 use crate::outputs::rendering::assert_view_writes;
 use codespan_reporting::diagnostic::{Diagnostic, Label};
 use codespan_reporting::files::{Error, Files, SimpleFile};
-use codespan_reporting::term::{
-    Config, Layout, PlainWriter, Renderer, RichDiagnostic, emit_into_string,
-};
+use codespan_reporting::term::{Config, Layout, RichDiagnostic, emit_into_string};
 use std::alloc::Global;
+use std::fmt;
 use std::fmt::Display;
-use std::io::{ErrorKind, Write};
+use std::ops::Range;
 use std::process::Abort;
 use std::test::Fail;
-use std::{fmt, io};
 
 /// A lookup of a [`Listing`].
 #[derive(Clone, Copy)]
@@ -88,17 +86,30 @@ fn failed_lookups(rt: HostRuntime) -> Result<(), Fail> {
         (LookupCall::Location(0), ""),
         (LookupCall::Source, "error: \n"),
     ];
-    let config = Config::default();
-    let diagnostic = Diagnostic::error(alloc).with_label(Label::primary(alloc, (), 0..1))?;
     for (lookup, prefix) in cases {
         let failed = lookup.failed_beside(Failed::default());
         let files = Listing::new(alloc, "f", "ab", failed)?;
-        let view = RichDiagnostic::new(&diagnostic, &config);
-        let returned = assert_view_writes(&rt, alloc, &config, view, &files, prefix)?;
-        assert!(rt; lookup.is_known(&returned));
-        let returned = emit_into_string(&config, &files, &diagnostic).map(|_| ());
-        assert!(rt; lookup.is_known(&returned));
+        assert_failed_lookup(&rt, alloc, lookup, &files, prefix)?;
     }
+    Ok(())
+}
+
+/// Asserts that the view and a call that emits return the error of this lookup of a file, and that
+/// the view writes this text before.
+fn assert_failed_lookup(
+    rt: &impl Abort,
+    alloc: Global,
+    lookup: LookupCall,
+    files: &Listing<'_>,
+    prefix: &str,
+) -> Result<(), Error> {
+    let config = Config::default();
+    let diagnostic = Diagnostic::error(alloc).with_label(Label::primary(alloc, (), 0..1))?;
+    let view = RichDiagnostic::new(&diagnostic, &config);
+    let returned = assert_view_writes(rt, alloc, &config, view, files, prefix)?;
+    assert!(rt; lookup.is_known(&returned));
+    let returned = emit_into_string(&config, files, &diagnostic).map(|_| ());
+    assert!(rt; lookup.is_known(&returned));
     Ok(())
 }
 
@@ -146,30 +157,51 @@ fn written_before(lookup: LookupCall, layout: Layout) -> &'static str {
     }
 }
 
+/// A diagnostic with labels of these two ranges, without messages.
+fn with_two_labels(
+    alloc: Global,
+    first: Range<usize>,
+    second: Range<usize>,
+) -> Result<Diagnostic<()>, Error> {
+    Diagnostic::error(alloc)
+        .with_label(Label::primary(alloc, (), first))?
+        .with_label(Label::primary(alloc, (), second))
+}
+
+/// Asserts that the error of the first one of two lookups that fail is returned.
+fn assert_first_error(
+    rt: &impl Abort,
+    alloc: Global,
+    layout: Layout,
+    first: LookupCall,
+    next: LookupCall,
+) -> Result<(), Error> {
+    let diagnostic = with_two_labels(alloc, 2..7, 14..15)?;
+    let config = Config {
+        before_label_lines: 1,
+        after_label_lines: 1,
+        layout,
+        ..Config::default()
+    };
+    let failed = first.failed_beside(next.failed_beside(Failed::default()));
+    let files = Listing::new(alloc, "f", "a\nb\nc\nd\ne\nf\ng\nh\ni", failed)?;
+    let view = RichDiagnostic::new(&diagnostic, &config);
+    let prefix = written_before(first, layout);
+    let returned = assert_view_writes(rt, alloc, &config, view, &files, prefix)?;
+    assert!(rt; first.is_known(&returned));
+    Ok(())
+}
+
 /// Of two lookups that fail the first one's error is returned. Each lookup of an output fails in
 /// turn, together with the next one.
 #[test]
 fn first_error(rt: HostRuntime) -> Result<(), Fail> {
     let alloc = rt.alloc();
-    let diagnostic = Diagnostic::error(alloc)
-        .with_label(Label::primary(alloc, (), 2..7))?
-        .with_label(Label::primary(alloc, (), 14..15))?;
     for layout in [Layout::Classic, Layout::Unbroken] {
-        let config = Config {
-            before_label_lines: 1,
-            after_label_lines: 1,
-            layout,
-            ..Config::default()
-        };
         let order = lookups_in_order(alloc, layout)?;
         for (position, first) in order.iter().enumerate() {
             let next = order.get(position + 1).unwrap_or(first);
-            let failed = first.failed_beside(next.failed_beside(Failed::default()));
-            let files = Listing::new(alloc, "f", "a\nb\nc\nd\ne\nf\ng\nh\ni", failed)?;
-            let view = RichDiagnostic::new(&diagnostic, &config);
-            let prefix = written_before(*first, layout);
-            let returned = assert_view_writes(&rt, alloc, &config, view, &files, prefix)?;
-            assert!(rt; first.is_known(&returned), "{position}");
+            assert_first_error(&rt, alloc, layout, *first, *next)?;
         }
     }
     Ok(())
@@ -183,9 +215,7 @@ fn failed_number_of_filled_line(rt: HostRuntime) -> Result<(), Fail> {
     let lookup = LookupCall::LineNumber(1);
     let failed = lookup.failed_beside(Failed::default());
     let files = Listing::new(alloc, "f", "a\nb\nc", failed)?;
-    let diagnostic = Diagnostic::error(alloc)
-        .with_label(Label::primary(alloc, (), 0..1))?
-        .with_label(Label::primary(alloc, (), 4..5))?;
+    let diagnostic = with_two_labels(alloc, 0..1, 4..5)?;
     let cases = [
         (Layout::Classic, "error: \n  ┌─ f:0:1\n  │\n0 │ a\n  │ ^\n"),
         (Layout::Unbroken, ""),
@@ -228,70 +258,5 @@ fn unprintable_name(rt: HostRuntime) -> Result<(), Fail> {
     assert!(rt; matches!(returned, Err(Error::FormatError)));
     let returned = emit_into_string(&config, &files, &diagnostic);
     assert!(rt; matches!(returned, Err(Error::FormatError)));
-    Ok(())
-}
-
-/// A writer that takes at most three bytes at a time, and fails after so many writes.
-#[derive(Drop)]
-struct Stopping {
-    text: Vec<u8>,
-    writes_left: usize,
-}
-
-impl Write for Stopping {
-    fn write(&mut self, buf: &[u8]) -> io::Result<usize> {
-        if self.writes_left == 0 {
-            return Err(io::Error::from(ErrorKind::Interrupted));
-        }
-        self.writes_left -= 1;
-        let count = buf.len().min(3);
-        self.text.extend_from_slice(&buf[..count])?;
-        Ok(count)
-    }
-
-    fn flush(&mut self) -> io::Result<()> {
-        Ok(())
-    }
-}
-
-/// Renders to a writer that fails after so many writes, and returns whether the whole output was
-/// written. If it was not, the error is `Io`, and the writer has a prefix of it.
-fn is_whole_after(
-    rt: &impl Abort,
-    alloc: Global,
-    config: &Config<'_>,
-    diagnostic: &Diagnostic<()>,
-    writes: usize,
-) -> Result<bool, Error> {
-    let files = SimpleFile::new(alloc, "f", "ab")?;
-    let mut plain = PlainWriter::new(Stopping {
-        text: Vec::new(alloc),
-        writes_left: writes,
-    });
-    let mut renderer = Renderer::new(&mut plain, config);
-    let returned = RichDiagnostic::new(diagnostic, config).render(&files, &mut renderer);
-    let text = plain.into_inner().text;
-    let whole = "error: m\n  ┌─ f:1:1\n  │\n1 │ ab\n  │ ^ x\n\n".as_bytes();
-    assert!(rt; whole.starts_with(text.as_slice()));
-    let is_whole = text.len() == whole.len();
-    match returned {
-        Ok(()) => assert!(rt; is_whole),
-        Err(error) => assert!(rt; !is_whole && matches!(error, Error::Io(_))),
-    }
-    Ok(is_whole)
-}
-
-#[test]
-fn writer_that_stops(rt: HostRuntime) -> Result<(), Fail> {
-    let alloc = rt.alloc();
-    let config = Config::default();
-    let diagnostic = Diagnostic::error(alloc)
-        .with_message("m")?
-        .with_label(Label::primary(alloc, (), 0..1).with_message("x")?)?;
-    for writes in 0..100 {
-        is_whole_after(&rt, alloc, &config, &diagnostic, writes)?;
-    }
-    assert!(rt; !is_whole_after(&rt, alloc, &config, &diagnostic, 20)?);
-    assert!(rt; is_whole_after(&rt, alloc, &config, &diagnostic, 100)?);
     Ok(())
 }

@@ -2,19 +2,28 @@
 
 use codespan_base_tests::writers::counting::Counting;
 use codespan_reporting::diagnostic::{Diagnostic, Label};
-use codespan_reporting::files::SimpleFile;
+use codespan_reporting::files::{Error, SimpleFile};
 use codespan_reporting::term::{
     Config, DisplayStyle, PlainWriter, emit, emit_to_io_write, emit_to_write_style,
 };
+use std::alloc::Global;
 use std::test::Fail;
+
+/// Emits a diagnostic by each call that writes, and returns how often these flushed.
+fn flushes_of(alloc: Global, config: &Config<'_>) -> Result<usize, Error> {
+    let file = SimpleFile::new(alloc, "f", "ab")?;
+    let diagnostic = Diagnostic::error(alloc).with_label(Label::primary(alloc, (), 0..1))?;
+    let mut inner = Counting::default();
+    emit_to_io_write(&mut inner, config, &file, &diagnostic)?;
+    emit(&mut inner, config, &file, &diagnostic)?;
+    let mut plain = PlainWriter::new(&mut inner);
+    emit_to_write_style(&mut plain, config, &file, &diagnostic)?;
+    Ok(inner.flushes)
+}
 
 /// No call that emits flushes, in any style.
 #[test]
 fn no_emit_flushes(rt: HostRuntime) -> Result<(), Fail> {
-    let alloc = rt.alloc();
-    let file = SimpleFile::new(alloc, "f", "ab")?;
-    let label = Label::primary(alloc, (), 0..1);
-    let diagnostic = Diagnostic::error(alloc).with_label(label)?;
     for display_style in [
         DisplayStyle::Rich,
         DisplayStyle::Medium,
@@ -24,12 +33,7 @@ fn no_emit_flushes(rt: HostRuntime) -> Result<(), Fail> {
             display_style,
             ..Config::default()
         };
-        let mut inner = Counting::default();
-        emit_to_io_write(&mut inner, &config, &file, &diagnostic)?;
-        emit(&mut inner, &config, &file, &diagnostic)?;
-        let mut plain = PlainWriter::new(&mut inner);
-        emit_to_write_style(&mut plain, &config, &file, &diagnostic)?;
-        assert_eq!(rt; inner.flushes, 0);
+        assert_eq!(rt; flushes_of(rt.alloc(), &config)?, 0);
     }
     Ok(())
 }

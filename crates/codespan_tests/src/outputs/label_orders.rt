@@ -5,6 +5,7 @@ use codespan_reporting::diagnostic::{Diagnostic, Label, LabelStyle};
 use codespan_reporting::files::{Error, SimpleFile};
 use codespan_reporting::term::{Config, RichDiagnostic, emit_into_string};
 use std::alloc::Global;
+use std::process::Abort;
 use std::test::Fail;
 
 /// Returns the text: fifty equal lines.
@@ -57,23 +58,40 @@ fn position_at(order: usize, index: usize) -> usize {
     }
 }
 
+/// Returns a diagnostic with 200 labels in this order.
+fn with_labels_in(alloc: Global, order: usize) -> Result<Diagnostic<()>, Error> {
+    let mut diagnostic = Diagnostic::error(alloc);
+    for index in 0..200 {
+        let label = label_of(alloc, position_at(order, index))?;
+        diagnostic = diagnostic.with_label(label)?;
+    }
+    Ok(diagnostic)
+}
+
+/// Asserts that a diagnostic has this output, by a call that emits and by the view.
+fn assert_output(
+    rt: &impl Abort,
+    alloc: Global,
+    source: &str,
+    diagnostic: &Diagnostic<()>,
+    expected: &str,
+) -> Result<(), Error> {
+    let files = SimpleFile::new(alloc, "f", source)?;
+    let config = Config::default();
+    let text = emit_into_string(&config, &files, diagnostic)?;
+    assert_eq!(rt; text.as_str(), expected);
+    let view = RichDiagnostic::new(diagnostic, &config);
+    assert_view_writes(rt, alloc, &config, view, &files, expected)?
+}
+
 #[test]
 fn label_orders(rt: HostRuntime) -> Result<(), Fail> {
-    let alloc = rt.alloc();
-    let source = source_of(alloc)?;
-    let files = SimpleFile::new(alloc, "f", source.as_str())?;
-    let expected = output(alloc)?;
-    let config = Config::default();
+    let source = source_of(rt.alloc())?;
+    let expected = output(rt.alloc())?;
     for order in 0..3 {
-        let mut diagnostic = Diagnostic::error(alloc);
-        for index in 0..200 {
-            let label = label_of(alloc, position_at(order, index))?;
-            diagnostic = diagnostic.with_label(label)?;
-        }
-        let text = emit_into_string(&config, &files, &diagnostic)?;
-        assert_eq!(rt; text.as_str(), expected.as_str(), "order {order}");
-        let view = RichDiagnostic::new(&diagnostic, &config);
-        assert_view_writes(&rt, alloc, &config, view, &files, expected.as_str())??;
+        let diagnostic = with_labels_in(rt.alloc(), order)?;
+        let (source, expected) = (source.as_str(), expected.as_str());
+        assert_output(&rt, rt.alloc(), source, &diagnostic, expected)?;
     }
     Ok(())
 }

@@ -26,24 +26,46 @@ fn mapped_overflow(rt: HostRuntime) -> Result<(), Fail> {
     Ok(())
 }
 
-/// A missing file fails with its error, and nothing is written.
-#[test]
-fn missing_file(rt: HostRuntime) -> Result<(), Fail> {
-    let alloc = rt.alloc();
-    let files = files_of(alloc, &[("f", "ab")])?;
-    let diagnostic = Diagnostic::error(alloc)
+/// Returns a diagnostic with a label in the first file, and one in the eighth.
+fn in_first_and_eighth(alloc: Global) -> Result<Diagnostic<usize>, Error> {
+    Diagnostic::error(alloc)
         .with_message("m")?
         .with_label(Label::primary(alloc, 0, 0..1))?
-        .with_label(Label::primary(alloc, 7, 0..1))?;
-    let config = Config::default();
-    let failed = emit_into_string(&config, &files, &diagnostic);
+        .with_label(Label::primary(alloc, 7, 0..1))
+}
+
+/// A missing file fails with its error ..
+#[test]
+fn missing_file(rt: HostRuntime) -> Result<(), Fail> {
+    let files = files_of(rt.alloc(), &[("f", "ab")])?;
+    let diagnostic = in_first_and_eighth(rt.alloc())?;
+    let failed = emit_into_string(&Config::default(), &files, &diagnostic);
     assert!(rt; matches!(failed, Err(Error::FileMissing)));
+    Ok(())
+}
+
+/// .. and nothing is written.
+#[test]
+fn missing_file_in_view(rt: HostRuntime) -> Result<(), Fail> {
+    let alloc = rt.alloc();
+    let files = files_of(alloc, &[("f", "ab")])?;
+    let diagnostic = in_first_and_eighth(alloc)?;
+    let config = Config::default();
     let mut plain = PlainWriter::new(Vec::new(alloc));
     let mut renderer = Renderer::new(&mut plain, &config);
     let failed = RichDiagnostic::new(&diagnostic, &config).render(&files, &mut renderer);
     assert!(rt; matches!(failed, Err(Error::FileMissing)));
     assert!(rt; plain.into_inner().is_empty());
     Ok(())
+}
+
+/// Returns a diagnostic with a label over five lines, and one on the first of these.
+fn with_multi_line_label(alloc: Global) -> Result<Diagnostic<()>, Error> {
+    let multi = Label::primary(alloc, (), 9..20).with_message("p")?;
+    let single = Label::secondary(alloc, (), 10..11).with_message("q")?;
+    Diagnostic::error(alloc)
+        .with_label(multi)?
+        .with_label(single)
 }
 
 /// Renders a multi-line label where the configurations of the view and of the renderer differ in
@@ -70,9 +92,7 @@ fn assert_rendered_by_two(
         ..Config::default()
     };
     let file = SimpleFile::new(alloc, "f", "a\nb\nc\nd\n\tgh\ni\nj\nk\n\tl\nm")?;
-    let diagnostic = Diagnostic::error(alloc)
-        .with_label(Label::primary(alloc, (), 9..20).with_message("p")?)?
-        .with_label(Label::secondary(alloc, (), 10..11).with_message("q")?)?;
+    let diagnostic = with_multi_line_label(alloc)?;
     let view = RichDiagnostic::new(&diagnostic, &view_config);
     assert_view_writes(rt, alloc, &renderer_config, view, &file, output)?
 }

@@ -1,0 +1,118 @@
+//! Each lookup, called through the trait alone, over each file database.
+
+use crate::files::example::Listing;
+use codespan_base::files::{
+    Error, Files, Location, MappedFile, SimpleFile, SimpleFiles, default_column_number,
+    default_location,
+};
+use std::alloc::Global;
+use std::convert::AsStr;
+use std::test::Fail;
+
+/// What the lookups of one byte of a file return.
+#[derive(Drop)]
+struct Answers {
+    name: String,
+    line_index: usize,
+    line_number: usize,
+    column_number: usize,
+    location: Location,
+    line: String,
+}
+
+/// Looks up all of a byte, through the trait. The law keeps the line inside the source.
+fn answers_at<'a, F: Files<'a>>(
+    alloc: Global,
+    files: &'a F,
+    id: F::FileId,
+    byte_index: usize,
+) -> Result<Answers, Error> {
+    let line_index = files.line_index(id, byte_index)?;
+    let source = files.source(id)?;
+    let range = files.line_range(id, line_index)?;
+    Ok(Answers {
+        name: files.name(id)?.to_string(alloc)?,
+        line_index,
+        line_number: files.line_number(id, line_index)?,
+        column_number: files.column_number(id, line_index, byte_index)?,
+        location: files.location(id, byte_index)?,
+        line: String::from_str(alloc, &source.as_str()[range])?,
+    })
+}
+
+/// A text of three lines, the second of which has a character of two bytes.
+const THREE_LINES: &str = "foo\nbär\nbaz";
+
+impl Answers {
+    /// Returns whether these are the answers of byte 7 of `THREE_LINES`, in its second line, where
+    /// that line has this text and this number.
+    fn are_of_second_line(&self, line: &str, number: usize) -> bool {
+        let location = Location {
+            line_number: number,
+            column_number: 3,
+        };
+        (self.name.as_str(), self.line.as_str()) == ("f", line)
+            && (self.line_index, self.line_number, self.column_number) == (1, number, 3)
+            && self.location == location
+    }
+}
+
+/// The only file of a table, whose id is 0.
+fn table(alloc: Global) -> Result<SimpleFiles<&'static str, &'static str>, Error> {
+    let mut table = SimpleFiles::new(alloc);
+    table.add("f", THREE_LINES)?;
+    Ok(table)
+}
+
+/// A file whose second line has the number 40.
+fn mapped(alloc: Global) -> Result<MappedFile<&'static str, &'static str>, Error> {
+    let mut mapped = MappedFile::new(alloc, "f", THREE_LINES)?;
+    mapped.set_line(1, 40)?;
+    Ok(mapped)
+}
+
+#[test]
+fn generic_calls(rt: HostRuntime) -> Result<(), Fail> {
+    let file = SimpleFile::new(rt.alloc(), "f", THREE_LINES)?;
+    let answers = answers_at(rt.alloc(), &file, (), 7)?;
+    assert!(rt; answers.are_of_second_line("bär\n", 2));
+    Ok(())
+}
+
+#[test]
+fn generic_calls_of_listing(rt: HostRuntime) -> Result<(), Fail> {
+    let listing = Listing::new(rt.alloc(), "f", THREE_LINES)?;
+    let answers = answers_at(rt.alloc(), &listing, (), 7)?;
+    assert!(rt; answers.are_of_second_line("bär\n", 1));
+    Ok(())
+}
+
+#[test]
+fn generic_calls_of_mapped_file(rt: HostRuntime) -> Result<(), Fail> {
+    let mapped = mapped(rt.alloc())?;
+    let answers = answers_at(rt.alloc(), &mapped, (), 7)?;
+    assert!(rt; answers.are_of_second_line("bär", 40));
+    assert_eq!(rt;
+        default_location(&mapped, (), 7)?,
+        Location {
+            line_number: 40,
+            column_number: 3
+        }
+    );
+    Ok(())
+}
+
+#[test]
+fn generic_calls_of_table(rt: HostRuntime) -> Result<(), Fail> {
+    let table = table(rt.alloc())?;
+    let answers = answers_at(rt.alloc(), &table, 0, 7)?;
+    assert!(rt; answers.are_of_second_line("bär\n", 2));
+    assert_eq!(rt; default_column_number(&table, 0, 1, 7)?, 3);
+    assert!(rt;
+        matches!(
+            answers_at(rt.alloc(), &table, 7, 0),
+            Err(Error::FileMissing)
+        )
+    );
+    Ok(())
+}
