@@ -1,22 +1,25 @@
 //! The lanes of a row, left of the text.
 
-ghost use Rattle.std.specs.Prelude.{◌≡◌, ◌+◌, ◌<◌, ◌≤◌, ◌&&◌, ℕ, None, drop, max};
+ghost use Rattle.std.specs.Prelude.{◌≡◌, ◌+◌, ◌<◌, ◌≤◌, ℕ, None, drop, max};
 ghost use Rattle.std.specs.Option.{option_map};
 ghost use Rattle.codespan_base.specs.WriterLaw.{Writes};
 ghost use Rattle.codespan_picture.specs.Arguments.{lane_mark_view, multi_label_view};
 ghost use Rattle.codespan_renderer.specs.Private.LineViews.{context_view, lanes_view, lane_row_view, lane_of_view, row_lanes_view};
 ghost use Rattle.codespan_renderer.specs.Private.RowViews.{filled_lane_view};
 ghost use Rattle.codespan_renderer.specs.Private.LaneMarksLeft.{lane_mark_here, lane_marks_after};
-ghost use Rattle.codespan_picture.specs.Lanes.{filling, lane_cells, corner_line, is_unbroken, begins_in_source_row, row_crossing, row_shape, underline_shape};
+ghost use Rattle.codespan_picture.specs.Lanes.{filling, lane_cells, corner_line, row_crossing};
 
 use crate::term::renderer::MultiLabel;
+use crate::term::renderer::lanes::shapes::shape_in;
 use crate::term::renderer::line::{Lanes, RowContext};
 use crate::term::renderer::parts::write_label_glyph;
 use codespan_base::diagnostic::LabelStyle;
+use codespan_base::term::Chars;
 use codespan_base::term::config::put_style::PutStyle;
 use codespan_base::term::config::writing::{put_repeated, put_spaces};
-use codespan_base::term::{Chars, Layout};
 pub use codespan_picture::lanes::Shape;
+
+mod shapes;
 
 /// The kind of a row, as far as its lanes go.
 #[derive(Clone, Copy)]
@@ -29,62 +32,6 @@ pub enum LaneRow<'d> {
     Below,
     /// The underline row of a multi-line label mark: its lane, its style, and its part.
     Underline(usize, LabelStyle, MultiLabel<'d>),
-}
-
-/// Returns what a multi-line label mark shows in a row of this kind.
-fn shape_in(
-    layout: Layout,
-    leading: usize,
-    row: LaneRow<'_>,
-    lane: usize,
-    part: MultiLabel<'_>,
-) -> Shape
-    ensures { result
-        ≡ row_shape layout leading (lane_row_view row.entry) lane (multi_label_view part.entry) }
-{
-    match (row, part) {
-        (LaneRow::Source, MultiLabel::Top(start)) if start <= leading => Shape::TopCorner,
-        (LaneRow::Source | LaneRow::Plain, MultiLabel::Top(_)) => Shape::Gap,
-        (LaneRow::Below, MultiLabel::Top(start)) if goes_on(layout, leading, start) => Shape::Bar,
-        (LaneRow::Below, MultiLabel::Top(_)) => Shape::Gap,
-        (LaneRow::Underline(corner_lane, _, _), part) => {
-            underline_shape(layout, leading, corner_lane, lane, part)
-        }
-        (_, _) => Shape::Bar,
-    }
-}
-
-/// Returns whether a lane with its corner in the source row goes on below it.
-fn goes_on(layout: Layout, leading: usize, start: usize) -> bool
-    ensures { result ≡ is_unbroken layout && begins_in_source_row leading start }
-{
-    match layout {
-        Layout::Classic => false,
-        Layout::Unbroken => start <= leading,
-    }
-}
-
-/// Returns what a multi-line label mark shows in the underline row of the lane `corner_lane`.
-fn underline_shape(
-    layout: Layout,
-    leading: usize,
-    corner_lane: usize,
-    lane: usize,
-    part: MultiLabel<'_>,
-) -> Shape
-    ensures { result ≡ underline_shape layout leading corner_lane lane
-        (multi_label_view part.entry) }
-{
-    match part {
-        MultiLabel::Top(start) if goes_on(layout, leading, start) => Shape::Bar,
-        MultiLabel::Top(_) if lane == corner_lane => Shape::TopCorner,
-        MultiLabel::Top(_) if lane < corner_lane => Shape::Bar,
-        MultiLabel::Top(_) => Shape::Gap,
-        MultiLabel::Left => Shape::Bar,
-        MultiLabel::Bottom(_, _) if lane == corner_lane => Shape::BottomCorner,
-        MultiLabel::Bottom(_, _) if lane < corner_lane => Shape::Gap,
-        MultiLabel::Bottom(_, _) => Shape::Bar,
-    }
 }
 
 /// Returns the multi-line label mark of an underline row whose corner is left of the lane.

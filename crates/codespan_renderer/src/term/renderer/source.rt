@@ -1,4 +1,4 @@
-//! The source row of a line, and all rows of a line.
+//! The source row of a line.
 
 ghost use Rattle.std.specs.Prelude.{◌≡◌, ◌<◌, ◌≤◌, ◌++◌, ◌==◌, None, drop, false, length, map, true};
 ghost use Rattle.std.specs.List.{list_any};
@@ -9,28 +9,24 @@ ghost use Rattle.codespan_picture.specs.CharMetrics.{char_metrics};
 ghost use Rattle.codespan_picture.specs.declared.char_metrics.Metrics as metrics;
 ghost use Rattle.codespan_picture.specs.Arguments.{single_label_views, lane_mark_view};
 ghost use Rattle.codespan_renderer.specs.Private.LineViews.{context_view, line_view};
-ghost use Rattle.codespan_renderer.specs.Private.RowViews.{caret_rows_view, source_lanes_view};
+ghost use Rattle.codespan_renderer.specs.Private.RowViews.{source_lanes_view};
 ghost use Rattle.codespan_renderer.specs.Private.PrimaryLaneMarks.{AreLaneMarksOf};
-ghost use Rattle.codespan_renderer.specs.Private.Runs.{optional_label_view};
 ghost use Rattle.codespan_renderer.specs.Private.LineSources.{sourced_line};
 ghost use Rattle.codespan_renderer.specs.Private.LabelCursors.{is_covered};
-ghost use Rattle.codespan_picture.specs.Rows.{RowContext as RowContextSpec, rows_of, trailing};
+ghost use Rattle.codespan_picture.specs.Rows.{RowContext as RowContextSpec};
 ghost use Rattle.codespan_picture.specs.RowParts.{border, change, colored_text, source_style};
-ghost use Rattle.codespan_picture.specs.RowStreams.{source_row, stream_of_rows};
+ghost use Rattle.codespan_picture.specs.RowStreams.{source_row};
 
-use crate::term::renderer::carets::{covers, greatest_end, write_caret_row};
+use crate::term::renderer::carets::{covers, greatest_end};
 use crate::term::renderer::char_cursor::CharCursor;
 use crate::term::renderer::char_metrics::Metrics;
 use crate::term::renderer::lanes::{LaneRow, inner_gutter};
 use crate::term::renderer::line::{Line, RowContext};
 use crate::term::renderer::line_source::LineSource;
-use crate::term::renderer::messages::Messages;
 use crate::term::renderer::parts::{
     border_left, change_style, outer_gutter_number, write_newline, write_space,
 };
-use crate::term::renderer::pointers::write_hanging;
 use crate::term::renderer::primary_lane_marks::PrimaryLaneMarks;
-use crate::term::renderer::underlines::write_underlines;
 use crate::term::renderer::{MultiLabel, SingleLabel};
 use codespan_base::diagnostic::LabelStyle;
 use codespan_base::term::config::put_style::PutStyle;
@@ -250,7 +246,7 @@ pub fn write_source_lanes<W: PutStyle>(
 }
 
 /// Writes the source row of a line.
-fn write_source_row<W: PutStyle, S: LineSource>(
+pub fn write_source_row<W: PutStyle, S: LineSource>(
     w: &mut W,
     context: RowContext<'_>,
     line: Line<'_, '_>,
@@ -264,45 +260,4 @@ fn write_source_row<W: PutStyle, S: LineSource>(
     write_source_lanes(w, context, line)?;
     write_text(w, context, line, source)?;
     write_newline(w)
-}
-
-/// Writes the caret row of a line, where it has labels.
-fn write_caret_rows<W: PutStyle, S: LineSource>(
-    w: &mut W,
-    context: RowContext<'_>,
-    line: Line<'_, '_>,
-    source: &S,
-    messages: Messages<'_, '_>,
-) -> Result<(), W::Error>
-    requires of { S.of source.now ≡ sourced_line context line }
-    requires trailing { optional_label_view messages.trailing
-        ≡ trailing (single_label_views line.labels.now) }
-    ensures { Writes (W.sink w.old) (caret_rows_view context.entry line.entry) result
-        (W.sink w.new) }
-{
-    if line.labels.is_empty() {
-        Ok(())
-    } else {
-        write_caret_row(w, context, line, source, messages)
-    }
-}
-
-/// Writes all rows of a line: its source, its carets, pointers and hanging messages, and its
-/// underlines.
-pub fn write_line<W: PutStyle, S: LineSource>(
-    w: &mut W,
-    context: RowContext<'_>,
-    line: Line<'_, '_>,
-    source: &S,
-) -> Result<(), W::Error>
-    requires of { S.of source.now ≡ sourced_line context line }
-    ensures { Writes (W.sink w.old)
-        (stream_of_rows (context_view context.entry) (rows_of (line_view line.entry)))
-        result (W.sink w.new) }
-{
-    let messages = Messages::of(line.labels);
-    write_source_row(w, context, line, source)?;
-    write_caret_rows(w, context, line, source, messages)?;
-    write_hanging(w, context, line, source, messages)?;
-    write_underlines(w, context, line, source)
 }

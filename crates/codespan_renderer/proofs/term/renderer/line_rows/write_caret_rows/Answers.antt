@@ -3,7 +3,7 @@ use Rattle.std.proofs.lemmas.Bool.Decides.{nat_tests}
 use Rattle.codespan_base.proofs.Writes.{with_written-nil}
 use Rattle.codespan_renderer.specs.Private.LineViews.{context_view, line_view}
 use Rattle.codespan_renderer.proofs.RowWords.{caret_rows_none, caret_rows_some}
-use Rattle.codespan_renderer.proofs.term.renderer.source.write_caret_rows.Goals as goal
+use Rattle.codespan_renderer.proofs.term.renderer.line_rows.write_caret_rows.Goals as goal
 
 pub returns-then-is_empty : goal.returns-then-is_empty
 returns-then-is_empty g c =

@@ -1,7 +1,7 @@
 use Rattle.codespan_base.proofs.Chains.{written-then, failed-then, failed-before, failed, writes-last}
 use Rattle.codespan_renderer.specs.Private.LineViews.{context_view, line_view}
 use Rattle.codespan_renderer.proofs.RowWords.{line_rows}
-use Rattle.codespan_renderer.proofs.term.renderer.source.write_line.Goals as goal
+use Rattle.codespan_renderer.proofs.term.renderer.line_rows.write_line.Goals as goal
 
 pub returns-in_err-write_source_row : goal.returns-in_err-write_source_row
 returns-in_err-write_source_row g c =
