@@ -64,7 +64,7 @@ pub fn emit(
     }
 }
 
-/// Returns the bytes of the output that valid arguments ask for.
+/// Returns the bytes of the output that valid arguments request.
 fn output_of(
     alloc: Global,
     files: &[RawFile<'_>],

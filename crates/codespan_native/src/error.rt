@@ -8,19 +8,19 @@ use std::alloc::{AllocError, AllocFailed};
 pub enum Argument {
     /// The number of the layouts is another one.
     Abi = 1,
-    /// The style of the output is none.
+    /// The style of the output is invalid.
     DisplayStyle = 2,
-    /// The layout is none.
+    /// The layout is invalid.
     Layout = 3,
-    /// The spelling of style marks is none.
+    /// The spelling of style marks is invalid.
     Spelling = 4,
-    /// The choice of characters is none.
+    /// The choice of characters is invalid.
     Characters = 5,
     /// The text before a locus is not UTF-8.
     SnippetStart = 6,
     /// A character is no Unicode scalar value.
     Character = 7,
-    /// A color is none.
+    /// A color is invalid.
     Color = 8,
     /// A file's name is not UTF-8.
     FileName = 9,
@@ -30,17 +30,17 @@ pub enum Argument {
     FileLines = 11,
     /// A file's loci do not ascend.
     FileLoci = 12,
-    /// The severity is none.
+    /// The severity is invalid.
     Severity = 13,
     /// The code is not UTF-8.
     Code = 14,
     /// The message is not UTF-8.
     Message = 15,
-    /// A label's style is none.
+    /// A label's style is invalid.
     LabelStyle = 16,
     /// A label's message is not UTF-8.
     LabelMessage = 17,
-    /// A label's file is none of the files.
+    /// A label's file is not one of the files.
     LabelFile = 18,
     /// A note is not UTF-8.
     Note = 19,

@@ -1,7 +1,7 @@
 //! The structs that cross from C, field by field those of `native/include/codespan.h`.
 //!
 //! Numbers stand for enumerations and bytes for texts, so any value can be passed.
-//! [`crate::convert`] checks them.
+//! [`crate::validate`] checks them.
 
 /// The number of the layouts of these structs.
 pub const ABI: u32 = 1;

@@ -30,7 +30,7 @@ pub type SingleLabel<'d> = (LabelStyle, Range<usize>, &'d str);
 
 /// A multi-line label mark: what a multi-line label does on one line.
 ///
-/// Byte indices are from the line's start. The label's message is in its bottom mark.
+/// Byte indices are from the line's start. The label's message is in its `Bottom`.
 #[derive(Clone, Copy, Debug)]
 pub enum MultiLabel<'d> {
     /// It starts at this byte index. The caret is under the last cell of the last character that

@@ -111,14 +111,14 @@ fn shown(c: char) -> char
     }
 }
 
-/// Whether a character is a control character other than a tab, a newline and a form feed.
+/// Returns whether a character is a control character other than a tab, a newline and a form feed.
 fn is_control(c: char) -> bool
     ensures { result ≡ is_control c }
 {
     matches!(c, '\0'..='\x08' | '\x0b' | '\r'..='\x1f' | '\x7f'..='\u{9f}')
 }
 
-/// Whether a character is a noncharacter: U+FDD0 to U+FDEF, and the last two of each plane.
+/// Returns whether a character is a noncharacter: U+FDD0 to U+FDEF, and the last two of each plane.
 fn is_noncharacter(c: char) -> bool
     ensures { result ≡ is_noncharacter c }
 {

@@ -36,7 +36,7 @@ pub struct Recorder {
 impl Recorder {
     ghost use Rattle.codespan_styled.specs.Recorded.{ended_runs, has_flag, recorded, recorder_sink};
 
-    /// Makes a writer that has received nothing. Its first run is plain.
+    /// Returns a writer that has received nothing. Its first run is plain.
     pub fn new(alloc: Global) -> Recorder
         ensures { recorder_sink result
             ≡ fresh_sink style_spelling (Some (style_number Plain ∷ [])) }

@@ -28,7 +28,7 @@ impl Style {
     ghost use Rattle.std.specs.Prelude.{◌≡◌};
     ghost use Rattle.codespan_styled.specs.Html.{is_plain};
 
-    /// Whether the style is that of plain text.
+    /// Returns whether the style is that of plain text.
     pub fn is_plain(self) -> bool
         ensures { result ≡ is_plain self }
     {

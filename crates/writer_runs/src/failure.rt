@@ -61,11 +61,11 @@ impl fmt::Display for Ending {
     fn fmt<W: Write>(&self, f: &mut fmt::Formatter<W>) -> fmt::Result {
         match self {
             Ending::Slow => write!(f, "takes one byte at a time"),
-            Ending::AtWrite(Stop::Fails) => write!(f, "refuses a write"),
+            Ending::AtWrite(Stop::Fails) => write!(f, "fails at a write"),
             Ending::AtWrite(Stop::TakesNothing) => write!(f, "takes nothing of a write"),
             Ending::AtWrite(Stop::IsInterrupted) => write!(f, "is interrupted"),
-            Ending::AtWrite(Stop::TakesOneByte) => write!(f, "takes one byte and then refuses"),
-            Ending::AtStyleMark => write!(f, "refuses a mark"),
+            Ending::AtWrite(Stop::TakesOneByte) => write!(f, "takes one byte and then fails"),
+            Ending::AtStyleMark => write!(f, "fails at a style mark"),
         }
     }
 }
@@ -74,11 +74,11 @@ impl fmt::Display for Ending {
 impl fmt::Display for Failure {
     fn fmt<W: Write>(&self, f: &mut fmt::Formatter<W>) -> fmt::Result {
         match self {
-            Failure::Failed(error) => write!(f, "refused: {error}"),
-            Failure::OtherCaseText => write!(f, "another text than the row says"),
+            Failure::Failed(error) => write!(f, "error: {error}"),
+            Failure::OtherCaseText => write!(f, "another text than stated"),
             Failure::OtherString => write!(f, "another string"),
             Failure::OtherText(path) => write!(f, "by {path}: another text"),
-            Failure::OtherColors => write!(f, "other colours than the row says"),
+            Failure::OtherColors => write!(f, "other colors than stated"),
             Failure::Stopped(path, ending, after) => {
                 write!(f, "by {path}: wrong where a writer {ending}, after {after}")
             }

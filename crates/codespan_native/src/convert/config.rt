@@ -18,7 +18,7 @@ pub enum Spelling {
     Plain,
     /// As the escape sequences of these styles.
     Ansi(Styles),
-    /// In band, as the byte 255 and the number of the mark.
+    /// In band, as the byte 255 and the number of the style mark.
     StyleMarks,
 }
 

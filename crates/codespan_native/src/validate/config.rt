@@ -14,7 +14,7 @@ const CUSTOM_CHARACTERS: u32 = 2;
 /// The spelling in the caller's styles.
 const CUSTOM_STYLES: u32 = 2;
 
-/// Tests whether the caller's text before a locus is UTF-8, where it is chosen.
+/// Returns whether the caller's text before a locus is UTF-8, where it is chosen.
 pub fn has_snippet_start(config: &RawConfig<'_>) -> bool
     ensures { IsTrue result
         ↔ (config.now.characters ≡ 2 → IsUtf8 config.now.chars.snippet_start.now) }
@@ -22,7 +22,8 @@ pub fn has_snippet_start(config: &RawConfig<'_>) -> bool
     config.characters != CUSTOM_CHARACTERS || is_text(config.chars.snippet_start)
 }
 
-/// Returns the index of the first of the caller's characters that is none, where they are chosen.
+/// Returns the index of the first of the caller's characters that is invalid, where they are
+/// chosen.
 pub fn character_index(config: &RawConfig<'_>) -> Option<usize>
     ensures { FindsInvalid (λ i. config.now.characters ≡ 2
         → HoldsIfAt InScalarRange (codes_of config.now.chars) i) result }
@@ -33,8 +34,8 @@ pub fn character_index(config: &RawConfig<'_>) -> Option<usize>
     code_index(&codes_of(&config.chars))
 }
 
-/// Returns the index of the first of the caller's styles with a color that is none, where they are
-/// chosen.
+/// Returns the index of the first of the caller's styles with a color that is invalid, where they
+/// are chosen.
 pub fn color_index(config: &RawConfig<'_>) -> Option<usize>
     ensures { FindsInvalid (λ i. config.now.spelling ≡ 2
         → HoldsIfAt IsColorSpec (color_specs_of config.now.styles) i) result }
@@ -52,7 +53,7 @@ fn code_index(codes: &[u32]) -> Option<usize>
     codes.iter().position(|code| !is_character(*code))
 }
 
-/// Returns the index of the first style with a color that is none.
+/// Returns the index of the first style with a color that is invalid.
 fn color_spec_index(specs: &[RawColorSpec]) -> Option<usize>
     ensures { FindsWithout IsColorSpec specs.now result }
 {

@@ -6,7 +6,7 @@ ghost use Rattle.codespan_native.specs.Validity.{FindsWithout, HasLabelStyle, Ha
 use crate::raw::{RawLabel, RawText};
 use crate::validate::values::is_text;
 
-/// Returns the index of the first label whose style is none.
+/// Returns the index of the first label whose style is invalid.
 pub fn label_style_index(labels: &[RawLabel<'_>]) -> Option<usize>
     ensures { FindsWithout HasLabelStyle labels.now result }
 {
@@ -27,7 +27,7 @@ pub fn note_index(notes: &[RawText<'_>]) -> Option<usize>
     notes.iter().position(|note| !is_text(note.bytes))
 }
 
-/// Returns the index of the first label whose file is none of so many files.
+/// Returns the index of the first label whose file is not one of so many files.
 pub fn label_file_index(count: usize, labels: &[RawLabel<'_>]) -> Option<usize>
     ensures { FindsWithout (IsOfAFile count) labels.now result }
 {

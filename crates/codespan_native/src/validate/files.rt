@@ -38,14 +38,14 @@ pub fn loci_index(files: &[RawFile<'_>]) -> Option<usize>
         .position(|file| !ascend(file.first_byte, file.loci))
 }
 
-/// Tests whether a file states no lines, or lines of its source.
+/// Returns whether a file states no lines, or lines of its source.
 fn has_valid_lines(file: &RawFile<'_>) -> bool
     ensures { IsTrue result ↔ HasValidLines file.now }
 {
     file.lines.is_empty() || are_lines(file.source, file.first_byte, file.lines)
 }
 
-/// Tests whether a text, which is a window of a file from a byte on, is cut into these lines.
+/// Returns whether a text, which is a window of a file from a byte on, is cut into these lines.
 fn are_lines(text: &[u8], first_byte: usize, lines: &[RawLine]) -> bool
     ensures { result ≡ are_lines text.now first_byte lines.now }
 {
@@ -74,7 +74,7 @@ fn are_lines(text: &[u8], first_byte: usize, lines: &[RawLine]) -> bool
     true
 }
 
-/// Tests whether a character of a text starts at this byte index, or the text ends there.
+/// Returns whether a character of a text starts at this byte index, or the text ends there.
 fn is_char_boundary(text: &[u8], index: usize) -> bool
     ensures { result ≡ is_char_boundary text.now index }
 {
@@ -84,7 +84,7 @@ fn is_char_boundary(text: &[u8], index: usize) -> bool
     }
 }
 
-/// Tests whether the bytes of these loci, in a window of a file from a byte on, ascend strictly.
+/// Returns whether the bytes of these loci, in a window of a file from a byte on, ascend strictly.
 fn ascend(first_byte: usize, loci: &[RawLocus]) -> bool
     ensures { result ≡ ascends first_byte loci.now }
 {

@@ -7,21 +7,21 @@ ghost use Rattle.codespan_native.specs.Validity.{IsColorSpec};
 
 use crate::raw::RawColorSpec;
 
-/// Tests whether the bytes are UTF-8.
+/// Returns whether the bytes are UTF-8.
 pub fn is_text(bytes: &[u8]) -> bool
     ensures { IsTrue result ↔ IsUtf8 bytes.now }
 {
     std::str::from_utf8(bytes).is_ok()
 }
 
-/// Tests whether a code point is a Unicode scalar value.
+/// Returns whether a code point is a Unicode scalar value.
 pub fn is_character(code: u32) -> bool
     ensures { IsTrue result ↔ InScalarRange code }
 {
     char::from_u32(code).is_some()
 }
 
-/// Tests whether the colors of a style are none but those of the header.
+/// Returns whether the colors of a style are none but those of the header.
 pub fn is_color_spec(spec: &RawColorSpec) -> bool
     ensures { IsTrue result ↔ IsColorSpec spec.now }
 {

@@ -85,7 +85,7 @@ pub static CASES: [Case<'static>; 15] = [
         ..EMPTY_CASE
     },
     Case {
-        name: "medium_and_short, no cause",
+        name: "medium_and_short, no primary label",
         files: &[("f", "")],
         labels: &[(Secondary, 0, 0, 0, "")],
         short: Some("error: \n"),

@@ -97,7 +97,7 @@ pub static CASES: [Case<'static>; 18] = [
         ..EMPTY_CASE
     },
     Case {
-        name: "first file in place of the second",
+        name: "first file instead of the second",
         context: [3, 0, 0, 0],
         files: &[("f", ""), ("f", "\n\n")],
         labels: &[(Primary, 1, 0, 2, "")],
@@ -143,7 +143,7 @@ pub static CASES: [Case<'static>; 18] = [
         ..EMPTY_CASE
     },
     Case {
-        name: "place of a file by starts alone",
+        name: "locus of a file by starts alone",
         context: [3, 0, 0, 0],
         files: &[("f", "\n")],
         labels: &[(Primary, 0, 1, 0, ""), (Secondary, 0, 0, 0, "")],

@@ -50,7 +50,7 @@ pub struct RichDiagnostic<'diagnostic, 'config, FileId> {
 impl<'diagnostic, 'config, FileId: Copy + Eq> RichDiagnostic<'diagnostic, 'config, FileId> {
     ghost use Rattle.codespan_reporting.specs.Views.{diagnostic_of, view_config_of};
 
-    /// Makes a view of the diagnostic. The configuration decides which lines are shown and, by its
+    /// Returns a view of the diagnostic. The configuration decides which lines are shown and, by its
     /// layout, the padding width. Its other fields are not used.
     pub fn new(
         diagnostic: &'diagnostic Diagnostic<FileId>,

@@ -39,7 +39,7 @@ pub struct ShortDiagnostic<'diagnostic, FileId> {
 impl<'diagnostic, FileId: Copy + Eq> ShortDiagnostic<'diagnostic, FileId> {
     ghost use Rattle.codespan_reporting.specs.Views.{short_diagnostic_of, short_style_of, style_with_notes};
 
-    /// Makes a view of the diagnostic: with `show_notes` in medium style, without in short style.
+    /// Returns a view of the diagnostic: with `show_notes` in medium style, without in short style.
     pub fn new(
         diagnostic: &'diagnostic Diagnostic<FileId>,
         show_notes: bool,
