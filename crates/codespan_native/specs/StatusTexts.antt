@@ -5,7 +5,7 @@ use Rattle.std.specs.Prelude.{ℕ, ◌==◌, if◌then◌else◌, List, codes}
 abbrev pub status_text : ℕ → List ℕ
 status_text s =
     if s == 0 then codes "the output was written" else
-    if s == 1 then codes "the output does not fit into the room" else
+    if s == 1 then codes "the output does not fit into the buffer" else
     if s == 2 then codes "out of memory" else
     if s == 3 then codes "the file of a label is not one of the files" else
     codes "unknown status"

@@ -62,7 +62,7 @@ fn status_text(status: u32) -> &'static str
 {
     match status {
         0 => "the output was written",
-        1 => "the output does not fit into the room",
+        1 => "the output does not fit into the buffer",
         2 => "out of memory",
         3 => "the file of a label is not one of the files",
         _ => "unknown status",
