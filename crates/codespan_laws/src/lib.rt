@@ -1,4 +1,5 @@
 //! Laws of outputs.
 #![tactic(auto)]
 
+pub mod characters;
 pub mod laws;

@@ -4,7 +4,6 @@
 //! and [`ShortDiagnostic`] render to a [`Renderer`] of the caller's, and its calls render row by
 //! row. Their names are the Rust crate's.
 
-mod characters;
 mod emitting;
 pub mod renderer;
 pub mod views;

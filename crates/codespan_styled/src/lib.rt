@@ -5,7 +5,6 @@
 //! document of it, and [`to_terminal`] a text that is safe to print.
 #![tactic(auto)]
 
-mod characters;
 pub mod html;
 mod recorder;
 pub mod render;

@@ -5,12 +5,12 @@ ghost use Rattle.codespan_styled.specs.Runs.{styled_runs};
 
 pub mod laws;
 
-use crate::characters::are_characters;
 use crate::recorder::Recorder;
 use crate::text::StyledText;
 use codespan_base::diagnostic::Diagnostic;
 use codespan_base::files::{Error, Files};
 use codespan_base::term::Config;
+use codespan_laws::characters::are_characters;
 use codespan_reporting::term::emit_to_write_style;
 use std::alloc::Global;
 

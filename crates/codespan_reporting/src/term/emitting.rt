@@ -4,13 +4,13 @@ ghost use Rattle.std.specs.Prelude.{string_bytes};
 ghost use Rattle.codespan_reporting.specs.Output.{Appends, Emits};
 ghost use Rattle.codespan_reporting.specs.WriteCalls.{WritesStyled, WritesText};
 
-use crate::term::characters::are_characters;
 use crate::term::renderer::Renderer;
 use crate::term::views::{RichDiagnostic, ShortDiagnostic};
 use codespan_base::diagnostic::Diagnostic;
 use codespan_base::files::{Error, Files};
 use codespan_base::term::config::plain_ref::PlainWriterRef;
 use codespan_base::term::{Config, DisplayStyle, PlainWriter, WriteStyle};
+use codespan_laws::characters::are_characters;
 use std::io::Write;
 
 /// The capacity in bytes of a string before an output is rendered into it: an output of a few rows
