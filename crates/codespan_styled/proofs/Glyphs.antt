@@ -1,6 +1,7 @@
 -- Glyphs one by one: whose they are, which cells they take, and of which texts they are: for the
 -- clause `document` of `to_svg`.
-use Rattle.std.proofs.Common.{◌≡◌, ◌+◌, ◌-◌, ◌≤◌, ◌<◌, ℕ, List, [], ◌∷◌, ◌++◌, length, length-drop, map, max, take, drop, get_or, codes, Some, sym, ◌∙◌, ap, append_assoc, append-nil, arith}
+use Rattle.std.proofs.Common.{◌≡◌, ◌+◌, ◌-◌, ◌≤◌, ◌<◌, ℕ, List, [], ◌∷◌, ◌++◌, length, length-drop, map, max, take, drop, get_or, codes, false, Some, sym, ◌∙◌, ap, append_assoc, append-nil, arith}
+use Rattle.std.specs.Prelude.{if◌then◌else◌}
 use Rattle.std.proofs.lemmas.Grind.{flat_map-append}
 use Rattle.std.proofs.lemmas.List.{drop_all, drop_more, map-append, take_all, take_more}
 use Rattle.codespan_base.specs.declared.term.config.styles.Styles.{Styles}
@@ -8,9 +9,9 @@ use Rattle.codespan_styled.specs.declared.svg.glyph.Glyph.{Glyph}
 use Rattle.codespan_styled.specs.declared.text.Run.{Run}
 use Rattle.codespan_styled.specs.declared.svg.position.CellPosition.{CellPosition}
 use Rattle.codespan_styled.specs.declared.svg.Pen.{Pen}
-use Rattle.codespan_styled.specs.Glyphs.{after_glyph, extent_from, glyphs_of, glyphs_of_run, start}
+use Rattle.codespan_styled.specs.Glyphs.{after_glyph, cells_of, extent_from, follows, glyphs_of, glyphs_of_run, goes_on, is_newline, joined_cells, start}
 use Rattle.codespan_styled.specs.Runs.{run_view}
-use Rattle.codespan_styled.specs.Svg.{first_pen, font_attributes, glyph_text, ground_element, next_pen, size_element, svg_document, texts_from}
+use Rattle.codespan_styled.specs.Svg.{first_pen, font_attributes, glyph_text, ground_element, next_pen, size_element, svg_document, text_tag, texts_from, xml_character}
 
 -- ---- runs
 
@@ -85,6 +86,12 @@ module _ (glyphs : List Glyph) (i : ℕ) (other : Glyph) (inside : i < length gl
       let rest = texts_from (next_pen pen glyph) (drop (i + 1) glyphs) in
       ap (λ p. new ++ texts_from (record { position = p; before = Some glyph }) (drop (i + 1) glyphs)) after
       ∙ ap (λ bytes. bytes ++ rest) (is ∙ ap (λ gs. old ++ glyph_text pen glyph gs) others) ∙ append_assoc old text rest ∙ ap (λ gs. old ++ texts_from pen gs) (sym left) ∙ before
+
+-- a glyph that ends no row, with the tags of its text
+pub glyph-written : (pen : Pen) (glyph : Glyph) (others : List Glyph) (old tagged marked new : List ℕ) → is_newline glyph ≡ false
+    → tagged ≡ old ++ (if follows pen.before glyph then [] else text_tag pen.position (cells_of glyph + joined_cells glyph others) glyph.ink) → marked ≡ tagged ++ xml_character glyph.character
+    → new ≡ marked ++ (if goes_on glyph others then [] else codes "</text>") → new ≡ old ++ glyph_text pen glyph others
+glyph-written pen glyph others old tagged marked new stays e1 e2 e3 = rw (e3, e2, e1, stays) (simp append_assoc)
 
 -- ---- the document
 

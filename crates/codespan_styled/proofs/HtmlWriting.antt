@@ -23,20 +23,6 @@ text-end front whole [] none before =
     sym (append-nil front) ∙ ap (λ cs. front ++ flat_map html_character cs) (sym chars-nil) ∙ before
 text-end front whole (b ∷ rest) none before = absurd (omega arith)
 
--- a run of those that are left
-pub run-more : (runs : List Run) (i : ℕ) (run : Run) (front next whole : List ℕ) → i < length runs → run ≡ get_or runs i run → next ≡ front ++ html_run (run_view run)
-    → front ++ flat_map html_run (map run_view (drop i runs)) ≡ whole → next ++ flat_map html_run (map run_view (drop (i + 1) runs)) ≡ whole
-run-more runs i run front next whole inside at is before =
-    let rest = flat_map html_run (map run_view (drop (i + 1) runs)) in
-    let left : drop i runs ≡ run ∷ drop (i + 1) runs = drop_more runs i run inside ∙ ap (λ r. r ∷ drop (i + 1) runs) (sym at) in
-    ap (λ f. f ++ rest) is ∙ append_assoc front (html_run (run_view run)) rest
-    ∙ ap (λ rs. front ++ flat_map html_run (map run_view rs)) (sym left) ∙ before
-
--- no run is left
-pub run-end : (runs : List Run) (i : ℕ) (front whole : List ℕ) → length runs ≤ i → front ++ flat_map html_run (map run_view (drop i runs)) ≡ whole → front ≡ whole
-run-end runs i front whole past before =
-    sym (append-nil front) ∙ ap (λ rs. front ++ flat_map html_run (map run_view rs)) (sym (drop_all i runs past)) ∙ before
-
 -- a run between its tags
 pub run-written : (run : Run) (front b1 b2 b3 b4 b5 class : List ℕ) → is_plain run.style ≡ false → b1 ≡ front ++ codes "<span class=\"" → class ≡ style_class run.style → b2 ≡ b1 ++ class
     → b3 ≡ b2 ++ codes "\">" → b4 ≡ b3 ++ html_text (string_bytes run.text) → b5 ≡ b4 ++ codes "</span>" → b5 ≡ front ++ html_run (run_view run)

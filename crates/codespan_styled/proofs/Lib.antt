@@ -1,3 +1,4 @@
+pub mod Appending
 pub mod Bytes
 pub mod Decoding
 pub mod Recording

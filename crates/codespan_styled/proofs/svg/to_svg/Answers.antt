@@ -6,16 +6,15 @@ use Rattle.codespan_styled.specs.Svg.{svg_document}
 use Rattle.codespan_styled.proofs.SvgReading.{svg-read, svg-text}
 use Rattle.codespan_styled.proofs.svg.to_svg.Goals as goal
 
+-- the document is that of the glyphs of all runs
+pub returns-clause-document : goal.returns-clause-document
+returns-clause-document c =
+    c.in_ok-document.ensures ∙ ap svg_document (c.as_slice-2.ensures.value ∙ c.in_ok-glyphs.ensures ∙ ap (λ runs. glyphs_of c.args.styles.now (map run_view runs)) c.as_slice.ensures.value)
+
 pub returns-clause-parts : goal.returns-clause-parts
 returns-clause-parts c =
-    let glyphs = glyphs_of c.args.styles.now (styled_runs c.args.text.now) in
-    ap (λ bytes. html_parts bytes)
-    (c.in_ok-document.ensures ∙ ap svg_document (c.as_slice-2.ensures.value ∙ c.in_ok-glyphs.ensures ∙ ap (λ runs. glyphs_of c.args.styles.now (map run_view runs)) c.as_slice.ensures.value))
-    ∙ svg-read glyphs
+    ap (λ bytes. html_parts bytes) (returns-clause-document c) ∙ svg-read (glyphs_of c.args.styles.now (styled_runs c.args.text.now))
 
 pub returns-clause-text : goal.returns-clause-text
 returns-clause-text c =
-    let runs = styled_runs c.args.text.now in
-    ap (λ bytes. text_of_parts (html_parts bytes))
-    (c.in_ok-document.ensures ∙ ap svg_document (c.as_slice-2.ensures.value ∙ c.in_ok-glyphs.ensures ∙ ap (λ rs. glyphs_of c.args.styles.now (map run_view rs)) c.as_slice.ensures.value))
-    ∙ svg-text c.args.styles.now runs
+    ap (λ bytes. text_of_parts (html_parts bytes)) (returns-clause-document c) ∙ svg-text c.args.styles.now (styled_runs c.args.text.now)

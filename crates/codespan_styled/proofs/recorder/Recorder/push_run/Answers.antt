@@ -19,11 +19,19 @@ returns-in_err-push-clause-appends c =
     recorded-failed self (record self { runs = c.push.new.self }) _ c.from_residual-in_err-push.result c.from_residual-in_err-push.ensures.0
     (ap (λ runs. recorded_runs (map run_view runs) ++ recorded_run (record { style = self.style; text = self.text.items })) c.in_err-push.ensures.items)
 
-pub returns-clause-appends : goal.returns-clause-appends
-returns-clause-appends c = λ known.
+-- the last run ends with its own style and its bytes
+pub returns-clause-runs : goal.returns-clause-runs
+returns-clause-runs c =
     let self = c.args.self.now in
     let new : Recorder = record { runs = c.push.new.self; style = c.args.next; text = c.clear.new.self; failed = self.failed } in
     let same : c.in-Ok.bytes.now ≡ self.text.items = search rules in
     let text : string_bytes c.push_str.new.self ≡ self.text.items = c.in_ok-push_str.ensures.bytes ∙ ap (λ bytes. bytes ++ c.in-Ok.bytes.now) c.new-text.ensures.bytes ∙ same in
     let run : Run = record { style = self.style; text = c.push_str.new.self } in
-    recorded-started self new c.args.next (contents-ended self new run c.in_ok-push.ensures.items refl text) refl c.clear.ensures.items
+    contents-ended self new run c.in_ok-push.ensures.items refl text
+
+-- and then a run of the next style begins
+pub returns-clause-appends : goal.returns-clause-appends
+returns-clause-appends c = λ known.
+    let self = c.args.self.now in
+    let new : Recorder = record { runs = c.push.new.self; style = c.args.next; text = c.clear.new.self; failed = self.failed } in
+    recorded-started self new c.args.next (returns-clause-runs c) refl c.clear.ensures.items
