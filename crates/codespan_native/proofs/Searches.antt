@@ -1,6 +1,6 @@
 -- What the binary searches of lines and loci find, for `LinedText::line_index` and
--- `SourceFile::stated_location`.
-use Rattle.std.proofs.Common.{◌≡◌, ◌≢◌, ℕ, zero, suc, ◌+◌, ◌-◌, ◌<◌, ◌≤◌, Bool, true, false, List, [], ◌∷◌, length, Some, None, Result, Ok, Err, refl, sym, ap, arith, inl, inr}
+-- `SourceFile::stated_location`, and the loci of which `ascend` looks at one.
+use Rattle.std.proofs.Common.{◌≡◌, ◌≢◌, ℕ, zero, suc, ◌+◌, ◌-◌, ◌<◌, ◌≤◌, Bool, true, false, List, [], ◌∷◌, length, Some, None, Result, Ok, Err, drop, get_or, refl, sym, ap, ◌∙◌, arith, inl, inr}
 use Rattle.std.specs.Prelude.{◌&&◌, ◌==◌, nat_lt, nat_le, slice_index, MatchResult}
 use Rattle.std.specs.Ordering.{nat_cmp, ordering_index}
 use Rattle.std.proofs.lemmas.Cmp.{ranked}
@@ -10,7 +10,7 @@ use Rattle.std.specs.List.{slice_index_or}
 use Rattle.std.specs.List.Sorted.{IsBinarySearchResult, IsNonDecreasingBy, IsPartitionedBy, IsPartitionPoint, IsSearchInRange}
 use Rattle.std.proofs.lemmas.Bool.{cases_lt}
 use Rattle.std.proofs.lemmas.Bool.Decides.{nat_tests}
-use Rattle.std.proofs.lemmas.List.{length-map}
+use Rattle.std.proofs.lemmas.List.{drop_more, length-map}
 use Rattle.std.proofs.lemmas.List.Sorted.{IsNonDecreasingBy-from_default, IsPartitionedBy-leb}
 use Rattle.codespan_base.specs.declared.files.Location.{Location}
 use Rattle.codespan_base.specs.FileModel.{line_of}
@@ -168,3 +168,11 @@ module _ (first : ℕ) where
         | inl p ↦ let less = ranked _ byte _ (sym (halves.0 k no_locus (omega arith) p)) in λ same. absurd (omega (arith, less, same))
         | inr p ↦ let more = ranked _ byte _ (sym (halves.1 k no_locus p h)) in λ same. absurd (omega (arith, more, same))
       ])
+
+-- a locus after the last one, so that the others decide
+pub ascend-more : (first : ℕ) (loci : List RawLocus) (i : ℕ) (d : RawLocus) (byte next : ℕ) (whole : Bool) → i < length loci → next ≡ (get_or loci i d).byte - first → byte < next
+    → ascend_from first byte (drop i loci) ≡ whole → ascend_from first next (drop (i + 1) loci) ≡ whole
+ascend-more first loci i d byte next whole inside is later before =
+    let test : nat_lt byte next ≡ true = grind (arith, nat_tests) in
+    let more = λ (n : ℕ). nat_lt byte n && ascend_from first n (drop (i + 1) loci) in
+    ap (λ (t : Bool). t && ascend_from first next (drop (i + 1) loci)) (sym test) ∙ ap more is ∙ ap (ascend_from first byte) (sym (drop_more loci i d inside)) ∙ before

@@ -1,4 +1,6 @@
-use Rattle.codespan_native.proofs.FirstInvalid.{by_index}
+use Rattle.std.proofs.Common.{◌≡◌, arith}
+use Rattle.std.proofs.lemmas.Bool.Decides.{nat_tests}
+use Rattle.codespan_native.proofs.FirstInvalid.{by_index, by_test}
 use Rattle.codespan_native.specs.Validity.{HasLabelStyle, HasTextMessage, HasTextName, HasTextSource, HasValidLines, HasValidLoci, IsOfAFile, IsValidText}
 use Rattle.codespan_native.proofs.validate.invalid_index.Goals as goal
 
@@ -31,3 +33,8 @@ returns-in-LabelFile c = rw c.in-LabelFile.is (by_index (IsOfAFile _) _ _ c.labe
 
 pub returns-in-Note : goal.returns-in-Note
 returns-in-Note c = rw c.in-Note.is (by_index IsValidText _ _ c.note_index.ensures)
+
+-- the layouts are those of the library, or not
+pub returns-in-Abi : goal.returns-in-Abi
+returns-in-Abi c =
+    rw c.in-Abi.is (by_test _ (c.args.config.now.abi ≡ 1) _ (λ test. grind (arith, nat_tests, test)) (λ same. grind (arith, nat_tests, same)) c.index_unless.ensures)
