@@ -1,13 +1,19 @@
 -- Facts on a loop that makes something of each label that passes a test, for the clauses of
 -- `diagnostics`.
-use Rattle.std.proofs.Common.{◌≡◌, ℕ, ◌+◌, ◌<◌, true, false, Bool, List, [], ◌∷◌, ◌++◌, length, get_or, drop, map, Option, Some, None, ap, sym, ◌∙◌, refl, append_assoc}
+use Rattle.std.proofs.Common.{◌≡◌, ℕ, ◌+◌, ◌<◌, ◌≤◌, true, false, Bool, List, [], ◌∷◌, ◌++◌, length, get_or, drop, map, Option, Some, None, ap, sym, ◌∙◌, refl, append_assoc, append-nil}
 use Rattle.std.specs.Prelude.{filter, string_bytes}
-use Rattle.std.proofs.lemmas.List.{drop_more, map_push}
+use Rattle.std.proofs.lemmas.List.{drop_all, drop_more, map_push}
 use Rattle.codespan_base.specs.FileModel.{FileDatabase, or_failure}
+use Rattle.std.specs.Option.{option_map}
+use Rattle.codespan_base.specs.declared.diagnostic.Diagnostic.{Diagnostic}
 use Rattle.codespan_base.specs.declared.diagnostic.Label.{Label}
 use Rattle.codespan_base.specs.declared.files.Error.{Error}
 use Rattle.codespan_lsp.specs.Positions.{first_failure}
-use Rattle.codespan_lsp.specs.LspDiagnostics.{related_view, related_of, label_range}
+use Rattle.codespan_lsp.specs.LspDiagnostics.{RelatedView, related_view, related_views, related_of, label_range, lsp_view_of}
+use Rattle.codespan_lsp.specs.Messages.{full_message}
+use Rattle.codespan_lsp.specs.Severities.{lsp_severity}
+use Rattle.codespan_lsp.specs.declared.severity.DiagnosticSeverity.{DiagnosticSeverity}
+use Rattle.codespan_lsp.specs.declared.spans.Range.{Range}
 use Rattle.codespan_lsp.specs.declared.diagnostics.RelatedInformation.{RelatedInformation}
 use Rattle.codespan_lsp.specs.declared.encoding.PositionEncoding.{PositionEncoding}
 
@@ -35,6 +41,12 @@ views-push view made xs ys y x left rest all ys_are same left_is was =
     ∙ (ap (λ v. map view xs ++ (v ∷ map made rest)) same
     ∙ (ap (λ l. map view xs ++ map made l) (sym left_is) ∙ was))))
 
+-- no item is left
+pub views-end : {A B X : Type 0} (p : A → Bool) (view : B → X) (made : A → X) (xs : List B) (items : List A) (i : ℕ) (all : List X)
+    → length items ≤ i → map view xs ++ map made (filter p (drop i items)) ≡ all → map view xs ≡ all
+views-end p view made xs items i all past was =
+    sym (append-nil (map view xs)) ∙ (ap (λ l. map view xs ++ map made (filter p l)) (sym (drop_all i items past)) ∙ was)
+
 -- the lookup for an item succeeds
 pub failure-more : {A : Type 0} (failure : A → Option Error) (x : A) (left rest : List A) (o : Option Error)
     → o ≡ first_failure (map failure left) → left ≡ x ∷ rest → failure x ≡ None
@@ -57,3 +69,18 @@ pub related-same : {FileId : Type 0} (encoding : PositionEncoding) (database : F
     → string_bytes related.message ≡ string_bytes label.message
     → related_view related ≡ related_of encoding database label
 related-same encoding database label related id range message = rw (id, range, message) refl
+
+-- what is sent with the fields of a diagnostic and of a label
+pub lsp-same : {FileId : Type 0} (encoding : PositionEncoding) (database : FileDatabase FileId) (d : Diagnostic FileId) (label : Label FileId)
+    (range : Range) (severity : DiagnosticSeverity) (code : Option (List ℕ)) (message : List ℕ) (related : List (RelatedView FileId))
+    → range ≡ label_range encoding database label → severity ≡ lsp_severity d.severity → code ≡ option_map string_bytes d.code
+    → message ≡ full_message d label → related ≡ related_views encoding database d.labels.items
+    → lsp_view_of encoding database d label ≡ record {
+      file_id = label.file_id;
+      range = range;
+      severity = severity;
+      code = code;
+      message = message;
+      related = related;
+    }
+lsp-same encoding database d label range severity code message related e1 e2 e3 e4 e5 = rw (e1, e2, e3, e4, e5) refl

@@ -1,10 +1,10 @@
-use Rattle.std.proofs.Common.{◌≡◌, ◌<◌, length, get_or, Err, ap, sym, ◌∙◌, refl, arith, rules, string_bytes}
+use Rattle.std.proofs.Common.{◌≡◌, ◌<◌, ◌≤◌, length, get_or, Err, ap, sym, ◌∙◌, refl, arith, rules, string_bytes}
 use Rattle.std.specs.Prelude.{not}
 use Rattle.std.proofs.lemmas.Result.{err_from_is_err_and}
 use Rattle.codespan_base.specs.Labels.{is_primary_style}
 use Rattle.codespan_lsp.specs.LspDiagnostics.{related_view, related_of, label_failure}
 use Rattle.codespan_lsp.specs.declared.diagnostics.RelatedInformation.{RelatedInformation}
-use Rattle.codespan_lsp.proofs.LabelLemmas.{passing-more, passing-skip, views-push, failure-more, failure-here, related-same}
+use Rattle.codespan_lsp.proofs.LabelLemmas.{passing-more, passing-skip, views-push, views-end, failure-more, failure-here, related-same}
 use Rattle.codespan_lsp.proofs.encoding.PositionEncoding.related_information.Goals.{then-not-is_primary+in_ok-range+in_ok-message+in_ok-push, else-not-is_primary}
 use Rattle.codespan_lsp.proofs.encoding.PositionEncoding.related_information.Goals as goal
 
@@ -54,3 +54,10 @@ loop-label-preserved g c =
             failure = rw (← skip) was.failure;
           }
     ]
+
+-- no label is left
+pub returns-clause-value : goal.returns-clause-value
+returns-clause-value g c =
+    let past : length c.args.labels.now.items ≤ c.loop-label.label-index = omega (arith, c.loop-label-test.false, ap length c.deref-label-items.ensures.value) in
+    views-end (λ label. not (is_primary_style label.style)) related_view (related_of c.args.self (g.F.Files.database c.args.files.now)) c.loop-label.related.items c.args.labels.now.items c.loop-label.label-index _ past
+    c.loop-label.invariant.views

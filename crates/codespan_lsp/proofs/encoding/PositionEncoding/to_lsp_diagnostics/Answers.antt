@@ -1,8 +1,8 @@
-use Rattle.std.proofs.Common.{◌≡◌, ◌<◌, length, get_or, Err, ap, sym, ◌∙◌, arith}
+use Rattle.std.proofs.Common.{◌≡◌, ◌<◌, ◌≤◌, length, get_or, Err, ap, sym, ◌∙◌, arith}
 use Rattle.std.proofs.lemmas.Result.{err_from_is_err_and}
 use Rattle.codespan_base.specs.Labels.{is_primary_style}
 use Rattle.codespan_lsp.specs.LspDiagnostics.{lsp_view, lsp_view_of, lsp_failure}
-use Rattle.codespan_lsp.proofs.LabelLemmas.{passing-more, passing-skip, views-push, failure-more, failure-here}
+use Rattle.codespan_lsp.proofs.LabelLemmas.{passing-more, passing-skip, views-push, views-end, failure-more, failure-here}
 use Rattle.codespan_lsp.proofs.encoding.PositionEncoding.to_lsp_diagnostics.Goals.{then-is_primary+in_ok-lsp_diagnostic+in_ok-push, else-is_primary}
 use Rattle.codespan_lsp.proofs.encoding.PositionEncoding.to_lsp_diagnostics.Goals as goal
 
@@ -51,3 +51,10 @@ loop-label-preserved g c =
             failure = rw (← skip) was.failure;
           }
     ]
+
+-- no label is left
+pub returns-clause-value : goal.returns-clause-value
+returns-clause-value g c =
+    let past : length c.args.diagnostic.now.labels.items ≤ c.loop-label.label-index = omega (arith, c.loop-label-test.false, ap length c.deref-label-items.ensures.value) in
+    views-end (λ label. is_primary_style label.style) lsp_view (lsp_view_of c.args.self (g.F.Files.database c.args.files.now) c.args.diagnostic.now) c.loop-label.found.items c.args.diagnostic.now.labels.items c.loop-label.label-index _ past
+    c.loop-label.invariant.views

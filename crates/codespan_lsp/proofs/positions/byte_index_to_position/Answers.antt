@@ -1,0 +1,8 @@
+use Rattle.codespan_lsp.proofs.positions.byte_index_to_position.Goals as goal
+
+-- what is said of UTF-16
+pub returns-clause-value : goal.returns-clause-value
+returns-clause-value g c = c.byte_index_to_position.ensures.value
+
+pub returns-clause-failed : goal.returns-clause-failed
+returns-clause-failed g c = c.byte_index_to_position.ensures.failed

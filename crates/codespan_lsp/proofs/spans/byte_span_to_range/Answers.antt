@@ -1,0 +1,8 @@
+use Rattle.codespan_lsp.proofs.spans.byte_span_to_range.Goals as goal
+
+-- what is said of UTF-16
+pub returns-clause-value : goal.returns-clause-value
+returns-clause-value g c = c.byte_span_to_range.ensures.value
+
+pub returns-clause-failed : goal.returns-clause-failed
+returns-clause-failed g c = c.byte_span_to_range.ensures.failed
