@@ -1,4 +1,4 @@
--- Facts on columns.
+-- Facts on columns and locations.
 use Rattle.std.proofs.lemmas.Bool.Decides.{nat_tests}
 use Rattle.std.proofs.lemmas.Bool.{false_from_ne_true}
 use Rattle.std.proofs.lemmas.List.{map-id}
@@ -7,7 +7,11 @@ use Rattle.std.proofs.Common.{◌≡◌, ℕ, ◌+◌, ◌-◌, ◌≤◌, Bool,
 use Rattle.std.specs.Prelude.{count_by}
 use Rattle.std.specs.List.{range_with_len}
 use Rattle.std.specs.Str.{IsCharBoundary}
-use Rattle.codespan_files.specs.Lines.{is_char_boundary}
+use Rattle.std.specs.declared.ops.Range.{Range}
+use Rattle.codespan_files.specs.declared.files.Location.{Location}
+use Rattle.codespan_files.specs.FileModel.{FileModel, line_of}
+use Rattle.codespan_files.specs.LawfulFiles.{IsLineRange, column_of, location_of}
+use Rattle.codespan_files.specs.Lines.{is_char_boundary, column_index_of}
 
 -- the test finds a boundary
 pub is_char_boundary_yes : (text : List ℕ) (i : ℕ) → IsCharBoundary text i → is_char_boundary text i ≡ true
@@ -33,3 +37,11 @@ count_range_step p start i h =
     rw e (rw f at (count_range_more p (start + 1) (i - start)))
 
 pub ruleset column_steps = (is_char_boundary_yes, is_char_boundary_no, count_range_step)
+
+-- a column that is counted in the text of a file, between the ends of a line, is that of the line
+pub column_in_line : (f : FileModel) (i byte : ℕ) (text : List ℕ) (r : Range ℕ) (n : ℕ) → n ≡ column_index_of text r.start r.end byte → text ≡ f.text → IsLineRange f i r → n + 1 ≡ column_of f i byte + 1
+column_in_line f i byte text r n counted same line = rw (counted, same, line.start_is, line.end_is) refl
+
+-- the numbers of the byte's line and of its column there are the location of the byte
+pub location_in_file : (f : FileModel) (byte i n m : ℕ) → i ≡ line_of f.starts byte → n ≡ f.number i → m ≡ f.column i byte → ◌≡◌ {A = Location} (record { line_number = n; column_number = m }) (location_of f byte)
+location_in_file f byte i n m line number column = rw (number, column, line) refl

@@ -1,0 +1,7 @@
+use Rattle.codespan_base.specs.Streams.{NoteBullet}
+use Rattle.codespan_base.proofs.StyleMarks.{Writes-style_mark}
+use Rattle.codespan_base.proofs.term.config.styles_writer.StylesWriterWriteStyle.set_note_bullet.Goals as goal
+
+-- the bytes that were written spell the style mark
+pub returns : goal.returns
+returns g c = Writes-style_mark _ NoteBullet _ _ c.set_color.ensures
