@@ -4,7 +4,8 @@
 //! annotations. Once each annotation is moved to its line, the sort meets one run, or nearly so,
 //! and takes time in proportion to it.
 
-ghost use Rattle.std.specs.Prelude.{OnErr, IsErrOf};
+ghost use Rattle.std.specs.Prelude.{◌≡◌, ◌<◌, ◌∷◌, true, IfOk, IfSome, OnErr, IsErrOf, length, nat_lt};
+ghost use Rattle.std.specs.List.{filter, range_with_len};
 ghost use Rattle.std.specs.List.Sorted.{IsPermutation};
 
 use crate::term::views::annotation::Annotation;
@@ -14,6 +15,9 @@ use std::ops::Range;
 
 /// The least number of annotations that are worth moving: fewer are sorted by insertion.
 const MIN_LEN: usize = 32;
+
+/// The source of a target that is free: the index of no annotation.
+const FREE: usize = usize::MAX;
 
 /// Moves annotations to the order of their lines, and on a line to that of the ranks of their
 /// kinds. Those of one line and one rank keep their order.
@@ -25,15 +29,19 @@ const MIN_LEN: usize = 32;
 /// # Errors
 ///
 /// `OutOfMemory`: an allocation fails.
-pub fn group_by_line<FileId>(annotations: &mut Vec<Annotation<'_, FileId>>) -> Result<bool, Error>
+pub fn group_by_line<FileId: Copy>(
+    annotations: &mut Vec<Annotation<'_, FileId>>,
+) -> Result<bool, Error>
     ensures permutation { IsPermutation annotations.old.items annotations.new.items }
     ensures failed { OnErr result (IsErrOf result Error.OutOfMemory) }
 {
     let Some(lines) = lines_to_group(annotations) else {
         return Ok(false);
     };
-    let mut targets = targets_by_line(annotations, lines)?;
-    move_to_targets(annotations, &mut targets);
+    let Some(sources) = sources_by_line(annotations, lines)? else {
+        return Ok(false);
+    };
+    *annotations = gather(annotations, &sources)?;
     Ok(true)
 }
 
@@ -57,31 +65,91 @@ fn lines_to_group<FileId>(annotations: &[Annotation<'_, FileId>]) -> Option<Rang
     is_dense.then_some(first..last.saturating_add(1))
 }
 
-/// Returns the index to which each annotation moves.
+/// Returns the indices of the annotations in the order of their lines, or `None` if they are not
+/// found in it.
 ///
 /// # Errors
 ///
 /// `OutOfMemory`: an allocation fails.
-fn targets_by_line<FileId>(
+fn sources_by_line<FileId>(
     annotations: &Vec<Annotation<'_, FileId>>,
     lines: Range<usize>,
-) -> Result<Vec<usize>, Error>
+) -> Result<Option<Vec<usize>>, Error>
+    ensures permutation { IfOk result (λ found. IfSome found (λ sources.
+        IsPermutation (range_with_len 0 (length annotations.now.items)) sources.items)) }
     ensures failed { OnErr result (IsErrOf result Error.OutOfMemory) }
 {
     let alloc = *annotations.allocator();
+    let mut next = first_targets(annotations, &lines)?;
+    let mut sources = vec![in alloc; FREE; annotations.len()]?;
+    for (source, annotation) in annotations.iter().enumerate() {
+        let target = count(&mut next, group_of(annotation, lines.start));
+        if !set_source(&mut sources, target, source) {
+            return Ok(None);
+        }
+    }
+    Ok(Some(sources))
+}
+
+/// Returns for each group the number of annotations in the groups before it.
+///
+/// # Errors
+///
+/// `OutOfMemory`: an allocation fails.
+fn first_targets<FileId>(
+    annotations: &Vec<Annotation<'_, FileId>>,
+    lines: &Range<usize>,
+) -> Result<Vec<usize>, Error>
+    ensures failed { OnErr result (IsErrOf result Error.OutOfMemory) }
+{
     let line_total = lines.end.saturating_sub(lines.start);
-    let mut next = vec![in alloc; 0; line_total.saturating_mul(RANKS)]?;
-    let mut targets = Vec::with_capacity(alloc, annotations.len())?;
+    let group_total = line_total.saturating_mul(RANKS);
+    let mut numbers = vec![in *annotations.allocator(); 0; group_total]?;
     for annotation in annotations {
-        let group = group_of(annotation, lines.start);
-        count(&mut next, group);
-        targets.push(group)?;
+        count(&mut numbers, group_of(annotation, lines.start));
     }
-    add_up(&mut next);
-    for target in &mut targets {
-        *target = count(&mut next, *target);
+    add_up(&mut numbers);
+    Ok(numbers)
+}
+
+/// Sets the source of a target that is free. Returns whether there is one at this index.
+#[inline(always)]
+fn set_source(sources: &mut [usize], target: usize, source: usize) -> bool
+    requires { source < FREE }
+    ensures { result ≡ true → IsPermutation
+        (source ∷ filter (λ s. nat_lt s FREE) sources.old)
+        (filter (λ s. nat_lt s FREE) sources.new) }
+{
+    if target >= sources.len() || sources[target] != FREE {
+        return false;
     }
-    Ok(targets)
+    sources[target] = source;
+    true
+}
+
+/// Returns the annotations at these indices.
+///
+/// # Errors
+///
+/// `OutOfMemory`: an allocation fails.
+///
+/// # Requires
+///
+/// The indices are those of all annotations, each once.
+fn gather<'d, FileId: Copy>(
+    annotations: &Vec<Annotation<'d, FileId>>,
+    sources: &[usize],
+) -> Result<Vec<Annotation<'d, FileId>>, Error>
+    requires { IsPermutation (range_with_len 0 (length annotations.now.items)) sources.now }
+    ensures permutation { IfOk result (λ gathered.
+        IsPermutation annotations.now.items gathered.items) }
+    ensures failed { OnErr result (IsErrOf result Error.OutOfMemory) }
+{
+    let mut gathered = Vec::with_capacity(*annotations.allocator(), annotations.len())?;
+    for source in sources {
+        gathered.push(annotations[*source])?;
+    }
+    Ok(gathered)
 }
 
 /// Returns the number of groups before that of the annotation: each line from the first one on has
@@ -108,23 +176,5 @@ fn add_up(numbers: &mut [usize]) {
         let number = numbers[index];
         numbers[index] = sum;
         sum = sum.wrapping_add(number);
-    }
-}
-
-/// Moves each annotation to its target: those whose targets follow one another from an index in one
-/// turn of the outer loop.
-fn move_to_targets<FileId>(annotations: &mut [Annotation<'_, FileId>], targets: &mut [usize])
-    ensures { IsPermutation annotations.old annotations.new }
-{
-    let len = annotations.len().min(targets.len());
-    for index in 0..len {
-        for _ in 0..len {
-            let target = targets[index];
-            if target == index || target >= len {
-                break;
-            }
-            annotations.swap(index, target);
-            targets.swap(index, target);
-        }
     }
 }

@@ -111,7 +111,9 @@ fn sort<FileId>(annotations: &mut Vec<Annotation<'_, FileId>>)
 /// # Errors
 ///
 /// `OutOfMemory`: an allocation fails.
-pub fn put_in_order<FileId>(annotations: &mut Vec<Annotation<'_, FileId>>) -> Result<(), Error>
+pub fn put_in_order<FileId: Copy>(
+    annotations: &mut Vec<Annotation<'_, FileId>>,
+) -> Result<(), Error>
     ensures permutation { IsPermutation annotations.old.items annotations.new.items }
     ensures sorted { IfOk result (λ _.
         IsSortedBy is_below (map annotation_view annotations.new.items)) }
