@@ -1,5 +1,5 @@
 -- Entries that are added, one after another.
-use Rattle.std.proofs.Common.{◌≡◌, ℕ, Bool, true, false, List, [], ◌++◌, Option, Some, refl, sym, subst, ap, ◌∙◌}
+use Rattle.std.proofs.Common.{◌≡◌, ℕ, Bool, true, false, List, [], ◌++◌, Option, Some, None, refl, sym, subst, ap, ◌∙◌, arith, Bor}
 use Rattle.std.specs.Prelude.{map, ◌==◌, ◌&&◌, if◌then◌else◌}
 use borrow.Author.Tests.{eqb-true}
 use Rattle.std.specs.List.{AllByRecursion}
@@ -13,7 +13,14 @@ use Rattle.codespan_reporting.specs.declared.term.views.annotation.Annotation.{A
 use Rattle.codespan_reporting.specs.declared.term.views.annotation.LineInfo.{LineInfo}
 use Rattle.codespan_reporting.specs.Inner.CollectedLabels.{CollectedLabel}
 use Rattle.codespan_reporting.specs.Inner.Annotations.{Annotation, AnnotationKind, Single, line_annotations, annotation_if_any, kind_on}
-use Rattle.codespan_reporting.specs.Inner.AnnotationViews.{Adds, IsLineOf, annotation_view, multi_at, kind_at}
+use Rattle.codespan_reporting.specs.Inner.AnnotationViews.{Adds, IsLineOf, annotation_view, kind_view, multi_at, kind_at}
+use Rattle.codespan_reporting.specs.Inner.LabelSpans.{IsFarInside}
+use Rattle.codespan_reporting.specs.declared.term.views.annotation.AnnotationKind.TheVariants as rust
+use Rattle.codespan_reporting.specs.declared.term.views.annotation.MultiPart.TheVariants as part
+use Rattle.codespan_reporting.specs.declared.term.views.collect.label_annotations.LabelIndices.{LabelIndices}
+use Rattle.codespan_picture.specs.Types.{Config, Label}
+use Rattle.codespan_picture.specs.Picture.{label_of}
+use Rattle.std.proofs.lemmas.Bool.Decides.{nat_tests}
 use Rattle.codespan_laws.proofs.SortedLists.{all-append, all-weaker}
 
 module _ {Id : Type 0} {P : RustAnnotation Id → Type 0} where
@@ -72,3 +79,12 @@ module _ {Id : Type 0} (x : CollectedLabel Id) where
       let by_kind = kind_on-is line is ∙ (λ i. kind_at x.config x.at (is_first i) (is_last i) l line.start x.label) ∙ sym kind_is in
       let by_lane_mark = (λ i. multi_at x.at (is_first i) (is_last i) l (sym is.range_is.start_is i) x.label) ∙ sym multi_is in
       λ i. annotation_if_any f l (by_kind i) ++ annotation_if_any f l (by_lane_mark i)
+
+-- a label does not make a line shown that is far from its ends
+pub far-kind : (config : Config) (at : LabelIndices) (s e l start : ℕ) (x : LabelModel) → IsFarInside config s e l → None ≡ kind_at config at s e l start x
+far-kind config at s e l start x far = grind (arith, nat_tests)
+
+-- its part on such a line
+pub far-part : {Id : Type 0} (config : Config) (at : LabelIndices) (s e l start : ℕ) (label : Bor (Label Id)) → IsFarInside config s e l
+    → Some (kind_view start (rust.Multi part.Left at.lane label)) ≡ multi_at at s e l start (label_of label.now).label
+far-part config at s e l start label far = grind (arith, nat_tests)

@@ -27,7 +27,7 @@ pub mod StyleCalls
 pub mod GroupLines
 pub mod SnippetLineViews
 pub mod SnippetParts
-pub mod SourceLists
+pub mod KeptElements
 pub mod OutputPlanRendering
 pub mod PlanFiles
 pub mod LocusStarts

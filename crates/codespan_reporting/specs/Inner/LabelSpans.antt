@@ -1,5 +1,5 @@
 -- The lines on which a label starts and ends.
-use Rattle.std.specs.Prelude.{ℕ, ◌+◌, Bool, ◌&&◌, ◌||◌, ◌==◌, nat_lt, nat_le, [], ◌∷◌, Option}
+use Rattle.std.specs.Prelude.{ℕ, ◌+◌, ◌<◌, Bool, ◌&&◌, ◌||◌, ◌==◌, nat_lt, nat_le, [], ◌∷◌, Option}
 use Rattle.codespan_picture.specs.Types.{Label, Error, Config}
 use Rattle.codespan_base.specs.FileModel.{FileModel}
 use Rattle.codespan_base.specs.FileModel.Lookup.{LineIndex}
@@ -30,3 +30,7 @@ abbrev pub is_near_end : Config → ℕ → ℕ → ℕ → Bool
 is_near_end config s e l =
     nat_lt s l && nat_lt l e
     && (nat_le l (s + config.start_context_lines) || nat_le e (l + config.end_context_lines))
+
+-- line `l` is between lines `s` and `e`, and near none of them
+abbrev pub IsFarInside : Config → ℕ → ℕ → ℕ → Type 0
+IsFarInside config s e l = (s + config.start_context_lines < l) × (l + config.end_context_lines < e)

@@ -11,6 +11,7 @@ use crate::term::views::annotation::order::put_in_order;
 use crate::term::views::collect::label_annotations::{
     FoundAnnotations, LabelIndices, collect_label,
 };
+use crate::term::views::collect::label_span::LabelSpan;
 use crate::term::views::collect::labeled_files::{LabeledFile, add_label, file_index};
 use crate::term::views::collect::padding::PaddingWidth;
 use codespan_base::diagnostic::Label;
@@ -35,6 +36,8 @@ pub struct Collected<'d, FileId> {
     /// The number of digits of the longest number of a line that a label spans; 0 without such a
     /// line.
     pub padding: usize,
+    /// The first and the last of the lines on which labels start and end, in all files.
+    pub lines: LabelSpan,
 }
 
 /// Looks up the lines of all labels, and returns their annotations in order.
@@ -56,7 +59,9 @@ pub fn collect<'files, 'd, F: Files<'files>>(
         (map label_of labels.now)) result }
 {
     let mut collected = collect_in_turn(alloc, files, config, labels)?;
-    put_in_order(&mut collected.annotations)?;
+    let lines = collected.lines.with_context(config);
+    let has_one_file = collected.files.len() == 1;
+    put_in_order(&mut collected.annotations, has_one_file.then_some(lines))?;
     Ok(collected)
 }
 
@@ -83,6 +88,10 @@ fn collect_in_turn<'files, 'd, F: Files<'files>>(
         padding: PaddingWidth::with_digits(0),
     };
     let mut previous = 0;
+    let mut spanned = LabelSpan {
+        first: usize::MAX,
+        last: 0,
+    };
     for (index, label) in labels.iter().enumerate() {
         let file = file_index(&mut labeled, previous, label.file_id)?;
         let lane = labeled[file].lane_count;
@@ -90,11 +99,13 @@ fn collect_in_turn<'files, 'd, F: Files<'files>>(
         let lines = collect_label(files, config, at, label, &mut found)?;
         add_label(&mut labeled, file, label, lines);
         previous = file;
+        spanned = spanned.join(lines);
     }
     Ok(Collected {
         labels,
         files: labeled,
         annotations: found.annotations,
         padding: found.padding.digits,
+        lines: spanned,
     })
 }

@@ -4,130 +4,98 @@
 //! annotations. Once each annotation is moved to its line, the sort meets one run, or nearly so,
 //! and takes time in proportion to it.
 
-ghost use Rattle.std.specs.Prelude.{◌≡◌, ◌<◌, ◌∷◌, true, IfOk, IfSome, OnErr, IsErrOf, length, nat_lt};
-ghost use Rattle.std.specs.List.{filter, range_with_len};
+ghost use Rattle.std.specs.Prelude.{◌≡◌, IfOk, OnErr, IsErrOf, length};
 ghost use Rattle.std.specs.List.Sorted.{IsPermutation};
 
 use crate::term::views::annotation::Annotation;
 use crate::term::views::annotation::order::{RANKS, rank};
 use codespan_base::files::Error;
+use std::alloc::Global;
 use std::ops::Range;
 
 /// The least number of annotations that are worth moving: fewer are sorted by insertion.
 const MIN_LEN: usize = 32;
 
-/// The source of a target that is free: the index of no annotation.
-const FREE: usize = usize::MAX;
+/// What is in place of the index of the next annotation where one was gathered: no index.
+const GATHERED: usize = usize::MAX;
 
 /// Moves annotations to the order of their lines, and on a line to that of the ranks of their
 /// kinds. Those of one line and one rank keep their order.
 ///
-/// They stay as they are where they are of several files, are few, or are fewer than the lines from
-/// the first to the last. Returns whether they were moved. The time is in proportion to their
-/// number.
+/// `lines` are the lines of the one file of which they are, if there is one. They stay as they are
+/// where there is none, where they are few or fewer than the lines, or where another line is found.
+/// Returns whether they were moved. The time is in proportion to their number.
 ///
 /// # Errors
 ///
 /// `OutOfMemory`: an allocation fails.
 pub fn group_by_line<FileId: Copy>(
     annotations: &mut Vec<Annotation<'_, FileId>>,
+    lines: Option<Range<usize>>,
 ) -> Result<bool, Error>
     ensures permutation { IsPermutation annotations.old.items annotations.new.items }
     ensures failed { OnErr result (IsErrOf result Error.OutOfMemory) }
 {
-    let Some(lines) = lines_to_group(annotations) else {
+    let Some(lines) = lines else {
         return Ok(false);
     };
-    let Some(sources) = sources_by_line(annotations, lines)? else {
+    if !are_worth_moving(annotations.len(), &lines) {
         return Ok(false);
-    };
-    *annotations = gather(annotations, &sources)?;
+    }
+    let alloc = *annotations.allocator();
+    let mut chains = chain_groups(alloc, annotations, lines)?;
+    let gathered = gather(alloc, annotations, &chains.first, &mut chains.next)?;
+    if gathered.len() != annotations.len() {
+        return Ok(false);
+    }
+    *annotations = gathered;
     Ok(true)
 }
 
-/// Returns the indices of the lines, from the first to the last, of annotations that are worth
-/// moving: those of one file, not few, and no fewer than the lines.
-fn lines_to_group<FileId>(annotations: &[Annotation<'_, FileId>]) -> Option<Range<usize>> {
-    if annotations.len() < MIN_LEN {
-        return None;
-    }
-    let file = annotations[0].file;
-    let mut first = usize::MAX;
-    let mut last = 0;
-    for annotation in annotations {
-        if annotation.file != file {
-            return None;
-        }
-        first = first.min(annotation.line.index);
-        last = last.max(annotation.line.index);
-    }
-    let is_dense = last.saturating_sub(first) < annotations.len();
-    is_dense.then_some(first..last.saturating_add(1))
+/// Returns whether annotations of these lines are worth moving: they are not few, and no fewer than
+/// the lines.
+fn are_worth_moving(len: usize, lines: &Range<usize>) -> bool {
+    len >= MIN_LEN && lines.end.saturating_sub(lines.start) <= len
 }
 
-/// Returns the indices of the annotations in the order of their lines, or `None` if they are not
-/// found in it.
+/// The groups of annotations, each a chain.
+#[derive(Drop)]
+struct Chains {
+    /// For each group the index of its first annotation. It is past the end for an empty group.
+    first: Vec<usize>,
+    /// For each annotation the index of the next one of its group. It is past the end for the last
+    /// one.
+    next: Vec<usize>,
+}
+
+/// Chains the annotations of each group in their order.
 ///
 /// # Errors
 ///
 /// `OutOfMemory`: an allocation fails.
-fn sources_by_line<FileId>(
-    annotations: &Vec<Annotation<'_, FileId>>,
+fn chain_groups<FileId>(
+    alloc: Global,
+    annotations: &[Annotation<'_, FileId>],
     lines: Range<usize>,
-) -> Result<Option<Vec<usize>>, Error>
-    ensures permutation { IfOk result (λ found. IfSome found (λ sources.
-        IsPermutation (range_with_len 0 (length annotations.now.items)) sources.items)) }
+) -> Result<Chains, Error>
+    ensures next { IfOk result (λ chains. length chains.next.items ≡ length annotations.now) }
     ensures failed { OnErr result (IsErrOf result Error.OutOfMemory) }
 {
-    let alloc = *annotations.allocator();
-    let mut next = first_targets(annotations, &lines)?;
-    let mut sources = vec![in alloc; FREE; annotations.len()]?;
-    for (source, annotation) in annotations.iter().enumerate() {
-        let target = count(&mut next, group_of(annotation, lines.start));
-        if !set_source(&mut sources, target, source) {
-            return Ok(None);
+    let len = annotations.len();
+    let line_total = lines.end.saturating_sub(lines.start);
+    let mut first = vec![in alloc; len; line_total.saturating_mul(RANKS)]?;
+    let mut next = vec![in alloc; len; len]?;
+    for index in (0..len).rev() {
+        let group = group_of(&annotations[index], lines.start);
+        if group < first.len() {
+            next[index] = first[group];
+            first[group] = index;
         }
     }
-    Ok(Some(sources))
+    Ok(Chains { first, next })
 }
 
-/// Returns for each group the number of annotations in the groups before it.
-///
-/// # Errors
-///
-/// `OutOfMemory`: an allocation fails.
-fn first_targets<FileId>(
-    annotations: &Vec<Annotation<'_, FileId>>,
-    lines: &Range<usize>,
-) -> Result<Vec<usize>, Error>
-    ensures failed { OnErr result (IsErrOf result Error.OutOfMemory) }
-{
-    let line_total = lines.end.saturating_sub(lines.start);
-    let group_total = line_total.saturating_mul(RANKS);
-    let mut numbers = vec![in *annotations.allocator(); 0; group_total]?;
-    for annotation in annotations {
-        count(&mut numbers, group_of(annotation, lines.start));
-    }
-    add_up(&mut numbers);
-    Ok(numbers)
-}
-
-/// Sets the source of a target that is free. Returns whether there is one at this index.
-#[inline(always)]
-fn set_source(sources: &mut [usize], target: usize, source: usize) -> bool
-    requires { source < FREE }
-    ensures { result ≡ true → IsPermutation
-        (source ∷ filter (λ s. nat_lt s FREE) sources.old)
-        (filter (λ s. nat_lt s FREE) sources.new) }
-{
-    if target >= sources.len() || sources[target] != FREE {
-        return false;
-    }
-    sources[target] = source;
-    true
-}
-
-/// Returns the annotations at these indices.
+/// Returns the annotations of the chains, one chain after another. No annotation is returned twice.
 ///
 /// # Errors
 ///
@@ -135,19 +103,30 @@ fn set_source(sources: &mut [usize], target: usize, source: usize) -> bool
 ///
 /// # Requires
 ///
-/// The indices are those of all annotations, each once.
+/// There is one index in `next` for each annotation.
 fn gather<'d, FileId: Copy>(
-    annotations: &Vec<Annotation<'d, FileId>>,
-    sources: &[usize],
+    alloc: Global,
+    annotations: &[Annotation<'d, FileId>],
+    first: &[usize],
+    next: &mut [usize],
 ) -> Result<Vec<Annotation<'d, FileId>>, Error>
-    requires { IsPermutation (range_with_len 0 (length annotations.now.items)) sources.now }
-    ensures permutation { IfOk result (λ gathered.
-        IsPermutation annotations.now.items gathered.items) }
+    requires { length next.old ≡ length annotations.now }
+    ensures permutation { IfOk result (λ gathered. length gathered.items ≡ length annotations.now
+        → IsPermutation annotations.now gathered.items) }
     ensures failed { OnErr result (IsErrOf result Error.OutOfMemory) }
 {
-    let mut gathered = Vec::with_capacity(*annotations.allocator(), annotations.len())?;
-    for source in sources {
-        gathered.push(annotations[*source])?;
+    let mut gathered = Vec::with_capacity(alloc, annotations.len())?;
+    for start in first {
+        let mut source = *start;
+        while source < annotations.len() {
+            let following = next[source];
+            if following == GATHERED {
+                break;
+            }
+            gathered.push_reserved(annotations[source]);
+            next[source] = GATHERED;
+            source = following;
+        }
     }
     Ok(gathered)
 }
@@ -157,24 +136,4 @@ fn gather<'d, FileId: Copy>(
 fn group_of<FileId>(annotation: &Annotation<'_, FileId>, first_line: usize) -> usize {
     let line = annotation.line.index.wrapping_sub(first_line);
     line.wrapping_mul(RANKS).wrapping_add(rank(annotation))
-}
-
-/// Adds one to the number at this index, and returns what it was.
-fn count(numbers: &mut [usize], index: usize) -> usize {
-    if index >= numbers.len() {
-        return 0;
-    }
-    let number = numbers[index];
-    numbers[index] = number.wrapping_add(1);
-    number
-}
-
-/// Replaces each number by the sum of those before it.
-fn add_up(numbers: &mut [usize]) {
-    let mut sum = 0usize;
-    for index in 0..numbers.len() {
-        let number = numbers[index];
-        numbers[index] = sum;
-        sum = sum.wrapping_add(number);
-    }
 }

@@ -9,6 +9,7 @@ use crate::term::views::annotation::by_line::group_by_line;
 use crate::term::views::annotation::{Annotation, AnnotationKind, range_in_line};
 use codespan_base::files::Error;
 use std::cmp::Ordering;
+use std::ops::Range;
 
 /// Compares two annotations: by file, by line, and by kind. Only equal annotations are `Equal`.
 fn compare<FileId>(left: &Annotation<'_, FileId>, right: &Annotation<'_, FileId>) -> Ordering
@@ -106,13 +107,14 @@ fn sort<FileId>(annotations: &mut Vec<Annotation<'_, FileId>>)
 }
 
 /// Puts annotations in order. Those that are in order already, or once they are grouped by line,
-/// are not sorted.
+/// are not sorted. `lines` are the lines of the one file of which they are, if there is one.
 ///
 /// # Errors
 ///
 /// `OutOfMemory`: an allocation fails.
 pub fn put_in_order<FileId: Copy>(
     annotations: &mut Vec<Annotation<'_, FileId>>,
+    lines: Option<Range<usize>>,
 ) -> Result<(), Error>
     ensures permutation { IsPermutation annotations.old.items annotations.new.items }
     ensures sorted { IfOk result (λ _.
@@ -122,7 +124,7 @@ pub fn put_in_order<FileId: Copy>(
     if are_in_order(annotations) {
         return Ok(());
     }
-    let is_grouped = group_by_line(annotations)?;
+    let is_grouped = group_by_line(annotations, lines)?;
     if is_grouped && are_in_order(annotations) {
         return Ok(());
     }

@@ -1,6 +1,6 @@
 //! The annotations of one label.
 
-ghost use Rattle.std.specs.Prelude.{◌≡◌, ◌≢◌, None, IfErr, IfOk, IfSome, OnOk, OnErr, IsErrOf};
+ghost use Rattle.std.specs.Prelude.{◌≡◌, ◌≢◌, true, None, IfErr, IfOk, IfSome, OnOk, OnErr, IsErrOf};
 ghost use Rattle.std.specs.Option.{option_map};
 ghost use Rattle.codespan_base.specs.LawfulFiles.{FailsBy};
 ghost use Rattle.codespan_base.specs.Labels.{first_line, last_line};
@@ -9,9 +9,9 @@ ghost use Rattle.codespan_reporting.specs.Inner.CollectedLabels.{AddsLine, Finds
 ghost use Rattle.codespan_reporting.specs.Inner.SourceFiles.{EndsBefore, model_of};
 ghost use Rattle.codespan_reporting.specs.Inner.AnnotationViews.{Adds, IsLineOf, kind_view};
 ghost use Rattle.codespan_reporting.specs.Inner.Annotations.{annotation_if_any};
-ghost use Rattle.codespan_reporting.specs.Inner.LabelSpans.{line_of_end, line_of_start};
+ghost use Rattle.codespan_reporting.specs.Inner.LabelSpans.{IsFarInside, line_of_end, line_of_start};
 
-use crate::term::views::annotation::{Annotation, AnnotationKind, LineInfo};
+use crate::term::views::annotation::{Annotation, AnnotationKind, LineInfo, MultiPart};
 use crate::term::views::collect::label_span::{LabelSpan, label_lines};
 use crate::term::views::collect::padding::PaddingWidth;
 use crate::term::views::source_file::SourceFile;
@@ -93,17 +93,20 @@ impl<'a, 'c, 'files, F: Files<'files>> LabelCollector<'a, 'c, 'files, F> {
         }
     }
 
-    /// Appends the annotations of the label on a line.
+    /// Appends the one annotation of the label on a line far from its ends.
     ///
     /// # Errors
     ///
     /// `OutOfMemory`: an allocation fails.
-    fn push_line<'d>(
+    #[inline(always)]
+    fn push_far_line<'d>(
         &self,
         label: &'d Label<F::FileId>,
         line: LineInfo,
         annotations: &mut Vec<Annotation<'d, F::FileId>>,
     ) -> Result<(), Error>
+        requires far { IsFarInside self.now.config.now self.now.lines.first self.now.lines.last
+            line.index }
         requires first { first_line (model_of F.database self.now.file) (label_of label.now).label
             ≡ self.now.lines.first }
         requires last { last_line (model_of F.database self.now.file) (label_of label.now).label
@@ -113,6 +116,42 @@ impl<'a, 'c, 'files, F: Files<'files>> LabelCollector<'a, 'c, 'files, F> {
             annotations.old.items annotations.new.items line.index) }
         ensures failed { OnErr result (IsErrOf result Error.OutOfMemory) }
     {
+        let kind = AnnotationKind::Multi {
+            part: MultiPart::Left,
+            lane: self.at.lane,
+            label,
+        };
+        push_annotation(self.at.file, line, Some(kind), annotations)?;
+        Ok(())
+    }
+
+    /// Appends the annotations of the label on a line. `is_far` is whether the line is known to be
+    /// far from the label's ends.
+    ///
+    /// # Errors
+    ///
+    /// `OutOfMemory`: an allocation fails.
+    fn push_line<'d>(
+        &self,
+        label: &'d Label<F::FileId>,
+        line: LineInfo,
+        is_far: bool,
+        annotations: &mut Vec<Annotation<'d, F::FileId>>,
+    ) -> Result<(), Error>
+        requires far { is_far ≡ true → IsFarInside self.now.config.now self.now.lines.first
+            self.now.lines.last line.index }
+        requires first { first_line (model_of F.database self.now.file) (label_of label.now).label
+            ≡ self.now.lines.first }
+        requires last { last_line (model_of F.database self.now.file) (label_of label.now).label
+            ≡ self.now.lines.last }
+        requires line { IsLineOf (model_of F.database self.now.file) line }
+        ensures added { OnOk result (AddsLine (label_collected F.database self.now label.now)
+            annotations.old.items annotations.new.items line.index) }
+        ensures failed { OnErr result (IsErrOf result Error.OutOfMemory) }
+    {
+        if is_far {
+            return self.push_far_line(label, line, annotations);
+        }
         push_annotation(
             self.at.file,
             line,
@@ -130,6 +169,7 @@ impl<'a, 'c, 'files, F: Files<'files>> LabelCollector<'a, 'c, 'files, F> {
 
     /// Looks up a line and appends the label's annotations of it, where the label spans the line or
     /// its context lines reach it. Returns whether the context goes on: it ends with the file.
+    /// `is_far` is whether the line is known to be far from the label's ends.
     ///
     /// # Errors
     ///
@@ -139,8 +179,11 @@ impl<'a, 'c, 'files, F: Files<'files>> LabelCollector<'a, 'c, 'files, F> {
         &self,
         label: &'d Label<F::FileId>,
         index: usize,
+        is_far: bool,
         found: &mut FoundAnnotations<'d, F::FileId>,
     ) -> Result<bool, Error>
+        requires far { is_far ≡ true → IsFarInside self.now.config.now self.now.lines.first
+            self.now.lines.last index }
         requires first { first_line (model_of F.database self.now.file) (label_of label.now).label
             ≡ self.now.lines.first }
         requires last { last_line (model_of F.database self.now.file) (label_of label.now).label
@@ -160,7 +203,7 @@ impl<'a, 'c, 'files, F: Files<'files>> LabelCollector<'a, 'c, 'files, F> {
         ensures failed { IfErr result (λ e. e ≢ Error.OutOfMemory
             → FailsLine F.database self.now label.now index e) }
     {
-        let is_spanned = self.lines.spans(index);
+        let is_spanned = is_far || self.lines.spans(index);
         if !is_spanned && !self.lines.is_around(self.config, index) {
             return Ok(true);
         }
@@ -170,7 +213,7 @@ impl<'a, 'c, 'files, F: Files<'files>> LabelCollector<'a, 'c, 'files, F> {
         if is_spanned {
             found.padding.fit(line.number);
         }
-        self.push_line(label, line, &mut found.annotations)?;
+        self.push_line(label, line, is_far, &mut found.annotations)?;
         Ok(true)
     }
 
@@ -201,8 +244,10 @@ impl<'a, 'c, 'files, F: Files<'files>> LabelCollector<'a, 'c, 'files, F> {
         let lines = self.lines;
         let first = lines.first.saturating_sub(self.config.before_label_lines);
         let last = lines.last.saturating_add(self.config.after_label_lines);
+        let far = lines.far_lines(self.config);
         for index in first.min(lines.last)..=last.max(lines.first) {
-            if !self.collect_line(label, index, found)? {
+            let is_far = far.start <= index && index < far.end;
+            if !self.collect_line(label, index, is_far, found)? {
                 return Ok(());
             }
         }

@@ -1,16 +1,17 @@
 //! The lines of a label: which it spans, and which it makes shown.
 
-ghost use Rattle.std.specs.Prelude.{◌≡◌, ◌==◌, ◌&&◌, nat_lt, IfOk};
+ghost use Rattle.std.specs.Prelude.{◌≡◌, ◌<◌, ◌≤◌, ℕ, ◌==◌, ◌&&◌, nat_lt, IfOk};
 ghost use Rattle.codespan_base.specs.LawfulFiles.{FailsBy};
 ghost use Rattle.codespan_picture.specs.Lines.{shows};
 ghost use Rattle.codespan_picture.specs.Lookups.{is_around};
 ghost use Rattle.codespan_reporting.specs.Inner.AnnotationViews.{part_of};
-ghost use Rattle.codespan_reporting.specs.Inner.LabelSpans.{ends_failure, is_near_end, line_of_end, line_of_start, spans_line};
+ghost use Rattle.codespan_reporting.specs.Inner.LabelSpans.{IsFarInside, ends_failure, is_near_end, line_of_end, line_of_start, spans_line};
 
 use crate::term::views::annotation::MultiPart;
 use codespan_base::diagnostic::Label;
 use codespan_base::files::{Error, Files};
 use codespan_base::term::Config;
+use std::ops::Range;
 
 /// The indices of the lines on which a label starts and ends, 0-based. The first may be after the
 /// last.
@@ -75,6 +76,34 @@ impl LabelSpan {
             .saturating_add(2);
         let lines = others.saturating_add(1);
         lines.saturating_add(near_ends.min(lines))
+    }
+
+    /// Returns the lines inside the label that are far from its ends: after the context lines of the
+    /// first line, and before those of the last one.
+    #[inline(always)]
+    pub fn far_lines(self, config: &Config<'_>) -> Range<usize>
+        ensures { (k : ℕ) → result.start ≤ k → k < result.end
+            → IsFarInside config.now self.first self.last k }
+    {
+        let start = self.first.saturating_add(config.start_context_lines);
+        let end = self.last.saturating_sub(config.end_context_lines);
+        start.saturating_add(1)..end
+    }
+
+    /// Returns the span from the first line of both to the last one.
+    #[inline(always)]
+    pub fn join(self, other: LabelSpan) -> LabelSpan {
+        LabelSpan {
+            first: self.first.min(other.first),
+            last: self.last.max(other.last),
+        }
+    }
+
+    /// Returns the indices of the lines, and of the context lines around them.
+    pub fn with_context(self, config: &Config<'_>) -> Range<usize> {
+        let start = self.first.saturating_sub(config.before_label_lines);
+        let end = self.last.saturating_add(config.after_label_lines);
+        start..end.saturating_add(1)
     }
 
     /// Returns whether the line is before the first line or after the last one, within the context
