@@ -1,15 +1,17 @@
 -- The order of annotations.
-use Rattle.std.proofs.Common.{◌≡◌, ℕ, ◌<◌, ◌≤◌, true, false, List, [], ◌∷◌, ⊎_elim, refl, sym, ◌∙◌, ap, arith, true≢false, Ordering}
+use Rattle.std.proofs.Common.{◌≡◌, ℕ, ◌+◌, ◌-◌, ◌<◌, ◌≤◌, ◌==◌, Bool, cond, length, get_or, subst, true, false, List, [], ◌∷◌, ⊎_elim, refl, sym, ◌∙◌, ap, arith, true≢false, Ordering}
 use Rattle.std.specs.Cmp.{IsStrictWeakOrder}
 use Rattle.std.specs.List.{AllByRecursion, cons_option}
 use Rattle.std.specs.Ordering.{is_lt, nat_cmp, ordering_then}
-use Rattle.std.specs.declared.cmp.Ordering.TheVariants.{Less, Equal}
+use Rattle.std.specs.declared.cmp.Ordering.TheVariants.{Less, Equal, Greater}
 use Rattle.std.proofs.lemmas.Bool.{cases_lt, cases_eq, eq-eqb, lt-ltb, le-ltb}
 use Rattle.std.proofs.lemmas.Bool.Decides.{nat_tests}
 use Rattle.std.proofs.lemmas.Cmp.{nat_cmp_total, on_total, then_total, back_total}
+use Rattle.std.proofs.lemmas.List.{get_or_default}
 use Rattle.std.proofs.lemmas.List.Sorted.{ranks_by}
+use Rattle.std.specs.List.Sorted.{IsSortedWithin}
 use Rattle.codespan_base.specs.Labels.{LaneMark, LabelModel, range_precedes}
-use Rattle.codespan_reporting.specs.Inner.Annotations.{Annotation, AnnotationKind, Shown, Single, Multi, rank_of, first_of, second_of, index_in_list, is_below}
+use Rattle.codespan_reporting.specs.Inner.Annotations.{Annotation, AnnotationKind, Shown, Single, Multi, rank_of, first_of, second_of, index_in_list, IsMarkOn, is_below}
 use Rattle.codespan_reporting.specs.Inner.SnippetLines.{single_label_of, single_labels_in}
 use Rattle.codespan_laws.proofs.OrderSorts.{Ascends}
 use Rattle.codespan_laws.proofs.SortedLists.{Rises}
@@ -119,3 +121,31 @@ lane_mark_annotation f l m = record { file = f; line = l; kind = Multi m }
 -- of two multi-line label marks the one in the lesser lane is below
 pub lane_below : (f l : ℕ) (x y : LaneMark) → x.lane < y.lane → is_below (lane_mark_annotation f l x) (lane_mark_annotation f l y) ≡ true
 lane_below f l x y h = then_same f f _ refl ∙ then_same l l _ refl ∙ ap (λ q. is_lt (ordering_then q (ordering_then (nat_cmp 0 0) (nat_cmp 0 0)))) (cmp_less x.lane y.lane h)
+
+-- equal lanes, and greater ones, are not below
+lane_rises : (m n : ℕ) → n ≤ m → is_lt (ordering_then (nat_cmp m n) (ordering_then (nat_cmp 0 0) (nat_cmp 0 0))) ≡ false
+lane_rises m n h = rw (le-ltb m n h) (by_test (m == n))
+  where
+    by_test : (b : Bool) → is_lt (ordering_then (cond b Equal Greater) (ordering_then (nat_cmp 0 0) (nat_cmp 0 0))) ≡ false
+    by_test true = refl
+    by_test false = refl
+
+-- of two multi-line label marks of one line the one in the greater lane is not below, nor is one of two in the same lane
+pub mark_rises : (f l n m : ℕ) (x y : Annotation) → IsMarkOn f l n x → IsMarkOn f l m y → n ≤ m → is_below y x ≡ false
+mark_rises f l n m x y a b h =
+    then_same y.file x.file _ (b.0 ∙ sym a.0) ∙ then_same y.line x.line _ (b.1 ∙ sym a.1) ∙ then_same (rank_of y.kind) (rank_of x.kind) _ (b.2 ∙ sym a.2)
+    ∙ (λ i. is_lt (ordering_then (nat_cmp (b.3 i) (a.3 i)) (ordering_then (nat_cmp (b.4 i) (a.4 i)) (nat_cmp (a.5 i) (b.5 i))))) ∙ lane_rises m n h
+
+-- a list is in order so far, and from there on
+pub sorted-join : {X : Type 0} (lt : X → X → Bool) (xs : List X) (low middle high : ℕ) (x y : X) → x ≡ get_or xs (middle - 1) x → y ≡ get_or xs middle y → middle < length xs
+    → lt y x ≡ false → IsSortedWithin lt xs low middle → IsSortedWithin lt xs middle high → IsSortedWithin lt xs low high
+sorted-join lt xs low middle high x y is_x is_y inside here before after k d from below =
+    ⊎_elim (λ (l : k + 1 < middle). before k d from l)
+    (λ (g : middle ≤ k + 1). ⊎_elim
+    (λ (e : k + 1 ≡ middle).
+    let at_y : y ≡ get_or xs (k + 1) d = is_y ∙ get_or_default xs middle y d inside ∙ ap (λ i. get_or xs i d) (sym e) in
+    let at_x : x ≡ get_or xs k d = is_x ∙ get_or_default xs (middle - 1) x d (omega arith) ∙ ap (λ i. get_or xs i d) (omega arith) in
+    subst (λ z. lt (get_or xs (k + 1) d) z ≡ false) at_x (subst (λ z. lt z x ≡ false) at_y here))
+    (λ (other : k + 1 ≡ middle → ⊥). after k d (omega arith) below)
+    (cases_eq (k + 1) middle))
+    (cases_lt (k + 1) middle)

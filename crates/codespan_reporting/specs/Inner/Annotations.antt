@@ -1,5 +1,5 @@
 -- Annotations, what a label does on a line of its file, and their order.
-use Rattle.std.specs.Prelude.{ℕ, Bool, nat_lt, ◌==◌, ◌&&◌, List, [], ◌∷◌, ◌++◌, flat_map, Option, Some, None, if◌then◌else◌}
+use Rattle.std.specs.Prelude.{◌≡◌, ℕ, Bool, nat_lt, ◌==◌, ◌&&◌, List, [], ◌∷◌, ◌++◌, flat_map, Option, Some, None, if◌then◌else◌}
 use Rattle.std.specs.Option.{option_map}
 use Rattle.std.specs.Ordering.{is_lt, nat_cmp, ordering_then}
 use Rattle.std.specs.declared.cmp.Ordering.{Ordering}
@@ -81,6 +81,12 @@ is_on_line l e = e.line == l
 -- the annotation is of this file
 abbrev pub is_of_file : ℕ → Annotation → Bool
 is_of_file f e = e.file == f
+
+-- the annotation is a multi-line label mark in this lane, on this line of this file
+abbrev pub IsMarkOn : ℕ → ℕ → ℕ → Annotation → Type 0
+IsMarkOn f l lane e =
+    (e.file ≡ f) × (e.line ≡ l) × (rank_of e.kind ≡ 2) × (first_of e.kind ≡ lane)
+    × (second_of e.kind ≡ 0) × (index_in_list e.kind ≡ 0)
 
 -- ---- the annotations of a label
 

@@ -36,7 +36,7 @@ pub struct Collected<'d, FileId> {
     /// The number of digits of the longest number of a line that a label spans; 0 without such a
     /// line.
     pub padding: usize,
-    /// The first and the last of the lines on which labels start and end, in all files.
+    /// The first and the last of the lines on which labels of the first file start and end.
     pub lines: LabelSpan,
 }
 
@@ -99,7 +99,9 @@ fn collect_in_turn<'files, 'd, F: Files<'files>>(
         let lines = collect_label(files, config, at, label, &mut found)?;
         add_label(&mut labeled, file, label, lines);
         previous = file;
-        spanned = spanned.join(lines);
+        if file == 0 {
+            spanned = spanned.join(lines);
+        }
     }
     Ok(Collected {
         labels,

@@ -1,8 +1,8 @@
 //! The order of annotations.
 
-ghost use Rattle.std.specs.Prelude.{◌≡◌, map, true, IfOk, OnErr, IsErrOf};
-ghost use Rattle.std.specs.List.Sorted.{IsPermutation, IsSortedBy};
-ghost use Rattle.codespan_reporting.specs.Inner.Annotations.{annotation_cmp, is_below, rank_of, kind_cmp};
+ghost use Rattle.std.specs.Prelude.{◌≡◌, ◌<◌, length, map, true, IfOk, IfSome, OnErr, IsErrOf};
+ghost use Rattle.std.specs.List.Sorted.{IsPermutation, IsSortedBy, IsSortedWithin};
+ghost use Rattle.codespan_reporting.specs.Inner.Annotations.{IsMarkOn, annotation_cmp, is_below, rank_of, kind_cmp};
 ghost use Rattle.codespan_reporting.specs.Inner.AnnotationViews.{annotation_view};
 
 use crate::term::views::annotation::by_line::group_by_line;
@@ -71,31 +71,68 @@ pub fn rank<FileId>(annotation: &Annotation<'_, FileId>) -> usize
     }
 }
 
-/// Returns whether one annotation is before another in the order of [`compare`]. Of two marks of
-/// one line, as most are that are compared, it is found by few instructions.
-#[inline(always)]
+/// Returns whether one annotation is before another in the order of [`compare`].
 fn is_before<FileId>(left: &Annotation<'_, FileId>, right: &Annotation<'_, FileId>) -> bool
     ensures { result ≡ is_below (annotation_view left.now) (annotation_view right.now) }
 {
-    if left.file != right.file {
-        return left.file < right.file;
-    }
-    if left.line.index != right.line.index {
-        return left.line.index < right.line.index;
-    }
-    match (&left.kind, &right.kind) {
-        (AnnotationKind::Multi { lane: one, .. }, AnnotationKind::Multi { lane: other, .. }) => {
-            *one < *other
-        }
-        _ => compare_kinds(left, right).is_lt(),
-    }
+    compare(left, right).is_lt()
 }
 
 /// Returns whether annotations are found to be in order.
 fn are_in_order<FileId>(annotations: &[Annotation<'_, FileId>]) -> bool
     ensures { result ≡ true → IsSortedBy is_below (map annotation_view annotations.now) }
 {
-    annotations.is_sorted_by(|left, right| !is_before(right, left))
+    let mut end = 1;
+    while end < annotations.len() {
+        if is_before(&annotations[end], &annotations[end - 1]) {
+            return false;
+        }
+        end = marks_end(annotations, end);
+    }
+    true
+}
+
+/// Returns the end of the multi-line label marks of one line, in the order of their lanes, from
+/// this index on: at least the next index. Most annotations that are found to be in order are
+/// these, and take few instructions.
+///
+/// # Requires
+///
+/// There is an annotation at this index.
+#[inline(always)]
+fn marks_end<FileId>(annotations: &[Annotation<'_, FileId>], start: usize) -> usize
+    requires { start < length annotations.now }
+    ensures after { start < result }
+    ensures sorted { IsSortedWithin (λ x y. is_below (annotation_view x) (annotation_view y))
+        annotations.now start result }
+{
+    let first = &annotations[start];
+    let Some(mut lane) = lane_on(first, first.file, first.line.index) else {
+        return start + 1;
+    };
+    let mut end = start + 1;
+    while end < annotations.len() {
+        match lane_on(&annotations[end], first.file, first.line.index) {
+            Some(next) if lane <= next => lane = next,
+            _ => break,
+        }
+        end += 1;
+    }
+    end
+}
+
+/// Returns the lane of an annotation that is a multi-line label mark of this line of this file.
+#[inline(always)]
+fn lane_on<FileId>(annotation: &Annotation<'_, FileId>, file: usize, line: usize) -> Option<usize>
+    ensures { IfSome result (λ lane. IsMarkOn file line lane (annotation_view annotation.now)) }
+{
+    if annotation.file != file || annotation.line.index != line {
+        return None;
+    }
+    match &annotation.kind {
+        AnnotationKind::Multi { lane, .. } => Some(*lane),
+        _ => None,
+    }
 }
 
 /// Sorts annotations.

@@ -62,16 +62,15 @@ impl<'a, 'c, 'files, F: Files<'files>> LabelCollector<'a, 'c, 'files, F> {
     ) -> Option<AnnotationKind<'d, F::FileId>>
         ensures { option_map (kind_view line.start) result ≡ kind_by self.now label.now line }
     {
-        // A long label makes few of its lines shown.
-        if !self.lines.shows(self.config, line.index) {
-            None
-        } else if self.lines.is_single() && self.lines.first == line.index {
+        if self.lines.is_single() && self.lines.first == line.index {
             Some(AnnotationKind::Single {
                 index: self.at.index,
                 label,
             })
-        } else {
+        } else if self.lines.shows(self.config, line.index) {
             Some(AnnotationKind::Shown)
+        } else {
+            None
         }
     }
 

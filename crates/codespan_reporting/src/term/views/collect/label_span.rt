@@ -42,15 +42,14 @@ impl LabelSpan {
     pub fn part_on(self, index: usize) -> Option<MultiPart>
         ensures { result ≡ part_of self.first self.last index }
     {
-        // Most lines of a long label are inside it.
-        if self.is_inside(index) {
-            Some(MultiPart::Left)
-        } else if self.is_single() {
+        if self.is_single() {
             None
         } else if self.first == index {
             Some(MultiPart::Top)
         } else if self.last == index {
             Some(MultiPart::Bottom)
+        } else if self.is_inside(index) {
+            Some(MultiPart::Left)
         } else {
             None
         }
@@ -60,7 +59,7 @@ impl LabelSpan {
     pub fn spans(self, index: usize) -> bool
         ensures { result ≡ spans_line self.first self.last index }
     {
-        self.is_inside(index) || index == self.first || index == self.last
+        index == self.first || index == self.last || self.is_inside(index)
     }
 
     /// Returns how many annotations the spanned lines make at most: a part of a multi-line label on
@@ -85,6 +84,9 @@ impl LabelSpan {
         ensures { (k : ℕ) → result.start ≤ k → k < result.end
             → IsFarInside config.now self.first self.last k }
     {
+        if self.is_single() {
+            return 0..0;
+        }
         let start = self.first.saturating_add(config.start_context_lines);
         let end = self.last.saturating_sub(config.end_context_lines);
         start.saturating_add(1)..end

@@ -1,21 +1,18 @@
-use Rattle.std.proofs.Common.{rules, ◌≡◌, Bool, true, false, refl, true≢false, subst}
-use Rattle.std.specs.Prelude.{not}
-use Rattle.std.specs.List.{IsAllAdjacentAnswer}
-use Rattle.std.proofs.lemmas.List.Sorted.{answers_always}
+use Rattle.std.proofs.Common.{◌∙◌, sym, arith}
+use Rattle.codespan_laws.proofs.SortedLists.{sorted-map}
 use Rattle.codespan_reporting.specs.Inner.Annotations.{is_below}
 use Rattle.codespan_reporting.specs.Inner.AnnotationViews.{annotation_view}
-use Rattle.codespan_laws.proofs.SortedLists.{sorted-map}
+use Rattle.codespan_reporting.proofs.AnnotationOrder.{sorted-join}
 use Rattle.codespan_reporting.proofs.term.views.annotation.order.are_in_order.Goals as goal
 
--- what is true of the negation is false of the test
-not_true : (b : Bool) → true ≡ not b → b ≡ false
-not_true true h = absurd (true≢false h)
-not_true false h = refl
+pub loop-end-preserved : goal.loop-end-preserved
+loop-end-preserved g c = record {
+  some = omega arith;
+  sorted = sorted-join (λ x y. is_below (annotation_view x) (annotation_view y)) c.args.annotations.now 0 c.loop-end.end c.marks_end-end.result
+      c.index-annotations-end-in-loop-end.result c.index-annotations-end.result c.index-annotations-end-in-loop-end.is c.index-annotations-end.is (omega arith)
+      (sym c.is_before.ensures ∙ c.if-is_before.false) c.loop-end.invariant.sorted c.marks_end-end.ensures.sorted;
+}
 
 pub returns : goal.returns
-returns g c = λ ordered.
-    let xs = c.args.annotations.now in
-    let known = c.is_sorted_by.ensures.cases (λ x y. not (is_below (annotation_view y) (annotation_view x)))
-    (answers_always _ (λ a r. r ≡ not (is_below (annotation_view a.1.0.now) (annotation_view a.0.now))) _ (λ f a r f' k. search rules)) in
-    let each = subst (λ r. IsAllAdjacentAnswer (λ x y b. b ≡ not (is_below (annotation_view y) (annotation_view x))) xs r) ordered known in
-    sorted-map annotation_view is_below xs (λ k d _ l. not_true _ (each k d l))
+returns g c = λ _.
+    sorted-map annotation_view is_below c.args.annotations.now (λ k d from below. c.loop-end.invariant.sorted k d from (omega (arith, c.loop-end-test.false)))
