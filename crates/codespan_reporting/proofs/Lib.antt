@@ -11,6 +11,7 @@ pub mod FewDigits
 pub mod FileIndices
 pub mod AnnotationLines
 pub mod AnnotationOutput
+pub mod FileLengths
 pub mod FileParts
 pub mod Collecting
 pub mod Contexts

@@ -2,7 +2,8 @@
 
 ghost use Rattle.std.specs.Prelude.{◌≡◌, ◌≤◌, length};
 ghost use Rattle.std.specs.List.{prefix_len};
-ghost use Rattle.codespan_reporting.specs.Inner.Annotations.{is_of_file, is_on_line, shows_line};
+ghost use Rattle.std.specs.List.Sorted.{IsSortedWithin};
+ghost use Rattle.codespan_reporting.specs.Inner.Annotations.{is_below, is_of_file, is_on_line, shows_line};
 ghost use Rattle.codespan_reporting.specs.Inner.AnnotationViews.{annotation_view};
 
 use crate::term::views::annotation::{Annotation, AnnotationKind};
@@ -26,11 +27,22 @@ pub fn line_len<FileId>(annotations: &[Annotation<'_, FileId>], line: usize) -> 
         .count()
 }
 
-/// Returns how many annotations at the start are of the file.
+/// Returns how many annotations at the start are of the file. Where all are, as with one file, the
+/// first and the last one show it.
+///
+/// # Requires
+///
+/// The annotations are in order.
 pub fn file_len<FileId>(annotations: &[Annotation<'_, FileId>], file: usize) -> usize
+    requires { IsSortedWithin (λ x y. is_below (annotation_view x) (annotation_view y))
+        annotations.now 0 (length annotations.now) }
     ensures value { result ≡ prefix_len (λ e. is_of_file file (annotation_view e)) annotations.now }
     ensures within { result ≤ length annotations.now }
 {
+    let len = annotations.len();
+    if len != 0 && annotations[len - 1].file == file && annotations[0].file == file {
+        return len;
+    }
     annotations
         .iter()
         .take_while(|annotation| annotation.file == file)

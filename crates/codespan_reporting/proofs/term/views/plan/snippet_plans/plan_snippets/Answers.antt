@@ -3,6 +3,7 @@ use Rattle.std.proofs.lemmas.Result.{err_from_is_err_and}
 use Rattle.codespan_reporting.specs.Inner.FileLookups.{FailsByOrFormat}
 use Rattle.codespan_reporting.specs.Inner.AnnotationViews.{annotation_view}
 use Rattle.codespan_reporting.specs.Inner.SnippetPlans.{ArePlans, plans_failure}
+use Rattle.codespan_reporting.proofs.FileLengths.{rest-sorted}
 use Rattle.codespan_reporting.proofs.FileParts.{from_file-first}
 use Rattle.codespan_reporting.proofs.PlansFound.{IsAtFile, added-count, next_inside, next_left, own_lookups, own_lines, own_snippet_lines, planned-more, planned-fails, planned-unlocated, plans-add}
 use Rattle.codespan_reporting.proofs.term.views.plan.snippet_plans.plan_snippets.Given.{Over}
@@ -39,6 +40,9 @@ turn g c =
         is = c.file-item.is ∙ ap (λ fs. get_or fs k own) c.deref-file-items.ensures.value;
       };
     }
+
+pub file_len-len-requires : goal.file_len-len-requires
+file_len-len-requires g c = rw c.deref.ensures.value (rest-sorted c.args.collected.now.annotations.items c.loop-index.start c.requires.sorted)
 
 pub push_lines-requires : goal.push_lines-requires
 push_lines-requires g c κs = ((refl, tt), own_lines (turn g (goal.at.push_lines-requires g c).After-file_len-len) c.deref-in-loop-index.ensures.value (((g.F.Files.database c.args.files.now).file)) c.requires.lines)
