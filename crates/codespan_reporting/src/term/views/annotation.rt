@@ -1,13 +1,16 @@
 //! Annotations: what a label does on a line of its file.
 
-ghost use Rattle.std.specs.Prelude.{◌≡◌};
+ghost use Rattle.std.specs.Prelude.{◌≡◌, OnOk, OnErr, IsErrOf};
+ghost use Rattle.std.specs.Option.{option_map};
 ghost use Rattle.codespan_base.specs.Labels.{from_line_start};
 ghost use Rattle.codespan_picture.specs.Arguments.{multi_label_view};
 ghost use Rattle.codespan_picture.specs.Picture.{label_of};
-ghost use Rattle.codespan_reporting.specs.Inner.AnnotationViews.{part_from};
+ghost use Rattle.codespan_reporting.specs.Inner.AnnotationViews.{Adds, kind_view, part_from};
+ghost use Rattle.codespan_reporting.specs.Inner.Annotations.{annotation_if_any};
 
 use crate::term::renderer::MultiLabel;
 use codespan_base::diagnostic::Label;
+use codespan_base::files::Error;
 use std::ops::Range;
 
 pub mod by_line;
@@ -71,6 +74,28 @@ pub struct Annotation<'d, FileId> {
     pub line: LineInfo,
     /// What a label does on it.
     pub kind: AnnotationKind<'d, FileId>,
+}
+
+/// Appends an annotation of a line, if there is one.
+///
+/// # Errors
+///
+/// `OutOfMemory`: an allocation fails.
+pub fn push_annotation<'d, FileId>(
+    file: usize,
+    line: LineInfo,
+    kind: Option<AnnotationKind<'d, FileId>>,
+    annotations: &mut Vec<Annotation<'d, FileId>>,
+) -> Result<(), Error>
+    ensures added { OnOk result
+        (Adds (λ e. e.line ≡ line) annotations.old.items annotations.new.items
+        (annotation_if_any file line.index (option_map (kind_view line.start) kind.entry))) }
+    ensures failed { OnErr result (IsErrOf result Error.OutOfMemory) }
+{
+    if let Some(kind) = kind {
+        annotations.push(Annotation { file, line, kind })?;
+    }
+    Ok(())
 }
 
 /// Returns the part of a multi-line label for the renderer. `line_start` is the byte index at which

@@ -68,7 +68,7 @@ struct Chains {
     next: Vec<usize>,
 }
 
-/// Chains the annotations of each group in their order.
+/// Chains the annotations of each group in their order. Those of other lines are in no chain.
 ///
 /// # Errors
 ///
@@ -132,7 +132,7 @@ fn gather<'d, FileId: Copy>(
 }
 
 /// Returns the number of groups before that of the annotation: each line from the first one on has
-/// one for each rank. No number wraps, since the line is not before the first one.
+/// one for each rank. A line before the first one has a group past the last.
 fn group_of<FileId>(annotation: &Annotation<'_, FileId>, first_line: usize) -> usize {
     let line = annotation.line.index.wrapping_sub(first_line);
     line.wrapping_mul(RANKS).wrapping_add(rank(annotation))

@@ -7,11 +7,12 @@ ghost use Rattle.codespan_base.specs.Labels.{first_line, last_line};
 ghost use Rattle.codespan_picture.specs.Picture.{label_of};
 ghost use Rattle.codespan_reporting.specs.Inner.CollectedLabels.{AddsLine, FindsLine, FindsLines, HasLineLookedUp, IfEnded, IfOn, ExtendsPadding, ExtendsPaddingForLine, FailsLine, label_collected, collected_label, label_failure, lines_failure, failure_on, multi_by, kind_by};
 ghost use Rattle.codespan_reporting.specs.Inner.SourceFiles.{EndsBefore, model_of};
-ghost use Rattle.codespan_reporting.specs.Inner.AnnotationViews.{Adds, IsLineOf, kind_view};
-ghost use Rattle.codespan_reporting.specs.Inner.Annotations.{annotation_if_any};
+ghost use Rattle.codespan_reporting.specs.Inner.AnnotationViews.{IsLineOf, kind_view};
 ghost use Rattle.codespan_reporting.specs.Inner.LabelSpans.{IsFarInside, line_of_end, line_of_start};
 
-use crate::term::views::annotation::{Annotation, AnnotationKind, LineInfo, MultiPart};
+use crate::term::views::annotation::{
+    Annotation, AnnotationKind, LineInfo, MultiPart, push_annotation,
+};
 use crate::term::views::collect::label_span::{LabelSpan, label_lines};
 use crate::term::views::collect::padding::PaddingWidth;
 use crate::term::views::source_file::SourceFile;
@@ -252,28 +253,6 @@ impl<'a, 'c, 'files, F: Files<'files>> LabelCollector<'a, 'c, 'files, F> {
         }
         Ok(())
     }
-}
-
-/// Appends an annotation of a line, if there is one.
-///
-/// # Errors
-///
-/// `OutOfMemory`: an allocation fails.
-fn push_annotation<'d, FileId>(
-    file: usize,
-    line: LineInfo,
-    kind: Option<AnnotationKind<'d, FileId>>,
-    annotations: &mut Vec<Annotation<'d, FileId>>,
-) -> Result<(), Error>
-    ensures added { OnOk result
-        (Adds (λ e. e.line ≡ line) annotations.old.items annotations.new.items
-        (annotation_if_any file line.index (option_map (kind_view line.start) kind.entry))) }
-    ensures failed { OnErr result (IsErrOf result Error.OutOfMemory) }
-{
-    if let Some(kind) = kind {
-        annotations.push(Annotation { file, line, kind })?;
-    }
-    Ok(())
 }
 
 /// Looks up the lines of a label and appends its annotations. Returns the lines on which it starts
