@@ -7,3 +7,4 @@ pub mod SetNumbers
 pub mod LineCuts
 pub mod LineCounts
 pub mod LineRuns
+pub mod PastEnd

@@ -1,0 +1,6 @@
+use Rattle.std.proofs.Common.{ap}
+use Rattle.codespan_files.proofs.files.database.SimpleFilesFiles.name.Goals as goal
+
+-- the file of the id is the one that was found
+pub returns-clause-value : goal.returns-clause-value
+returns-clause-value g c = rw c.in_ok-get.ensures.found (ap g.Name.Display.output c.name.ensures)

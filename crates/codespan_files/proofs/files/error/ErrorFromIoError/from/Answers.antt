@@ -1,0 +1,6 @@
+use Rattle.std.proofs.Common.{refl}
+use Rattle.codespan_files.proofs.files.error.ErrorFromIoError.from.Goals as goal
+
+-- the error is kept
+pub returns : goal.returns
+returns c = refl

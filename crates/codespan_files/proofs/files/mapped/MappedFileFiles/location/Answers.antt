@@ -1,0 +1,7 @@
+use Rattle.codespan_files.specs.DatabaseViews.{mapped_file_of}
+use Rattle.codespan_files.proofs.ColumnLemmas.{location_in_file}
+use Rattle.codespan_files.proofs.files.mapped.MappedFileFiles.location.Goals as goal
+
+-- the line number is that of the byte's line, and the column number that of the byte on it
+pub returns-clause-value : goal.returns-clause-value
+returns-clause-value g c = location_in_file (mapped_file_of g.Name.Display.output c.args.self.now) _ _ _ _ c.in_ok-line_index.ensures.value c.in_ok-line_number.ensures.value c.in_ok-column_number.ensures.value

@@ -1,0 +1,6 @@
+use Rattle.std.proofs.Common.{refl}
+use Rattle.codespan_files.proofs.files.mapped.MappedFileFiles.name.Goals as goal
+
+-- the call does not fail
+pub returns-clause-succeeds : goal.returns-clause-succeeds
+returns-clause-succeeds g c = refl

@@ -1,0 +1,9 @@
+use Rattle.std.proofs.Common.{◌∙◌}
+use Rattle.codespan_files.specs.Lemmas.Lines.{starts_after_newline}
+use Rattle.codespan_files.proofs.files.starts.LineStartsIterator.next.Goals as goal
+
+-- the newline that was found is the next one, and a line starts after it
+pub returns-then-bytes-i-eq10-clause-steps : goal.returns-then-bytes-i-eq10-clause-steps
+returns-then-bytes-i-eq10-clause-steps c =
+    let invariant = c.loop-i.invariant in
+    rw (invariant.same, c.if-not-self.false, ← c.as_bytes-bytes.ensures.value) (invariant.left ∙ starts_after_newline _ _ c.loop-i-test.true c.if-bytes-i-eq10.true)
