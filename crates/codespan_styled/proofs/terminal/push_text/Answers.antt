@@ -1,4 +1,4 @@
-use Rattle.std.proofs.Common.{rules, append_assoc, arith, string_bytes}
+use Rattle.std.proofs.Common.{append_assoc, arith, string_bytes}
 use Rattle.std.proofs.lemmas.Result.{IfOk-equal}
 use Rattle.codespan_styled.proofs.SafeTexts.{first-written}
 use Rattle.codespan_styled.proofs.terminal.push_text.Goals as goal

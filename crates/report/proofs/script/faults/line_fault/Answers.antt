@@ -1,4 +1,4 @@
-use Rattle.std.proofs.Common.{◌≡◌, ℕ, false, List, Some, ap, map, refl, sym, ◌∙◌}
+use Rattle.std.proofs.Common.{◌≡◌, false, List, Some, ap, refl, sym, ◌∙◌}
 use Rattle.report.specs.declared.script.Fault.{Fault}
 use Rattle.report.specs.declared.script.words.Word.TheVariants.{Severity}
 use Rattle.report.specs.ScriptFaults.{line_fault, repetition}
