@@ -1,0 +1,13 @@
+use denote.Enum.Bare.{same_true}
+use Rattle.std.proofs.Common.{rules, ◌≡◌, sym, ◌∙◌}
+use Rattle.std.proofs.lemmas.Bool.{lt-ltb}
+use Rattle.codespan_base.specs.contracts.diagnostic.LabelStyle.{the_type}
+use Rattle.codespan_base.specs.declared.diagnostic.LabelStyle.TheVariants.{Primary}
+use Rattle.codespan_renderer.proofs.term.renderer.cached.label_cursor.LabelCursor.pass.Goals as goal
+
+-- the label is primary and has a byte, so that its end counts
+pub returns-then-eq-clause-primary : goal.returns-then-eq-clause-primary
+returns-then-eq-clause-primary c =
+    let label = c.args.label.now in
+    let primary : label.0 ≡ Primary = same_true the_type (search rules) _ _ (sym c.eq.ensures ∙ c.if-eq.true) in
+    rw (primary, lt-ltb label.1.start label.1.end c.if-label.true) cc

@@ -1,0 +1,5 @@
+use Rattle.codespan_renderer.proofs.term.renderer.cached.reach.farther_lane_mark.Goals as goal
+
+-- an underline needs the label's end
+pub returns-in-Bottom : goal.returns-in-Bottom
+returns-in-Bottom c = rw c.in-Bottom.is cc
