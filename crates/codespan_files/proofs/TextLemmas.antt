@@ -2,9 +2,9 @@
 use Rattle.std.proofs.Common.{◌≡◌, ℕ, List, [], ◌++◌, Option, Some, None, IfSome, string_bytes, ap, ◌∙◌}
 use Rattle.std.specs.Fmt.{WritesText}
 use Rattle.std.proofs.lemmas.Fmt.{contents_after_writes}
-use Rattle.codespan_files.specs.declared.diagnostic.text.GrowingText.{GrowingText}
+use Rattle.codespan_files.specs.declared.diagnostic.text.DisplayBuffer.{DisplayBuffer}
 
 -- an empty text that a value was written to holds what its Display states
-pub wrote_text : (o : Option (List ℕ)) (s t : GrowingText) → string_bytes s.text ≡ [] → WritesText (λ s bytes t. string_bytes t.text ≡ string_bytes s.text ++ bytes) s o t → IfSome o (λ bytes. string_bytes t.text ≡ bytes)
+pub wrote_text : (o : Option (List ℕ)) (s t : DisplayBuffer) → string_bytes s.text ≡ [] → WritesText (λ s bytes t. string_bytes t.text ≡ string_bytes s.text ++ bytes) s o t → IfSome o (λ bytes. string_bytes t.text ≡ bytes)
 wrote_text None s t empty wrote = tt
 wrote_text (Some bytes) s t empty wrote = contents_after_writes _ (λ g. string_bytes g.text) (λ w l v t. t) s bytes t wrote ∙ ap (λ l. l ++ bytes) empty

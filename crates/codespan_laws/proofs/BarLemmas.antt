@@ -10,7 +10,7 @@ use Rattle.codespan_picture.specs.declared.lanes.Shape.TheVariants.{Gap, Bar, To
 use Rattle.codespan_picture.specs.Lanes.{source_shape, plain_shape, lane_mark_in, shape_of}
 use Rattle.codespan_laws.specs.LaneLaws.{shape_in, HasLane, IsCovered}
 use Rattle.codespan_picture.specs.Rows.{SourceRow, BreakRow}
-use Rattle.codespan_picture.specs.CharMetrics.{leading_whitespace, drawn_text}
+use Rattle.codespan_picture.specs.CharMetrics.{leading_whitespace, text_without_line_end}
 use Rattle.codespan_base.specs.Streams.{Stream}
 use Rattle.codespan_picture.specs.Snippets.{LabeledFileModel, line_at}
 
@@ -99,7 +99,7 @@ pub bars_are_labels : (layout : Layout) (s : LabeledFileModel) (l lane : ℕ) (x
     → ((shape_in layout (SourceRow (line_at s l)) lane ≡ Bar) ↔ IsCovered s.file x l)
     × ((shape_in layout (BreakRow (line_at s l).lanes) lane ≡ Bar) ↔ IsCovered s.file x l)
 bars_are_labels layout s l lane x has several = (
-  rw lane_mark_is (bar_of (source_shape (leading_whitespace (drawn_text (line_text s.file l)))) (no_bar_in_top _) refl (λ _ _. refl) s.file l lane x several),
+  rw lane_mark_is (bar_of (source_shape (leading_whitespace (text_without_line_end (line_text s.file l)))) (no_bar_in_top _) refl (λ _ _. refl) s.file l lane x several),
   rw lane_mark_is (bar_of plain_shape (λ start bar. cc) refl (λ _ _. refl) s.file l lane x several),
 )
   where

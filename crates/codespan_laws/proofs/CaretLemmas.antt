@@ -14,7 +14,7 @@ use Rattle.codespan_base.specs.Streams.{Stream, spaces, text_of}
 use Rattle.codespan_picture.specs.declared.char_metrics.Metrics.{Metrics}
 use Rattle.codespan_picture.specs.CharMetrics.{metrics_then, placeholder, width_of, width_at}
 use Rattle.codespan_picture.proofs.CaretEnds.{style_under-below}
-use Rattle.codespan_picture.specs.Carets.{style_under, caret_for, greatest_end, owns, style_at, caret_cells}
+use Rattle.codespan_picture.specs.Carets.{style_under, caret_for, max_label_end, owns, style_at, caret_cells}
 use Rattle.codespan_laws.proofs.Texts.{text_of-append, encode_utf8_all-append, encode_utf8_all-spaces, text_of-spaces, text_of-style_mark, text_of-repeated}
 use Rattle.codespan_picture.specs.Rows.{RowContext, Line}
 use Rattle.codespan_picture.specs.RowParts.{line_metrics_to_end, change, styled, caret_glyphs, carets}
@@ -108,24 +108,24 @@ none-after chars labels end byte_index column (c ∷ cs) adjacent after =
     (simp past rest.0, simp past rest.1)
 
 caret_codes : (chars : Chars) (labels : List LabelModel) (byte_index column : ℕ) (cs : List Metrics) → AreAdjacent byte_index column cs
-    → map (λ k. caret_for chars (style_at labels cs k)) (range_with_len column (width_of (filter (λ (c : Metrics). nat_lt c.byte_index (greatest_end labels)) cs)))
-    ≡ flat_map (λ c. codes_of chars (greatest_end labels) (style_under labels c) c) cs
+    → map (λ k. caret_for chars (style_at labels cs k)) (range_with_len column (width_of (filter (λ (c : Metrics). nat_lt c.byte_index (max_label_end labels)) cs)))
+    ≡ flat_map (λ c. codes_of chars (max_label_end labels) (style_under labels c) c) cs
 caret_codes chars labels byte_index column [] adjacent = refl
 caret_codes chars labels byte_index column (c ∷ cs) adjacent =
-    by_test (caret_codes chars labels (byte_index + c.bytes) (column + c.width) cs adjacent.2) (nat_lt c.byte_index (greatest_end labels)) refl
+    by_test (caret_codes chars labels (byte_index + c.bytes) (column + c.width) cs adjacent.2) (nat_lt c.byte_index (max_label_end labels)) refl
   where
     at_cell : ℕ → ℕ
     at_cell k = caret_for chars (style_at labels (c ∷ cs) k)
 
     later : List Metrics
-    later = filter (λ (d : Metrics). nat_lt d.byte_index (greatest_end labels)) cs
+    later = filter (λ (d : Metrics). nat_lt d.byte_index (max_label_end labels)) cs
 
     by_test : map (λ k. caret_for chars (style_at labels cs k)) (range_with_len (column + c.width) (width_of later))
-        ≡ flat_map (λ d. codes_of chars (greatest_end labels) (style_under labels d) d) cs
-        → (b : Bool) → nat_lt c.byte_index (greatest_end labels) ≡ b
+        ≡ flat_map (λ d. codes_of chars (max_label_end labels) (style_under labels d) d) cs
+        → (b : Bool) → nat_lt c.byte_index (max_label_end labels) ≡ b
         → map at_cell (range_with_len column (width_of (cond b (c ∷ later) later)))
         ≡ cond b (replicate c.width (caret_for chars (style_under labels c))) []
-        ++ flat_map (λ d. codes_of chars (greatest_end labels) (style_under labels d) d) cs
+        ++ flat_map (λ d. codes_of chars (max_label_end labels) (style_under labels d) d) cs
     by_test rest true before =
         ap (λ n. map at_cell (range_with_len column n)) (sum_by-cons (λ (d : Metrics). d.width) c later)
         ∙ ap (map at_cell) (range_with_len-append column c.width (width_of later))
@@ -138,7 +138,7 @@ caret_codes chars labels byte_index column (c ∷ cs) adjacent =
         (λ k low high. let same = adjacent.1 in simp (owns-after k c (omega arith)))
         ∙ rest)
     by_test rest false after =
-        let none = none-after chars labels (greatest_end labels) byte_index column (c ∷ cs) adjacent (let same = adjacent.0 in grind (arith, nat_tests)) in
+        let none = none-after chars labels (max_label_end labels) byte_index column (c ∷ cs) adjacent (let same = adjacent.0 in grind (arith, nat_tests)) in
         let gone : width_of later ≡ 0 = simp after at none.0 in
         rw gone (sym (simp after at none.1))
 
@@ -147,17 +147,17 @@ pub text_of-carets : (context : RowContext) (labels : List LabelModel) (cs : Lis
     → text_of (carets context labels cs) ≡ encode_utf8_all (caret_cells context.chars labels cs)
 unfolding carets
 text_of-carets context labels cs adjacent =
-    text_of-styled context.severity (style_under labels) (λ c. caret_glyphs context.chars (greatest_end labels) (style_under labels c) c) None cs
+    text_of-styled context.severity (style_under labels) (λ c. caret_glyphs context.chars (max_label_end labels) (style_under labels c) c) None cs
     ∙ same_text cs
-    ∙ sym (encode_utf8_all-flat_map (λ c. codes_of context.chars (greatest_end labels) (style_under labels c) c) cs)
+    ∙ sym (encode_utf8_all-flat_map (λ c. codes_of context.chars (max_label_end labels) (style_under labels c) c) cs)
     ∙ ap encode_utf8_all (sym (caret_codes context.chars labels 0 0 cs adjacent))
   where
-    same_text : (ds : List Metrics) → flat_map (λ c. text_of (caret_glyphs context.chars (greatest_end labels) (style_under labels c) c)) ds
-        ≡ flat_map (λ c. encode_utf8_all (codes_of context.chars (greatest_end labels) (style_under labels c) c)) ds
+    same_text : (ds : List Metrics) → flat_map (λ c. text_of (caret_glyphs context.chars (max_label_end labels) (style_under labels c) c)) ds
+        ≡ flat_map (λ c. encode_utf8_all (codes_of context.chars (max_label_end labels) (style_under labels c) c)) ds
     same_text [] = refl
     same_text (d ∷ ds) =
         ap₂ (λ s t. s ++ t)
-        (text_of-caret_glyphs context.chars (greatest_end labels) (style_under labels d) d (style_under-below labels d)) (same_text ds)
+        (text_of-caret_glyphs context.chars (max_label_end labels) (style_under labels d) d (style_under-below labels d)) (same_text ds)
 
 -- of a line, to the cell of the placeholder
 pub text_of-line_carets : (context : RowContext) (line : Line)

@@ -9,11 +9,11 @@ use Rattle.codespan_base.specs.Streams.{Stream, StyleMark, Reset, LabelMark, Sou
 use Rattle.codespan_laws.specs.RowLaws.{row_length, character_count, CharactersAreFree}
 use Rattle.codespan_base.specs.SnippetStarts.{start_text}
 use Rattle.codespan_picture.specs.declared.char_metrics.Metrics.{Metrics}
-use Rattle.codespan_picture.specs.Carets.{style_under, greatest_end}
+use Rattle.codespan_picture.specs.Carets.{style_under, max_label_end}
 use Rattle.codespan_picture.specs.Lanes.{label_glyph}
-use Rattle.codespan_picture.specs.Rows.{RowContext, Locus, Lanes, Line, Row, HeaderRow, StartRow, EmptyRow, BreakRow, SourceRow, CaretRow, PointerRow, HangingRow, UnderlineRow, FirstNoteRow, LaterNoteRow, BlankRow, hanging, trailing}
-use Rattle.codespan_picture.specs.RowParts.{gutter, numbered_gutter, border, break_border, change, styled, lanes_in, locus, line_metrics, line_metrics_to_end, row_lanes, colored_text, caret_glyphs, carets, trailing_message, label_message, starts_in, greatest_start, spaces_up_to, pointer_style, pointer_at, pointers, metrics_before, underline, underline_message}
-use Rattle.codespan_picture.specs.RowStreams.{stream_of, start_row, empty_row, break_row, source_row, row_start, caret_row, pointer_row, hanging_row, underline_row, first_note_row}
+use Rattle.codespan_picture.specs.Rows.{RowContext, Locus, Lanes, Line, Row, HeaderRow, SnippetStartRow, EmptyRow, BreakRow, SourceRow, CaretRow, PointerRow, HangingRow, UnderlineRow, FirstNoteRow, LaterNoteRow, FinalRow, hanging, trailing}
+use Rattle.codespan_picture.specs.RowParts.{gutter, numbered_gutter, border, break_border, change, styled, lanes_in, locus, line_metrics, line_metrics_to_end, row_lanes, colored_text, caret_glyphs, carets, trailing_message, label_message, starts_in, max_label_start, spaces_up_to, pointer_style, pointer_at, pointers, metrics_before, underline, underline_message}
+use Rattle.codespan_picture.specs.RowStreams.{stream_of, snippet_start_row, empty_row, break_row, source_row, row_start, caret_row, pointer_row, hanging_row, underline_row, first_note_row}
 use Rattle.codespan_laws.proofs.Texts.{row_length-append, row_length-glyph, row_length-repeated, text_of-bytes}
 use Rattle.codespan_laws.proofs.LaneWidths.{row_length-lanes_in, row_length-label_glyph}
 
@@ -96,7 +96,7 @@ module _ (context : RowContext) (chars : Chars) where
   carets_as_long : (labels : List LabelModel) (cs : List Metrics) → AreAsLong (carets other labels cs) (carets context labels cs)
   unfolding carets
   carets_as_long labels cs =
-      styled_as_long (style_under labels) _ _ (λ c. caret_glyphs_as_long (greatest_end labels) (style_under labels c) c) None cs
+      styled_as_long (style_under labels) _ _ (λ c. caret_glyphs_as_long (max_label_end labels) (style_under labels c) c) None cs
 
   pointed : (points : Bool) (style : LabelStyle) (after without : Stream)
       → AreAsLong (if points then label_glyph context.severity style chars.pointer_left ++ after else without) (if points then label_glyph context.severity style context.chars.pointer_left ++ after else without)
@@ -107,7 +107,7 @@ module _ (context : RowContext) (chars : Chars) where
   unfolding pointers pointer_at
   pointers_as_long labels cs =
       flat_as_long _ _ (λ c. pointed (list_any (starts_in c) (hanging labels)) (pointer_style (hanging labels) c)
-      (spaces_up_to (greatest_start labels) c (c.width - 1)) (spaces_up_to (greatest_start labels) c c.width)) cs
+      (spaces_up_to (max_label_start labels) c (c.width - 1)) (spaces_up_to (max_label_start labels) c c.width)) cs
 
   underline_as_long : (style : LabelStyle) (cs : List Metrics) (part : MultiLabel) → AreAsLong (underline chars style cs part) (underline context.chars style cs part)
   unfolding underline
@@ -118,8 +118,8 @@ module _ (context : RowContext) (chars : Chars) where
   -- ---- rows
 
   start_as_long : character_count (start_text chars.snippet_start) ≡ character_count (start_text context.chars.snippet_start) → (at : Locus)
-      → AreAsLong (start_row chars context.padding at) (start_row context.chars context.padding at)
-  unfolding start_row
+      → AreAsLong (snippet_start_row chars context.padding at) (snippet_start_row context.chars context.padding at)
+  unfolding snippet_start_row
   start_as_long e at =
       same_before _ _ (locus at) (same_before _ _ space (same_before _ _ (style_mark Reset)
       (same_after (gutter context.padding ++ style_mark SourceBorder) _ _ (texts (start_text chars.snippet_start) (start_text context.chars.snippet_start) e))))
@@ -128,7 +128,7 @@ module _ (context : RowContext) (chars : Chars) where
       → AreAsLong (stream_of other row) (stream_of context row)
   unfolding empty_row break_row source_row caret_row pointer_row hanging_row underline_row first_note_row colored_text row_lanes
   rows_as_long e (HeaderRow at heading) = as_long _
-  rows_as_long e (StartRow at) = start_as_long e at
+  rows_as_long e (SnippetStartRow at) = start_as_long e at
   rows_as_long e (EmptyRow lanes) =
       joined _ _ _ _ (same_after (gutter context.padding) (border chars) (border context.chars) border_as_long) (lanes_as_long _ _ _ _ lanes)
   rows_as_long e (BreakRow lanes) =
@@ -152,7 +152,7 @@ module _ (context : RowContext) (chars : Chars) where
       same_before _ _ (bytes piece) (same_before _ _ space (same_before _ _ (style_mark Reset)
       (same_after (gutter context.padding ++ style_mark NoteBullet) (glyph chars.note_bullet) (glyph context.chars.note_bullet) (glyphs chars.note_bullet context.chars.note_bullet))))
   rows_as_long e (LaterNoteRow piece) = as_long _
-  rows_as_long e BlankRow = as_long []
+  rows_as_long e FinalRow = as_long []
 
 -- the rows of other characters are as long
 pub characters_are_free : CharactersAreFree

@@ -11,7 +11,7 @@ use Rattle.codespan_base.specs.Labels.{LabelModel, is_single, first_line, last_l
 use Rattle.codespan_picture.specs.declared.lanes.Shape.TheVariants.{Gap, Bar}
 use Rattle.codespan_picture.specs.Lanes.{plain_shape, lane_mark_in, shape_of}
 use Rattle.codespan_picture.specs.Lines.{is_shown, is_drawn, drawn_lines, is_broken}
-use Rattle.codespan_picture.specs.Rows.{Row, BreakRow, StartRow, EmptyRow, rows_of}
+use Rattle.codespan_picture.specs.Rows.{Row, BreakRow, SnippetStartRow, EmptyRow, rows_of}
 use Rattle.codespan_picture.specs.Snippets.{LabeledFileModel, line_at, rows_after, row_after, snippet, empty_lanes}
 use Rattle.codespan_laws.proofs.FillLemmas.{breaks_before}
 use Rattle.codespan_laws.specs.LaneLaws.{HasLane, LanesAreLines}
@@ -276,18 +276,18 @@ lanes_are_lines config layout s ordered = λ locus is_followed lane x has.
     let low = line_of-below s.file.starts x.start some in
     let high = line_of-below s.file.starts x.end some in
     one_line layout s (snippet config locus s ++ row_after is_followed s) lane x
-    (whole_before layout lane (line_at s (first_line s.file x)) (snippet config locus s) (end_rows is_followed)
-    (whole_later layout lane (line_at s (first_line s.file x)) (StartRow locus ∷ EmptyRow (empty_lanes s) ∷ []) (rows_after s None (drawn_lines config s.file s.labels))
+    (whole_before layout lane (line_at s (first_line s.file x)) (snippet config locus s) (trailing_border_rows is_followed)
+    (whole_later layout lane (line_at s (first_line s.file x)) (SnippetStartRow locus ∷ EmptyRow (empty_lanes s) ∷ []) (rows_after s None (drawn_lines config s.file s.labels))
     (refl, (refl, tt))
     (whole_from layout s lane x has several (is_drawn config s.file s.labels) None 0 (line_count s.file) (omega arith) (omega arith)
     (drawn (first_line s.file x) (shown-by config s x (first_line s.file x) inside low (shows-first config (first_line s.file x) (last_line s.file x))))
     (drawn (last_line s.file x) (shown-by config s x (last_line s.file x) inside high (shows-last config (first_line s.file x) (last_line s.file x))))))
     (ended lane is_followed))
   where
-    end_rows : Bool → List Row
-    end_rows is_followed = if is_followed then EmptyRow (empty_lanes s) ∷ [] else []
+    trailing_border_rows : Bool → List Row
+    trailing_border_rows is_followed = if is_followed then EmptyRow (empty_lanes s) ∷ [] else []
 
-    ended : (lane : ℕ) (is_followed : Bool) → AllByRecursion (Shows layout lane Gap) (end_rows is_followed)
+    ended : (lane : ℕ) (is_followed : Bool) → AllByRecursion (Shows layout lane Gap) (trailing_border_rows is_followed)
     ended lane true = (refl, tt)
     ended lane false = tt
 

@@ -6,7 +6,7 @@ use Rattle.codespan_base.specs.Labels.{LabelModel, LaneMark, MultiLabel}
 use Rattle.codespan_base.specs.Streams.{Stream, LabelMark, Reset, style_mark, space}
 use Rattle.codespan_picture.specs.declared.lanes.Shape.{Shape}
 use Rattle.codespan_picture.specs.Lanes.{Source, Plain, Below, Underline, row_shape, row_crossing, source_shape, plain_shape, below_shape, lane_mark_in, shape_of, style_of_lane_mark, lane_cells}
-use Rattle.codespan_picture.specs.Rows.{RowContext, Lanes, Line, Row, HeaderRow, StartRow, EmptyRow, BreakRow, SourceRow, CaretRow, PointerRow, HangingRow, UnderlineRow, FirstNoteRow, LaterNoteRow, BlankRow, trailing}
+use Rattle.codespan_picture.specs.Rows.{RowContext, Lanes, Line, Row, HeaderRow, SnippetStartRow, EmptyRow, BreakRow, SourceRow, CaretRow, PointerRow, HangingRow, UnderlineRow, FirstNoteRow, LaterNoteRow, FinalRow, trailing}
 use Rattle.codespan_picture.specs.RowParts.{gutter, numbered_gutter, border, break_border, label_message, lane_of, lanes_in, row_lanes, line_metrics, line_metrics_to_end, leading_of, colored_text, carets, trailing_message, pointers, metrics_before, underline}
 use Rattle.codespan_picture.specs.RowStreams.{stream_of, empty_row, break_row, source_row, row_start, caret_row, pointer_row, hanging_row, underline_row}
 use Rattle.codespan_laws.specs.LaneLaws.{lanes_shown, before_lanes, ShowsLanes, LanesAreShown}
@@ -119,7 +119,7 @@ underline_shows context line m =
 -- each row that has lanes shows them
 pub lanes_are_shown : (context : RowContext) → LanesAreShown context
 lanes_are_shown context (HeaderRow at heading) lanes has = absurd (none-some lanes has)
-lanes_are_shown context (StartRow at) lanes has = absurd (none-some lanes has)
+lanes_are_shown context (SnippetStartRow at) lanes has = absurd (none-some lanes has)
 lanes_are_shown context (EmptyRow its) lanes has = subst (ShowsLanes context (EmptyRow its)) (same_Some its lanes has) (empty_shows context its)
 lanes_are_shown context (BreakRow its) lanes has = subst (ShowsLanes context (BreakRow its)) (same_Some its lanes has) (break_shows context its)
 lanes_are_shown context (SourceRow line) lanes has =
@@ -133,4 +133,4 @@ lanes_are_shown context (UnderlineRow line m) lanes has =
     subst (ShowsLanes context (UnderlineRow line m)) (same_Some line.lanes lanes has) (underline_shows context line m)
 lanes_are_shown context (FirstNoteRow piece) lanes has = absurd (none-some lanes has)
 lanes_are_shown context (LaterNoteRow piece) lanes has = absurd (none-some lanes has)
-lanes_are_shown context BlankRow lanes has = absurd (none-some lanes has)
+lanes_are_shown context FinalRow lanes has = absurd (none-some lanes has)

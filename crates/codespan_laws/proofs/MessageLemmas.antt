@@ -2,7 +2,7 @@
 use Rattle.std.proofs.Common.{◌≡◌, ℕ, ◌+◌, Bool, true, false, cond, List, [], ◌∷◌, ◌++◌, filter, sum_by, Option, Some, None, if◌then◌else◌, refl, ap, ap₂, ◌∙◌, arith}
 use Rattle.std.proofs.lemmas.List.Sums.{sum_by-cons, sum_by-append}
 use Rattle.codespan_base.specs.Labels.{LabelModel, has_message}
-use Rattle.codespan_picture.specs.Carets.{greatest_end}
+use Rattle.codespan_picture.specs.Carets.{max_label_end}
 use Rattle.codespan_laws.specs.TrailingLaws.{weight_of}
 use Rattle.codespan_picture.specs.Rows.{trailing, hanging}
 use Rattle.codespan_picture.proofs.Rightmost.{Around, others, around_trails, around_rightmost, trailing_of, hanging_of, around_is, some_rightmost, trailing_is, hanging_is}
@@ -43,4 +43,4 @@ module _ (weight : LabelModel → ℕ) (only_messages : (x : LabelModel) → has
       by_rightmost : (r : Option Around) → around_rightmost (x ∷ xs) ≡ r
           → weight_of weight (trailing_of r) + sum_by weight (hanging_of (x ∷ xs) r) ≡ sum_by weight (x ∷ xs)
       by_rightmost None none = absurd (some_rightmost x xs none)
-      by_rightmost (Some a) is = by_test a (around_is (greatest_end (x ∷ xs)) (x ∷ xs) a is) (around_trails a)
+      by_rightmost (Some a) is = by_test a (around_is (max_label_end (x ∷ xs)) (x ∷ xs) a is) (around_trails a)

@@ -17,7 +17,7 @@ use Rattle.std.proofs.lemmas.List.{length-map}
 use Rattle.codespan_base.specs.Streams.{Stream, Byte, Slot, bytes, text_of, filled}
 use Rattle.codespan_base.specs.Labels.{LabelModel, has_message, is_empty_stream, last_line, first_seen}
 use Rattle.codespan_picture.specs.Lines.{drawn_lines}
-use Rattle.codespan_picture.specs.Rows.{Heading, Locus, RowContext}
+use Rattle.codespan_picture.specs.Rows.{HeaderText, Locus, RowContext}
 use Rattle.codespan_picture.specs.RowStreams.{stream_of_rows}
 use Rattle.codespan_picture.specs.Snippets.{LabeledFileModel, InFile, file_ids, labeled_file_model, labeled_file_models, rich_rows}
 use Rattle.codespan_picture.specs.Picture.{AreLoci, IsLocus, heading_of, label_of, labels_of, context_of, notes_of, rendered, snippet_start}
@@ -153,7 +153,7 @@ as_many {Id} same file xs loci are =
     ∙ ap (λ ids. length (first_seen same ids)) (sym (ids_kept 0 0 xs))
     ∙ sym (length-map (file_ids same (all_slotted xs)) (labeled_file_model same file (all_slotted xs)))
 
-filled_output : {Id : Type 0} (renderer view : Config) (same : Id → Id → Bool) (file : Id → FileModel) (severity : Severity) (heading : Heading) (loci : List Locus) (notes : List (List ℕ)) (xs : List (InFile Id))
+filled_output : {Id : Type 0} (renderer view : Config) (same : Id → Id → Bool) (file : Id → FileModel) (severity : Severity) (heading : HeaderText) (loci : List Locus) (notes : List (List ℕ)) (xs : List (InFile Id))
     → length loci ≡ length (labeled_file_models same file (all_slotted xs)) → IsPlain xs
     → fill (message_text xs) (rendered Rich renderer view severity heading loci (labeled_file_models same file (all_slotted xs)) notes)
     ≡ rendered Rich renderer view severity heading loci (labeled_file_models same file xs) notes

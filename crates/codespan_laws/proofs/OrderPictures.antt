@@ -12,14 +12,14 @@ use Rattle.codespan_base.specs.declared.term.config.Layout.{Layout}
 use Rattle.codespan_base.specs.declared.term.config.Layout.TheVariants.{Classic, Unbroken}
 use Rattle.codespan_base.specs.FileModel.{FileModel, line_count, line_text}
 use Rattle.codespan_base.specs.Labels.{LabelModel, first_line, last_line, first_seen, part_on, lane_mark_of}
-use Rattle.codespan_picture.specs.CharMetrics.{drawn_text}
+use Rattle.codespan_picture.specs.CharMetrics.{text_without_line_end}
 use Rattle.codespan_laws.specs.LineLaws.{shown_lines}
 use Rattle.codespan_picture.specs.Lines.{shows, is_shown, drawn_lines}
 use Rattle.codespan_laws.specs.OrderLaws.{OrderIsFree}
 use Rattle.codespan_picture.specs.Padding.{spans, spanned_lines, numbered_lines, digits_of}
 use Rattle.codespan_picture.specs.Picture.{context_of, rendered, snippet_start}
 use Rattle.codespan_picture.specs.RowStreams.{stream_of_rows}
-use Rattle.codespan_picture.specs.Rows.{Locus, Heading, Lanes, Line, HeaderRow, StartRow, EmptyRow, BlankRow}
+use Rattle.codespan_picture.specs.Rows.{Locus, HeaderText, Lanes, Line, HeaderRow, SnippetStartRow, EmptyRow, FinalRow}
 use Rattle.codespan_picture.specs.Snippets.{LabeledFileModel, InFile, labeled_file_model, empty_lanes, line_at, rows_after, rows_of_shown, labeled_file_models, snippet, has_any, row_after, snippets, note_rows}
 use Rattle.codespan_laws.proofs.FillLemmas.{rows_of_shown_lines}
 use Rattle.codespan_laws.proofs.OrderMembers.{AreEqual, SameTests, same-tests, locus-same, singles-same}
@@ -52,7 +52,7 @@ module _ (f : FileModel) (xs ys : List LabelModel) (equal : AreEqual f xs ys) wh
   bare-same = ap {B = Lanes} (λ (zs : List LabelModel). record { count = length zs; marks = [] }) equal.several_lines
 
   line-same : (l : ℕ) → line_at s l ≡ line_at t l
-  line-same l = ap₂ {C = Line} (λ zs lanes. record { number = f.number l; text = drawn_text (line_text f l); labels = zs; lanes = lanes })
+  line-same l = ap₂ {C = Line} (λ zs lanes. record { number = f.number l; text = text_without_line_end (line_text f l); labels = zs; lanes = lanes })
       (singles-same f xs ys equal l) (lanes-same l)
 
   -- which lines are shown goes by tests of the labels
@@ -76,7 +76,7 @@ module _ (f : FileModel) (xs ys : List LabelModel) (equal : AreEqual f xs ys) wh
 
   snippet-same : (view : Config) (locus : Locus) → snippet view locus s ≡ snippet view locus t
   snippet-same view locus =
-      ap₂ (λ a b. a ++ b) (ap (λ lanes. StartRow locus ∷ EmptyRow lanes ∷ []) bare-same) (after-same view)
+      ap₂ (λ a b. a ++ b) (ap (λ lanes. SnippetStartRow locus ∷ EmptyRow lanes ∷ []) bare-same) (after-same view)
 
   spanned-same : spanned_lines s ≡ spanned_lines t
   spanned-same = ap (λ (spanned : ℕ → Bool). filter spanned (range_with_len 0 (line_count f))) (fun_ext (λ (l : ℕ). tests (λ x. spans f x l)))
@@ -118,10 +118,10 @@ module _ {Id : Type 0} (view : Config) (g h : Id → LabeledFileModel) (have_sam
   digits-same [] = refl
   digits-same (i ∷ ids) = ap₂ (λ a b. a ++ b) (have_same_rows i).digits (digits-same ids)
 
-  rich-same : (renderer : Config) (severity : Severity) (heading : Heading) (ps : List Locus) (notes : List (List ℕ)) (ids : List Id)
+  rich-same : (renderer : Config) (severity : Severity) (heading : HeaderText) (ps : List Locus) (notes : List (List ℕ)) (ids : List Id)
       → rendered Rich renderer view severity heading ps (map g ids) notes ≡ rendered Rich renderer view severity heading ps (map h ids) notes
   rich-same renderer severity heading ps notes ids =
-      ap₂ (λ padding rows. stream_of_rows (context_of renderer severity padding) ((HeaderRow None heading ∷ rows) ++ note_rows notes ++ (BlankRow ∷ [])))
+      ap₂ (λ padding rows. stream_of_rows (context_of renderer severity padding) ((HeaderRow None heading ∷ rows) ++ note_rows notes ++ (FinalRow ∷ [])))
       (ap (fold max 0) (digits-same ids)) (snippets-same (has_any notes) ps ids)
 
 -- ---- equal ids

@@ -21,14 +21,14 @@ use Rattle.codespan_base.specs.declared.term.config.DisplayStyle.TheVariants.{Ri
 use Rattle.codespan_base.specs.FileModel.{FileDatabase, FileModel, line_text}
 use Rattle.codespan_base.specs.LawfulFiles.{IsLawful}
 use Rattle.codespan_base.specs.Labels.{LabelModel, LaneMark, Top, Left, Bottom, drawn_label, first_line, has_message, is_single, lane_mark_of, multi_labels, part_at, part_on, insert_sorted, single_labels, sorted, range_precedes}
-use Rattle.codespan_picture.specs.CharMetrics.{drawn_text, is_line_end}
+use Rattle.codespan_picture.specs.CharMetrics.{text_without_line_end, is_line_end}
 use Rattle.codespan_picture.specs.Lines.{drawn_lines}
 use Rattle.codespan_picture.specs.Padding.{padding_of}
 use Rattle.codespan_picture.specs.Picture.{NamesAreTexts, files_of, heading_of, label_of, labels_of, context_of, notes_of, output, starts}
 use Rattle.codespan_picture.specs.StatedPicture.{stated_loci, headers}
-use Rattle.codespan_picture.specs.Rows.{Line, Locus, Row, HeaderRow, EmptyRow, SourceRow, HangingRow, UnderlineRow, LaterNoteRow, BlankRow, caret_rows, hanging, hanging_rows, has_underline, rows_of, underline_rows}
+use Rattle.codespan_picture.specs.Rows.{Line, Locus, Row, HeaderRow, EmptyRow, SourceRow, HangingRow, UnderlineRow, LaterNoteRow, FinalRow, caret_rows, hanging, hanging_rows, has_underline, rows_of, underline_rows}
 use Rattle.codespan_picture.specs.CharMetrics.{leading_whitespace}
-use Rattle.codespan_picture.specs.Carets.{greatest_end}
+use Rattle.codespan_picture.specs.Carets.{max_label_end}
 use Rattle.codespan_picture.specs.Sequences.{break_between}
 use Rattle.codespan_picture.specs.Snippets.{InFile, LabeledFileModel, empty_lanes, break_rows, has_any, header_rows, labeled_file_model, line_at, line_rows, note_rows, piece_rows, rich_rows, row_after, rows_after, snippet, snippets}
 use Rattle.codespan_laws.proofs.Sequences.{all-break, all-sequence}
@@ -61,7 +61,7 @@ trimmed text u (suc n) h cut = by (is_line_end (get_or text n 0)) refl (trimmed 
         subst (λ k. IsUtf8 (take k text)) (let e : suc n ≡ suc n - suffix_len is_line_end (take (suc n) text) = omega arith in e) (IsUtf8-take text (suc n) u cut)
 
 -- the text of a line as it is rendered
-drawn-utf8 : (text : List ℕ) → IsUtf8 text → IsUtf8 (drawn_text text)
+drawn-utf8 : (text : List ℕ) → IsUtf8 text → IsUtf8 (text_without_line_end text)
 drawn-utf8 text u =
     subst (λ xs. IsUtf8 (take (length text - suffix_len is_line_end xs) text)) (take_all (length text) text (omega arith))
     (trimmed text u (length text) (omega arith) (IsCharBoundary-end text))
@@ -232,7 +232,7 @@ text_message-hanging (x ∷ xs) h =
     by (Some a) is =
         cond_both (around_trails a) (others a) (x ∷ xs) (λ ys. AllByRecursion HasTextMessage (filter has_message ys))
         (λ _. all-filter HasTextMessage has_message (others a)
-        (around a.before a.here a.after (subst (AllByRecursion HasTextMessage) (sym (around_is (greatest_end (x ∷ xs)) (x ∷ xs) a is)) h)))
+        (around a.before a.here a.after (subst (AllByRecursion HasTextMessage) (sym (around_is (max_label_end (x ∷ xs)) (x ∷ xs) a is)) h)))
         (λ _. all-filter HasTextMessage has_message (x ∷ xs) h)
 
 rows-hanging : (line : Line) (labels : List LabelModel) → AllByRecursion HasTextMessage labels → AllByRecursion IsTextRow (hanging_rows line labels)
@@ -318,7 +318,7 @@ module _ {Id : Type 0} (files : FileDatabase Id) (d : Diagnostic Id) (lawful : (
       → AllByRecursion IsTextRow (rich_rows view (heading_of d) loci (files_of files d) (notes_of d))
   rows-rich view loci named =
       let first : List Row = HeaderRow None (heading_of d) ∷ snippets view (has_any (notes_of d)) loci (files_of files d) in
-      all-append IsTextRow (first ++ note_rows (notes_of d)) (BlankRow ∷ [])
+      all-append IsTextRow (first ++ note_rows (notes_of d)) (FinalRow ∷ [])
       (all-append IsTextRow first (note_rows (notes_of d))
       (rows-heading None tt, rows-snippets view (has_any (notes_of d)) loci (files_of files d) named text-files)
       (rows-notes (notes_of d) text-notes))

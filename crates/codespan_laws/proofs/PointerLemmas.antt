@@ -17,9 +17,9 @@ use Rattle.codespan_base.specs.Streams.{LabelMark, Reset, style_mark, glyph, spa
 use Rattle.codespan_picture.specs.declared.char_metrics.Metrics.{Metrics}
 use Rattle.codespan_picture.specs.CharMetrics.{width_of}
 use Rattle.codespan_picture.specs.Lanes.{label_glyph}
-use Rattle.codespan_laws.specs.CaretLaws.{points_at, pointer_cells, StartsInWide, PointersAreCells}
+use Rattle.codespan_laws.specs.CaretLaws.{points_at, pointer_cells, StartsHaveCells, PointersAreCells}
 use Rattle.codespan_picture.specs.Rows.{RowContext, Line, hanging}
-use Rattle.codespan_picture.specs.RowParts.{starts_in, greatest_start, spaces_up_to, pointer_style, pointer_at, pointers, metrics_before, line_metrics}
+use Rattle.codespan_picture.specs.RowParts.{starts_in, max_label_start, spaces_up_to, pointer_style, pointer_at, pointers, metrics_before, line_metrics}
 use Rattle.codespan_picture.specs.RowStreams.{pointer_row, hanging_row}
 use Rattle.codespan_laws.proofs.Texts.{text_of-append, text_of-style_mark, text_of-glyph, text_of-spaces, encode_utf8_all-append, encode_utf8_all-spaces}
 use Rattle.codespan_laws.proofs.CaretLemmas.{range_with_len-append, map-range_with_len, map-constant}
@@ -68,7 +68,7 @@ column-at byte_index column (d ∷ ds) c adjacent (suc k, h, e) =
 
 module _ (chars : Chars) (labels : List LabelModel) where
   abbrev reach : ℕ
-  reach = greatest_start labels
+  reach = max_label_start labels
 
   abbrev pub points : Metrics → Bool
   points c = list_any (starts_in c) (hanging labels)
@@ -216,12 +216,12 @@ module _ (context : RowContext) (labels : List LabelModel) where
   text_of-pointer_at c = by_points (points context.chars labels c)
     where
       by_points : (b : Bool)
-          → text_of (cond b (label_glyph context.severity (pointer_style (hanging labels) c) context.chars.pointer_left ++ spaces_up_to (greatest_start labels) c (c.width - 1)) (spaces_up_to (greatest_start labels) c c.width))
-          ≡ encode_utf8_all (cond b (context.chars.pointer_left ∷ cond (nat_le c.byte_index (greatest_start labels)) (replicate (c.width - 1) 32) []) (cond (nat_le c.byte_index (greatest_start labels)) (replicate c.width 32) []))
+          → text_of (cond b (label_glyph context.severity (pointer_style (hanging labels) c) context.chars.pointer_left ++ spaces_up_to (max_label_start labels) c (c.width - 1)) (spaces_up_to (max_label_start labels) c c.width))
+          ≡ encode_utf8_all (cond b (context.chars.pointer_left ∷ cond (nat_le c.byte_index (max_label_start labels)) (replicate (c.width - 1) 32) []) (cond (nat_le c.byte_index (max_label_start labels)) (replicate c.width 32) []))
       by_points true =
-          text_of-append (label_glyph context.severity (pointer_style (hanging labels) c) context.chars.pointer_left) (spaces_up_to (greatest_start labels) c (c.width - 1))
-          ∙ ap₂ (λ s t. s ++ t) (text_of-label_glyph context.severity (pointer_style (hanging labels) c) context.chars.pointer_left) (text_of-spaces_up_to (greatest_start labels) (c.width - 1) c)
-      by_points false = text_of-spaces_up_to (greatest_start labels) c.width c
+          text_of-append (label_glyph context.severity (pointer_style (hanging labels) c) context.chars.pointer_left) (spaces_up_to (max_label_start labels) c (c.width - 1))
+          ∙ ap₂ (λ s t. s ++ t) (text_of-label_glyph context.severity (pointer_style (hanging labels) c) context.chars.pointer_left) (text_of-spaces_up_to (max_label_start labels) (c.width - 1) c)
+      by_points false = text_of-spaces_up_to (max_label_start labels) c.width c
 
   text_of-all : (cs : List Metrics) → text_of (flat_map (pointer_at context labels (hanging labels)) cs) ≡ encode_utf8_all (flat_map (codes_at context.chars labels) cs)
   text_of-all [] = refl
@@ -236,7 +236,7 @@ module _ (context : RowContext) (labels : List LabelModel) where
 
 -- ---- the law
 
-wide-all : (chars : Chars) (labels : List LabelModel) (cs : List Metrics) → StartsInWide labels cs → IsWide chars labels cs
+wide-all : (chars : Chars) (labels : List LabelModel) (cs : List Metrics) → StartsHaveCells labels cs → IsWide chars labels cs
 wide-all chars labels [] h = tt
 wide-all chars labels (c ∷ cs) h = (
   λ holds. let r = some_in (starts_in c) (hanging labels) holds in h c r.0 (0, omega arith, refl) r.1 r.2,
@@ -249,7 +249,7 @@ le-down g p q h low = grind (arith, nat_tests)
 lt-down : (g p q : ℕ) → nat_lt p g ≡ false → p ≤ q → nat_lt q g ≡ false
 lt-down g p q h low = grind (arith, nat_tests)
 
-pub pointers_are_cells : (context : RowContext) (line : Line) → StartsInWide line.labels (line_metrics context line) → PointersAreCells context line
+pub pointers_are_cells : (context : RowContext) (line : Line) → StartsHaveCells line.labels (line_metrics context line) → PointersAreCells context line
 unfolding pointer_row hanging_row
 pointers_are_cells context line wide = record {
   in_pointer_row = rw (text_of-append, row_text) refl;
@@ -264,17 +264,17 @@ pointers_are_cells context line wide = record {
     adjacent = char_metrics-consecutive context.tab_width 0 0 (chars line.text)
 
     row_text : text_of (pointers context line.labels cs)
-        ≡ encode_utf8_all (pointer_cells context.chars line.labels cs (width_of (filter (λ (c : Metrics). nat_le c.byte_index (greatest_start line.labels)) cs)))
+        ≡ encode_utf8_all (pointer_cells context.chars line.labels cs (width_of (filter (λ (c : Metrics). nat_le c.byte_index (max_label_start line.labels)) cs)))
     row_text =
         text_of-pointers context line.labels cs
         ∙ ap encode_utf8_all (far-codes context.chars line.labels cs
-        ∙ sym (char_metrics-codes context.chars line.labels (λ q. nat_le q (greatest_start line.labels)) (λ q h. grind (arith, nat_tests)) (le-down (greatest_start line.labels)) 0 0 cs adjacent
+        ∙ sym (char_metrics-codes context.chars line.labels (λ q. nat_le q (max_label_start line.labels)) (λ q h. grind (arith, nat_tests)) (le-down (max_label_start line.labels)) 0 0 cs adjacent
         (wide-all context.chars line.labels cs wide)))
 
     before_text : (x : LabelModel) → Contains (hanging line.labels) x
         → text_of (pointers context line.labels (metrics_before x.start cs)) ≡ encode_utf8_all (pointer_cells context.chars line.labels cs (width_of (metrics_before x.start cs)))
     before_text x inside =
-        let near : x.start ≤ greatest_start line.labels =
+        let near : x.start ≤ max_label_start line.labels =
         any-below 0 x.start (λ y. nat_le x.start y.start) line.labels (λ y h. grind (arith, nat_tests))
         (any-hanging (λ y. nat_le x.start y.start) line.labels (any_in (λ y. nat_le x.start y.start) (hanging line.labels) x inside (grind (arith, nat_tests)))) in
         text_of-pointers context line.labels (metrics_before x.start cs)

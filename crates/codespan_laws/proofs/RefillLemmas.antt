@@ -7,13 +7,13 @@ use Rattle.codespan_base.specs.declared.diagnostic.LabelStyle.TheVariants.{Prima
 use Rattle.codespan_base.specs.Streams.{Stream}
 use Rattle.codespan_base.specs.Labels.{LabelModel, has_message, is_empty_stream, is_primary, is_primary_style, LaneMark, MultiLabel, Top, Left, Bottom}
 use Rattle.codespan_picture.specs.declared.char_metrics.Metrics.{Metrics}
-use Rattle.codespan_picture.specs.Carets.{style_under, covers, greatest_end, covers_part}
+use Rattle.codespan_picture.specs.Carets.{style_under, covers, max_label_end, is_overlapping}
 use Rattle.codespan_picture.specs.declared.lanes.Shape.{Shape}
 use Rattle.codespan_picture.specs.declared.lanes.Shape.TheVariants.{Gap, Bar, TopCorner, BottomCorner}
 use Rattle.codespan_picture.specs.Lanes.{source_shape, plain_shape, below_shape, underline_shape, lane_mark_in, corner_line, filling, lane_cells, Source, Plain, Below, Underline}
 use Rattle.codespan_picture.specs.Rows.{RowContext, Lanes, Line, trailing, hanging}
 use Rattle.codespan_picture.proofs.Rightmost.{Around, others, behind, around_with_end, around_trails, around_rightmost, trailing_of, hanging_of, trailing_is, hanging_is}
-use Rattle.codespan_picture.specs.RowParts.{styled, lane_of, lanes_in, row_lanes, line_metrics, part_covers, source_style, source_glyph, colored_text, caret_glyphs, carets, pointer_style, pointer_at, pointers, starts_in, greatest_start}
+use Rattle.codespan_picture.specs.RowParts.{styled, lane_of, lanes_in, row_lanes, line_metrics, part_covers, source_style, source_glyph, colored_text, caret_glyphs, carets, pointer_style, pointer_at, pointers, starts_in, max_label_start}
 
 -- ---- lists
 
@@ -75,7 +75,7 @@ module _ (φ : Stream → Stream) (keeps : (s : Stream) → is_empty_stream (φ 
   pub kept_message : (x : LabelModel) → has_message (re φ x) ≡ has_message x
   kept_message x = ap not (keeps x.message)
 
-  greatest : (labels : List LabelModel) → greatest_end (map (re φ) labels) ≡ greatest_end labels
+  greatest : (labels : List LabelModel) → max_label_end (map (re φ) labels) ≡ max_label_end labels
   greatest labels = fold-map (λ m (x : LabelModel). max m x.end) (re φ) 0 labels
 
   around : (end : ℕ) (xs : List LabelModel) → around_with_end end (map (re φ) xs) ≡ option_map (re_around φ) (around_with_end end xs)
@@ -95,11 +95,11 @@ module _ (φ : Stream → Stream) (keeps : (s : Stream) → is_empty_stream (φ 
   trails : (a : Around) → around_trails (re_around φ a) ≡ around_trails a
   trails a =
       ap₂ (λ b c. b && not c) (kept_message a.here)
-      (ap (list_any (λ (x : LabelModel). covers_part a.here x.start x.end)) (others-re a)
-      ∙ any-map (λ (x : LabelModel). covers_part a.here x.start x.end) (re φ) (others a))
+      (ap (list_any (λ (x : LabelModel). is_overlapping a.here x.start x.end)) (others-re a)
+      ∙ any-map (λ (x : LabelModel). is_overlapping a.here x.start x.end) (re φ) (others a))
 
   rightmost-re : (labels : List LabelModel) → around_rightmost (map (re φ) labels) ≡ option_map (re_around φ) (around_rightmost labels)
-  rightmost-re labels = ap (λ e. around_with_end e (map (re φ) labels)) (greatest labels) ∙ around (greatest_end labels) labels
+  rightmost-re labels = ap (λ e. around_with_end e (map (re φ) labels)) (greatest labels) ∙ around (max_label_end labels) labels
 
   pub trailing-re : (labels : List LabelModel) → trailing (map (re φ) labels) ≡ option_map (re φ) (trailing labels)
   trailing-re labels =
@@ -246,15 +246,15 @@ module _ (φ : Stream → Stream) (keeps : (s : Stream) → is_empty_stream (φ 
   carets-re context labels cs =
       ap₂ (λ style end. styled context.severity style (λ c. caret_glyphs context.chars end (style c) c) None cs) (fun_ext (style_under-re labels)) (greatest labels)
 
-  greatest_start-re : (labels : List LabelModel) → greatest_start (map (re φ) labels) ≡ greatest_start labels
-  greatest_start-re labels = fold-map (λ m (x : LabelModel). max m x.start) (re φ) 0 labels
+  max_label_start-re : (labels : List LabelModel) → max_label_start (map (re φ) labels) ≡ max_label_start labels
+  max_label_start-re labels = fold-map (λ m (x : LabelModel). max m x.start) (re φ) 0 labels
 
   pointer_style-re : (labels : List LabelModel) (c : Metrics) → pointer_style (map (re φ) labels) c ≡ pointer_style labels c
   pointer_style-re labels c = ap (λ b. if b then Primary else Secondary) (any-map (λ x. is_primary x && starts_in c x) (re φ) labels)
 
   pointer_at-re : (context : RowContext) (labels hangs : List LabelModel) (c : Metrics) → pointer_at context (map (re φ) labels) (map (re φ) hangs) c ≡ pointer_at context labels hangs c
   unfolding pointer_at
-  pointer_at-re context labels hangs c = rw (any-map (starts_in c) (re φ) hangs, pointer_style-re hangs c, greatest_start-re labels)
+  pointer_at-re context labels hangs c = rw (any-map (starts_in c) (re φ) hangs, pointer_style-re hangs c, max_label_start-re labels)
 
   pub pointers-re : (context : RowContext) (labels : List LabelModel) (cs : List Metrics) → pointers context (map (re φ) labels) cs ≡ pointers context labels cs
   unfolding pointers

@@ -12,7 +12,7 @@ use Rattle.codespan_base.specs.Streams.{Stream}
 use Rattle.codespan_base.specs.Labels.{LabelModel, is_empty_stream, LaneMark, MultiLabel, Top, Left, Bottom, first_line, last_line, is_single, drawn_label, first_seen, multi_labels, range_precedes, insert_sorted, sorted, single_labels, part_on, lane_mark_of, lane_marks_on}
 use Rattle.codespan_picture.specs.CharMetrics.{leading_whitespace}
 use Rattle.codespan_picture.specs.Lines.{shows, is_shown, drawn_lines, is_broken}
-use Rattle.codespan_picture.specs.Rows.{Locus, Heading, Lanes, Line, HeaderRow, StartRow, EmptyRow, BreakRow, SourceRow, PointerRow, HangingRow, UnderlineRow, FirstNoteRow, LaterNoteRow, BlankRow, hanging, has_underline, caret_rows, hanging_rows, underline_rows, rows_of}
+use Rattle.codespan_picture.specs.Rows.{Locus, HeaderText, Lanes, Line, HeaderRow, SnippetStartRow, EmptyRow, BreakRow, SourceRow, PointerRow, HangingRow, UnderlineRow, FirstNoteRow, LaterNoteRow, FinalRow, hanging, has_underline, caret_rows, hanging_rows, underline_rows, rows_of}
 use Rattle.codespan_picture.specs.Snippets.{LabeledFileModel, InFile, labeled_file_model, labeled_file_models, lane_count, empty_lanes, line_at, rows_after, snippet, has_any, row_after, snippets, piece_rows, note_rows, rich_rows}
 use Rattle.codespan_laws.proofs.FillLemmas.{breaks_before}
 use Rattle.codespan_picture.specs.Padding.{spans, spanned_lines, numbered_lines, digits_of, padding_of}
@@ -181,9 +181,9 @@ module _ (φ : Stream → Stream) (keeps : (s : Stream) → is_empty_stream (φ 
 
   snippet-re : (config : Config) (locus : Locus) (s : LabeledFileModel) → map (re_row φ) (snippet config locus s) ≡ snippet config locus (re_file φ s)
   snippet-re config locus s =
-      map-append' (re_row φ) (StartRow locus ∷ EmptyRow (empty_lanes s) ∷ []) (rows_after s None (drawn_lines config s.file s.labels))
+      map-append' (re_row φ) (SnippetStartRow locus ∷ EmptyRow (empty_lanes s) ∷ []) (rows_after s None (drawn_lines config s.file s.labels))
       ∙ ap₂ (λ a b. a ++ b)
-      (ap (λ lanes. StartRow locus ∷ EmptyRow lanes ∷ []) (bare-re s))
+      (ap (λ lanes. SnippetStartRow locus ∷ EmptyRow lanes ∷ []) (bare-re s))
       (after-re s None (drawn_lines config s.file s.labels) ∙ ap (rows_after (re_file φ s) None) (sym (drawn-re config s.file s.labels)))
 
   row_after-re : (followed : Bool) (s : LabeledFileModel) → map (re_row φ) (row_after followed s) ≡ row_after followed (re_file φ s)
@@ -221,12 +221,12 @@ module _ (φ : Stream → Stream) (keeps : (s : Stream) → is_empty_stream (φ 
   notes-re (note ∷ notes) =
       map-append' (re_row φ) (piece_rows (lines note)) (note_rows notes) ∙ ap₂ (λ a b. a ++ b) (piece-re (lines note)) (notes-re notes)
 
-  pub rich-re : (config : Config) (heading : Heading) (ps : List Locus) (ss : List LabeledFileModel) (notes : List (List ℕ))
+  pub rich-re : (config : Config) (heading : HeaderText) (ps : List Locus) (ss : List LabeledFileModel) (notes : List (List ℕ))
       → map (re_row φ) (rich_rows config heading ps ss notes) ≡ rich_rows config heading ps (map (re_file φ) ss) notes
   rich-re config heading ps ss notes =
       let inner = snippets config (has_any notes) ps ss in
-      map-append' (re_row φ) ((HeaderRow None heading ∷ inner) ++ note_rows notes) (BlankRow ∷ [])
-      ∙ ap (λ rows. rows ++ (BlankRow ∷ []))
+      map-append' (re_row φ) ((HeaderRow None heading ∷ inner) ++ note_rows notes) (FinalRow ∷ [])
+      ∙ ap (λ rows. rows ++ (FinalRow ∷ []))
       (map-append' (re_row φ) (HeaderRow None heading ∷ inner) (note_rows notes)
       ∙ ap₂ (λ a b. (HeaderRow None heading ∷ a) ++ b) (snippets-re config (has_any notes) ps ss) (notes-re notes))
 

@@ -9,7 +9,7 @@ use Rattle.codespan_base.specs.Streams.{Stream, Item, Byte, Mark, Slot, LabelMar
 use Rattle.codespan_base.specs.Labels.{LabelModel, is_empty_stream, MultiLabel, Top, Left, Bottom}
 use Rattle.codespan_picture.specs.declared.char_metrics.Metrics.{Metrics}
 use Rattle.codespan_picture.specs.CharMetrics.{width_of}
-use Rattle.codespan_picture.specs.Rows.{RowContext, Line, Row, HeaderRow, StartRow, EmptyRow, BreakRow, SourceRow, CaretRow, PointerRow, HangingRow, UnderlineRow, FirstNoteRow, LaterNoteRow, BlankRow, trailing}
+use Rattle.codespan_picture.specs.Rows.{RowContext, Line, Row, HeaderRow, SnippetStartRow, EmptyRow, BreakRow, SourceRow, CaretRow, PointerRow, HangingRow, UnderlineRow, FirstNoteRow, LaterNoteRow, FinalRow, trailing}
 use Rattle.codespan_picture.specs.RowParts.{gutter, numbered_gutter, border, break_border, label_message, row_lanes, leading_of, line_metrics, line_metrics_to_end, carets, trailing_message, pointers, metrics_before, underline_message, underline, end_caret}
 use Rattle.codespan_picture.specs.RowStreams.{empty_row, break_row, source_row, row_start, caret_row, pointer_row, hanging_row, underline_row, stream_of, stream_of_rows}
 use Rattle.codespan_laws.specs.MessageLaws.{is_slot}
@@ -63,7 +63,7 @@ fill_without_slots m (Slot j ∷ s) h = let e = h j in absurd (omega (arith, e, 
 
 abbrev pub re_row : (Stream → Stream) → Row → Row
 re_row φ (HeaderRow at heading) = HeaderRow at heading
-re_row φ (StartRow at) = StartRow at
+re_row φ (SnippetStartRow at) = SnippetStartRow at
 re_row φ (EmptyRow lanes) = EmptyRow (re_lanes φ lanes)
 re_row φ (BreakRow lanes) = BreakRow (re_lanes φ lanes)
 re_row φ (SourceRow line) = SourceRow (re_line φ line)
@@ -73,7 +73,7 @@ re_row φ (HangingRow line x) = HangingRow (re_line φ line) (re φ x)
 re_row φ (UnderlineRow line m) = UnderlineRow (re_line φ line) (re_lane_mark φ m)
 re_row φ (FirstNoteRow piece) = FirstNoteRow piece
 re_row φ (LaterNoteRow piece) = LaterNoteRow piece
-re_row φ BlankRow = BlankRow
+re_row φ FinalRow = FinalRow
 
 blank-append : (s t : Stream) → is_empty_stream s ≡ false → is_empty_stream (s ++ t) ≡ false
 blank-append [] t h = cc
@@ -137,7 +137,7 @@ module _ (m : ℕ → List ℕ) (full : (k : ℕ) → is_empty_stream (map Byte 
   pub fill-row : (context : RowContext) (row : Row) → fill m (stream_of context row) ≡ stream_of context (re_row (fill m) row)
   unfolding empty_row break_row source_row caret_row pointer_row hanging_row underline_row
   fill-row context (HeaderRow at heading) = without_slots _ (λ k. slot.slots-stream_of k context (HeaderRow at heading)) refl
-  fill-row context (StartRow at) = without_slots _ (λ k. slot.slots-stream_of k context (StartRow at)) refl
+  fill-row context (SnippetStartRow at) = without_slots _ (λ k. slot.slots-stream_of k context (SnippetStartRow at)) refl
   fill-row context (EmptyRow lanes) =
       without_slots (empty_row context lanes) (λ k. slot.slots-stream_of k context (EmptyRow lanes)) (ap (λ s. gutter context.padding ++ border context.chars ++ s) (plain_lanes-re (fill m) keeps context lanes))
   fill-row context (BreakRow lanes) =
@@ -171,7 +171,7 @@ module _ (m : ℕ → List ℕ) (full : (k : ℕ) → is_empty_stream (map Byte 
       (one-lane_mark Reset)
   fill-row context (FirstNoteRow piece) = without_slots _ (λ k. slot.slots-stream_of k context (FirstNoteRow piece)) refl
   fill-row context (LaterNoteRow piece) = without_slots _ (λ k. slot.slots-stream_of k context (LaterNoteRow piece)) refl
-  fill-row context BlankRow = without_slots [] (λ k. slot.slots-nil k) refl
+  fill-row context FinalRow = without_slots [] (λ k. slot.slots-nil k) refl
 
   pub fill-rows : (context : RowContext) (rows : List Row) → fill m (stream_of_rows context rows) ≡ stream_of_rows context (map (re_row (fill m)) rows)
   fill-rows context [] = without_slots [] (λ k. slot.slots-nil k) refl

@@ -9,13 +9,13 @@ use Rattle.codespan_base.specs.declared.term.config.chars.Chars.{Chars}
 use Rattle.codespan_base.specs.Labels.{LabelModel, LaneMark, MultiLabel}
 use Rattle.codespan_base.specs.Streams.{Stream, StyleMark, Byte, Mark, Slot, Reset, LabelMark, bytes, style_mark, spaces, repeated, glyph, space}
 use Rattle.codespan_picture.specs.declared.char_metrics.Metrics.{Metrics}
-use Rattle.codespan_picture.specs.Carets.{style_under, greatest_end}
+use Rattle.codespan_picture.specs.Carets.{style_under, max_label_end}
 use Rattle.codespan_picture.specs.declared.lanes.Shape.{Shape}
 use Rattle.codespan_picture.specs.declared.lanes.Shape.TheVariants.{Gap, Bar, TopCorner, BottomCorner}
 use Rattle.codespan_picture.specs.Lanes.{filling, label_glyph, lane_cells, lane_mark_in}
-use Rattle.codespan_picture.specs.Rows.{Locus, RowContext, Lanes, Line, Row, HeaderRow, StartRow, EmptyRow, BreakRow, SourceRow, CaretRow, PointerRow, HangingRow, UnderlineRow, FirstNoteRow, LaterNoteRow, BlankRow, hanging}
-use Rattle.codespan_picture.specs.RowParts.{change, styled, lane_of, lanes_in, row_lanes, source_glyph, source_style, colored_text, caret_glyphs, carets, trailing_message, label_message, spaces_up_to, pointer_at, pointer_style, pointers, starts_in, greatest_start, gutter, numbered_gutter, border, break_border, locus, line_metrics}
-use Rattle.codespan_picture.specs.RowStreams.{stream_of, header_row, start_row, empty_row, break_row, source_row, row_start, caret_row, pointer_row, hanging_row, underline_row, first_note_row, later_note_row}
+use Rattle.codespan_picture.specs.Rows.{Locus, RowContext, Lanes, Line, Row, HeaderRow, SnippetStartRow, EmptyRow, BreakRow, SourceRow, CaretRow, PointerRow, HangingRow, UnderlineRow, FirstNoteRow, LaterNoteRow, FinalRow, hanging}
+use Rattle.codespan_picture.specs.RowParts.{change, styled, lane_of, lanes_in, row_lanes, source_glyph, source_style, colored_text, caret_glyphs, carets, trailing_message, label_message, spaces_up_to, pointer_at, pointer_style, pointers, starts_in, max_label_start, gutter, numbered_gutter, border, break_border, locus, line_metrics}
+use Rattle.codespan_picture.specs.RowStreams.{stream_of, header_row, snippet_start_row, empty_row, break_row, source_row, row_start, caret_row, pointer_row, hanging_row, underline_row, first_note_row, later_note_row}
 use Rattle.codespan_laws.specs.RowLaws.{is_reset, ends_reset, RowsEndReset}
 
 -- of two streams the second goes on where the first ends
@@ -144,8 +144,8 @@ closes-carets : (context : RowContext) (labels : List LabelModel) (cs : List Met
 unfolding carets
 closes-carets context labels cs =
     record {
-      closed = ends_reset-styled context.severity (style_under labels) (λ c. caret_glyphs context.chars (greatest_end labels) (style_under labels c) c)
-          (λ closed c. ends_reset-caret_glyphs context.chars (greatest_end labels) (style_under labels c) closed c) None cs;
+      closed = ends_reset-styled context.severity (style_under labels) (λ c. caret_glyphs context.chars (max_label_end labels) (style_under labels c) c)
+          (λ closed c. ends_reset-caret_glyphs context.chars (max_label_end labels) (style_under labels c) closed c) None cs;
     }
 
 closes-colored_text : (context : RowContext) (line : Line) → Closes (colored_text context line)
@@ -173,9 +173,9 @@ closes-pointer_at : (context : RowContext) (labels xs : List LabelModel) (c : Me
 unfolding pointer_at
 closes-pointer_at context labels xs c = by_test (list_any (starts_in c) xs)
   where
-    by_test : (b : Bool) → Closes (if b then label_glyph context.severity (pointer_style xs c) context.chars.pointer_left ++ spaces_up_to (greatest_start labels) c (c.width - 1) else spaces_up_to (greatest_start labels) c c.width)
-    by_test true = closes-append (label_glyph context.severity (pointer_style xs c) context.chars.pointer_left) (spaces_up_to (greatest_start labels) c (c.width - 1)) (closes-label_glyph context.severity (pointer_style xs c) context.chars.pointer_left) (closes-spaces_up_to (greatest_start labels) c (c.width - 1))
-    by_test false = closes-spaces_up_to (greatest_start labels) c c.width
+    by_test : (b : Bool) → Closes (if b then label_glyph context.severity (pointer_style xs c) context.chars.pointer_left ++ spaces_up_to (max_label_start labels) c (c.width - 1) else spaces_up_to (max_label_start labels) c c.width)
+    by_test true = closes-append (label_glyph context.severity (pointer_style xs c) context.chars.pointer_left) (spaces_up_to (max_label_start labels) c (c.width - 1)) (closes-label_glyph context.severity (pointer_style xs c) context.chars.pointer_left) (closes-spaces_up_to (max_label_start labels) c (c.width - 1))
+    by_test false = closes-spaces_up_to (max_label_start labels) c c.width
 
 closes-pointers : (context : RowContext) (labels : List LabelModel) (cs : List Metrics) → Closes (pointers context labels cs)
 unfolding pointers
@@ -208,9 +208,9 @@ closes-row_start context line =
     closes-append _ space (closes-append _ _ (closes-append _ _ (closes-gutter _) (closes-border _)) (closes-lanes_in context _ _ line.lanes)) (closes-bytes _)
 
 closes-row : (context : RowContext) (row : Row) → Closes (stream_of context row)
-unfolding header_row start_row empty_row break_row source_row caret_row pointer_row hanging_row underline_row first_note_row later_note_row row_lanes
+unfolding header_row snippet_start_row empty_row break_row source_row caret_row pointer_row hanging_row underline_row first_note_row later_note_row row_lanes
 closes-row context (HeaderRow at heading) = closes-reset _
-closes-row context (StartRow at) =
+closes-row context (SnippetStartRow at) =
     closes-append _ (locus at) (closes-append _ space (closes-reset _) (closes-bytes _)) (closes-locus at)
 closes-row context (EmptyRow lanes) = closes-append _ _ (closes-append _ _ (closes-gutter _) (closes-border _)) (closes-lanes_in context _ _ lanes)
 closes-row context (BreakRow lanes) = closes-append _ _ (closes-append _ _ (closes-gutter _) (closes-break_border _)) (closes-lanes_in context _ _ lanes)
@@ -224,7 +224,7 @@ closes-row context (HangingRow line x) =
 closes-row context (UnderlineRow line m) = closes-reset _
 closes-row context (FirstNoteRow piece) = closes-append _ (bytes piece) (closes-append _ space (closes-reset _) (closes-bytes _)) (closes-bytes piece)
 closes-row context (LaterNoteRow piece) = closes-append _ (bytes piece) (closes-append _ space (closes-append _ space (closes-gutter _) (closes-bytes _)) (closes-bytes _)) (closes-bytes piece)
-closes-row context BlankRow = record { closed = refl }
+closes-row context FinalRow = record { closed = refl }
 
 pub rows_end_reset : RowsEndReset
 rows_end_reset context row = (closes-row context row).closed

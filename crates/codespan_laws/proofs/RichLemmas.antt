@@ -47,5 +47,5 @@ output_means_labels renderer view files d equal some_line = record {
   carets = carets_are_cells;
   lanes = lanes_are_shown;
   messages = messages.messages_appear_once renderer view files d equal some_line;
-  room = padding.padding_fits view (files_of files d);
+  padding_fits = padding.padding_fits view (files_of files d);
 }

@@ -12,7 +12,7 @@ use Rattle.codespan_picture.specs.CharMetrics.{leading_whitespace}
 use Rattle.codespan_picture.specs.Rows.{Line, SourceRow, BreakRow, HangingRow, UnderlineRow, PointerRow, caret_rows, hanging_rows, underline_rows, rows_of, hanging, has_underline}
 use Rattle.codespan_picture.specs.Snippets.{LabeledFileModel, line_at, rows_after}
 use Rattle.codespan_laws.proofs.FillLemmas.{breaks_before}
-use Rattle.codespan_laws.specs.LineLaws.{is_source_row, reach, SourceRowsAreFew}
+use Rattle.codespan_laws.specs.LineLaws.{is_source_row, max_shown_lines, SourceRowsAreFew}
 
 -- ---- counts
 
@@ -79,7 +79,7 @@ shows_in config s e l =
 shows-in : (config : Config) (s e l : ℕ) → shows config s e l ≡ true → shows_in config s e l ≡ true
 shows-in config s e l h = grind (arith, nat_tests)
 
-count-shows : (config : Config) (s e n : ℕ) → count_by (shows config s e) (range_with_len 0 n) ≤ reach config
+count-shows : (config : Config) (s e n : ℕ) → count_by (shows config s e) (range_with_len 0 n) ≤ max_shown_lines config
 count-shows config s e n =
     let b = config.before_label_lines in
     let a = config.after_label_lines in
@@ -105,7 +105,7 @@ count-shows config s e n =
 -- ---- what all labels show
 
 count-any : (config : Config) (f : FileModel) (labels : List LabelModel) (n : ℕ)
-    → count_by (λ l. list_any (λ x. shows config (first_line f x) (last_line f x) l) labels) (range_with_len 0 n) ≤ sum_by (λ _. reach config) labels
+    → count_by (λ l. list_any (λ x. shows config (first_line f x) (last_line f x) l) labels) (range_with_len 0 n) ≤ sum_by (λ _. max_shown_lines config) labels
 count-any config f [] n = let none = count-none (λ l. false) (range_with_len 0 n) (λ l. refl) in omega (arith, none)
 count-any config f (x ∷ xs) n =
     omega (
@@ -113,7 +113,7 @@ count-any config f (x ∷ xs) n =
       count-or (shows config (first_line f x) (last_line f x)) (λ l. list_any (λ x. shows config (first_line f x) (last_line f x) l) xs) (range_with_len 0 n),
       count-shows config (first_line f x) (last_line f x) n,
       count-any config f xs n,
-      sum_by-cons (λ _. reach config) x xs,
+      sum_by-cons (λ _. max_shown_lines config) x xs,
     )
 
 last-and : (b d : Bool) → (b && d) ≡ true → d ≡ true
@@ -125,7 +125,7 @@ first-and true d h = refl
 first-and false d h = cc
 
 count-shown : (config : Config) (s : LabeledFileModel) (n : ℕ)
-    → count_by (is_shown config s.file s.labels) (range_with_len 0 n) ≤ sum_by (λ _. reach config) s.labels
+    → count_by (is_shown config s.file s.labels) (range_with_len 0 n) ≤ sum_by (λ _. max_shown_lines config) s.labels
 count-shown config s n =
     omega (
       arith,

@@ -22,12 +22,12 @@ use Rattle.codespan_base.specs.Streams.{Stream, Byte, Mark, Slot, StyleMark, Hea
 use Rattle.codespan_picture.specs.declared.char_metrics.Metrics.{Metrics}
 use Rattle.codespan_picture.specs.declared.lanes.Shape.{Shape}
 use Rattle.codespan_picture.specs.declared.lanes.Shape.TheVariants.{Gap, Bar, TopCorner, BottomCorner}
-use Rattle.codespan_picture.specs.Carets.{caret_for, greatest_end, style_under}
+use Rattle.codespan_picture.specs.Carets.{caret_for, max_label_end, style_under}
 use Rattle.codespan_picture.specs.CharMetrics.{char_metrics, metrics_then, width_of, width_at}
 use Rattle.codespan_picture.specs.Lanes.{LaneRow, Source, Plain, Below, Underline, corner_line, filling, label_glyph, lane_cells, lane_mark_in, row_crossing, row_shape, shape_of, style_of_lane_mark}
-use Rattle.codespan_picture.specs.Rows.{Locus, RowContext, Lanes, Line, Row, HeaderRow, StartRow, EmptyRow, BreakRow, SourceRow, CaretRow, PointerRow, HangingRow, UnderlineRow, FirstNoteRow, LaterNoteRow, BlankRow, hanging, trailing}
-use Rattle.codespan_picture.specs.RowParts.{severity_name, locus, gutter, numbered_gutter, border, break_border, change, styled, label_message, lane_of, row_lanes, leading_of, line_metrics, line_metrics_to_end, source_style, source_glyph, colored_text, caret_glyphs, carets, trailing_message, starts_in, greatest_start, spaces_up_to, pointer_style, pointer_at, pointers, metrics_before, metrics_up_to, start_caret, end_caret, underline_message, underline}
-use Rattle.codespan_picture.specs.RowStreams.{bracketed, leading_locus, header_row, start_row, empty_row, break_row, source_row, row_start, caret_row, pointer_row, hanging_row, underline_row, first_note_row, later_note_row, stream_of, stream_of_rows}
+use Rattle.codespan_picture.specs.Rows.{Locus, RowContext, Lanes, Line, Row, HeaderRow, SnippetStartRow, EmptyRow, BreakRow, SourceRow, CaretRow, PointerRow, HangingRow, UnderlineRow, FirstNoteRow, LaterNoteRow, FinalRow, hanging, trailing}
+use Rattle.codespan_picture.specs.RowParts.{severity_name, locus, gutter, numbered_gutter, border, break_border, change, styled, label_message, lane_of, row_lanes, leading_of, line_metrics, line_metrics_to_end, source_style, source_glyph, colored_text, caret_glyphs, carets, trailing_message, starts_in, max_label_start, spaces_up_to, pointer_style, pointer_at, pointers, metrics_before, metrics_up_to, start_caret, end_caret, underline_message, underline}
+use Rattle.codespan_picture.specs.RowStreams.{bracketed, leading_locus, header_row, snippet_start_row, empty_row, break_row, source_row, row_start, caret_row, pointer_row, hanging_row, underline_row, first_note_row, later_note_row, stream_of, stream_of_rows}
 use Rattle.codespan_laws.specs.TextLaws.{AreTextsAfter, IsText, AreCharacters}
 use Rattle.codespan_laws.proofs.LaneLineLemmas.{each_all}
 use Rattle.codespan_picture.proofs.Rightmost.{Around, around_trails, around_rightmost, trailing_of, around_is, trailing_is}
@@ -294,7 +294,7 @@ pub record IsTextLine (line : Line) : Type 0 where
 -- what a row is of is a text
 abbrev pub IsTextRow : Row → Type 0
 IsTextRow (HeaderRow at heading) = IfSome at (λ p. IsUtf8 p.name) × IfSome heading.code IsUtf8 × IsUtf8 heading.message
-IsTextRow (StartRow at) = IsUtf8 at.name
+IsTextRow (SnippetStartRow at) = IsUtf8 at.name
 IsTextRow (SourceRow line) = IsUtf8 line.text
 IsTextRow (CaretRow line) = AllByRecursion (λ (x : LabelModel). IsText x.message) line.labels
 IsTextRow (HangingRow line x) = IsText x.message
@@ -337,7 +337,7 @@ text-trailing severity (x ∷ xs) h =
 
     by : (r : Option Around) → around_rightmost (x ∷ xs) ≡ r → IsText (trailing_message severity (trailing_of r))
     by None is = text-none
-    by (Some a) is = tested a (here a (around_is (greatest_end (x ∷ xs)) (x ∷ xs) a is)) (around_trails a)
+    by (Some a) is = tested a (here a (around_is (max_label_end (x ∷ xs)) (x ∷ xs) a is)) (around_trails a)
 
 module _ (context : RowContext) (ok : AreCharacters context.chars) where
   text-lane_of : (crossing : Option LaneMark) (shape : MultiLabel → Shape) (lane_mark : Option LaneMark) → IsText (lane_of context crossing shape lane_mark)
@@ -368,8 +368,8 @@ module _ (context : RowContext) (ok : AreCharacters context.chars) where
   text-carets : (labels : List LabelModel) (cs : List Metrics) → IsText (carets context labels cs)
   unfolding carets
   text-carets labels cs =
-      text-styled context.severity (style_under labels) (λ c. caret_glyphs context.chars (greatest_end labels) (style_under labels c) c) None cs
-      (each_all (λ c. IsText (caret_glyphs context.chars (greatest_end labels) (style_under labels c) c)) cs (λ c. text-caret_glyphs (greatest_end labels) (style_under labels c) c))
+      text-styled context.severity (style_under labels) (λ c. caret_glyphs context.chars (max_label_end labels) (style_under labels c) c) None cs
+      (each_all (λ c. IsText (caret_glyphs context.chars (max_label_end labels) (style_under labels c) c)) cs (λ c. text-caret_glyphs (max_label_end labels) (style_under labels c) c))
 
   -- the pointers
   text-spaces_up_to : (byte_index : ℕ) (c : Metrics) (n : ℕ) → IsText (spaces_up_to byte_index c n)
@@ -379,11 +379,11 @@ module _ (context : RowContext) (ok : AreCharacters context.chars) where
   text-pointer_at : (labels hanging : List LabelModel) (c : Metrics) → IsText (pointer_at context labels hanging c)
   unfolding pointer_at
   text-pointer_at labels hanging c =
-      let here : Stream = label_glyph context.severity (pointer_style hanging c) context.chars.pointer_left ++ spaces_up_to (greatest_start labels) c (c.width - 1) in
-      cond_both (list_any (starts_in c) hanging) here (spaces_up_to (greatest_start labels) c c.width) IsText
-      (λ _. text-both (label_glyph context.severity (pointer_style hanging c) context.chars.pointer_left) (spaces_up_to (greatest_start labels) c (c.width - 1))
-      (text-label_glyph context.severity (pointer_style hanging c) context.chars.pointer_left ok.pointer_left) (text-spaces_up_to (greatest_start labels) c (c.width - 1)))
-      (λ _. text-spaces_up_to (greatest_start labels) c c.width)
+      let here : Stream = label_glyph context.severity (pointer_style hanging c) context.chars.pointer_left ++ spaces_up_to (max_label_start labels) c (c.width - 1) in
+      cond_both (list_any (starts_in c) hanging) here (spaces_up_to (max_label_start labels) c c.width) IsText
+      (λ _. text-both (label_glyph context.severity (pointer_style hanging c) context.chars.pointer_left) (spaces_up_to (max_label_start labels) c (c.width - 1))
+      (text-label_glyph context.severity (pointer_style hanging c) context.chars.pointer_left ok.pointer_left) (text-spaces_up_to (max_label_start labels) c (c.width - 1)))
+      (λ _. text-spaces_up_to (max_label_start labels) c c.width)
 
   text-pointers : (labels : List LabelModel) (cs : List Metrics) → IsText (pointers context labels cs)
   unfolding pointers
@@ -411,10 +411,10 @@ module _ (context : RowContext) (ok : AreCharacters context.chars) where
 
   -- the stream of a row is a text where what the row is of is
   pub text-row : (row : Row) → IsTextRow row → IsText (stream_of context row)
-  unfolding header_row start_row empty_row break_row source_row caret_row pointer_row hanging_row underline_row first_note_row later_note_row
+  unfolding header_row snippet_start_row empty_row break_row source_row caret_row pointer_row hanging_row underline_row first_note_row later_note_row
   text-row (HeaderRow at heading) h =
       followed (followed (followed (followed (followed (followed (followed (text-leading_locus at h.0) (text-lane_mark (Header context.severity))) (text-severity context.severity)) (text-bracketed heading.code h.1)) (text-lane_mark HeaderMessage)) text-colon_space) (text-bytes heading.message h.2)) (text-lane_mark Reset)
-  text-row (StartRow at) h =
+  text-row (SnippetStartRow at) h =
       followed (followed (followed (followed (followed (text-gutter context.padding) (text-lane_mark SourceBorder)) (text-bytes (start_text context.chars.snippet_start) ok.snippet_start)) (text-lane_mark Reset)) text-space) (text-locus at h)
   text-row (EmptyRow lanes) h =
       followed (followed (text-gutter context.padding) (text-border context.chars ok)) (text-row_lanes 0 Plain lanes)
@@ -434,7 +434,7 @@ module _ (context : RowContext) (ok : AreCharacters context.chars) where
       followed (followed (followed (followed (followed (text-gutter context.padding) (text-lane_mark NoteBullet)) (text-glyph context.chars.note_bullet ok.note_bullet)) (text-lane_mark Reset)) text-space) (text-bytes piece h)
   text-row (LaterNoteRow piece) h =
       followed (followed (followed (text-gutter context.padding) text-space) text-space) (text-bytes piece h)
-  text-row BlankRow h = text-none
+  text-row FinalRow h = text-none
 
   -- and so are those of many rows
   pub text-rows : (rows : List Row) → AllByRecursion IsTextRow rows → IsText (stream_of_rows context rows)

@@ -10,13 +10,13 @@ use Rattle.codespan_base.specs.declared.term.config.chars.Chars.{Chars}
 use Rattle.codespan_base.specs.Streams.{Stream, StyleMark, Byte, style_mark, bytes, spaces, space, glyph, repeated, newline}
 use Rattle.codespan_base.specs.Labels.{LabelModel, LaneMark, MultiLabel, Top, Left, Bottom}
 use Rattle.codespan_picture.specs.declared.char_metrics.Metrics.{Metrics}
-use Rattle.codespan_picture.specs.Carets.{style_under, greatest_end}
+use Rattle.codespan_picture.specs.Carets.{style_under, max_label_end}
 use Rattle.codespan_picture.specs.declared.lanes.Shape.{Shape}
 use Rattle.codespan_picture.specs.declared.lanes.Shape.TheVariants.{Gap, Bar, TopCorner, BottomCorner}
 use Rattle.codespan_picture.specs.Lanes.{lane_mark_in, label_glyph, filling, lane_cells, LaneRow}
-use Rattle.codespan_picture.specs.Rows.{Locus, RowContext, Lanes, Line, Row, HeaderRow, StartRow, EmptyRow, BreakRow, SourceRow, CaretRow, PointerRow, HangingRow, UnderlineRow, FirstNoteRow, LaterNoteRow, BlankRow, trailing, hanging}
-use Rattle.codespan_picture.specs.RowParts.{locus, gutter, numbered_gutter, border, break_border, change, styled, label_message, lane_of, lanes_in, row_lanes, line_metrics, source_style, source_glyph, colored_text, caret_glyphs, carets, trailing_message, spaces_up_to, pointer_at, pointers, pointer_style, starts_in, greatest_start, underline_message, underline}
-use Rattle.codespan_picture.specs.RowStreams.{bracketed, leading_locus, header_row, start_row, empty_row, break_row, source_row, row_start, caret_row, pointer_row, hanging_row, underline_row, first_note_row, later_note_row, stream_of, stream_of_rows}
+use Rattle.codespan_picture.specs.Rows.{Locus, RowContext, Lanes, Line, Row, HeaderRow, SnippetStartRow, EmptyRow, BreakRow, SourceRow, CaretRow, PointerRow, HangingRow, UnderlineRow, FirstNoteRow, LaterNoteRow, FinalRow, trailing, hanging}
+use Rattle.codespan_picture.specs.RowParts.{locus, gutter, numbered_gutter, border, break_border, change, styled, label_message, lane_of, lanes_in, row_lanes, line_metrics, source_style, source_glyph, colored_text, caret_glyphs, carets, trailing_message, spaces_up_to, pointer_at, pointers, pointer_style, starts_in, max_label_start, underline_message, underline}
+use Rattle.codespan_picture.specs.RowStreams.{bracketed, leading_locus, header_row, snippet_start_row, empty_row, break_row, source_row, row_start, caret_row, pointer_row, hanging_row, underline_row, first_note_row, later_note_row, stream_of, stream_of_rows}
 use Rattle.codespan_laws.specs.MessageLaws.{is_slot}
 use Rattle.codespan_laws.specs.TrailingLaws.{weight_of}
 
@@ -154,8 +154,8 @@ slots-caret_glyphs k chars end (Some style) c = slots-repeated k c.width _
 pub slots-carets : (k : ℕ) (context : RowContext) (labels : List LabelModel) (cs : List Metrics) → slots k (carets context labels cs) ≡ 0
 unfolding carets
 slots-carets k context labels cs =
-    slots-styled k context.severity (style_under labels) (λ c. caret_glyphs context.chars (greatest_end labels) (style_under labels c) c)
-    (λ c. slots-caret_glyphs k context.chars (greatest_end labels) (style_under labels c) c) None cs
+    slots-styled k context.severity (style_under labels) (λ c. caret_glyphs context.chars (max_label_end labels) (style_under labels c) c)
+    (λ c. slots-caret_glyphs k context.chars (max_label_end labels) (style_under labels c) c) None cs
 
 pub slots-spaces_up_to : (k byte_index : ℕ) (c : Metrics) (n : ℕ) → slots k (spaces_up_to byte_index c n) ≡ 0
 unfolding spaces_up_to
@@ -170,9 +170,9 @@ unfolding pointer_at
 slots-pointer_at k context labels hanging c = by_test (list_any (starts_in c) hanging)
   where
     by_test : (b : Bool)
-        → slots k (if b then label_glyph context.severity (pointer_style hanging c) context.chars.pointer_left ++ spaces_up_to (greatest_start labels) c (c.width - 1) else spaces_up_to (greatest_start labels) c c.width) ≡ 0
+        → slots k (if b then label_glyph context.severity (pointer_style hanging c) context.chars.pointer_left ++ spaces_up_to (max_label_start labels) c (c.width - 1) else spaces_up_to (max_label_start labels) c c.width) ≡ 0
     by_test true = simp (slots-append, slots-label_glyph, slots-spaces_up_to)
-    by_test false = slots-spaces_up_to k (greatest_start labels) c c.width
+    by_test false = slots-spaces_up_to k (max_label_start labels) c c.width
 
 pub slots-pointers : (k : ℕ) (context : RowContext) (labels : List LabelModel) (cs : List Metrics) → slots k (pointers context labels cs) ≡ 0
 unfolding pointers
@@ -229,9 +229,9 @@ row_slots k (UnderlineRow line m) = part_slots k m.part
 row_slots k _ = 0
 
 pub slots-stream_of : (k : ℕ) (context : RowContext) (row : Row) → slots k (stream_of context row) ≡ row_slots k row
-unfolding header_row start_row empty_row break_row source_row caret_row pointer_row hanging_row underline_row first_note_row later_note_row
+unfolding header_row snippet_start_row empty_row break_row source_row caret_row pointer_row hanging_row underline_row first_note_row later_note_row
 slots-stream_of k context (HeaderRow at heading) = simp (parts, slots-bracketed, slots-leading_locus)
-slots-stream_of k context (StartRow at) = simp parts
+slots-stream_of k context (SnippetStartRow at) = simp parts
 slots-stream_of k context (EmptyRow lanes) = simp parts
 slots-stream_of k context (BreakRow lanes) = simp parts
 slots-stream_of k context (SourceRow line) = simp parts
@@ -241,7 +241,7 @@ slots-stream_of k context (HangingRow line x) = simp (parts, slots-row_start, sl
 slots-stream_of k context (UnderlineRow line m) = simp (parts, slots-underline) (omega arith)
 slots-stream_of k context (FirstNoteRow piece) = simp parts
 slots-stream_of k context (LaterNoteRow piece) = simp parts
-slots-stream_of k context BlankRow = slots-nil k
+slots-stream_of k context FinalRow = slots-nil k
 
 pub slots-rows : (k : ℕ) (context : RowContext) (rows : List Row) → slots k (stream_of_rows context rows) ≡ sum_by (row_slots k) rows
 slots-rows k context [] = slots-nil k

@@ -13,7 +13,7 @@ use Rattle.codespan_base.specs.Streams.{Stream, Slot}
 use Rattle.codespan_base.specs.Labels.{LabelModel, has_message, is_empty_stream, LaneMark, MultiLabel, Top, Left, Bottom, first_line, last_line, is_single, drawn_label, first_seen, multi_labels, range_precedes, insert_sorted, sorted, single_labels, part_on, lane_mark_of}
 use Rattle.codespan_picture.specs.CharMetrics.{leading_whitespace}
 use Rattle.codespan_picture.specs.Lines.{shows, is_drawn, drawn_lines, is_broken}
-use Rattle.codespan_picture.specs.Rows.{Heading, Locus, RowContext, Line, HeaderRow, StartRow, EmptyRow, BreakRow, SourceRow, CaretRow, PointerRow, HangingRow, UnderlineRow, FirstNoteRow, LaterNoteRow, BlankRow, trailing, hanging, has_underline, caret_rows, hanging_rows, underline_rows, rows_of}
+use Rattle.codespan_picture.specs.Rows.{HeaderText, Locus, RowContext, Line, HeaderRow, SnippetStartRow, EmptyRow, BreakRow, SourceRow, CaretRow, PointerRow, HangingRow, UnderlineRow, FirstNoteRow, LaterNoteRow, FinalRow, trailing, hanging, has_underline, caret_rows, hanging_rows, underline_rows, rows_of}
 use Rattle.codespan_picture.specs.RowStreams.{stream_of_rows}
 use Rattle.codespan_picture.specs.Snippets.{LabeledFileModel, InFile, labeled_file_model, labeled_file_models, empty_lanes, line_at, rows_after, snippet, has_any, row_after, snippets, piece_rows, note_rows, rich_rows}
 use Rattle.codespan_laws.proofs.FillLemmas.{breaks_before}
@@ -312,8 +312,8 @@ start_sum : (k : ℕ) (config : Config) (locus : Locus) (s : LabeledFileModel) �
 start_sum k config locus s =
     omega (
       arith,
-      sum_by-append (row_slots k) (StartRow locus ∷ EmptyRow (empty_lanes s) ∷ []) (rows_after s None (drawn_lines config s.file s.labels)),
-      sum_by-cons (row_slots k) (StartRow locus) (EmptyRow (empty_lanes s) ∷ []),
+      sum_by-append (row_slots k) (SnippetStartRow locus ∷ EmptyRow (empty_lanes s) ∷ []) (rows_after s None (drawn_lines config s.file s.labels)),
+      sum_by-cons (row_slots k) (SnippetStartRow locus) (EmptyRow (empty_lanes s) ∷ []),
       sum_by-cons (row_slots k) (EmptyRow (empty_lanes s)) [],
     )
 
@@ -355,16 +355,16 @@ piece_sum k [] = refl
 piece_sum k (p ∷ ps) =
     omega (arith, sum_by-cons (row_slots k) (FirstNoteRow p) (map LaterNoteRow ps), sum-map (row_slots k) LaterNoteRow ps, sum-zero {X = List ℕ} (λ _. 0) (λ _. refl) ps)
 
-pub rich_sum : (k : ℕ) (config : Config) (heading : Heading) (ps : List Locus) (ss : List LabeledFileModel) (notes : List (List ℕ)) → length ps ≡ length ss
+pub rich_sum : (k : ℕ) (config : Config) (heading : HeaderText) (ps : List Locus) (ss : List LabeledFileModel) (notes : List (List ℕ)) → length ps ≡ length ss
     → sum_by (row_slots k) (rich_rows config heading ps ss notes) ≡ sum_by (file_slots k config) ss
 rich_sum k config heading ps ss notes h =
     let inner = snippets config (has_any notes) ps ss in
     omega (
       arith,
-      sum_by-append (row_slots k) ((HeaderRow None heading ∷ inner) ++ note_rows notes) (BlankRow ∷ []),
+      sum_by-append (row_slots k) ((HeaderRow None heading ∷ inner) ++ note_rows notes) (FinalRow ∷ []),
       sum_by-append (row_slots k) (HeaderRow None heading ∷ inner) (note_rows notes),
       sum_by-cons (row_slots k) (HeaderRow None heading) inner,
-      sum_by-cons (row_slots k) BlankRow [],
+      sum_by-cons (row_slots k) FinalRow [],
       snippets_sum k config (has_any notes) ps ss h,
       sum-flat_map_zero (row_slots k) (λ note. piece_rows (lines note)) (λ note. piece_sum k (lines note)) notes,
     )
@@ -504,7 +504,7 @@ module _ {Id : Type 0} (k : ℕ) where
         sum_by-cons (λ (y : InFile Id). label_slots k y.label) (slotted n y) (slotted_from (n + 1) ys),
       )
 
-pub each_once : {Id : Type 0} (context : RowContext) (config : Config) (same : Id → Id → Bool) (file : Id → FileModel) (heading : Heading) (notes : List (List ℕ)) (xs : List (InFile Id)) (ps : List Locus)
+pub each_once : {Id : Type 0} (context : RowContext) (config : Config) (same : Id → Id → Bool) (file : Id → FileModel) (heading : HeaderText) (notes : List (List ℕ)) (xs : List (InFile Id)) (ps : List Locus)
     → length ps ≡ length (labeled_file_models same file (all_slotted xs))
     → IsEquivalence same → ((id : Id) → 0 < line_count (file id)) → (k : ℕ) (x : InFile Id) → slice_get xs k ≡ Some x
     → count_by (is_slot k) (stream_of_rows context (rich_rows config heading ps (labeled_file_models same file (all_slotted xs)) notes)) ≡ (if has_message x.label then 1 else 0)

@@ -8,7 +8,7 @@ use Rattle.codespan_picture.specs.declared.char_metrics.Metrics.{Metrics}
 use Rattle.codespan_picture.specs.CharMetrics.{width_of}
 use Rattle.codespan_picture.specs.Carets.{caret_cells}
 use Rattle.codespan_picture.specs.Rows.{RowContext, Line, trailing, hanging}
-use Rattle.codespan_picture.specs.RowParts.{line_metrics, line_metrics_to_end, trailing_message, starts_in, greatest_start, metrics_before, metrics_up_to, label_message}
+use Rattle.codespan_picture.specs.RowParts.{line_metrics, line_metrics_to_end, trailing_message, starts_in, max_label_start, metrics_before, metrics_up_to, label_message}
 use Rattle.codespan_picture.specs.RowStreams.{caret_row, pointer_row, hanging_row, row_start}
 
 -- between the lanes and the trailing message of a caret row are its caret cells
@@ -32,8 +32,8 @@ pointer_cells chars labels cs n =
     map (λ k. if points_at labels cs k then chars.pointer_left else 32) (range_with_len 0 n)
 
 -- no hanging label starts in a character that owns no cell
-abbrev pub StartsInWide : List LabelModel → List Metrics → Type 0
-StartsInWide labels cs = (c : Metrics) (x : LabelModel)
+abbrev pub StartsHaveCells : List LabelModel → List Metrics → Type 0
+StartsHaveCells labels cs = (c : Metrics) (x : LabelModel)
     → Contains cs c → Contains (hanging labels) x → IsTrue (starts_in c x) → 0 < c.width
 
 -- pointers are in the first cells of the characters in which hanging labels start; a message that
@@ -42,7 +42,7 @@ pub record PointersAreCells (context : RowContext) (line : Line) : Type 0 where
   pub in_pointer_row : text_of (pointer_row context line)
       ≡ text_of (row_start context line)
       ++ encode_utf8_all (pointer_cells context.chars line.labels (line_metrics context line)
-      (width_of (metrics_up_to (greatest_start line.labels) (line_metrics context line))))
+      (width_of (metrics_up_to (max_label_start line.labels) (line_metrics context line))))
   pub in_hanging_row : (x : LabelModel) → Contains (hanging line.labels) x
       → text_of (hanging_row context line x)
       ≡ text_of (row_start context line)

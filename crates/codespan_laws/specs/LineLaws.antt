@@ -33,14 +33,14 @@ broken_before (c ∷ d ∷ more) =
     if is_broken c d then d ∷ broken_before (d ∷ more) else broken_before (d ∷ more)
 
 -- the lanes of a break row
-abbrev pub broken_line : Row → Option Lanes
-broken_line (BreakRow lanes) = Some lanes
-broken_line _ = None
+abbrev pub break_lanes : Row → Option Lanes
+break_lanes (BreakRow lanes) = Some lanes
+break_lanes _ = None
 
 -- there is a break row exactly where shown lines are three or more apart
 abbrev pub BreaksAreGaps : Config → LabeledFileModel → Type 0
 BreaksAreGaps config s = (locus : Locus)
-    → filter_map broken_line (snippet config locus s)
+    → filter_map break_lanes (snippet config locus s)
     ≡ map (λ l. (line_at s l).lanes) (broken_before (shown_lines config s))
 
 -- the bars of a break row are those of the labels that cover every line that is left out
@@ -60,15 +60,16 @@ is_source_row (SourceRow line) = true
 is_source_row _ = false
 
 -- one label shows at most so many lines
-abbrev pub reach : Config → ℕ
-reach config =
+abbrev pub max_shown_lines : Config → ℕ
+max_shown_lines config =
     2 + config.before_label_lines + config.after_label_lines + config.start_context_lines
     + config.end_context_lines
 
 -- the source rows of a file number at most twice what its labels show
 abbrev pub SourceRowsAreFew : Config → LabeledFileModel → Type 0
 SourceRowsAreFew config s = (locus : Locus)
-    → count_by is_source_row (snippet config locus s) ≤ 2 * sum_by (λ _. reach config) s.labels
+    → count_by is_source_row (snippet config locus s)
+    ≤ 2 * sum_by (λ _. max_shown_lines config) s.labels
 
 -- the numbers of a file's lines never fall as the index rises
 abbrev pub NumbersAscend : FileModel → Type 0

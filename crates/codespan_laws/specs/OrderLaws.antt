@@ -5,7 +5,7 @@ use Rattle.std.specs.Cmp.Lexicographic.{pointwise}
 use Rattle.codespan_picture.specs.Types.{Config, Rich, Severity}
 use Rattle.codespan_base.specs.FileModel.{FileModel}
 use Rattle.codespan_base.specs.Labels.{LabelModel, is_single, first_line, drawn_label}
-use Rattle.codespan_picture.specs.Rows.{Heading, Locus}
+use Rattle.codespan_picture.specs.Rows.{HeaderText, Locus}
 use Rattle.codespan_picture.specs.Snippets.{InFile, file_ids, labeled_file_model, labeled_file_models}
 use Rattle.codespan_picture.specs.Picture.{rendered, starts}
 
@@ -40,7 +40,7 @@ pub record SameOrders {Id : Type 0} (same : Id → Id → Bool) (file : Id → F
 pub record RenderSame {Id : Type 0} (same : Id → Id → Bool) (file : Id → FileModel)
     (xs ys : List (InFile Id)) : Type 0 where
   pub same_starts : starts same file xs Rich ≡ starts same file ys Rich
-  pub same_stream : (renderer view : Config) (severity : Severity) (heading : Heading)
+  pub same_stream : (renderer view : Config) (severity : Severity) (heading : HeaderText)
       (loci : List Locus) (notes : List (List ℕ))
       → rendered Rich renderer view severity heading loci (labeled_file_models same file xs) notes
       ≡ rendered Rich renderer view severity heading loci (labeled_file_models same file ys) notes

@@ -8,7 +8,7 @@ use Rattle.codespan_picture.specs.RowParts.{line_metrics}
 use Rattle.codespan_picture.specs.Snippets.{LabeledFileModel, line_at}
 use Rattle.codespan_picture.specs.Padding.{padding_of}
 use Rattle.codespan_picture.specs.Picture.{AreLoci, files_of, context_of}
-use Rattle.codespan_laws.specs.CaretLaws.{CaretsAreCells, StartsInWide, PointersAreCells}
+use Rattle.codespan_laws.specs.CaretLaws.{CaretsAreCells, StartsHaveCells, PointersAreCells}
 use Rattle.codespan_laws.specs.LaneLaws.{BarsAreLabels, LanesAreLines, LanesAreShown}
 use Rattle.codespan_laws.specs.LineLaws.{BreaksAreGaps, BreaksAreCovered, RowsOfShown, SourceRowsAreFew, PaddingFits}
 use Rattle.codespan_laws.specs.MessageLaws.{MessagesAppearOnce}
@@ -24,7 +24,7 @@ pub record SnippetMeansLabels (view : Config) (context : RowContext)
   pub drawn : RowsOfShown view s
   pub breaks : BreaksAreGaps view s
   pub few : SourceRowsAreFew view s
-  pub pointers : (l : ℕ) → StartsInWide (line_at s l).labels (line_metrics context (line_at s l))
+  pub pointers : (l : ℕ) → StartsHaveCells (line_at s l).labels (line_metrics context (line_at s l))
       → PointersAreCells context (line_at s l)
   pub bars : StartsBeforeEnds s.labels → BarsAreLabels context.layout s
   pub covered : StartsBeforeEnds s.labels → BreaksAreCovered view context.layout s
@@ -40,4 +40,4 @@ pub record MeansLabels {Id : Type 0} (renderer view : Config) (files : FileDatab
   pub lanes : (context : RowContext) → LanesAreShown context
   pub messages : (loci : List Locus) → AreLoci files d Rich loci
       → MessagesAppearOnce renderer view files d loci
-  pub room : PaddingFits view (files_of files d)
+  pub padding_fits : PaddingFits view (files_of files d)

@@ -16,7 +16,7 @@ ghost use Rattle.codespan_base.specs.declared.term.config.styles.Styles.{Styles}
 ghost use Rattle.codespan_base.specs.Streams.{Spelling};
 ghost use Rattle.codespan_laws.specs.RowLaws.{row_length, CharactersAreFree, RowsEndReset};
 ghost use Rattle.codespan_laws.specs.ColorLaws.{ColorsChangeNoText, NoColorIsPlain};
-ghost use Rattle.codespan_laws.specs.CaretLaws.{CaretsAreCells, PointersAreCells, StartsInWide};
+ghost use Rattle.codespan_laws.specs.CaretLaws.{CaretsAreCells, PointersAreCells, StartsHaveCells};
 ghost use Rattle.codespan_laws.specs.RichLaws.{MeansLabels, StartsBeforeEnds};
 ghost use Rattle.codespan_laws.specs.LaneLaws.{BarsAreLabels, LanesAreLines, LanesAreShown};
 ghost use Rattle.codespan_laws.specs.LineLaws.{BreaksAreCovered, BreaksAreGaps, RowsOfShown, PaddingFits, SourceRowsAreFew};
@@ -77,7 +77,7 @@ pub fn carets_are_cells()
 /// messages begin there.
 pub fn pointers_are_cells()
     ensures { (context : RowContext) (line : Line)
-        → StartsInWide line.labels (line_metrics context line) → PointersAreCells context line }
+        → StartsHaveCells line.labels (line_metrics context line) → PointersAreCells context line }
 {}
 
 // ---- lanes

@@ -8,12 +8,12 @@ abbrev pub next_line : List ℕ → List ℕ
 next_line text = 10 ∷ text
 
 -- the diagnostic's message, and that of the label on the next line, if it is not empty
-abbrev pub headline : {FileId : Type 0} → Diagnostic FileId → Label FileId → List ℕ
-headline d label =
+abbrev pub joined_messages : {FileId : Type 0} → Diagnostic FileId → Label FileId → List ℕ
+joined_messages d label =
     if length (string_bytes label.message) == 0 then string_bytes d.message
     else string_bytes d.message ++ next_line (string_bytes label.message)
 
 -- the same, with each note on a line of its own
 abbrev pub full_message : {FileId : Type 0} → Diagnostic FileId → Label FileId → List ℕ
 full_message d label =
-    headline d label ++ flat_map next_line (map string_bytes d.notes.items)
+    joined_messages d label ++ flat_map next_line (map string_bytes d.notes.items)

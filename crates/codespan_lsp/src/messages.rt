@@ -2,7 +2,7 @@
 
 ghost use Rattle.std.specs.Prelude.{◌≡◌, ◌++◌, IfOk, OnOk, OnErr, IsErrOf, string_bytes};
 ghost use Rattle.std.specs.Option.{option_map};
-ghost use Rattle.codespan_lsp.specs.Messages.{next_line, headline, full_message};
+ghost use Rattle.codespan_lsp.specs.Messages.{next_line, joined_messages, full_message};
 
 use codespan_base::diagnostic::{Diagnostic, Label};
 use codespan_base::files::Error;
@@ -17,7 +17,7 @@ pub(crate) fn full_message<FileId>(
         string_bytes text ≡ full_message diagnostic.now label.now) }
     ensures failed { OnErr result (IsErrOf result Error.OutOfMemory) }
 {
-    let mut text = headline(diagnostic, label)?;
+    let mut text = joined_messages(diagnostic, label)?;
     for note in &diagnostic.notes {
         push_line(&mut text, note.as_str())?;
     }
@@ -25,8 +25,12 @@ pub(crate) fn full_message<FileId>(
 }
 
 /// Returns the diagnostic's message, and the label's message on the next line, if it is not empty.
-fn headline<FileId>(diagnostic: &Diagnostic<FileId>, label: &Label<FileId>) -> Result<String, Error>
-    ensures text { IfOk result (λ text. string_bytes text ≡ headline diagnostic.now label.now) }
+fn joined_messages<FileId>(
+    diagnostic: &Diagnostic<FileId>,
+    label: &Label<FileId>,
+) -> Result<String, Error>
+    ensures text { IfOk result (λ text.
+        string_bytes text ≡ joined_messages diagnostic.now label.now) }
     ensures failed { OnErr result (IsErrOf result Error.OutOfMemory) }
 {
     let mut text = diagnostic.message.clone()?;

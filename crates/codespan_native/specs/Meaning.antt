@@ -27,7 +27,7 @@ use Rattle.codespan_base.specs.declared.term.config.styles.Styles.{Styles}
 use Rattle.codespan_laws.specs.RichLaws.{MeansLabels}
 use Rattle.codespan_picture.specs.Lookups.{AllSucceed, lookups_in}
 use Rattle.codespan_picture.specs.Picture.{rendered, starts}
-use Rattle.codespan_picture.specs.Rows.{Heading}
+use Rattle.codespan_picture.specs.Rows.{HeaderText}
 use Rattle.codespan_picture.specs.Snippets.{InFile, labeled_file_models}
 use Rattle.codespan_picture.specs.StatedPicture.{stated_locus}
 use Rattle.codespan_native.specs.declared.raw.RawChars.{RawChars}
@@ -204,7 +204,7 @@ files_of files = database_of (map source_in files)
 -- ---- the output
 
 -- the code and the message, as outputs read them
-abbrev pub heading_in : DiagnosticView ℕ → Heading
+abbrev pub heading_in : DiagnosticView ℕ → HeaderText
 heading_in d = record { code = d.code; message = d.message }
 
 -- a label, as outputs read it

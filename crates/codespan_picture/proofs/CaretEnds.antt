@@ -5,7 +5,7 @@ use Rattle.std.proofs.lemmas.Bool.{and_parts, or_cases}
 use Rattle.codespan_base.specs.declared.diagnostic.LabelStyle.{LabelStyle}
 use Rattle.codespan_base.specs.Labels.{LabelModel, is_primary}
 use Rattle.codespan_picture.specs.declared.char_metrics.Metrics.{Metrics}
-use Rattle.codespan_picture.specs.Carets.{covers, style_under, greatest_end}
+use Rattle.codespan_picture.specs.Carets.{covers, style_under, max_label_end}
 
 -- a label over a character ends past the index at which that begins
 covers-below : (x : LabelModel) (c : Metrics) → covers x c ≡ true → c.byte_index < x.end
@@ -25,15 +25,15 @@ list_any-below m p c (x ∷ xs) below h =
     (or_cases (p x) (list_any p xs) h)
 
 -- a character with a style begins before the greatest end
-pub style_under-below : (labels : List LabelModel) (c : Metrics) (style : LabelStyle) → style_under labels c ≡ Some style → c.byte_index < greatest_end labels
+pub style_under-below : (labels : List LabelModel) (c : Metrics) (style : LabelStyle) → style_under labels c ≡ Some style → c.byte_index < max_label_end labels
 style_under-below labels c style h = by_primary (list_any (λ x. is_primary x && covers x c) labels) refl
   where
     by_any : (b : Bool) → list_any (λ x. covers x c) labels ≡ b → list_any (λ x. is_primary x && covers x c) labels ≡ false
-        → c.byte_index < greatest_end labels
+        → c.byte_index < max_label_end labels
     by_any true any none = list_any-below 0 (λ x. covers x c) c labels (λ x. covers-below x c) any
     by_any false any none = cc
 
-    by_primary : (b : Bool) → list_any (λ x. is_primary x && covers x c) labels ≡ b → c.byte_index < greatest_end labels
+    by_primary : (b : Bool) → list_any (λ x. is_primary x && covers x c) labels ≡ b → c.byte_index < max_label_end labels
     by_primary true any =
         list_any-below 0 (λ x. is_primary x && covers x c) c labels
         (λ x both. covers-below x c (and_parts (is_primary x) (covers x c) both).1) any

@@ -8,7 +8,7 @@ use Rattle.codespan_base.specs.declared.term.config.DisplayStyle.{DisplayStyle}
 use Rattle.codespan_base.specs.declared.term.config.DisplayStyle.TheVariants.{Rich, Medium, Short}
 use Rattle.codespan_base.specs.ConfigEquality.{IsConfig}
 use Rattle.codespan_base.specs.Streams.{bytes, style_mark, Reset, SourceBorder, space}
-use Rattle.codespan_picture.specs.Rows.{Heading, Locus, RowContext, Row, HeaderRow, StartRow, EmptyRow, BreakRow, SourceRow, CaretRow, PointerRow, HangingRow, UnderlineRow, FirstNoteRow, LaterNoteRow, BlankRow}
+use Rattle.codespan_picture.specs.Rows.{HeaderText, Locus, RowContext, Row, HeaderRow, SnippetStartRow, EmptyRow, BreakRow, SourceRow, CaretRow, PointerRow, HangingRow, UnderlineRow, FirstNoteRow, LaterNoteRow, FinalRow}
 use Rattle.codespan_picture.specs.RowParts.{gutter, locus}
 use Rattle.codespan_picture.specs.RowStreams.{stream_of, stream_of_rows}
 use Rattle.codespan_picture.specs.RowWords.{row_words}
@@ -33,7 +33,7 @@ module _ (config : Config) (severity : Severity) (padding : ℕ) (start other : 
   row_equal : (row : Row) → stream_of (context start) row ≡ stream_of (context other) row
   unfolding row_words
   row_equal (HeaderRow at heading) = refl
-  row_equal (StartRow at) =
+  row_equal (SnippetStartRow at) =
       ap (λ text. gutter padding ++ style_mark SourceBorder ++ bytes text ++ style_mark Reset ++ space ++ locus at) same
   row_equal (EmptyRow lanes) = refl
   row_equal (BreakRow lanes) = refl
@@ -44,7 +44,7 @@ module _ (config : Config) (severity : Severity) (padding : ℕ) (start other : 
   row_equal (UnderlineRow line m) = refl
   row_equal (FirstNoteRow piece) = refl
   row_equal (LaterNoteRow piece) = refl
-  row_equal BlankRow = refl
+  row_equal FinalRow = refl
 
   -- all rows are the same
   rows_equal : (rows : List Row) → stream_of_rows (context start) rows ≡ stream_of_rows (context other) rows
@@ -52,7 +52,7 @@ module _ (config : Config) (severity : Severity) (padding : ℕ) (start other : 
   rows_equal (row ∷ rows) = cc (row_equal row, rows_equal rows)
 
 -- what is rendered is the same, in each style
-module _ (table config : Config) (equal : IsConfig table config) (severity : Severity) (heading : Heading) (loci : List Locus) (ss : List LabeledFileModel) (notes : List (List ℕ)) where
+module _ (table config : Config) (equal : IsConfig table config) (severity : Severity) (heading : HeaderText) (loci : List Locus) (ss : List LabeledFileModel) (notes : List (List ℕ)) where
   -- rows of this padding width are the same
   all_equal : (padding : ℕ) (rows : List Row) → stream_of_rows (context_of config severity padding) rows ≡ stream_of_rows (context_of table severity padding) rows
   all_equal padding rows =

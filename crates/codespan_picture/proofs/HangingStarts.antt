@@ -7,7 +7,7 @@ use Rattle.std.proofs.lemmas.Bool.Decides.{nat_tests}
 use Rattle.std.proofs.lemmas.List.Folds.{list_any-append}
 use Rattle.codespan_base.specs.Labels.{LabelModel, has_message}
 use Rattle.codespan_picture.specs.declared.char_metrics.Metrics.{Metrics}
-use Rattle.codespan_picture.specs.Carets.{greatest_end}
+use Rattle.codespan_picture.specs.Carets.{max_label_end}
 use Rattle.codespan_picture.specs.Rows.{hanging}
 use Rattle.codespan_picture.specs.RowParts.{starts_in}
 use Rattle.codespan_picture.proofs.Rightmost.{Around, others, around_rightmost, around_trails, hanging_of, around_is, hanging_is}
@@ -41,7 +41,7 @@ any-hanging p labels h =
 
     by_rightmost : (r : Option Around) → around_rightmost labels ≡ r → list_any p (hanging_of labels r) ≡ true → list_any p labels ≡ true
     by_rightmost None is h = cc
-    by_rightmost (Some a) is h = by_trail a (around_is (greatest_end labels) labels a is) (around_trails a) h
+    by_rightmost (Some a) is h = by_trail a (around_is (max_label_end labels) labels a is) (around_trails a) h
 
 pub fold_start-le : (m : ℕ) (xs : List LabelModel) → m ≤ fold (λ n (x : LabelModel). max n x.start) m xs
 fold_start-le m [] = omega arith

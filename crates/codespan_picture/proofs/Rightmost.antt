@@ -4,8 +4,8 @@ use Rattle.std.specs.List.{enumerate_from, last_or, remove}
 use Rattle.std.specs.Option.{option_and_then, option_map, option_map_or}
 use Rattle.std.proofs.lemmas.Bool.Decides.{nat_tests}
 use Rattle.codespan_base.specs.Labels.{LabelModel, has_message}
-use Rattle.codespan_picture.specs.Carets.{greatest_end}
-use Rattle.codespan_picture.specs.Rows.{last_with_end, is_overlapped, does_trail, trailing, hanging}
+use Rattle.codespan_picture.specs.Carets.{max_label_end}
+use Rattle.codespan_picture.specs.Rows.{last_with_end, overlaps_any, does_trail, trailing, hanging}
 
 -- ---- the same by a pass over the list
 
@@ -33,11 +33,11 @@ around_with_end end (x ∷ xs) =
 
 -- the last label with the greatest end
 abbrev pub around_rightmost : List LabelModel → Option Around
-around_rightmost labels = around_with_end (greatest_end labels) labels
+around_rightmost labels = around_with_end (max_label_end labels) labels
 
 -- its message trails
 abbrev pub around_trails : Around → Bool
-around_trails a = has_message a.here && not (is_overlapped a.here (others a))
+around_trails a = has_message a.here && not (overlaps_any a.here (others a))
 
 -- the label whose message trails, if it does
 abbrev pub trailing_of : Option Around → Option LabelModel
@@ -152,12 +152,12 @@ without_is labels a whole =
 trails_is : (labels : List LabelModel) (a : Around) → a.before ++ (a.here ∷ a.after) ≡ labels
     → does_trail labels (entry_of a) ≡ around_trails a
 trails_is labels a whole =
-    ap (λ xs. has_message a.here && not (is_overlapped a.here xs)) (without_is labels a whole)
+    ap (λ xs. has_message a.here && not (overlaps_any a.here xs)) (without_is labels a whole)
 
 -- the label whose message trails is the one that the pass finds
 pub trailing_is : (labels : List LabelModel) → trailing labels ≡ trailing_of (around_rightmost labels)
 trailing_is labels =
-    ap (λ r. option_map (λ (e : ℕ × LabelModel). e.1) (option_and_then if_trails r)) (last_is (greatest_end labels) labels)
+    ap (λ r. option_map (λ (e : ℕ × LabelModel). e.1) (option_and_then if_trails r)) (last_is (max_label_end labels) labels)
     ∙ by_around (around_rightmost labels) refl
   where
     if_trails : ℕ × LabelModel → Option (ℕ × LabelModel)
@@ -168,7 +168,7 @@ trailing_is labels =
     by_around None is = refl
     by_around (Some a) is =
         ap (λ b. option_map (λ (e : ℕ × LabelModel). e.1) (if b then Some (entry_of a) else None))
-        (trails_is labels a (around_is (greatest_end labels) labels a is))
+        (trails_is labels a (around_is (max_label_end labels) labels a is))
         ∙ by_test (around_trails a)
       where
         by_test : (b : Bool) → option_map (λ (e : ℕ × LabelModel). e.1) (if b then Some (entry_of a) else None)
@@ -179,7 +179,7 @@ trailing_is labels =
 -- the labels whose messages hang are those that the pass finds
 pub hanging_is : (labels : List LabelModel) → hanging labels ≡ hanging_of labels (around_rightmost labels)
 hanging_is labels =
-    ap (λ r. filter has_message (option_map_or without (option_and_then if_trails r) labels)) (last_is (greatest_end labels) labels)
+    ap (λ r. filter has_message (option_map_or without (option_and_then if_trails r) labels)) (last_is (max_label_end labels) labels)
     ∙ by_around (around_rightmost labels) refl
   where
     without : ℕ × LabelModel → List LabelModel
@@ -197,7 +197,7 @@ hanging_is labels =
         ≡ hanging_of labels r
     by_around None is = nothing labels is
     by_around (Some a) is =
-        let whole = around_is (greatest_end labels) labels a is in
+        let whole = around_is (max_label_end labels) labels a is in
         ap (λ b. filter has_message (option_map_or without (if b then Some (entry_of a) else None) labels)) (trails_is labels a whole)
         ∙ by_test whole (around_trails a)
       where

@@ -8,12 +8,12 @@ use Rattle.codespan_picture.specs.declared.char_metrics.Metrics.{Metrics}
 use Rattle.codespan_picture.specs.CharMetrics.{width_of}
 
 -- the label has a byte from `start` to `end`
-abbrev pub covers_part : LabelModel → ℕ → ℕ → Bool
-covers_part x start end = nat_lt (max x.start start) (min x.end end)
+abbrev pub is_overlapping : LabelModel → ℕ → ℕ → Bool
+is_overlapping x start end = nat_lt (max x.start start) (min x.end end)
 
 -- the label has a byte of the character
 abbrev pub covers : LabelModel → Metrics → Bool
-covers x c = covers_part x c.byte_index (c.byte_index + c.bytes)
+covers x c = is_overlapping x c.byte_index (c.byte_index + c.bytes)
 
 -- the style under a character: primary where one of the labels over it is
 abbrev pub style_under : List LabelModel → Metrics → Option LabelStyle
@@ -23,8 +23,8 @@ style_under labels c =
     else None
 
 -- the greatest end of the labels, 0 where there is none
-abbrev pub greatest_end : List LabelModel → ℕ
-greatest_end labels = fold (λ m (x : LabelModel). max m x.end) 0 labels
+abbrev pub max_label_end : List LabelModel → ℕ
+max_label_end labels = fold (λ m (x : LabelModel). max m x.end) 0 labels
 
 -- ---- the carets of cells
 
@@ -48,4 +48,4 @@ abbrev pub caret_cells : Chars → List LabelModel → List Metrics → List ℕ
 caret_cells chars labels cs =
     map (λ k. caret_for chars (style_at labels cs k))
     (range_with_len 0 (width_of
-    (filter (λ (c : Metrics). nat_lt c.byte_index (greatest_end labels)) cs)))
+    (filter (λ (c : Metrics). nat_lt c.byte_index (max_label_end labels)) cs)))

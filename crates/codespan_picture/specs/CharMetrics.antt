@@ -11,8 +11,8 @@ abbrev pub is_line_end : ℕ → Bool
 is_line_end b = (b == 10) || (b == 13) || (b == 0)
 
 -- the text of a line as it is rendered
-abbrev pub drawn_text : List ℕ → List ℕ
-drawn_text text = take (length text - suffix_len is_line_end text) text
+abbrev pub text_without_line_end : List ℕ → List ℕ
+text_without_line_end text = take (length text - suffix_len is_line_end text) text
 
 -- the cells of a character at a column: of a tab those up to its next stop, none where the tab
 -- width is 0; of any other as many as `unicode_width` returns, none where it returns none

@@ -7,7 +7,7 @@ use Rattle.codespan_picture.specs.Types.{Config, DisplayStyle, Rich, Medium, Sho
 use Rattle.codespan_base.specs.FileModel.{FileDatabase, FileModel}
 use Rattle.codespan_base.specs.Streams.{Stream, bytes}
 use Rattle.codespan_picture.specs.Padding.{padding_of}
-use Rattle.codespan_picture.specs.Rows.{Heading, Locus, RowContext}
+use Rattle.codespan_picture.specs.Rows.{HeaderText, Locus, RowContext}
 use Rattle.codespan_picture.specs.RowStreams.{stream_of_rows}
 use Rattle.codespan_picture.specs.Snippets.{InFile, LabeledFileModel, header_rows, labeled_file_models, locus_start, note_rows, primary_of, rich_rows}
 
@@ -34,7 +34,7 @@ abbrev pub files_of : {Id : Type 0} → FileDatabase Id → Diagnostic Id → Li
 files_of files d = labeled_file_models files.same files.file (labels_of d)
 
 -- its code and message
-abbrev pub heading_of : {Id : Type 0} → Diagnostic Id → Heading
+abbrev pub heading_of : {Id : Type 0} → Diagnostic Id → HeaderText
 heading_of d = record { code = option_map string_bytes d.code; message = string_bytes d.message }
 
 -- its notes
@@ -87,7 +87,7 @@ context_of config severity padding = record {
 
 -- what is rendered with these loci: the view's configuration chooses lines and padding, the
 -- renderer's the characters, the tab width and the layout
-abbrev pub rendered : DisplayStyle → Config → Config → Severity → Heading
+abbrev pub rendered : DisplayStyle → Config → Config → Severity → HeaderText
     → List Locus → List LabeledFileModel → List (List ℕ) → Stream
 rendered Rich renderer view severity heading loci ss notes =
     stream_of_rows (context_of renderer severity (padding_of view ss))

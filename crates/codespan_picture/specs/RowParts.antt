@@ -8,7 +8,7 @@ use Rattle.codespan_base.specs.Streams.{Stream, LineNumber, SourceBorder, LabelM
 use Rattle.codespan_base.specs.Labels.{LabelModel, is_primary, is_primary_style, LaneMark, MultiLabel, Top, Left, Bottom}
 use Rattle.codespan_picture.specs.declared.char_metrics.Metrics.{Metrics}
 use Rattle.codespan_picture.specs.CharMetrics.{char_metrics, char_metrics_to_end, width_of, leading_whitespace}
-use Rattle.codespan_picture.specs.Carets.{covers, style_under, caret_for, greatest_end}
+use Rattle.codespan_picture.specs.Carets.{covers, style_under, caret_for, max_label_end}
 use Rattle.codespan_picture.specs.declared.lanes.Shape.{Shape}
 use Rattle.codespan_picture.specs.Lanes.{LaneRow, row_shape, row_crossing, lane_mark_in, shape_of, style_of_lane_mark, lane_cells, label_glyph}
 use Rattle.codespan_picture.specs.Rows.{Locus, RowContext, Lanes, Line, hanging}
@@ -135,7 +135,7 @@ caret_glyphs chars end (Some style) c = repeated c.width (caret_for chars (Some 
 unfoldable pub carets : RowContext → List LabelModel → List Metrics → Stream
 carets context labels cs =
     styled context.severity (style_under labels)
-    (λ c. caret_glyphs context.chars (greatest_end labels) (style_under labels c) c) None cs
+    (λ c. caret_glyphs context.chars (max_label_end labels) (style_under labels c) c) None cs
 
 -- after the carets a space and the trailing message, if there is one
 unfoldable pub trailing_message : Severity → Option LabelModel → Stream
@@ -149,8 +149,8 @@ abbrev pub starts_in : Metrics → LabelModel → Bool
 starts_in c x = nat_le c.byte_index x.start && nat_lt x.start (c.byte_index + c.bytes)
 
 -- the greatest start of the labels, 0 where there is none
-abbrev pub greatest_start : List LabelModel → ℕ
-greatest_start labels = fold (λ m (x : LabelModel). max m x.start) 0 labels
+abbrev pub max_label_start : List LabelModel → ℕ
+max_label_start labels = fold (λ m (x : LabelModel). max m x.start) 0 labels
 
 -- the spaces of a pointer row reach as far as the greatest start of the line's labels
 unfoldable pub spaces_up_to : ℕ → Metrics → ℕ → Stream
@@ -166,8 +166,8 @@ unfoldable pub pointer_at : RowContext → List LabelModel → List LabelModel �
 pointer_at context labels hanging c =
     if list_any (starts_in c) hanging then
     label_glyph context.severity (pointer_style hanging c) context.chars.pointer_left
-    ++ spaces_up_to (greatest_start labels) c (c.width - 1)
-    else spaces_up_to (greatest_start labels) c c.width
+    ++ spaces_up_to (max_label_start labels) c (c.width - 1)
+    else spaces_up_to (max_label_start labels) c c.width
 
 -- the pointers of these characters
 unfoldable pub pointers : RowContext → List LabelModel → List Metrics → Stream

@@ -6,7 +6,7 @@ use Rattle.codespan_base.specs.Streams.{Stream, Header, HeaderMessage, NoteBulle
 use Rattle.codespan_base.specs.Labels.{LabelModel, LaneMark}
 use Rattle.codespan_base.specs.SnippetStarts.{start_text}
 use Rattle.codespan_picture.specs.Lanes.{Source, Plain, Below, Underline}
-use Rattle.codespan_picture.specs.Rows.{Locus, Heading, RowContext, Lanes, Line, Row, HeaderRow, StartRow, EmptyRow, BreakRow, SourceRow, CaretRow, PointerRow, HangingRow, UnderlineRow, FirstNoteRow, LaterNoteRow, BlankRow, trailing}
+use Rattle.codespan_picture.specs.Rows.{Locus, HeaderText, RowContext, Lanes, Line, Row, HeaderRow, SnippetStartRow, EmptyRow, BreakRow, SourceRow, CaretRow, PointerRow, HangingRow, UnderlineRow, FirstNoteRow, LaterNoteRow, FinalRow, trailing}
 use Rattle.codespan_picture.specs.RowParts.{severity_name, locus, gutter, numbered_gutter, border, break_border, label_message, row_lanes, leading_of, line_metrics, line_metrics_to_end, colored_text, carets, trailing_message, pointers, metrics_before, underline}
 
 -- ---- rows, before their newlines
@@ -23,15 +23,15 @@ leading_locus None = []
 leading_locus (Some p) = locus p ++ bytes (codes ": ")
 
 -- the header: the locus, the severity, the code and the message
-unfoldable pub header_row : Severity → Option Locus → Heading → Stream
+unfoldable pub header_row : Severity → Option Locus → HeaderText → Stream
 header_row severity at heading =
     leading_locus at ++ style_mark (Header severity) ++ bytes (severity_name severity)
     ++ bracketed heading.code
     ++ style_mark HeaderMessage ++ bytes (codes ": ") ++ bytes heading.message ++ style_mark Reset
 
 -- the start of a file's snippet
-unfoldable pub start_row : Chars → ℕ → Locus → Stream
-start_row chars padding at =
+unfoldable pub snippet_start_row : Chars → ℕ → Locus → Stream
+snippet_start_row chars padding at =
     gutter padding ++ style_mark SourceBorder ++ bytes (start_text chars.snippet_start)
     ++ style_mark Reset ++ space ++ locus at
 
@@ -97,7 +97,7 @@ later_note_row padding piece = gutter padding ++ space ++ space ++ bytes piece
 -- the stream of a row
 abbrev pub stream_of : RowContext → Row → Stream
 stream_of context (HeaderRow at heading) = header_row context.severity at heading
-stream_of context (StartRow at) = start_row context.chars context.padding at
+stream_of context (SnippetStartRow at) = snippet_start_row context.chars context.padding at
 stream_of context (EmptyRow lanes) = empty_row context lanes
 stream_of context (BreakRow lanes) = break_row context lanes
 stream_of context (SourceRow line) = source_row context line
@@ -107,7 +107,7 @@ stream_of context (HangingRow line x) = hanging_row context line x
 stream_of context (UnderlineRow line m) = underline_row context line m
 stream_of context (FirstNoteRow piece) = first_note_row context.chars context.padding piece
 stream_of context (LaterNoteRow piece) = later_note_row context.padding piece
-stream_of context BlankRow = []
+stream_of context FinalRow = []
 
 -- the stream of many rows, each ended by one newline
 abbrev pub stream_of_rows : RowContext → List Row → Stream

@@ -5,7 +5,7 @@ use Rattle.std.specs.Option.{option_and_then, option_map, option_map_or}
 use Rattle.codespan_picture.specs.Types.{Severity, Chars, Layout, Location}
 use Rattle.codespan_base.specs.Labels.{LabelModel, has_message, LaneMark, MultiLabel, Top, Left, Bottom}
 use Rattle.codespan_picture.specs.CharMetrics.{leading_whitespace}
-use Rattle.codespan_picture.specs.Carets.{covers_part, greatest_end}
+use Rattle.codespan_picture.specs.Carets.{is_overlapping, max_label_end}
 use Rattle.codespan_picture.specs.Lanes.{begins_in_source_row}
 
 -- a file's name and a location in it, as users see them
@@ -14,7 +14,7 @@ pub record Locus : Type 0 where
   pub location : Location
 
 -- what a header has besides the severity
-pub record Heading : Type 0 where
+pub record HeaderText : Type 0 where
   pub code : Option (List ℕ)
   pub message : List ℕ
 
@@ -40,8 +40,8 @@ pub record Line : Type 0 where
 
 -- one row of an output
 pub data Row : Type 0 where
-  HeaderRow : Option Locus → Heading → Row
-  StartRow : Locus → Row
+  HeaderRow : Option Locus → HeaderText → Row
+  SnippetStartRow : Locus → Row
   EmptyRow : Lanes → Row
   BreakRow : Lanes → Row
   SourceRow : Line → Row
@@ -51,7 +51,7 @@ pub data Row : Type 0 where
   UnderlineRow : Line → LaneMark → Row
   FirstNoteRow : List ℕ → Row
   LaterNoteRow : List ℕ → Row
-  BlankRow : Row
+  FinalRow : Row
 
 -- ---- trailing and hanging labels
 
@@ -61,18 +61,18 @@ last_with_end end labels =
     last_or None (filter (λ (e : ℕ × LabelModel). e.1.end == end) (enumerate_from 0 labels))
 
 -- one of the others overlaps the label
-abbrev pub is_overlapped : LabelModel → List LabelModel → Bool
-is_overlapped x others = list_any (λ (y : LabelModel). covers_part x y.start y.end) others
+abbrev pub overlaps_any : LabelModel → List LabelModel → Bool
+overlaps_any x others = list_any (λ (y : LabelModel). is_overlapping x y.start y.end) others
 
 -- the label's message trails: it is not empty, and no other label of the line overlaps the label
 abbrev pub does_trail : List LabelModel → ℕ × LabelModel → Bool
-does_trail labels e = has_message e.1 && not (is_overlapped e.1 (remove labels e.0))
+does_trail labels e = has_message e.1 && not (overlaps_any e.1 (remove labels e.0))
 
 -- the last of the labels with the greatest end, where its message trails
 abbrev pub trailing_entry : List LabelModel → Option (ℕ × LabelModel)
 trailing_entry labels =
     option_and_then (λ e. if does_trail labels e then Some e else None)
-    (last_with_end (greatest_end labels) labels)
+    (last_with_end (max_label_end labels) labels)
 
 -- the label whose message trails
 abbrev pub trailing : List LabelModel → Option LabelModel

@@ -4,9 +4,9 @@ use Rattle.std.specs.Str.Lines.{lines}
 use Rattle.codespan_picture.specs.Types.{Config}
 use Rattle.codespan_base.specs.FileModel.{FileModel, line_text}
 use Rattle.codespan_base.specs.Labels.{LabelModel, is_primary, first_seen, multi_labels, single_labels, lane_marks_on}
-use Rattle.codespan_picture.specs.CharMetrics.{drawn_text}
+use Rattle.codespan_picture.specs.CharMetrics.{text_without_line_end}
 use Rattle.codespan_picture.specs.Lines.{drawn_lines}
-use Rattle.codespan_picture.specs.Rows.{Locus, Heading, Lanes, Line, Row, HeaderRow, StartRow, EmptyRow, BreakRow, FirstNoteRow, LaterNoteRow, BlankRow, rows_of}
+use Rattle.codespan_picture.specs.Rows.{Locus, HeaderText, Lanes, Line, Row, HeaderRow, SnippetStartRow, EmptyRow, BreakRow, FirstNoteRow, LaterNoteRow, FinalRow, rows_of}
 use Rattle.codespan_picture.specs.Sequences.{break_between, gap_between, in_sequence}
 
 -- a file with its labels, in the order given
@@ -51,7 +51,7 @@ empty_lanes s = record { count = lane_count s; marks = [] }
 abbrev pub line_at : LabeledFileModel → ℕ → Line
 line_at s l = record {
   number = s.file.number l;
-  text = drawn_text (line_text s.file l);
+  text = text_without_line_end (line_text s.file l);
   labels = single_labels s.file s.labels l;
   lanes = record { count = lane_count s; marks = lane_marks_on s.file s.labels l };
 }
@@ -94,7 +94,7 @@ locus_start labels =
 -- the rows of a file's snippet, which starts with this locus
 abbrev pub snippet : Config → Locus → LabeledFileModel → List Row
 snippet config locus s =
-    (StartRow locus ∷ EmptyRow (empty_lanes s) ∷ [])
+    (SnippetStartRow locus ∷ EmptyRow (empty_lanes s) ∷ [])
     ++ rows_after s None (drawn_lines config s.file s.labels)
 
 -- the row after a file's snippet, where something follows
@@ -126,11 +126,11 @@ abbrev pub note_rows : List (List ℕ) → List Row
 note_rows notes = flat_map (λ note. piece_rows (lines note)) notes
 
 -- the rows of rich style, where the files' snippets have these loci
-abbrev pub rich_rows : Config → Heading → List Locus → List LabeledFileModel → List (List ℕ)
+abbrev pub rich_rows : Config → HeaderText → List Locus → List LabeledFileModel → List (List ℕ)
     → List Row
 rich_rows config heading loci ss notes =
     (HeaderRow None heading ∷ snippets config (has_any notes) loci ss)
-    ++ note_rows notes ++ (BlankRow ∷ [])
+    ++ note_rows notes ++ (FinalRow ∷ [])
 
 -- ---- short and medium style
 
@@ -139,7 +139,7 @@ abbrev pub primary_of : {Id : Type 0} → List (InFile Id) → List (InFile Id)
 primary_of {Id} xs = filter (λ (x : InFile Id). is_primary x.label) xs
 
 -- a header with each of these loci, or one without a locus where there is none
-abbrev pub header_rows : Heading → List Locus → List Row
+abbrev pub header_rows : HeaderText → List Locus → List Row
 header_rows heading loci =
     if_any (map (λ (locus : Locus). HeaderRow (Some locus) heading) loci)
     (HeaderRow None heading ∷ [])

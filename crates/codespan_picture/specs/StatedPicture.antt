@@ -3,7 +3,7 @@ use Rattle.std.specs.Prelude.{ℕ, List, map, Some}
 use Rattle.codespan_picture.specs.Types.{Config, DisplayStyle, Diagnostic}
 use Rattle.codespan_base.specs.FileModel.{FileDatabase, FileModel, name_text}
 use Rattle.codespan_base.specs.Streams.{Stream}
-use Rattle.codespan_picture.specs.Rows.{Heading, HeaderRow, Locus, Row}
+use Rattle.codespan_picture.specs.Rows.{HeaderText, HeaderRow, Locus, Row}
 use Rattle.codespan_picture.specs.RowStreams.{stream_of_rows}
 use Rattle.codespan_picture.specs.Picture.{heading_of, labels_of, context_of, output, starts}
 
@@ -24,7 +24,7 @@ module _ {Id : Type 0} (style : DisplayStyle) (renderer view : Config)
   picture = output style renderer view files d (stated_loci files d style)
 
 -- headers with these loci
-abbrev pub headers : Heading → List Locus → List Row
+abbrev pub headers : HeaderText → List Locus → List Row
 headers heading loci = map (λ (locus : Locus). HeaderRow (Some locus) heading) loci
 
 -- the stream of these headers alone

@@ -5,15 +5,15 @@ use Rattle.std.specs.List.{list_any}
 use Rattle.codespan_base.specs.declared.diagnostic.LabelStyle.{LabelStyle}
 use Rattle.codespan_base.specs.declared.diagnostic.LabelStyle.TheVariants.{Primary, Secondary}
 use Rattle.codespan_base.specs.Labels.{LabelModel, is_primary}
-use Rattle.codespan_renderer.specs.Private.Runs.{better, best_from}
+use Rattle.codespan_renderer.specs.Private.Runs.{primary_first, best_from}
 
 -- a label that passes betters what was found
 pub best-cons : (passes : LabelModel → Bool) (found : Option LabelStyle) (x : LabelModel) (xs : List LabelModel)
-    → best_from passes found (x ∷ xs) ≡ best_from passes (if passes x then better found x.style else found) xs
+    → best_from passes found (x ∷ xs) ≡ best_from passes (if passes x then primary_first found x.style else found) xs
 best-cons passes found x xs = by_test (passes x)
   where
-    by_test : (b : Bool) → fold (λ best (y : LabelModel). better best y.style) found (cond b (x ∷ filter passes xs) (filter passes xs))
-        ≡ best_from passes (if b then better found x.style else found) xs
+    by_test : (b : Bool) → fold (λ best (y : LabelModel). primary_first best y.style) found (cond b (x ∷ filter passes xs) (filter passes xs))
+        ≡ best_from passes (if b then primary_first found x.style else found) xs
     by_test true = refl
     by_test false = refl
 
@@ -22,7 +22,7 @@ primary-cons : (passes : LabelModel → Bool) (x : LabelModel) (xs : List LabelM
 primary-cons passes x xs true e ih = rw e ih
 primary-cons passes x xs false e ih = rw e ih
 
--- nothing is better than a primary style
+-- nothing is primary_first than a primary style
 pub best-primary : (passes : LabelModel → Bool) (xs : List LabelModel) → best_from passes (Some Primary) xs ≡ Some Primary
 best-primary passes [] = refl
 best-primary passes (x ∷ xs) = primary-cons passes x xs _ refl (best-primary passes xs)

@@ -16,13 +16,13 @@ use Rattle.codespan_base.specs.declared.diagnostic.LabelStyle.TheVariants.{Prima
 use Rattle.codespan_base.specs.Labels.{LabelModel, has_message, is_empty_stream, is_primary, is_primary_style}
 use Rattle.codespan_base.specs.Streams.{Stream, bytes, spaces, newline}
 use Rattle.codespan_picture.specs.declared.char_metrics.Metrics.{Metrics}
-use Rattle.codespan_picture.specs.Carets.{greatest_end}
+use Rattle.codespan_picture.specs.Carets.{max_label_end}
 use Rattle.codespan_picture.specs.Arguments.{SingleLabelTuple, single_label_view, single_label_views}
 use Rattle.codespan_picture.specs.Lanes.{label_glyph}
-use Rattle.codespan_picture.specs.Rows.{RowContext, Line, HangingRow, last_with_end, is_overlapped, does_trail, trailing_entry, trailing, hanging, hanging_rows}
-use Rattle.codespan_picture.specs.RowParts.{starts_in, pointer_style, greatest_start, spaces_up_to, pointer_at, pointers, metrics_before}
+use Rattle.codespan_picture.specs.Rows.{RowContext, Line, HangingRow, last_with_end, overlaps_any, does_trail, trailing_entry, trailing, hanging, hanging_rows}
+use Rattle.codespan_picture.specs.RowParts.{starts_in, pointer_style, max_label_start, spaces_up_to, pointer_at, pointers, metrics_before}
 use Rattle.codespan_picture.specs.RowStreams.{pointer_row, hanging_row, stream_of, stream_of_rows}
-use Rattle.codespan_renderer.specs.Private.Runs.{better, best_from, pointer_found, label_entry_view, AreHanging, hanging_stream}
+use Rattle.codespan_renderer.specs.Private.Runs.{primary_first, best_from, pointer_found, label_entry_view, AreHanging, hanging_stream}
 use Rattle.codespan_renderer.proofs.Best.{best-cons, best-primary}
 use Rattle.codespan_renderer.proofs.RowWords.{spaces-add}
 
@@ -114,17 +114,17 @@ without_at xs k =
 -- what is tested of the label at an index
 pub trails_at : (xs : List SingleLabelTuple) (k : ℕ) (d : SingleLabelTuple) (empty : Bool) → k < length xs → empty ≡ (length (get_or xs k d).2.now == 0)
     → option_map_or (does_trail (single_label_views xs)) (label_entry_view xs (Some k)) false
-    ≡ (not empty && not (is_overlapped (single_label_view (get_or xs k d)) (single_label_views (take k xs)) || is_overlapped (single_label_view (get_or xs k d)) (single_label_views (drop (k + 1) xs))))
+    ≡ (not empty && not (overlaps_any (single_label_view (get_or xs k d)) (single_label_views (take k xs)) || overlaps_any (single_label_view (get_or xs k d)) (single_label_views (drop (k + 1) xs))))
 trails_at xs k d empty h e = rw (entry_is xs k d h, without_at xs k, e, spaces_is, list_any-append) refl
 
 -- ---- where one trails
 
 -- the rightmost label trails
-trails_by : (xs : List LabelModel) (e : ℕ × LabelModel) → last_with_end (greatest_end xs) xs ≡ Some e → does_trail xs e ≡ true → trailing_entry xs ≡ Some e
+trails_by : (xs : List LabelModel) (e : ℕ × LabelModel) → last_with_end (max_label_end xs) xs ≡ Some e → does_trail xs e ≡ true → trailing_entry xs ≡ Some e
 trails_by xs e is h = rw (is, h) refl
 
 -- the label at an index trails
-entry_trails : (xs : List SingleLabelTuple) (k end : ℕ) (d : SingleLabelTuple) → k < length xs → end ≡ greatest_end (single_label_views xs)
+entry_trails : (xs : List SingleLabelTuple) (k end : ℕ) (d : SingleLabelTuple) → k < length xs → end ≡ max_label_end (single_label_views xs)
     → last_with_end end (single_label_views xs) ≡ label_entry_view xs (Some k)
     → option_map_or (does_trail (single_label_views xs)) (label_entry_view xs (Some k)) false ≡ true
     → trailing_entry (single_label_views xs) ≡ Some (k, single_label_view (get_or xs k d))
@@ -135,7 +135,7 @@ entry_trails xs k end d h greatest last holds =
     (ap (λ (o : Option (ℕ × LabelModel)). option_map_or (does_trail (single_label_views xs)) o false) (sym here) ∙ holds)
 
 -- its message trails
-pub trailing_here : (xs : List SingleLabelTuple) (k end : ℕ) (d : SingleLabelTuple) → k < length xs → end ≡ greatest_end (single_label_views xs)
+pub trailing_here : (xs : List SingleLabelTuple) (k end : ℕ) (d : SingleLabelTuple) → k < length xs → end ≡ max_label_end (single_label_views xs)
     → last_with_end end (single_label_views xs) ≡ label_entry_view xs (Some k)
     → option_map_or (does_trail (single_label_views xs)) (label_entry_view xs (Some k)) false ≡ true
     → Some (single_label_view (get_or xs k d)) ≡ trailing (single_label_views xs)
@@ -147,7 +147,7 @@ all_after : (n : ℕ) (xs : List SingleLabelTuple) → take (length xs - n) (dro
 all_after n xs = ap (λ k. take k (drop n xs)) (sym (length-drop n xs)) ∙ take-length (drop n xs)
 
 -- all labels around it may hang
-hanging_at : (xs : List SingleLabelTuple) (k end : ℕ) (d : SingleLabelTuple) → k < length xs → end ≡ greatest_end (single_label_views xs)
+hanging_at : (xs : List SingleLabelTuple) (k end : ℕ) (d : SingleLabelTuple) → k < length xs → end ≡ max_label_end (single_label_views xs)
     → last_with_end end (single_label_views xs) ≡ label_entry_view xs (Some k)
     → option_map_or (does_trail (single_label_views xs)) (label_entry_view xs (Some k)) false ≡ true
     → AreHanging xs (take k xs) (take (length xs - (k + 1)) (drop (k + 1) xs))
@@ -157,7 +157,7 @@ hanging_at xs k end d h greatest last holds = subst (AreHanging xs (take k xs)) 
       (sym (entry_trails xs k end d h greatest last holds));
 })
 
-pub hanging_here : (xs : List SingleLabelTuple) (k end : ℕ) → k < length xs → end ≡ greatest_end (single_label_views xs)
+pub hanging_here : (xs : List SingleLabelTuple) (k end : ℕ) → k < length xs → end ≡ max_label_end (single_label_views xs)
     → last_with_end end (single_label_views xs) ≡ label_entry_view xs (Some k)
     → option_map_or (does_trail (single_label_views xs)) (label_entry_view xs (Some k)) false ≡ true
     → AreHanging xs (take k xs) (take (length xs - (k + 1)) (drop (k + 1) xs))
@@ -167,26 +167,26 @@ hanging_here (x ∷ xs) k end h greatest last holds = hanging_at (x ∷ xs) k en
 -- ---- where none trails
 
 -- no label trails where the rightmost one does not
-none_by : (xs : List LabelModel) (o : Option (ℕ × LabelModel)) → last_with_end (greatest_end xs) xs ≡ o → option_map_or (does_trail xs) o false ≡ false
+none_by : (xs : List LabelModel) (o : Option (ℕ × LabelModel)) → last_with_end (max_label_end xs) xs ≡ o → option_map_or (does_trail xs) o false ≡ false
     → trailing_entry xs ≡ None
 none_by xs None is h = rw is refl
 none_by xs (Some e) is h = rw (is, h) refl
 
 -- no message trails
-no_entry : (xs : List SingleLabelTuple) (r : Option ℕ) (end : ℕ) → end ≡ greatest_end (single_label_views xs)
+no_entry : (xs : List SingleLabelTuple) (r : Option ℕ) (end : ℕ) → end ≡ max_label_end (single_label_views xs)
     → last_with_end end (single_label_views xs) ≡ label_entry_view xs r
     → option_map_or (does_trail (single_label_views xs)) (label_entry_view xs r) false ≡ false → trailing_entry (single_label_views xs) ≡ None
 no_entry xs r end greatest last h =
     none_by (single_label_views xs) (label_entry_view xs r) (ap (λ e. last_with_end e (single_label_views xs)) (sym greatest) ∙ last) h
 
-pub nothing_trails : (xs : List SingleLabelTuple) (r : Option ℕ) (end : ℕ) → end ≡ greatest_end (single_label_views xs)
+pub nothing_trails : (xs : List SingleLabelTuple) (r : Option ℕ) (end : ℕ) → end ≡ max_label_end (single_label_views xs)
     → last_with_end end (single_label_views xs) ≡ label_entry_view xs r
     → option_map_or (does_trail (single_label_views xs)) (label_entry_view xs r) false ≡ false → None ≡ trailing (single_label_views xs)
 nothing_trails xs r end greatest last h =
     ap (option_map (λ (e : ℕ × LabelModel). e.1)) (sym (no_entry xs r end greatest last h))
 
 -- no message trails, and all labels may hang
-pub none_trails : (xs : List SingleLabelTuple) (r : Option ℕ) (end : ℕ) → end ≡ greatest_end (single_label_views xs)
+pub none_trails : (xs : List SingleLabelTuple) (r : Option ℕ) (end : ℕ) → end ≡ max_label_end (single_label_views xs)
     → last_with_end end (single_label_views xs) ≡ label_entry_view xs r
     → option_map_or (does_trail (single_label_views xs)) (label_entry_view xs r) false ≡ false → AreHanging xs xs []
 none_trails xs r end greatest last h =
@@ -197,7 +197,7 @@ none_trails xs r end greatest last h =
 -- the best of two lists
 best_append : (p : LabelModel → Bool) (found : Option LabelStyle) (xs ys : List LabelModel) → best_from p found (xs ++ ys) ≡ best_from p (best_from p found xs) ys
 best_append p found xs ys =
-    let step = λ (best : Option LabelStyle) (x : LabelModel). better best x.style in
+    let step = λ (best : Option LabelStyle) (x : LabelModel). primary_first best x.style in
     ap (fold step found) (filter-append p xs ys) ∙ fold-append step found (filter p xs) (filter p ys)
 
 -- after a secondary style only a primary one counts
@@ -206,7 +206,7 @@ best_later c [] = refl
 best_later c (x ∷ xs) = best-cons (starts_in c) (Some Secondary) x xs ∙ by_style (best_later c xs) (starts_in c x) x.style
   where
     by_style : best_from (starts_in c) (Some Secondary) xs ≡ Some (pointer_style xs c) → (b : Bool) (s : LabelStyle)
-        → best_from (starts_in c) (if b then better (Some Secondary) s else Some Secondary) xs
+        → best_from (starts_in c) (if b then primary_first (Some Secondary) s else Some Secondary) xs
         ≡ Some (if (is_primary_style s && b) || list_any (λ y. is_primary y && starts_in c y) xs then Primary else Secondary)
     by_style more true Primary = best-primary (starts_in c) xs
     by_style more true Secondary = more
@@ -219,7 +219,7 @@ best_is c [] = refl
 best_is c (x ∷ xs) = best-cons (starts_in c) None x xs ∙ by_style (best_is c xs) (starts_in c x) x.style
   where
     by_style : best_from (starts_in c) None xs ≡ pointer_found xs c → (b : Bool) (s : LabelStyle)
-        → best_from (starts_in c) (if b then better None s else None) xs
+        → best_from (starts_in c) (if b then primary_first None s else None) xs
         ≡ (if b || list_any (starts_in c) xs then Some (if (is_primary_style s && b) || list_any (λ y. is_primary y && starts_in c y) xs then Primary else Secondary) else None)
     by_style more true Primary = best-primary (starts_in c) xs
     by_style more true Secondary = best_later c xs
@@ -244,12 +244,12 @@ pointer_is labels before after c h =
 -- a step over the label at an index
 pub best_step : (c : Metrics) (found best : Option LabelStyle) (xs : List SingleLabelTuple) (i : ℕ) (d : SingleLabelTuple) (empty : Bool) → i < length xs
     → empty ≡ (length (get_or xs i d).2.now == 0)
-    → best ≡ (if not empty then (if starts_in c (single_label_view (get_or xs i d)) then better found (get_or xs i d).0 else found) else found)
+    → best ≡ (if not empty then (if starts_in c (single_label_view (get_or xs i d)) then primary_first found (get_or xs i d).0 else found) else found)
     → best_from (starts_in c) best (filter has_message (single_label_views (drop (i + 1) xs))) ≡ best_from (starts_in c) found (filter has_message (single_label_views (drop i xs)))
 best_step c found best xs i d empty h is e = rw (drop-cons xs i d h, add-one, e, spaces_is, ← is) (by_message (get_or xs i d) (not empty))
   where
     by_message : (x : SingleLabelTuple) (b : Bool)
-        → best_from (starts_in c) (if b then (if starts_in c (single_label_view x) then better found x.0 else found) else found) (filter has_message (single_label_views (drop (suc i) xs)))
+        → best_from (starts_in c) (if b then (if starts_in c (single_label_view x) then primary_first found x.0 else found) else found) (filter has_message (single_label_views (drop (suc i) xs)))
         ≡ best_from (starts_in c) found (cond b (single_label_view x ∷ filter has_message (single_label_views (drop (suc i) xs))) (filter has_message (single_label_views (drop (suc i) xs))))
     by_message x true = sym (best-cons (starts_in c) found (single_label_view x) (filter has_message (single_label_views (drop (suc i) xs))))
     by_message x false = refl
@@ -271,25 +271,25 @@ pointers_next context labels before c cs h =
 
 -- no label hangs from the character
 pub pointer_none : (context : RowContext) (labels : List LabelModel) (c : Metrics) → pointer_found (hanging labels) c ≡ None
-    → pointer_at context labels (hanging labels) c ≡ spaces_up_to (greatest_start labels) c c.width
+    → pointer_at context labels (hanging labels) c ≡ spaces_up_to (max_label_start labels) c c.width
 unfolding pointer_at
 pointer_none context labels c h = by_test (list_any (starts_in c) (hanging labels)) refl h
   where
     by_test : (b : Bool) → list_any (starts_in c) (hanging labels) ≡ b → (if b then Some (pointer_style (hanging labels) c) else None) ≡ None
-        → pointer_at context labels (hanging labels) c ≡ spaces_up_to (greatest_start labels) c c.width
+        → pointer_at context labels (hanging labels) c ≡ spaces_up_to (max_label_start labels) c c.width
     by_test true is h = cc
     by_test false is h = rw is refl
 
 -- a label of this style hangs from it
 pub pointer_some : (context : RowContext) (labels : List LabelModel) (c : Metrics) (style : LabelStyle) → pointer_found (hanging labels) c ≡ Some style
     → pointer_at context labels (hanging labels) c
-    ≡ label_glyph context.severity style context.chars.pointer_left ++ spaces_up_to (greatest_start labels) c (c.width - 1)
+    ≡ label_glyph context.severity style context.chars.pointer_left ++ spaces_up_to (max_label_start labels) c (c.width - 1)
 unfolding pointer_at
 pointer_some context labels c style h = by_test (list_any (starts_in c) (hanging labels)) refl h
   where
     by_test : (b : Bool) → list_any (starts_in c) (hanging labels) ≡ b → (if b then Some (pointer_style (hanging labels) c) else None) ≡ Some style
         → pointer_at context labels (hanging labels) c
-        ≡ label_glyph context.severity style context.chars.pointer_left ++ spaces_up_to (greatest_start labels) c (c.width - 1)
+        ≡ label_glyph context.severity style context.chars.pointer_left ++ spaces_up_to (max_label_start labels) c (c.width - 1)
     by_test true is h = let same : pointer_style (hanging labels) c ≡ style = cc in rw (is, same) refl
     by_test false is h = cc
 
@@ -310,7 +310,7 @@ spaces_past reach c width s h =
 
 -- what is still to be written begins with the pending spaces and a pointer
 pub pointer_first : (context : RowContext) (labels : List LabelModel) (before reach : ℕ) (left : List Metrics) (c : Metrics) (cs : List Metrics) (pending : ℕ) (style : LabelStyle)
-    → reach ≡ greatest_start labels → left ≡ c ∷ cs → c.byte_index < before → pointer_found (hanging labels) c ≡ Some style
+    → reach ≡ max_label_start labels → left ≡ c ∷ cs → c.byte_index < before → pointer_found (hanging labels) c ≡ Some style
     → spaces pending ++ pointers context labels (metrics_before before left)
     ≡ (spaces pending ++ label_glyph context.severity style context.chars.pointer_left)
     ++ (spaces_up_to reach c (c.width - 1) ++ pointers context labels (metrics_before before cs))
@@ -319,7 +319,7 @@ pointer_first context labels before reach left c cs pending style far step h fou
 
 -- it begins with the pending spaces and those of a character
 pub spaces_first : (context : RowContext) (labels : List LabelModel) (before reach : ℕ) (left : List Metrics) (c : Metrics) (cs : List Metrics) (pending : ℕ)
-    → reach ≡ greatest_start labels → left ≡ c ∷ cs → c.byte_index < before → pointer_found (hanging labels) c ≡ None
+    → reach ≡ max_label_start labels → left ≡ c ∷ cs → c.byte_index < before → pointer_found (hanging labels) c ≡ None
     → spaces pending ++ pointers context labels (metrics_before before left)
     ≡ spaces pending ++ (spaces_up_to reach c c.width ++ pointers context labels (metrics_before before cs))
 spaces_first context labels before reach left c cs pending far step h found =

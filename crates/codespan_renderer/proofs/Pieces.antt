@@ -7,7 +7,7 @@ use Rattle.std.proofs.lemmas.List.{map-append, take-append-drop}
 use Rattle.std.proofs.lemmas.List.Sums.{fold-append}
 use Rattle.codespan_base.specs.Labels.{LabelModel}
 use Rattle.codespan_picture.specs.Arguments.{SingleLabelTuple, single_label_view, single_label_views}
-use Rattle.codespan_picture.specs.RowParts.{greatest_start}
+use Rattle.codespan_picture.specs.RowParts.{max_label_start}
 use Rattle.codespan_picture.proofs.HangingStarts.{fold_start-le}
 use Rattle.codespan_renderer.specs.Private.Runs.{ArePieces}
 use Rattle.codespan_renderer.specs.Private.LabelCursors.{starts_from, starts_in_order}
@@ -54,20 +54,20 @@ grows : (m n : ℕ) (xs : List LabelModel) → m ≤ n → fold (λ k (x : Label
 grows m n [] h = h
 grows m n (x ∷ xs) h = grows (max m x.start) (max n x.start) xs (omega arith)
 
-front-near : (xs ys : List LabelModel) → greatest_start xs ≤ greatest_start (xs ++ ys)
-front-near xs ys = let more = fold_start-le (greatest_start xs) ys in omega (arith, fold-append (λ k (x : LabelModel). max k x.start) 0 xs ys)
+front-near : (xs ys : List LabelModel) → max_label_start xs ≤ max_label_start (xs ++ ys)
+front-near xs ys = let more = fold_start-le (max_label_start xs) ys in omega (arith, fold-append (λ k (x : LabelModel). max k x.start) 0 xs ys)
 
-back-near : (xs ys : List LabelModel) → greatest_start ys ≤ greatest_start (xs ++ ys)
-back-near xs ys = let more = grows 0 (greatest_start xs) ys (omega arith) in omega (arith, fold-append (λ k (x : LabelModel). max k x.start) 0 xs ys)
+back-near : (xs ys : List LabelModel) → max_label_start ys ≤ max_label_start (xs ++ ys)
+back-near xs ys = let more = grows 0 (max_label_start xs) ys (omega arith) in omega (arith, fold-append (λ k (x : LabelModel). max k x.start) 0 xs ys)
 
 -- no label before the trailing one starts past all
-pub before-near : (labels before after : List SingleLabelTuple) → ArePieces labels before after → greatest_start (single_label_views before) ≤ greatest_start (single_label_views labels)
+pub before-near : (labels before after : List SingleLabelTuple) → ArePieces labels before after → max_label_start (single_label_views before) ≤ max_label_start (single_label_views labels)
 before-near labels before after p =
-    let e = ap greatest_start (whole before p.rest labels p.begins) in
+    let e = ap max_label_start (whole before p.rest labels p.begins) in
     omega (arith, e, front-near (single_label_views before) (single_label_views p.rest))
 
 -- nor does one after it
-pub after-near : (labels before after : List SingleLabelTuple) → ArePieces labels before after → greatest_start (single_label_views after) ≤ greatest_start (single_label_views labels)
+pub after-near : (labels before after : List SingleLabelTuple) → ArePieces labels before after → max_label_start (single_label_views after) ≤ max_label_start (single_label_views labels)
 after-near labels before after p =
-    let e = ap greatest_start (whole p.skipped after labels p.ends) in
+    let e = ap max_label_start (whole p.skipped after labels p.ends) in
     omega (arith, e, back-near (single_label_views p.skipped) (single_label_views after))

@@ -14,11 +14,11 @@ use Rattle.codespan_base.specs.Labels.{LabelModel, LaneMark, is_primary, is_prim
 use Rattle.codespan_base.specs.Streams.{bytes, glyph}
 use Rattle.codespan_base.proofs.Writes.{bytes-append}
 use Rattle.codespan_picture.specs.declared.char_metrics.Metrics.{Metrics}
-use Rattle.codespan_picture.specs.Carets.{covers, greatest_end}
+use Rattle.codespan_picture.specs.Carets.{covers, max_label_end}
 use Rattle.codespan_picture.specs.Types.{LabelStyle, Primary}
 use Rattle.codespan_picture.proofs.CaretEnds.{style_under-below}
 use Rattle.codespan_renderer.specs.declared.term.renderer.primary_lane_marks.PrimaryLaneMarks.{PrimaryLaneMarks}
-use Rattle.codespan_renderer.specs.Private.PrimaryLaneMarks.{AreLaneMarksOf, is_marked}
+use Rattle.codespan_renderer.specs.Private.PrimaryLaneMarks.{CoversAsMarks, is_marked}
 use Rattle.codespan_renderer.proofs.RowWords.{change-same}
 use Rattle.codespan_renderer.proofs.TextRuns.{IsOver, text-end, text_rest}
 use Rattle.codespan_picture.specs.CharMetrics.{metrics_then, width_at}
@@ -104,7 +104,7 @@ colored-seen context line labels marks tab l m t u no_label no_lane_mark no_tab 
 -- ---- the end of a text
 
 -- past the greatest end of the labels none of them has a byte of a character
-no-label-past : (labels : List LabelModel) (c : Metrics) → greatest_end labels ≤ c.byte_index → list_any (λ x. is_primary x && covers x c) labels ≡ false
+no-label-past : (labels : List LabelModel) (c : Metrics) → max_label_end labels ≤ c.byte_index → list_any (λ x. is_primary x && covers x c) labels ≡ false
 no-label-past labels c past = by_test (list_any (λ x. is_primary x && covers x c) labels) refl
   where
     by_test : (b : Bool) → list_any (λ x. is_primary x && covers x c) labels ≡ b → list_any (λ x. is_primary x && covers x c) labels ≡ false
@@ -112,8 +112,8 @@ no-label-past labels c past = by_test (list_any (λ x. is_primary x && covers x 
     by_test false is = is
 
 -- past that and what marks cover no character is primary
-pub no-style-past : (line : Line) (given : PrimaryLaneMarks) (c : Metrics) → AreLaneMarksOf line.lanes.marks given → is_marked given c ≡ false
-    → greatest_end line.labels ≤ c.byte_index → 1 ≤ c.bytes → source_style line c ≡ None
+pub no-style-past : (line : Line) (given : PrimaryLaneMarks) (c : Metrics) → CoversAsMarks line.lanes.marks given → is_marked given c ≡ false
+    → max_label_end line.labels ≤ c.byte_index → 1 ≤ c.bytes → source_style line c ≡ None
 no-style-past line given c are none past some = rw (no-label-past line.labels c past, ← are c some, none) refl
 
 -- the text from one byte index on has no tab where that from an earlier one has none

@@ -8,7 +8,7 @@ use Rattle.codespan_renderer.specs.declared.term.renderer.cached.pointers.Pointe
 use Rattle.codespan_picture.specs.Arguments.{SingleLabelTuple, single_label_views}
 use Rattle.codespan_renderer.specs.Private.PointerLists.{pointer_under, pointers_in, HasPassed}
 use Rattle.codespan_picture.specs.Rows.{hanging}
-use Rattle.codespan_picture.specs.RowParts.{greatest_start, starts_in}
+use Rattle.codespan_picture.specs.RowParts.{max_label_start, starts_in}
 use Rattle.codespan_picture.proofs.HangingStarts.{any-below, any-hanging, starts_in-low}
 use Rattle.std.specs.List.{list_any}
 use Rattle.codespan_renderer.specs.Private.Runs.{best_from, pointer_found, AreHanging}
@@ -102,26 +102,26 @@ passing-start before after s t cs early late same_early same_late consecutive = 
 -- ---- past the greatest start
 
 -- the test of a character from which labels hang
-none-test : (labels : List LabelModel) (c : Metrics) (b : Bool) → greatest_start labels < c.byte_index → list_any (starts_in c) (hanging labels) ≡ b → b ≡ false
+none-test : (labels : List LabelModel) (c : Metrics) (b : Bool) → max_label_start labels < c.byte_index → list_any (starts_in c) (hanging labels) ≡ b → b ≡ false
 none-test labels c true past is =
     let low = any-below 0 c.byte_index (starts_in c) labels (λ x. starts_in-low c x) (any-hanging (starts_in c) labels is) in
     absurd (omega arith)
 none-test labels c false past is = refl
 
 -- no label hangs from a character there
-none-past : (labels : List LabelModel) (c : Metrics) → greatest_start labels < c.byte_index → pointer_found (hanging labels) c ≡ None
+none-past : (labels : List LabelModel) (c : Metrics) → max_label_start labels < c.byte_index → pointer_found (hanging labels) c ≡ None
 none-past labels c past = rw (none-test labels c (list_any (starts_in c) (hanging labels)) past refl) refl
 
 -- where all characters begin there, there is no pointer
-pointers-past : (labels : List LabelModel) (byte_index column : ℕ) (cs : List Metrics) → AreConsecutive byte_index column cs → greatest_start labels < byte_index → pointers_in (hanging labels) cs ≡ []
+pointers-past : (labels : List LabelModel) (byte_index column : ℕ) (cs : List Metrics) → AreConsecutive byte_index column cs → max_label_start labels < byte_index → pointers_in (hanging labels) cs ≡ []
 pointers-past labels byte_index column [] consecutive past = refl
 pointers-past labels byte_index column (c ∷ cs) consecutive past =
-    let there : greatest_start labels < c.byte_index = omega (arith, consecutive.0) in
+    let there : max_label_start labels < c.byte_index = omega (arith, consecutive.0) in
     rw (none-past labels c there) (pointers-past labels (byte_index + c.bytes) (column + c.width) cs consecutive.3 (omega arith))
 
 -- the next cell begins past the starts, and so do all that follow
 pub pointers-past-at : (labels before after : List SingleLabelTuple) (s t : StartCursor) (last : ℕ) (cs left : List Metrics) (c : Metrics) → cs ≡ c ∷ left
-    → IsPassing before after s t cs → last < c.byte_index → last ≡ greatest_start (single_label_views labels)
+    → IsPassing before after s t cs → last < c.byte_index → last ≡ max_label_start (single_label_views labels)
     → pointers_in (hanging (single_label_views labels)) cs ≡ []
 pointers-past-at labels before after s t last cs left c step w past e =
     let consecutive : AreConsecutive w.byte_index w.column (c ∷ left) = rw step at w.consecutive in

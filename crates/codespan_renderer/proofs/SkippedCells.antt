@@ -10,7 +10,7 @@ use Rattle.std.proofs.lemmas.List.Sums.{sum_by-cons}
 use Rattle.unicode_width.proofs.Rules.{width_or_zero, width_or_zero-le}
 use Rattle.codespan_base.specs.Labels.{LabelModel, is_primary}
 use Rattle.codespan_picture.specs.declared.char_metrics.Metrics.{Metrics}
-use Rattle.codespan_picture.specs.Carets.{covers, greatest_end, style_under}
+use Rattle.codespan_picture.specs.Carets.{covers, max_label_end, style_under}
 use Rattle.codespan_picture.specs.CharMetrics.{metrics_then, char_metrics_to_end, placeholder, width_at, width_of}
 use Rattle.codespan_picture.specs.Arguments.{SingleLabelTuple, single_label_view, single_label_views}
 use Rattle.codespan_picture.specs.Rows.{RowContext}
@@ -50,19 +50,19 @@ bare end labels c ended = rw (none-over end is_primary c labels ended, none-over
 
 -- the carets of a line, of which the first characters are left out
 carets-more : (context : RowContext) (labels : List LabelModel) (top byte_index column run : ℕ) (before left : List Metrics) → ConsecutiveWithin top byte_index column (before ++ left)
-    → EndBy (least_start (greatest_end labels) labels) before
+    → EndBy (least_start (max_label_end labels) labels) before
     → carets_left context labels None run (before ++ left) ≡ carets_left context labels None (run + width_of before) left
 carets-more context labels top byte_index column run [] left consecutive_within ended = ap (λ n. carets_left context labels None n left) (sym (add-zero run))
 carets-more context labels top byte_index column run (c ∷ cs) left consecutive_within ended =
-    let least = least-le (greatest_end labels) labels in
-    let low : c.byte_index < greatest_end labels = omega (arith, consecutive_within.0.some, ended.0) in
-    let none = bare (greatest_end labels) labels c ended.0 in
-    carets-same context labels None None run c.width c (c ∷ cs ++ left) (cs ++ left) refl (sym none) (counts-all None (greatest_end labels) c low) refl
+    let least = least-le (max_label_end labels) labels in
+    let low : c.byte_index < max_label_end labels = omega (arith, consecutive_within.0.some, ended.0) in
+    let none = bare (max_label_end labels) labels c ended.0 in
+    carets-same context labels None None run c.width c (c ∷ cs ++ left) (cs ++ left) refl (sym none) (counts-all None (max_label_end labels) c low) refl
     ∙ carets-more context labels top (byte_index + c.bytes) (column + c.width) (run + c.width) cs left consecutive_within.1 ended.1
     ∙ ap (λ n. carets_left context labels None n left) (omega (arith, sum_by-cons (λ (x : Metrics). x.width) c cs))
 
 pub carets-prefix : (context : RowContext) (labels : List LabelModel) (top column : ℕ) (all left : List Metrics) (scan_state : ScanState top 0 all)
-    → LeavesOut (least_start (greatest_end labels) labels) all column left → carets_left context labels None column left ≡ carets context labels all
+    → LeavesOut (least_start (max_label_end labels) labels) all column left → carets_left context labels None column left ≡ carets context labels all
 carets-prefix context labels top column all left scan_state out =
     let consecutive_within : ConsecutiveWithin top scan_state.byte_index scan_state.column (out.before ++ left) = subst (λ (cs : List Metrics). ConsecutiveWithin top scan_state.byte_index scan_state.column cs) (sym out.whole) scan_state.consecutive_within in
     ap (λ n. carets_left context labels None n left) (omega (arith, out.width))

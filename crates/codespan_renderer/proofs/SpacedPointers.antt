@@ -11,7 +11,7 @@ use Rattle.codespan_picture.specs.CharMetrics.{width_of}
 use Rattle.codespan_picture.specs.Lanes.{label_glyph}
 use Rattle.codespan_renderer.specs.Private.PointerLists.{pointer_under, pointers_in, pointers_before, spaced}
 use Rattle.codespan_picture.specs.Rows.{RowContext, hanging}
-use Rattle.codespan_picture.specs.RowParts.{starts_in, pointer_style, greatest_start, spaces_up_to, pointers, metrics_before, metrics_up_to}
+use Rattle.codespan_picture.specs.RowParts.{starts_in, pointer_style, max_label_start, spaces_up_to, pointers, metrics_before, metrics_up_to}
 use Rattle.codespan_renderer.specs.Private.Runs.{pointer_found}
 use Rattle.std.specs.Prelude.{if◌then◌else◌}
 use Rattle.std.specs.List.{list_any, push}
@@ -49,11 +49,11 @@ spaced-end context edge column before ps i h = let none : drop i ps ≡ [] = gri
 -- ---- the pointers of cells
 
 -- what is found by a test holds only of characters that begin at the greatest start or before it
-found-near : (labels : List LabelModel) (c : Metrics) (style : LabelStyle) → pointer_found (hanging labels) c ≡ Some style → c.byte_index ≤ greatest_start labels
+found-near : (labels : List LabelModel) (c : Metrics) (style : LabelStyle) → pointer_found (hanging labels) c ≡ Some style → c.byte_index ≤ max_label_start labels
 found-near labels c style found = by_test (list_any (starts_in c) (hanging labels)) refl found
   where
     by_test : (b : Bool) → list_any (starts_in c) (hanging labels) ≡ b → (if b then Some (pointer_style (hanging labels) c) else None) ≡ Some style
-        → c.byte_index ≤ greatest_start labels
+        → c.byte_index ≤ max_label_start labels
     by_test true is h = any-below 0 c.byte_index (starts_in c) labels (starts_in-low c) (any-hanging (starts_in c) labels is)
     by_test false is h = cc
 
@@ -61,9 +61,9 @@ found-near labels c style found = by_test (list_any (starts_in c) (hanging label
 record ShowsNothing (context : RowContext) (labels : List LabelModel) (cs : List Metrics) : Type 0 where
   pub drawn : pointers context labels cs ≡ []
   pub found : pointers_in (hanging labels) cs ≡ []
-  pub width : width_of (metrics_up_to (greatest_start labels) cs) ≡ 0
+  pub width : width_of (metrics_up_to (max_label_start labels) cs) ≡ 0
 
-far-char_metrics : (context : RowContext) (labels : List LabelModel) (byte_index column : ℕ) (cs : List Metrics) → AreConsecutive byte_index column cs → greatest_start labels < byte_index
+far-char_metrics : (context : RowContext) (labels : List LabelModel) (byte_index column : ℕ) (cs : List Metrics) → AreConsecutive byte_index column cs → max_label_start labels < byte_index
     → ShowsNothing context labels cs
 unfolding pointers
 far-char_metrics context labels byte_index column [] adjacent far = record { drawn = refl; found = refl; width = refl }
@@ -71,12 +71,12 @@ far-char_metrics context labels byte_index column (c ∷ cs) adjacent far =
     by_found (let here = adjacent.0 in omega arith) (far-char_metrics context labels (byte_index + c.bytes) (column + c.width) cs adjacent.3 (omega arith))
     (pointer_found (hanging labels) c) refl
   where
-    by_found : greatest_start labels < c.byte_index → ShowsNothing context labels cs → (o : Option LabelStyle) → pointer_found (hanging labels) c ≡ o
+    by_found : max_label_start labels < c.byte_index → ShowsNothing context labels cs → (o : Option LabelStyle) → pointer_found (hanging labels) c ≡ o
         → ShowsNothing context labels (c ∷ cs)
     by_found past rest None is = record {
-      drawn = rw (pointer_none context labels c is, spaces_past (greatest_start labels) c c.width (pointers context labels cs) past) rest.drawn;
+      drawn = rw (pointer_none context labels c is, spaces_past (max_label_start labels) c c.width (pointers context labels cs) past) rest.drawn;
       found = rw is rest.found;
-      width = width-out (greatest_start labels) c cs past ∙ rest.width;
+      width = width-out (max_label_start labels) c cs past ∙ rest.width;
     }
     by_found past rest (Some style) is = absurd (let near = found-near labels c style is in omega arith)
 
@@ -86,45 +86,45 @@ regroup_pointer pending lane_mark after rest = simp append_assoc
 -- the pending spaces, and then what the cells show
 pub spaced-char_metrics : (context : RowContext) (labels : List LabelModel) (byte_index column at : ℕ) (cs : List Metrics) → AreConsecutive byte_index column cs → at ≤ column
     → spaces (column - at) ++ pointers context labels cs
-    ≡ spaced context (column + width_of (metrics_up_to (greatest_start labels) cs)) at (pointers_in (hanging labels) cs)
+    ≡ spaced context (column + width_of (metrics_up_to (max_label_start labels) cs)) at (pointers_in (hanging labels) cs)
 unfolding pointers
 spaced-char_metrics context labels byte_index column at [] adjacent low = let e : column + 0 ≡ column = omega arith in rw e (append-nil (spaces (column - at)))
 spaced-char_metrics context labels byte_index column at (c ∷ cs) adjacent low =
-    by_reach (λ from h. spaced-char_metrics context labels (byte_index + c.bytes) (column + c.width) from cs adjacent.3 h) (nat_le c.byte_index (greatest_start labels)) refl
+    by_reach (λ from h. spaced-char_metrics context labels (byte_index + c.bytes) (column + c.width) from cs adjacent.3 h) (nat_le c.byte_index (max_label_start labels)) refl
   where
     by_reach : ((from : ℕ) → from ≤ column + c.width
         → spaces (column + c.width - from) ++ pointers context labels cs
-        ≡ spaced context (column + c.width + width_of (metrics_up_to (greatest_start labels) cs)) from (pointers_in (hanging labels) cs))
-        → (b : Bool) → nat_le c.byte_index (greatest_start labels) ≡ b
+        ≡ spaced context (column + c.width + width_of (metrics_up_to (max_label_start labels) cs)) from (pointers_in (hanging labels) cs))
+        → (b : Bool) → nat_le c.byte_index (max_label_start labels) ≡ b
         → spaces (column - at) ++ pointers context labels (c ∷ cs)
-        ≡ spaced context (column + width_of (metrics_up_to (greatest_start labels) (c ∷ cs))) at (pointers_in (hanging labels) (c ∷ cs))
+        ≡ spaced context (column + width_of (metrics_up_to (max_label_start labels) (c ∷ cs))) at (pointers_in (hanging labels) (c ∷ cs))
     by_reach again true near = by_found (pointer_found (hanging labels) c) refl
       where
-        low_byte_index : c.byte_index ≤ greatest_start labels
+        low_byte_index : c.byte_index ≤ max_label_start labels
         low_byte_index = grind (arith, nat_tests)
 
-        edges : column + width_of (metrics_up_to (greatest_start labels) (c ∷ cs)) ≡ column + c.width + width_of (metrics_up_to (greatest_start labels) cs)
-        edges = omega (arith, width-in (greatest_start labels) c cs low_byte_index)
+        edges : column + width_of (metrics_up_to (max_label_start labels) (c ∷ cs)) ≡ column + c.width + width_of (metrics_up_to (max_label_start labels) cs)
+        edges = omega (arith, width-in (max_label_start labels) c cs low_byte_index)
 
         by_found : (o : Option LabelStyle) → pointer_found (hanging labels) c ≡ o
             → spaces (column - at) ++ pointers context labels (c ∷ cs)
-            ≡ spaced context (column + width_of (metrics_up_to (greatest_start labels) (c ∷ cs))) at (pointers_in (hanging labels) (c ∷ cs))
+            ≡ spaced context (column + width_of (metrics_up_to (max_label_start labels) (c ∷ cs))) at (pointers_in (hanging labels) (c ∷ cs))
         by_found None is =
             let more : column - at + c.width ≡ column + c.width - at = omega arith in
-            rw (pointer_none context labels c is, spaces_due (greatest_start labels) c (column - at) c.width (pointers context labels cs) low_byte_index, is, edges, more)
+            rw (pointer_none context labels c is, spaces_due (max_label_start labels) c (column - at) c.width (pointers context labels cs) low_byte_index, is, edges, more)
             (again at (omega arith))
         by_found (Some style) is =
             let lane_mark = label_glyph context.severity style context.chars.pointer_left in
             let rest = pointers context labels cs in
-            let far_edge = column + c.width + width_of (metrics_up_to (greatest_start labels) cs) in
+            let far_edge = column + c.width + width_of (metrics_up_to (max_label_start labels) cs) in
             let more : 0 + (c.width - 1) ≡ column + c.width - (column + min c.width 1) = omega arith in
             let drawn : spaces (column - at) ++ pointers context labels (c ∷ cs)
-            ≡ spaced context (column + c.width + width_of (metrics_up_to (greatest_start labels) cs)) at (pointers_in (hanging labels) (c ∷ cs)) =
+            ≡ spaced context (column + c.width + width_of (metrics_up_to (max_label_start labels) cs)) at (pointers_in (hanging labels) (c ∷ cs)) =
             rw (pointer_some context labels c style is, is)
-            (regroup_pointer (spaces (column - at)) lane_mark (spaces_up_to (greatest_start labels) c (c.width - 1)) rest
+            (regroup_pointer (spaces (column - at)) lane_mark (spaces_up_to (max_label_start labels) c (c.width - 1)) rest
             ∙ ap (λ s. spaces (column - at) ++ lane_mark ++ s)
-            (sym (spaces_none (spaces_up_to (greatest_start labels) c (c.width - 1) ++ rest))
-            ∙ spaces_due (greatest_start labels) c 0 (c.width - 1) rest low_byte_index
+            (sym (spaces_none (spaces_up_to (max_label_start labels) c (c.width - 1) ++ rest))
+            ∙ spaces_due (max_label_start labels) c 0 (c.width - 1) rest low_byte_index
             ∙ ap (λ n. spaces n ++ rest) more
             ∙ again (column + min c.width 1) (omega arith))
             ∙ ap (λ k. spaces (k - at) ++ lane_mark ++ spaced context far_edge (k + min c.width 1) (pointers_in (hanging labels) cs)) (sym adjacent.1)) in
@@ -136,9 +136,9 @@ spaced-char_metrics context labels byte_index column at (c ∷ cs) adjacent low 
 
 -- all cells from the line's start
 pub spaced-line : (context : RowContext) (labels : List LabelModel) (cs : List Metrics) → AreConsecutive 0 0 cs
-    → spaced context (width_of (metrics_up_to (greatest_start labels) cs)) 0 (pointers_in (hanging labels) cs) ≡ pointers context labels cs
+    → spaced context (width_of (metrics_up_to (max_label_start labels) cs)) 0 (pointers_in (hanging labels) cs) ≡ pointers context labels cs
 spaced-line context labels cs adjacent =
-    let e : width_of (metrics_up_to (greatest_start labels) cs) ≡ 0 + width_of (metrics_up_to (greatest_start labels) cs) = omega arith in
+    let e : width_of (metrics_up_to (max_label_start labels) cs) ≡ 0 + width_of (metrics_up_to (max_label_start labels) cs) = omega arith in
     ap (λ n. spaced context n 0 (pointers_in (hanging labels) cs)) e
     ∙ sym (spaced-char_metrics context labels 0 0 0 cs adjacent (omega arith)) ∙ spaces_none (pointers context labels cs)
 
@@ -181,25 +181,25 @@ before-reach before reach (c ∷ cs) low = by_test (before-reach before reach cs
     by_test rest false is = rest
 
 -- the cells before a byte index from the line's start
-pub spaced-before : (context : RowContext) (labels : List LabelModel) (before : ℕ) (cs : List Metrics) → AreConsecutive 0 0 cs → before ≤ greatest_start labels
+pub spaced-before : (context : RowContext) (labels : List LabelModel) (before : ℕ) (cs : List Metrics) → AreConsecutive 0 0 cs → before ≤ max_label_start labels
     → spaced context (width_of (metrics_before before cs)) 0 (pointers_before before (pointers_in (hanging labels) cs)) ≡ pointers context labels (metrics_before before cs)
 spaced-before context labels before cs adjacent near =
-    ap (λ ds. spaced context (width_of ds) 0 (pointers_before before (pointers_in (hanging labels) cs))) (sym (before-reach before (greatest_start labels) cs near))
-    ∙ ap (spaced context (width_of (metrics_up_to (greatest_start labels) (metrics_before before cs))) 0) (sym (before-found (hanging labels) before cs))
+    ap (λ ds. spaced context (width_of ds) 0 (pointers_before before (pointers_in (hanging labels) cs))) (sym (before-reach before (max_label_start labels) cs near))
+    ∙ ap (spaced context (width_of (metrics_up_to (max_label_start labels) (metrics_before before cs))) 0) (sym (before-found (hanging labels) before cs))
     ∙ spaced-line context labels (metrics_before before cs) (before-consecutive before 0 0 cs adjacent)
 
 -- ---- as rows have them
 
 -- all pointers of a line
 pub spaced-all : (context : RowContext) (labels : List LabelModel) (cs : List Metrics) (ps : List Pointer) (top reach edge : ℕ) → AreConsecutive 0 0 cs → metrics_before top cs ≡ cs
-    → ps ≡ pointers_in (hanging labels) cs → reach ≡ greatest_start labels → edge ≡ width_of (metrics_up_to reach cs)
+    → ps ≡ pointers_in (hanging labels) cs → reach ≡ max_label_start labels → edge ≡ width_of (metrics_up_to reach cs)
     → spaced context edge 0 (pointers_before top ps) ≡ pointers context labels cs
 spaced-all context labels cs ps top reach edge adjacent all found far wide =
     let cached = sym (before-found (hanging labels) top cs) ∙ ap (pointers_in (hanging labels)) all in
     rw (wide, far, found, cached) (spaced-line context labels cs adjacent)
 
 -- those before a byte index
-pub spaced-near : (context : RowContext) (labels : List LabelModel) (cs : List Metrics) (ps : List Pointer) (before edge : ℕ) → AreConsecutive 0 0 cs → before ≤ greatest_start labels
+pub spaced-near : (context : RowContext) (labels : List LabelModel) (cs : List Metrics) (ps : List Pointer) (before edge : ℕ) → AreConsecutive 0 0 cs → before ≤ max_label_start labels
     → ps ≡ pointers_in (hanging labels) cs → edge ≡ width_of (metrics_before before cs)
     → spaced context edge 0 (pointers_before before ps) ≡ pointers context labels (metrics_before before cs)
 spaced-near context labels cs ps before edge adjacent near found wide =
@@ -210,11 +210,11 @@ spaced-near context labels cs ps before edge adjacent near found wide =
 -- the last of the remaining labels starts no later than the greatest start, nor do the others
 pub record IsNear (rest : List SingleLabelTuple) (x : SingleLabelTuple) (reach : ℕ) : Type 0 where
   pub here : x.1.start ≤ reach
-  pub others : greatest_start (single_label_views rest) ≤ reach
+  pub others : max_label_start (single_label_views rest) ≤ reach
 
-pub near-last : (left rest : List SingleLabelTuple) (x : SingleLabelTuple) (reach : ℕ) → left ≡ push rest x → greatest_start (single_label_views left) ≤ reach → IsNear rest x reach
+pub near-last : (left rest : List SingleLabelTuple) (x : SingleLabelTuple) (reach : ℕ) → left ≡ push rest x → max_label_start (single_label_views left) ≤ reach → IsNear rest x reach
 near-last left rest x reach step near =
-    let parts : greatest_start (single_label_views left) ≡ max (greatest_start (single_label_views rest)) x.1.start =
-    ap (λ xs. greatest_start (single_label_views xs)) step ∙ ap greatest_start (map-append single_label_view rest (x ∷ []))
+    let parts : max_label_start (single_label_views left) ≡ max (max_label_start (single_label_views rest)) x.1.start =
+    ap (λ xs. max_label_start (single_label_views xs)) step ∙ ap max_label_start (map-append single_label_view rest (x ∷ []))
     ∙ fold-append (λ m (y : LabelModel). max m y.start) 0 (single_label_views rest) (single_label_view x ∷ []) in
     record { here = omega arith; others = omega arith }

@@ -8,7 +8,7 @@ use Rattle.codespan_base.specs.Labels.{LabelModel, has_message}
 use Rattle.codespan_picture.specs.declared.char_metrics.Metrics.{Metrics}
 use Rattle.codespan_picture.specs.Arguments.{SingleLabelTuple, single_label_view, single_label_views}
 use Rattle.codespan_picture.specs.RowParts.{starts_in}
-use Rattle.codespan_renderer.specs.Private.Runs.{better, best_from}
+use Rattle.codespan_renderer.specs.Private.Runs.{primary_first, best_from}
 use Rattle.codespan_renderer.specs.Private.LabelCursors.{starts_from}
 use Rattle.codespan_renderer.proofs.Best.{best-cons}
 use Rattle.codespan_renderer.proofs.Hanging.{best_step}
@@ -16,7 +16,7 @@ use Rattle.codespan_renderer.proofs.Hanging.{best_step}
 -- a label that starts in the character
 pub start-here : (c : Metrics) (found best : Option LabelStyle) (ys xs : List SingleLabelTuple) (i : ℕ) (d : SingleLabelTuple) (empty : Bool) → ys ≡ xs → i < length xs
     → empty ≡ (length (get_or xs i d).2.now == 0) → c.byte_index ≤ (get_or xs i d).1.start → (get_or xs i d).1.start < c.byte_index + c.bytes
-    → best ≡ (if not empty then better found (get_or xs i d).0 else found)
+    → best ≡ (if not empty then primary_first found (get_or xs i d).0 else found)
     → best_from (starts_in c) best (filter has_message (single_label_views (drop (i + 1) ys))) ≡ best_from (starts_in c) found (filter has_message (single_label_views (drop i ys)))
 start-here c found best ys xs i d empty same h is low high e =
     let inside : starts_in c (single_label_view (get_or xs i d)) ≡ true = grind (arith, nat_tests) in

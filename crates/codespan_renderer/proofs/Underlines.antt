@@ -23,7 +23,7 @@ use Rattle.codespan_renderer.specs.Private.LineViews.{row_lanes_view}
 use Rattle.codespan_picture.specs.Rows.{RowContext, Lanes, Line, UnderlineRow, has_underline}
 use Rattle.codespan_picture.specs.Lanes as kind
 use Rattle.codespan_picture.specs.RowParts.{row_lanes, underline, underline_message, metrics_before, metrics_up_to}
-use Rattle.codespan_renderer.specs.Private.Underlines.{run_underline, run_width}
+use Rattle.codespan_renderer.specs.Private.Underlines.{underline_by_width, underline_width}
 use Rattle.codespan_picture.specs.RowStreams.{underline_row, stream_of_rows}
 use Rattle.codespan_renderer.specs.Renderers.{later_notes}
 
@@ -54,9 +54,9 @@ pub ruleset underline_messages = (underline_message-none, underline_message-some
 -- ---- the line of an underline
 
 -- an underline is that of the width of its line
-pub underline-runs : (chars : Chars) (style : LabelStyle) (width : ℕ) (cs : List Metrics) (part : MultiLabel) → width ≡ run_width cs part
-    → underline chars style cs part ≡ run_underline chars style width part
-unfolding underline run_underline
+pub underline-runs : (chars : Chars) (style : LabelStyle) (width : ℕ) (cs : List Metrics) (part : MultiLabel) → width ≡ underline_width cs part
+    → underline chars style cs part ≡ underline_by_width chars style width part
+unfolding underline underline_by_width
 underline-runs chars style width cs (Top start) e = rw e refl
 underline-runs chars style width cs Left e = refl
 underline-runs chars style width cs (Bottom end message) e = rw e refl

@@ -9,11 +9,11 @@ use Rattle.codespan_base.specs.Errors.{IsIo}
 use Rattle.codespan_base.specs.Streams.{Stream, newline}
 use Rattle.codespan_base.specs.WriterLaw.{Writes, Sink}
 use Rattle.codespan_picture.specs.declared.arguments.Locus as rust_locus
-use Rattle.codespan_picture.specs.CharMetrics.{drawn_text}
+use Rattle.codespan_picture.specs.CharMetrics.{text_without_line_end}
 use Rattle.codespan_picture.specs.Arguments.{SingleLabelTuple, LaneMarkTuple, lanes_of, locus_view, single_label_views, text_now}
 use Rattle.codespan_picture.specs.Picture.{context_of}
 use Rattle.codespan_picture.specs.Rows.{Line, rows_of}
-use Rattle.codespan_picture.specs.RowStreams.{break_row, empty_row, header_row, start_row, stream_of_rows, first_note_row, later_note_row}
+use Rattle.codespan_picture.specs.RowStreams.{break_row, empty_row, header_row, snippet_start_row, stream_of_rows, first_note_row, later_note_row}
 use Rattle.codespan_renderer.specs.declared.term.renderer.Renderer.{Renderer}
 
 -- the writer that it renders to
@@ -60,13 +60,14 @@ rendered_header locus severity code message =
 
 -- the start of a file's snippet
 abbrev pub rendered_start : Config → ℕ → rust_locus.Locus → Stream
-rendered_start config padding locus = start_row config.chars padding (locus_view locus) ++ newline
+rendered_start config padding locus =
+    snippet_start_row config.chars padding (locus_view locus) ++ newline
 
 -- a line of the source, with the labels inside it and the multi-line label marks on it
 abbrev pub source_line : ℕ → List ℕ → List SingleLabelTuple → ℕ → List LaneMarkTuple → Line
 source_line number source labels lane_count marks = record {
   number = number;
-  text = drawn_text source;
+  text = text_without_line_end source;
   labels = single_label_views labels;
   lanes = lanes_of lane_count marks;
 }

@@ -11,12 +11,12 @@ use Rattle.codespan_base.specs.declared.term.config.Config.{Config}
 use Rattle.codespan_base.specs.FileModel.{FileModel, line_count}
 use Rattle.codespan_base.specs.Labels.{LaneMark, LabelModel, first_line, last_line, is_single, drawn_label, lane_mark_of, multi_labels, part_on}
 use Rattle.codespan_reporting.specs.declared.term.views.collect.label_annotations.LabelIndices.{LabelIndices}
-use Rattle.codespan_reporting.specs.Inner.Annotations.{Annotation, Single, Multi, is_below, is_on_line, is_of_file, line_annotations, annotations_of, annotation_if_any, shows_line}
+use Rattle.codespan_reporting.specs.Private.Annotations.{Annotation, Single, Multi, is_before, is_on_line, is_of_file, line_annotations, annotations_of, annotation_if_any, shows_line}
 use Rattle.codespan_picture.specs.Lines.{shows}
-use Rattle.codespan_reporting.specs.Inner.IndexedLabels.{index_of_file, indices_after, annotations_after}
+use Rattle.codespan_reporting.specs.Private.IndexedLabels.{index_of_file, indices_after, annotations_after}
 use Rattle.codespan_picture.specs.Snippets.{InFile}
-use Rattle.codespan_reporting.specs.Inner.LabeledFiles.{lanes_in}
-use Rattle.codespan_reporting.specs.Inner.SnippetLines.{single_label_of, single_labels_in}
+use Rattle.codespan_reporting.specs.Private.LabeledFiles.{lanes_in}
+use Rattle.codespan_reporting.specs.Private.SnippetLines.{single_label_of, single_labels_in}
 use Rattle.codespan_reporting.proofs.AnnotationOrder.{lane_mark_annotation, index_below}
 use Rattle.codespan_reporting.proofs.LabelAnnotations.{is_kind, all-of_file, all-below, annotations-line_lookups, marks-line_lookups, single_labels-line_lookups, any-line_lookups}
 use Rattle.codespan_reporting.proofs.LabelIndexing.{lanes_in-more, label_lanes}
@@ -196,12 +196,12 @@ module _ {Id : Type 0} {same : Id → Id → Bool} {file : Id → FileModel} {id
 
     -- later labels of a range are below
     single_labels-below : (start end k j : ℕ) (a : LabelModel) → k < j → has_range start end (drawn_label own_file a) ≡ true → (xs : List (InFile Id))
-        → AllByRecursion (λ e. is_below e (single_label_at k a) ≡ true) (filter (is_of_range start end) (single_labels_from j xs))
+        → AllByRecursion (λ e. is_before e (single_label_at k a) ≡ true) (filter (is_of_range start end) (single_labels_from j xs))
     single_labels-below start end k j a h t [] = tt
     single_labels-below start end k j a h t (x ∷ xs) = by_test (same id x.id && on x.label) (single_labels-below start end k (j + 1) a (omega arith) t xs)
       where
         IsLower : Annotation → Type 0
-        IsLower e = is_below e (single_label_at k a) ≡ true
+        IsLower e = is_before e (single_label_at k a) ≡ true
 
         by_range : (b : Bool) → has_range start end (drawn_label own_file x.label) ≡ b → AllByRecursion IsLower (filter (is_of_range start end) (single_labels_from (j + 1) xs))
             → AllByRecursion IsLower (cond b (single_label_at j x.label ∷ filter (is_of_range start end) (single_labels_from (j + 1) xs)) (filter (is_of_range start end) (single_labels_from (j + 1) xs)))
@@ -219,17 +219,17 @@ module _ {Id : Type 0} {same : Id → Id → Bool} {file : Id → FileModel} {id
         by_test false rest = rest
 
     -- the annotations of the labels of a range fall
-    pub single_labels-fall : (start end k : ℕ) (xs : List (InFile Id)) → Falls is_below (filter (is_of_range start end) (single_labels_from k xs))
+    pub single_labels-fall : (start end k : ℕ) (xs : List (InFile Id)) → Falls is_before (filter (is_of_range start end) (single_labels_from k xs))
     single_labels-fall start end k [] = tt
     single_labels-fall start end k (x ∷ xs) = by_test (same id x.id && on x.label) (single_labels-fall start end (k + 1) xs)
       where
-        by_range : (b : Bool) → has_range start end (drawn_label own_file x.label) ≡ b → Falls is_below (filter (is_of_range start end) (single_labels_from (k + 1) xs))
-            → Falls is_below (cond b (single_label_at k x.label ∷ filter (is_of_range start end) (single_labels_from (k + 1) xs)) (filter (is_of_range start end) (single_labels_from (k + 1) xs)))
+        by_range : (b : Bool) → has_range start end (drawn_label own_file x.label) ≡ b → Falls is_before (filter (is_of_range start end) (single_labels_from (k + 1) xs))
+            → Falls is_before (cond b (single_label_at k x.label ∷ filter (is_of_range start end) (single_labels_from (k + 1) xs)) (filter (is_of_range start end) (single_labels_from (k + 1) xs)))
         by_range true u rest = (single_labels-below start end k (k + 1) x.label (omega arith) u xs, rest)
         by_range false u rest = rest
 
-        by_test : (b : Bool) → Falls is_below (filter (is_of_range start end) (single_labels_from (k + 1) xs))
-            → Falls is_below (filter (is_of_range start end) (cond b (single_label_at k x.label ∷ []) [] ++ single_labels_from (k + 1) xs))
+        by_test : (b : Bool) → Falls is_before (filter (is_of_range start end) (single_labels_from (k + 1) xs))
+            → Falls is_before (filter (is_of_range start end) (cond b (single_label_at k x.label ∷ []) [] ++ single_labels_from (k + 1) xs))
         by_test true rest = by_range (has_range start end (drawn_label own_file x.label)) refl rest
         by_test false rest = rest
 

@@ -11,13 +11,13 @@ use Rattle.std.proofs.lemmas.List.{get_or_default}
 use Rattle.std.proofs.lemmas.List.Sorted.{ranks_by}
 use Rattle.std.specs.List.Sorted.{IsSortedWithin}
 use Rattle.codespan_base.specs.Labels.{LaneMark, LabelModel, range_precedes}
-use Rattle.codespan_reporting.specs.Inner.Annotations.{Annotation, AnnotationKind, Shown, Single, Multi, rank_of, first_of, second_of, index_in_list, IsMarkOn, is_below}
-use Rattle.codespan_reporting.specs.Inner.SnippetLines.{single_label_of, single_labels_in}
+use Rattle.codespan_reporting.specs.Private.Annotations.{Annotation, AnnotationKind, Shown, Single, Multi, rank_of, first_of, second_of, index_in_list, IsLaneMarkOn, is_before}
+use Rattle.codespan_reporting.specs.Private.SnippetLines.{single_label_of, single_labels_in}
 use Rattle.codespan_laws.proofs.OrderSorts.{Ascends}
 use Rattle.codespan_laws.proofs.SortedLists.{Rises}
 
 -- it is an order
-pub below_order : IsStrictWeakOrder is_below
+pub below_order : IsStrictWeakOrder is_before
 below_order = ranks_by
     (then_total (on_total (λ (e : Annotation). e.file) nat_cmp_total)
     (then_total (on_total (λ (e : Annotation). e.line) nat_cmp_total)
@@ -48,20 +48,20 @@ then_same a b o e = ap (λ q. is_lt (ordering_then q o)) (cmp_same a b e)
 -- ---- annotations in order
 
 -- files do not fall
-pub file_rises : (x y : Annotation) → is_below y x ≡ false → x.file ≤ y.file
+pub file_rises : (x y : Annotation) → is_before y x ≡ false → x.file ≤ y.file
 file_rises x y h = not_less y.file x.file _ h
 
 -- the lines of a file do not fall
-pub line_rises : (x y : Annotation) → x.file ≡ y.file → is_below y x ≡ false → x.line ≤ y.line
+pub line_rises : (x y : Annotation) → x.file ≡ y.file → is_before y x ≡ false → x.line ≤ y.line
 line_rises x y e h = not_less y.line x.line _ (sym (then_same y.file x.file _ (sym e)) ∙ h)
 
 -- the kinds of a line's annotations do not fall
-pub kind_rises : (x y : Annotation) → x.file ≡ y.file → x.line ≡ y.line → is_below y x ≡ false → rank_of x.kind ≤ rank_of y.kind
+pub kind_rises : (x y : Annotation) → x.file ≡ y.file → x.line ≡ y.line → is_before y x ≡ false → rank_of x.kind ≤ rank_of y.kind
 kind_rises x y e f h = not_less (rank_of y.kind) (rank_of x.kind) _ (sym (then_same y.line x.line _ (sym f)) ∙ sym (then_same y.file x.file _ (sym e)) ∙ h)
 
 -- the ranges of a line's labels do not fall
 range_rises : (x y : Annotation) {p q : ℕ} {a b : LabelModel} → x.kind ≡ Single p a → y.kind ≡ Single q b → x.file ≡ y.file → x.line ≡ y.line
-    → is_below y x ≡ false → range_precedes b a ≡ false
+    → is_before y x ≡ false → range_precedes b a ≡ false
 range_rises x y {a = a} {b = b} xs ys e f h =
     let k : rank_of y.kind ≡ rank_of x.kind = ap rank_of ys ∙ sym (ap rank_of xs) in
     let s : first_of x.kind ≡ a.start = ap first_of xs in
@@ -86,11 +86,11 @@ abbrev pub IsOn : ℕ → ℕ → Annotation → Type 0
 IsOn f l e = (e.file ≡ f) × (e.line ≡ l)
 
 -- the labels inside a line, of annotations in order, are in the order of their ranges
-pub single_labels-ascend : (f l : ℕ) (es : List Annotation) → AllByRecursion (IsOn f l) es → Rises is_below es → Ascends (single_labels_in es)
+pub single_labels-ascend : (f l : ℕ) (es : List Annotation) → AllByRecursion (IsOn f l) es → Rises is_before es → Ascends (single_labels_in es)
 single_labels-ascend f l [] on up = tt
 single_labels-ascend f l (x ∷ xs) on up = by_kind x.kind refl (single_labels-ascend f l xs on.1 up.1)
   where
-    later : (p : ℕ) (a : LabelModel) → x.kind ≡ Single p a → (ys : List Annotation) → AllByRecursion (IsOn f l) ys → AllByRecursion (λ y. is_below y x ≡ false) ys
+    later : (p : ℕ) (a : LabelModel) → x.kind ≡ Single p a → (ys : List Annotation) → AllByRecursion (IsOn f l) ys → AllByRecursion (λ y. is_before y x ≡ false) ys
         → AllByRecursion (λ b. range_precedes b a ≡ false) (single_labels_in ys)
     later p a e [] k h = tt
     later p a e (y ∷ ys) k h = by_other y.kind refl (later p a e ys k.1 h.1)
@@ -110,7 +110,7 @@ single_labels-ascend f l (x ∷ xs) on up = by_kind x.kind refl (single_labels-a
 
 -- of labels with equal ranges the one at the greater index is below
 pub index_below : (f l : ℕ) {p q : ℕ} (x y : LabelModel) → x.start ≡ y.start → x.end ≡ y.end → p < q
-    → is_below (record { file = f; line = l; kind = Single q y }) (record { file = f; line = l; kind = Single p x }) ≡ true
+    → is_before (record { file = f; line = l; kind = Single q y }) (record { file = f; line = l; kind = Single p x }) ≡ true
 index_below f l {p} {q} x y s e h =
     then_same f f _ refl ∙ then_same l l _ refl ∙ then_same y.start x.start _ (sym s) ∙ then_same y.end x.end _ (sym e) ∙ ap is_lt (cmp_less p q h)
 
@@ -119,7 +119,7 @@ abbrev pub lane_mark_annotation : ℕ → ℕ → LaneMark → Annotation
 lane_mark_annotation f l m = record { file = f; line = l; kind = Multi m }
 
 -- of two multi-line label marks the one in the lesser lane is below
-pub lane_below : (f l : ℕ) (x y : LaneMark) → x.lane < y.lane → is_below (lane_mark_annotation f l x) (lane_mark_annotation f l y) ≡ true
+pub lane_below : (f l : ℕ) (x y : LaneMark) → x.lane < y.lane → is_before (lane_mark_annotation f l x) (lane_mark_annotation f l y) ≡ true
 lane_below f l x y h = then_same f f _ refl ∙ then_same l l _ refl ∙ ap (λ q. is_lt (ordering_then q (ordering_then (nat_cmp 0 0) (nat_cmp 0 0)))) (cmp_less x.lane y.lane h)
 
 -- equal lanes, and greater ones, are not below
@@ -131,7 +131,7 @@ lane_rises m n h = rw (le-ltb m n h) (by_test (m == n))
     by_test false = refl
 
 -- of two multi-line label marks of one line the one in the greater lane is not below, nor is one of two in the same lane
-pub mark_rises : (f l n m : ℕ) (x y : Annotation) → IsMarkOn f l n x → IsMarkOn f l m y → n ≤ m → is_below y x ≡ false
+pub mark_rises : (f l n m : ℕ) (x y : Annotation) → IsLaneMarkOn f l n x → IsLaneMarkOn f l m y → n ≤ m → is_before y x ≡ false
 mark_rises f l n m x y a b h =
     then_same y.file x.file _ (b.0 ∙ sym a.0) ∙ then_same y.line x.line _ (b.1 ∙ sym a.1) ∙ then_same (rank_of y.kind) (rank_of x.kind) _ (b.2 ∙ sym a.2)
     ∙ (λ i. is_lt (ordering_then (nat_cmp (b.3 i) (a.3 i)) (ordering_then (nat_cmp (b.4 i) (a.4 i)) (nat_cmp (a.5 i) (b.5 i))))) ∙ lane_rises m n h

@@ -11,16 +11,16 @@ use Rattle.codespan_base.specs.FileModel.{FileDatabase, FileModel, line_count}
 use Rattle.codespan_base.specs.Labels.{LaneMark, LabelModel, is_single, first_line, drawn_label, lane_marks_on, single_labels, sorted}
 use Rattle.codespan_picture.specs.Arguments.{ascend_from}
 use Rattle.codespan_reporting.specs.declared.term.views.collect.Collected.{Collected}
-use Rattle.codespan_reporting.specs.Inner.Annotations.{Annotation, AnnotationKind, Shown, Single, Multi, rank_of, is_below, is_on_line, is_of_file, shows_line}
-use Rattle.codespan_reporting.specs.Inner.AnnotationViews.{annotation_view}
-use Rattle.codespan_reporting.specs.Inner.OutputPlans.{IsCollected}
+use Rattle.codespan_reporting.specs.Private.Annotations.{Annotation, AnnotationKind, Shown, Single, Multi, rank_of, is_before, is_on_line, is_of_file, shows_line}
+use Rattle.codespan_reporting.specs.Private.AnnotationViews.{annotation_view}
+use Rattle.codespan_reporting.specs.Private.OutputPlans.{IsCollected}
 use Rattle.codespan_picture.specs.Lines as lines
 use Rattle.codespan_picture.specs.Lines.{drawn_lines}
 use Rattle.codespan_picture.specs.Lookups.{filled_lines}
 use Rattle.codespan_picture.specs.Sequences.{break_between, in_sequence}
-use Rattle.codespan_reporting.specs.Inner.IndexedLabels.{IsIdAt, all_annotations}
+use Rattle.codespan_reporting.specs.Private.IndexedLabels.{IsIdAt, all_annotations}
 use Rattle.codespan_picture.specs.Snippets.{InFile, LabeledFileModel, labeled_file_model, lane_count, line_at, line_rows, break_rows, rows_after, file_ids}
-use Rattle.codespan_reporting.specs.Inner.SnippetLines.{are_shown, lane_mark_in, lane_marks_in, lines_of, single_label_of, single_labels_in, line_of_group, rows_of_lines, fills_of, do_lane_marks_fit, does_line_fit}
+use Rattle.codespan_reporting.specs.Private.SnippetLines.{are_shown, lane_mark_in, lane_marks_in, lines_of, single_label_of, single_labels_in, line_of_group, rows_of_lines, fills_of, do_lane_marks_fit, does_line_fit}
 use Rattle.codespan_reporting.proofs.AnnotationGroups.{IsRising, lines_after, snippet_lines-by_line, all-on_line}
 use Rattle.codespan_reporting.proofs.AnnotationLines as annotation_lines
 use Rattle.codespan_reporting.proofs.AnnotationLines.{HasFileIndex, has_label_range, is_of_range}
@@ -93,11 +93,11 @@ single_labels-reverse (x ∷ xs) =
     by_option (Some y) = sym (reverse-cons y (single_labels_in xs))
 
 -- the first annotation of a line shows it if any does
-first-shows : (f l : ℕ) (g : List Annotation) → AllByRecursion (IsOn f l) g → Rises is_below g → are_shown g ≡ list_any shows_line g
+first-shows : (f l : ℕ) (g : List Annotation) → AllByRecursion (IsOn f l) g → Rises is_before g → are_shown g ≡ list_any shows_line g
 first-shows f l [] on up = refl
 first-shows f l (x ∷ xs) on up = by_test (shows_line x) refl
   where
-    later : shows_line x ≡ false → (y : Annotation) → IsOn f l y × (is_below y x ≡ false) → shows_line y ≡ false
+    later : shows_line x ≡ false → (y : Annotation) → IsOn f l y × (is_before y x ≡ false) → shows_line y ≡ false
     later t y h =
         let kinds = kind_rises x y (on.0.0 ∙ sym h.0.0) (on.0.1 ∙ sym h.0.1) h.1 in
         let high : 2 ≤ rank_of x.kind = ltb-false (rank_of x.kind) 2 t in
@@ -106,16 +106,16 @@ first-shows f l (x ∷ xs) on up = by_test (shows_line x) refl
     by_test : (b : Bool) → shows_line x ≡ b → b ≡ (b || list_any shows_line xs)
     by_test true t = refl
     by_test false t =
-        sym (any-nothing shows_line xs (all-weaker (λ y. IsOn f l y × (is_below y x ≡ false)) (λ y. shows_line y ≡ false) (later t) xs (all-both (IsOn f l) (λ y. is_below y x ≡ false) xs on.1 up.0)))
+        sym (any-nothing shows_line xs (all-weaker (λ y. IsOn f l y × (is_before y x ≡ false)) (λ y. shows_line y ≡ false) (later t) xs (all-both (IsOn f l) (λ y. is_before y x ≡ false) xs on.1 up.0)))
 
 -- ---- annotations in order
 
 -- the lines of a file's annotations do not fall
-lines-rise : (f : ℕ) (es : List Annotation) → AllByRecursion (λ e. e.file ≡ f) es → Rises is_below es → IsRising (λ e. e.line) es
+lines-rise : (f : ℕ) (es : List Annotation) → AllByRecursion (λ e. e.file ≡ f) es → Rises is_before es → IsRising (λ e. e.line) es
 lines-rise f [] h a = tt
 lines-rise f (x ∷ xs) h a = (
-  all-weaker (λ y. (y.file ≡ f) × (is_below y x ≡ false)) (λ y. x.line ≤ y.line) (λ y b. line_rises x y (h.0 ∙ sym b.0) b.1) xs
-      (all-both (λ y. y.file ≡ f) (λ y. is_below y x ≡ false) xs h.1 a.0),
+  all-weaker (λ y. (y.file ≡ f) × (is_before y x ≡ false)) (λ y. x.line ≤ y.line) (λ y b. line_rises x y (h.0 ∙ sym b.0) b.1) xs
+      (all-both (λ y. y.file ≡ f) (λ y. is_before y x ≡ false) xs h.1 a.0),
   lines-rise f xs h.1 a.1,
 )
 
@@ -165,8 +165,8 @@ module _ {Id : Type 0} {table : FileDatabase Id} (lawful : AreFiles table)
   part-file = all-weaker (λ e. is_of_file f e ≡ true) (λ e. e.file ≡ f) (λ e t. eqb-true e.file f t) part (all-pass (is_of_file f) annotations)
 
   -- they are in order
-  part-rises : Rises is_below part
-  part-rises = rises-filter is_below (is_of_file f) annotations (rises-from_sorted is_below below_order annotations known.sorted)
+  part-rises : Rises is_before part
+  part-rises = rises-filter is_before (is_of_file f) annotations (rises-from_sorted is_before below_order annotations known.sorted)
 
   -- they are of lines that the file has
   part-below : AllByRecursion (λ e. e.line < line_count (file id)) part
@@ -182,8 +182,8 @@ module _ {Id : Type 0} {table : FileDatabase Id} (lawful : AreFiles table)
   bucket-on l = all-both (λ e. e.file ≡ f) (λ e. e.line ≡ l) (bucket l) (all-filter (λ e. e.file ≡ f) (is_on_line l) part part-file) (all-on_line l part)
 
   -- they are in order
-  bucket-rises : (l : ℕ) → Rises is_below (bucket l)
-  bucket-rises l = rises-filter is_below (is_on_line l) part part-rises
+  bucket-rises : (l : ℕ) → Rises is_before (bucket l)
+  bucket-rises l = rises-filter is_before (is_on_line l) part part-rises
 
   -- an annotation of the file and the line that passes a test
   abbrev picks : ℕ → (Annotation → Bool) → Annotation → Bool
@@ -228,15 +228,15 @@ module _ {Id : Type 0} {table : FileDatabase Id} (lawful : AreFiles table)
           ∙ sym (range-rank start end (annotation_if_any l))
           ∙ ap (filter (is_of_range start end)) (annotation_lines.all-single_labels here config l xs [] 0 refl)
 
-      falls : (start end : ℕ) → Falls is_below (filter (picks l (is_of_range start end)) all)
+      falls : (start end : ℕ) → Falls is_before (filter (picks l (is_of_range start end)) all)
       falls start end =
-          subst (Falls is_below) (sym (all_inside start end)) (annotation_lines.single_labels-fall here config l start end 0 xs)
+          subst (Falls is_before) (sym (all_inside start end)) (annotation_lines.single_labels-fall here config l start end 0 xs)
 
       ranges : (start end : ℕ) → filter (has_range start end) (single_labels_in (bucket l)) ≡ filter (has_range start end) turned
       ranges start end =
           single_labels-of_range start end (bucket l)
           ∙ ap single_labels_in (of_picked l (is_of_range start end) annotations
-          ∙ filter-sorted_falls is_below below_order all annotations known.permutation known.sorted (picks l (is_of_range start end)) (falls start end)
+          ∙ filter-sorted_falls is_before below_order all annotations known.permutation known.sorted (picks l (is_of_range start end)) (falls start end)
           ∙ ap (λ (r : List Annotation). reverse r) (all_inside start end))
           ∙ single_labels-reverse (filter (is_of_range start end) from)
           ∙ ap (λ (r : List LabelModel). reverse r) (sym (single_labels-of_range start end from)
@@ -258,8 +258,8 @@ module _ {Id : Type 0} {table : FileDatabase Id} (lawful : AreFiles table)
   marks-are l =
       marks-rank (bucket l)
       ∙ ap lane_marks_in (of_picked l (is_kind 2) annotations
-      ∙ filter-sorted_climbs is_below below_order all annotations known.permutation known.sorted (picks l (is_kind 2))
-      (subst (Climbs is_below) (sym (marks-all_inside l)) (ascend-climbs f l (lane_count s) 0 (marks l) (marks-ascend s l)))
+      ∙ filter-sorted_climbs is_before below_order all annotations known.permutation known.sorted (picks l (is_kind 2))
+      (subst (Climbs is_before) (sym (marks-all_inside l)) (ascend-climbs f l (lane_count s) 0 (marks l) (marks-ascend s l)))
       ∙ marks-all_inside l)
       ∙ marks-of_annotations f l (marks l)
 

@@ -2,7 +2,7 @@
 use Rattle.std.proofs.Common.{◌≡◌, sym, subst}
 use Rattle.codespan_base.specs.Streams.{Stream}
 use Rattle.codespan_base.specs.WriterLaw.{Sink, PrefixWritten}
-use Rattle.codespan_reporting.specs.Inner.LookupsOnTheWay.{WroteStream, WrotePrefix}
+use Rattle.codespan_reporting.specs.Private.LookupsWhileRendering.{WroteStream, WrotePrefix}
 
 -- a stream that a configuration decides has been written, and so has that of an equal one
 pub written_at : {K : Type 0} (f : K → Stream) (k m : K) → m ≡ k → (s t : Sink) → WroteStream s (f m) t → WroteStream s (f k) t

@@ -11,10 +11,10 @@ use Rattle.codespan_base.specs.FileModel.{line_start}
 use Rattle.codespan_base.specs.Labels.{LabelModel, drawn_label, first_line, from_line_start, last_line}
 use Rattle.codespan_reporting.specs.declared.term.views.annotation.Annotation.{Annotation as RustAnnotation}
 use Rattle.codespan_reporting.specs.declared.term.views.annotation.LineInfo.{LineInfo}
-use Rattle.codespan_reporting.specs.Inner.CollectedLabels.{CollectedLabel}
-use Rattle.codespan_reporting.specs.Inner.Annotations.{Annotation, AnnotationKind, Single, line_annotations, annotation_if_any, kind_on}
-use Rattle.codespan_reporting.specs.Inner.AnnotationViews.{Adds, IsLineOf, annotation_view, kind_view, multi_at, kind_at}
-use Rattle.codespan_reporting.specs.Inner.LabelSpans.{IsFarInside}
+use Rattle.codespan_reporting.specs.Private.CollectedLabels.{CollectedLabel}
+use Rattle.codespan_reporting.specs.Private.Annotations.{Annotation, AnnotationKind, Single, line_annotations, annotation_if_any, kind_on}
+use Rattle.codespan_reporting.specs.Private.AnnotationViews.{Adds, IsLineOf, annotation_view, kind_view, multi_at, kind_at}
+use Rattle.codespan_reporting.specs.Private.LabelSpans.{IsFarInside}
 use Rattle.codespan_reporting.specs.declared.term.views.annotation.AnnotationKind.TheVariants as rust
 use Rattle.codespan_reporting.specs.declared.term.views.annotation.MultiPart.TheVariants as part
 use Rattle.codespan_reporting.specs.declared.term.views.collect.label_annotations.LabelIndices.{LabelIndices}

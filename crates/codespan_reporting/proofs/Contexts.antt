@@ -13,16 +13,16 @@ use Rattle.codespan_base.specs.LawfulFiles.{IsLawful, FailsPastEnd, IsPastEndErr
 use Rattle.codespan_base.specs.FileModel.Lookup.{LineRange, LineNumber}
 use Rattle.codespan_base.specs.Labels.{first_line, last_line}
 use Rattle.codespan_base.specs.Lemmas.Lines.{lines_have_indices, lines_within_text}
-use Rattle.codespan_reporting.specs.Inner.CollectedLabels.{CollectedLabel, IsLookedUp, FindsLine, FindsLines, HasLineLookedUp, ExtendsPadding, ExtendsPaddingForLine, lines_failure, failure_on}
-use Rattle.codespan_reporting.specs.Inner.SourceFiles.{line_failure}
-use Rattle.codespan_reporting.specs.Inner.Annotations.{Annotation, annotations_of, line_annotations}
+use Rattle.codespan_reporting.specs.Private.CollectedLabels.{CollectedLabel, IsLookedUp, FindsLine, FindsLines, HasLineLookedUp, ExtendsPadding, ExtendsPaddingForLine, lines_failure, failure_on}
+use Rattle.codespan_reporting.specs.Private.SourceFiles.{line_failure}
+use Rattle.codespan_reporting.specs.Private.Annotations.{Annotation, annotations_of, line_annotations}
 use Rattle.codespan_reporting.specs.declared.term.views.collect.label_annotations.FoundAnnotations.{FoundAnnotations}
-use Rattle.codespan_reporting.specs.Inner.FileLookups.{failure_in}
-use Rattle.codespan_reporting.specs.Inner.AnnotationViews.{AddsOf, annotations_on, lookups_on}
-use Rattle.codespan_reporting.specs.Inner.SpannedDigits.{digits_on, label_digits}
+use Rattle.codespan_reporting.specs.Private.FileLookups.{failure_in}
+use Rattle.codespan_reporting.specs.Private.AnnotationViews.{AddsOf, annotations_on, lookups_on}
+use Rattle.codespan_reporting.specs.Private.SpannedDigits.{digits_on, label_digits}
 use Rattle.codespan_picture.specs.Lookups.{looked_up_lines, lookups_of_file, ends_context, first_error, is_around, is_looked_up, line_lookups, lookup_past_end}
 use Rattle.codespan_picture.specs.Padding.{digit_count, spans}
-use Rattle.codespan_reporting.specs.Inner.LabelSpans.{spans_line}
+use Rattle.codespan_reporting.specs.Private.LabelSpans.{spans_line}
 use Rattle.codespan_laws.proofs.CaretLemmas.{range_with_len-append}
 use Rattle.codespan_laws.proofs.Greatest.{greatest-append}
 use Rattle.codespan_reporting.proofs.Collecting.{Adds-as, Adds-both, Adds-none}

@@ -6,15 +6,15 @@ use Rattle.std.specs.List.{AllByRecursion}
 use Rattle.std.proofs.lemmas.Bool.{cases_Bool, eqb-true, eq-eqb, ne_eqb}
 use Rattle.codespan_base.specs.Labels.{first_seen}
 use Rattle.codespan_picture.specs.Snippets.{InFile, file_ids}
-use Rattle.codespan_reporting.specs.Inner.LabeledFiles.{with_file}
-use Rattle.codespan_reporting.specs.Inner.IndexedLabels.{AreApart, IsIdAt, index_of_file}
+use Rattle.codespan_reporting.specs.Private.LabeledFiles.{with_file}
+use Rattle.codespan_reporting.specs.Private.IndexedLabels.{AreDistinct, IsIdAt, index_of_file}
 use Rattle.codespan_reporting.proofs.FileOrder.{has, or_parts}
 use Rattle.codespan_laws.proofs.SortedLists.{all-weaker, all-filter, all-pass}
 
 module _ {Id : Type 0} (same : Id → Id → Bool) (o : IsEquivalence same) where
   -- the ids differ
   abbrev pub Differ : List Id → Type 0
-  Differ ids = AreApart same ids
+  Differ ids = AreDistinct same ids
 
   -- those that a filter keeps differ
   differ-filter : (p : Id → Bool) (js : List Id) → Differ js → Differ (filter p js)
@@ -91,7 +91,7 @@ at-before (j ∷ js) more (suc f) id h a = at-before js more f id (omega (arith,
 -- ---- indices, one label after another
 
 -- an id that is equal to the one at an index has that index
-pub same_id-index : {Id : Type 0} {same : Id → Id → Bool} (o : IsEquivalence same) (ids : List Id) {k : ℕ} (j i : Id) → AreApart same ids → IsIdAt ids k j → same j i ≡ true
+pub same_id-index : {Id : Type 0} {same : Id → Id → Bool} (o : IsEquivalence same) (ids : List Id) {k : ℕ} (j i : Id) → AreDistinct same ids → IsIdAt ids k j → same j i ≡ true
     → k ≡ index_of_file same ids i
 same_id-index {same = same} o ids {k} j i apart at t = sym (eqb-true (index_of_file same ids i) k (index-is same o ids k j apart at i ∙ t))
 

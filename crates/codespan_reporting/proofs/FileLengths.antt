@@ -9,8 +9,8 @@ use Rattle.std.proofs.lemmas.Bool.{eq-eqb}
 use Rattle.std.proofs.lemmas.List.{get_or_default, get_or-drop, length-map}
 use Rattle.std.proofs.lemmas.List.Sorted.{sorted_far}
 use Rattle.codespan_reporting.specs.declared.term.views.annotation.Annotation.{Annotation as RustAnnotation}
-use Rattle.codespan_reporting.specs.Inner.Annotations.{is_below, is_of_file}
-use Rattle.codespan_reporting.specs.Inner.AnnotationViews.{annotation_view}
+use Rattle.codespan_reporting.specs.Private.Annotations.{is_before, is_of_file}
+use Rattle.codespan_reporting.specs.Private.AnnotationViews.{annotation_view}
 use Rattle.codespan_reporting.proofs.AnnotationOrder.{below_order, file_rises}
 
 -- where all pass, all are in front
@@ -24,7 +24,7 @@ prefix_len-all p (x ∷ xs) each =
 module _ {Id : Type 0} where
   -- one annotation is before another
   abbrev pub below : RustAnnotation Id → RustAnnotation Id → Bool
-  below x y = is_below (annotation_view x) (annotation_view y)
+  below x y = is_before (annotation_view x) (annotation_view y)
 
   -- it is an order
   order : IsStrictWeakOrder below
@@ -45,7 +45,7 @@ module _ {Id : Type 0} where
       eq-eqb x.file f (omega (arith, low, high, start, end)))
 
   -- the annotations from one on are in order
-  drop-sorted : (xs : List (RustAnnotation Id)) (at : ℕ) → IsSortedBy is_below (map annotation_view xs) → IsSortedBy below (drop at xs)
+  drop-sorted : (xs : List (RustAnnotation Id)) (at : ℕ) → IsSortedBy is_before (map annotation_view xs) → IsSortedBy below (drop at xs)
   drop-sorted xs at up k d from inside =
       let view : ℕ → RustAnnotation Id = λ j. get_or xs j d in
       let here = up (at + k) (annotation_view d) (omega arith) (omega (arith, length-map xs (annotation_view {Id = Id}), length-drop at xs)) in
@@ -53,9 +53,9 @@ module _ {Id : Type 0} where
       ap annotation_view (get_or-drop at xs (k + 1) d ∙ ap view (omega arith)) ∙ sym (get_or-map annotation_view xs (at + k + 1) d) in
       let low : annotation_view (get_or (drop at xs) k d) ≡ get_or (map annotation_view xs) (at + k) (annotation_view d) =
       ap annotation_view (get_or-drop at xs k d) ∙ sym (get_or-map annotation_view xs (at + k) d) in
-      (λ i. is_below (high i) (low i)) ∙ here
+      (λ i. is_before (high i) (low i)) ∙ here
 
   -- the same of a slice from one to the end
-  pub rest-sorted : (xs : List (RustAnnotation Id)) (at : ℕ) → IsSortedBy is_below (map annotation_view xs) → IsSortedBy below (take (length xs - at) (drop at xs))
+  pub rest-sorted : (xs : List (RustAnnotation Id)) (at : ℕ) → IsSortedBy is_before (map annotation_view xs) → IsSortedBy below (take (length xs - at) (drop at xs))
   rest-sorted xs at up =
       subst (λ ys. IsSortedBy below ys) (sym (ap (λ i. take i (drop at xs)) (sym (length-drop at xs)) ∙ take-length (drop at xs))) (drop-sorted xs at up)

@@ -7,7 +7,7 @@ use Rattle.std.proofs.lemmas.List.{append-nil, get_or-map, length-map, map-appen
 use Rattle.std.proofs.lemmas.List.Elements.{filter-append}
 use Rattle.codespan_base.specs.Labels.{first_seen}
 use Rattle.codespan_picture.specs.Snippets.{InFile, file_ids}
-use Rattle.codespan_reporting.specs.Inner.LabeledFiles.{with_file}
+use Rattle.codespan_reporting.specs.Private.LabeledFiles.{with_file}
 
 -- neither of two is true
 pub or_parts : (b c : Bool) → (b || c) ≡ false → (b ≡ false) × (c ≡ false)

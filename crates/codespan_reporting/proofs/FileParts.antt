@@ -10,8 +10,8 @@ use Rattle.std.proofs.lemmas.List.{drop-drop, drop-map, take-map, length-map}
 use Rattle.std.proofs.lemmas.List.Elements.{filter_agree}
 use Rattle.std.proofs.lemmas.List.Sorted.{IsPermutation-map}
 use Rattle.codespan_reporting.specs.declared.term.views.annotation.Annotation.{Annotation as RustAnnotation}
-use Rattle.codespan_reporting.specs.Inner.Annotations.{Annotation, is_below, is_of_file}
-use Rattle.codespan_reporting.specs.Inner.AnnotationViews.{annotation_view}
+use Rattle.codespan_reporting.specs.Private.Annotations.{Annotation, is_before, is_of_file}
+use Rattle.codespan_reporting.specs.Private.AnnotationViews.{annotation_view}
 use Rattle.codespan_reporting.proofs.AnnotationGroups.{IsRising, rising-filter, split_at}
 use Rattle.codespan_reporting.proofs.AnnotationOrder.{below_order, file_rises}
 use Rattle.codespan_laws.proofs.SortedLists.{Rises, rises-from_sorted, all-weaker, all-pass, filter-whole, filter-filter}
@@ -23,9 +23,9 @@ abbrev pub from_file : ℕ → List Annotation → List Annotation
 from_file f xs = filter (λ (e : Annotation). nat_le f e.file) xs
 
 -- files do not fall along annotations in order
-files-rise : (xs : List Annotation) → Rises is_below xs → IsRising (λ e. e.file) xs
+files-rise : (xs : List Annotation) → Rises is_before xs → IsRising (λ e. e.file) xs
 files-rise [] a = tt
-files-rise (x ∷ xs) a = (all-weaker (λ y. is_below y x ≡ false) (λ y. x.file ≤ y.file) (λ y h. file_rises x y h) xs a.0, files-rise xs a.1)
+files-rise (x ∷ xs) a = (all-weaker (λ y. is_before y x ≡ false) (λ y. x.file ≤ y.file) (λ y h. file_rises x y h) xs a.0, files-rise xs a.1)
 
 -- a file is from itself on
 from_own : (f k : ℕ) → (nat_le f k && (k == f)) ≡ (k == f)
@@ -36,10 +36,10 @@ from_next : (f k : ℕ) → (nat_le f k && nat_lt f k) ≡ nat_le (f + 1) k
 from_next f k = grind (arith, nat_tests)
 
 -- a file's annotations are in front of those of later files
-pub from_file-next : (xs : List Annotation) (f : ℕ) → IsSortedBy is_below xs → from_file f xs ≡ filter (is_of_file f) xs ++ from_file (f + 1) xs
+pub from_file-next : (xs : List Annotation) (f : ℕ) → IsSortedBy is_before xs → from_file f xs ≡ filter (is_of_file f) xs ++ from_file (f + 1) xs
 from_file-next xs f up =
     split_at (λ (e : Annotation). e.file) f (from_file f xs)
-    (rising-filter (λ (e : Annotation). e.file) (λ e. nat_le f e.file) xs (files-rise xs (rises-from_sorted is_below below_order xs up)))
+    (rising-filter (λ (e : Annotation). e.file) (λ e. nat_le f e.file) xs (files-rise xs (rises-from_sorted is_before below_order xs up)))
     (all-weaker (λ e. nat_le f e.file ≡ true) (λ e. f ≤ e.file) (λ e t. leb-true f e.file t) (from_file f xs) (all-pass (λ (e : Annotation). nat_le f e.file) xs))
     ∙ (λ i. own i ++ later i)
   where
@@ -91,7 +91,7 @@ pub record IsFilePart {Id : Type 0} (xs : List (RustAnnotation Id)) (at n f : �
   pub rest : drop (at + length (next_part xs at n)) (map annotation_view xs) ≡ from_file (f + 1) (map annotation_view xs)
 
 -- a loop over the files takes the part of the next one
-pub next-file : {Id : Type 0} (xs : List (RustAnnotation Id)) (at n f : ℕ) → IsSortedBy is_below (map annotation_view xs) → at ≤ length xs → drop at (map annotation_view xs) ≡ from_file f (map annotation_view xs)
+pub next-file : {Id : Type 0} (xs : List (RustAnnotation Id)) (at n f : ℕ) → IsSortedBy is_before (map annotation_view xs) → at ≤ length xs → drop at (map annotation_view xs) ≡ from_file f (map annotation_view xs)
     → n ≡ prefix_len (λ e. is_of_file f (annotation_view e)) (take (length xs - at) (drop at xs)) → n ≤ length (take (length xs - at) (drop at xs)) → IsFilePart xs at n f
 next-file xs at n f up inside left is low =
     let ys = map annotation_view xs in

@@ -5,8 +5,8 @@ use Rattle.std.proofs.Math.Nat.{add-sub_cancel_left}
 use Rattle.std.proofs.Math.Seq.{take-length}
 use Rattle.std.proofs.lemmas.List.{get_or-drop, length-take-le, drop-drop}
 use Rattle.std.proofs.lemmas.Bool.{eq-eqb}
-use Rattle.codespan_reporting.specs.Inner.Annotations.{Annotation, is_on_line, shows_line}
-use Rattle.codespan_reporting.specs.Inner.SnippetLines.{SnippetLine, are_shown, groups, lines_to, lines_from}
+use Rattle.codespan_reporting.specs.Private.Annotations.{Annotation, is_on_line, shows_line}
+use Rattle.codespan_reporting.specs.Private.SnippetLines.{SnippetLine, are_shown, groups, lines_to, lines_from}
 use Rattle.codespan_reporting.proofs.AnnotationGroups.{group_at, groups-cons}
 
 -- ---- groups

@@ -20,15 +20,15 @@ use Rattle.codespan_base.proofs.Writes.{is_known-with_written, with_written-appe
 use Rattle.codespan_picture.specs.Lookups.{Failures, first_error, header_lookups_of}
 use Rattle.codespan_picture.specs.Picture.{AreLoci, IsLocus, heading_of, label_of, label_start, labels_of, context_of, notes_of}
 use Rattle.codespan_picture.specs.StatedPicture.{stated_locus, headers}
-use Rattle.codespan_reporting.specs.Inner.TextLoci.{IsLocusOfLabel}
-use Rattle.codespan_picture.specs.Rows.{HeaderRow, Heading, RowContext, Locus, Row}
+use Rattle.codespan_reporting.specs.Private.TextLoci.{IsLocusOfLabel}
+use Rattle.codespan_picture.specs.Rows.{HeaderRow, HeaderText, RowContext, Locus, Row}
 use Rattle.codespan_picture.specs.RowStreams.{header_row, stream_of, stream_of_rows}
 use Rattle.codespan_picture.specs.Snippets.{InFile, has_any, header_rows, note_rows, primary_of}
 use Rattle.codespan_reporting.specs.Output.{Succeeds}
 use Rattle.codespan_reporting.specs.WriteCalls.{WritesOutput}
 use Rattle.codespan_reporting.proofs.OutputLoci.{label_loci, label_texts}
 use Rattle.std.proofs.Math.Seq.{take-append_seam}
-use Rattle.codespan_reporting.specs.Inner.Headers.{HeaderLookupFailed, HeadersWritten, HeadersFailed, HeaderWriteFailed}
+use Rattle.codespan_reporting.specs.Private.Headers.{HeaderLookupFailed, HeadersWritten, HeadersFailed, HeaderWriteFailed}
 use Rattle.codespan_laws.proofs.Loci.{locus_there, zip_append, zip_each, zip_length, zip_map, zip_weaker}
 use Rattle.codespan_reporting.proofs.LabelIndexing.{IsElementAt}
 use Rattle.codespan_reporting.proofs.Renderings.{PrefixWritten-none}
@@ -93,7 +93,7 @@ no_loci R [] (p ∷ ps) is h = absurd h
 no_loci R (x ∷ xs) ps is h = cc
 
 -- where there is a label there is a locus, and a header for each
-some_headers : {X : Type 0} (R : X → Locus → Type 0) (heading : Heading) (xs : List X) (ps : List Locus) → has_any xs ≡ true → AllZip R xs ps
+some_headers : {X : Type 0} (R : X → Locus → Type 0) (heading : HeaderText) (xs : List X) (ps : List Locus) → has_any xs ≡ true → AllZip R xs ps
     → header_rows heading ps ≡ headers heading ps
 some_headers R heading [] ps some h = cc
 some_headers R heading (x ∷ xs) [] some h = absurd h

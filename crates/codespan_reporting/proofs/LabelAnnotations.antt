@@ -13,7 +13,7 @@ use Rattle.codespan_base.specs.declared.term.config.Config.{Config}
 use Rattle.codespan_base.specs.FileModel.{FileModel, line_count, line_start}
 use Rattle.codespan_base.specs.Labels.{LaneMark, LabelModel, first_line, last_line, is_single, drawn_label, lane_mark_of, part_at, part_on}
 use Rattle.codespan_reporting.specs.declared.term.views.collect.label_annotations.LabelIndices.{LabelIndices}
-use Rattle.codespan_reporting.specs.Inner.Annotations.{Annotation, AnnotationKind, Shown, Single, Multi, rank_of, is_on_line, line_annotations, annotations_of, annotation_if_any, shows_line}
+use Rattle.codespan_reporting.specs.Private.Annotations.{Annotation, AnnotationKind, Shown, Single, Multi, rank_of, is_on_line, line_annotations, annotations_of, annotation_if_any, shows_line}
 use Rattle.codespan_picture.specs.Lines.{shows}
 use Rattle.codespan_picture.specs.Lookups.{is_around, is_looked_up}
 use Rattle.codespan_laws.proofs.SortedLists.{all-append, filter-whole, filter-nothing, all-weaker}

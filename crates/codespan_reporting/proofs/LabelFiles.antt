@@ -10,10 +10,10 @@ use Rattle.codespan_base.specs.FileModel.{FileModel}
 use Rattle.codespan_picture.specs.Snippets.{InFile, file_ids}
 use Rattle.codespan_reporting.specs.declared.term.views.annotation.Annotation.{Annotation as RustAnnotation}
 use Rattle.codespan_reporting.specs.declared.term.views.collect.labeled_files.LabeledFile.{LabeledFile as RustFile}
-use Rattle.codespan_reporting.specs.Inner.Annotations.{Annotation, annotations_of}
-use Rattle.codespan_reporting.specs.Inner.AnnotationViews.{Adds, IsOfFiles, annotation_view}
-use Rattle.codespan_reporting.specs.Inner.LabeledFiles.{ids_view, lanes_in, with_file}
-use Rattle.codespan_reporting.specs.Inner.IndexedLabels.{IsIdAt, annotations_after, index_of_file, indices_after}
+use Rattle.codespan_reporting.specs.Private.Annotations.{Annotation, annotations_of}
+use Rattle.codespan_reporting.specs.Private.AnnotationViews.{Adds, IsOfFiles, annotation_view}
+use Rattle.codespan_reporting.specs.Private.LabeledFiles.{ids_view, lanes_in, with_file}
+use Rattle.codespan_reporting.specs.Private.IndexedLabels.{IsIdAt, annotations_after, index_of_file, indices_after}
 use Rattle.codespan_reporting.proofs.FileOrder.{file_ids-has, file_ids-more, has, none-of_file}
 use Rattle.codespan_reporting.proofs.FileIndices.{at-stays, no-index, index-here, index-past, index-stays}
 use Rattle.codespan_reporting.proofs.LabelAnnotations.{all-of_file}

@@ -13,9 +13,9 @@ use Rattle.codespan_base.specs.FileModel.{FileDatabase, FileModel, line_count}
 use Rattle.codespan_base.specs.LawfulFiles.{IsLawful}
 use Rattle.codespan_base.specs.Labels.{LabelModel, first_line, is_single, last_line, multi_labels}
 use Rattle.codespan_reporting.specs.declared.term.views.collect.label_span.LabelSpan.{LabelSpan}
-use Rattle.codespan_reporting.specs.Inner.Annotations.{Annotation, annotations_of}
-use Rattle.codespan_reporting.specs.Inner.LabeledFiles.{lanes_by, lanes_in}
-use Rattle.codespan_reporting.specs.Inner.IndexedLabels.{index_of_file, indices_after, annotations_after}
+use Rattle.codespan_reporting.specs.Private.Annotations.{Annotation, annotations_of}
+use Rattle.codespan_reporting.specs.Private.LabeledFiles.{lanes_by, lanes_in}
+use Rattle.codespan_reporting.specs.Private.IndexedLabels.{index_of_file, indices_after, annotations_after}
 use Rattle.codespan_picture.specs.Snippets.{InFile, lane_count}
 use Rattle.codespan_laws.proofs.SortedLists.{filter-nothing}
 use Rattle.codespan_reporting.proofs.FileOrder.{has}

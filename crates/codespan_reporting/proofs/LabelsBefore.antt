@@ -5,7 +5,7 @@ use Rattle.std.proofs.lemmas.List.{get_or-map, get_or-take, length-map, length-t
 use Rattle.codespan_base.specs.declared.diagnostic.Label.{Label}
 use Rattle.codespan_picture.specs.Picture.{label_of}
 use Rattle.codespan_picture.specs.Snippets.{InFile, file_ids}
-use Rattle.codespan_reporting.specs.Inner.IndexedLabels.{index_of_file}
+use Rattle.codespan_reporting.specs.Private.IndexedLabels.{index_of_file}
 use Rattle.codespan_reporting.proofs.FileOrder.{file_ids-has, has}
 use Rattle.codespan_reporting.proofs.FileIndices.{Differ, first_seen-differ}
 use Rattle.codespan_reporting.proofs.LabelIndexing.{IsElementAt, has-index, take-at}

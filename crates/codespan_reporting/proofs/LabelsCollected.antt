@@ -15,15 +15,15 @@ use Rattle.codespan_reporting.specs.declared.term.views.collect.labeled_files.La
 use Rattle.codespan_reporting.specs.declared.term.views.collect.label_annotations.FoundAnnotations.{FoundAnnotations}
 use Rattle.codespan_reporting.specs.declared.term.views.file_start.FileStart.{FileStart}
 use Rattle.codespan_reporting.specs.declared.term.views.collect.label_annotations.LabelIndices.{LabelIndices}
-use Rattle.codespan_reporting.specs.Inner.CollectedLabels.{FindsLines, ExtendsPadding, collected_label, label_failure, labels_failure, lookups_of_label}
-use Rattle.codespan_reporting.specs.Inner.Annotations.{Annotation, annotations_of}
-use Rattle.codespan_reporting.specs.Inner.AnnotationViews.{Adds, AddsOf, IsLineOf, IsOfFiles, annotation_view}
-use Rattle.codespan_reporting.specs.Inner.LabeledFiles.{HasLabels, ids_view, lanes_view, lanes_in, lanes_with_label, starts_with_label, starts_view, with_file}
-use Rattle.codespan_reporting.specs.Inner.Loci.{file_start, no_start}
+use Rattle.codespan_reporting.specs.Private.CollectedLabels.{FindsLines, ExtendsPadding, collected_label, label_failure, labels_failure, lookups_of_label}
+use Rattle.codespan_reporting.specs.Private.Annotations.{Annotation, annotations_of}
+use Rattle.codespan_reporting.specs.Private.AnnotationViews.{Adds, AddsOf, IsLineOf, IsOfFiles, annotation_view}
+use Rattle.codespan_reporting.specs.Private.LabeledFiles.{HasLabels, ids_view, lanes_view, lanes_in, lanes_with_label, starts_with_label, starts_view, with_file}
+use Rattle.codespan_reporting.specs.Private.Loci.{file_start, no_start}
 use Rattle.codespan_picture.specs.Lookups.{lookups_of_file, first_error, label_lookups, label_line_lookups}
 use Rattle.codespan_picture.specs.Picture.{label_of}
-use Rattle.codespan_reporting.specs.Inner.IndexedLabels.{IsIdAt, annotations_after, index_of_file, indices_after}
-use Rattle.codespan_reporting.specs.Inner.SpannedDigits.{all_digits, label_digits}
+use Rattle.codespan_reporting.specs.Private.IndexedLabels.{IsIdAt, annotations_after, index_of_file, indices_after}
+use Rattle.codespan_reporting.specs.Private.SpannedDigits.{all_digits, label_digits}
 use Rattle.codespan_picture.specs.Snippets.{InFile, file_ids}
 use Rattle.codespan_laws.proofs.Greatest.{greatest-append}
 use Rattle.codespan_laws.proofs.SortedLists.{all-both, all-mapped, all-weaker}

@@ -7,8 +7,8 @@ use Rattle.codespan_base.specs.FileModel.{FileModel}
 use Rattle.codespan_base.specs.Labels.{LabelModel, LaneMark, MultiLabel, lane_mark_of, lane_marks_on, multi_labels, part_on}
 use Rattle.codespan_picture.specs.Arguments.{LaneMarkTuple, lane_mark_view, lanes_in_order, ascend_from}
 use Rattle.codespan_picture.specs.Snippets.{LabeledFileModel, lane_count}
-use Rattle.codespan_reporting.specs.Inner.Annotations.{Annotation, is_below}
-use Rattle.codespan_reporting.specs.Inner.SnippetLines.{do_lane_marks_fit, lane_marks_in}
+use Rattle.codespan_reporting.specs.Private.Annotations.{Annotation, is_before}
+use Rattle.codespan_reporting.specs.Private.SnippetLines.{do_lane_marks_fit, lane_marks_in}
 use Rattle.codespan_reporting.proofs.AnnotationOrder.{lane_below, lane_mark_annotation}
 use Rattle.codespan_laws.proofs.SortedLists.{Climbs, all-weaker}
 
@@ -51,13 +51,13 @@ ascend-above count least (m ∷ ms) up =
     (low, all-weaker (λ (k : LaneMark). m.lane + 1 ≤ k.lane) (λ k. least ≤ k.lane) (λ k h. omega arith) ms (ascend-above count (m.lane + 1) ms parts.1))
 
 -- their annotations climb
-pub ascend-climbs : (f l count least : ℕ) (ms : List LaneMark) → ascend_from count least ms ≡ true → Climbs is_below (map (lane_mark_annotation f l) ms)
+pub ascend-climbs : (f l count least : ℕ) (ms : List LaneMark) → ascend_from count least ms ≡ true → Climbs is_before (map (lane_mark_annotation f l) ms)
 ascend-climbs f l count least [] up = tt
 ascend-climbs f l count least (m ∷ ms) up =
     let parts = both-true (nat_le least m.lane && nat_lt m.lane count) (ascend_from count (m.lane + 1) ms) up in
     (later ms (ascend-above count (m.lane + 1) ms parts.1), ascend-climbs f l count (m.lane + 1) ms parts.1)
   where
-    later : (ks : List LaneMark) → AllByRecursion (λ (k : LaneMark). m.lane + 1 ≤ k.lane) ks → AllByRecursion (λ e. is_below (lane_mark_annotation f l m) e ≡ true) (map (lane_mark_annotation f l) ks)
+    later : (ks : List LaneMark) → AllByRecursion (λ (k : LaneMark). m.lane + 1 ≤ k.lane) ks → AllByRecursion (λ e. is_before (lane_mark_annotation f l m) e ≡ true) (map (lane_mark_annotation f l) ks)
     later [] h = tt
     later (k ∷ ks) h = (lane_below f l m k (let low = h.0 in omega arith), later ks h.1)
 

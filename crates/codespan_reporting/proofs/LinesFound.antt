@@ -10,8 +10,8 @@ use Rattle.codespan_base.specs.FileModel.{FileModel, Lookup, or_failure}
 use Rattle.codespan_base.specs.FileModel.Lookup.{LineNumber}
 use Rattle.codespan_picture.specs.Lookups.{Failures, lookups_of_file, first_error}
 use Rattle.codespan_reporting.specs.declared.term.views.plan.snippet_lines.SnippetLine.{SnippetLine as RustLine}
-use Rattle.codespan_reporting.specs.Inner.SnippetLineViews.{AddsLines, IsSnippetLineIn, numbers_looked_up, line_view}
-use Rattle.codespan_reporting.specs.Inner.SnippetLines.{SnippetLine, fill_of, fills_of}
+use Rattle.codespan_reporting.specs.Private.SnippetLineViews.{AddsLines, IsSnippetLineIn, numbers_looked_up, line_view}
+use Rattle.codespan_reporting.specs.Private.SnippetLines.{SnippetLine, fill_of, fills_of}
 use Rattle.codespan_reporting.proofs.LookupRuns.{first_error-lookups, or_failure-succeeded, or_failure-some}
 use Rattle.codespan_laws.proofs.SortedLists.{all-append}
 

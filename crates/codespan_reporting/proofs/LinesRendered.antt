@@ -12,10 +12,10 @@ use Rattle.codespan_picture.specs.Rows.{RowContext, Row}
 use Rattle.codespan_picture.specs.RowStreams.{stream_of, stream_of_rows}
 use Rattle.codespan_reporting.specs.declared.term.views.snippet.lines.Snippet.{Snippet}
 use Rattle.codespan_reporting.specs.declared.term.views.plan.snippet_lines.SnippetLine.{SnippetLine as RustLine}
-use Rattle.codespan_reporting.specs.Inner.LookupsOnTheWay.{WritesWithLookups}
-use Rattle.codespan_reporting.specs.Inner.SourceFiles.{failure_of, model_of}
-use Rattle.codespan_reporting.specs.Inner.SnippetLineViews.{lookups_of_line, lookups_of_lines, line_view}
-use Rattle.codespan_reporting.specs.Inner.SnippetLines.{SnippetLine, rows_of_line, rows_of_lines}
+use Rattle.codespan_reporting.specs.Private.LookupsWhileRendering.{WritesWithLookups}
+use Rattle.codespan_reporting.specs.Private.SourceFiles.{failure_of, model_of}
+use Rattle.codespan_reporting.specs.Private.SnippetLineViews.{lookups_of_line, lookups_of_lines, line_view}
+use Rattle.codespan_reporting.specs.Private.SnippetLines.{SnippetLine, rows_of_line, rows_of_lines}
 use Rattle.codespan_reporting.proofs.LookupRuns.{IsLookupRun, run_as, run_cut, run_of_nothing, run_then, first_error-lookups}
 use Rattle.codespan_reporting.proofs.LabelIndexing.{IsElementAt, take-at}
 

@@ -13,12 +13,12 @@ use Rattle.codespan_base.specs.Labels.{LabelModel, is_primary}
 use Rattle.codespan_picture.specs.declared.arguments.Locus as rust_locus
 use Rattle.codespan_picture.specs.Arguments.{locus_view}
 use Rattle.codespan_picture.specs.Picture.{label_of}
-use Rattle.codespan_reporting.specs.Inner.TextLoci.{IsTextLocus}
+use Rattle.codespan_reporting.specs.Private.TextLoci.{IsTextLocus}
 use Rattle.codespan_picture.specs.Snippets.{InFile, file_ids, if_any, labeled_file_model, least, locus_start}
 use Rattle.codespan_reporting.specs.declared.term.views.file_start.FileStart.{FileStart}
-use Rattle.codespan_reporting.specs.Inner.LabeledFiles.{starts_with_label}
-use Rattle.codespan_reporting.specs.Inner.Loci.{file_start, is_locus_label, least_if_any, least_with, no_start, start_byte, start_with, label_starts}
-use Rattle.codespan_reporting.specs.Inner.IndexedLabels.{index_of_file}
+use Rattle.codespan_reporting.specs.Private.LabeledFiles.{starts_with_label}
+use Rattle.codespan_reporting.specs.Private.Loci.{file_start, is_locus_label, least_if_any, least_with, no_start, start_byte, start_with, label_starts}
+use Rattle.codespan_reporting.specs.Private.IndexedLabels.{index_of_file}
 use Rattle.codespan_laws.proofs.SortedLists.{all-weaker, filter-nothing}
 use Rattle.codespan_reporting.proofs.LabelIndexing.{IsElementAt, IsChanged, unchanged-at, set-at}
 use Rattle.codespan_reporting.proofs.LabelsBefore.{before, before-more, has-file, ids-differ}

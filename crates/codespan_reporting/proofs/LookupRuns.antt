@@ -11,7 +11,7 @@ use Rattle.codespan_base.specs.FileModel.{Lookup, or_failure}
 use Rattle.codespan_base.specs.Streams.{Stream}
 use Rattle.codespan_base.specs.WriterLaw.{Sink, Writes, PrefixWritten}
 use Rattle.codespan_base.proofs.Writes.{with_written-nil, PrefixWritten-first, PrefixWritten-last}
-use Rattle.codespan_reporting.specs.Inner.LookupsOnTheWay.{WrotePrefix, FailedWithLookups, WritesWithLookups}
+use Rattle.codespan_reporting.specs.Private.LookupsWhileRendering.{WrotePrefix, FailedWithLookups, WritesWithLookups}
 use Rattle.codespan_picture.specs.Lookups.{Failures, lookups_of_file, first_error}
 use Rattle.codespan_base.proofs.Chains.{written-then, failed-before, failed-then, known-after}
 use Rattle.codespan_reporting.proofs.Renderings.{PrefixWritten-none}

@@ -4,7 +4,7 @@ use Rattle.std.specs.Str.Lines.{lines}
 use Rattle.std.proofs.lemmas.Grind.{flat_map-append}
 use Rattle.std.proofs.lemmas.List.{append-nil, map-append, take-append-drop, take_all, take_more}
 use Rattle.codespan_base.specs.Streams.{Stream, newline}
-use Rattle.codespan_picture.specs.Rows.{RowContext, Row, BlankRow, LaterNoteRow}
+use Rattle.codespan_picture.specs.Rows.{RowContext, Row, FinalRow, LaterNoteRow}
 use Rattle.codespan_picture.specs.RowStreams.{first_note_row, later_note_row, stream_of, stream_of_rows}
 use Rattle.codespan_renderer.specs.Renderers.{later_notes, note_stream}
 use Rattle.codespan_picture.specs.Snippets.{note_rows, piece_rows}
@@ -26,7 +26,7 @@ module _ (context : RowContext) where
 
 -- all that is written of these notes
 abbrev pub whole_of_notes : RowContext → List (List ℕ) → Stream
-whole_of_notes context notes = stream_of_rows context (note_rows notes ++ BlankRow ∷ [])
+whole_of_notes context notes = stream_of_rows context (note_rows notes ++ FinalRow ∷ [])
 
 module _ {N : Type 0} (text : N → List ℕ) (context : RowContext) where
   -- the stream of the rows of notes
@@ -57,5 +57,5 @@ module _ {N : Type 0} (text : N → List ℕ) (context : RowContext) where
   notes-all notes i past = ap (λ (ns : List N). stream_of_notes ns) (take_all i notes past)
 
   -- the rows of the notes, and the empty line
-  pub notes-blank : (notes : List N) → stream_of_rows context (note_rows (map text notes) ++ BlankRow ∷ []) ≡ stream_of_notes notes ++ newline
-  notes-blank notes = flat_map-append (ended context) (note_rows (map text notes)) (BlankRow ∷ []) ∙ ap (λ (s : Stream). stream_of_notes notes ++ s) (append-nil newline)
+  pub notes-blank : (notes : List N) → stream_of_rows context (note_rows (map text notes) ++ FinalRow ∷ []) ≡ stream_of_notes notes ++ newline
+  notes-blank notes = flat_map-append (ended context) (note_rows (map text notes)) (FinalRow ∷ []) ∙ ap (λ (s : Stream). stream_of_notes notes ++ s) (append-nil newline)

@@ -11,19 +11,19 @@ use Rattle.codespan_base.specs.FileModel.{FileDatabase, Lookup, or_failure}
 use Rattle.codespan_base.specs.Streams.{Stream}
 use Rattle.codespan_base.specs.WriterLaw.{Writes, Sink}
 use Rattle.codespan_base.specs.Errors.{IsIo}
-use Rattle.codespan_reporting.specs.Inner.LookupsOnTheWay.{WroteStream, WritesWithLookups}
+use Rattle.codespan_reporting.specs.Private.LookupsWhileRendering.{WroteStream, WritesWithLookups}
 use Rattle.codespan_picture.specs.Snippets.{row_after, snippet, snippets}
 use Rattle.codespan_picture.specs.Lookups.{lookups_of_file, first_error, late_lookups, snippet_lookups}
 use Rattle.codespan_picture.specs.Picture.{labels_of, context_of, notes_of}
-use Rattle.codespan_picture.specs.Rows.{EmptyRow, RowContext, Locus, Row, StartRow}
+use Rattle.codespan_picture.specs.Rows.{EmptyRow, RowContext, Locus, Row, SnippetStartRow}
 use Rattle.codespan_picture.specs.RowStreams.{stream_of_rows}
 use Rattle.codespan_picture.specs.Snippets.{InFile, LabeledFileModel, empty_lanes, has_any, labeled_file_model, labeled_file_models}
 use Rattle.codespan_base.specs.FileModel.Lookup.{Source}
 use Rattle.codespan_picture.specs.Arguments.{locus_view}
-use Rattle.codespan_reporting.specs.Inner.OutputPlans.{AreSnippetPlans, IsOutputPlan, IsSnippetPlan, ids_of, loci_of}
-use Rattle.codespan_reporting.specs.Inner.SnippetRows.{end_rows, lookups_with, rows_in}
-use Rattle.codespan_reporting.specs.Inner.SnippetLineViews.{line_view}
-use Rattle.codespan_reporting.specs.Inner.SnippetLines.{rows_of_lines}
+use Rattle.codespan_reporting.specs.Private.OutputPlans.{AreSnippetPlans, IsOutputPlan, IsSnippetPlan, ids_of, loci_of}
+use Rattle.codespan_reporting.specs.Private.SnippetRows.{trailing_border_rows, lookups_with, rows_in}
+use Rattle.codespan_reporting.specs.Private.SnippetLineViews.{line_view}
+use Rattle.codespan_reporting.specs.Private.SnippetLines.{rows_of_lines}
 use Rattle.codespan_reporting.specs.Views.{diagnostic_of, view_config_of}
 use Rattle.codespan_reporting.specs.declared.term.views.rich.RichDiagnostic.{RichDiagnostic}
 use Rattle.codespan_reporting.specs.declared.term.views.plan.OutputPlan.{OutputPlan}
@@ -126,11 +126,11 @@ module _ {Id : Type 0} {table : FileDatabase Id} {config : Config} {xs : List (I
 
 module _ {Id : Type 0} {config : Config} {own : LabeledFileModel} {f : SnippetPlan Id} {snippet_lines : List (RustLine Id)} (is : IsSnippetPlan config own f snippet_lines) where
   -- its rows
-  rows-are : (followed : Bool) → rows_in f own.file snippet_lines ++ end_rows f followed ≡ snippet config (locus_view f.locus) own ++ row_after followed own
+  rows-are : (followed : Bool) → rows_in f own.file snippet_lines ++ trailing_border_rows f followed ≡ snippet config (locus_view f.locus) own ++ row_after followed own
   rows-are followed =
-      (λ i. (StartRow (locus_view f.locus) ∷ EmptyRow (record { count = is.lanes_are i; marks = [] }) ∷ []) ++ rows_of_lines own.file (is.lanes_are i) (map line_view snippet_lines)
+      (λ i. (SnippetStartRow (locus_view f.locus) ∷ EmptyRow (record { count = is.lanes_are i; marks = [] }) ∷ []) ++ rows_of_lines own.file (is.lanes_are i) (map line_view snippet_lines)
       ++ (if followed then EmptyRow (record { count = is.lanes_are i; marks = [] }) ∷ [] else []))
-      ∙ ap (λ (r : List Row). (StartRow (locus_view f.locus) ∷ EmptyRow (empty_lanes own) ∷ []) ++ r ++ (if followed then EmptyRow (empty_lanes own) ∷ [] else [])) is.rows
+      ∙ ap (λ (r : List Row). (SnippetStartRow (locus_view f.locus) ∷ EmptyRow (empty_lanes own) ∷ []) ++ r ++ (if followed then EmptyRow (empty_lanes own) ∷ [] else [])) is.rows
 
 -- ---- the files from an index on
 
@@ -265,7 +265,7 @@ module _ {Id : Type 0} {table : FileDatabase Id} {view : RichDiagnostic Id} {ren
     snippet_stream = stream_of_rows context (rows_in f (table.file f.file.now.id) snippet_lines)
 
     abbrev end_stream : Stream
-    end_stream = stream_of_rows context (end_rows f follows)
+    end_stream = stream_of_rows context (trailing_border_rows f follows)
 
     -- its lookups, as its snippet lines make them
     abbrev snippet_lines_failure : Option Error
@@ -283,7 +283,7 @@ module _ {Id : Type 0} {table : FileDatabase Id} {view : RichDiagnostic Id} {ren
         let followed : follows ≡ (has_any (drop (k + 1) ids) || has_notes) =
         (λ i. notes_are i || nat_lt (k + 1) ((count_is ∙ sym (ids-count output_plan.files.items)) i)) ∙ sym (followed-at has_notes ids k) in
         run_as (or_failure-none snippet_lines_failure ∙ ap (λ (ls : List Lookup). first_error table.failure (lookups_of_file f.file.now.id (Source ∷ ls))) is.lookups)
-        (sym (rows-two context (rows_in f (table.file f.file.now.id) snippet_lines) (end_rows f follows))
+        (sym (rows-two context (rows_in f (table.file f.file.now.id) snippet_lines) (trailing_border_rows f follows))
         ∙ ap (stream_of_rows context) (rows-are is follows)
         ∙ ap (λ (b : Bool). stream_of_rows context (snippet (view_config_of view) (locus_view f.locus) own ++ row_after b own)) followed)
         both
@@ -322,16 +322,16 @@ module _ {Id : Type 0} {table : FileDatabase Id} {view : RichDiagnostic Id} {ren
     module _ {inner : Sink} (renders : WritesWithLookups snippet_lines_failure mid (stream_of_rows (context_by now) (rows_in f (table.file f.file.now.id) snippet_lines)) (Ok tt) inner)
         {after : Config} (equal_after : after ≡ now) where
       -- then the row after it was rendered, by an equal configuration, however that ends
-      end-here : {r : Result (Unit {0}) Error} {new : Sink} → Writes inner (stream_of_rows (context_by after) (end_rows f follows)) r new → IfErr r IsIo
+      end-here : {r : Result (Unit {0}) Error} {new : Sink} → Writes inner (stream_of_rows (context_by after) (trailing_border_rows f follows)) r new → IfErr r IsIo
           → IsLookupRun (first_error table.failure lookups_here) mid (stream_of_rows context rows_here) r new
       end-here {r} {new} writes io =
-          rendered-here (run_then (snippet-here renders) (run_of_writes r (write_at (λ (c : Config). stream_of_rows (context_by c) (end_rows f follows)) (equal_after ∙ equal) inner new r writes) io))
+          rendered-here (run_then (snippet-here renders) (run_of_writes r (write_at (λ (c : Config). stream_of_rows (context_by c) (trailing_border_rows f follows)) (equal_after ∙ equal) inner new r writes) io))
 
       -- it was written
-      pub next-file : {new : Sink} → WroteStream inner (stream_of_rows (context_by after) (end_rows f follows)) new → SnippetsLeft table view output_plan renderer (k + 1) old new
+      pub next-file : {new : Sink} → WroteStream inner (stream_of_rows (context_by after) (trailing_border_rows f follows)) new → SnippetsLeft table view output_plan renderer (k + 1) old new
       next-file written = left-next (end-here written tt)
 
       -- it was cut short
-      pub cut-after_snippet : {new : Sink} {e : Error} → Writes inner (stream_of_rows (context_by after) (end_rows f follows)) (Err e) new → IsIo e
+      pub cut-after_snippet : {new : Sink} {e : Error} → Writes inner (stream_of_rows (context_by after) (trailing_border_rows f follows)) (Err e) new → IsIo e
           → WritesWithLookups all_failure old (stream_of_rows context all_rows) (Err e) new
       cut-after_snippet writes io = left-cut (end-here writes io)

@@ -8,19 +8,19 @@ use Rattle.codespan_picture.specs.Lookups.{early_lookups, first_error, label_loo
 use Rattle.codespan_picture.specs.Snippets.{InFile}
 use Rattle.codespan_reporting.specs.declared.term.views.annotation.Annotation.{Annotation as RustAnnotation}
 use Rattle.codespan_reporting.specs.declared.term.views.collect.Collected.{Collected}
-use Rattle.codespan_reporting.specs.Inner.CollectedLabels.{labels_failure}
-use Rattle.codespan_reporting.specs.Inner.Annotations.{is_below}
-use Rattle.codespan_reporting.specs.Inner.AnnotationViews.{IsOfFiles, annotation_view}
-use Rattle.codespan_reporting.specs.Inner.OutputPlans.{IsCollected, IsCollectedInTurn, output_plan_lookups, padding_lookups, file_locus_lookups, output_plan_failure}
-use Rattle.codespan_reporting.specs.Inner.LabeledFiles.{ids_view}
-use Rattle.codespan_reporting.specs.Inner.IndexedLabels.{all_annotations}
+use Rattle.codespan_reporting.specs.Private.CollectedLabels.{labels_failure}
+use Rattle.codespan_reporting.specs.Private.Annotations.{is_before}
+use Rattle.codespan_reporting.specs.Private.AnnotationViews.{IsOfFiles, annotation_view}
+use Rattle.codespan_reporting.specs.Private.OutputPlans.{IsCollected, IsCollectedInTurn, output_plan_lookups, padding_lookups, file_locus_lookups, output_plan_failure}
+use Rattle.codespan_reporting.specs.Private.LabeledFiles.{ids_view}
+use Rattle.codespan_reporting.specs.Private.IndexedLabels.{all_annotations}
 use Rattle.codespan_reporting.proofs.LookupRuns.{first_error-append}
 use Rattle.codespan_reporting.proofs.Collecting.{collected-each, collected-kind}
 use Rattle.codespan_reporting.proofs.FileParts.{collected-sorted}
 
 -- what was collected, put in order
 pub collected-in_order : {Id : Type 0} {table : FileDatabase Id} {config : Config} {xs : List (InFile Id)} {was : Collected Id} (annotations : Vec (RustAnnotation Id) Global) → IsCollectedInTurn table config xs was
-    → IsPermutation was.annotations.items annotations.items → IsSortedBy is_below (map annotation_view annotations.items) → IsCollected table config xs (record was { annotations = annotations })
+    → IsPermutation was.annotations.items annotations.items → IsSortedBy is_before (map annotation_view annotations.items) → IsCollected table config xs (record was { annotations = annotations })
 collected-in_order {Id} {table} {config} {xs} {was} annotations g perm up =
     let of_files = IsOfFiles table.file (ids_view was.files.items) in
     let of_all_labels = all_annotations table.same table.file config xs in

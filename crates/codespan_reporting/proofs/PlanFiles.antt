@@ -15,24 +15,24 @@ use Rattle.codespan_picture.specs.Arguments.{locus_view}
 use Rattle.codespan_picture.specs.Lines.{drawn_lines}
 use Rattle.codespan_picture.specs.Lookups.{lookups_of_file, filled_lines, first_error, locus_lookups, numbers_for_padding, filled_line_lookups}
 use Rattle.codespan_picture.specs.Padding.{digit_count, digits_of, numbered_lines, padding_of}
-use Rattle.codespan_reporting.specs.Inner.TextLoci.{IsTextLocus}
+use Rattle.codespan_reporting.specs.Private.TextLoci.{IsTextLocus}
 use Rattle.codespan_picture.specs.Snippets.{InFile, LabeledFileModel, labeled_file_model, labeled_file_models, lane_count, locus_start, rows_after, file_ids}
 use Rattle.codespan_reporting.specs.declared.term.views.collect.Collected.{Collected}
 use Rattle.codespan_reporting.specs.declared.term.views.collect.labeled_files.LabeledFile.{LabeledFile as RustFile}
 use Rattle.codespan_reporting.specs.declared.term.views.plan.snippet_plans.SnippetPlan.{SnippetPlan}
 use Rattle.codespan_reporting.specs.declared.term.views.plan.snippet_lines.SnippetLine.{SnippetLine as RustLine}
 use Rattle.codespan_reporting.specs.declared.term.views.plan.snippet_lines.SnippetLine.TheVariants as rust
-use Rattle.codespan_reporting.specs.Inner.Annotations.{Annotation}
-use Rattle.codespan_reporting.specs.Inner.OutputPlans.{AreSnippetPlans, IsCollected, IsOutputPlan, IsSnippetPlan, ids_of, padding_lookups, file_locus_lookups, output_plan_failure}
-use Rattle.codespan_reporting.specs.Inner.AnnotationViews.{annotation_view}
-use Rattle.codespan_reporting.specs.Inner.LabeledFiles.{HasLabels, ids_view}
+use Rattle.codespan_reporting.specs.Private.Annotations.{Annotation}
+use Rattle.codespan_reporting.specs.Private.OutputPlans.{AreSnippetPlans, IsCollected, IsOutputPlan, IsSnippetPlan, ids_of, padding_lookups, file_locus_lookups, output_plan_failure}
+use Rattle.codespan_reporting.specs.Private.AnnotationViews.{annotation_view}
+use Rattle.codespan_reporting.specs.Private.LabeledFiles.{HasLabels, ids_view}
 use Rattle.codespan_reporting.specs.declared.term.views.plan.OutputPlan.{OutputPlan}
-use Rattle.codespan_reporting.specs.Inner.SnippetLineViews.{IsSnippetLineIn, IsSnippetLineOf, lookups_of_line, lookups_of_lines, lookups_of_filled, numbers_looked_up, line_view}
-use Rattle.codespan_reporting.specs.Inner.Loci.{loci_lookups, start_byte}
-use Rattle.codespan_reporting.specs.Inner.IndexedLabels.{IsIdAt}
-use Rattle.codespan_reporting.specs.Inner.SnippetPlans.{ArePlans, ArePlansOf, IsPlan, number_lookups, plans_failure, line_digits, lines_at}
-use Rattle.codespan_reporting.specs.Inner.LineRendering.{DoFit}
-use Rattle.codespan_reporting.specs.Inner.SnippetLines.{SnippetLine, fill_of, fills_of, rows_of_lines}
+use Rattle.codespan_reporting.specs.Private.SnippetLineViews.{IsSnippetLineIn, IsSnippetLineOf, lookups_of_line, lookups_of_lines, lookups_of_filled, numbers_looked_up, line_view}
+use Rattle.codespan_reporting.specs.Private.Loci.{loci_lookups, start_byte}
+use Rattle.codespan_reporting.specs.Private.IndexedLabels.{IsIdAt}
+use Rattle.codespan_reporting.specs.Private.SnippetPlans.{ArePlans, ArePlansOf, IsPlan, number_lookups, plans_failure, line_digits, lines_at}
+use Rattle.codespan_reporting.specs.Private.LineRendering.{DoFit}
+use Rattle.codespan_reporting.specs.Private.SnippetLines.{SnippetLine, fill_of, fills_of, rows_of_lines}
 use Rattle.codespan_reporting.proofs.PlansFound.{by_index-same}
 use Rattle.codespan_reporting.proofs.SpannedPadding.{spanned-padding_width}
 use Rattle.codespan_reporting.proofs.AnnotationOutput.{snippet-fills, snippet-fits, snippet-lines, snippet-rows}

@@ -14,19 +14,19 @@ use Rattle.codespan_base.specs.declared.files.Error.TheVariants.{FormatError, Ou
 use Rattle.codespan_base.specs.declared.term.config.Layout.{Layout}
 use Rattle.codespan_base.specs.FileModel.{FileModel, Lookup, or_failure}
 use Rattle.codespan_picture.specs.Lookups.{Failures, lookups_of_file, first_error}
-use Rattle.codespan_reporting.specs.Inner.FileLookups.{FailsByOrFormat}
+use Rattle.codespan_reporting.specs.Private.FileLookups.{FailsByOrFormat}
 use Rattle.codespan_reporting.specs.declared.term.views.annotation.Annotation.{Annotation as RustAnnotation}
 use Rattle.codespan_reporting.specs.declared.term.views.collect.labeled_files.LabeledFile.{LabeledFile as RustFile}
 use Rattle.codespan_reporting.specs.declared.term.views.plan.snippet_plans.SnippetPlan.{SnippetPlan}
 use Rattle.codespan_reporting.specs.declared.term.views.plan.snippet_lines.SnippetLine.{SnippetLine as RustLine}
-use Rattle.codespan_reporting.specs.Inner.Annotations.{Annotation, is_below, is_of_file}
-use Rattle.codespan_reporting.specs.Inner.AnnotationViews.{IsLineOf, IsOfFiles, annotation_view}
-use Rattle.codespan_reporting.specs.Inner.SnippetLineViews.{AddsLines, numbers_looked_up}
-use Rattle.codespan_reporting.specs.Inner.LabeledFiles.{ids_view}
-use Rattle.codespan_reporting.specs.Inner.Loci.{locus_lookups_of, loci_lookups}
-use Rattle.codespan_reporting.specs.Inner.IndexedLabels.{IsIdAt}
-use Rattle.codespan_reporting.specs.Inner.SnippetPlans.{ArePlans, IsPlan, by_index, number_lookups, lines_at}
-use Rattle.codespan_reporting.specs.Inner.SnippetLines.{SnippetLine, fills_of, lines_of}
+use Rattle.codespan_reporting.specs.Private.Annotations.{Annotation, is_before, is_of_file}
+use Rattle.codespan_reporting.specs.Private.AnnotationViews.{IsLineOf, IsOfFiles, annotation_view}
+use Rattle.codespan_reporting.specs.Private.SnippetLineViews.{AddsLines, numbers_looked_up}
+use Rattle.codespan_reporting.specs.Private.LabeledFiles.{ids_view}
+use Rattle.codespan_reporting.specs.Private.Loci.{locus_lookups_of, loci_lookups}
+use Rattle.codespan_reporting.specs.Private.IndexedLabels.{IsIdAt}
+use Rattle.codespan_reporting.specs.Private.SnippetPlans.{ArePlans, IsPlan, by_index, number_lookups, lines_at}
+use Rattle.codespan_reporting.specs.Private.SnippetLines.{SnippetLine, fills_of, lines_of}
 use Rattle.codespan_reporting.proofs.LookupRuns.{first_error-append, or_failure-succeeded, or_failure-none, or_failure-some}
 use Rattle.codespan_reporting.proofs.FileParts.{IsFilePart, from_file, next-file, next_part}
 use Rattle.codespan_reporting.proofs.FileIndices.{at-get}
@@ -78,7 +78,7 @@ module _ {Id : Type 0} (file : Id → FileModel) where
 -- a loop over the files is at one of them: the annotations from an index on are those of it and of
 -- later files, and its own are counted
 pub record IsAtFile {Id : Type 0} (files : List (RustFile Id)) (xs : List (RustAnnotation Id)) (at n k : ℕ) (f : RustFile Id) : Type 0 where
-  pub up : IsSortedBy is_below (map annotation_view xs)
+  pub up : IsSortedBy is_before (map annotation_view xs)
   pub inside : at ≤ length xs
   pub left : drop at (map annotation_view xs) ≡ from_file k (map annotation_view xs)
   pub counted : n ≡ prefix_len (λ e. is_of_file k (annotation_view e)) (take (length xs - at) (drop at xs))

@@ -18,16 +18,16 @@ use Rattle.codespan_base.proofs.Writes.{PrefixWritten-first, PrefixWritten-last,
 use Rattle.codespan_reporting.specs.declared.term.views.plan.OutputPlan.{OutputPlan}
 use Rattle.codespan_reporting.specs.declared.term.views.plan.snippet_plans.SnippetPlan.{SnippetPlan}
 use Rattle.codespan_reporting.specs.declared.term.views.plan.snippet_lines.SnippetLine.{SnippetLine as RustLine}
-use Rattle.codespan_reporting.specs.Inner.CollectedLabels.{labels_failure}
-use Rattle.codespan_reporting.specs.Inner.LookupsOnTheWay.{WroteStream, WrotePrefix, FailedWithLookups, WritesWithLookups}
-use Rattle.codespan_reporting.specs.Inner.OutputPlans.{AreSnippetPlans, IsOutputPlan, ids_of, loci_of, output_plan_failure}
+use Rattle.codespan_reporting.specs.Private.CollectedLabels.{labels_failure}
+use Rattle.codespan_reporting.specs.Private.LookupsWhileRendering.{WroteStream, WrotePrefix, FailedWithLookups, WritesWithLookups}
+use Rattle.codespan_reporting.specs.Private.OutputPlans.{AreSnippetPlans, IsOutputPlan, ids_of, loci_of, output_plan_failure}
 use Rattle.codespan_reporting.specs.WriteCalls.{WritesOutput}
 use Rattle.codespan_picture.specs.Lookups.{early_lookups, first_error, late_lookups}
 use Rattle.codespan_picture.specs.Picture.{heading_of, label_of, labels_of, context_of, notes_of}
 use Rattle.codespan_picture.specs.Padding.{padding_of}
 use Rattle.codespan_picture.specs.Snippets.{snippets}
-use Rattle.codespan_reporting.specs.Inner.TextLoci.{IsLocusOfFile}
-use Rattle.codespan_picture.specs.Rows.{BlankRow, HeaderRow, Row}
+use Rattle.codespan_reporting.specs.Private.TextLoci.{IsLocusOfFile}
+use Rattle.codespan_picture.specs.Rows.{FinalRow, HeaderRow, Row}
 use Rattle.codespan_picture.specs.RowStreams.{header_row, stream_of, stream_of_rows}
 use Rattle.codespan_picture.specs.Snippets.{InFile, has_any, labeled_file_model, labeled_file_models, note_rows}
 use Rattle.codespan_base.proofs.Chains.{written-then, failed-before, failed-then, known-after}
@@ -72,7 +72,7 @@ bare-whole {renderer = renderer} {view = view} {files = files} {d = d} {old = ol
       loci = [];
       are = subst (λ (xs : List (InFile _)). AllZip IsLocusOfFile (labeled_file_models files.same files.file xs) []) (sym none) tt;
       holds = ap (λ (xs : List (InFile _)). stream_of_rows (context_of renderer d.severity (padding_of view (labeled_file_models files.same files.file xs)))
-          (HeaderRow None (heading_of d) ∷ (note_rows (notes_of d) ++ (BlankRow ∷ [])))) none;
+          (HeaderRow None (heading_of d) ∷ (note_rows (notes_of d) ++ (FinalRow ∷ [])))) none;
     })
 
 -- ---- before the header
@@ -166,9 +166,9 @@ module _ {Id : Type 0} {view : Config} {table : FileDatabase Id} {d : Diagnostic
       record {
         loci = loci_of output_plan.files.items;
         are = loci-are;
-        holds = ap (λ n. stream_of_rows (context_of renderer d.severity n) ((HeaderRow None (heading_of d) ∷ rows) ++ note_rows (notes_of d) ++ (BlankRow ∷ []))) (sym ready.planned.padding_is)
-            ∙ ap (stream_of_rows context) (append_assoc (HeaderRow None (heading_of d) ∷ rows) (note_rows (notes_of d)) (BlankRow ∷ []))
-            ∙ flat_map-append ended (HeaderRow None (heading_of d) ∷ rows) (note_rows (notes_of d) ++ (BlankRow ∷ []));
+        holds = ap (λ n. stream_of_rows (context_of renderer d.severity n) ((HeaderRow None (heading_of d) ∷ rows) ++ note_rows (notes_of d) ++ (FinalRow ∷ []))) (sym ready.planned.padding_is)
+            ∙ ap (stream_of_rows context) (append_assoc (HeaderRow None (heading_of d) ∷ rows) (note_rows (notes_of d)) (FinalRow ∷ []))
+            ∙ flat_map-append ended (HeaderRow None (heading_of d) ∷ rows) (note_rows (notes_of d) ++ (FinalRow ∷ []));
       }
 
   -- a prefix of that is one of the output

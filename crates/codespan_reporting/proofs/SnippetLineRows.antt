@@ -8,8 +8,8 @@ use Rattle.codespan_picture.specs.Sequences.{break_between, gap_between, in_sequ
 use Rattle.codespan_picture.specs.Snippets.{break_rows, line_rows}
 use Rattle.codespan_laws.proofs.Filling.{given, is_filled, lines-shown}
 use Rattle.codespan_laws.proofs.Sequences.{all-gap, all-sequence, flat_map-gap, flat_map-sequence, sequence-flat}
-use Rattle.codespan_reporting.specs.Inner.Annotations.{Annotation}
-use Rattle.codespan_reporting.specs.Inner.SnippetLines.{SnippetLine, Labeled, Filled, Break, line_of_group, rows_of_line, rows_of_lines, fill_of, fills_of, do_annotations_fit, do_lane_marks_fit, does_line_fit}
+use Rattle.codespan_reporting.specs.Private.Annotations.{Annotation}
+use Rattle.codespan_reporting.specs.Private.SnippetLines.{SnippetLine, Labeled, Filled, Break, line_of_group, rows_of_line, rows_of_lines, fill_of, fills_of, do_annotations_fit, do_lane_marks_fit, does_line_fit}
 use Rattle.codespan_reporting.proofs.AnnotationGroups.{lines_after}
 
 -- the line of a snippet line that has one

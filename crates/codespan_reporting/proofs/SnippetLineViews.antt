@@ -3,9 +3,9 @@ use Rattle.std.proofs.Common.{◌≡◌, ℕ, ◌+◌, ◌-◌, ◌<◌, ◌≤�
 use Rattle.std.specs.List.{prefix_len}
 use Rattle.std.proofs.lemmas.List.{drop-map, take-map, length-drop, length-map, length-take, get_or-map}
 use Rattle.codespan_reporting.specs.declared.term.views.annotation.Annotation.{Annotation as RustAnnotation}
-use Rattle.codespan_reporting.specs.Inner.Annotations.{Annotation, is_on_line, shows_line}
-use Rattle.codespan_reporting.specs.Inner.AnnotationViews.{annotation_view}
-use Rattle.codespan_reporting.specs.Inner.SnippetLines.{SnippetLine, groups, lines_from, lines_to}
+use Rattle.codespan_reporting.specs.Private.Annotations.{Annotation, is_on_line, shows_line}
+use Rattle.codespan_reporting.specs.Private.AnnotationViews.{annotation_view}
+use Rattle.codespan_reporting.specs.Private.SnippetLines.{SnippetLine, groups, lines_from, lines_to}
 use Rattle.codespan_reporting.proofs.FileParts.{next_part, prefix-map}
 use Rattle.codespan_reporting.proofs.GroupLines.{IsGroup, part, next_group, snippet_lines-next, snippet_lines-skip}
 

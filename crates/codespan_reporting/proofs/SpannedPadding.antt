@@ -13,8 +13,8 @@ use Rattle.codespan_base.specs.FileModel.{FileModel, line_count}
 use Rattle.codespan_base.specs.Labels.{LabelModel}
 use Rattle.codespan_picture.specs.Padding.{digit_count, digits_of, numbered_lines, padding_of, spanned_lines, spans}
 use Rattle.codespan_picture.specs.Snippets.{InFile, LabeledFileModel, labeled_file_model, labeled_file_models, file_ids}
-use Rattle.codespan_reporting.specs.Inner.IndexedLabels.{IsIdAt, index_of_file}
-use Rattle.codespan_reporting.specs.Inner.SpannedDigits.{all_digits, digits_on, label_digits}
+use Rattle.codespan_reporting.specs.Private.IndexedLabels.{IsIdAt, index_of_file}
+use Rattle.codespan_reporting.specs.Private.SpannedDigits.{all_digits, digits_on, label_digits}
 use Rattle.codespan_laws.proofs.Greatest.{greatest-any, greatest-append, greatest-same}
 use Rattle.codespan_laws.proofs.PaddingLemmas.{contains-filter, contains-range, numbered-fits}
 use Rattle.codespan_laws.proofs.RefillLemmas.{any-map}

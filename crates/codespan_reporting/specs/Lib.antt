@@ -47,4 +47,4 @@ pub mod Output
 pub mod WriteCalls
 pub mod Views
 -- words that private calls and proofs use
-pub mod Inner
+pub mod Private

@@ -21,19 +21,19 @@ use position::{CellPosition, extent};
 use std::alloc::{AllocError, Global};
 
 /// The width of a cell, in pixels.
-const CELL: u128 = 9;
+const CELL_WIDTH: u128 = 9;
 
 /// The height of a row, in pixels.
-const ROW: u128 = 18;
+const ROW_HEIGHT: u128 = 18;
 
 /// The margin around the rows, in pixels.
 const MARGIN: u128 = 12;
 
 /// The pixels from the top of the document down to the baseline of the first row.
-const BASE: u128 = 25;
+const BASELINE: u128 = 25;
 
 /// The end of the first tag, with the font and the color of plain text, and the dark background.
-const GROUND: &str =
+const BACKGROUND: &str =
     " font-family=\"DejaVu Sans Mono, Menlo, Consolas, monospace\" font-size=\"15\" fill=\"#e6edf3\" xml:space=\"preserve\">
 <rect width=\"100%\" height=\"100%\" rx=\"6\" fill=\"#161b22\"/>
 ";
@@ -79,7 +79,7 @@ fn document(alloc: Global, glyphs: &[Glyph]) -> Result<String, AllocError>
 {
     let mut document = String::new(alloc);
     push_size(alloc, &mut document, extent(glyphs))?;
-    document.push_str(GROUND)?;
+    document.push_str(BACKGROUND)?;
     push_texts(alloc, &mut document, glyphs)?;
     document.push_str("</svg>\n")?;
     Ok(document)
@@ -92,8 +92,8 @@ fn push_size(alloc: Global, document: &mut String, extent: CellPosition) -> Resu
     ensures { OnOk result (string_bytes document.new ≡ string_bytes document.old
         ++ codes "<" ++ size_element extent) }
 {
-    let width = 2 * MARGIN + CELL * extent.column;
-    let height = 2 * MARGIN + ROW * extent.row;
+    let width = 2 * MARGIN + CELL_WIDTH * extent.column;
+    let height = 2 * MARGIN + ROW_HEIGHT * extent.row;
     let tag = format!(in alloc;
         "<svg xmlns=\"http://www.w3.org/2000/svg\" width=\"{width}\" height=\"{height}\" viewBox=\"0 0 {width} {height}\""
     )?;
@@ -171,9 +171,9 @@ fn push_tag(
     ensures { OnOk result (string_bytes document.new ≡ string_bytes document.old
         ++ text_tag position cells ink) }
 {
-    let x = MARGIN + CELL * position.column;
-    let y = BASE + ROW * position.row;
-    let length = CELL * cells;
+    let x = MARGIN + CELL_WIDTH * position.column;
+    let y = BASELINE + ROW_HEIGHT * position.row;
+    let length = CELL_WIDTH * cells;
     let tag = format!(in alloc; "<text x=\"{x}\" y=\"{y}\" textLength=\"{length}\"")?;
     document.push_str(tag.as_str())?;
     push_color(document, ink.color)?;

@@ -10,7 +10,7 @@ use Rattle.codespan_base.specs.Diagnostics.{DiagnosticView, LabelView}
 use Rattle.codespan_base.specs.FileModel.{FileModel}
 use Rattle.codespan_base.specs.SimpleModel.{simple_file}
 use Rattle.codespan_base.specs.Streams.{bytes, text_of}
-use Rattle.codespan_reporting.specs.Rows.{Heading}
+use Rattle.codespan_reporting.specs.Rows.{HeaderText}
 use Rattle.codespan_reporting.specs.Picture.{rendered, starts}
 use Rattle.codespan_reporting.specs.StatedPicture.{stated_locus}
 use Rattle.codespan_reporting.specs.Snippets.{InFile, labeled_file_models}
@@ -26,7 +26,7 @@ use Rattle.report.specs.Scripts.{ScriptView, read_script}
 -- ---- the output of a diagnostic
 
 -- the header
-abbrev pub view_heading : DiagnosticView (Unit {0}) → Heading
+abbrev pub view_heading : DiagnosticView (Unit {0}) → HeaderText
 view_heading diagnostic = record { code = diagnostic.code; message = diagnostic.message }
 
 -- a label, as the definition of the output takes it

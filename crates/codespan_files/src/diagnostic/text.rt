@@ -10,12 +10,12 @@ use std::fmt::{Display, Write};
 
 /// Collects a text, and keeps whether an allocation for it failed.
 #[derive(Drop)]
-struct GrowingText {
+struct DisplayBuffer {
     text: String,
     failed: bool,
 }
 
-impl Write for GrowingText {
+impl Write for DisplayBuffer {
     ghost write_str_gives = { λ s bytes t. string_bytes t.text ≡ string_bytes s.text ++ bytes };
 
     fn write_str(&mut self, piece: &str) -> fmt::Result {
@@ -40,7 +40,7 @@ pub fn display_text<D: Display + Drop>(alloc: Global, value: D) -> Result<String
         IfSome (D.output value) (λ bytes. string_bytes text ≡ bytes)) }
     ensures failed { IfErr result IsTextFailure }
 {
-    let mut growing = GrowingText {
+    let mut growing = DisplayBuffer {
         text: String::new(alloc),
         failed: false,
     };

@@ -120,7 +120,7 @@ impl<'a, Name: Display + 'a, Source: AsStr + 'a> Files<'a> for SimpleFiles<Name,
     ///
     /// [`Error::FileMissing`] where the id is not below the number of files.
     fn name(&'a self, id: usize) -> Result<&'a Name, Error>
-        ensures plain_ref { IfOk result (λ name.
+        ensures borrowed { IfOk result (λ name.
             IfSome (slice_get (entries self.now) id) (λ entry. name.now ≡ entry.0)) }
         ensures value { IfOk result (λ name.
             Name.output name.now ≡ (file_in Name.output self.now id).name) }

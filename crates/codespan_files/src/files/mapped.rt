@@ -173,7 +173,7 @@ impl<'a, Name: Display + 'a, Source: AsStr + 'a> Files<'a> for MappedFile<Name, 
     /// Returns the file's name. Never fails.
     fn name(&'a self, _id: ()) -> Result<&'a Name, Error>
         ensures succeeds { IsOk result }
-        ensures plain_ref { IfOk result (λ name. name.now ≡ mapped_name_of self.now) }
+        ensures borrowed { IfOk result (λ name. name.now ≡ mapped_name_of self.now) }
         ensures value { IfOk result (λ name.
             Name.output name.now ≡ Name.output (mapped_name_of self.now)) }
         ensures failed { FailsBy None result }
@@ -184,7 +184,7 @@ impl<'a, Name: Display + 'a, Source: AsStr + 'a> Files<'a> for MappedFile<Name, 
     /// Returns the source's text. Never fails.
     fn source(&'a self, _id: ()) -> Result<&'a str, Error>
         ensures succeeds { IsOk result }
-        ensures plain_ref { IfOk result (λ text. text.now ≡ mapped_text_of self.now) }
+        ensures borrowed { IfOk result (λ text. text.now ≡ mapped_text_of self.now) }
         ensures failed { FailsBy None result }
     {
         Ok(self.source.as_str())

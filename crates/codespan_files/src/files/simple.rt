@@ -117,7 +117,7 @@ impl<'a, Name: Display + 'a, Source: AsStr + 'a> Files<'a> for SimpleFile<Name, 
     /// Returns the file's name. Never fails.
     fn name(&'a self, _id: ()) -> Result<&'a Name, Error>
         ensures succeeds { IsOk result }
-        ensures plain_ref { IfOk result (λ name. name.now ≡ name_of self.now) }
+        ensures borrowed { IfOk result (λ name. name.now ≡ name_of self.now) }
         ensures value { IfOk result (λ name.
             Name.output name.now ≡ Name.output (name_of self.now)) }
         ensures failed { FailsBy None result }
@@ -128,7 +128,7 @@ impl<'a, Name: Display + 'a, Source: AsStr + 'a> Files<'a> for SimpleFile<Name, 
     /// Returns the source's text. Never fails.
     fn source(&'a self, _id: ()) -> Result<&'a str, Error>
         ensures succeeds { IsOk result }
-        ensures plain_ref { IfOk result (λ text. text.now ≡ text_of self.now) }
+        ensures borrowed { IfOk result (λ text. text.now ≡ text_of self.now) }
         ensures failed { FailsBy None result }
     {
         Ok(self.source.as_str())

@@ -7,25 +7,25 @@ use Rattle.codespan_renderer.specs.declared.term.renderer.line.RowContext as con
 use Rattle.codespan_renderer.specs.declared.term.renderer.line.Line as line
 
 -- the tab width, the text and the labels
-pub record SourcedLine : Type 0 where
+pub record CharInput : Type 0 where
   pub tab_width : ℕ
   pub text : List ℕ
   pub labels : List SingleLabelTuple
 
 -- those of a rendered line
-abbrev pub sourced_line : context.RowContext → line.Line → SourcedLine
-sourced_line x row = record {
+abbrev pub char_input : context.RowContext → line.Line → CharInput
+char_input x row = record {
   tab_width = x.tab_width;
   text = row.text.now;
   labels = row.labels.now;
 }
 
 -- the characters of the line
-abbrev pub characters_of : SourcedLine → List Metrics
+abbrev pub characters_of : CharInput → List Metrics
 characters_of x = char_metrics x.tab_width x.text
 
 -- the characters of the line, and the position after the last one
-abbrev pub characters_to_end_of : SourcedLine → List Metrics
+abbrev pub characters_to_end_of : CharInput → List Metrics
 characters_to_end_of x = char_metrics_to_end x.tab_width x.text
 
 -- characters that end at this byte index or before it

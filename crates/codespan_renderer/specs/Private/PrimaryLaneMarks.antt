@@ -17,7 +17,7 @@ is_marked m c = is_from m.from c.byte_index || nat_le (c.byte_index + c.bytes) m
 
 -- they cover the characters that the labels of the primary ones of these multi-line label marks
 -- cover
-abbrev pub AreLaneMarksOf : List LaneMark → PrimaryLaneMarks → Type 0
-AreLaneMarksOf marks given =
+abbrev pub CoversAsMarks : List LaneMark → PrimaryLaneMarks → Type 0
+CoversAsMarks marks given =
     (c : Metrics) → 1 ≤ c.bytes → is_marked given c
     ≡ list_any (λ (m : LaneMark). is_primary_style m.style && part_covers c m.part) marks

@@ -19,14 +19,14 @@ caret_run chars None count = spaces count
 caret_run chars (Some style) count = repeated count (caret_for chars (Some style))
 
 -- of two styles a primary one takes precedence
-abbrev pub better : Option LabelStyle → LabelStyle → Option LabelStyle
-better (Some Primary) style = Some Primary
-better _ style = Some style
+abbrev pub primary_first : Option LabelStyle → LabelStyle → Option LabelStyle
+primary_first (Some Primary) style = Some Primary
+primary_first _ style = Some style
 
 -- the best style among what was found and the labels that pass
 abbrev pub best_from : (LabelModel → Bool) → Option LabelStyle → List LabelModel → Option LabelStyle
 best_from passes found xs =
-    fold (λ best (x : LabelModel). better best x.style) found (filter passes xs)
+    fold (λ best (x : LabelModel). primary_first best x.style) found (filter passes xs)
 
 -- the style of the pointer under a character, where a label hangs from it
 abbrev pub pointer_found : List LabelModel → Metrics → Option LabelStyle

@@ -8,16 +8,16 @@ use Rattle.codespan_picture.specs.CharMetrics.{width_of}
 use Rattle.codespan_picture.specs.RowParts.{metrics_before, metrics_up_to, end_caret, start_caret, underline_message}
 
 -- how many cells an underline has between its corner and its caret
-abbrev pub run_width : List Metrics → MultiLabel → ℕ
-run_width cs (Top start) = width_of (metrics_up_to start cs)
-run_width cs Left = 0
-run_width cs (Bottom end message) = width_of (metrics_before end cs)
+abbrev pub underline_width : List Metrics → MultiLabel → ℕ
+underline_width cs (Top start) = width_of (metrics_up_to start cs)
+underline_width cs Left = 0
+underline_width cs (Bottom end message) = width_of (metrics_before end cs)
 
 -- an underline of this width, the caret, and the message
-unfoldable pub run_underline : Chars → LabelStyle → ℕ → MultiLabel → Stream
-run_underline chars style width (Top start) =
+unfoldable pub underline_by_width : Chars → LabelStyle → ℕ → MultiLabel → Stream
+underline_by_width chars style width (Top start) =
     repeated width chars.multi_top ++ glyph (start_caret chars style)
-run_underline chars style width Left = []
-run_underline chars style width (Bottom end message) =
+underline_by_width chars style width Left = []
+underline_by_width chars style width (Bottom end message) =
     repeated width chars.multi_bottom ++ glyph (end_caret chars style)
     ++ underline_message message

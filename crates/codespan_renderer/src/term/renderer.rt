@@ -28,7 +28,7 @@ use codespan_base::diagnostic::{LabelStyle, Severity};
 use codespan_base::files::Error;
 use codespan_base::term::{Config, WriteStyle};
 pub use codespan_picture::arguments::{Locus, MultiLabel, SingleLabel};
-use header::{write_header, write_start};
+use header::{write_header, write_snippet_start};
 use line::RowContext;
 pub use line::{Lanes, Line};
 use line_rows::write_line;
@@ -155,7 +155,7 @@ impl<'writer, 'config, W: WriteStyle> Renderer<'writer, 'config, W> {
     {
         let config = self.config;
         let mut rows = RowWriter::new(self.writer, &self.saved);
-        let written = write_start(&mut rows, &config.chars, outer_padding, locus);
+        let written = write_snippet_start(&mut rows, &config.chars, outer_padding, locus);
         with_error(written, &self.saved)
     }
 

@@ -3,15 +3,15 @@
 ghost use Rattle.std.specs.Prelude.{◌≡◌, ◌+◌, ◌++◌, None};
 ghost use Rattle.codespan_base.specs.Streams.{newline};
 ghost use Rattle.codespan_base.specs.WriterLaw.{Writes};
-ghost use Rattle.codespan_picture.specs.Carets.{covers, covers_part, style_under, greatest_end};
+ghost use Rattle.codespan_picture.specs.Carets.{covers, is_overlapping, style_under, max_label_end};
 ghost use Rattle.codespan_picture.specs.Arguments.{single_label_view, single_label_views};
-ghost use Rattle.codespan_renderer.specs.Private.Runs.{better, caret_run, optional_label_view};
+ghost use Rattle.codespan_renderer.specs.Private.Runs.{primary_first, caret_run, optional_label_view};
 ghost use Rattle.codespan_renderer.specs.Private.LineViews.{context_view, line_view};
 ghost use Rattle.codespan_renderer.specs.Private.RowViews.{carets_view, line_metrics_to_end_view, label_message_view};
 ghost use Rattle.codespan_picture.specs.RowParts.{carets, change, trailing_message};
 ghost use Rattle.codespan_picture.specs.RowStreams.{caret_row};
 ghost use Rattle.codespan_picture.specs.Rows.{trailing};
-ghost use Rattle.codespan_renderer.specs.Private.LineSources.{sourced_line};
+ghost use Rattle.codespan_renderer.specs.Private.LineSources.{char_input};
 
 use crate::term::renderer::SingleLabel;
 use crate::term::renderer::char_cursor::CharCursor;
@@ -27,15 +27,15 @@ use codespan_base::term::config::put_style::PutStyle;
 use codespan_base::term::config::writing::put_all;
 
 /// Returns whether the label has a byte from `start` to before `end`.
-pub fn covers_part(label: &SingleLabel<'_>, start: usize, end: usize) -> bool
-    ensures { result ≡ covers_part (single_label_view label.now) start end }
+pub fn is_overlapping(label: &SingleLabel<'_>, start: usize, end: usize) -> bool
+    ensures { result ≡ is_overlapping (single_label_view label.now) start end }
 {
     label.1.start.max(start) < label.1.end.min(end)
 }
 
 /// Returns the greatest end of the labels, or 0 where there is none.
-pub fn greatest_end(labels: &[SingleLabel<'_>]) -> usize
-    ensures { result ≡ greatest_end (single_label_views labels.now) }
+pub fn max_label_end(labels: &[SingleLabel<'_>]) -> usize
+    ensures { result ≡ max_label_end (single_label_views labels.now) }
 {
     let mut greatest = 0;
     for label in labels {
@@ -52,9 +52,9 @@ pub fn covers(label: &SingleLabel<'_>, metrics: Metrics) -> bool
     first < label.1.end && first - metrics.byte_index < metrics.bytes
 }
 
-/// Returns the better of two styles: a primary one takes precedence.
-pub fn better(found: Option<LabelStyle>, style: LabelStyle) -> Option<LabelStyle>
-    ensures { result ≡ better found style }
+/// Returns the primary_first of two styles: a primary one takes precedence.
+pub fn primary_first(found: Option<LabelStyle>, style: LabelStyle) -> Option<LabelStyle>
+    ensures { result ≡ primary_first found style }
 {
     match found {
         Some(LabelStyle::Primary) => found,
@@ -69,7 +69,7 @@ pub fn style_under(labels: &[SingleLabel<'_>], metrics: Metrics) -> Option<Label
     let mut found = None;
     for label in labels {
         if covers(label, metrics) {
-            found = better(found, label.0);
+            found = primary_first(found, label.0);
         }
     }
     found
@@ -120,13 +120,13 @@ fn write_carets<W: PutStyle, S: LineSource>(
     line: Line<'_, '_>,
     source: &S,
 ) -> Result<(), W::Error>
-    requires of { S.of source.now ≡ sourced_line context line }
+    requires of { S.of source.now ≡ char_input context line }
     ensures { Writes (W.sink w.old)
         (carets_view context.entry line.entry.labels.now
         (line_metrics_to_end_view context.entry line.entry))
         result (W.sink w.new) }
 {
-    let end = greatest_end(line.labels);
+    let end = max_label_end(line.labels);
     let (mut run, mut characters) = source.characters_from_labels(end);
     let mut previous = None;
     while let Some(metrics) = characters.next_metrics() {
@@ -186,7 +186,7 @@ pub fn write_caret_row<W: PutStyle, S: LineSource>(
     source: &S,
     messages: Messages<'_, '_>,
 ) -> Result<(), W::Error>
-    requires of { S.of source.now ≡ sourced_line context line }
+    requires of { S.of source.now ≡ char_input context line }
     requires trailing { optional_label_view messages.trailing
         ≡ trailing (single_label_views line.labels.now) }
     ensures { Writes (W.sink w.old)

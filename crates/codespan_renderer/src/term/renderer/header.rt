@@ -7,7 +7,7 @@ ghost use Rattle.codespan_base.specs.WriterLaw.{Writes};
 ghost use Rattle.codespan_base.specs.SnippetStarts.{start_text};
 ghost use Rattle.codespan_picture.specs.Arguments.{locus_view, text_now};
 ghost use Rattle.codespan_picture.specs.RowParts.{severity_name};
-ghost use Rattle.codespan_picture.specs.RowStreams.{bracketed, leading_locus, start_row};
+ghost use Rattle.codespan_picture.specs.RowStreams.{bracketed, leading_locus, snippet_start_row};
 ghost use Rattle.codespan_renderer.specs.Private.RowViews.{header_start_view};
 ghost use Rattle.codespan_renderer.specs.Renderers.{rendered_header};
 
@@ -106,13 +106,14 @@ fn start_text<'a>(chars: &'a Chars<'_>) -> &'a str
 }
 
 /// Writes the start of a file's snippet.
-pub fn write_start<W: PutStyle>(
+pub fn write_snippet_start<W: PutStyle>(
     w: &mut W,
     chars: &Chars<'_>,
     padding: usize,
     locus: &Locus,
 ) -> Result<(), W::Error>
-    ensures { Writes (W.sink w.old) (start_row chars.now padding (locus_view locus.now) ++ newline)
+    ensures { Writes (W.sink w.old)
+        (snippet_start_row chars.now padding (locus_view locus.now) ++ newline)
         result (W.sink w.new) }
 {
     outer_gutter(w, padding)?;

@@ -2,7 +2,7 @@
 
 ghost use Rattle.std.specs.Prelude.{◌≡◌, IsTrue};
 ghost use Rattle.std.specs.Str.{IsUtf8};
-ghost use Rattle.codespan_picture.specs.CharMetrics.{leading_whitespace, drawn_text, is_line_end};
+ghost use Rattle.codespan_picture.specs.CharMetrics.{leading_whitespace, text_without_line_end, is_line_end};
 ghost use Rattle.codespan_picture.specs.Arguments.{lanes_in_order};
 
 use crate::term::renderer::{MultiLabel, SingleLabel};
@@ -65,10 +65,10 @@ impl<'row, 'd> Line<'row, 'd> {
     ) -> Line<'row, 'd>
         ensures line { line_view result
             ≡ source_line number source.now labels.now lanes.entry.count lanes.entry.marks.now }
-        ensures text { result.text.now ≡ drawn_text source.now }
+        ensures text { result.text.now ≡ text_without_line_end source.now }
         ensures labels { result.labels.now ≡ labels.now }
     {
-        let text = drawn_text(source);
+        let text = text_without_line_end(source);
         Line {
             number,
             text,
@@ -80,8 +80,8 @@ impl<'row, 'd> Line<'row, 'd> {
 }
 
 /// Returns the text of a line without the line feeds, carriage returns and NULs at its end.
-pub fn drawn_text(source: &str) -> &str
-    ensures { result.now ≡ drawn_text source.now }
+pub fn text_without_line_end(source: &str) -> &str
+    ensures { result.now ≡ text_without_line_end source.now }
 {
     let bytes = source.as_bytes();
     let mut end = bytes.len();

@@ -5,7 +5,7 @@ ghost use Rattle.codespan_base.specs.WriterLaw.{Writes};
 ghost use Rattle.codespan_picture.specs.Arguments.{single_label_views};
 ghost use Rattle.codespan_picture.specs.Rows.{rows_of, trailing};
 ghost use Rattle.codespan_picture.specs.RowStreams.{stream_of_rows};
-ghost use Rattle.codespan_renderer.specs.Private.LineSources.{sourced_line};
+ghost use Rattle.codespan_renderer.specs.Private.LineSources.{char_input};
 ghost use Rattle.codespan_renderer.specs.Private.LineViews.{context_view, line_view};
 ghost use Rattle.codespan_renderer.specs.Private.RowViews.{caret_rows_view};
 ghost use Rattle.codespan_renderer.specs.Private.Runs.{optional_label_view};
@@ -27,7 +27,7 @@ fn write_caret_rows<W: PutStyle, S: LineSource>(
     source: &S,
     messages: Messages<'_, '_>,
 ) -> Result<(), W::Error>
-    requires of { S.of source.now ≡ sourced_line context line }
+    requires of { S.of source.now ≡ char_input context line }
     requires trailing { optional_label_view messages.trailing
         ≡ trailing (single_label_views line.labels.now) }
     ensures { Writes (W.sink w.old) (caret_rows_view context.entry line.entry) result
@@ -48,7 +48,7 @@ pub fn write_line<W: PutStyle, S: LineSource>(
     line: Line<'_, '_>,
     source: &S,
 ) -> Result<(), W::Error>
-    requires of { S.of source.now ≡ sourced_line context line }
+    requires of { S.of source.now ≡ char_input context line }
     ensures { Writes (W.sink w.old)
         (stream_of_rows (context_view context.entry) (rows_of (line_view line.entry)))
         result (W.sink w.new) }

@@ -4,10 +4,10 @@ ghost use Rattle.std.specs.Prelude.{◌≡◌, ◌≤◌};
 ghost use Rattle.codespan_base.specs.WriterLaw.{Writes};
 ghost use Rattle.codespan_picture.specs.CharMetrics.{width_of};
 ghost use Rattle.codespan_picture.specs.Arguments.{single_label_views};
-ghost use Rattle.codespan_picture.specs.RowParts.{metrics_before, metrics_up_to, greatest_start};
+ghost use Rattle.codespan_picture.specs.RowParts.{metrics_before, metrics_up_to, max_label_start};
 ghost use Rattle.codespan_renderer.specs.Private.RowViews.{line_metrics_view, pointers_view, pointers_before_view};
 ghost use Rattle.codespan_renderer.specs.Private.Runs.{AreHanging, least_start};
-ghost use Rattle.codespan_renderer.specs.Private.LineSources.{LeavesOut, SourcedLine, sourced_line, characters_of, characters_to_end_of};
+ghost use Rattle.codespan_renderer.specs.Private.LineSources.{LeavesOut, CharInput, char_input, characters_of, characters_to_end_of};
 
 use crate::term::renderer::char_cursor::CharCursor;
 use crate::term::renderer::line::{Line, RowContext};
@@ -23,7 +23,7 @@ pub trait LineSource {
     type Cursor: CharCursor;
 
     /// The tab width, the text and the labels of the line.
-    ghost of: { Self → SourcedLine };
+    ghost of: { Self → CharInput };
 
     /// Returns a cursor over the characters of the line.
     fn characters(&self) -> Self::Cursor
@@ -61,7 +61,7 @@ pub trait LineSource {
         line: Line<'_, '_>,
         messages: Messages<'_, '_>,
     ) -> Result<(), W::Error>
-        requires of { of self.now ≡ sourced_line context line }
+        requires of { of self.now ≡ char_input context line }
         requires hanging { AreHanging line.labels.now messages.before.now messages.after.now }
         ensures { Writes (W.sink w.old)
             (pointers_view context.entry line.entry (line_metrics_view context.entry line.entry))
@@ -77,9 +77,9 @@ pub trait LineSource {
         messages: Messages<'_, '_>,
         before: usize,
     ) -> Result<(), W::Error>
-        requires of { of self.now ≡ sourced_line context line }
+        requires of { of self.now ≡ char_input context line }
         requires hanging { AreHanging line.labels.now messages.before.now messages.after.now }
-        requires near { before ≤ greatest_start (single_label_views line.labels.now) }
+        requires near { before ≤ max_label_start (single_label_views line.labels.now) }
         ensures { Writes (W.sink w.old) (pointers_before_view context.entry line.entry before)
             result (W.sink w.new) };
 }

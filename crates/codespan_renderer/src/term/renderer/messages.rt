@@ -4,10 +4,10 @@ ghost use Rattle.std.specs.Prelude.{◌≡◌, ◌<◌, length, false, IfSome};
 ghost use Rattle.std.specs.Option.{option_map_or};
 ghost use Rattle.codespan_picture.specs.Arguments.{single_label_view, single_label_views};
 ghost use Rattle.codespan_renderer.specs.Private.Runs.{optional_label_view, label_entry_view, AreHanging, ArePieces};
-ghost use Rattle.codespan_picture.specs.Rows.{trailing, last_with_end, is_overlapped, does_trail};
+ghost use Rattle.codespan_picture.specs.Rows.{trailing, last_with_end, overlaps_any, does_trail};
 
 use crate::term::renderer::SingleLabel;
-use crate::term::renderer::carets::{covers_part, greatest_end};
+use crate::term::renderer::carets::{is_overlapping, max_label_end};
 
 /// The messages of the labels of a line.
 #[derive(Clone, Copy)]
@@ -29,7 +29,7 @@ impl<'row, 'd> Messages<'row, 'd> {
         ensures hanging { AreHanging labels.now result.before.now result.after.now }
         ensures pieces { ArePieces labels.now result.before.now result.after.now }
     {
-        match last_with_end(labels, greatest_end(labels)) {
+        match last_with_end(labels, max_label_end(labels)) {
             Some(index) if does_trail(labels, index) => Messages {
                 trailing: Some(&labels[index]),
                 before: &labels[..index],
@@ -67,16 +67,16 @@ fn does_trail(labels: &[SingleLabel<'_>], index: usize) -> bool
 {
     let label = &labels[index];
     !label.2.is_empty()
-        && !is_overlapped(label, &labels[..index])
-        && !is_overlapped(label, &labels[index + 1..])
+        && !overlaps_any(label, &labels[..index])
+        && !overlaps_any(label, &labels[index + 1..])
 }
 
 /// Returns whether one of the others overlaps the label.
-fn is_overlapped(label: &SingleLabel<'_>, others: &[SingleLabel<'_>]) -> bool
-    ensures { result ≡ is_overlapped (single_label_view label.now) (single_label_views others.now) }
+fn overlaps_any(label: &SingleLabel<'_>, others: &[SingleLabel<'_>]) -> bool
+    ensures { result ≡ overlaps_any (single_label_view label.now) (single_label_views others.now) }
 {
     for other in others {
-        if covers_part(label, other.1.start, other.1.end) {
+        if is_overlapping(label, other.1.start, other.1.end) {
             return true;
         }
     }

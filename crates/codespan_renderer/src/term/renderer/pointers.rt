@@ -11,13 +11,13 @@ ghost use Rattle.codespan_renderer.specs.Private.LineViews.{context_view, line_v
 ghost use Rattle.codespan_renderer.specs.Private.RowViews.{line_metrics_view, hanging_stream_view, hanging_rows_view, messages_view, pointers_before_view};
 ghost use Rattle.codespan_picture.specs.Lanes.{label_glyph};
 ghost use Rattle.codespan_picture.specs.Rows.{hanging};
-ghost use Rattle.codespan_picture.specs.RowParts.{metrics_before, greatest_start, pointers, starts_in};
+ghost use Rattle.codespan_picture.specs.RowParts.{metrics_before, max_label_start, pointers, starts_in};
 ghost use Rattle.codespan_picture.specs.RowStreams.{pointer_row, hanging_row};
 ghost use Rattle.codespan_renderer.specs.Private.Runs.{best_from, pointer_found, AreHanging, ArePieces};
-ghost use Rattle.codespan_renderer.specs.Private.LineSources.{sourced_line};
+ghost use Rattle.codespan_renderer.specs.Private.LineSources.{char_input};
 
 use crate::term::renderer::SingleLabel;
-use crate::term::renderer::carets::{better, write_message};
+use crate::term::renderer::carets::{primary_first, write_message};
 use crate::term::renderer::char_metrics::{CharMetrics, Metrics};
 use crate::term::renderer::line::{Line, RowContext};
 use crate::term::renderer::line_source::LineSource;
@@ -28,8 +28,8 @@ use codespan_base::diagnostic::LabelStyle;
 use codespan_base::term::config::put_style::PutStyle;
 
 /// Returns the greatest start of the labels, or 0 where there is none.
-pub fn greatest_start(labels: &[SingleLabel<'_>]) -> usize
-    ensures { result ≡ greatest_start (single_label_views labels.now) }
+pub fn max_label_start(labels: &[SingleLabel<'_>]) -> usize
+    ensures { result ≡ max_label_start (single_label_views labels.now) }
 {
     let mut greatest = 0;
     for label in labels {
@@ -61,7 +61,7 @@ fn best_start(
     let mut best = found;
     for label in labels {
         if !label.2.is_empty() && starts_in(metrics, label) {
-            best = better(best, label.0);
+            best = primary_first(best, label.0);
         }
     }
     best
@@ -114,7 +114,7 @@ pub fn scanned_caret_pointers<W: PutStyle>(
     ensures { Writes (W.sink w.old) (pointers_before_view context.entry line.entry before)
         result (W.sink w.new) }
 {
-    let reach = greatest_start(line.labels);
+    let reach = max_label_start(line.labels);
     let mut pending = 0u128;
     for metrics in CharMetrics::new(line.text, context.tab_width) {
         if metrics.byte_index >= before {
@@ -141,7 +141,7 @@ fn write_pointer_row<W: PutStyle, S: LineSource>(
     source: &S,
     messages: Messages<'_, '_>,
 ) -> Result<(), W::Error>
-    requires of { S.of source.now ≡ sourced_line context line }
+    requires of { S.of source.now ≡ char_input context line }
     requires hanging { AreHanging line.labels.now messages.before.now messages.after.now }
     ensures { Writes (W.sink w.old)
         (pointer_row (context_view context.entry) (line_view line.entry) ++ newline)
@@ -161,10 +161,10 @@ fn write_hanging_row<W: PutStyle, S: LineSource>(
     messages: Messages<'_, '_>,
     label: &SingleLabel<'_>,
 ) -> Result<(), W::Error>
-    requires of { S.of source.now ≡ sourced_line context line }
+    requires of { S.of source.now ≡ char_input context line }
     requires hanging { AreHanging line.labels.now messages.before.now messages.after.now }
     requires near { (single_label_view label.now).start
-        ≤ greatest_start (single_label_views line.labels.now) }
+        ≤ max_label_start (single_label_views line.labels.now) }
     ensures { Writes (W.sink w.old)
         (hanging_row (context_view context.entry) (line_view line.entry)
         (single_label_view label.now)
@@ -185,10 +185,10 @@ fn write_hanging_rows<W: PutStyle, S: LineSource>(
     messages: Messages<'_, '_>,
     labels: &[SingleLabel<'_>],
 ) -> Result<(), W::Error>
-    requires of { S.of source.now ≡ sourced_line context line }
+    requires of { S.of source.now ≡ char_input context line }
     requires hanging { AreHanging line.labels.now messages.before.now messages.after.now }
-    requires near { greatest_start (single_label_views labels.now)
-        ≤ greatest_start (single_label_views line.labels.now) }
+    requires near { max_label_start (single_label_views labels.now)
+        ≤ max_label_start (single_label_views line.labels.now) }
     ensures { Writes (W.sink w.old) (hanging_stream_view context.entry line.entry labels.now)
         result (W.sink w.new) }
 {
@@ -209,7 +209,7 @@ fn write_pointers_and_messages<W: PutStyle, S: LineSource>(
     source: &S,
     messages: Messages<'_, '_>,
 ) -> Result<(), W::Error>
-    requires of { S.of source.now ≡ sourced_line context line }
+    requires of { S.of source.now ≡ char_input context line }
     requires hanging { AreHanging line.labels.now messages.before.now messages.after.now }
     requires pieces { ArePieces line.labels.now messages.before.now messages.after.now }
     ensures { Writes (W.sink w.old) (messages_view context.entry line.entry messages.entry)
@@ -240,7 +240,7 @@ pub fn write_hanging<W: PutStyle, S: LineSource>(
     source: &S,
     messages: Messages<'_, '_>,
 ) -> Result<(), W::Error>
-    requires of { S.of source.now ≡ sourced_line context line }
+    requires of { S.of source.now ≡ char_input context line }
     requires hanging { AreHanging line.labels.now messages.before.now messages.after.now }
     requires pieces { ArePieces line.labels.now messages.before.now messages.after.now }
     ensures { Writes (W.sink w.old) (hanging_rows_view context.entry line.entry)

@@ -4,7 +4,7 @@ ghost use Rattle.std.specs.Prelude.{◌≡◌, ◌||◌, ◌+◌, ◌^◌, ◌<�
 ghost use Rattle.codespan_picture.specs.declared.char_metrics.Metrics as metrics;
 ghost use Rattle.codespan_picture.specs.Arguments.{lane_mark_view, multi_label_view};
 ghost use Rattle.codespan_picture.specs.RowParts.{part_covers};
-ghost use Rattle.codespan_renderer.specs.Private.PrimaryLaneMarks.{AreLaneMarksOf, is_from, is_marked};
+ghost use Rattle.codespan_renderer.specs.Private.PrimaryLaneMarks.{CoversAsMarks, is_from, is_marked};
 
 use crate::term::renderer::MultiLabel;
 use crate::term::renderer::char_metrics::Metrics;
@@ -23,7 +23,7 @@ pub struct PrimaryLaneMarks {
 impl PrimaryLaneMarks {
     /// Returns what the labels of these multi-line label marks cover.
     pub fn of(marks: &[(usize, LabelStyle, MultiLabel<'_>)]) -> PrimaryLaneMarks
-        ensures { AreLaneMarksOf (map lane_mark_view marks.now) result }
+        ensures { CoversAsMarks (map lane_mark_view marks.now) result }
     {
         let mut found = PrimaryLaneMarks { from: None, to: 0 };
         for lane_mark in marks {

@@ -10,14 +10,14 @@ ghost use Rattle.codespan_picture.specs.declared.char_metrics.Metrics as metrics
 ghost use Rattle.codespan_picture.specs.Arguments.{single_label_views, lane_mark_view};
 ghost use Rattle.codespan_renderer.specs.Private.LineViews.{context_view, line_view};
 ghost use Rattle.codespan_renderer.specs.Private.RowViews.{source_lanes_view};
-ghost use Rattle.codespan_renderer.specs.Private.PrimaryLaneMarks.{AreLaneMarksOf};
-ghost use Rattle.codespan_renderer.specs.Private.LineSources.{sourced_line};
+ghost use Rattle.codespan_renderer.specs.Private.PrimaryLaneMarks.{CoversAsMarks};
+ghost use Rattle.codespan_renderer.specs.Private.LineSources.{char_input};
 ghost use Rattle.codespan_renderer.specs.Private.LabelCursors.{is_covered};
 ghost use Rattle.codespan_picture.specs.Rows.{RowContext as RowContextSpec};
 ghost use Rattle.codespan_picture.specs.RowParts.{border, change, colored_text, source_style};
 ghost use Rattle.codespan_picture.specs.RowStreams.{source_row};
 
-use crate::term::renderer::carets::{covers, greatest_end};
+use crate::term::renderer::carets::{covers, max_label_end};
 use crate::term::renderer::char_cursor::CharCursor;
 use crate::term::renderer::char_metrics::Metrics;
 use crate::term::renderer::lanes::{LaneRow, inner_gutter};
@@ -55,7 +55,7 @@ fn text_style<C: CharCursor>(
     requires some { 1 ≤ metrics.bytes }
     requires returned { C.has_returned metrics characters.old }
     requires labels { C.labels characters.old ≡ line.labels.now }
-    requires marks { AreLaneMarksOf (map lane_mark_view line.lanes.marks.now) marks }
+    requires marks { CoversAsMarks (map lane_mark_view line.lanes.marks.now) marks }
     ensures left { C.left characters.new ≡ C.left characters.old }
     ensures labels { C.labels characters.new ≡ C.labels characters.old }
     ensures style { result ≡ source_style (line_view line.entry) metrics }
@@ -114,14 +114,14 @@ pub fn is_plain(line: Line<'_, '_>) -> bool
 /// of the text where there is no other.
 #[inline(always)]
 fn plain_from(line: Line<'_, '_>, marks: PrimaryLaneMarks) -> usize
-    requires marks { AreLaneMarksOf (map lane_mark_view line.lanes.marks.now) marks }
+    requires marks { CoversAsMarks (map lane_mark_view line.lanes.marks.now) marks }
     ensures style { (c : metrics.Metrics) → result ≤ c.byte_index
         → c.byte_index < length line.entry.text.now
         → 1 ≤ c.bytes → source_style (line_view line.entry) c ≡ None }
     ensures tab { list_any (λ b. b == 9) (drop result line.entry.text.now) ≡ false }
 {
     let text = line.text.as_bytes();
-    let end = marks.end().max(greatest_end(line.labels)).min(text.len());
+    let end = marks.end().max(max_label_end(line.labels)).min(text.len());
     if text[end..].contains(&b'\t') {
         text.len()
     } else {
@@ -184,7 +184,7 @@ fn write_text<W: PutStyle, S: LineSource>(
     line: Line<'_, '_>,
     source: &S,
 ) -> Result<(), W::Error>
-    requires of { S.of source.now ≡ sourced_line context line }
+    requires of { S.of source.now ≡ char_input context line }
     ensures { Writes (W.sink w.old)
         (colored_text (context_view context.entry) (line_view line.entry))
         result (W.sink w.new) }
@@ -252,7 +252,7 @@ pub fn write_source_row<W: PutStyle, S: LineSource>(
     line: Line<'_, '_>,
     source: &S,
 ) -> Result<(), W::Error>
-    requires of { S.of source.now ≡ sourced_line context line }
+    requires of { S.of source.now ≡ char_input context line }
     ensures { Writes (W.sink w.old)
         (source_row (context_view context.entry) (line_view line.entry) ++ newline)
         result (W.sink w.new) }

@@ -7,8 +7,8 @@ ghost use Rattle.codespan_picture.specs.CharMetrics.{char_metrics};
 ghost use Rattle.codespan_picture.specs.Arguments.{lane_mark_view, multi_label_view};
 ghost use Rattle.codespan_renderer.specs.Private.LineViews.{context_view, line_view};
 ghost use Rattle.codespan_renderer.specs.Private.RowViews.{underline_lanes_view};
-ghost use Rattle.codespan_renderer.specs.Private.Underlines.{run_underline, run_width};
-ghost use Rattle.codespan_renderer.specs.Private.LineSources.{sourced_line, characters_of};
+ghost use Rattle.codespan_renderer.specs.Private.Underlines.{underline_by_width, underline_width};
+ghost use Rattle.codespan_renderer.specs.Private.LineSources.{char_input, characters_of};
 ghost use Rattle.codespan_picture.specs.Rows.{has_underline, underline_rows};
 ghost use Rattle.codespan_picture.specs.RowParts.{underline_message, start_caret, end_caret, metrics_before, metrics_up_to};
 ghost use Rattle.codespan_picture.specs.RowStreams.{underline_row, stream_of_rows};
@@ -57,8 +57,9 @@ fn write_underline_message<W: PutStyle>(w: &mut W, message: &str) -> Result<(), 
 }
 
 /// Returns how many cells an underline has between its corner and its caret.
-fn run_width<S: LineSource>(source: &S, part: MultiLabel<'_>) -> u128
-    ensures { result ≡ run_width (characters_of (S.of source.now)) (multi_label_view part.entry) }
+fn underline_width<S: LineSource>(source: &S, part: MultiLabel<'_>) -> u128
+    ensures { result
+        ≡ underline_width (characters_of (S.of source.now)) (multi_label_view part.entry) }
 {
     match part {
         MultiLabel::Top(start) => source.width_up_to(start),
@@ -68,7 +69,7 @@ fn run_width<S: LineSource>(source: &S, part: MultiLabel<'_>) -> u128
 }
 
 /// Writes an underline from its corner on: `width` cells, the caret, and the message.
-#[tactic(auto, using(codespan_base::proofs::Writes::write_chains), unfolding(crate::specs::Private::Underlines::run_underline))]
+#[tactic(auto, using(codespan_base::proofs::Writes::write_chains), unfolding(crate::specs::Private::Underlines::underline_by_width))]
 fn label_multi_caret<W: PutStyle>(
     w: &mut W,
     chars: &Chars<'_>,
@@ -77,7 +78,8 @@ fn label_multi_caret<W: PutStyle>(
     width: u128,
 ) -> Result<(), W::Error>
     ensures { Writes (W.sink w.old)
-        (run_underline chars.now style width (multi_label_view part.entry)) result (W.sink w.new) }
+        (underline_by_width chars.now style width (multi_label_view part.entry))
+        result (W.sink w.new) }
 {
     match part {
         MultiLabel::Top(_) => {
@@ -124,7 +126,7 @@ fn write_underline_row<W: PutStyle>(
     lane_mark: (usize, LabelStyle, MultiLabel<'_>),
     width: u128,
 ) -> Result<(), W::Error>
-    requires { width ≡ run_width (char_metrics context.tab_width line.text.now)
+    requires { width ≡ underline_width (char_metrics context.tab_width line.text.now)
         (multi_label_view lane_mark.2) }
     ensures { Writes (W.sink w.old)
         (underline_row (context_view context.entry) (line_view line.entry)
@@ -158,14 +160,14 @@ pub fn write_underlines<W: PutStyle, S: LineSource>(
     line: Line<'_, '_>,
     source: &S,
 ) -> Result<(), W::Error>
-    requires of { S.of source.now ≡ sourced_line context line }
+    requires of { S.of source.now ≡ char_input context line }
     ensures { Writes (W.sink w.old)
         (stream_of_rows (context_view context.entry) (underline_rows (line_view line.entry)))
         result (W.sink w.new) }
 {
     for lane_mark in line.lanes.marks {
         if has_underline(line.leading, lane_mark.2) {
-            let width = run_width(source, lane_mark.2);
+            let width = underline_width(source, lane_mark.2);
             write_underline_row(w, context, line, *lane_mark, width)?;
         }
     }

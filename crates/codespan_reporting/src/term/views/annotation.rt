@@ -5,8 +5,8 @@ ghost use Rattle.std.specs.Option.{option_map};
 ghost use Rattle.codespan_base.specs.Labels.{from_line_start};
 ghost use Rattle.codespan_picture.specs.Arguments.{multi_label_view};
 ghost use Rattle.codespan_picture.specs.Picture.{label_of};
-ghost use Rattle.codespan_reporting.specs.Inner.AnnotationViews.{Adds, kind_view, part_from};
-ghost use Rattle.codespan_reporting.specs.Inner.Annotations.{annotation_if_any};
+ghost use Rattle.codespan_reporting.specs.Private.AnnotationViews.{Adds, kind_view, part_from};
+ghost use Rattle.codespan_reporting.specs.Private.Annotations.{annotation_if_any};
 
 use crate::term::renderer::MultiLabel;
 use codespan_base::diagnostic::Label;

@@ -3,8 +3,8 @@
 ghost use Rattle.std.specs.Prelude.{◌≡◌, map, IfOk};
 ghost use Rattle.codespan_base.specs.LawfulFiles.{FailsBy};
 ghost use Rattle.codespan_picture.specs.Picture.{label_of};
-ghost use Rattle.codespan_reporting.specs.Inner.CollectedLabels.{labels_failure};
-ghost use Rattle.codespan_reporting.specs.Inner.OutputPlans.{IsCollected, IsCollectedInTurn};
+ghost use Rattle.codespan_reporting.specs.Private.CollectedLabels.{labels_failure};
+ghost use Rattle.codespan_reporting.specs.Private.OutputPlans.{IsCollected, IsCollectedInTurn};
 
 use crate::term::views::annotation::Annotation;
 use crate::term::views::annotation::order::put_in_order;

@@ -5,10 +5,10 @@ ghost use Rattle.codespan_base.specs.FileModel.Lookup.{Name as NameLookup, Locat
 ghost use Rattle.codespan_base.specs.Labels.{is_primary};
 ghost use Rattle.codespan_picture.specs.Arguments.{locus_view};
 ghost use Rattle.codespan_picture.specs.Lookups.{lookups_of_file, first_error};
-ghost use Rattle.codespan_reporting.specs.Inner.FileLookups.{FailsByOrFormat};
+ghost use Rattle.codespan_reporting.specs.Private.FileLookups.{FailsByOrFormat};
 ghost use Rattle.codespan_picture.specs.Picture.{label_of};
-ghost use Rattle.codespan_reporting.specs.Inner.TextLoci.{IsTextLocus};
-ghost use Rattle.codespan_reporting.specs.Inner.Loci.{least_with, no_start, start_byte, start_with};
+ghost use Rattle.codespan_reporting.specs.Private.TextLoci.{IsTextLocus};
+ghost use Rattle.codespan_reporting.specs.Private.Loci.{least_with, no_start, start_byte, start_with};
 
 use crate::term::renderer::Locus;
 use codespan_base::diagnostic::text::display_text;

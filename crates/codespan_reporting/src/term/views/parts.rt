@@ -7,8 +7,8 @@ ghost use Rattle.codespan_picture.specs.Arguments.{locus_view};
 ghost use Rattle.codespan_picture.specs.Picture.{notes_of};
 ghost use Rattle.codespan_picture.specs.Snippets.{note_rows};
 ghost use Rattle.codespan_renderer.specs.Renderers.{SameRenderer};
-ghost use Rattle.codespan_reporting.specs.Inner.Rendering.{RendersRows, WritesStream};
-ghost use Rattle.codespan_reporting.specs.Inner.ViewRendering.{header_line};
+ghost use Rattle.codespan_reporting.specs.Private.Rendering.{RendersRows, WritesStream};
+ghost use Rattle.codespan_reporting.specs.Private.ViewRendering.{header_line};
 
 use crate::term::renderer::{Locus, Renderer};
 use codespan_base::diagnostic::Diagnostic;
@@ -20,7 +20,7 @@ use codespan_base::term::WriteStyle;
 /// # Errors
 ///
 /// `Io` alone: the writer fails or takes no bytes.
-pub fn render_heading<FileId, W: WriteStyle>(
+pub fn render_diagnostic_header<FileId, W: WriteStyle>(
     diagnostic: &Diagnostic<FileId>,
     renderer: &mut Renderer<'_, '_, W>,
     locus: Option<&Locus>,

@@ -1,9 +1,9 @@
 //! The plan of a rich output: all that is known before its header is rendered.
 
 ghost use Rattle.std.specs.Prelude.{IfOk, map};
-ghost use Rattle.codespan_reporting.specs.Inner.FileLookups.{FailsByOrFormat};
+ghost use Rattle.codespan_reporting.specs.Private.FileLookups.{FailsByOrFormat};
 ghost use Rattle.codespan_picture.specs.Picture.{label_of};
-ghost use Rattle.codespan_reporting.specs.Inner.OutputPlans.{IsCollected, IsOutputPlan, output_plan_failure};
+ghost use Rattle.codespan_reporting.specs.Private.OutputPlans.{IsCollected, IsOutputPlan, output_plan_failure};
 
 use crate::term::views::collect::Collected;
 use crate::term::views::plan::padding::padding_of_lines;

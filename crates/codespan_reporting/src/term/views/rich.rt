@@ -7,17 +7,17 @@ ghost use Rattle.codespan_picture.specs.Picture.{labels_of, notes_of};
 ghost use Rattle.codespan_picture.specs.Snippets.{has_any};
 ghost use Rattle.codespan_renderer.specs.Renderers.{writer_of, config_of, SameRenderer};
 ghost use Rattle.codespan_reporting.specs.WriteCalls.{WritesStyled};
-ghost use Rattle.codespan_reporting.specs.Inner.OutputPlans.{IsOutputPlan};
-ghost use Rattle.codespan_reporting.specs.Inner.Rendering.{RendersRows, WritesStream};
-ghost use Rattle.codespan_reporting.specs.Inner.ViewRendering.{RendersSnippets, RendersView, output_without_labels, closing_rows};
+ghost use Rattle.codespan_reporting.specs.Private.OutputPlans.{IsOutputPlan};
+ghost use Rattle.codespan_reporting.specs.Private.Rendering.{RendersRows, WritesStream};
+ghost use Rattle.codespan_reporting.specs.Private.ViewRendering.{RendersSnippets, RendersView, output_without_labels, closing_rows};
 
 use crate::term::renderer::Renderer;
 use crate::term::views::collect::collect;
-use crate::term::views::parts::{render_heading, render_notes};
+use crate::term::views::parts::{render_diagnostic_header, render_notes};
 use crate::term::views::plan::{OutputPlan, plan_output};
 use crate::term::views::snippet::line_labels::LineLabels;
 use crate::term::views::snippet::lines::SnippetContext;
-use crate::term::views::snippet::{render_end, render_snippet};
+use crate::term::views::snippet::{render_snippet, render_trailing_border};
 use codespan_base::diagnostic::Diagnostic;
 use codespan_base::files::{Error, Files};
 use codespan_base::term::{Config, WriteStyle};
@@ -126,7 +126,7 @@ impl<'diagnostic, 'config, FileId: Copy + Eq> RichDiagnostic<'diagnostic, 'confi
         let labels = diagnostic.labels.as_slice();
         let collected = collect(alloc, files, self.config, labels)?;
         let output_plan = plan_output(alloc, files, self.config, &collected)?;
-        render_heading(diagnostic, renderer, None)?;
+        render_diagnostic_header(diagnostic, renderer, None)?;
         self.render_snippets(files, renderer, &output_plan)?;
         render_closing(diagnostic, renderer, output_plan.padding)
     }
@@ -163,7 +163,7 @@ impl<'diagnostic, 'config, FileId: Copy + Eq> RichDiagnostic<'diagnostic, 'confi
             start += file.line_total;
             let is_followed = notes_follow | (index + 1 < output_plan.files.len());
             render_snippet(&context, renderer, &mut labels, file, snippet_lines)?;
-            render_end(&context, renderer, file, is_followed)?;
+            render_trailing_border(&context, renderer, file, is_followed)?;
         }
         Ok(())
     }
@@ -205,6 +205,6 @@ fn render_without_labels<FileId, W: WriteStyle>(
         renderer.old result renderer.new }
     ensures io { IfErr result IsIo }
 {
-    render_heading(diagnostic, renderer, None)?;
+    render_diagnostic_header(diagnostic, renderer, None)?;
     render_closing(diagnostic, renderer, 0)
 }

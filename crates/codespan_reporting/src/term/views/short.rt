@@ -5,11 +5,11 @@ ghost use Rattle.codespan_base.specs.declared.term.config.DisplayStyle.TheVarian
 ghost use Rattle.codespan_picture.specs.Picture.{label_of, labels_of};
 ghost use Rattle.codespan_renderer.specs.Renderers.{writer_of, config_of, SameRenderer};
 ghost use Rattle.codespan_reporting.specs.WriteCalls.{WritesStyled};
-ghost use Rattle.codespan_reporting.specs.Inner.ViewRendering.{RendersHeadersOf, RendersInStyle};
+ghost use Rattle.codespan_reporting.specs.Private.ViewRendering.{RendersHeadersOf, RendersInStyle};
 
 use crate::term::renderer::Renderer;
 use crate::term::views::file_start::is_primary;
-use crate::term::views::parts::{render_heading, render_notes};
+use crate::term::views::parts::{render_diagnostic_header, render_notes};
 use crate::term::views::source_file::SourceFile;
 use codespan_base::diagnostic::{Diagnostic, Label};
 use codespan_base::files::{Error, Files};
@@ -120,7 +120,7 @@ fn render_headers<'files, F: Files<'files>, W: WriteStyle>(
     if render_located(files, diagnostic, renderer)? {
         Ok(())
     } else {
-        render_heading(diagnostic, renderer, None)
+        render_diagnostic_header(diagnostic, renderer, None)
     }
 }
 
@@ -161,6 +161,6 @@ fn render_if_primary<'files, F: Files<'files>, W: WriteStyle>(
         id: label.file_id,
     };
     let locus = file.locus(alloc, label.range.start)?;
-    render_heading(diagnostic, renderer, Some(&locus))?;
+    render_diagnostic_header(diagnostic, renderer, Some(&locus))?;
     Ok(true)
 }

@@ -4,10 +4,10 @@ ghost use Rattle.std.specs.Prelude.{IfErr, map};
 ghost use Rattle.std.specs.List.{AllByRecursion};
 ghost use Rattle.codespan_base.specs.Errors.{IsIo};
 ghost use Rattle.codespan_renderer.specs.Renderers.{SameRenderer};
-ghost use Rattle.codespan_reporting.specs.Inner.SnippetRows.{RendersSnippet, end_rows, start_rows};
-ghost use Rattle.codespan_reporting.specs.Inner.SnippetLineViews.{IsSnippetLineOf, line_view};
-ghost use Rattle.codespan_reporting.specs.Inner.Rendering.{RendersRows};
-ghost use Rattle.codespan_reporting.specs.Inner.LineRendering.{DoFit};
+ghost use Rattle.codespan_reporting.specs.Private.SnippetRows.{RendersSnippet, trailing_border_rows, start_rows};
+ghost use Rattle.codespan_reporting.specs.Private.SnippetLineViews.{IsSnippetLineOf, line_view};
+ghost use Rattle.codespan_reporting.specs.Private.Rendering.{RendersRows};
+ghost use Rattle.codespan_reporting.specs.Private.LineRendering.{DoFit};
 
 use crate::term::renderer::Renderer;
 use crate::term::views::plan::snippet_lines::SnippetLine;
@@ -97,7 +97,7 @@ pub fn render_snippet<'files, 'd, F: Files<'files>, W: WriteStyle>(
 /// # Errors
 ///
 /// `Io` alone: the writer fails or takes no bytes.
-pub fn render_end<F, FileId, W: WriteStyle>(
+pub fn render_trailing_border<F, FileId, W: WriteStyle>(
     context: &SnippetContext<'_, F>,
     renderer: &mut Renderer<'_, '_, W>,
     snippet: &SnippetPlan<'_, FileId>,
@@ -105,7 +105,7 @@ pub fn render_end<F, FileId, W: WriteStyle>(
 ) -> Result<(), Error>
     ensures same { SameRenderer renderer.old renderer.new }
     ensures writes { RendersRows W.sink context.now.severity context.now.padding
-        (end_rows snippet.now is_followed) renderer.old result renderer.new }
+        (trailing_border_rows snippet.now is_followed) renderer.old result renderer.new }
     ensures io { IfErr result IsIo }
 {
     if is_followed {

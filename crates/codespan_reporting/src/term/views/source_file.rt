@@ -5,11 +5,11 @@ ghost use Rattle.codespan_base.specs.FileModel.Lookup.{LineNumber, LocationAt, N
 ghost use Rattle.codespan_base.specs.LawfulFiles.{FailsBy};
 ghost use Rattle.codespan_picture.specs.Arguments.{locus_view};
 ghost use Rattle.codespan_picture.specs.Lookups.{line_lookups};
-ghost use Rattle.codespan_reporting.specs.Inner.AnnotationViews.{IsLineAt};
-ghost use Rattle.codespan_reporting.specs.Inner.FileLookups.{FailsByOrFormat};
-ghost use Rattle.codespan_reporting.specs.Inner.SnippetLineViews.{lookups_of_filled};
-ghost use Rattle.codespan_reporting.specs.Inner.SourceFiles.{EndsBefore, failure_of, failure_unless_past_end, model_of};
-ghost use Rattle.codespan_reporting.specs.Inner.TextLoci.{IsTextLocus};
+ghost use Rattle.codespan_reporting.specs.Private.AnnotationViews.{IsLineAt};
+ghost use Rattle.codespan_reporting.specs.Private.FileLookups.{FailsByOrFormat};
+ghost use Rattle.codespan_reporting.specs.Private.SnippetLineViews.{lookups_of_filled};
+ghost use Rattle.codespan_reporting.specs.Private.SourceFiles.{EndsBefore, failure_of, failure_unless_past_end, model_of};
+ghost use Rattle.codespan_reporting.specs.Private.TextLoci.{IsTextLocus};
 
 use crate::term::renderer::Locus;
 use crate::term::views::annotation::LineInfo;

@@ -24,7 +24,7 @@ use crate::term::renderer::line::{Line, RowContext};
 use crate::term::renderer::line_rows::write_line;
 use crate::term::renderer::line_source::LineSource;
 use crate::term::renderer::messages::Messages;
-use crate::term::renderer::pointers::greatest_start;
+use crate::term::renderer::pointers::max_label_start;
 use crate::term::renderer::row_writer::{RowWriter, with_error};
 use codespan_base::diagnostic::{LabelStyle, Severity};
 use codespan_base::files::Error;
@@ -34,13 +34,13 @@ use codespan_base::term::config::put_style::PutStyle;
 /// A cursor over cached characters. It goes through the labels in the order of their starts, each
 /// of them once.
 #[derive(Drop)]
-pub struct CachedCursor<'char_metrics, 'row, 'd> {
-    characters: CachedMetrics<'char_metrics, 'row>,
+pub struct CachedCursor<'cache, 'row, 'd> {
+    characters: CachedMetrics<'cache, 'row>,
     label_cursor: LabelCursor<'row, 'd>,
     ghost state: { ∥ IsBefore label_cursor (cached_left characters) ∥₁ },
 }
 
-impl<'char_metrics, 'row, 'd> CharCursor for CachedCursor<'char_metrics, 'row, 'd> {
+impl<'cache, 'row, 'd> CharCursor for CachedCursor<'cache, 'row, 'd> {
     ghost left = { λ s. cached_left s.characters };
 
     ghost labels = { λ s. s.label_cursor.labels.now };
@@ -65,17 +65,17 @@ impl<'char_metrics, 'row, 'd> CharCursor for CachedCursor<'char_metrics, 'row, '
 
 /// A line with a cache of its characters and pointers.
 #[derive(Drop)]
-pub struct CachedLine<'char_metrics, 'row, 'd> {
+pub struct CachedLine<'cache, 'row, 'd> {
     /// The number of cells from one tab stop to the next.
     pub tab_width: usize,
     /// The line, whose labels are in the order of their starts.
     pub line: Line<'row, 'd>,
     /// Its first characters, up to the first one past the reach of the rows under it.
-    pub cached: &'char_metrics [Metrics],
+    pub cached: &'cache [Metrics],
     /// The scan of those after them.
     pub rest: CharMetrics<'row>,
     /// The pointers under its characters.
-    pub pointers: &'char_metrics [Pointer],
+    pub pointers: &'cache [Pointer],
     ghost metrics_are: { AreCached tab_width line.text.now cached.now rest },
     ghost enough: { ReachesPast (reach_of (single_label_views line.labels.now)
         (map lane_mark_view line.lanes.marks.now)) rest },
@@ -84,7 +84,7 @@ pub struct CachedLine<'char_metrics, 'row, 'd> {
         (char_metrics tab_width line.text.now) },
 }
 
-impl<'char_metrics, 'row, 'd> CachedLine<'char_metrics, 'row, 'd> {
+impl<'cache, 'row, 'd> CachedLine<'cache, 'row, 'd> {
     ghost use Rattle.codespan_renderer.specs.Private.LineViews.{line_view};
     ghost use Rattle.codespan_renderer.specs.Renderers.{config_of, rendered_source, Renders};
 
@@ -138,7 +138,7 @@ impl<'char_metrics, 'row, 'd> CachedLine<'char_metrics, 'row, 'd> {
     /// Returns a cursor over its characters without the first `skipped` ones of the cache, and over
     /// the position after the last one where `to_end` is set.
     #[inline(always)]
-    fn cursor(&self, skipped: usize, to_end: bool) -> CachedCursor<'char_metrics, 'row, 'd>
+    fn cursor(&self, skipped: usize, to_end: bool) -> CachedCursor<'cache, 'row, 'd>
         requires { skipped ≤ length self.now.cached.now }
         ensures left { take skipped self.now.cached.now ++ cached_left result.characters
             ≡ metrics_then (after_last to_end) self.now.tab_width 0 0
@@ -155,8 +155,8 @@ impl<'char_metrics, 'row, 'd> CachedLine<'char_metrics, 'row, 'd> {
     }
 }
 
-impl<'char_metrics, 'row, 'd> LineSource for CachedLine<'char_metrics, 'row, 'd> {
-    type Cursor = CachedCursor<'char_metrics, 'row, 'd>;
+impl<'cache, 'row, 'd> LineSource for CachedLine<'cache, 'row, 'd> {
+    type Cursor = CachedCursor<'cache, 'row, 'd>;
 
     ghost of = { λ s. record {
       tab_width = s.tab_width;
@@ -165,12 +165,12 @@ impl<'char_metrics, 'row, 'd> LineSource for CachedLine<'char_metrics, 'row, 'd>
     } };
 
     #[inline(always)]
-    fn characters(&self) -> CachedCursor<'char_metrics, 'row, 'd> {
+    fn characters(&self) -> CachedCursor<'cache, 'row, 'd> {
         self.cursor(0, false)
     }
 
     #[inline(always)]
-    fn characters_from_labels(&self, end: usize) -> (u128, CachedCursor<'char_metrics, 'row, 'd>) {
+    fn characters_from_labels(&self, end: usize) -> (u128, CachedCursor<'cache, 'row, 'd>) {
         let (column, skipped) = self.skipped_before(self.least_start(end));
         (column, self.cursor(skipped, true))
     }
@@ -194,7 +194,7 @@ impl<'char_metrics, 'row, 'd> LineSource for CachedLine<'char_metrics, 'row, 'd>
         _line: Line<'_, '_>,
         _messages: Messages<'_, '_>,
     ) -> Result<(), W::Error> {
-        let edge = self.width_up_to(greatest_start(self.line.labels));
+        let edge = self.width_up_to(max_label_start(self.line.labels));
         write_spaced(w, context, self.pointers, usize::MAX, edge)
     }
 

@@ -5,14 +5,14 @@ use crate::term::renderer::char_metrics::{CharMetrics, Metrics};
 /// The characters of a line, from left to right: those that are cached, and then those that a scan
 /// goes on with.
 #[derive(Drop)]
-pub struct CachedMetrics<'char_metrics, 'text> {
+pub struct CachedMetrics<'cache, 'text> {
     /// The cached ones that are left.
-    pub cached: &'char_metrics [Metrics],
+    pub cached: &'cache [Metrics],
     /// The scan of those after them.
     pub rest: CharMetrics<'text>,
 }
 
-impl<'char_metrics, 'text> Iterator for CachedMetrics<'char_metrics, 'text> {
+impl<'cache, 'text> Iterator for CachedMetrics<'cache, 'text> {
     ghost use Rattle.std.specs.Iterator.{YieldsFirst, item_count};
     ghost use Rattle.codespan_renderer.specs.Private.CachedMetrics.{cached_left};
 

@@ -10,7 +10,7 @@ ghost use Rattle.codespan_renderer.specs.Private.Runs.{best_from};
 ghost use Rattle.codespan_renderer.specs.Private.LabelCursors.{starts_in_order, is_covered, end_with, HasPassedLabels};
 
 use crate::term::renderer::SingleLabel;
-use crate::term::renderer::carets::better;
+use crate::term::renderer::carets::primary_first;
 use crate::term::renderer::char_metrics::Metrics;
 use codespan_base::diagnostic::LabelStyle;
 
@@ -146,7 +146,7 @@ impl<'row, 'd> StartCursor<'row, 'd> {
         while self.next < labels.len() && begins_by(&labels[self.next], metrics) {
             let label = &labels[self.next];
             if !label.2.is_empty() {
-                best = better(best, label.0);
+                best = primary_first(best, label.0);
             }
             self.next += 1;
         }

@@ -45,11 +45,11 @@ impl LineMetrics {
     ///
     /// `OutOfMemory` where an allocation fails.
     #[inline(always)]
-    pub fn take_line<'char_metrics, 'row, 'd, W: WriteStyle>(
-        &'char_metrics mut self,
+    pub fn take_line<'cache, 'row, 'd, W: WriteStyle>(
+        &'cache mut self,
         renderer: &Renderer<'_, '_, W>,
         line: Line<'row, 'd>,
-    ) -> Result<CachedLine<'char_metrics, 'row, 'd>, Error>
+    ) -> Result<CachedLine<'cache, 'row, 'd>, Error>
         requires ordered { IsTrue (starts_in_order (single_label_views line.labels.now)) }
         ensures line { IfOk result (λ cached. cached.line ≡ line.entry) }
         ensures tab_width { IfOk result (λ cached. cached.tab_width

@@ -10,7 +10,7 @@ ghost use Rattle.codespan_renderer.specs.Private.RowViews.{line_metrics_view, ha
 ghost use Rattle.codespan_renderer.specs.Private.CachedMetrics.{cached_left};
 ghost use Rattle.codespan_renderer.specs.Private.PointerLists.{pointer_under, pointers_in, pointers_before, spaced};
 ghost use Rattle.codespan_picture.specs.Rows.{hanging};
-ghost use Rattle.codespan_picture.specs.RowParts.{metrics_before, metrics_up_to, greatest_start, pointers};
+ghost use Rattle.codespan_picture.specs.RowParts.{metrics_before, metrics_up_to, max_label_start, pointers};
 ghost use Rattle.codespan_picture.specs.RowStreams.{pointer_row, hanging_row};
 ghost use Rattle.codespan_renderer.specs.Private.Runs.{AreHanging, ArePieces};
 ghost use Rattle.codespan_renderer.specs.Private.LabelCursors.{starts_in_order};
@@ -23,7 +23,7 @@ use crate::term::renderer::char_metrics::Metrics;
 use crate::term::renderer::line::{Line, RowContext};
 use crate::term::renderer::messages::Messages;
 use crate::term::renderer::parts::{write_newline, write_row_start};
-use crate::term::renderer::pointers::{caret_pointer, greatest_start, has_any_message};
+use crate::term::renderer::pointers::{caret_pointer, has_any_message, max_label_start};
 use crate::term::renderer::runs::write_spaces;
 use codespan_base::diagnostic::LabelStyle;
 use codespan_base::files::Error;
@@ -92,7 +92,7 @@ pub fn find_pointers(
     }
     let mut before = StartCursor::new(messages.before);
     let mut after = StartCursor::new(messages.after);
-    let last = greatest_start(line.labels);
+    let last = max_label_start(line.labels);
     for metrics in characters {
         if metrics.byte_index > last {
             return Ok(());

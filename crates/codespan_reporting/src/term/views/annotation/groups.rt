@@ -3,8 +3,8 @@
 ghost use Rattle.std.specs.Prelude.{◌≡◌, ◌≤◌, length};
 ghost use Rattle.std.specs.List.{prefix_len};
 ghost use Rattle.std.specs.List.Sorted.{IsSortedWithin};
-ghost use Rattle.codespan_reporting.specs.Inner.Annotations.{is_below, is_of_file, is_on_line, shows_line};
-ghost use Rattle.codespan_reporting.specs.Inner.AnnotationViews.{annotation_view};
+ghost use Rattle.codespan_reporting.specs.Private.Annotations.{is_before, is_of_file, is_on_line, shows_line};
+ghost use Rattle.codespan_reporting.specs.Private.AnnotationViews.{annotation_view};
 
 use crate::term::views::annotation::{Annotation, AnnotationKind};
 
@@ -34,7 +34,7 @@ pub fn line_len<FileId>(annotations: &[Annotation<'_, FileId>], line: usize) -> 
 ///
 /// The annotations are in order.
 pub fn file_len<FileId>(annotations: &[Annotation<'_, FileId>], file: usize) -> usize
-    requires { IsSortedWithin (λ x y. is_below (annotation_view x) (annotation_view y))
+    requires { IsSortedWithin (λ x y. is_before (annotation_view x) (annotation_view y))
         annotations.now 0 (length annotations.now) }
     ensures value { result ≡ prefix_len (λ e. is_of_file file (annotation_view e)) annotations.now }
     ensures within { result ≤ length annotations.now }

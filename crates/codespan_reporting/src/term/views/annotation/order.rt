@@ -2,8 +2,8 @@
 
 ghost use Rattle.std.specs.Prelude.{◌≡◌, ◌<◌, length, map, true, IfOk, IfSome, OnErr, IsErrOf};
 ghost use Rattle.std.specs.List.Sorted.{IsPermutation, IsSortedBy, IsSortedWithin};
-ghost use Rattle.codespan_reporting.specs.Inner.Annotations.{IsMarkOn, annotation_cmp, is_below, rank_of, kind_cmp};
-ghost use Rattle.codespan_reporting.specs.Inner.AnnotationViews.{annotation_view};
+ghost use Rattle.codespan_reporting.specs.Private.Annotations.{IsLaneMarkOn, annotation_cmp, is_before, rank_of, kind_cmp};
+ghost use Rattle.codespan_reporting.specs.Private.AnnotationViews.{annotation_view};
 
 use crate::term::views::annotation::by_line::group_by_line;
 use crate::term::views::annotation::{Annotation, AnnotationKind, range_in_line};
@@ -75,7 +75,7 @@ pub fn rank<FileId>(annotation: &Annotation<'_, FileId>) -> usize
 /// of different lines, as most are that are compared, it is found by few instructions.
 #[inline(always)]
 fn is_before<FileId>(left: &Annotation<'_, FileId>, right: &Annotation<'_, FileId>) -> bool
-    ensures { result ≡ is_below (annotation_view left.now) (annotation_view right.now) }
+    ensures { result ≡ is_before (annotation_view left.now) (annotation_view right.now) }
 {
     if left.file != right.file {
         return left.file < right.file;
@@ -88,14 +88,14 @@ fn is_before<FileId>(left: &Annotation<'_, FileId>, right: &Annotation<'_, FileI
 
 /// Returns whether annotations are found to be in order.
 fn are_in_order<FileId>(annotations: &[Annotation<'_, FileId>]) -> bool
-    ensures { result ≡ true → IsSortedBy is_below (map annotation_view annotations.now) }
+    ensures { result ≡ true → IsSortedBy is_before (map annotation_view annotations.now) }
 {
     let mut end = 1;
     while end < annotations.len() {
         if is_before(&annotations[end], &annotations[end - 1]) {
             return false;
         }
-        end = marks_end(annotations, end);
+        end = lane_marks_end(annotations, end);
     }
     true
 }
@@ -108,10 +108,10 @@ fn are_in_order<FileId>(annotations: &[Annotation<'_, FileId>]) -> bool
 ///
 /// There is an annotation at this index.
 #[inline(always)]
-fn marks_end<FileId>(annotations: &[Annotation<'_, FileId>], start: usize) -> usize
+fn lane_marks_end<FileId>(annotations: &[Annotation<'_, FileId>], start: usize) -> usize
     requires { start < length annotations.now }
     ensures after { start < result }
-    ensures sorted { IsSortedWithin (λ x y. is_below (annotation_view x) (annotation_view y))
+    ensures sorted { IsSortedWithin (λ x y. is_before (annotation_view x) (annotation_view y))
         annotations.now start result }
 {
     let first = &annotations[start];
@@ -132,7 +132,7 @@ fn marks_end<FileId>(annotations: &[Annotation<'_, FileId>], start: usize) -> us
 /// Returns the lane of an annotation that is a multi-line label mark of this line of this file.
 #[inline(always)]
 fn lane_on<FileId>(annotation: &Annotation<'_, FileId>, file: usize, line: usize) -> Option<usize>
-    ensures { IfSome result (λ lane. IsMarkOn file line lane (annotation_view annotation.now)) }
+    ensures { IfSome result (λ lane. IsLaneMarkOn file line lane (annotation_view annotation.now)) }
 {
     if annotation.file != file || annotation.line.index != line {
         return None;
@@ -146,7 +146,7 @@ fn lane_on<FileId>(annotation: &Annotation<'_, FileId>, file: usize, line: usize
 /// Sorts annotations.
 fn sort<FileId>(annotations: &mut Vec<Annotation<'_, FileId>>)
     ensures permutation { IsPermutation annotations.old.items annotations.new.items }
-    ensures sorted { IsSortedBy is_below (map annotation_view annotations.new.items) }
+    ensures sorted { IsSortedBy is_before (map annotation_view annotations.new.items) }
 {
     annotations.sort_unstable_by(|left, right| compare(left, right));
 }
@@ -163,7 +163,7 @@ pub fn put_in_order<FileId: Copy>(
 ) -> Result<(), Error>
     ensures permutation { IsPermutation annotations.old.items annotations.new.items }
     ensures sorted { IfOk result (λ _.
-        IsSortedBy is_below (map annotation_view annotations.new.items)) }
+        IsSortedBy is_before (map annotation_view annotations.new.items)) }
     ensures failed { OnErr result (IsErrOf result Error.OutOfMemory) }
 {
     if are_in_order(annotations) {

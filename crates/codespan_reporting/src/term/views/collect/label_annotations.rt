@@ -5,10 +5,10 @@ ghost use Rattle.std.specs.Option.{option_map};
 ghost use Rattle.codespan_base.specs.LawfulFiles.{FailsBy};
 ghost use Rattle.codespan_base.specs.Labels.{first_line, last_line};
 ghost use Rattle.codespan_picture.specs.Picture.{label_of};
-ghost use Rattle.codespan_reporting.specs.Inner.CollectedLabels.{AddsLine, FindsLine, FindsLines, HasLineLookedUp, IfEnded, IfOn, ExtendsPadding, ExtendsPaddingForLine, FailsLine, label_collected, collected_label, label_failure, lines_failure, failure_on, multi_by, kind_by};
-ghost use Rattle.codespan_reporting.specs.Inner.SourceFiles.{EndsBefore, model_of};
-ghost use Rattle.codespan_reporting.specs.Inner.AnnotationViews.{IsLineOf, kind_view};
-ghost use Rattle.codespan_reporting.specs.Inner.LabelSpans.{IsFarInside, line_of_end, line_of_start};
+ghost use Rattle.codespan_reporting.specs.Private.CollectedLabels.{AddsLine, FindsLine, FindsLines, HasLineLookedUp, IfEnded, IfContinues, ExtendsPadding, ExtendsPaddingForLine, FailsLine, label_of_collector, collected_label, label_failure, lines_failure, failure_on, multi_by, kind_by};
+ghost use Rattle.codespan_reporting.specs.Private.SourceFiles.{EndsBefore, model_of};
+ghost use Rattle.codespan_reporting.specs.Private.AnnotationViews.{IsLineOf, kind_view};
+ghost use Rattle.codespan_reporting.specs.Private.LabelSpans.{IsFarInside, line_of_end, line_of_start};
 
 use crate::term::views::annotation::{
     Annotation, AnnotationKind, LineInfo, MultiPart, push_annotation,
@@ -112,7 +112,7 @@ impl<'a, 'c, 'files, F: Files<'files>> LabelCollector<'a, 'c, 'files, F> {
         requires last { last_line (model_of F.database self.now.file) (label_of label.now).label
             ≡ self.now.lines.last }
         requires line { IsLineOf (model_of F.database self.now.file) line }
-        ensures added { OnOk result (AddsLine (label_collected F.database self.now label.now)
+        ensures added { OnOk result (AddsLine (label_of_collector F.database self.now label.now)
             annotations.old.items annotations.new.items line.index) }
         ensures failed { OnErr result (IsErrOf result Error.OutOfMemory) }
     {
@@ -145,7 +145,7 @@ impl<'a, 'c, 'files, F: Files<'files>> LabelCollector<'a, 'c, 'files, F> {
         requires last { last_line (model_of F.database self.now.file) (label_of label.now).label
             ≡ self.now.lines.last }
         requires line { IsLineOf (model_of F.database self.now.file) line }
-        ensures added { OnOk result (AddsLine (label_collected F.database self.now label.now)
+        ensures added { OnOk result (AddsLine (label_of_collector F.database self.now label.now)
             annotations.old.items annotations.new.items line.index) }
         ensures failed { OnErr result (IsErrOf result Error.OutOfMemory) }
     {
@@ -188,16 +188,16 @@ impl<'a, 'c, 'files, F: Files<'files>> LabelCollector<'a, 'c, 'files, F> {
             ≡ self.now.lines.first }
         requires last { last_line (model_of F.database self.now.file) (label_of label.now).label
             ≡ self.now.lines.last }
-        ensures inside { IfOn result
-            (HasLineLookedUp (label_collected F.database self.now label.now) index) }
-        ensures added { IfOn result
-            (FindsLine (label_collected F.database self.now label.now) found.old
+        ensures inside { IfContinues result
+            (HasLineLookedUp (label_of_collector F.database self.now label.now) index) }
+        ensures added { IfContinues result
+            (FindsLine (label_of_collector F.database self.now label.now) found.old
             found.new index) }
-        ensures padding { IfOn result
-            (ExtendsPaddingForLine (label_collected F.database self.now label.now)
+        ensures padding { IfContinues result
+            (ExtendsPaddingForLine (label_of_collector F.database self.now label.now)
             found.old found.new index) }
-        ensures succeeded { IfOn result
-            (failure_on (label_collected F.database self.now label.now) index ≡ None) }
+        ensures succeeded { IfContinues result
+            (failure_on (label_of_collector F.database self.now label.now) index ≡ None) }
         ensures ended { IfEnded result ((found.new ≡ found.old)
             × EndsBefore F.database self.now.file index) }
         ensures failed { IfErr result (λ e. e ≢ Error.OutOfMemory
@@ -233,12 +233,12 @@ impl<'a, 'c, 'files, F: Files<'files>> LabelCollector<'a, 'c, 'files, F> {
         requires last { last_line (model_of F.database self.now.file) (label_of label.now).label
             ≡ self.now.lines.last }
         ensures added { OnOk result
-            (FindsLines (label_collected F.database self.now label.now) found.old
+            (FindsLines (label_of_collector F.database self.now label.now) found.old
             found.new) }
         ensures padding { OnOk result
-            (ExtendsPadding (label_collected F.database self.now label.now) found.old
+            (ExtendsPadding (label_of_collector F.database self.now label.now) found.old
             found.new) }
-        ensures failed { FailsBy (lines_failure (label_collected F.database self.now label.now))
+        ensures failed { FailsBy (lines_failure (label_of_collector F.database self.now label.now))
             result }
     {
         let lines = self.lines;

@@ -4,8 +4,8 @@ ghost use Rattle.std.specs.Prelude.{◌≡◌, ◌<◌, ◌≤◌, ℕ, ◌==◌
 ghost use Rattle.codespan_base.specs.LawfulFiles.{FailsBy};
 ghost use Rattle.codespan_picture.specs.Lines.{shows};
 ghost use Rattle.codespan_picture.specs.Lookups.{is_around};
-ghost use Rattle.codespan_reporting.specs.Inner.AnnotationViews.{part_of};
-ghost use Rattle.codespan_reporting.specs.Inner.LabelSpans.{IsFarInside, ends_failure, is_near_end, line_of_end, line_of_start, spans_line};
+ghost use Rattle.codespan_reporting.specs.Private.AnnotationViews.{part_of};
+ghost use Rattle.codespan_reporting.specs.Private.LabelSpans.{IsFarInside, ends_failure, is_near_end, line_of_end, line_of_start, spans_line};
 
 use crate::term::views::annotation::MultiPart;
 use codespan_base::diagnostic::Label;

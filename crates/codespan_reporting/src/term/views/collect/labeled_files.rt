@@ -3,9 +3,9 @@
 ghost use Rattle.std.specs.Prelude.{◌≡◌, ◌<◌, ◌≤◌, ◌+◌, ◌^◌, false, [], ◌∷◌, ◌++◌, IfOk, OnOk, OnErr, IsErrOf, length, slice_index_or, take};
 ghost use Rattle.std.specs.List.{AllByRecursion};
 ghost use Rattle.codespan_picture.specs.Picture.{label_of};
-ghost use Rattle.codespan_reporting.specs.Inner.LabeledFiles.{ids_view, lanes_by, lanes_view, lanes_with_label, starts_with_label, starts_view, with_file};
-ghost use Rattle.codespan_reporting.specs.Inner.Loci.{no_start, start_with};
-ghost use Rattle.codespan_reporting.specs.Inner.IndexedLabels.{AreApart, index_of_file};
+ghost use Rattle.codespan_reporting.specs.Private.LabeledFiles.{ids_view, lanes_by, lanes_view, lanes_with_label, starts_with_label, starts_view, with_file};
+ghost use Rattle.codespan_reporting.specs.Private.Loci.{no_start, start_with};
+ghost use Rattle.codespan_reporting.specs.Private.IndexedLabels.{AreDistinct, index_of_file};
 
 use crate::term::views::collect::label_span::LabelSpan;
 use crate::term::views::file_start::FileStart;
@@ -79,7 +79,7 @@ pub fn file_index<FileId: Copy + Eq>(
     previous: usize,
     id: FileId,
 ) -> Result<usize, Error>
-    requires { AreApart FileId.eq (ids_view files.old.items) }
+    requires { AreDistinct FileId.eq (ids_view files.old.items) }
     ensures index { IfOk result (λ index. index
         ≡ index_of_file FileId.eq (ids_view files.new.items) id) }
     ensures ids { OnOk result (ids_view files.new.items
@@ -126,7 +126,7 @@ fn push_file<FileId: Copy>(files: &mut Vec<LabeledFile<FileId>>, id: FileId) -> 
 ///
 /// No two files have the same id.
 fn find_file<FileId: Copy + Eq>(files: &[LabeledFile<FileId>], previous: usize, id: FileId) -> usize
-    requires { AreApart FileId.eq (ids_view files.now) }
+    requires { AreDistinct FileId.eq (ids_view files.now) }
     ensures { result ≡ index_of_file FileId.eq (ids_view files.now) id }
 {
     match files.get(previous) {

@@ -1,7 +1,7 @@
 //! The padding width of the unbroken layout.
 
 ghost use Rattle.std.specs.Prelude.{◌≡◌, flat_map, fold, max};
-ghost use Rattle.codespan_reporting.specs.Inner.SnippetPlans.{line_digits};
+ghost use Rattle.codespan_reporting.specs.Private.SnippetPlans.{line_digits};
 
 use crate::term::views::plan::snippet_lines::SnippetLine;
 use codespan_renderer::term::renderer::count_digits;

@@ -2,11 +2,11 @@
 
 ghost use Rattle.std.specs.Prelude.{◌≡◌, ◌∷◌, [], All, IfOk, OnOk, map};
 ghost use Rattle.codespan_base.specs.LawfulFiles.{FailsBy};
-ghost use Rattle.codespan_reporting.specs.Inner.AnnotationViews.{IsLineOf, annotation_view};
-ghost use Rattle.codespan_reporting.specs.Inner.SnippetLineViews.{IsGapBefore, gap_lines, known_number};
-ghost use Rattle.codespan_reporting.specs.Inner.SnippetLines.{fills_of, lines_of, lines_to};
-ghost use Rattle.codespan_reporting.specs.Inner.LinePlanners.{AddsPlanned, numbers_failure};
-ghost use Rattle.codespan_reporting.specs.Inner.SourceFiles.{model_of};
+ghost use Rattle.codespan_reporting.specs.Private.AnnotationViews.{IsLineOf, annotation_view};
+ghost use Rattle.codespan_reporting.specs.Private.SnippetLineViews.{IsGapBefore, gap_lines, known_number};
+ghost use Rattle.codespan_reporting.specs.Private.SnippetLines.{fills_of, lines_of, lines_to};
+ghost use Rattle.codespan_reporting.specs.Private.LinePlanners.{AddsPlanned, numbers_failure};
+ghost use Rattle.codespan_reporting.specs.Private.SourceFiles.{model_of};
 
 use crate::term::views::annotation::groups::{line_len, shows_line};
 use crate::term::views::annotation::{Annotation, LineInfo};

@@ -3,11 +3,11 @@
 ghost use Rattle.std.specs.Prelude.{◌≡◌, [], IfOk, map};
 ghost use Rattle.std.specs.List.{AllByRecursion};
 ghost use Rattle.std.specs.List.Sorted.{IsSortedBy};
-ghost use Rattle.codespan_reporting.specs.Inner.FileLookups.{FailsByOrFormat};
-ghost use Rattle.codespan_reporting.specs.Inner.Annotations.{is_below};
-ghost use Rattle.codespan_reporting.specs.Inner.AnnotationViews.{IsOfFiles, annotation_view};
-ghost use Rattle.codespan_reporting.specs.Inner.LabeledFiles.{ids_view};
-ghost use Rattle.codespan_reporting.specs.Inner.SnippetPlans.{ArePlansOf, plans_failure};
+ghost use Rattle.codespan_reporting.specs.Private.FileLookups.{FailsByOrFormat};
+ghost use Rattle.codespan_reporting.specs.Private.Annotations.{is_before};
+ghost use Rattle.codespan_reporting.specs.Private.AnnotationViews.{IsOfFiles, annotation_view};
+ghost use Rattle.codespan_reporting.specs.Private.LabeledFiles.{ids_view};
+ghost use Rattle.codespan_reporting.specs.Private.SnippetPlans.{ArePlansOf, plans_failure};
 
 use crate::term::renderer::Locus;
 use crate::term::views::annotation::groups::file_len;
@@ -56,7 +56,7 @@ pub fn plan_snippets<'files, 'e, 'd, F: Files<'files>>(
     snippet_lines: &mut Vec<SnippetLine<'e, 'd, F::FileId>>,
 ) -> Result<Vec<SnippetPlan<'e, F::FileId>>, Error>
     requires empty { snippet_lines.now.items ≡ [] }
-    requires sorted { IsSortedBy is_below (map annotation_view collected.now.annotations.items) }
+    requires sorted { IsSortedBy is_before (map annotation_view collected.now.annotations.items) }
     requires lines { AllByRecursion (IsOfFiles (F.database files.now).file
         (ids_view collected.now.files.items)) collected.now.annotations.items }
     ensures plans { IfOk result

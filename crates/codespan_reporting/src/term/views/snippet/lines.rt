@@ -4,12 +4,12 @@ ghost use Rattle.std.specs.Prelude.{◌≡◌, [], IfOk, IfSome, IsTrue, map};
 ghost use Rattle.std.specs.List.{AllByRecursion};
 ghost use Rattle.codespan_base.specs.LawfulFiles.{FailsBy};
 ghost use Rattle.codespan_renderer.specs.Renderers.{SameRenderer};
-ghost use Rattle.codespan_reporting.specs.Inner.FileLookups.{failure_in};
-ghost use Rattle.codespan_reporting.specs.Inner.AnnotationViews.{IsLineAt, IsLineOf, annotation_view};
-ghost use Rattle.codespan_reporting.specs.Inner.SnippetLineViews.{IsSnippetLineOf, lookups_of_line, lookups_of_filled, line_view};
-ghost use Rattle.codespan_reporting.specs.Inner.LineRendering.{DoFit, RendersLine, RendersLines};
-ghost use Rattle.codespan_reporting.specs.Inner.SourceFiles.{model_of};
-ghost use Rattle.codespan_reporting.specs.Inner.SnippetLines.{Labeled, Break, do_annotations_fit, do_lane_marks_fit, does_line_fit};
+ghost use Rattle.codespan_reporting.specs.Private.FileLookups.{failure_in};
+ghost use Rattle.codespan_reporting.specs.Private.AnnotationViews.{IsLineAt, IsLineOf, annotation_view};
+ghost use Rattle.codespan_reporting.specs.Private.SnippetLineViews.{IsSnippetLineOf, lookups_of_line, lookups_of_filled, line_view};
+ghost use Rattle.codespan_reporting.specs.Private.LineRendering.{DoFit, RendersLine, RendersLines};
+ghost use Rattle.codespan_reporting.specs.Private.SourceFiles.{model_of};
+ghost use Rattle.codespan_reporting.specs.Private.SnippetLines.{Labeled, Break, do_annotations_fit, do_lane_marks_fit, does_line_fit};
 
 use crate::term::renderer::Renderer;
 use crate::term::views::annotation::{Annotation, LineInfo};

@@ -1,5 +1,5 @@
 use Rattle.codespan_files.proofs.files.simple.SimpleFileFiles.source.Goals as goal
 
 -- the text is that of the source
-pub returns-clause-plain_ref : goal.returns-clause-plain_ref
-returns-clause-plain_ref g c = search
+pub returns-clause-borrowed : goal.returns-clause-borrowed
+returns-clause-borrowed g c = search

@@ -1,5 +1,5 @@
 use Rattle.std.proofs.Common.{rules, List, ◌≡◌, ◌+◌, ◌<◌, ◌≤◌, ◌∷◌, ◌++◌, None, length, refl, ap, subst, ◌∙◌, arith}
-use Rattle.codespan_picture.specs.Carets.{greatest_end, style_under}
+use Rattle.codespan_picture.specs.Carets.{max_label_end, style_under}
 use Rattle.codespan_picture.specs.RowParts.{change}
 use Rattle.std.proofs.lemmas.Result.{err_from_is_err_and}
 use Rattle.std.proofs.lemmas.Str.{IsUtf8-had}
@@ -10,7 +10,7 @@ use Rattle.codespan_renderer.specs.Private.Runs.{caret_run}
 use Rattle.codespan_renderer.proofs.CaretRuns.{caret_count, carets_left, carets-same, carets-turn, carets-end, carets-past, counts-all}
 use Rattle.codespan_renderer.proofs.ScanState.{ScanState, consecutive_within-follow, scan_state-to_end, scan_state-more}
 use Rattle.codespan_renderer.proofs.SkippedCells.{carets-prefix, scan_state-left}
-use Rattle.codespan_renderer.specs.Private.LineSources.{SourcedLine}
+use Rattle.codespan_renderer.specs.Private.LineSources.{CharInput}
 use Rattle.codespan_renderer.proofs.term.renderer.carets.write_carets.Goals.{then-ne+in_ok-end_caret_run, else-ne, in_default, in-Some+then-metrics-end}
 use Rattle.codespan_renderer.specs.Private.CursorStates.{Follow}
 use Rattle.codespan_renderer.proofs.term.renderer.carets.write_carets.Given.{Over}
@@ -18,11 +18,11 @@ use Rattle.codespan_renderer.proofs.term.renderer.carets.write_carets.Goals as g
 
 pub loop-metrics-init : goal.loop-metrics-init
 loop-metrics-init g c =
-    let tab = ap (λ (x : SourcedLine). x.tab_width) c.requires.of in
-    let text = ap (λ (x : SourcedLine). x.text) c.requires.of in
+    let tab = ap (λ (x : CharInput). x.tab_width) c.requires.of in
+    let text = ap (λ (x : CharInput). x.text) c.requires.of in
     let labels = single_label_views c.args.line.labels.now in
-    let given = ap (λ (x : SourcedLine). x.labels) c.requires.of in
-    let out = rw (tab, text, given, c.greatest_end-end.ensures) at c.characters_from_labels-run.ensures.left in
+    let given = ap (λ (x : CharInput). x.labels) c.requires.of in
+    let out = rw (tab, text, given, c.max_label_end-end.ensures) at c.characters_from_labels-run.ensures.left in
     let all = scan_state-to_end c.args.context.tab_width c.args.line.text.now (IsUtf8-had _ c.args.line.utf8) in
     record {
       written_so_far = StillToWrite-start _ _ _ (carets-prefix (context_view c.args.context) labels _ _ _ _ all out);
@@ -35,8 +35,8 @@ few : (g : Over) (c : goal.After-row_known-1 g) → c.if-ne.run ≤ c.loop-metri
 few g c = elim c.if-ne.branch [ then-ne+in_ok-end_caret_run w ↦ omega (arith, w.run-is) | else-ne w ↦ omega (arith, w.run-is) ]
 
 -- all its cells are counted, since it begins before the greatest end
-counted : (g : Over) (c : goal.After-row_known-1 g) → c.in-Some.metrics.width ≡ caret_count (greatest_end (single_label_views c.args.line.labels.now)) c.style_under-style.result c.in-Some.metrics
-counted g c = counts-all c.style_under-style.result _ c.in-Some.metrics (subst (λ end. c.in-Some.metrics.byte_index < end) c.greatest_end-end.ensures c.if-metrics-end.false)
+counted : (g : Over) (c : goal.After-row_known-1 g) → c.in-Some.metrics.width ≡ caret_count (max_label_end (single_label_views c.args.line.labels.now)) c.style_under-style.result c.in-Some.metrics
+counted g c = counts-all c.style_under-style.result _ c.in-Some.metrics (subst (λ end. c.in-Some.metrics.byte_index < end) c.max_label_end-end.ensures c.if-metrics-end.false)
 
 pub returns-in_err-end_caret_run : goal.returns-in_err-end_caret_run
 returns-in_err-end_caret_run g c = let p = err_from_is_err_and c.from_residual.result c.from_residual.ensures.1 in
@@ -75,6 +75,6 @@ returns g c =
           let scan_state = at.invariant.scan_state in
           let follow = consecutive_within-follow _ scan_state.byte_index scan_state.column _ scan_state.consecutive_within in
           let here : Follow scan_state.byte_index (w.in-Some.metrics ∷ g.S.Cursor.CharCursor.left c.next_metrics.new.self) = rw w.in-Some.ensures.next at follow in
-          carets-past context labels at.previous at.run scan_state.byte_index (g.S.Cursor.CharCursor.left at.characters) follow (omega (arith, here.0, w.if-metrics-end.true, c.greatest_end-end.ensures))
+          carets-past context labels at.previous at.run scan_state.byte_index (g.S.Cursor.CharCursor.left at.characters) follow (omega (arith, here.0, w.if-metrics-end.true, c.max_label_end-end.ensures))
     ] in
     StillToWrite-last _ _ _ _ _ _ at.invariant.written_so_far (rw end at c.end_caret_run-2.ensures)

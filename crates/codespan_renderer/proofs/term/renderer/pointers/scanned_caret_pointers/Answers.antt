@@ -19,7 +19,7 @@ loop-metrics-init g c =
 pub returns-in_err-caret_pointer : goal.returns-in_err-caret_pointer
 returns-in_err-caret_pointer g c = let p = err_from_is_err_and c.from_residual.result c.from_residual.ensures.1 in
     rw p.1 (StillToWrite-failed _ _ _ _ _ _ _ c.loop-metrics.invariant.with_written c.in_err-caret_pointer.ensures
-    (pointer_first _ _ _ _ _ _ _ _ _ c.greatest_start-reach.ensures c.in-Some.ensures.steps (omega arith) (sym c.pointer_in.ensures ∙ c.in-Some-pointer_in.is)))
+    (pointer_first _ _ _ _ _ _ _ _ _ c.max_label_start-reach.ensures c.in-Some.ensures.steps (omega arith) (sym c.pointer_in.ensures ∙ c.in-Some-pointer_in.is)))
 
 pub loop-metrics-preserved-then-metrics-reach : goal.loop-metrics-preserved-then-metrics-reach
 loop-metrics-preserved-then-metrics-reach g c =
@@ -30,12 +30,12 @@ loop-metrics-preserved-then-metrics-reach g c =
         scan_state = scan_state-more _ _ _ _ _ (omega arith) (omega arith) (rw step at i.scan_state);
         with_written = StillToWrite-same _ _ _ _ _ (sym (spaces_none _) ∙ spaces_due _ _ 0 _ _ c.if-metrics-reach.true)
             (StillToWrite-more _ _ _ _ _ _ _ i.with_written w.in_ok-caret_pointer.ensures
-            (pointer_first _ _ _ _ _ _ _ _ _ c.greatest_start-reach.ensures step (omega arith) (sym c.pointer_in.ensures ∙ w.in-Some-pointer_in.is)));
+            (pointer_first _ _ _ _ _ _ _ _ _ c.max_label_start-reach.ensures step (omega arith) (sym c.pointer_in.ensures ∙ w.in-Some-pointer_in.is)));
       }
       | in_default w ↦ rw (w.w-is, w.pending-is, w.width-is) record {
         scan_state = scan_state-more _ _ _ _ _ (omega arith) (omega arith) (rw step at i.scan_state);
         with_written = StillToWrite-same _ _ _ _ _
-            (spaces_first _ _ _ _ _ _ _ _ c.greatest_start-reach.ensures step (omega arith) (sym c.pointer_in.ensures ∙ w.in_default.is) ∙ spaces_due _ _ _ _ _ c.if-metrics-reach.true) i.with_written;
+            (spaces_first _ _ _ _ _ _ _ _ c.max_label_start-reach.ensures step (omega arith) (sym c.pointer_in.ensures ∙ w.in_default.is) ∙ spaces_due _ _ _ _ _ c.if-metrics-reach.true) i.with_written;
       }
     ]
 
@@ -48,12 +48,12 @@ loop-metrics-preserved g c =
         scan_state = scan_state-more _ _ _ _ _ (omega arith) (omega arith) (rw step at i.scan_state);
         with_written = StillToWrite-same _ _ _ _ _ (spaces_past _ _ _ _ c.if-metrics-reach.false ∙ sym (spaces_none _))
             (StillToWrite-more _ _ _ _ _ _ _ i.with_written w.in_ok-caret_pointer.ensures
-            (pointer_first _ _ _ _ _ _ _ _ _ c.greatest_start-reach.ensures step (omega arith) (sym c.pointer_in.ensures ∙ w.in-Some-pointer_in.is)));
+            (pointer_first _ _ _ _ _ _ _ _ _ c.max_label_start-reach.ensures step (omega arith) (sym c.pointer_in.ensures ∙ w.in-Some-pointer_in.is)));
       }
       | in_default w ↦ rw (w.w-is, w.pending-is) record {
         scan_state = scan_state-more _ _ _ _ _ (omega arith) (omega arith) (rw step at i.scan_state);
         with_written = StillToWrite-same _ _ _ _ _
-            (spaces_first _ _ _ _ _ _ _ _ c.greatest_start-reach.ensures step (omega arith) (sym c.pointer_in.ensures ∙ w.in_default.is)
+            (spaces_first _ _ _ _ _ _ _ _ c.max_label_start-reach.ensures step (omega arith) (sym c.pointer_in.ensures ∙ w.in_default.is)
             ∙ ap (λ s. spaces c.loop-metrics.pending ++ s) (spaces_past _ _ _ _ c.if-metrics-reach.false)) i.with_written;
       }
     ]

@@ -3,7 +3,7 @@ use Rattle.codespan_base.specs.Labels.{has_message}
 use Rattle.codespan_base.proofs.Loops.{StillToWrite}
 use Rattle.codespan_picture.specs.Arguments.{single_label_views}
 use Rattle.codespan_renderer.specs.Private.LineViews.{context_view, line_view}
-use Rattle.codespan_picture.specs.RowParts.{greatest_start}
+use Rattle.codespan_picture.specs.RowParts.{max_label_start}
 use Rattle.codespan_renderer.specs.Private.Runs.{hanging_stream}
 use Rattle.codespan_renderer.proofs.term.renderer.pointers.write_hanging_rows.Given as goal
 
@@ -12,5 +12,5 @@ abbrev pub invariant-loop-label : goal.invariant-loop-label
 invariant-loop-label g l = record {
   with_written : StillToWrite (g.W.PutStyle.sink l.fn.w) (hanging_stream (context_view l.context) (line_view l.line) (filter has_message (single_label_views l.labels)))
       (hanging_stream (context_view l.context) (line_view l.line) (filter has_message (single_label_views l.label-iterator.iter.rest.now))) (g.W.PutStyle.sink l.w);
-  near : greatest_start (single_label_views l.label-iterator.iter.rest.now) ≤ greatest_start (single_label_views l.line.labels.now);
+  near : max_label_start (single_label_views l.label-iterator.iter.rest.now) ≤ max_label_start (single_label_views l.line.labels.now);
 }

@@ -3,13 +3,13 @@ use Rattle.std.proofs.Common.{◌≡◌, ℕ, ◌<◌, rules, ◌+◌, [], Err, 
 use Rattle.std.proofs.lemmas.List.{get_or-map}
 use Rattle.std.proofs.lemmas.Result.{err_from_is_err_and}
 use Rattle.codespan_reporting.specs.declared.term.views.collect.labeled_files.LabeledFile.{LabeledFile as RustFile}
-use Rattle.codespan_reporting.specs.Inner.CollectedLabels.{FindsLines, collected_label}
-use Rattle.codespan_reporting.specs.Inner.AnnotationViews.{Adds, IsOfFiles}
-use Rattle.codespan_reporting.specs.Inner.LabeledFiles.{ids_view, lanes_view, lanes_in, lanes_with_label}
-use Rattle.codespan_reporting.specs.Inner.Loci.{file_start}
+use Rattle.codespan_reporting.specs.Private.CollectedLabels.{FindsLines, collected_label}
+use Rattle.codespan_reporting.specs.Private.AnnotationViews.{Adds, IsOfFiles}
+use Rattle.codespan_reporting.specs.Private.LabeledFiles.{ids_view, lanes_view, lanes_in, lanes_with_label}
+use Rattle.codespan_reporting.specs.Private.Loci.{file_start}
 use Rattle.codespan_picture.specs.Picture.{label_of}
 use Rattle.codespan_picture.specs.Snippets.{file_ids}
-use Rattle.codespan_reporting.specs.Inner.IndexedLabels.{AreApart, annotations_after, index_of_file}
+use Rattle.codespan_reporting.specs.Private.IndexedLabels.{AreDistinct, annotations_after, index_of_file}
 use Rattle.codespan_reporting.proofs.FileIndices.{first_seen-differ}
 use Rattle.codespan_reporting.proofs.LabelIndexing.{AreFiles, IsElementAt, are-files, lanes_by-are}
 use Rattle.codespan_reporting.proofs.LabelsBefore.{before}
@@ -31,8 +31,8 @@ equal_ids g κs claim files = (g.met.F.Files κs claim).same_is files
 pub file_index-requires : goal.file_index-requires
 file_index-requires g c =
     let lawful = are_files g c.lifetimes (search rules) c.args.files.now in
-    subst (λ same. AreApart same (ids_view c.loop-index.labeled.items)) (equal_ids g c.lifetimes (search rules) c.args.files.now)
-    (subst (AreApart (g.F.Files.database c.args.files.now).same) (sym c.loop-index.invariant.ids_are)
+    subst (λ same. AreDistinct same (ids_view c.loop-index.labeled.items)) (equal_ids g c.lifetimes (search rules) c.args.files.now)
+    (subst (AreDistinct (g.F.Files.database c.args.files.now).same) (sym c.loop-index.invariant.ids_are)
     (first_seen-differ (g.F.Files.database c.args.files.now).same lawful.equivalence _))
 
 -- it is the label's turn

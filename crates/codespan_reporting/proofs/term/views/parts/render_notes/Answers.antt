@@ -5,7 +5,7 @@ use Rattle.std.proofs.lemmas.Result.{err_from_is_err_and}
 use Rattle.codespan_base.specs.declared.term.config.Config.{Config}
 use Rattle.codespan_base.specs.Streams.{Stream}
 use Rattle.codespan_base.proofs.Writes.{with_written-nil}
-use Rattle.codespan_reporting.specs.Inner.LookupsOnTheWay.{WroteStream, WrotePrefix}
+use Rattle.codespan_reporting.specs.Private.LookupsWhileRendering.{WroteStream, WrotePrefix}
 use Rattle.codespan_picture.specs.Picture.{context_of}
 use Rattle.codespan_renderer.specs.Renderers.{config_of, writer_of, note_stream}
 use Rattle.codespan_base.proofs.Chains.{written-then, failed-before, failed-then}

@@ -1,6 +1,6 @@
 use Rattle.std.proofs.Common.{take}
 use Rattle.std.specs.Prelude.{string_bytes}
-use Rattle.codespan_reporting.specs.Inner.LookupsOnTheWay.{WroteStream}
+use Rattle.codespan_reporting.specs.Private.LookupsWhileRendering.{WroteStream}
 use Rattle.codespan_picture.specs.Picture.{context_of}
 use Rattle.codespan_renderer.specs.Renderers.{SameRenderer, config_of, writer_of}
 use Rattle.codespan_reporting.proofs.NoteRows.{stream_of_notes}

@@ -5,7 +5,7 @@ use Rattle.std.proofs.lemmas.Result.{err_from_is_err_and}
 use Rattle.codespan_picture.specs.Picture.{label_of}
 use Rattle.codespan_picture.specs.Padding.{padding_of}
 use Rattle.codespan_picture.specs.Snippets.{labeled_file_models}
-use Rattle.codespan_reporting.specs.Inner.SnippetPlans.{line_digits}
+use Rattle.codespan_reporting.specs.Private.SnippetPlans.{line_digits}
 use Rattle.codespan_reporting.proofs.LabelIndexing.{AreFiles, are-files}
 use Rattle.codespan_reporting.proofs.PlanFiles.{rendered-padding, failure-is, output_plan-planned, spanned-padding}
 use Rattle.codespan_reporting.proofs.term.views.plan.plan_output.Given.{Over}

@@ -2,7 +2,7 @@ use Rattle.std.proofs.Common.{Err, ap, sym, subst, ◌∙◌}
 use Rattle.std.specs.Prelude.{string_bytes}
 use Rattle.std.proofs.lemmas.Result.{err_from_is_err_and}
 use Rattle.codespan_base.specs.Streams.{Stream}
-use Rattle.codespan_reporting.specs.Inner.LookupsOnTheWay.{WrotePrefix}
+use Rattle.codespan_reporting.specs.Private.LookupsWhileRendering.{WrotePrefix}
 use Rattle.codespan_picture.specs.Picture.{context_of}
 use Rattle.codespan_renderer.specs.Renderers.{config_of, writer_of}
 use Rattle.codespan_base.proofs.Chains.{WroteStream, written-then, failed-then, failed-before}

@@ -13,5 +13,5 @@ returns-then-branch-clause-renders g c = headers_written _ c.in_ok-render_locate
 
 pub returns-else-branch-clause-renders : goal.returns-else-branch-clause-renders
 returns-else-branch-clause-renders g c =
-    bare_header _ c.in_ok-render_located.ensures.renders.0 c.render_heading.result
-    (sym c.in_ok-render_located.ensures.renders.1 ∙ c.if-branch.false) c.render_heading.ensures.writes c.render_heading.ensures.io
+    bare_header _ c.in_ok-render_located.ensures.renders.0 c.render_diagnostic_header.result
+    (sym c.in_ok-render_located.ensures.renders.1 ∙ c.if-branch.false) c.render_diagnostic_header.ensures.writes c.render_diagnostic_header.ensures.io

@@ -14,14 +14,14 @@ returns-in_err-locus-clause-renders g c =
     rw (p.1 ∙ ap Err p.2)
     (lookup_failed_one (label_of c.args.label.now) (sym c.is_primary.ensures ∙ c.if-not-is_primary.false) c.in_err-locus.ensures.failed)
 
-pub returns-in_err-render_heading-clause-renders : goal.returns-in_err-render_heading-clause-renders
-returns-in_err-render_heading-clause-renders g c =
-    let p = err_from_is_err_and c.from_residual-in_err-render_heading.result c.from_residual-in_err-render_heading.ensures.1 in
+pub returns-in_err-render_diagnostic_header-clause-renders : goal.returns-in_err-render_diagnostic_header-clause-renders
+returns-in_err-render_diagnostic_header-clause-renders g c =
+    let p = err_from_is_err_and c.from_residual-in_err-render_diagnostic_header.result c.from_residual-in_err-render_diagnostic_header.ensures.1 in
     rw (p.1 ∙ ap Err p.2)
     (write_failed_one (label_of c.args.label.now) (locus_view c.in_ok-locus.locus) (sym c.is_primary.ensures ∙ c.if-not-is_primary.false) c.in_ok-locus.ensures.locus
-    c.in_err-render_heading.ensures.io c.in_err-render_heading.ensures.writes)
+    c.in_err-render_diagnostic_header.ensures.io c.in_err-render_diagnostic_header.ensures.writes)
 
 pub returns-clause-renders : goal.returns-clause-renders
 returns-clause-renders g c =
     written_one (label_of c.args.label.now) (locus_view c.in_ok-locus.locus) (sym c.is_primary.ensures ∙ c.if-not-is_primary.false) c.in_ok-locus.ensures.locus
-    c.in_ok-locus.ensures.failed c.in_ok-render_heading.ensures.writes
+    c.in_ok-locus.ensures.failed c.in_ok-render_diagnostic_header.ensures.writes

@@ -2,7 +2,7 @@ use Rattle.std.proofs.Common.{◌≡◌, map, take}
 use Rattle.codespan_picture.specs.Picture.{label_of}
 use Rattle.codespan_picture.specs.Snippets.{has_any}
 use Rattle.codespan_renderer.specs.Renderers.{SameRenderer, config_of, writer_of}
-use Rattle.codespan_reporting.specs.Inner.Headers.{HeadersWritten}
+use Rattle.codespan_reporting.specs.Private.Headers.{HeadersWritten}
 use Rattle.codespan_picture.specs.Snippets.{primary_of}
 use Rattle.codespan_reporting.proofs.term.views.short.render_located.Given as goal
 

@@ -29,7 +29,7 @@ loop-metrics-init c =
 pub returns-then-metrics-last-clause-found : goal.returns-then-metrics-last-clause-found
 returns-then-metrics-last-clause-found c =
     let i = c.loop-metrics.invariant in
-    let none = pointers-past-at c.args.line.labels.now _ _ _ _ c.greatest_start-last.result _ _ c.in-Some.metrics c.in-Some.ensures.steps i.cursor c.if-metrics-last.true c.greatest_start-last.ensures in
+    let none = pointers-past-at c.args.line.labels.now _ _ _ _ c.max_label_start-last.result _ _ c.in-Some.metrics c.in-Some.ensures.steps i.cursor c.if-metrics-last.true c.max_label_start-last.ensures in
     sym (append-nil c.loop-metrics.pointers.items) ∙ ap (λ ps. c.loop-metrics.pointers.items ++ ps) (sym none) ∙ i.found
 
 pub loop-metrics-preserved-in-Continue-1 : goal.loop-metrics-preserved-in-Continue-1

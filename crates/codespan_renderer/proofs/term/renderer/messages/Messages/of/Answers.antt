@@ -7,28 +7,28 @@ use Rattle.codespan_renderer.proofs.term.renderer.messages.Messages.of.Goals as 
 
 pub returns-in-Some-clause-trailing : goal.returns-in-Some-clause-trailing
 returns-in-Some-clause-trailing c =
-    trailing_here c.args.labels.now c.in-Some.index _ _ c.in-Some.ensures.within c.greatest_end.ensures c.in-Some.ensures.value
+    trailing_here c.args.labels.now c.in-Some.index _ _ c.in-Some.ensures.within c.max_label_end.ensures c.in-Some.ensures.value
     (sym c.does_trail.ensures ∙ c.if-does_trail.true)
 
 pub returns-in-Some-clause-hanging : goal.returns-in-Some-clause-hanging
 returns-in-Some-clause-hanging c =
-    hanging_here c.args.labels.now c.in-Some.index _ c.in-Some.ensures.within c.greatest_end.ensures c.in-Some.ensures.value
+    hanging_here c.args.labels.now c.in-Some.index _ c.in-Some.ensures.within c.max_label_end.ensures c.in-Some.ensures.value
     (sym c.does_trail.ensures ∙ c.if-does_trail.true)
 
 pub returns-in_default-clause-trailing : goal.returns-in_default-clause-trailing
 returns-in_default-clause-trailing c =
     elim c.in_default.branch [
       | in_default-via-in-Some+else-does_trail w ↦
-          nothing_trails c.args.labels.now (Some w.in-Some.index) _ c.greatest_end.ensures w.in-Some.ensures.value (sym w.does_trail.ensures ∙ w.if-does_trail.false)
-      | in_default-via-in_default w ↦ nothing_trails c.args.labels.now None _ c.greatest_end.ensures w.in_default.ensures.value refl
+          nothing_trails c.args.labels.now (Some w.in-Some.index) _ c.max_label_end.ensures w.in-Some.ensures.value (sym w.does_trail.ensures ∙ w.if-does_trail.false)
+      | in_default-via-in_default w ↦ nothing_trails c.args.labels.now None _ c.max_label_end.ensures w.in_default.ensures.value refl
     ]
 
 pub returns-in_default-clause-hanging : goal.returns-in_default-clause-hanging
 returns-in_default-clause-hanging c =
     elim c.in_default.branch [
       | in_default-via-in-Some+else-does_trail w ↦
-          none_trails c.args.labels.now (Some w.in-Some.index) _ c.greatest_end.ensures w.in-Some.ensures.value (sym w.does_trail.ensures ∙ w.if-does_trail.false)
-      | in_default-via-in_default w ↦ none_trails c.args.labels.now None _ c.greatest_end.ensures w.in_default.ensures.value refl
+          none_trails c.args.labels.now (Some w.in-Some.index) _ c.max_label_end.ensures w.in-Some.ensures.value (sym w.does_trail.ensures ∙ w.if-does_trail.false)
+      | in_default-via-in_default w ↦ none_trails c.args.labels.now None _ c.max_label_end.ensures w.in_default.ensures.value refl
     ]
 
 pub returns-in-Some-clause-pieces : goal.returns-in-Some-clause-pieces

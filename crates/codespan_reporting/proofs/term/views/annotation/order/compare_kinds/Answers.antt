@@ -2,7 +2,7 @@ use Rattle.std.proofs.Common.{◌≡◌, ℕ, Ordering, Less, Equal, Greater, na
 use Rattle.std.specs.Ordering.{ordering_then}
 use Rattle.codespan_base.specs.Labels.{LabelModel, from_line_start}
 use Rattle.codespan_picture.specs.Picture.{label_of}
-use Rattle.codespan_reporting.specs.Inner.Annotations.{Single, kind_cmp}
+use Rattle.codespan_reporting.specs.Private.Annotations.{Single, kind_cmp}
 use Rattle.codespan_reporting.proofs.term.views.annotation.order.compare_kinds.Goals as goal
 
 -- a comparison that nothing follows

@@ -3,8 +3,8 @@ use Rattle.std.proofs.lemmas.List.{set-get_or}
 use Rattle.codespan_picture.specs.Picture.{label_of}
 use Rattle.codespan_reporting.specs.declared.term.views.collect.labeled_files.LabeledFile.{LabeledFile as RustFile}
 use Rattle.codespan_reporting.specs.declared.term.views.file_start.FileStart.{FileStart}
-use Rattle.codespan_reporting.specs.Inner.LabeledFiles.{ids_view, lanes_by}
-use Rattle.codespan_reporting.specs.Inner.Loci.{no_start, start_with}
+use Rattle.codespan_reporting.specs.Private.LabeledFiles.{ids_view, lanes_by}
+use Rattle.codespan_reporting.specs.Private.Loci.{no_start, start_with}
 use Rattle.codespan_reporting.proofs.LabelIndexing.{IsElementAt, map-changed}
 use Rattle.codespan_reporting.proofs.term.views.collect.labeled_files.add_label.Given.{Over}
 use Rattle.codespan_reporting.proofs.term.views.collect.labeled_files.add_label.Goals.{After-add}

@@ -1,7 +1,7 @@
 use Rattle.std.proofs.Common.{◌≡◌, List, [], ◌∷◌, ◌++◌, sym, ap, ◌∙◌}
-use Rattle.codespan_reporting.specs.Inner.LabeledFiles.{ids_view, lanes_view, starts_view, with_file}
-use Rattle.codespan_reporting.specs.Inner.Loci.{no_start}
-use Rattle.codespan_reporting.specs.Inner.IndexedLabels.{index_of_file}
+use Rattle.codespan_reporting.specs.Private.LabeledFiles.{ids_view, lanes_view, starts_view, with_file}
+use Rattle.codespan_reporting.specs.Private.Loci.{no_start}
+use Rattle.codespan_reporting.specs.Private.IndexedLabels.{index_of_file}
 use Rattle.codespan_reporting.proofs.LabelFiles.{file-added, file-unchanged}
 use Rattle.codespan_reporting.proofs.term.views.collect.labeled_files.file_index.Given.{Over}
 use Rattle.codespan_reporting.proofs.term.views.collect.labeled_files.file_index.Goals as goal

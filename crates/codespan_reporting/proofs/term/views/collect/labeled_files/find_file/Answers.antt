@@ -2,8 +2,8 @@ use Rattle.std.proofs.Common.{◌≡◌, ◌<◌, length, get_or, sym, ap, subst
 use Rattle.std.proofs.lemmas.Bool.{ltb-true}
 use Rattle.std.proofs.lemmas.List.{get_or-map, length-map}
 use Rattle.codespan_reporting.specs.declared.term.views.collect.labeled_files.LabeledFile.{LabeledFile as RustFile}
-use Rattle.codespan_reporting.specs.Inner.LabeledFiles.{ids_view}
-use Rattle.codespan_reporting.specs.Inner.IndexedLabels.{IsIdAt}
+use Rattle.codespan_reporting.specs.Private.LabeledFiles.{ids_view}
+use Rattle.codespan_reporting.specs.Private.IndexedLabels.{IsIdAt}
 use Rattle.codespan_reporting.proofs.FileIndices.{at-get, same_id-index}
 use Rattle.codespan_reporting.proofs.term.views.collect.labeled_files.find_file.Goals as goal
 

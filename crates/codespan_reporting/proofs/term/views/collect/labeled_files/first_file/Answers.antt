@@ -1,7 +1,7 @@
 use Rattle.std.proofs.Common.{◌≡◌, ◌+◌, ◌<◌, false, length, take, sym, ap, subst, ◌∙◌, arith}
 use Rattle.std.specs.List.{AllByRecursion}
 use Rattle.codespan_reporting.specs.declared.term.views.collect.labeled_files.LabeledFile.{LabeledFile as RustFile}
-use Rattle.codespan_reporting.specs.Inner.LabeledFiles.{ids_view}
+use Rattle.codespan_reporting.specs.Private.LabeledFiles.{ids_view}
 use Rattle.codespan_reporting.proofs.LabelFiles.{none-more, index-first}
 use Rattle.codespan_reporting.proofs.LabelIndexing.{IsElementAt}
 use Rattle.codespan_reporting.proofs.term.views.collect.labeled_files.first_file.Given.{Over}

@@ -1,6 +1,6 @@
 use Rattle.std.proofs.Common.{◌≡◌, ◌≤◌, ◌-◌, false, length, take}
 use Rattle.std.specs.List.{AllByRecursion}
-use Rattle.codespan_reporting.specs.Inner.LabeledFiles.{ids_view}
+use Rattle.codespan_reporting.specs.Private.LabeledFiles.{ids_view}
 use Rattle.codespan_reporting.proofs.term.views.collect.labeled_files.first_file.Given as goal
 
 -- no file before this one is of the id

@@ -1,6 +1,6 @@
 use Rattle.std.proofs.Common.{max, ap, ◌∙◌}
 use Rattle.std.specs.Prelude.{fold}
-use Rattle.codespan_reporting.specs.Inner.SnippetPlans.{line_digits}
+use Rattle.codespan_reporting.specs.Private.SnippetPlans.{line_digits}
 use Rattle.codespan_reporting.proofs.PlanPadding.{greatest_more}
 use Rattle.codespan_reporting.proofs.term.views.plan.padding.padding_of_lines.Goals as goal
 

@@ -1,6 +1,6 @@
 use Rattle.std.proofs.Common.{◌≡◌, max, take}
 use Rattle.std.specs.Prelude.{flat_map, fold}
-use Rattle.codespan_reporting.specs.Inner.SnippetPlans.{line_digits}
+use Rattle.codespan_reporting.specs.Private.SnippetPlans.{line_digits}
 use Rattle.codespan_reporting.proofs.term.views.plan.padding.padding_of_lines.Given as goal
 
 -- the greatest digit count of those before this one

@@ -1,8 +1,8 @@
 use Rattle.std.proofs.Common.{◌<◌, ◌≤◌, [], Err, length, map, get_or, refl, sym, ap, ◌∙◌, subst, arith}
 use Rattle.std.proofs.lemmas.Result.{err_from_is_err_and}
-use Rattle.codespan_reporting.specs.Inner.FileLookups.{FailsByOrFormat}
-use Rattle.codespan_reporting.specs.Inner.AnnotationViews.{annotation_view}
-use Rattle.codespan_reporting.specs.Inner.SnippetPlans.{ArePlans, plans_failure}
+use Rattle.codespan_reporting.specs.Private.FileLookups.{FailsByOrFormat}
+use Rattle.codespan_reporting.specs.Private.AnnotationViews.{annotation_view}
+use Rattle.codespan_reporting.specs.Private.SnippetPlans.{ArePlans, plans_failure}
 use Rattle.codespan_reporting.proofs.FileLengths.{rest-sorted}
 use Rattle.codespan_reporting.proofs.FileParts.{from_file-first}
 use Rattle.codespan_reporting.proofs.PlansFound.{IsAtFile, added-count, next_inside, next_left, own_lookups, own_lines, own_snippet_lines, planned-more, planned-fails, planned-unlocated, plans-add}

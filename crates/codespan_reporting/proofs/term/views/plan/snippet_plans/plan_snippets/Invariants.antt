@@ -1,5 +1,5 @@
 use Rattle.std.proofs.Common.{◌≡◌, ◌≤◌, length, map, take, drop}
-use Rattle.codespan_reporting.specs.Inner.AnnotationViews.{annotation_view}
+use Rattle.codespan_reporting.specs.Private.AnnotationViews.{annotation_view}
 use Rattle.codespan_reporting.proofs.FileParts.{from_file}
 use Rattle.codespan_reporting.proofs.PlansFound.{ArePlanned}
 use Rattle.codespan_reporting.proofs.term.views.plan.snippet_plans.plan_snippets.Given as goal

@@ -1,7 +1,7 @@
 use Rattle.std.proofs.Common.{Err, map, refl, sym, subst, ap, ◌∙◌}
 use Rattle.std.proofs.lemmas.Result.{err_from_is_err_and}
 use Rattle.codespan_picture.specs.Picture.{label_of}
-use Rattle.codespan_reporting.specs.Inner.OutputPlans.{IsCollected}
+use Rattle.codespan_reporting.specs.Private.OutputPlans.{IsCollected}
 use Rattle.codespan_reporting.specs.Views.{view_config_of}
 use Rattle.codespan_reporting.proofs.RichParts.{rendered-whole, planned-of_all, ready, failed-collecting, failed-in_header, failed-in_snippets, failed-planning}
 use Rattle.codespan_reporting.proofs.term.views.rich.RichDiagnostic.render_labels.Goals as goal
@@ -22,18 +22,18 @@ returns-in_err-collected-clause-same g c = record { reference = refl; config = r
 pub returns-in_err-output_plan-clause-same : goal.returns-in_err-output_plan-clause-same
 returns-in_err-output_plan-clause-same g c = record { reference = refl; config = refl }
 
-pub returns-in_err-render_heading-clause-same : goal.returns-in_err-render_heading-clause-same
-returns-in_err-render_heading-clause-same g c = c.in_err-render_heading.ensures.same
+pub returns-in_err-render_diagnostic_header-clause-same : goal.returns-in_err-render_diagnostic_header-clause-same
+returns-in_err-render_diagnostic_header-clause-same g c = c.in_err-render_diagnostic_header.ensures.same
 
 pub returns-in_err-render_snippets-clause-same : goal.returns-in_err-render_snippets-clause-same
 returns-in_err-render_snippets-clause-same g c =
-    let first = c.in_ok-render_heading.ensures.same in
+    let first = c.in_ok-render_diagnostic_header.ensures.same in
     let second = c.in_err-render_snippets.ensures.same in
     record { reference = second.reference ∙ first.reference; config = second.config ∙ first.config }
 
 pub returns-clause-same : goal.returns-clause-same
 returns-clause-same g c =
-    let first = c.in_ok-render_heading.ensures.same in
+    let first = c.in_ok-render_diagnostic_header.ensures.same in
     let second = c.in_ok-render_snippets.ensures.same in
     let third = c.render_closing.ensures.same in
     record { reference = third.reference ∙ second.reference ∙ first.reference; config = third.config ∙ second.config ∙ first.config }
@@ -49,23 +49,23 @@ returns-in_err-output_plan-clause-renders g c =
     rw (p.1 ∙ ap Err p.2)
     (failed-planning c.as_slice-labels.ensures.value c.in_ok-collected.ensures.labels c.in_ok-collected.ensures.failed c.requires c.in_err-output_plan.ensures.failed)
 
-pub returns-in_err-render_heading-clause-renders : goal.returns-in_err-render_heading-clause-renders
-returns-in_err-render_heading-clause-renders g c =
-    let p = err_from_is_err_and c.from_residual-in_err-render_heading.result c.from_residual-in_err-render_heading.ensures.1 in
+pub returns-in_err-render_diagnostic_header-clause-renders : goal.returns-in_err-render_diagnostic_header-clause-renders
+returns-in_err-render_diagnostic_header-clause-renders g c =
+    let p = err_from_is_err_and c.from_residual-in_err-render_diagnostic_header.result c.from_residual-in_err-render_diagnostic_header.ensures.1 in
     rw (p.1 ∙ ap Err p.2)
     (failed-in_header (ready c.as_slice-labels.ensures.value c.in_ok-collected.ensures.labels c.in_ok-collected.ensures.failed c.in_ok-output_plan.ensures.planned c.in_ok-output_plan.ensures.failed)
-    c.in_err-render_heading.ensures.writes c.in_err-render_heading.ensures.io)
+    c.in_err-render_diagnostic_header.ensures.writes c.in_err-render_diagnostic_header.ensures.io)
 
 pub returns-in_err-render_snippets-clause-renders : goal.returns-in_err-render_snippets-clause-renders
 returns-in_err-render_snippets-clause-renders g c =
     let p = err_from_is_err_and c.from_residual-in_err-render_snippets.result c.from_residual-in_err-render_snippets.ensures.1 in
     rw (p.1 ∙ ap Err p.2)
     (failed-in_snippets (ready c.as_slice-labels.ensures.value c.in_ok-collected.ensures.labels c.in_ok-collected.ensures.failed c.in_ok-output_plan.ensures.planned c.in_ok-output_plan.ensures.failed)
-    c.requires c.in_ok-render_heading.ensures.writes c.in_ok-render_heading.ensures.same.config c.in_err-render_snippets.ensures.renders)
+    c.requires c.in_ok-render_diagnostic_header.ensures.writes c.in_ok-render_diagnostic_header.ensures.same.config c.in_err-render_snippets.ensures.renders)
 
 pub returns-clause-renders : goal.returns-clause-renders
 returns-clause-renders g c =
-    let first = c.in_ok-render_heading.ensures.same.config in
+    let first = c.in_ok-render_diagnostic_header.ensures.same.config in
     let second = c.in_ok-render_snippets.ensures.same.config in
     rendered-whole (ready c.as_slice-labels.ensures.value c.in_ok-collected.ensures.labels c.in_ok-collected.ensures.failed c.in_ok-output_plan.ensures.planned c.in_ok-output_plan.ensures.failed)
-    c.render_closing.result c.in_ok-render_heading.ensures.writes first c.in_ok-render_snippets.ensures.renders (second ∙ first) c.render_closing.ensures.writes c.render_closing.ensures.io
+    c.render_closing.result c.in_ok-render_diagnostic_header.ensures.writes first c.in_ok-render_snippets.ensures.renders (second ∙ first) c.render_closing.ensures.writes c.render_closing.ensures.io

@@ -22,15 +22,15 @@ returns-in_err-render_snippet-clause-renders g c =
     rw (p.1 ∙ ap Err p.2)
     (cut-in_snippet c.requires c.loop-index.invariant.left at own c.has_notes-notes_follow.ensures count c.loop-index.invariant.same.config c.in_err-render_snippet.ensures.renders)
 
-pub returns-in_err-render_end-clause-renders : goal.returns-in_err-render_end-clause-renders
-returns-in_err-render_end-clause-renders g c =
+pub returns-in_err-render_trailing_border-clause-renders : goal.returns-in_err-render_trailing_border-clause-renders
+returns-in_err-render_trailing_border-clause-renders g c =
     let at = element-equal c.deref-file-items.ensures.value c.loop-index-test.true c.file-item.is in
     let own = own-snippet_lines at c.loop-index.invariant.files c.deref.ensures.value in
     let count = c.len.ensures ∙ c.args.output_plan.now.files.ok.0 in
-    let p = err_from_is_err_and c.from_residual-in_err-render_end.result c.from_residual-in_err-render_end.ensures.1 in
+    let p = err_from_is_err_and c.from_residual-in_err-render_trailing_border.result c.from_residual-in_err-render_trailing_border.ensures.1 in
     rw (p.1 ∙ ap Err p.2)
     (cut-after_snippet c.requires c.loop-index.invariant.left at own c.has_notes-notes_follow.ensures count c.loop-index.invariant.same.config c.in_ok-render_snippet.ensures.renders
-    c.in_ok-render_snippet.ensures.same.config c.in_err-render_end.ensures.writes c.in_err-render_end.ensures.io)
+    c.in_ok-render_snippet.ensures.same.config c.in_err-render_trailing_border.ensures.writes c.in_err-render_trailing_border.ensures.io)
 
 pub loop-index-preserved : goal.loop-index-preserved
 loop-index-preserved g c =
@@ -38,13 +38,13 @@ loop-index-preserved g c =
     let own = own-snippet_lines at c.loop-index.invariant.files c.deref.ensures.value in
     let count = c.len.ensures ∙ c.args.output_plan.now.files.ok.0 in
     let first = c.in_ok-render_snippet.ensures.same in
-    let second = c.in_ok-render_end.ensures.same in
+    let second = c.in_ok-render_trailing_border.ensures.same in
     let was = c.loop-index.invariant.same in
     record {
       same = record { reference = second.reference ∙ first.reference ∙ was.reference; config = second.config ∙ first.config ∙ was.config };
       files = later-files at c.loop-index.invariant.files;
       left = next-file c.requires c.loop-index.invariant.left at own c.has_notes-notes_follow.ensures count was.config c.in_ok-render_snippet.ensures.renders
-          first.config c.in_ok-render_end.ensures.writes;
+          first.config c.in_ok-render_trailing_border.ensures.writes;
     }
 
 pub returns-clause-renders : goal.returns-clause-renders

@@ -4,7 +4,7 @@ use Rattle.std.proofs.lemmas.Result.{err_from_is_err_and}
 use Rattle.codespan_base.specs.declared.files.Error.{Error}
 use Rattle.codespan_base.specs.FileModel.{or_failure}
 use Rattle.codespan_base.specs.FileModel.Lookup.{LocationAt, Name}
-use Rattle.codespan_reporting.specs.Inner.SourceFiles.{model_of}
+use Rattle.codespan_reporting.specs.Private.SourceFiles.{model_of}
 use Rattle.codespan_reporting.proofs.LocusStarts.{locus_located}
 use Rattle.codespan_reporting.proofs.term.views.source_file.SourceFile.locus.Given.{Over}
 use Rattle.codespan_reporting.proofs.term.views.source_file.SourceFile.locus.Goals.{In_ok-named}

@@ -3,7 +3,7 @@ use Rattle.std.specs.Str.{chars}
 use Rattle.codespan_picture.specs.CharMetrics.{char_metrics}
 use Rattle.codespan_picture.specs.Arguments.{single_label_views}
 use Rattle.codespan_renderer.specs.Private.LineViews.{context_view}
-use Rattle.codespan_renderer.specs.Private.LineSources.{SourcedLine}
+use Rattle.codespan_renderer.specs.Private.LineSources.{CharInput}
 use Rattle.codespan_picture.specs.RowParts.{metrics_before}
 use Rattle.codespan_picture.proofs.Consecutive.{char_metrics-consecutive}
 use Rattle.codespan_renderer.proofs.RowWords.{all_before}
@@ -15,9 +15,9 @@ returns g c =
     let s = c.args.self.now in
     let cs = char_metrics s.tab_width s.line.text.now in
     let all : metrics_before (2 ^ 64 - 1) (char_metrics s.tab_width s.line.text.now) ≡ char_metrics s.tab_width s.line.text.now = grind (arith, all_before) in
-    let drawn = spaced-all (context_view c.args.context) (single_label_views s.line.labels.now) cs s.pointers.now (2 ^ 64 - 1) c.greatest_start.result c.width_up_to-edge.result
-    (char_metrics-consecutive s.tab_width 0 0 (chars s.line.text.now)) all s.found c.greatest_start.ensures c.width_up_to-edge.ensures in
-    let tab = ap (λ (x : SourcedLine). x.tab_width) c.requires.of in
-    let text = ap (λ (x : SourcedLine). x.text) c.requires.of in
-    let labels = ap (λ (x : SourcedLine). x.labels) c.requires.of in
+    let drawn = spaced-all (context_view c.args.context) (single_label_views s.line.labels.now) cs s.pointers.now (2 ^ 64 - 1) c.max_label_start.result c.width_up_to-edge.result
+    (char_metrics-consecutive s.tab_width 0 0 (chars s.line.text.now)) all s.found c.max_label_start.ensures c.width_up_to-edge.ensures in
+    let tab = ap (λ (x : CharInput). x.tab_width) c.requires.of in
+    let text = ap (λ (x : CharInput). x.text) c.requires.of in
+    let labels = ap (λ (x : CharInput). x.labels) c.requires.of in
     rw (rw (tab, text, labels) at drawn) at c.write_spaced.ensures

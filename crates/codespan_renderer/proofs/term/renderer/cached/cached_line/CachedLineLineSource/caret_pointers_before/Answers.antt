@@ -3,9 +3,9 @@ use Rattle.std.specs.Prelude.{List}
 use Rattle.std.specs.Str.{chars}
 use Rattle.codespan_picture.specs.CharMetrics.{char_metrics}
 use Rattle.codespan_picture.specs.Arguments.{SingleLabelTuple, single_label_views}
-use Rattle.codespan_picture.specs.RowParts.{greatest_start}
+use Rattle.codespan_picture.specs.RowParts.{max_label_start}
 use Rattle.codespan_renderer.specs.Private.LineViews.{context_view}
-use Rattle.codespan_renderer.specs.Private.LineSources.{SourcedLine}
+use Rattle.codespan_renderer.specs.Private.LineSources.{CharInput}
 use Rattle.codespan_picture.proofs.Consecutive.{char_metrics-consecutive}
 use Rattle.codespan_renderer.proofs.SpacedPointers.{spaced-near}
 use Rattle.codespan_renderer.proofs.term.renderer.cached.cached_line.CachedLineLineSource.caret_pointers_before.Goals as goal
@@ -14,10 +14,10 @@ pub returns : goal.returns
 returns g c =
     let s = c.args.self.now in
     let cs = char_metrics s.tab_width s.line.text.now in
-    let tab = ap (λ (x : SourcedLine). x.tab_width) c.requires.of in
-    let text = ap (λ (x : SourcedLine). x.text) c.requires.of in
-    let labels = ap (λ (x : SourcedLine). x.labels) c.requires.of in
-    let near = subst (λ (xs : List SingleLabelTuple). c.args.before ≤ greatest_start (single_label_views xs)) (sym labels) c.requires.near in
+    let tab = ap (λ (x : CharInput). x.tab_width) c.requires.of in
+    let text = ap (λ (x : CharInput). x.text) c.requires.of in
+    let labels = ap (λ (x : CharInput). x.labels) c.requires.of in
+    let near = subst (λ (xs : List SingleLabelTuple). c.args.before ≤ max_label_start (single_label_views xs)) (sym labels) c.requires.near in
     let drawn = spaced-near (context_view c.args.context) (single_label_views s.line.labels.now) cs s.pointers.now c.args.before c.width_before-edge.result
     (char_metrics-consecutive s.tab_width 0 0 (chars s.line.text.now)) near s.found c.width_before-edge.ensures in
     rw (rw (tab, text, labels) at drawn) at c.write_spaced.ensures

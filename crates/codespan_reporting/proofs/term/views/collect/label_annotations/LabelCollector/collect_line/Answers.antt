@@ -1,9 +1,9 @@
 use Rattle.std.proofs.Common.{rules, ◌≡◌, ap, false, [], Bool}
 use Rattle.std.specs.Prelude.{if◌then◌else◌}
-use Rattle.codespan_reporting.specs.Inner.Annotations.{line_annotations}
+use Rattle.codespan_reporting.specs.Private.Annotations.{line_annotations}
 use Rattle.codespan_picture.specs.Lookups.{is_looked_up}
 use Rattle.codespan_picture.specs.Picture.{label_of}
-use Rattle.codespan_reporting.specs.Inner.SourceFiles.{model_of}
+use Rattle.codespan_reporting.specs.Private.SourceFiles.{model_of}
 use Rattle.codespan_reporting.proofs.Collecting.{Adds-none, Adds-as}
 use Rattle.codespan_reporting.proofs.term.views.collect.label_annotations.LabelCollector.collect_line.Goals as goal
 

@@ -4,8 +4,8 @@ use Rattle.std.proofs.lemmas.Result.{err_from_is_err_and}
 use Rattle.codespan_base.specs.declared.diagnostic.Label.{Label}
 use Rattle.codespan_base.specs.Lemmas.Lines.{line_of_below}
 use Rattle.codespan_reporting.specs.declared.term.views.collect.label_annotations.LabelCollector.{LabelCollector}
-use Rattle.codespan_reporting.specs.Inner.CollectedLabels.{CollectedLabel, label_collected}
-use Rattle.codespan_reporting.specs.Inner.SourceFiles.{line_failure}
+use Rattle.codespan_reporting.specs.Private.CollectedLabels.{CollectedLabel, label_of_collector}
+use Rattle.codespan_reporting.specs.Private.SourceFiles.{line_failure}
 use Rattle.codespan_reporting.proofs.Contexts.{CollectsLabel, CollectsLines, HasEnds, collected-start, collected-context, collected-reach, collected-failed, collected-snippet_line}
 use Rattle.codespan_reporting.proofs.term.views.collect.label_annotations.LabelCollector.collect_lines.Given.{Over}
 use Rattle.codespan_reporting.proofs.term.views.collect.label_annotations.LabelCollector.collect_lines.Goals.{Else-not-branch}
@@ -14,7 +14,7 @@ use Rattle.codespan_reporting.proofs.term.views.collect.label_annotations.LabelC
 module _ (g : Over) where
   -- the label whose lines are looked up
   abbrev collector_label : LabelCollector g.row.F.Denot g.row.F-FileId.Denot g.row.F-Name.Denot g.row.F-Source.Denot → Label g.row.F-FileId.Denot → CollectedLabel g.row.F-FileId.Denot
-  collector_label = label_collected g.F.Files.database
+  collector_label = label_of_collector g.F.Files.database
 
   -- its file has its first line and its last one
   has_ends : (κs : Lfts 10) → g.claim κs → (collector : LabelCollector g.row.F.Denot g.row.F-FileId.Denot g.row.F-Name.Denot g.row.F-Source.Denot) (label : Label g.row.F-FileId.Denot) → HasEnds (collector_label collector label)

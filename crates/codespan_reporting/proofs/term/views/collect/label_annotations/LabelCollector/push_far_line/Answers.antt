@@ -1,12 +1,12 @@
 use Rattle.std.proofs.Common.{sym, subst}
-use Rattle.codespan_reporting.specs.Inner.CollectedLabels.{label_collected}
-use Rattle.codespan_reporting.specs.Inner.AnnotationViews.{IsLineOf}
+use Rattle.codespan_reporting.specs.Private.CollectedLabels.{label_of_collector}
+use Rattle.codespan_reporting.specs.Private.AnnotationViews.{IsLineOf}
 use Rattle.codespan_reporting.proofs.Collecting.{Adds-as, Adds-weaker, annotation_if_any-line, far-kind, far-part}
 use Rattle.codespan_reporting.proofs.term.views.collect.label_annotations.LabelCollector.push_far_line.Goals as goal
 
 pub returns-clause-added : goal.returns-clause-added
 returns-clause-added g c =
-    let x = label_collected g.F.Files.database c.args.self.now c.args.label.now in
+    let x = label_of_collector g.F.Files.database c.args.self.now c.args.label.now in
     let lines = c.args.self.now.lines in
     let line = c.args.line in
     Adds-as (annotation_if_any-line x c.requires.first c.requires.last c.requires.line

@@ -1,7 +1,7 @@
 use Rattle.std.proofs.Common.{◌≡◌, ℕ, ◌+◌, ◌-◌, ◌≤◌, true, ◌&&◌, nat_lt, refl, sym, ◌∙◌, arith}
 use Rattle.std.proofs.lemmas.Bool.{and_parts, le-leb}
 use Rattle.codespan_picture.specs.Types.{Config}
-use Rattle.codespan_reporting.specs.Inner.LabelSpans.{is_near_end}
+use Rattle.codespan_reporting.specs.Private.LabelSpans.{is_near_end}
 use Rattle.codespan_reporting.proofs.term.views.collect.label_span.LabelSpan.is_near_end.Goals as goal
 
 -- a line inside a label is near its end where it is within the context lines of its start

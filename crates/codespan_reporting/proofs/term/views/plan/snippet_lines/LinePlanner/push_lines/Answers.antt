@@ -1,8 +1,8 @@
 use Rattle.std.proofs.Common.{◌≡◌, Bool, get_or, Err, refl, sym, ap, ◌∙◌, arith}
 use Rattle.std.proofs.lemmas.List.{get_or_default}
 use Rattle.std.proofs.lemmas.Result.{err_from_is_err_and}
-use Rattle.codespan_reporting.specs.Inner.Annotations.{shows_line}
-use Rattle.codespan_reporting.specs.Inner.AnnotationViews.{annotation_view}
+use Rattle.codespan_reporting.specs.Private.Annotations.{shows_line}
+use Rattle.codespan_reporting.specs.Private.AnnotationViews.{annotation_view}
 use Rattle.codespan_reporting.proofs.SnippetLineViews.{IsCounted, views_of-hidden, views_of-shown, group_of_views-len, lines_to_shown}
 use Rattle.codespan_reporting.proofs.LinesFound.{left_all, left_more, left_failed}
 use Rattle.codespan_reporting.proofs.term.views.plan.snippet_lines.LinePlanner.push_lines.Given.{Over}

@@ -1,7 +1,7 @@
 use Rattle.std.proofs.Common.{◌-◌, ◌≤◌, length, map}
-use Rattle.codespan_reporting.specs.Inner.AnnotationViews.{annotation_view}
-use Rattle.codespan_reporting.specs.Inner.SnippetLines.{lines_of}
-use Rattle.codespan_reporting.specs.Inner.SourceFiles.{model_of}
+use Rattle.codespan_reporting.specs.Private.AnnotationViews.{annotation_view}
+use Rattle.codespan_reporting.specs.Private.SnippetLines.{lines_of}
+use Rattle.codespan_reporting.specs.Private.SourceFiles.{model_of}
 use Rattle.codespan_reporting.proofs.SnippetLineViews.{lines_left}
 use Rattle.codespan_reporting.proofs.LinesFound.{LinesLeft}
 use Rattle.codespan_reporting.proofs.term.views.plan.snippet_lines.LinePlanner.push_lines.Given as goal

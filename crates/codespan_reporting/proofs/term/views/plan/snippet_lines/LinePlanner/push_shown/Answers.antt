@@ -1,8 +1,8 @@
 use Rattle.std.proofs.Common.{◌∷◌, [], ◌++◌, map, refl, sym, subst}
-use Rattle.codespan_reporting.specs.Inner.AnnotationViews.{annotation_view}
-use Rattle.codespan_reporting.specs.Inner.SnippetLineViews.{AddsLines}
-use Rattle.codespan_reporting.specs.Inner.SnippetLines.{Labeled}
-use Rattle.codespan_reporting.specs.Inner.SourceFiles.{model_of}
+use Rattle.codespan_reporting.specs.Private.AnnotationViews.{annotation_view}
+use Rattle.codespan_reporting.specs.Private.SnippetLineViews.{AddsLines}
+use Rattle.codespan_reporting.specs.Private.SnippetLines.{Labeled}
+use Rattle.codespan_reporting.specs.Private.SourceFiles.{model_of}
 use Rattle.codespan_reporting.proofs.LinesFound.{adds_then}
 use Rattle.codespan_reporting.proofs.term.views.plan.snippet_lines.LinePlanner.push_shown.Goals as goal
 
