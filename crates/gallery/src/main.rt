@@ -3,8 +3,8 @@
 //! document, `gallery html NAME` as an HTML element, and `gallery terminal NAME` as text that is
 //! safe to print on a terminal. `gallery styles < CASES` writes the style sheet of HTML documents.
 //!
-//! [`cases`] documents the input, and `tools/gallery/README.md` how the cases of the file `stdin`
-//! and their expected outputs were made.
+//! [`gallery_cases::cases`] documents the input, and `tools/gallery/README.md` how the cases of the
+//! file `stdin` and their expected outputs were made.
 //!
 //! | status | standard output | standard error |
 //! |---|---|---|
@@ -13,22 +13,8 @@
 //! | 2 | nothing: the arguments are wrong | one line: the usage |
 #![tactic(auto)]
 
-mod case;
-mod cases;
-mod database;
-mod document;
-mod escape;
-mod fault;
-mod fields;
-mod gallery;
-mod rendering;
-mod request;
-mod run;
-mod statement;
-mod words;
-
+use gallery_cases::run::{conclude, run};
 use program_io::arguments::arguments;
-use run::{conclude, run};
 use std::process::ExitCode;
 
 fn main(rt: HostRuntime) -> ExitCode {

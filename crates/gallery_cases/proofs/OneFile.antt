@@ -1,0 +1,46 @@
+-- What holds over the file database of a case.
+use Rattle.std.proofs.Common.{◌≡◌, ℕ, List, [], map, Result, Ok, Err, OnOk, IfOk, sym, subst}
+use Rattle.codespan_base.specs.declared.diagnostic.Diagnostic.{Diagnostic}
+use Rattle.codespan_base.specs.FileModel.{FileDatabase}
+use Rattle.gallery_cases.specs.declared.case.Case.{Case}
+use Rattle.gallery_cases.specs.declared.case.Table.TheVariants.{One, Several, Mapped}
+use Rattle.gallery_cases.specs.Cases.{file_view}
+use Rattle.gallery_cases.specs.CaseOutputs.{InTable, HoldsOfOnlyFile, HoldsOfAllFiles, BorrowedFile, Property, borrowed_view, mapped_database, several_database, simple_database, with_numbers}
+use Rattle.gallery_cases.specs.Database.{IsOnlyFile}
+
+-- it holds over all files of a case
+pub over_several : (case : Case) (files : List BorrowedFile) (Holds : Property) → case.table ≡ Several → map borrowed_view files ≡ map file_view case.files.items
+    → Holds ℕ (several_database files) case.diagnostic → InTable case.table case Holds
+over_several case files Holds table same holds =
+    let among : HoldsOfAllFiles case Holds = record { files = files; same = same; holds = holds } in
+    subst (λ t. InTable t case Holds) (sym table) among
+
+module _ (case : Case) (name source : List ℕ) (diagnostic : Diagnostic (Unit {0})) (by_unit_id : IsOnlyFile case name source diagnostic) (Holds : Property) where
+  -- it holds over such a database of its only file
+  over_one_file : (database : List ℕ → List ℕ → FileDatabase (Unit {0}))
+      → Holds (Unit {0}) (database name source) diagnostic → HoldsOfOnlyFile database case Holds
+  over_one_file database holds = record { name = name; source = source; diagnostic = diagnostic; only = by_unit_id.only; same = by_unit_id.same; holds = holds }
+
+  -- it holds over a simple file
+  pub over_one : case.table ≡ One → Holds (Unit {0}) (simple_database name source) diagnostic
+      → InTable case.table case Holds
+  over_one table holds =
+      subst (λ t. InTable t case Holds) (sym table) (over_one_file simple_database holds)
+
+  -- it holds over a file whose line numbers are set
+  pub over_mapped : case.table ≡ Mapped → (numbers : List (ℕ × ℕ)) → numbers ≡ with_numbers [] case.numbers.items
+      → Holds (Unit {0}) (mapped_database numbers name source) diagnostic → InTable case.table case Holds
+  over_mapped table numbers set holds =
+      subst (λ t. InTable t case Holds) (sym table)
+      (subst (λ ns. HoldsOfOnlyFile (mapped_database ns) case Holds) set
+      (over_one_file (mapped_database numbers) holds))
+
+-- this holds of what a call returns, where that does
+pub ok_follows : {T E : Type 0} {P Q : T → Type 0} (r : Result T E) → ((x : T) → P x → Q x) → IfOk r P → IfOk r Q
+ok_follows (Ok x) follows holds = follows x holds
+ok_follows (Err error) follows holds = tt
+
+-- this holds where a call succeeds, where that does
+pub done_follows : {T E X Y : Type 0} (r : Result T E) → (X → Y) → OnOk r X → OnOk r Y
+done_follows (Ok x) follows holds = follows holds
+done_follows (Err error) follows holds = tt

@@ -1,0 +1,36 @@
+-- The runs of a case are those of its output: for `runs_over` and `runs_of_case`.
+use Rattle.std.proofs.Common.{◌≡◌, ℕ, List, IsSome, None, Some, Result, Ok, Err, IfOk, refl, ◌∙◌, ap}
+use Rattle.std.specs.List.{slice_get}
+use Rattle.std.specs.Prelude.{Contains}
+use Rattle.std.specs.Option.{option_map_or}
+use Rattle.codespan_base.specs.declared.diagnostic.Diagnostic.{Diagnostic}
+use Rattle.codespan_base.specs.declared.files.Error.{Error}
+use Rattle.codespan_base.specs.declared.term.config.Config.{Config}
+use Rattle.codespan_base.specs.FileModel.{FileDatabase}
+use Rattle.codespan_base.specs.SimpleModel.{missing_file, simple_file, database_file}
+use Rattle.codespan_picture.specs.Picture.{labels_of}
+use Rattle.codespan_picture.specs.Snippets.{InFile}
+use Rattle.codespan_laws.specs.StatedNames.{NamesAreStated}
+use Rattle.codespan_laws.proofs.StatedNames.{output_stated}
+use Rattle.codespan_styled.specs.Outputs.{EmitsRuns}
+use Rattle.codespan_styled.specs.Runs.{StyledRun, runs_of}
+use Rattle.gallery_cases.specs.Documents.{AreRunsOver}
+use Rattle.gallery_cases.specs.CaseOutputs.{BorrowedFile}
+
+module _ {Id : Type 0} (config : Config) (files : FileDatabase Id) (d : Diagnostic Id) where
+  -- where names are stated, the runs of an output with some loci are those of the output
+  pub stated_runs : {T : Type 0} (runs : T → List StyledRun) (r : Result T Error) → EmitsRuns config files d runs r → NamesAreStated files d → IfOk r (λ t. AreRunsOver config files d (runs t))
+  stated_runs runs (Ok t) emits stated = record {
+    lookups_succeed = emits.succeeds.lookups_succeed;
+    are = emits.runs_are ∙ ap runs_of (output_stated files d stated config.display_style config config emits.loci emits.are_loci);
+  }
+  stated_runs runs (Err error) emits stated = tt
+
+-- the names of the files of a table are stated
+pub stated_in_table : (files : List BorrowedFile) (diagnostic : Diagnostic ℕ) (x : InFile ℕ) → Contains (labels_of diagnostic) x → IsSome (database_file (λ name. Some name.now) (λ source. source.now) files x.id).name
+stated_in_table files diagnostic x contains = stated x.id
+  where
+    stated : (id : ℕ) → IsSome (database_file (λ name. Some name.now) (λ source. source.now) files id).name
+    stated id =
+        elim (slice_get files id) as (λ found. IsSome (option_map_or (λ (entry : BorrowedFile). simple_file (Some entry.0.now) entry.1.now) found missing_file).name)
+        [ None ↦ refl | Some entry ↦ refl ]

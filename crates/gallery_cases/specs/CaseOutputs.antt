@@ -1,0 +1,106 @@
+-- The output of a case.
+use Rattle.std.specs.Prelude.{◌≡◌, ℕ, nat_eq, true, List, [], ◌∷◌, ◌++◌, map, Option, Some}
+use Rattle.std.specs.Borrow.{Bor}
+use Rattle.codespan_base.specs.declared.diagnostic.Diagnostic.{Diagnostic}
+use Rattle.codespan_base.specs.Diagnostics.{DiagnosticView, LabelView, diagnostic_view}
+use Rattle.codespan_base.specs.declared.files.Error.{Error}
+use Rattle.codespan_base.specs.FileModel.{FileDatabase, FileModel, Lookup}
+use Rattle.codespan_base.specs.MappedModel.{mapped_file, mapped_failure, with_number}
+use Rattle.codespan_base.specs.SimpleModel.{simple_file, simple_failure, database_file, database_failure}
+use Rattle.codespan_reporting.specs.Output.{IsRendered}
+use Rattle.gallery_cases.specs.declared.case.Case.{Case}
+use Rattle.gallery_cases.specs.declared.case.Table.{Table}
+use Rattle.gallery_cases.specs.declared.case.Table.TheVariants.{One, Several, Mapped}
+use Rattle.gallery_cases.specs.Cases.{file_view}
+
+-- a label by the id of a database of one file
+abbrev pub label_by_unit_id : LabelView ℕ → LabelView (Unit {0})
+label_by_unit_id label =
+    record { style = label.style; file_id = tt; range = label.range; message = label.message }
+
+-- a diagnostic by the id of a database of one file
+abbrev pub by_unit_id : DiagnosticView ℕ → DiagnosticView (Unit {0})
+by_unit_id diagnostic =
+    record {
+      severity = diagnostic.severity;
+      code = diagnostic.code;
+      message = diagnostic.message;
+      labels = map label_by_unit_id diagnostic.labels;
+      notes = diagnostic.notes;
+    }
+
+-- the settings of line numbers after those of a list, one after another
+abbrev pub with_numbers : List (ℕ × ℕ) → List (ℕ × ℕ) → List (ℕ × ℕ)
+with_numbers settings [] = settings
+with_numbers settings (setting ∷ more) =
+    with_numbers (with_number setting.0 setting.1 settings) more
+
+-- a borrowed name and source
+abbrev pub BorrowedFile : Type 0
+BorrowedFile = Bor (List ℕ) × Bor (List ℕ)
+
+-- the same by their texts
+abbrev pub borrowed_view : BorrowedFile → List ℕ × List ℕ
+borrowed_view file = (file.0.now, file.1.now)
+
+-- ---- file databases
+
+-- a file alone, with the errors of its lookups
+abbrev pub one_file_database : FileModel → (Lookup → Option Error) → FileDatabase (Unit {0})
+one_file_database file failures =
+    record { same = λ i j. true; file = λ id. file; failure = λ id. failures }
+
+-- a simple file of this name and this source
+abbrev pub simple_database : List ℕ → List ℕ → FileDatabase (Unit {0})
+simple_database name source =
+    one_file_database (simple_file (Some name) source) (simple_failure source)
+
+-- the same, with these settings of line numbers
+abbrev pub mapped_database : List (ℕ × ℕ) → List ℕ → List ℕ → FileDatabase (Unit {0})
+mapped_database numbers name source =
+    one_file_database (mapped_file (Some name) source numbers) (mapped_failure source numbers)
+
+-- several files, whose ids are their indices
+abbrev pub several_database : List BorrowedFile → FileDatabase ℕ
+several_database files = record {
+  same = nat_eq;
+  file = database_file (λ name. Some name.now) (λ source. source.now) files;
+  failure = database_failure (λ source. source.now) files;
+}
+
+-- what may hold of a diagnostic over a file database
+abbrev pub Property : Type 1
+Property = (Id : Type 0) → FileDatabase Id → Diagnostic Id → Type 0
+
+-- this holds of the diagnostic of a case over such a database of its only file
+pub record HoldsOfOnlyFile (database : List ℕ → List ℕ → FileDatabase (Unit {0}))
+    (case : Case) (Holds : Property) : Type 0 where
+  pub name : List ℕ
+  pub source : List ℕ
+  pub diagnostic : Diagnostic (Unit {0})
+  pub only : map file_view case.files.items ≡ (name, source) ∷ []
+  pub same : diagnostic_view diagnostic ≡ by_unit_id (diagnostic_view case.diagnostic)
+  pub holds : Holds (Unit {0}) (database name source) diagnostic
+
+-- this holds of the diagnostic of a case over all its files
+pub record HoldsOfAllFiles (case : Case) (Holds : Property) : Type 0 where
+  pub files : List BorrowedFile
+  pub same : map borrowed_view files ≡ map file_view case.files.items
+  pub holds : Holds ℕ (several_database files) case.diagnostic
+
+-- this holds of the diagnostic of a case over its file database
+abbrev pub InTable : Table → Case → Property → Type 0
+InTable One case Holds = HoldsOfOnlyFile simple_database case Holds
+InTable Several case Holds = HoldsOfAllFiles case Holds
+InTable Mapped case Holds =
+    HoldsOfOnlyFile (mapped_database (with_numbers [] case.numbers.items)) case Holds
+
+-- the text is the output of a case in plain text
+abbrev pub IsOutput : Case → List ℕ → Type 0
+IsOutput case text =
+    InTable case.table case (λ Id database diagnostic. IsRendered case.config database diagnostic
+    text)
+
+-- the output of a case in plain text has been appended
+abbrev pub AppendsOutput : Case → List ℕ → List ℕ → Type 0
+AppendsOutput case old new = (text : List ℕ) × (new ≡ old ++ text) × IsOutput case text

@@ -1,0 +1,58 @@
+-- Documents in colors of the output of a case.
+use Rattle.std.specs.Prelude.{◌≡◌, ℕ, List, ◌++◌, codes, Option, Some, None, if◌then◌else◌}
+use Rattle.std.specs.Str.{bytes_eq}
+use Rattle.codespan_base.specs.declared.term.config.Config.{Config}
+use Rattle.codespan_base.specs.declared.diagnostic.Diagnostic.{Diagnostic}
+use Rattle.codespan_base.specs.FileModel.{FileDatabase}
+use Rattle.codespan_base.specs.StyleTables.{default_styles}
+use Rattle.codespan_picture.specs.Lookups.{AllSucceed, lookups_in}
+use Rattle.codespan_picture.specs.StatedPicture.{picture}
+use Rattle.codespan_styled.specs.Glyphs.{glyphs_of}
+use Rattle.codespan_styled.specs.Html.{html_document}
+use Rattle.codespan_styled.specs.Runs.{StyledRun, runs_of}
+use Rattle.codespan_styled.specs.Svg.{svg_document}
+use Rattle.codespan_styled.specs.Terminal.{terminal_text}
+use Rattle.gallery_cases.specs.declared.case.Case.{Case}
+use Rattle.gallery_cases.specs.declared.document.Format.{Format}
+use Rattle.gallery_cases.specs.declared.document.Format.TheVariants.{Html, Svg, Terminal}
+use Rattle.gallery_cases.specs.CaseOutputs.{InTable}
+
+-- the form of a name
+abbrev pub format_named : List ℕ → Option Format
+format_named name =
+    if bytes_eq name (codes "svg") then Some Svg
+    else if bytes_eq name (codes "html") then Some Html
+    else if bytes_eq name (codes "terminal") then Some Terminal
+    else None
+
+-- the runs are those of an output; no lookup fails
+pub record AreRunsOver {Id : Type 0} (config : Config) (files : FileDatabase Id)
+    (d : Diagnostic Id) (runs : List StyledRun) : Type 0 where
+  pub lookups_succeed : AllSucceed files.failure (lookups_in config.display_style config files d)
+  pub are : runs ≡ runs_of (picture config.display_style config config files d)
+
+-- the runs are those of the output of a case
+abbrev pub AreRunsOf : Case → List StyledRun → Type 0
+AreRunsOf case runs =
+    InTable case.table case (λ Id database diagnostic. AreRunsOver case.config database diagnostic
+    runs)
+
+-- a document of runs, in the default styles
+abbrev pub document_of : Format → List StyledRun → List ℕ
+document_of Svg runs = svg_document (glyphs_of default_styles runs)
+document_of Html runs = html_document runs
+document_of Terminal runs = terminal_text default_styles runs
+
+-- the document shows the output of a case
+pub record IsDocument (format : Format) (case : Case) (document : List ℕ) : Type 0 where
+  pub runs : List StyledRun
+  pub are_runs : AreRunsOf case runs
+  pub is : document ≡ document_of format runs
+
+-- the document is the SVG document of a case
+abbrev pub IsSvg : Case → List ℕ → Type 0
+IsSvg case document = IsDocument Svg case document
+
+-- it has been appended
+abbrev pub AppendsSvg : Case → List ℕ → List ℕ → Type 0
+AppendsSvg case old new = (document : List ℕ) × (new ≡ old ++ document) × IsSvg case document

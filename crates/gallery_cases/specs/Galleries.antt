@@ -1,0 +1,52 @@
+-- The output of every case, each under its name.
+use Rattle.std.specs.Prelude.{◌≡◌, ℕ, ◌==◌, List, [], ◌∷◌, ◌++◌, codes, Result, Ok, Err, IfSome, OnOk, if◌then◌else◌}
+use Rattle.std.specs.List.{flat_map}
+use Rattle.codespan_base.specs.declared.files.Error.{Error}
+use Rattle.codespan_base.specs.ErrorText.{error_text}
+use Rattle.gallery_cases.specs.declared.case.Case.{Case}
+use Rattle.gallery_cases.specs.declared.case.Colors.TheVariants.{Plain, Svg}
+use Rattle.gallery_cases.specs.CaseOutputs.{IsOutput}
+use Rattle.gallery_cases.specs.Documents.{IsSvg}
+
+-- the heading of a case
+abbrev pub title : List ℕ → List ℕ
+title name = codes "== " ++ name ++ 10 ∷ []
+
+-- a byte of an output as it is shown: the escape character, the character of the number 0, the
+-- carriage return and the tab by a backslash
+abbrev pub shown_byte : ℕ → List ℕ
+shown_byte b =
+    if b == 27 then codes "\\e"
+    else if b == 0 then codes "\\0"
+    else if b == 13 then codes "\\r"
+    else if b == 9 then codes "\\t"
+    else b ∷ []
+
+-- an output as it is shown
+abbrev pub shown : List ℕ → List ℕ
+shown output = flat_map shown_byte output
+
+-- the line of an error: nothing if there is none, else a line with the error's text
+abbrev pub IsErrorLine : Result (Unit {0}) Error → List ℕ → Type 0
+IsErrorLine (Ok done) error_line = error_line ≡ []
+IsErrorLine (Err error) error_line =
+    IfSome (error_text error) (λ text. error_line ≡ codes "refused: " ++ text ++ 10 ∷ [])
+
+-- the section of a case after its heading: the output as it is shown, and, if rendering failed, a
+-- line of the error; in plain text the output is the rendered case, and as SVG the document that
+-- shows it
+pub record IsSection (case : Case) (text : List ℕ) : Type 0 where
+  pub rendered : Result (Unit {0}) Error
+  pub output : List ℕ
+  pub error_line : List ℕ
+  pub is : text ≡ shown output ++ error_line
+  pub failure : IsErrorLine rendered error_line
+  pub plain : case.colors ≡ Plain → OnOk rendered (IsOutput case output)
+  pub document : case.colors ≡ Svg → OnOk rendered (IsSvg case output)
+
+-- the text has the cases in their order, each as its heading and its section
+abbrev pub IsGallery : List Case → List ℕ → Type 0
+IsGallery [] text = text ≡ []
+IsGallery (case ∷ cases) text =
+    (section : List ℕ) × (left : List ℕ) × (text ≡ title case.name.now ++ section ++ left)
+    × IsSection case section × IsGallery cases left

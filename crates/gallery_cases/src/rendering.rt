@@ -1,0 +1,88 @@
+//! The output of a case, by the calls of the library.
+
+ghost use Rattle.std.specs.Prelude.{◌≡◌, IfOk, OnOk};
+ghost use Rattle.gallery_cases.specs.declared.case.Colors.TheVariants.{Plain};
+ghost use Rattle.codespan_reporting.specs.Output.{IsAppended};
+ghost use Rattle.codespan_laws.specs.StatedNames.{NamesAreStated};
+ghost use Rattle.codespan_styled.specs.Runs.{styled_runs};
+ghost use Rattle.gallery_cases.specs.Documents.{AreRunsOf, AreRunsOver};
+ghost use Rattle.gallery_cases.specs.CaseOutputs.{AppendsOutput};
+
+use crate::case::{Case, Colors};
+use crate::database::{Database, database_of};
+use codespan_reporting::diagnostic::Diagnostic;
+use codespan_reporting::files::{Error, Files};
+use codespan_reporting::term::{Ansi, Styles, StylesWriter, emit_into_string, emit_to_write_style};
+use codespan_styled::{StyledText, styled_text};
+use std::alloc::Global;
+
+/// Appends the rendered case over its files: as plain text, or in colors by escape sequences.
+///
+/// # Errors
+///
+/// Those of rendering, and `FileMissing` if a database of one file has another number of files, or
+/// a label is in another file.
+pub fn render(alloc: Global, case: &Case<'_>, output: &mut Vec<u8>) -> Result<(), Error>
+    ensures { case.now.colors ≡ Plain
+        → OnOk result (AppendsOutput case.now output.old.items output.new.items) }
+{
+    let database = database_of(alloc, case)?;
+    match &database {
+        Database::One(files, diagnostic) => render_over(case, files, diagnostic, output),
+        Database::Several(files) => render_over(case, files, &case.diagnostic, output),
+        Database::Mapped(files, diagnostic) => render_over(case, files, diagnostic, output),
+    }
+}
+
+/// Appends the rendered case over these files: as plain text, or in colors by escape sequences.
+fn render_over<'files, F: Files<'files>>(
+    case: &Case<'_>,
+    files: &'files F,
+    diagnostic: &Diagnostic<F::FileId>,
+    output: &mut Vec<u8>,
+) -> Result<(), Error>
+    ensures { case.now.colors ≡ Plain
+        → OnOk result (IsAppended case.now.config (F.database files.now) diagnostic.now
+        output.old.items output.new.items) }
+{
+    if case.colors == Colors::Plain {
+        let text = emit_into_string(&case.config, files, diagnostic)?;
+        output.extend_from_slice(text.as_bytes())?;
+        Ok(())
+    } else {
+        let styles = Styles::default();
+        let mut writer = StylesWriter::new(Ansi::new(output), &styles);
+        emit_to_write_style(&mut writer, &case.config, files, diagnostic)
+    }
+}
+
+/// Renders a case over its files, whatever colors it states, and returns its runs of text, each in
+/// one style.
+///
+/// # Errors
+///
+/// Those of [`render`].
+pub fn runs_of_case(alloc: Global, case: &Case<'_>) -> Result<StyledText, Error>
+    ensures { IfOk result (λ text. AreRunsOf case.now (styled_runs text)) }
+{
+    let database = database_of(alloc, case)?;
+    match &database {
+        Database::One(files, diagnostic) => runs_over(alloc, case, files, diagnostic),
+        Database::Several(files) => runs_over(alloc, case, files, &case.diagnostic),
+        Database::Mapped(files, diagnostic) => runs_over(alloc, case, files, diagnostic),
+    }
+}
+
+/// Returns the runs of text of a case over these files.
+fn runs_over<'files, F: Files<'files>>(
+    alloc: Global,
+    case: &Case<'_>,
+    files: &'files F,
+    diagnostic: &Diagnostic<F::FileId>,
+) -> Result<StyledText, Error>
+    ensures { NamesAreStated (F.database files.now) diagnostic.now
+        → IfOk result (λ text. AreRunsOver case.now.config (F.database files.now) diagnostic.now
+        (styled_runs text)) }
+{
+    styled_text(alloc, &case.config, files, diagnostic)
+}

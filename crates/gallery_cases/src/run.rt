@@ -1,0 +1,142 @@
+//! One run of the program.
+
+ghost use Rattle.std.specs.Prelude.{◌≡◌, ◌≢◌, ◌≤◌, ◌↔◌, ℕ, List, MatchResult, None, OnOk, IfErr, IfOk, IfSome, IsErrAnd, IsErrOf, IsOkAnd, map, string_bytes};
+ghost use Rattle.std.specs.Io.KnownBytes.{Appends};
+ghost use Rattle.std.specs.Option.{option_copied};
+ghost use Rattle.gallery_cases.specs.Requests.{IsResponse, IsResponseOf, FaultMeans, IsStatusOf, IsFailureOf, request_of, case_named, request_view};
+
+use crate::case::Case;
+use crate::cases::parse_cases;
+use crate::document::{default_style_sheet, document};
+use crate::fault::Fault;
+use crate::gallery::render_cases;
+use crate::request::Request;
+use codespan_reporting::files::Error;
+use program_io::input::read_text;
+use program_io::output::write_and_flush;
+use std::alloc::Global;
+use std::io::{Read, Write};
+
+/// Writes the requested output of the cases of the input, and returns the program's status: 0, or,
+/// after one line about the error on `error_output`, 2 for wrong arguments and 1 for any other
+/// error.
+///
+/// Nothing is written to the output before all is rendered. An error of `error_output` is ignored.
+pub fn run<R: Read, W: Write, E: Write>(
+    alloc: Global,
+    args: &[String],
+    input: &mut R,
+    output: &mut W,
+    error_output: &mut E,
+) -> u8
+    ensures status { result ≤ 2 }
+    ensures usage { (result ≡ 2) ↔ (request_of (map string_bytes args.now) ≡ None) }
+    ensures unread { result ≡ 2 → input.new ≡ input.old }
+    ensures unwritten { result ≡ 2 → output.new ≡ output.old }
+    ensures no_error { result ≡ 0 → error_output.new ≡ error_output.old }
+    ensures rendered { result ≡ 0 → IfSome (request_of (map string_bytes args.now))
+        (λ request. IfSome (R.remaining input.old) (λ text.
+        (response : List ℕ) × IsResponse request text response
+        × Appends (W.contents output.old) (W.contents output.new) response)) }
+{
+    conclude(show(alloc, args, input, output), error_output)
+}
+
+/// Writes the error, if there is one, in one line, and returns the program's status. An error of
+/// `error_output` is ignored.
+pub fn conclude<E: Write>(outcome: Result<(), Fault>, error_output: &mut E) -> u8
+    ensures status { IsStatusOf outcome result }
+    ensures no_error { OnOk outcome (error_output.new ≡ error_output.old) }
+{
+    match outcome {
+        Ok(()) => 0,
+        Err(fault) => {
+            let _ = fault.write_line(error_output);
+            match fault {
+                Fault::WrongArguments => 2,
+                _ => 1,
+            }
+        }
+    }
+}
+
+/// Reads the cases, renders what is requested, and writes it.
+fn show<R: Read, W: Write>(
+    alloc: Global,
+    args: &[String],
+    input: &mut R,
+    output: &mut W,
+) -> Result<(), Fault>
+    ensures usage { IsErrOf result Fault.WrongArguments
+        ↔ (request_of (map string_bytes args.now) ≡ None) }
+    ensures unread { IsErrOf result Fault.WrongArguments → input.new ≡ input.old }
+    ensures rendered { OnOk result (IfSome (request_of (map string_bytes args.now))
+        (λ request. IfSome (R.remaining input.old) (λ text.
+        (response : List ℕ) × IsResponse request text response
+        × Appends (W.contents output.old) (W.contents output.new) response))) }
+    ensures reported { IfErr result (λ fault.
+        IfSome (R.remaining input.old)
+        (FaultMeans (request_of (map string_bytes args.now)) fault)) }
+    ensures unchanged { IfErr result (λ fault. fault ≢ Fault.CannotWriteOutput
+        → output.new ≡ output.old) }
+{
+    let request = Request::from_arguments(args).ok_or(Fault::WrongArguments)?;
+    let text = read_text(alloc, input)?;
+    let cases = parse_cases(alloc, text.as_str())?;
+    let response = response(alloc, request, cases.as_slice())?;
+    write_bytes(output, response.as_slice())
+}
+
+/// Writes the bytes to the output and flushes it.
+fn write_bytes<W: Write>(output: &mut W, bytes: &[u8]) -> Result<(), Fault>
+    ensures written { OnOk result (Appends (W.contents output.old)
+        (W.contents output.new) bytes.now) }
+    ensures failed { IfErr result (λ fault. fault ≡ Fault.CannotWriteOutput) }
+{
+    match write_and_flush(output, bytes) {
+        Ok(()) => Ok(()),
+        Err(_) => Err(Fault::CannotWriteOutput),
+    }
+}
+
+/// Renders what is requested of cases.
+fn response(alloc: Global, request: Request<'_>, cases: &[Case<'_>]) -> Result<Vec<u8>, Fault>
+    ensures responds { IfOk result (λ bytes.
+        IsResponseOf (request_view request.entry) cases.now bytes.items) }
+    ensures fails { IfErr result (IsFailureOf (request_view request.entry) cases.now) }
+{
+    match request {
+        Request::All => Ok(render_cases(alloc, cases)?),
+        Request::Styles => bytes_of(default_style_sheet(alloc)),
+        Request::Document(format, name) => {
+            let Some(case) = named(cases, name) else {
+                return Err(Fault::UnknownCase(String::from_str(alloc, name)?));
+            };
+            bytes_of(document(alloc, case, format))
+        }
+    }
+}
+
+/// Returns the bytes of a document.
+fn bytes_of(document: Result<String, Error>) -> Result<Vec<u8>, Fault>
+    ensures { MatchResult result
+        (λ bytes. IsOkAnd document (λ text. bytes.items ≡ string_bytes text))
+        (λ fault. IsErrAnd document (λ error. fault ≡ Fault.CannotRender error)) }
+{
+    match document {
+        Ok(document) => Ok(document.into_bytes()),
+        Err(error) => Err(Fault::CannotRender(error)),
+    }
+}
+
+/// Returns the first case of a name.
+fn named<'cases, 'input>(cases: &'cases [Case<'input>], name: &str) -> Option<&'cases Case<'input>>
+    ensures { option_copied result ≡ case_named name.now cases.now }
+{
+    for case in cases {
+        if case.name == name {
+            return Some(case);
+        }
+    }
+    None
+}
