@@ -3,3 +3,4 @@ pub mod Rightmost
 pub mod HangingStarts
 pub mod Consecutive
 pub mod CaretEnds
+pub mod Digits

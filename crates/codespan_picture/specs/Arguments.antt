@@ -27,6 +27,15 @@ single_label_view x =
 abbrev pub single_label_views : List SingleLabelTuple → List LabelModel
 single_label_views xs = map single_label_view xs
 
+-- the labels start at this byte index or later, each no earlier than the one before it
+abbrev pub starts_from : ℕ → List LabelModel → Bool
+starts_from least [] = true
+starts_from least (x ∷ xs) = nat_le least x.start && starts_from x.start xs
+
+-- the labels are in the order of their starts
+abbrev pub starts_in_order : List LabelModel → Bool
+starts_in_order xs = starts_from 0 xs
+
 -- what a multi-line label does on a line
 abbrev pub multi_label_view : rust_multi_label.MultiLabel → MultiLabel
 multi_label_view (rust_variant.Top start) = Top start

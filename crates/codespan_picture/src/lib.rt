@@ -4,3 +4,4 @@
 pub mod arguments;
 pub mod char_metrics;
 pub mod lanes;
+pub mod padding;

@@ -15,11 +15,11 @@ use Rattle.codespan_renderer.specs.declared.term.renderer.cached.label_cursor.La
 use Rattle.codespan_picture.specs.CharMetrics.{metrics_then, placeholder, width_at}
 use Rattle.codespan_renderer.specs.Private.MetricsLeft.{after_last, no_more}
 use Rattle.codespan_picture.specs.Carets.{covers}
-use Rattle.codespan_picture.specs.Arguments.{SingleLabelTuple, single_label_view, single_label_views}
+use Rattle.codespan_picture.specs.Arguments.{SingleLabelTuple, single_label_view, single_label_views, starts_from}
 use Rattle.codespan_renderer.specs.declared.term.renderer.cached.cached_metrics.CachedMetrics.{CachedMetrics}
 use Rattle.codespan_renderer.specs.Private.CachedMetrics.{cached_left}
 use Rattle.codespan_renderer.specs.Private.CursorStates.{Follow, IsBefore, HasReturned}
-use Rattle.codespan_renderer.specs.Private.LabelCursors.{starts_from, is_covered, end_with, IsReached, HasPassedLabels}
+use Rattle.codespan_renderer.specs.Private.LabelCursors.{is_covered, end_with, IsReached, HasPassedLabels}
 
 -- a label that starts before the character's end has a byte of it where it has one at all and ends
 -- past the byte index of the character

@@ -6,11 +6,10 @@ use Rattle.std.proofs.lemmas.Bool.Decides.{nat_tests}
 use Rattle.std.proofs.lemmas.List.{map-append, take-append-drop}
 use Rattle.std.proofs.lemmas.List.Sums.{fold-append}
 use Rattle.codespan_base.specs.Labels.{LabelModel}
-use Rattle.codespan_picture.specs.Arguments.{SingleLabelTuple, single_label_view, single_label_views}
+use Rattle.codespan_picture.specs.Arguments.{SingleLabelTuple, single_label_view, single_label_views, starts_from, starts_in_order}
 use Rattle.codespan_picture.specs.RowParts.{max_label_start}
 use Rattle.codespan_picture.proofs.HangingStarts.{fold_start-le}
 use Rattle.codespan_renderer.specs.Private.Runs.{ArePieces}
-use Rattle.codespan_renderer.specs.Private.LabelCursors.{starts_from, starts_in_order}
 use Rattle.codespan_renderer.proofs.LabelCursorSteps.{starts-lower}
 
 -- the elements before an index of a list and those from there on make the list

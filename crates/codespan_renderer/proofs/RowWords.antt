@@ -1,7 +1,6 @@
 -- Words of rows, as the calls that write them put them together.
-use Rattle.std.proofs.Common.{◌≡◌, ℕ, ◌+◌, ◌-◌, ◌/◌, ◌%◌, ◌^◌, ◌<◌, ◌≤◌, List, [], ◌∷◌, ◌++◌, true, nat_lt, lt-ltb, Option, None, Some, append_assoc, append-nil, length, replicate, decimal, refl, ap, sym, ◌∙◌, arith}
-use Rattle.std.proofs.lemmas.Fmt.{decimal_digit, decimal_step, length-decimal-le}
-use Rattle.std.proofs.lemmas.List.{length_push, replicate-append-replicate}
+use Rattle.std.proofs.Common.{◌≡◌, ℕ, ◌+◌, ◌-◌, ◌^◌, ◌<◌, ◌≤◌, List, [], ◌∷◌, ◌++◌, true, nat_lt, lt-ltb, Option, None, Some, append_assoc, append-nil, length, replicate, refl, ap, sym, ◌∙◌, arith}
+use Rattle.std.proofs.lemmas.List.{replicate-append-replicate}
 use Rattle.codespan_base.specs.declared.diagnostic.LabelStyle.{LabelStyle}
 use Rattle.codespan_base.specs.declared.diagnostic.LabelStyle.TheVariants.{Primary, Secondary}
 use Rattle.codespan_base.specs.declared.diagnostic.Severity.{Severity}
@@ -47,19 +46,6 @@ pub bracketed-some : (code : List ℕ) → 0 < length code → bracketed (Some c
 unfolding bracketed
 bracketed-some [] h = absurd (omega arith)
 bracketed-some (b ∷ bs) h = refl
-
--- ---- digits
-
-pub digits_step : (n : ℕ) → 10 ≤ n → n < 2 ^ 64 → length (decimal n) ≡ length (decimal (n / 10)) + 1
-digits_step n h k = ap length (decimal_step n h k) ∙ length_push (decimal (n / 10)) (48 + n % 10)
-
-pub digits_last : (n : ℕ) → n < 10 → length (decimal n) ≡ 1
-digits_last n h = ap length (decimal_digit n h)
-
-pub digits_few : (n : ℕ) → n < 2 ^ 64 → length (decimal n) ≤ 20
-digits_few n h = length-decimal-le 20 n (omega arith) (omega arith) h
-
-pub ruleset counting = (digits_step, digits_last, digits_few)
 
 -- ---- runs
 

@@ -12,7 +12,7 @@ use Rattle.codespan_base.specs.Labels.{LabelModel, is_primary}
 use Rattle.codespan_picture.specs.declared.char_metrics.Metrics.{Metrics}
 use Rattle.codespan_picture.specs.Carets.{covers, max_label_end, style_under}
 use Rattle.codespan_picture.specs.CharMetrics.{metrics_then, char_metrics_to_end, placeholder, width_at, width_of}
-use Rattle.codespan_picture.specs.Arguments.{SingleLabelTuple, single_label_view, single_label_views}
+use Rattle.codespan_picture.specs.Arguments.{SingleLabelTuple, single_label_view, single_label_views, starts_from, starts_in_order}
 use Rattle.codespan_picture.specs.Rows.{RowContext}
 use Rattle.codespan_picture.specs.RowParts.{carets}
 use Rattle.codespan_picture.proofs.Consecutive.{AreConsecutive, char_metrics-consecutive}
@@ -21,7 +21,6 @@ use Rattle.codespan_renderer.specs.Private.MetricsLeft.{metrics_from, no_more}
 use Rattle.codespan_renderer.specs.Private.CachedMetrics.{AreCached}
 use Rattle.codespan_renderer.specs.Private.LineSources.{EndBy, LeavesOut}
 use Rattle.codespan_renderer.specs.Private.Runs.{least_start}
-use Rattle.codespan_renderer.specs.Private.LabelCursors.{starts_from, starts_in_order}
 use Rattle.codespan_renderer.proofs.CaretRuns.{carets_left, carets-same, carets-start, counts-all}
 use Rattle.codespan_renderer.proofs.ScanState.{ConsecutiveWithin, ScanState, scan_state-more}
 use Rattle.codespan_renderer.proofs.WidthSearch.{consecutive-front, consecutive-low}

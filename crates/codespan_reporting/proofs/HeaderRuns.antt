@@ -20,7 +20,7 @@ use Rattle.codespan_base.proofs.Writes.{is_known-with_written, with_written-appe
 use Rattle.codespan_picture.specs.Lookups.{Failures, first_error, header_lookups_of}
 use Rattle.codespan_picture.specs.Picture.{AreLoci, IsLocus, heading_of, label_of, label_start, labels_of, context_of, notes_of}
 use Rattle.codespan_picture.specs.StatedPicture.{stated_locus, headers}
-use Rattle.codespan_reporting.specs.Private.TextLoci.{IsLocusOfLabel}
+use Rattle.codespan_plan.specs.TextLoci.{IsLocusOfLabel}
 use Rattle.codespan_picture.specs.Rows.{HeaderRow, HeaderText, RowContext, Locus, Row}
 use Rattle.codespan_picture.specs.RowStreams.{header_row, stream_of, stream_of_rows}
 use Rattle.codespan_picture.specs.Snippets.{InFile, has_any, header_rows, note_rows, primary_of}
@@ -30,9 +30,9 @@ use Rattle.codespan_reporting.proofs.OutputLoci.{label_loci, label_texts}
 use Rattle.std.proofs.Math.Seq.{take-append_seam}
 use Rattle.codespan_reporting.specs.Private.Headers.{HeaderLookupFailed, HeadersWritten, HeadersFailed, HeaderWriteFailed}
 use Rattle.codespan_laws.proofs.Loci.{locus_there, zip_append, zip_each, zip_length, zip_map, zip_weaker}
-use Rattle.codespan_reporting.proofs.LabelIndexing.{IsElementAt}
+use Rattle.codespan_plan.proofs.LabelIndexing.{IsElementAt}
 use Rattle.codespan_reporting.proofs.Renderings.{PrefixWritten-none}
-use Rattle.codespan_reporting.proofs.Failures.{all_succeed, first_error-none, first_error-some}
+use Rattle.codespan_plan.proofs.FirstErrors.{all_succeed, first_error-none, first_error-some}
 use Rattle.codespan_reporting.proofs.SnippetParts.{write_at}
 
 -- what a filter keeps was there

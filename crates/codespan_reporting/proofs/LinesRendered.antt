@@ -11,13 +11,14 @@ use Rattle.codespan_picture.specs.Picture.{context_of}
 use Rattle.codespan_picture.specs.Rows.{RowContext, Row}
 use Rattle.codespan_picture.specs.RowStreams.{stream_of, stream_of_rows}
 use Rattle.codespan_reporting.specs.declared.term.views.snippet.lines.Snippet.{Snippet}
-use Rattle.codespan_reporting.specs.declared.term.views.plan.snippet_lines.SnippetLine.{SnippetLine as RustLine}
+use Rattle.codespan_plan.specs.declared.plan.snippet_lines.SnippetLine.{SnippetLine as RustLine}
 use Rattle.codespan_reporting.specs.Private.LookupsWhileRendering.{WritesWithLookups}
-use Rattle.codespan_reporting.specs.Private.SourceFiles.{failure_of, model_of}
-use Rattle.codespan_reporting.specs.Private.SnippetLineViews.{lookups_of_line, lookups_of_lines, line_view}
-use Rattle.codespan_reporting.specs.Private.SnippetLines.{SnippetLine, rows_of_line, rows_of_lines}
-use Rattle.codespan_reporting.proofs.LookupRuns.{IsLookupRun, run_as, run_cut, run_of_nothing, run_then, first_error-lookups}
-use Rattle.codespan_reporting.proofs.LabelIndexing.{IsElementAt, take-at}
+use Rattle.codespan_plan.specs.SourceFiles.{failure_of, model_of}
+use Rattle.codespan_plan.specs.SnippetLineViews.{lookups_of_line, lookups_of_lines, line_view}
+use Rattle.codespan_plan.specs.SnippetLines.{SnippetLine, rows_of_line, rows_of_lines}
+use Rattle.codespan_reporting.proofs.LookupRuns.{IsLookupRun, run_as, run_cut, run_of_nothing, run_then}
+use Rattle.codespan_plan.proofs.FirstErrors.{first_error-lookups}
+use Rattle.codespan_plan.proofs.LabelIndexing.{IsElementAt, take-at}
 
 module _ {F Id Name Source : Type 0} (table : F → FileDatabase Id) (lines : Snippet F Id Name Source) (config : Config) where
   -- the file

@@ -13,42 +13,9 @@ use Rattle.codespan_base.specs.WriterLaw.{Sink, Writes, PrefixWritten}
 use Rattle.codespan_base.proofs.Writes.{with_written-nil, PrefixWritten-first, PrefixWritten-last}
 use Rattle.codespan_reporting.specs.Private.LookupsWhileRendering.{WrotePrefix, FailedWithLookups, WritesWithLookups}
 use Rattle.codespan_picture.specs.Lookups.{Failures, lookups_of_file, first_error}
+use Rattle.codespan_plan.proofs.FirstErrors.{or_failure-some, or_failure-succeeded}
 use Rattle.codespan_base.proofs.Chains.{written-then, failed-before, failed-then, known-after}
 use Rattle.codespan_reporting.proofs.Renderings.{PrefixWritten-none}
-
--- ---- errors, one after another
-
--- nothing fails after these
-pub or_failure-none : (o : Option Error) → or_failure o None ≡ o
-or_failure-none None = refl
-or_failure-none (Some e) = refl
-
--- three in a row
-pub or_failure_assoc : (o p q : Option Error) → or_failure (or_failure o p) q ≡ or_failure o (or_failure p q)
-or_failure_assoc None p q = refl
-or_failure_assoc (Some e) p q = refl
-
--- an error of the first lookups is that of all, whatever is looked up after them
-pub or_failure-some : (o p : Option Error) (e : Error) → o ≡ Some e → or_failure o p ≡ Some e
-or_failure-some o p e h = ap (λ (x : Option Error). or_failure x p) h
-
--- where no lookup of the first part fails, the rest decides
-pub or_failure-succeeded : (o p : Option Error) → o ≡ None → or_failure o p ≡ p
-or_failure-succeeded o p h = ap (λ (x : Option Error). or_failure x p) h
-
-module _ {Id : Type 0} (failure : Failures Id) where
-  -- the first error of some lookups and of others after them
-  pub first_error-append : (ls ms : List (Id × Lookup)) → first_error failure (ls ++ ms) ≡ or_failure (first_error failure ls) (first_error failure ms)
-  first_error-append [] ms = refl
-  first_error-append (l ∷ ls) ms =
-      ap (or_failure (failure l.0 l.1)) (first_error-append ls ms)
-      ∙ sym (or_failure_assoc (failure l.0 l.1) (first_error failure ls) (first_error failure ms))
-
-  -- the same of lookups of one file
-  pub first_error-lookups : (id : Id) (ls ms : List Lookup)
-      → first_error failure (lookups_of_file id (ls ++ ms)) ≡ or_failure (first_error failure (lookups_of_file id ls)) (first_error failure (lookups_of_file id ms))
-  first_error-lookups id ls ms =
-      ap (first_error failure) (map-append (λ (l : Lookup). (id, l)) ls ms) ∙ first_error-append (lookups_of_file id ls) (lookups_of_file id ms)
 
 -- ---- one part
 

@@ -20,24 +20,20 @@ use Rattle.codespan_picture.specs.RowStreams.{stream_of_rows}
 use Rattle.codespan_picture.specs.Snippets.{InFile, LabeledFileModel, empty_lanes, has_any, labeled_file_model, labeled_file_models}
 use Rattle.codespan_base.specs.FileModel.Lookup.{Source}
 use Rattle.codespan_picture.specs.Arguments.{locus_view}
-use Rattle.codespan_reporting.specs.Private.OutputPlans.{AreSnippetPlans, IsOutputPlan, IsSnippetPlan, ids_of, loci_of}
+use Rattle.codespan_plan.specs.OutputPlans.{AreSnippetPlans, IsOutputPlan, IsSnippetPlan, ids_of, loci_of}
 use Rattle.codespan_reporting.specs.Private.SnippetRows.{trailing_border_rows, lookups_with, rows_in}
-use Rattle.codespan_reporting.specs.Private.SnippetLineViews.{line_view}
-use Rattle.codespan_reporting.specs.Private.SnippetLines.{rows_of_lines}
+use Rattle.codespan_plan.specs.SnippetLineViews.{line_view}
+use Rattle.codespan_plan.specs.SnippetLines.{rows_of_lines}
 use Rattle.codespan_reporting.specs.Views.{diagnostic_of, view_config_of}
 use Rattle.codespan_reporting.specs.declared.term.views.rich.RichDiagnostic.{RichDiagnostic}
-use Rattle.codespan_reporting.specs.declared.term.views.plan.OutputPlan.{OutputPlan}
-use Rattle.codespan_reporting.specs.declared.term.views.plan.snippet_plans.SnippetPlan.{SnippetPlan}
-use Rattle.codespan_reporting.specs.declared.term.views.plan.snippet_lines.SnippetLine.{SnippetLine as RustLine}
-use Rattle.codespan_reporting.proofs.LookupRuns.{IsLookupRun, run_as, run_cut, run_of_nothing, run_of_writes, run_then, first_error-append, or_failure-none}
-use Rattle.codespan_reporting.proofs.FileParts.{next_part}
-use Rattle.codespan_reporting.proofs.LabelIndexing.{IsElementAt}
+use Rattle.codespan_plan.specs.declared.plan.OutputPlan.{OutputPlan}
+use Rattle.codespan_plan.specs.declared.plan.snippet_plans.SnippetPlan.{SnippetPlan}
+use Rattle.codespan_plan.specs.declared.plan.snippet_lines.SnippetLine.{SnippetLine as RustLine}
+use Rattle.codespan_reporting.proofs.LookupRuns.{IsLookupRun, run_as, run_cut, run_of_nothing, run_of_writes, run_then}
+use Rattle.codespan_plan.proofs.FirstErrors.{first_error-append, or_failure-none}
+use Rattle.codespan_plan.proofs.FileParts.{next_part}
+use Rattle.codespan_plan.proofs.LabelIndexing.{IsElementAt, drop-one}
 use Rattle.codespan_reporting.proofs.SnippetParts.{rows-two, write_at}
-
--- the elements from one on: that one, and those after it
-pub drop-one : {X : Type 0} (xs : List X) (k : ℕ) (x : X) → k < length xs → x ≡ get_or xs k x → drop k xs ≡ x ∷ drop (k + 1) xs
-drop-one {X} xs k x inside is =
-    drop-cons xs k x inside ∙ ap (λ (y : X). y ∷ drop (suc k) xs) (sym is) ∙ (let e : suc k ≡ k + 1 = omega arith in ap (λ n. x ∷ drop n xs) e)
 
 -- no element from the end on
 pub drop-end : {X : Type 0} (xs : List X) (k : ℕ) → length xs ≤ k → drop k xs ≡ []

@@ -15,7 +15,7 @@ use Rattle.codespan_base.specs.declared.term.config.DisplayStyle.TheVariants.{Ri
 use Rattle.codespan_picture.specs.Picture.{files_of, labels_of, output}
 use Rattle.codespan_picture.specs.StatedPicture.{stated_loci}
 use Rattle.codespan_picture.specs.Rows.{Locus}
-use Rattle.codespan_reporting.specs.Private.TextLoci.{IsLocusOfFile}
+use Rattle.codespan_plan.specs.TextLoci.{IsLocusOfFile}
 use Rattle.std.specs.List.{AllZip}
 use Rattle.codespan_picture.specs.Lookups.{early_lookups, late_lookups, first_error}
 use Rattle.codespan_reporting.specs.WriteCalls.{WritesOutput}
@@ -23,7 +23,8 @@ use Rattle.codespan_reporting.proofs.OutputLoci.{file_loci, file_texts}
 use Rattle.codespan_laws.proofs.Loci.{stated_are_loci}
 use Rattle.codespan_reporting.specs.Private.LookupsWhileRendering.{WroteStream}
 use Rattle.codespan_base.proofs.Chains.{written-then, failed-then}
-use Rattle.codespan_reporting.proofs.Failures.{first_error-some, first_error-none, all_succeed, some_fails}
+use Rattle.codespan_reporting.proofs.Failures.{some_fails}
+use Rattle.codespan_plan.proofs.FirstErrors.{first_error-some, first_error-none, all_succeed}
 
 -- nothing has been written, which is a prefix of everything
 pub PrefixWritten-none : (s : Sink) (items : Stream) (t : Sink) → t ≡ s → PrefixWritten s items t

@@ -15,18 +15,18 @@ use Rattle.codespan_base.specs.FileModel.{FileDatabase}
 use Rattle.codespan_base.specs.Streams.{Stream, newline}
 use Rattle.codespan_base.specs.WriterLaw.{Sink, Writes, PrefixWritten, is_known, with_written}
 use Rattle.codespan_base.proofs.Writes.{PrefixWritten-first, PrefixWritten-last, with_written-nil}
-use Rattle.codespan_reporting.specs.declared.term.views.plan.OutputPlan.{OutputPlan}
-use Rattle.codespan_reporting.specs.declared.term.views.plan.snippet_plans.SnippetPlan.{SnippetPlan}
-use Rattle.codespan_reporting.specs.declared.term.views.plan.snippet_lines.SnippetLine.{SnippetLine as RustLine}
-use Rattle.codespan_reporting.specs.Private.CollectedLabels.{labels_failure}
+use Rattle.codespan_plan.specs.declared.plan.OutputPlan.{OutputPlan}
+use Rattle.codespan_plan.specs.declared.plan.snippet_plans.SnippetPlan.{SnippetPlan}
+use Rattle.codespan_plan.specs.declared.plan.snippet_lines.SnippetLine.{SnippetLine as RustLine}
+use Rattle.codespan_plan.specs.CollectedLabels.{labels_failure}
 use Rattle.codespan_reporting.specs.Private.LookupsWhileRendering.{WroteStream, WrotePrefix, FailedWithLookups, WritesWithLookups}
-use Rattle.codespan_reporting.specs.Private.OutputPlans.{AreSnippetPlans, IsOutputPlan, ids_of, loci_of, output_plan_failure}
+use Rattle.codespan_plan.specs.OutputPlans.{AreSnippetPlans, IsOutputPlan, ids_of, loci_of, output_plan_failure}
 use Rattle.codespan_reporting.specs.WriteCalls.{WritesOutput}
 use Rattle.codespan_picture.specs.Lookups.{early_lookups, first_error, late_lookups}
 use Rattle.codespan_picture.specs.Picture.{heading_of, label_of, labels_of, context_of, notes_of}
 use Rattle.codespan_picture.specs.Padding.{padding_of}
 use Rattle.codespan_picture.specs.Snippets.{snippets}
-use Rattle.codespan_reporting.specs.Private.TextLoci.{IsLocusOfFile}
+use Rattle.codespan_plan.specs.TextLoci.{IsLocusOfFile}
 use Rattle.codespan_picture.specs.Rows.{FinalRow, HeaderRow, Row}
 use Rattle.codespan_picture.specs.RowStreams.{header_row, stream_of, stream_of_rows}
 use Rattle.codespan_picture.specs.Snippets.{InFile, has_any, labeled_file_model, labeled_file_models, note_rows}
@@ -34,7 +34,7 @@ use Rattle.codespan_base.proofs.Chains.{written-then, failed-before, failed-then
 use Rattle.codespan_reporting.proofs.Chains.{PrefixWritten-as}
 use Rattle.codespan_reporting.proofs.Renderings.{after_header, before_header, early_failure, finished, late_failure, ByLoci, failed_by_writer, failed_early, failed_late}
 use Rattle.codespan_reporting.proofs.NoteRows.{whole_of_notes}
-use Rattle.codespan_reporting.proofs.OutputPlanned.{labels-succeeded, labels-failed}
+use Rattle.codespan_plan.proofs.OutputPlanned.{labels-succeeded, labels-failed}
 
 module _ {Id : Type 0} (view : Config) (files : FileDatabase Id) (d : Diagnostic Id) (some : 0 < length d.labels.items) where
   -- its labels with their files are as many

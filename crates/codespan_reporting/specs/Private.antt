@@ -1,23 +1,7 @@
 -- Words that private calls and proofs use: a reader of the public contracts needs none of them.
 pub mod Headers
-pub mod Loci
-pub mod TextLoci
 pub mod LookupsWhileRendering
-pub mod FileLookups
-pub mod SourceFiles
-pub mod LabelSpans
-pub mod LabeledFiles
 pub mod Rendering
-pub mod Annotations
-pub mod SpannedDigits
-pub mod AnnotationViews
-pub mod CollectedLabels
-pub mod IndexedLabels
-pub mod SnippetLines
-pub mod SnippetLineViews
-pub mod LinePlanners
-pub mod SnippetPlans
 pub mod SnippetRows
-pub mod OutputPlans
 pub mod LineRendering
 pub mod ViewRendering

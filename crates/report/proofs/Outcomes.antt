@@ -6,7 +6,7 @@ use Rattle.report.specs.declared.fault.Fault.TheVariants.{WrongArguments, Cannot
 use Rattle.report.specs.RenderedTexts.{rendering_of}
 use Rattle.program_io.specs.Output.{AppendsPrefix}
 use Rattle.report.specs.Faults.{FaultMeans, IfBadScript, IsStatusOf, UnchangedUnlessRendered, failed_output_line}
-use Rattle.report.specs.Requests.{CommandView, WhereKnown, command_of}
+use Rattle.report_script.specs.Requests.{CommandView, WhereKnown, command_of}
 
 -- the status is one of four
 pub status_at_most : (outcome : Result (Unit {0}) Fault) (status : ℕ) → IsStatusOf outcome status → status ≤ 3

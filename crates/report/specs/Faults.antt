@@ -14,7 +14,7 @@ use Rattle.program_io.specs.declared.input.InputError.TheVariants as input
 use Rattle.report.specs.declared.fault.Fault.{Fault}
 use Rattle.report.specs.declared.fault.Fault.TheVariants.{WrongArguments, CannotReadInput, NotUtf8, CannotRender, BadScript, CannotWriteOutput}
 use Rattle.report.specs.RenderedTexts.{rendering_of}
-use Rattle.report.specs.Requests.{CommandView}
+use Rattle.report_script.specs.Requests.{CommandView}
 
 -- the program's status: 0 without an error, 2 for wrong arguments, 3 or 1 for a script's error, and
 -- 1 for any other

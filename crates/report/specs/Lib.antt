@@ -1,13 +1,3 @@
--- what the arguments request
-pub mod Requests
--- scripts: their lines, their words, their errors, and what they state
-pub mod ScriptLines
-pub mod ScriptWords
-pub mod ScriptFaults
-pub mod Scripts
--- what scripts are written from, and their laws
-pub mod Statements
-pub mod ScriptLaws
 -- what is rendered, and the errors of a run
 pub mod RenderedTexts
 pub mod Faults

@@ -1,8 +1,5 @@
 -- The output of a diagnostic over one file, and what a run renders.
-use Rattle.std.specs.Prelude.{◌≡◌, ℕ, true, List, [], ◌∷◌, map, Option, Some, None, Result, Ok, Err, codes, string_bytes}
-use Rattle.std.specs.declared.ops.Range.{Range}
-use Rattle.codespan_base.specs.declared.diagnostic.LabelStyle.TheVariants.{Primary, Secondary}
-use Rattle.codespan_base.specs.declared.diagnostic.Severity.TheVariants as severities
+use Rattle.std.specs.Prelude.{◌≡◌, ℕ, true, List, map, Some, Result, Ok, Err, codes, string_bytes}
 use Rattle.codespan_base.specs.declared.term.config.Config.{Config}
 use Rattle.codespan_base.specs.declared.term.config.DisplayStyle.{DisplayStyle}
 use Rattle.codespan_base.specs.Defaults.{default_config}
@@ -16,12 +13,11 @@ use Rattle.codespan_reporting.specs.StatedPicture.{stated_locus}
 use Rattle.codespan_reporting.specs.Snippets.{InFile, labeled_file_models}
 use Rattle.report.specs.declared.fault.Fault as faults
 use Rattle.report.specs.declared.fault.Fault.TheVariants as fault
-use Rattle.report.specs.declared.script.Fault.{Fault}
-use Rattle.report.specs.declared.script.FaultNumber.{FaultNumber}
-use Rattle.report.specs.declared.script.FaultNumber.TheVariants.{UnknownWord, UnknownSeverity, BadNumber, RepeatedWord, MissingEnd}
-use Rattle.report.specs.Requests.{RequestView, CommandView}
-use Rattle.report.specs.Requests.CommandView.{OneLabel, OfScript}
-use Rattle.report.specs.Scripts.{ScriptView, read_script}
+use Rattle.report_script.specs.declared.script.Fault.{Fault}
+use Rattle.report_script.specs.Requests.{CommandView}
+use Rattle.report_script.specs.Messages.{request_diagnostic, fault_diagnostic}
+use Rattle.report_script.specs.Requests.CommandView.{OneLabel, OfScript}
+use Rattle.report_script.specs.Scripts.{ScriptView, read_script}
 
 -- ---- the output of a diagnostic
 
@@ -61,69 +57,6 @@ output_text style name source diagnostic =
     (map stated_locus (starts (λ i j. true) (only_file name source) (view_labels diagnostic) style))
     (labeled_file_models (λ i j. true) (only_file name source) (view_labels diagnostic))
     diagnostic.notes)
-
--- ---- the diagnostics
-
--- the diagnostic of a request: an error with its message, and one primary label with the same
-abbrev pub request_diagnostic : RequestView → DiagnosticView (Unit {0})
-request_diagnostic request = record {
-  severity = severities.Error;
-  code = None;
-  message = request.message;
-  labels = record {
-    style = Primary;
-    file_id = tt;
-    range = record { start = request.start; end = request.end };
-    message = request.message;
-  } ∷ [];
-  notes = [];
-}
-
--- the code of a script's error
-abbrev pub fault_code : FaultNumber → List ℕ
-fault_code UnknownWord = codes "S1"
-fault_code UnknownSeverity = codes "S2"
-fault_code BadNumber = codes "S3"
-fault_code RepeatedWord = codes "S4"
-fault_code MissingEnd = codes "S5"
-
--- its message
-abbrev pub fault_message : FaultNumber → List ℕ
-fault_message UnknownWord = codes "unknown word"
-fault_message UnknownSeverity = codes "unknown severity"
-fault_message BadNumber = codes "bad number"
-fault_message RepeatedWord = codes "repeated word"
-fault_message MissingEnd = codes "missing end of script"
-
--- the message of its primary label
-abbrev pub fault_note : FaultNumber → List ℕ
-fault_note UnknownWord = codes "expected severity, code, message, primary, secondary or note"
-fault_note UnknownSeverity = codes "expected bug, error, warning, note or help"
-fault_note BadNumber = codes "expected a decimal number"
-fault_note RepeatedWord = codes "given again"
-fault_note MissingEnd = codes "expected ---"
-
--- the label over the first occurrence of a repeated word, if there is one
-abbrev pub first_label : Option (Range ℕ) → List (LabelView (Unit {0}))
-first_label None = []
-first_label (Some range) =
-    record { style = Secondary; file_id = tt; range = range; message = codes "first given here" }
-    ∷ []
-
--- the diagnostic of a script's error: its code, and a primary label over its range
-abbrev pub fault_diagnostic : Fault → DiagnosticView (Unit {0})
-fault_diagnostic fault = record {
-  severity = severities.Error;
-  code = Some (fault_code fault.number);
-  message = fault_message fault.number;
-  labels = record {
-    style = Primary;
-    file_id = tt;
-    range = fault.range;
-    message = fault_note fault.number;
-  } ∷ first_label fault.first;
-  notes = [];
-}
 
 -- ---- what a run renders
 

@@ -4,7 +4,7 @@
 //!
 //! `STYLE` is `rich`, `medium` or `short`. `START` and `END`, in decimal digits, are the byte
 //! range of the label in the source. `NAME` is the file's name, and `MESSAGE` the message of both
-//! the error and the label. [`script`] says what a script is.
+//! the error and the label. [`report_script::script`] says what a script is.
 //!
 //! | status | what was done | standard error |
 //! |---|---|---|
@@ -18,12 +18,8 @@
 #![tactic(auto)]
 
 mod fault;
-mod laws;
-mod messages;
 mod rendering;
-mod request;
 mod run;
-mod script;
 #[cfg(test)]
 mod script_tests;
 #[cfg(test)]

@@ -3,13 +3,13 @@
 ghost use Rattle.std.specs.Prelude.{◌≡◌, IfOk, IfErr, Ok, string_bytes};
 ghost use Rattle.codespan_base.specs.Diagnostics.{diagnostic_view};
 ghost use Rattle.report.specs.RenderedTexts.{rendering_of, rendering_of_script, output_text, IsRenderFailure};
-ghost use Rattle.report.specs.Requests.{command_view};
-ghost use Rattle.report.specs.Scripts.{read_script};
+ghost use Rattle.report_script.specs.Requests.{command_view};
+ghost use Rattle.report_script.specs.Scripts.{read_script};
 
 use crate::fault::Fault;
-use crate::messages::{of_fault, of_request, of_script};
-use crate::request::{Command, Request};
-use crate::script::{ScriptError, parse_script};
+use report_script::messages::{of_fault, of_request, of_script};
+use report_script::request::{Command, Request};
+use report_script::script::{ScriptError, parse_script};
 use codespan_reporting::diagnostic::Diagnostic;
 use codespan_reporting::files::{Error, SimpleFile};
 use codespan_reporting::term::{Config, DisplayStyle, emit_into_string};

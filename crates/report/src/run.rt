@@ -6,11 +6,11 @@ ghost use Rattle.std.specs.Str.{IsUtf8};
 ghost use Rattle.report.specs.RenderedTexts.{rendering_of};
 ghost use Rattle.program_io.specs.Output.{AppendsPrefix};
 ghost use Rattle.report.specs.Faults.{FaultMeans, IfBadScript, IsStatusOf, UnchangedUnlessRendered, failed_output_line};
-ghost use Rattle.report.specs.Requests.{WhereKnown, command_of};
+ghost use Rattle.report_script.specs.Requests.{WhereKnown, command_of};
 
 use crate::fault::Fault;
 use crate::rendering::render;
-use crate::request::Command;
+use report_script::request::Command;
 use program_io::input::read_text;
 use program_io::output::write_and_flush;
 use std::alloc::Global;

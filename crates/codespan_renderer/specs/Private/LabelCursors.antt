@@ -1,20 +1,11 @@
 -- A cursor over the characters of a line that passes its labels as they begin.
-use Rattle.std.specs.Prelude.{◌≡◌, ℕ, ◌+◌, ◌≤◌, Bool, true, ◌||◌, ◌&&◌, nat_lt, nat_le, max, if◌then◌else◌, List, [], ◌∷◌, drop}
+use Rattle.std.specs.Prelude.{◌≡◌, ℕ, ◌+◌, ◌≤◌, Bool, true, ◌||◌, ◌&&◌, nat_lt, max, if◌then◌else◌, List, drop}
 use Rattle.std.specs.List.{list_any}
 use Rattle.codespan_base.specs.Labels.{LabelModel, is_primary}
 use Rattle.codespan_picture.specs.declared.char_metrics.Metrics.{Metrics}
 use Rattle.codespan_renderer.specs.declared.term.renderer.cached.label_cursor.LabelCursor.{LabelCursor}
 use Rattle.codespan_picture.specs.Carets.{covers}
-use Rattle.codespan_picture.specs.Arguments.{single_label_views}
-
--- the labels start at this byte index or later, each no earlier than the one before it
-abbrev pub starts_from : ℕ → List LabelModel → Bool
-starts_from least [] = true
-starts_from least (x ∷ xs) = nat_le least x.start && starts_from x.start xs
-
--- the labels are in the order of their starts
-abbrev pub starts_in_order : List LabelModel → Bool
-starts_in_order xs = starts_from 0 xs
+use Rattle.codespan_picture.specs.Arguments.{single_label_views, starts_in_order}
 
 -- one of the labels that pass has a byte of the character
 abbrev pub is_covered : (LabelModel → Bool) → List LabelModel → Metrics → Bool

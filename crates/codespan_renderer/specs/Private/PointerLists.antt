@@ -8,12 +8,11 @@ use Rattle.codespan_base.specs.Streams.{Stream, spaces}
 use Rattle.codespan_picture.specs.declared.char_metrics.Metrics.{Metrics}
 use Rattle.codespan_renderer.specs.declared.term.renderer.cached.pointers.Pointer.{Pointer}
 use Rattle.codespan_renderer.specs.declared.term.renderer.cached.label_cursor.StartCursor.{StartCursor}
-use Rattle.codespan_picture.specs.Arguments.{single_label_views}
+use Rattle.codespan_picture.specs.Arguments.{single_label_views, starts_from}
 use Rattle.codespan_picture.specs.Lanes.{label_glyph}
 use Rattle.codespan_picture.specs.Rows.{RowContext}
 use Rattle.codespan_picture.specs.RowParts.{starts_in}
 use Rattle.codespan_renderer.specs.Private.Runs.{best_from, pointer_found}
-use Rattle.codespan_renderer.specs.Private.LabelCursors.{starts_from}
 
 -- the pointer under a character, of this style
 abbrev pub pointer_under : Metrics → LabelStyle → Pointer

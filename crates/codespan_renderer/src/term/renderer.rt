@@ -33,7 +33,6 @@ use line::RowContext;
 pub use line::{Lanes, Line};
 use line_rows::write_line;
 use notes::{write_break, write_empty, write_note};
-pub use parts::count_digits;
 use parts::write_newline;
 use row_writer::{RowWriter, no_write, with_error};
 use scanned_line::ScannedLine;

@@ -1,22 +1,16 @@
 -- The lines of one snippet, rendered: the rows that are written, and the lookups.
-use Rattle.std.specs.Prelude.{◌≡◌, ℕ, true, List, map, Result}
-use Rattle.std.specs.List.{AllByRecursion}
+use Rattle.std.specs.Prelude.{List, map, Result}
 use Rattle.codespan_picture.specs.Types.{Error}
 use Rattle.codespan_base.specs.FileModel.{FileDatabase, FileModel, Lookup}
 use Rattle.codespan_base.specs.WriterLaw.{Sink}
 use Rattle.codespan_picture.specs.Rows.{Row}
 use Rattle.codespan_renderer.specs.declared.term.renderer.Renderer.{Renderer}
 use Rattle.codespan_reporting.specs.declared.term.views.snippet.lines.Snippet.{Snippet}
-use Rattle.codespan_reporting.specs.declared.term.views.plan.snippet_lines.SnippetLine.{SnippetLine as RustLine}
-use Rattle.codespan_reporting.specs.Private.SourceFiles.{failure_of, model_of}
-use Rattle.codespan_reporting.specs.Private.SnippetLineViews.{lookups_of_lines, line_view}
+use Rattle.codespan_plan.specs.declared.plan.snippet_lines.SnippetLine.{SnippetLine as RustLine}
+use Rattle.codespan_plan.specs.SourceFiles.{failure_of, model_of}
+use Rattle.codespan_plan.specs.SnippetLineViews.{lookups_of_lines, line_view}
 use Rattle.codespan_reporting.specs.Private.Rendering.{RendersRowsWithLookups}
-use Rattle.codespan_reporting.specs.Private.SnippetLines.{SnippetLine, does_line_fit, rows_of_line, rows_of_lines}
-
--- the single-line labels of each line are in order, and the multi-line ones have so many lanes
-abbrev pub DoFit : ℕ → List SnippetLine → Type 0
-DoFit count snippet_lines = AllByRecursion (λ snippet_line. does_line_fit count snippet_line ≡ true)
-    snippet_lines
+use Rattle.codespan_plan.specs.SnippetLines.{SnippetLine, rows_of_line, rows_of_lines}
 
 module _ {W F Id Name Source : Type 0} (sink : W → Sink) (table : F → FileDatabase Id)
     (lines : Snippet F Id Name Source) where

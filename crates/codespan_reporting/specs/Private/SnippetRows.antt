@@ -8,12 +8,12 @@ use Rattle.codespan_picture.specs.Arguments.{locus_view}
 use Rattle.codespan_picture.specs.Rows.{Row, SnippetStartRow, EmptyRow}
 use Rattle.codespan_renderer.specs.declared.term.renderer.Renderer.{Renderer}
 use Rattle.codespan_reporting.specs.declared.term.views.snippet.lines.SnippetContext.{SnippetContext}
-use Rattle.codespan_reporting.specs.declared.term.views.plan.snippet_plans.SnippetPlan.{SnippetPlan}
-use Rattle.codespan_reporting.specs.declared.term.views.plan.snippet_lines.SnippetLine.{SnippetLine as RustLine}
-use Rattle.codespan_reporting.specs.Private.FileLookups.{failure_in}
-use Rattle.codespan_reporting.specs.Private.SnippetLineViews.{lookups_of_lines, line_view}
+use Rattle.codespan_plan.specs.declared.plan.snippet_plans.SnippetPlan.{SnippetPlan}
+use Rattle.codespan_plan.specs.declared.plan.snippet_lines.SnippetLine.{SnippetLine as RustLine}
+use Rattle.codespan_plan.specs.FileLookups.{failure_in}
+use Rattle.codespan_plan.specs.SnippetLineViews.{lookups_of_lines, line_view}
 use Rattle.codespan_reporting.specs.Private.Rendering.{RendersRowsWithLookups}
-use Rattle.codespan_reporting.specs.Private.SnippetLines.{rows_of_lines}
+use Rattle.codespan_plan.specs.SnippetLines.{rows_of_lines}
 
 module _ {Id : Type 0} (file : SnippetPlan Id) where
   -- a row with its lanes and nothing else

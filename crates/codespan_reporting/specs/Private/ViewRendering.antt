@@ -12,10 +12,10 @@ use Rattle.codespan_picture.specs.Snippets.{InFile, has_any, labeled_file_models
 use Rattle.codespan_renderer.specs.declared.term.renderer.Renderer.{Renderer}
 use Rattle.codespan_renderer.specs.Renderers.{config_of, writer_of}
 use Rattle.codespan_reporting.specs.declared.term.views.rich.RichDiagnostic.{RichDiagnostic}
-use Rattle.codespan_reporting.specs.declared.term.views.plan.OutputPlan.{OutputPlan}
+use Rattle.codespan_plan.specs.declared.plan.OutputPlan.{OutputPlan}
 use Rattle.codespan_reporting.specs.WriteCalls.{WritesOutput}
 use Rattle.codespan_reporting.specs.Views.{diagnostic_of, view_config_of}
-use Rattle.codespan_reporting.specs.Private.OutputPlans.{loci_of}
+use Rattle.codespan_plan.specs.OutputPlans.{loci_of}
 use Rattle.codespan_reporting.specs.Private.Headers.{RendersHeaders}
 use Rattle.codespan_reporting.specs.Private.Rendering.{RendersRowsWithLookups}
 use Rattle.codespan_base.specs.FileModel.{FileDatabase}

@@ -1,6 +1,5 @@
 //! Parts that several kinds of rows have.
 
-ghost use Rattle.std.specs.Prelude.{◌≡◌, length, decimal};
 ghost use Rattle.codespan_base.specs.Streams.{space, newline};
 ghost use Rattle.codespan_base.specs.WriterLaw.{Writes};
 ghost use Rattle.codespan_picture.specs.Arguments.{locus_view};
@@ -17,6 +16,7 @@ use codespan_base::diagnostic::{LabelStyle, Severity};
 use codespan_base::term::Chars;
 use codespan_base::term::config::put_style::PutStyle;
 use codespan_base::term::config::writing::{put_all, put_char, put_number, put_spaces};
+use codespan_picture::padding::count_digits;
 
 /// Writes the end of a row: a line feed.
 pub fn write_newline<W: PutStyle>(w: &mut W) -> Result<(), W::Error>
@@ -38,20 +38,6 @@ pub fn outer_gutter<W: PutStyle>(w: &mut W, padding: usize) -> Result<(), W::Err
     ensures { Writes (W.sink w.old) (gutter padding) result (W.sink w.new) }
 {
     write_spaces(w, padding as u128 + 1)
-}
-
-/// Returns how many digits a number has in decimal; 0 has one.
-#[tactic(auto, using(crate::proofs::RowWords::counting))]
-pub fn count_digits(number: usize) -> usize
-    ensures { result ≡ length (decimal number) }
-{
-    let mut digits = 1;
-    let mut rest = number;
-    while rest >= 10 {
-        rest /= 10;
-        digits += 1;
-    }
-    digits
 }
 
 /// Writes the outer gutter with a line number: aligned to the right in the padding, or in full

@@ -7,14 +7,14 @@ ghost use Rattle.codespan_picture.specs.Picture.{labels_of, notes_of};
 ghost use Rattle.codespan_picture.specs.Snippets.{has_any};
 ghost use Rattle.codespan_renderer.specs.Renderers.{writer_of, config_of, SameRenderer};
 ghost use Rattle.codespan_reporting.specs.WriteCalls.{WritesStyled};
-ghost use Rattle.codespan_reporting.specs.Private.OutputPlans.{IsOutputPlan};
+ghost use Rattle.codespan_plan.specs.OutputPlans.{IsOutputPlan};
 ghost use Rattle.codespan_reporting.specs.Private.Rendering.{RendersRows, WritesStream};
 ghost use Rattle.codespan_reporting.specs.Private.ViewRendering.{RendersSnippets, RendersView, output_without_labels, closing_rows};
 
 use crate::term::renderer::Renderer;
-use crate::term::views::collect::collect;
+use codespan_plan::collect::collect;
 use crate::term::views::parts::{render_diagnostic_header, render_notes};
-use crate::term::views::plan::{OutputPlan, plan_output};
+use codespan_plan::plan::{OutputPlan, plan_output};
 use crate::term::views::snippet::line_labels::LineLabels;
 use crate::term::views::snippet::lines::SnippetContext;
 use crate::term::views::snippet::{render_snippet, render_trailing_border};

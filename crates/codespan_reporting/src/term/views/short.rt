@@ -8,9 +8,9 @@ ghost use Rattle.codespan_reporting.specs.WriteCalls.{WritesStyled};
 ghost use Rattle.codespan_reporting.specs.Private.ViewRendering.{RendersHeadersOf, RendersInStyle};
 
 use crate::term::renderer::Renderer;
-use crate::term::views::file_start::is_primary;
+use codespan_plan::file_start::is_primary;
 use crate::term::views::parts::{render_diagnostic_header, render_notes};
-use crate::term::views::source_file::SourceFile;
+use codespan_plan::source_file::SourceFile;
 use codespan_base::diagnostic::{Diagnostic, Label};
 use codespan_base::files::{Error, Files};
 use codespan_base::term::WriteStyle;

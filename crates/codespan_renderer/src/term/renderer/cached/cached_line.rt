@@ -4,7 +4,7 @@
 ghost use Rattle.std.specs.Prelude.{◌≡◌, ◌≤◌, ◌++◌, IsTrue, length, map, take};
 ghost use Rattle.std.specs.Str.{chars};
 ghost use Rattle.codespan_picture.specs.CharMetrics.{char_metrics, metrics_then, width_of};
-ghost use Rattle.codespan_picture.specs.Arguments.{lane_mark_view, single_label_views};
+ghost use Rattle.codespan_picture.specs.Arguments.{lane_mark_view, single_label_views, starts_in_order};
 ghost use Rattle.codespan_picture.specs.Rows.{hanging};
 ghost use Rattle.codespan_renderer.specs.Private.MetricsLeft.{after_last};
 ghost use Rattle.codespan_renderer.specs.Private.CursorStates.{IsBefore, HasReturned};
@@ -12,7 +12,6 @@ ghost use Rattle.codespan_renderer.specs.Private.CachedMetrics.{AreCached, Reach
 ghost use Rattle.codespan_renderer.specs.Private.LineSources.{EndBy};
 ghost use Rattle.codespan_renderer.specs.Private.PointerLists.{pointers_in};
 ghost use Rattle.codespan_renderer.specs.Private.Runs.{least_start};
-ghost use Rattle.codespan_renderer.specs.Private.LabelCursors.{starts_in_order};
 
 use crate::term::renderer::Renderer;
 use crate::term::renderer::cached::cached_metrics::CachedMetrics;

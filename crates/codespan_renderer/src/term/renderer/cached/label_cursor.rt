@@ -3,11 +3,11 @@
 ghost use Rattle.std.specs.Prelude.{◌≡◌, ◌+◌, ◌<◌, ◌≤◌, ◌&&◌, IsTrue, nat_lt, true, max, filter};
 ghost use Rattle.codespan_base.specs.Labels.{has_message, is_primary};
 ghost use Rattle.codespan_picture.specs.Carets.{style_under};
-ghost use Rattle.codespan_picture.specs.Arguments.{single_label_view, single_label_views};
+ghost use Rattle.codespan_picture.specs.Arguments.{single_label_view, single_label_views, starts_in_order};
 ghost use Rattle.codespan_renderer.specs.Private.PointerLists.{HasPassed};
 ghost use Rattle.codespan_picture.specs.RowParts.{starts_in};
 ghost use Rattle.codespan_renderer.specs.Private.Runs.{best_from};
-ghost use Rattle.codespan_renderer.specs.Private.LabelCursors.{starts_in_order, is_covered, end_with, HasPassedLabels};
+ghost use Rattle.codespan_renderer.specs.Private.LabelCursors.{is_covered, end_with, HasPassedLabels};
 
 use crate::term::renderer::SingleLabel;
 use crate::term::renderer::carets::primary_first;

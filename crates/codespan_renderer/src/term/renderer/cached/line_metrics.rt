@@ -1,9 +1,8 @@
 //! The characters of a line and the pointers under them, in memory that serves many lines.
 
 ghost use Rattle.std.specs.Prelude.{◌≡◌, IfOk, IsErrOf, IsTrue, OnErr};
-ghost use Rattle.codespan_picture.specs.Arguments.{single_label_views};
+ghost use Rattle.codespan_picture.specs.Arguments.{single_label_views, starts_in_order};
 ghost use Rattle.codespan_renderer.specs.Private.CachedMetrics.{AreCached, ReachesPast};
-ghost use Rattle.codespan_renderer.specs.Private.LabelCursors.{starts_in_order};
 ghost use Rattle.codespan_renderer.specs.Renderers.{config_of};
 
 use crate::term::renderer::Renderer;

@@ -4,7 +4,7 @@ ghost use Rattle.std.specs.Prelude.{◌≡◌, ◌+◌, ◌^◌, ◌++◌, ◌<�
 ghost use Rattle.codespan_base.specs.Streams.{newline};
 ghost use Rattle.codespan_base.specs.WriterLaw.{Writes};
 ghost use Rattle.codespan_picture.specs.CharMetrics.{char_metrics, width_of};
-ghost use Rattle.codespan_picture.specs.Arguments.{single_label_view, single_label_views};
+ghost use Rattle.codespan_picture.specs.Arguments.{single_label_view, single_label_views, starts_in_order};
 ghost use Rattle.codespan_renderer.specs.Private.LineViews.{context_view, line_view};
 ghost use Rattle.codespan_renderer.specs.Private.RowViews.{line_metrics_view, hanging_stream_view, hanging_rows_view, messages_view, pointers_view};
 ghost use Rattle.codespan_renderer.specs.Private.CachedMetrics.{cached_left};
@@ -13,7 +13,6 @@ ghost use Rattle.codespan_picture.specs.Rows.{hanging};
 ghost use Rattle.codespan_picture.specs.RowParts.{metrics_before, metrics_up_to, max_label_start, pointers};
 ghost use Rattle.codespan_picture.specs.RowStreams.{pointer_row, hanging_row};
 ghost use Rattle.codespan_renderer.specs.Private.Runs.{AreHanging, ArePieces};
-ghost use Rattle.codespan_renderer.specs.Private.LabelCursors.{starts_in_order};
 
 use crate::term::renderer::SingleLabel;
 use crate::term::renderer::cached::cached_metrics::CachedMetrics;

@@ -4,11 +4,11 @@ ghost use Rattle.std.specs.Prelude.{◌≡◌, [], IfOk, OnErr, IsErrOf, map};
 ghost use Rattle.codespan_base.specs.Labels.{from_line_start};
 ghost use Rattle.codespan_picture.specs.Arguments.{single_label_views, single_label_view, lane_mark_view};
 ghost use Rattle.codespan_picture.specs.Picture.{label_of};
-ghost use Rattle.codespan_reporting.specs.Private.AnnotationViews.{annotation_view};
-ghost use Rattle.codespan_reporting.specs.Private.SnippetLines.{lane_marks_in, single_labels_in};
+ghost use Rattle.codespan_plan.specs.AnnotationViews.{annotation_view};
+ghost use Rattle.codespan_plan.specs.SnippetLines.{lane_marks_in, single_labels_in};
 
 use crate::term::renderer::{MultiLabel, SingleLabel};
-use crate::term::views::annotation::{Annotation, AnnotationKind, multi_label, range_in_line};
+use codespan_plan::annotation::{Annotation, AnnotationKind, multi_label, range_in_line};
 use codespan_base::diagnostic::{Label, LabelStyle};
 use codespan_base::files::Error;
 use codespan_renderer::term::renderer::cached::LineMetrics;

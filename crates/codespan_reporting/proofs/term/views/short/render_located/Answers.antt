@@ -1,7 +1,7 @@
 use Rattle.std.proofs.Common.{Err, refl, ap, ◌∙◌}
 use Rattle.std.proofs.lemmas.Result.{err_from_is_err_and}
 use Rattle.codespan_reporting.proofs.HeaderRuns.{written_next, failed_next, none_yet, some_next}
-use Rattle.codespan_reporting.proofs.LabelIndexing.{element-equal}
+use Rattle.codespan_plan.proofs.LabelIndexing.{element-equal}
 use Rattle.codespan_reporting.proofs.term.views.short.render_located.Goals as goal
 
 pub loop-label-init : goal.loop-label-init

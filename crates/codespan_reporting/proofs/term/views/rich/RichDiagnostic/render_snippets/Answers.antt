@@ -1,6 +1,6 @@
 use Rattle.std.proofs.Common.{Err, refl, ap, ◌∙◌, arith}
 use Rattle.std.proofs.lemmas.Result.{err_from_is_err_and}
-use Rattle.codespan_reporting.proofs.LabelIndexing.{element-equal}
+use Rattle.codespan_plan.proofs.LabelIndexing.{element-equal}
 use Rattle.codespan_reporting.proofs.OutputPlanRendering.{cut-after_snippet, cut-after_snippet, cut-in_snippet, later-files, left-end, left-start, next-file, own-snippet_lines}
 use Rattle.codespan_reporting.proofs.term.views.rich.RichDiagnostic.render_snippets.Goals as goal
 

@@ -1,7 +1,7 @@
 use Rattle.std.proofs.Common.{◌≡◌, ◌++◌, map, drop}
 use Rattle.codespan_picture.specs.Arguments.{lane_mark_view}
-use Rattle.codespan_reporting.specs.Private.AnnotationViews.{annotation_view}
-use Rattle.codespan_reporting.specs.Private.SnippetLines.{lane_marks_in}
+use Rattle.codespan_plan.specs.AnnotationViews.{annotation_view}
+use Rattle.codespan_plan.specs.SnippetLines.{lane_marks_in}
 use Rattle.codespan_reporting.proofs.term.views.snippet.line_labels.fill_multi_labels.Given as goal
 
 -- what is taken and what is left make the whole

@@ -1,7 +1,7 @@
 use Rattle.std.proofs.Common.{◌≡◌, ◌++◌, map, drop}
 use Rattle.codespan_picture.specs.Arguments.{single_label_views}
-use Rattle.codespan_reporting.specs.Private.AnnotationViews.{annotation_view}
-use Rattle.codespan_reporting.specs.Private.SnippetLines.{single_labels_in}
+use Rattle.codespan_plan.specs.AnnotationViews.{annotation_view}
+use Rattle.codespan_plan.specs.SnippetLines.{single_labels_in}
 use Rattle.codespan_reporting.proofs.term.views.snippet.line_labels.fill_single_labels.Given as goal
 
 -- what was taken and what remains are the whole

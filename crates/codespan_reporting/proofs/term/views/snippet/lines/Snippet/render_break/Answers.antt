@@ -1,9 +1,9 @@
 use Rattle.std.proofs.Common.{map, ap, ◌∙◌}
 use Rattle.std.proofs.lemmas.Result.{err_from_is_err_and}
 use Rattle.codespan_picture.specs.Arguments.{lane_mark_view}
-use Rattle.codespan_reporting.specs.Private.AnnotationViews.{annotation_view}
+use Rattle.codespan_plan.specs.AnnotationViews.{annotation_view}
 use Rattle.codespan_reporting.proofs.LookupRuns.{run_out_of_memory, out_of_memory}
-use Rattle.codespan_reporting.proofs.LaneMarks.{lanes_fit}
+use Rattle.codespan_plan.proofs.LaneMarks.{lanes_fit}
 use Rattle.codespan_reporting.proofs.term.views.snippet.lines.Snippet.render_break.Goals as goal
 
 pub returns-in_err-fill_multi_labels-clause-renders : goal.returns-in_err-fill_multi_labels-clause-renders

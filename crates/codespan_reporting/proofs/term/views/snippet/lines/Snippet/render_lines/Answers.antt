@@ -2,10 +2,10 @@ use Rattle.std.proofs.Common.{◌≡◌, ◌+◌, true, Err, refl, sym, ap, ◌�
 use Rattle.std.proofs.lemmas.List.Elements.{All-from_recursion}
 use Rattle.std.proofs.lemmas.Result.{err_from_is_err_and}
 use Rattle.codespan_laws.proofs.SortedLists.{all-mapped}
-use Rattle.codespan_reporting.specs.Private.SnippetLineViews.{IsSnippetLineOf, line_view}
-use Rattle.codespan_reporting.specs.Private.SnippetLines.{does_line_fit}
-use Rattle.codespan_reporting.specs.Private.SourceFiles.{model_of}
-use Rattle.codespan_reporting.proofs.LabelIndexing.{IsElementAt}
+use Rattle.codespan_plan.specs.SnippetLineViews.{IsSnippetLineOf, line_view}
+use Rattle.codespan_plan.specs.SnippetLines.{does_line_fit}
+use Rattle.codespan_plan.specs.SourceFiles.{model_of}
+use Rattle.codespan_plan.proofs.LabelIndexing.{IsElementAt}
 use Rattle.codespan_reporting.proofs.LinesRendered.{rendered-cut, rendered-next, rendered-nothing}
 use Rattle.codespan_reporting.proofs.term.views.snippet.lines.Snippet.render_lines.Given.{Over}
 use Rattle.codespan_reporting.proofs.term.views.snippet.lines.Snippet.render_lines.Goals.{After-render_snippet_line}

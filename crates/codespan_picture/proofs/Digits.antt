@@ -1,0 +1,15 @@
+-- `count_digits`: the digits of a number, one division after another.
+use Rattle.std.proofs.Common.{◌≡◌, ℕ, ◌+◌, ◌/◌, ◌%◌, ◌^◌, ◌<◌, ◌≤◌, length, decimal, ap, ◌∙◌, arith}
+use Rattle.std.proofs.lemmas.Fmt.{decimal_digit, decimal_step, length-decimal-le}
+use Rattle.std.proofs.lemmas.List.{length_push}
+
+pub digits_step : (n : ℕ) → 10 ≤ n → n < 2 ^ 64 → length (decimal n) ≡ length (decimal (n / 10)) + 1
+digits_step n h k = ap length (decimal_step n h k) ∙ length_push (decimal (n / 10)) (48 + n % 10)
+
+pub digits_last : (n : ℕ) → n < 10 → length (decimal n) ≡ 1
+digits_last n h = ap length (decimal_digit n h)
+
+pub digits_few : (n : ℕ) → n < 2 ^ 64 → length (decimal n) ≤ 20
+digits_few n h = length-decimal-le 20 n (omega arith) (omega arith) h
+
+pub ruleset counting = (digits_step, digits_last, digits_few)

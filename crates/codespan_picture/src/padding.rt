@@ -1,0 +1,18 @@
+//! The padding of line numbers.
+
+ghost use Rattle.std.specs.Prelude.{◌≡◌};
+ghost use Rattle.codespan_picture.specs.Padding.{digit_count};
+
+/// Returns how many digits a number has in decimal; 0 has one.
+#[tactic(auto, using(crate::proofs::Digits::counting))]
+pub fn count_digits(number: usize) -> usize
+    ensures { result ≡ digit_count number }
+{
+    let mut digits = 1;
+    let mut rest = number;
+    while rest >= 10 {
+        rest /= 10;
+        digits += 1;
+    }
+    digits
+}

@@ -1,0 +1,322 @@
+-- From all annotations of a diagnostic in order the walk makes, for each file, the rows of its
+-- snippet.
+use Rattle.std.proofs.Common.{◌≡◌, ℕ, ◌<◌, ◌≤◌, Bool, true, false, cond, ◌==◌, ◌&&◌, ◌||◌, List, [], ◌∷◌, ◌++◌, map, filter, reverse, Option, Some, None, refl, sym, ◌∙◌, ap, subst, arith}
+use Rattle.std.specs.List.{list_any, cons_option, range_with_len, AllByRecursion}
+use Rattle.std.proofs.lemmas.Bool.{eqb-true, le-ltb, ltb-false}
+use Rattle.std.proofs.lemmas.List.{append-nil}
+use Rattle.std.proofs.lemmas.List.Elements.{filter_map-append, filter_agree, recursion_from_All, All-from_recursion}
+use Rattle.std.proofs.lemmas.List.Sorted.{All-permutation, list_any-IsPermutation}
+use Rattle.codespan_base.specs.declared.term.config.Config.{Config}
+use Rattle.codespan_base.specs.FileModel.{FileDatabase, FileModel, line_count}
+use Rattle.codespan_base.specs.Labels.{LaneMark, LabelModel, is_single, first_line, drawn_label, lane_marks_on, single_labels, sorted}
+use Rattle.codespan_picture.specs.Arguments.{ascend_from, starts_in_order}
+use Rattle.codespan_plan.specs.declared.collect.Collected.{Collected}
+use Rattle.codespan_plan.specs.Annotations.{Annotation, AnnotationKind, Shown, Single, Multi, rank_of, is_before, is_on_line, is_of_file, shows_line}
+use Rattle.codespan_plan.specs.AnnotationViews.{annotation_view}
+use Rattle.codespan_plan.specs.OutputPlans.{IsCollected}
+use Rattle.codespan_picture.specs.Lines as lines
+use Rattle.codespan_picture.specs.Lines.{drawn_lines}
+use Rattle.codespan_picture.specs.Lookups.{filled_lines}
+use Rattle.codespan_picture.specs.Sequences.{break_between, in_sequence}
+use Rattle.codespan_plan.specs.IndexedLabels.{IsIdAt, all_annotations}
+use Rattle.codespan_picture.specs.Snippets.{InFile, LabeledFileModel, labeled_file_model, lane_count, line_at, line_rows, break_rows, rows_after, file_ids}
+use Rattle.codespan_plan.specs.SnippetLines.{are_shown, lane_mark_in, lane_marks_in, lines_of, single_label_of, single_labels_in, line_of_group, rows_of_lines, fills_of, do_lane_marks_fit, does_line_fit}
+use Rattle.codespan_plan.proofs.AnnotationGroups.{IsRising, lines_after, snippet_lines-by_line, all-on_line}
+use Rattle.codespan_plan.proofs.AnnotationLines as annotation_lines
+use Rattle.codespan_plan.proofs.AnnotationLines.{HasFileIndex, has_label_range, is_of_range}
+use Rattle.codespan_plan.proofs.AnnotationOrder.{below_order, kind_rises, line_rises, lane_mark_annotation, IsOn, single_labels-ascend}
+use Rattle.codespan_plan.proofs.FileIndices.{index_of_file-at}
+use Rattle.codespan_plan.proofs.LaneMarks.{ascend-climbs, marks-ascend}
+use Rattle.codespan_laws.proofs.FillLemmas.{none_past}
+use Rattle.codespan_plan.proofs.LabelAnnotations.{is_kind}
+use Rattle.codespan_plan.proofs.LabelIndexing.{AreFiles, lanes_in-equal}
+use Rattle.codespan_laws.proofs.OrderSorts.{has_range, ascending-same, sorted-ascends, sorted-keeps}
+use Rattle.codespan_laws.proofs.SortedLists.{Rises, Climbs, Falls, all-weaker, all-filter, all-both, all-pass, any-nothing, filter-filter, filter-reverse, any-filtered, reverse-cons, rises-filter, rises-from_sorted, filter-sorted_climbs, filter-sorted_falls}
+use Rattle.codespan_plan.proofs.LaneMarkOrder.{ascends-starts}
+use Rattle.codespan_plan.proofs.SnippetLineRows.{lines_of_snippet_lines, snippet_lines-rows, snippet_lines-fit, snippet_lines-lines, snippet_lines-fills}
+
+-- ---- the annotations of a group
+
+-- the labels of a range are those of its annotations
+single_labels-of_range : (start end : ℕ) (es : List Annotation) → filter (has_range start end) (single_labels_in es) ≡ single_labels_in (filter (is_of_range start end) es)
+single_labels-of_range start end [] = refl
+single_labels-of_range start end (x ∷ xs) = by_kind x.kind (single_labels-of_range start end xs)
+  where
+    by_test : (p : ℕ) (y : LabelModel) (b : Bool) → filter (has_range start end) (single_labels_in xs) ≡ single_labels_in (filter (is_of_range start end) xs)
+        → cond b (y ∷ filter (has_range start end) (single_labels_in xs)) (filter (has_range start end) (single_labels_in xs))
+        ≡ single_labels_in (cond b (record x { kind = Single p y } ∷ filter (is_of_range start end) xs) (filter (is_of_range start end) xs))
+    by_test p y true rest = ap (λ (r : List LabelModel). y ∷ r) rest
+    by_test p y false rest = rest
+
+    by_kind : (s : AnnotationKind) → filter (has_range start end) (single_labels_in xs) ≡ single_labels_in (filter (is_of_range start end) xs)
+        → filter (has_range start end) (cons_option (single_label_of s) (single_labels_in xs))
+        ≡ single_labels_in (cond (has_label_range start end (single_label_of s)) (record x { kind = s } ∷ filter (is_of_range start end) xs) (filter (is_of_range start end) xs))
+    by_kind Shown rest = rest
+    by_kind (Single p y) rest = by_test p y (has_range start end y) rest
+    by_kind (Multi m) rest = rest
+
+-- they are annotations of labels inside the line
+range-rank : (start end : ℕ) (es : List Annotation) → filter (is_of_range start end) (filter (is_kind 1) es) ≡ filter (is_of_range start end) es
+range-rank start end es = filter-filter (is_of_range start end) (is_kind 1) es ∙ filter_agree _ (is_of_range start end) (λ e. by_kind e.kind) es
+  where
+    by_kind : (s : AnnotationKind) → ((rank_of s == 1) && has_label_range start end (single_label_of s)) ≡ has_label_range start end (single_label_of s)
+    by_kind Shown = refl
+    by_kind (Single p y) = refl
+    by_kind (Multi m) = refl
+
+-- the multi-line label marks are the annotations of their kind
+marks-rank : (es : List Annotation) → lane_marks_in es ≡ lane_marks_in (filter (is_kind 2) es)
+marks-rank [] = refl
+marks-rank (x ∷ xs) = by_kind x.kind (marks-rank xs)
+  where
+    by_kind : (s : AnnotationKind) → lane_marks_in xs ≡ lane_marks_in (filter (is_kind 2) xs)
+        → cons_option (lane_mark_in s) (lane_marks_in xs) ≡ lane_marks_in (cond (rank_of s == 2) (record x { kind = s } ∷ filter (is_kind 2) xs) (filter (is_kind 2) xs))
+    by_kind Shown rest = rest
+    by_kind (Single p y) rest = rest
+    by_kind (Multi m) rest = ap (λ (ms : List LaneMark). m ∷ ms) rest
+
+-- those of annotations of multi-line label marks
+marks-of_annotations : (f l : ℕ) (ms : List LaneMark) → lane_marks_in (map (lane_mark_annotation f l) ms) ≡ ms
+marks-of_annotations f l [] = refl
+marks-of_annotations f l (m ∷ ms) = ap (λ (ks : List LaneMark). m ∷ ks) (marks-of_annotations f l ms)
+
+-- the labels of annotations from the end
+single_labels-reverse : (es : List Annotation) → single_labels_in (reverse es) ≡ reverse (single_labels_in es)
+single_labels-reverse [] = refl
+single_labels-reverse (x ∷ xs) =
+    ap single_labels_in (reverse-cons x xs) ∙ filter_map-append (λ (e : Annotation). single_label_of e.kind) (reverse xs) (x ∷ [])
+    ∙ ap (λ (r : List LabelModel). r ++ single_labels_in (x ∷ [])) (single_labels-reverse xs) ∙ by_option (single_label_of x.kind)
+  where
+    by_option : (o : Option LabelModel) → reverse (single_labels_in xs) ++ cons_option o [] ≡ reverse (cons_option o (single_labels_in xs))
+    by_option None = append-nil (reverse (single_labels_in xs))
+    by_option (Some y) = sym (reverse-cons y (single_labels_in xs))
+
+-- the first annotation of a line shows it if any does
+first-shows : (f l : ℕ) (g : List Annotation) → AllByRecursion (IsOn f l) g → Rises is_before g → are_shown g ≡ list_any shows_line g
+first-shows f l [] on up = refl
+first-shows f l (x ∷ xs) on up = by_test (shows_line x) refl
+  where
+    later : shows_line x ≡ false → (y : Annotation) → IsOn f l y × (is_before y x ≡ false) → shows_line y ≡ false
+    later t y h =
+        let kinds = kind_rises x y (on.0.0 ∙ sym h.0.0) (on.0.1 ∙ sym h.0.1) h.1 in
+        let high : 2 ≤ rank_of x.kind = ltb-false (rank_of x.kind) 2 t in
+        le-ltb (rank_of y.kind) 2 (omega (arith, kinds, high))
+
+    by_test : (b : Bool) → shows_line x ≡ b → b ≡ (b || list_any shows_line xs)
+    by_test true t = refl
+    by_test false t =
+        sym (any-nothing shows_line xs (all-weaker (λ y. IsOn f l y × (is_before y x ≡ false)) (λ y. shows_line y ≡ false) (later t) xs (all-both (IsOn f l) (λ y. is_before y x ≡ false) xs on.1 up.0)))
+
+-- ---- annotations in order
+
+-- the lines of a file's annotations do not fall
+lines-rise : (f : ℕ) (es : List Annotation) → AllByRecursion (λ e. e.file ≡ f) es → Rises is_before es → IsRising (λ e. e.line) es
+lines-rise f [] h a = tt
+lines-rise f (x ∷ xs) h a = (
+  all-weaker (λ y. (y.file ≡ f) × (is_before y x ≡ false)) (λ y. x.line ≤ y.line) (λ y b. line_rises x y (h.0 ∙ sym b.0) b.1) xs
+      (all-both (λ y. y.file ≡ f) (λ y. is_before y x ≡ false) xs h.1 a.0),
+  lines-rise f xs h.1 a.1,
+)
+
+-- ---- the annotations of a file
+
+module _ {Id : Type 0} {table : FileDatabase Id} (lawful : AreFiles table)
+    {config : Config} {xs : List (InFile Id)} {collected : Collected Id} (known : IsCollected table config xs collected)
+    (f : ℕ) (id : Id) (at : IsIdAt (file_ids table.same xs) f id) where
+  -- which ids name one file, and the file that an id names
+  abbrev same : Id → Id → Bool
+  same = table.same
+
+  abbrev file : Id → FileModel
+  file = table.file
+
+  -- the annotations as they were given
+  abbrev all : List Annotation
+  all = all_annotations same file config xs
+
+  -- the annotations in order
+  abbrev annotations : List Annotation
+  annotations = map annotation_view collected.annotations.items
+
+  -- the file with its labels
+  abbrev s : LabeledFileModel
+  s = labeled_file_model same file xs id
+
+  -- its annotations in order
+  abbrev part : List Annotation
+  part = filter (is_of_file f) annotations
+
+  -- those of a line
+  abbrev bucket : ℕ → List Annotation
+  bucket l = filter (is_on_line l) part
+
+  -- the file has this index among those of the labels
+  here : HasFileIndex same file (file_ids same xs) f id
+  here = record {
+    index = index_of_file-at same lawful.equivalence xs f id at;
+    one_file = λ i t. sym (lawful.one_file id i t);
+    lanes = λ before i t. sym (lanes_in-equal lawful before id i t);
+    some_line = lawful.some_line id;
+  }
+
+  -- its annotations are of the file
+  part-file : AllByRecursion (λ e. e.file ≡ f) part
+  part-file = all-weaker (λ e. is_of_file f e ≡ true) (λ e. e.file ≡ f) (λ e t. eqb-true e.file f t) part (all-pass (is_of_file f) annotations)
+
+  -- they are in order
+  part-rises : Rises is_before part
+  part-rises = rises-filter is_before (is_of_file f) annotations (rises-from_sorted is_before below_order annotations known.sorted)
+
+  -- they are of lines that the file has
+  part-below : AllByRecursion (λ e. e.line < line_count (file id)) part
+  part-below =
+      let IsInside : (e : Annotation) → Type 0 = λ e. is_of_file f e ≡ true → e.line < line_count (file id) in
+      let all_inside : AllByRecursion IsInside all = annotation_lines.annotations-below here config xs [] in
+      let whole : AllByRecursion IsInside annotations = recursion_from_All IsInside annotations (All-permutation IsInside all annotations known.permutation (All-from_recursion IsInside all all_inside)) in
+      all-weaker (λ e. (is_of_file f e ≡ true) × IsInside e) (λ e. e.line < line_count (file id)) (λ e h. h.1 h.0) part
+      (all-both (λ e. is_of_file f e ≡ true) IsInside part (all-pass (is_of_file f) annotations) (all-filter IsInside (is_of_file f) annotations whole))
+
+  -- the annotations of a line are of it
+  bucket-on : (l : ℕ) → AllByRecursion (IsOn f l) (bucket l)
+  bucket-on l = all-both (λ e. e.file ≡ f) (λ e. e.line ≡ l) (bucket l) (all-filter (λ e. e.file ≡ f) (is_on_line l) part part-file) (all-on_line l part)
+
+  -- they are in order
+  bucket-rises : (l : ℕ) → Rises is_before (bucket l)
+  bucket-rises l = rises-filter is_before (is_on_line l) part part-rises
+
+  -- an annotation of the file and the line that passes a test
+  abbrev picks : ℕ → (Annotation → Bool) → Annotation → Bool
+  picks l t e = is_of_file f e && (is_on_line l e && t e)
+
+  -- what passes a test, of any annotations
+  of_picked : (l : ℕ) (t : Annotation → Bool) (es : List Annotation) → filter t (filter (is_on_line l) (filter (is_of_file f) es)) ≡ filter (picks l t) es
+  of_picked l t es = filter-filter t (is_on_line l) (filter (is_of_file f) es) ∙ filter-filter (λ e. is_on_line l e && t e) (is_of_file f) es
+
+  -- whether any passes
+  any-of_picked : (l : ℕ) (t : Annotation → Bool) (es : List Annotation) → list_any t (filter (is_on_line l) (filter (is_of_file f) es)) ≡ list_any (picks l t) es
+  any-of_picked l t es = any-filtered t (is_on_line l) (filter (is_of_file f) es) ∙ any-filtered (λ e. is_on_line l e && t e) (is_of_file f) es
+
+  -- what the labels say of a line
+  abbrev annotation_if_any : ℕ → List Annotation
+  annotation_if_any l = annotation_lines.line_annotations_after here config l [] xs
+
+  -- the annotations of a line as they were given
+  all_inside-annotation_if_any : (l : ℕ) → filter (is_on_line l) (filter (is_of_file f) all) ≡ annotation_if_any l
+  all_inside-annotation_if_any l = annotation_lines.all-annotation_if_any here config l xs []
+
+  -- ---- the labels of a line
+
+  -- the labels inside the line
+  single_labels-are : (l : ℕ) → single_labels_in (bucket l) ≡ single_labels (file id) s.labels l
+  single_labels-are l =
+      ascending-same (single_labels_in (bucket l)) (sorted turned) (single_labels-ascend f l (bucket l) (bucket-on l) (bucket-rises l)) (sorted-ascends turned)
+      (λ start end. ranges start end ∙ sym (sorted-keeps start end turned))
+    where
+      of_line_labels : List LabelModel
+      of_line_labels = map (drawn_label (file id)) (filter (λ x. is_single (file id) x && (first_line (file id) x == l)) s.labels)
+
+      turned : List LabelModel
+      turned = reverse of_line_labels
+
+      from : List Annotation
+      from = annotation_lines.single_labels_from here config l 0 xs
+
+      all_inside : (start end : ℕ) → filter (picks l (is_of_range start end)) all ≡ filter (is_of_range start end) from
+      all_inside start end =
+          sym (of_picked l (is_of_range start end) all) ∙ ap (filter (is_of_range start end)) (all_inside-annotation_if_any l)
+          ∙ sym (range-rank start end (annotation_if_any l))
+          ∙ ap (filter (is_of_range start end)) (annotation_lines.all-single_labels here config l xs [] 0 refl)
+
+      falls : (start end : ℕ) → Falls is_before (filter (picks l (is_of_range start end)) all)
+      falls start end =
+          subst (Falls is_before) (sym (all_inside start end)) (annotation_lines.single_labels-fall here config l start end 0 xs)
+
+      ranges : (start end : ℕ) → filter (has_range start end) (single_labels_in (bucket l)) ≡ filter (has_range start end) turned
+      ranges start end =
+          single_labels-of_range start end (bucket l)
+          ∙ ap single_labels_in (of_picked l (is_of_range start end) annotations
+          ∙ filter-sorted_falls is_before below_order all annotations known.permutation known.sorted (picks l (is_of_range start end)) (falls start end)
+          ∙ ap (λ (r : List Annotation). reverse r) (all_inside start end))
+          ∙ single_labels-reverse (filter (is_of_range start end) from)
+          ∙ ap (λ (r : List LabelModel). reverse r) (sym (single_labels-of_range start end from)
+          ∙ ap (filter (has_range start end)) (annotation_lines.single_labels-labels here config l 0 xs))
+          ∙ sym (filter-reverse (has_range start end) of_line_labels)
+
+  -- ---- the multi-line label marks of a line
+
+  -- those of the labels of the file
+  abbrev marks : ℕ → List LaneMark
+  marks l = lane_marks_on (file id) s.labels l
+
+  -- their annotations as they were given
+  marks-all_inside : (l : ℕ) → filter (picks l (is_kind 2)) all ≡ map (lane_mark_annotation f l) (marks l)
+  marks-all_inside l = sym (of_picked l (is_kind 2) all) ∙ ap (filter (is_kind 2)) (all_inside-annotation_if_any l) ∙ annotation_lines.all-marks here config l xs [] 0 refl
+
+  -- the multi-line label marks of the annotations of a line
+  marks-are : (l : ℕ) → lane_marks_in (bucket l) ≡ marks l
+  marks-are l =
+      marks-rank (bucket l)
+      ∙ ap lane_marks_in (of_picked l (is_kind 2) annotations
+      ∙ filter-sorted_climbs is_before below_order all annotations known.permutation known.sorted (picks l (is_kind 2))
+      (subst (Climbs is_before) (sym (marks-all_inside l)) (ascend-climbs f l (lane_count s) 0 (marks l) (marks-ascend s l)))
+      ∙ marks-all_inside l)
+      ∙ marks-of_annotations f l (marks l)
+
+  -- a line is rendered with what its labels do on it
+  line-is : (l : ℕ) → line_of_group (file id) (lane_count s) l (bucket l) ≡ line_at s l
+  line-is l = λ i. record (line_at s l) { labels = single_labels-are l i; lanes = record { count = lane_count s; marks = marks-are l i } }
+
+  -- ---- shown lines
+
+  -- the line is shown
+  abbrev is_shown : ℕ → Bool
+  is_shown l = lines.is_shown config (file id) s.labels l
+
+  -- the annotations of a line determine whether it is shown
+  shown-is : (l : ℕ) → are_shown (bucket l) ≡ is_shown l
+  shown-is l =
+      first-shows f l (bucket l) (bucket-on l) (bucket-rises l)
+      ∙ any-of_picked l shows_line annotations ∙ sym (list_any-IsPermutation (picks l shows_line) all annotations known.permutation) ∙ sym (any-of_picked l shows_line all)
+      ∙ ap (list_any shows_line) (all_inside-annotation_if_any l)
+      ∙ annotation_lines.any-annotation_if_any here config l xs []
+
+  -- the shown lines
+  abbrev shown : List ℕ
+  shown = filter is_shown (range_with_len 0 (line_count (file id)))
+
+  -- the snippet lines are those of the shown lines
+  snippet_lines-are : lines_of part ≡ lines_after bucket None shown
+  snippet_lines-are =
+      snippet_lines-by_line (line_count (file id)) part (lines-rise f part part-file part-rises) part-below
+      ∙ (λ i. lines_after bucket None (filter (λ l. shown-is l i) (range_with_len 0 (line_count (file id)))))
+
+  -- ---- the snippet
+
+  -- the snippet lines make the rows of the snippet
+  pub snippet-rows : rows_of_lines s.file (lane_count s) (lines_of part) ≡ rows_after s None (drawn_lines config s.file s.labels)
+  snippet-rows =
+      ap (rows_of_lines (file id) (lane_count s)) snippet_lines-are
+      ∙ snippet_lines-rows (file id) (lane_count s) bucket is_shown (line_count (file id)) (none_past config s)
+      ∙ (λ i. in_sequence (λ l. l) (break_between (break_rows (λ l. line-is l i))) (line_rows (λ l. line-is l i)) None (drawn_lines config s.file s.labels))
+
+  -- they fill in the lines that are drawn and not shown
+  pub snippet-fills : fills_of (lines_of part) ≡ filled_lines config s
+  snippet-fills = ap fills_of snippet_lines-are ∙ snippet_lines-fills bucket is_shown (line_count (file id)) (none_past config s)
+
+  -- they render the drawn lines
+  pub snippet-lines : lines_of_snippet_lines (lines_of part) ≡ drawn_lines config s.file s.labels
+  snippet-lines = ap lines_of_snippet_lines snippet_lines-are ∙ snippet_lines-lines bucket is_shown (line_count (file id)) (none_past config s)
+
+  -- a line's labels are in the order of their starts
+  starts-ascend : (l : ℕ) → starts_in_order (single_labels_in (bucket l)) ≡ true
+  starts-ascend l = ascends-starts (single_labels_in (bucket l)) (single_labels-ascend f l (bucket l) (bucket-on l) (bucket-rises l))
+
+  -- its multi-line label marks ascend in the lanes of the file
+  marks-fit : (l : ℕ) → do_lane_marks_fit (lane_count s) (bucket l) ≡ true
+  marks-fit l = ap (ascend_from (lane_count s) 0) (marks-are l) ∙ marks-ascend s l
+
+  -- so do those of each snippet line
+  pub snippet-fits : AllByRecursion (λ snippet_line. does_line_fit (lane_count s) snippet_line ≡ true) (lines_of part)
+  snippet-fits =
+      subst (AllByRecursion (λ snippet_line. does_line_fit (lane_count s) snippet_line ≡ true)) (sym snippet_lines-are)
+      (snippet_lines-fit (lane_count s) bucket (λ l i. starts-ascend l i && marks-fit l i) marks-fit None shown)

@@ -1,0 +1,262 @@
+-- The files' plans that a loop finds, one after another.
+use Rattle.std.proofs.Common.{◌≡◌, ◌≢◌, ℕ, suc, ◌+◌, ◌-◌, ◌≤◌, true, List, [], ◌∷◌, ◌++◌, length, take, drop, map, filter, Option, Some, None, Result, Ok, Err, refl, sym, ap, ◌∙◌, subst, subst₂, arith}
+use Rattle.std.specs.Prelude.{All, IfOk, flat_map}
+use Rattle.std.specs.List.{AllByRecursion, prefix_len}
+use Rattle.std.specs.List.Sorted.{IsSortedBy}
+use Rattle.std.specs.Result.{result_and}
+use Rattle.std.proofs.lemmas.Bool.{eqb-true}
+use Rattle.std.proofs.lemmas.Grind.{flat_map-append}
+use Rattle.std.proofs.lemmas.List.{append-nil, append_assoc, drop-append-le, drop_all, get_or-map, length-append, length-map, length-take, length-take-le, map-append, take-append-drop, take-append-le, take_all}
+use Rattle.std.proofs.lemmas.List.Elements.{All-from_recursion}
+use Rattle.std.proofs.lemmas.Result.{IfOk-weaker}
+use Rattle.codespan_base.specs.declared.files.Error.{Error}
+use Rattle.codespan_base.specs.declared.files.Error.TheVariants.{FormatError, OutOfMemory}
+use Rattle.codespan_base.specs.declared.term.config.Layout.{Layout}
+use Rattle.codespan_base.specs.FileModel.{FileModel, Lookup, or_failure}
+use Rattle.codespan_picture.specs.Lookups.{Failures, lookups_of_file, first_error}
+use Rattle.codespan_plan.specs.FileLookups.{FailsByOrFormat}
+use Rattle.codespan_plan.specs.declared.annotation.Annotation.{Annotation as RustAnnotation}
+use Rattle.codespan_plan.specs.declared.collect.labeled_files.LabeledFile.{LabeledFile as RustFile}
+use Rattle.codespan_plan.specs.declared.plan.snippet_plans.SnippetPlan.{SnippetPlan}
+use Rattle.codespan_plan.specs.declared.plan.snippet_lines.SnippetLine.{SnippetLine as RustLine}
+use Rattle.codespan_plan.specs.Annotations.{Annotation, is_before, is_of_file}
+use Rattle.codespan_plan.specs.AnnotationViews.{IsLineOf, IsOfFiles, annotation_view}
+use Rattle.codespan_plan.specs.SnippetLineViews.{AddsLines, numbers_looked_up}
+use Rattle.codespan_plan.specs.LabeledFiles.{ids_view}
+use Rattle.codespan_plan.specs.Loci.{locus_lookups_of, loci_lookups}
+use Rattle.codespan_plan.specs.IndexedLabels.{IsIdAt}
+use Rattle.codespan_plan.specs.SnippetPlans.{ArePlans, IsPlan, by_index, number_lookups, lines_at}
+use Rattle.codespan_plan.specs.SnippetLines.{SnippetLine, fills_of, lines_of}
+use Rattle.codespan_plan.proofs.FirstErrors.{first_error-append, or_failure-succeeded, or_failure-none, or_failure-some, first_error-none, first_error-some}
+use Rattle.codespan_plan.proofs.FileParts.{IsFilePart, from_file, next-file, next_part}
+use Rattle.codespan_plan.proofs.FileIndices.{at-get}
+use Rattle.codespan_plan.proofs.LabelIndexing.{IsElementAt, take-at}
+use Rattle.codespan_laws.proofs.SortedLists.{all-both, all-mapped, all-part, all-pass, all-weaker}
+
+-- ---- ids at their indices
+
+-- what ids have, one after the other
+by_index-append : {Id A : Type 0} (image : ℕ → Id → List A) (k : ℕ) (xs ys : List Id) → by_index image k (xs ++ ys) ≡ by_index image k xs ++ by_index image (k + length xs) ys
+by_index-append image k [] ys = let e : k ≡ k + 0 = omega arith in ap (λ n. by_index image n ys) e
+by_index-append {Id} {A} image k (x ∷ xs) ys =
+    let e : k + 1 + length xs ≡ k + suc (length xs) = omega arith in
+    ap (λ (r : List A). image k x ++ r) (by_index-append image (k + 1) xs ys ∙ ap (λ n. by_index image (k + 1) xs ++ by_index image n ys) e)
+    ∙ sym (append_assoc (image k x) (by_index image (k + 1) xs) (by_index image (k + suc (length xs)) ys))
+
+-- one more id
+by_index-more : {Id A : Type 0} (image : ℕ → Id → List A) (f : ℕ) (ids more : List Id) (id : Id) → length ids ≡ f → more ≡ ids ++ id ∷ []
+    → by_index image 0 more ≡ by_index image 0 ids ++ image f id
+by_index-more {Id} {A} image f ids more id len is =
+    let e : 0 + length ids ≡ f = omega (arith, len) in
+    ap (by_index image 0) is ∙ by_index-append image 0 ids (id ∷ [])
+    ∙ ap (λ (r : List A). by_index image 0 ids ++ r) (append-nil (image (0 + length ids) id) ∙ ap (λ n. image n id) e)
+
+-- ids that have the same at their indices
+pub by_index-same : {Id A : Type 0} (image : ℕ → Id → List A) (each : Id → List A) (k : ℕ) (js : List Id) → ((i : ℕ) (id : Id) → IsIdAt js i id → image (k + i) id ≡ each id)
+    → by_index image k js ≡ flat_map each js
+by_index-same image each k [] same = refl
+by_index-same {Id} {A} image each k (j ∷ js) same =
+    let none : k + 0 ≡ k = omega arith in
+    ap (λ (r : List A). r ++ by_index image (k + 1) js) (ap (λ n. image n j) (sym none) ∙ same 0 j refl)
+    ∙ ap (λ (r : List A). each j ++ r)
+    (by_index-same image each (k + 1) js (λ i id at. let e : k + 1 + i ≡ k + suc i = omega arith in ap (λ n. image n id) e ∙ same (suc i) id at))
+
+module _ {Id : Type 0} (file : Id → FileModel) where
+  -- a file's part of the annotations is of lines that the file has
+  part-lines : (ids : List Id) (xs : List (RustAnnotation Id)) (at n f : ℕ) (id : Id) (ys : List Annotation) → IsIdAt ids f id → AllByRecursion (IsOfFiles file ids) xs
+      → map annotation_view (take n (drop at xs)) ≡ filter (is_of_file f) ys → AllByRecursion (λ e. IsLineOf (file id) e.line) (take n (drop at xs))
+  part-lines ids xs at n f id ys is_at lines own =
+      let part = take n (drop at xs) in
+      let of_file = all-mapped annotation_view (λ e. is_of_file f e ≡ true) part (subst (AllByRecursion (λ e. is_of_file f e ≡ true)) (sym own) (all-pass (is_of_file f) ys)) in
+      all-weaker (λ e. (is_of_file f (annotation_view e) ≡ true) × IsOfFiles file ids e) (λ e. IsLineOf (file id) e.line)
+      (λ e h. h.1 id (subst (λ k. IsIdAt ids k id) (sym (eqb-true e.file f h.0)) is_at))
+      part (all-both (λ e. is_of_file f (annotation_view e) ≡ true) (IsOfFiles file ids) part of_file (all-part (IsOfFiles file ids) at n xs lines))
+
+-- ---- the turn of a file
+
+-- a loop over the files is at one of them: the annotations from an index on are those of it and of
+-- later files, and its own are counted
+pub record IsAtFile {Id : Type 0} (files : List (RustFile Id)) (xs : List (RustAnnotation Id)) (at n k : ℕ) (f : RustFile Id) : Type 0 where
+  pub up : IsSortedBy is_before (map annotation_view xs)
+  pub inside : at ≤ length xs
+  pub left : drop at (map annotation_view xs) ≡ from_file k (map annotation_view xs)
+  pub counted : n ≡ prefix_len (λ e. is_of_file k (annotation_view e)) (take (length xs - at) (drop at xs))
+  pub within : n ≤ length (take (length xs - at) (drop at xs))
+  pub here : IsElementAt files k f
+
+module _ {Id : Type 0} {files : List (RustFile Id)} {xs : List (RustAnnotation Id)} {at n k : ℕ} {f : RustFile Id} (turn : IsAtFile files xs at n k f) where
+  -- the file's part of the annotations
+  own_part : IsFilePart xs at n k
+  own_part = next-file xs at n k turn.up turn.inside turn.left turn.counted turn.within
+
+  module _ {zs : List (RustAnnotation Id)} (same : zs ≡ xs) where
+    -- it is the same in an equal list
+    own_annotations : map annotation_view (next_part zs at n) ≡ filter (is_of_file k) (map annotation_view xs)
+    own_annotations = ap (λ (es : List (RustAnnotation Id)). map annotation_view (next_part es at n)) same ∙ own_part.own
+
+    -- its lines are the file's
+    pub own_lines : (file : Id → FileModel) → AllByRecursion (IsOfFiles file (ids_view files)) xs → All (λ e. IsLineOf (file f.id) e.line) (next_part zs at n)
+    own_lines file lines =
+        let inside = turn.here.inside in
+        let there : IsIdAt (ids_view files) k f.id =
+        subst (IsIdAt (ids_view files) k) (get_or-map (λ (g : RustFile Id). g.id) files k f f.id inside ∙ ap (λ (g : RustFile Id). g.id) (sym turn.here.is))
+        (at-get (ids_view files) k f.id (omega (arith, inside, length-map files (λ (g : RustFile Id). g.id)))) in
+        All-from_recursion (λ e. IsLineOf (file f.id) e.line) (next_part zs at n)
+        (part-lines file (ids_view files) zs at (at + n - at) k f.id (map annotation_view xs) there (subst (AllByRecursion (IsOfFiles file (ids_view files))) (sym same) lines) own_annotations)
+
+    -- so are its snippet lines
+    pub own_snippet_lines : lines_of (map annotation_view (next_part zs at n)) ≡ lines_at (map annotation_view xs) k
+    own_snippet_lines = ap lines_of own_annotations
+
+    -- and what they look up
+    pub own_lookups : (layout : Layout) (failure : Failures Id) → first_error failure (lookups_of_file f.id (numbers_looked_up layout (fills_of (lines_of (map annotation_view (next_part zs at n))))))
+        ≡ first_error failure (lookups_of_file f.id (numbers_looked_up layout (fills_of (lines_at (map annotation_view xs) k))))
+    own_lookups layout failure = ap (λ snippet_lines. first_error failure (lookups_of_file f.id (numbers_looked_up layout (fills_of snippet_lines)))) own_snippet_lines
+
+  -- the next file's turn is after it
+  pub next_inside : at + n ≤ length xs
+  next_inside = omega (arith, own_part.within, own_part.len)
+
+  -- later files remain there
+  pub next_left : drop (at + n) (map annotation_view xs) ≡ from_file (k + 1) (map annotation_view xs)
+  next_left = ap (λ i. drop (at + i) (map annotation_view xs)) (sym own_part.len) ∙ own_part.rest
+
+-- ---- plans
+
+-- a number of snippet lines were added
+pub added-count : {Id : Type 0} {layout : Layout} {f : FileModel} {old new : List (RustLine Id)} {snippet_lines : List SnippetLine} {now before : ℕ} → now ≡ length new → before ≡ length old
+    → (added : AddsLines layout f old new snippet_lines) → now - before ≡ length added.more
+added-count {old = old} is was added = let whole = ap length added.whole in omega (arith, is, was, whole, length-append old added.more)
+
+-- there are at least as many snippet lines as a plan counts in front
+count-within : {Id : Type 0} {layout : Layout} {file : Id → FileModel} {es : List Annotation} {k : ℕ} {f : RustFile Id} {plan : SnippetPlan Id} (snippet_lines : List (RustLine Id))
+    → IsPlan layout file es k f plan (take plan.line_total snippet_lines) → plan.line_total ≤ length snippet_lines
+count-within {plan = plan} snippet_lines is = omega (arith, is.count_is, length-take plan.line_total snippet_lines)
+
+module _ {Id : Type 0} {layout : Layout} {file : Id → FileModel} {es : List Annotation} {f : RustFile Id} {plan : SnippetPlan Id} {own : List (RustLine Id)} where
+  -- one plan, with its snippet lines
+  plan-alone : (k : ℕ) → IsPlan layout file es k f plan own → ArePlans layout file es k (f ∷ []) (plan ∷ []) own
+  plan-alone k is =
+      let count = is.count_is in
+      (subst (IsPlan layout file es k f plan) (sym (take_all plan.line_total own (omega (arith, count)))) is, drop_all plan.line_total own (omega (arith, count)))
+
+  -- plans from an index on, and then one more
+  plans-more : (k : ℕ) (fs : List (RustFile Id)) (ps : List (SnippetPlan Id)) (snippet_lines : List (RustLine Id)) → ArePlans layout file es k fs ps snippet_lines
+      → IsPlan layout file es (k + length fs) f plan own → ArePlans layout file es k (fs ++ f ∷ []) (ps ++ plan ∷ []) (snippet_lines ++ own)
+  plans-more k [] [] snippet_lines h is =
+      let e : k + 0 ≡ k = omega arith in
+      subst (λ (front : List (RustLine Id)). ArePlans layout file es k (f ∷ []) (plan ∷ []) (front ++ own)) (sym h) (plan-alone k (subst (λ n. IsPlan layout file es n f plan own) e is))
+  plans-more k [] (p ∷ ps) snippet_lines h is = absurd h
+  plans-more k (g ∷ fs) [] snippet_lines h is = absurd h
+  plans-more k (g ∷ fs) (p ∷ ps) snippet_lines h is =
+      let e : k + suc (length fs) ≡ k + 1 + length fs = omega arith in
+      let within = count-within snippet_lines h.0 in (
+        subst (IsPlan layout file es k g p) (sym (take-append-le p.line_total snippet_lines own within)) h.0,
+        subst (ArePlans layout file es (k + 1) (fs ++ f ∷ []) (ps ++ plan ∷ [])) (sym (drop-append-le p.line_total snippet_lines own within))
+            (plans-more (k + 1) fs ps (drop p.line_total snippet_lines) h.1 (subst (λ n. IsPlan layout file es n f plan own) e is)),
+      )
+
+-- of two errors the first is kept
+first-located_fails : (o p : Option Error) (located : Result (Unit {0}) Error) (e : Error) → FailsByOrFormat o located → (e ≢ OutOfMemory → e ≢ FormatError → p ≡ Some e)
+    → FailsByOrFormat {T = Unit {0}} (or_failure o p) (result_and located (Err e))
+first-located_fails o p (Ok x) e none known = λ memory display. or_failure-succeeded o p none ∙ known memory display
+first-located_fails o p (Err x) e located_fails known = λ memory display. or_failure-some o p x (located_fails memory display)
+
+-- an error is kept
+some-located_fails : (located : Result (Unit {0}) Error) (e : Error) (P : Unit {0} → Type 0) → IfOk (result_and located (Err e)) P
+some-located_fails (Ok x) e P = tt
+some-located_fails (Err x) e P = tt
+
+module _ {Id : Type 0} (layout : Layout) (file : Id → FileModel) (es : List Annotation) (failure : Failures Id) where
+  -- the numbers of these files have been looked up, the first error of their loci is kept, and
+  -- where no locus fails these are their plans
+  pub record ArePlanned (files : List (RustFile Id)) (now : List (SnippetPlan Id)) (snippet_lines : List (RustLine Id)) (located : Result (Unit {0}) Error) : Type 0 where
+    pub succeeded : first_error failure (number_lookups layout es (ids_view files)) ≡ None
+    pub located_fails : FailsByOrFormat (first_error failure (loci_lookups files)) located
+    pub plans : IfOk located (λ _. ArePlans layout file es 0 files now snippet_lines)
+
+module _ {Id : Type 0} {layout : Layout} {file : Id → FileModel} {es : List Annotation} {failure : Failures Id} {now : List (SnippetPlan Id)} {snippet_lines : List (RustLine Id)}
+    {located : Result (Unit {0}) Error} where
+  -- past the last file the lookups of all fail with what is kept
+  pub plans-add : (files : List (RustFile Id)) (k : ℕ) → length files ≤ k → ArePlanned layout file es failure (take k files) now snippet_lines located
+      → FailsByOrFormat (first_error failure (number_lookups layout es (ids_view files) ++ loci_lookups files)) located
+  plans-add files k past found =
+      let all = subst (λ (fs : List (RustFile Id)). ArePlanned layout file es failure fs now snippet_lines located) (take_all k files past) found in
+      let numbers = number_lookups layout es (ids_view files) in
+      subst (λ o. FailsByOrFormat o located) (sym (first_error-none failure numbers (loci_lookups files) all.succeeded)) all.located_fails
+
+module _ {Id : Type 0} {files : List (RustFile Id)} {k : ℕ} {f : RustFile Id} (here : IsElementAt files k f) where
+  -- how many files are before this one
+  files_before : length (take k files) ≡ k
+  files_before = let inside = here.inside in length-take-le k files (omega (arith, inside))
+
+  -- the ids of these, and its own
+  ids-more : ids_view (take (k + 1) files) ≡ ids_view (take k files) ++ f.id ∷ []
+  ids-more = ap ids_view (take-at here) ∙ map-append (λ (g : RustFile Id). g.id) (take k files) (f ∷ [])
+
+  -- the loci of these, and its own
+  loci-more : loci_lookups (take (k + 1) files) ≡ loci_lookups (take k files) ++ locus_lookups_of f
+  loci-more =
+      ap (λ (fs : List (RustFile Id)). loci_lookups fs) (take-at here) ∙ flat_map-append locus_lookups_of (take k files) (f ∷ [])
+      ∙ ap (λ (ls : List (Id × Lookup)). loci_lookups (take k files) ++ ls) (append-nil (locus_lookups_of f))
+
+  -- they fail with what those of these are, or its own
+  index-fails : (failure : Failures Id)
+      → first_error failure (loci_lookups (take (k + 1) files)) ≡ or_failure (first_error failure (loci_lookups (take k files))) (first_error failure (locus_lookups_of f))
+  index-fails failure = ap (first_error failure) loci-more ∙ first_error-append failure (loci_lookups (take k files)) (locus_lookups_of f)
+
+  module _ {layout : Layout} {file : Id → FileModel} {es : List Annotation} {failure : Failures Id} {now : List (SnippetPlan Id)} {snippet_lines : List (RustLine Id)}
+      {located : Result (Unit {0}) Error} (before : ArePlanned layout file es failure (take k files) now snippet_lines located) where
+    -- the lookups of the numbers of a file's lines
+    abbrev lookups_at : ℕ → Id → List (Id × Lookup)
+    lookups_at i id = lookups_of_file id (numbers_looked_up layout (fills_of (lines_at es i)))
+
+    -- the lookups with this one's
+    lookups-more : first_error failure (number_lookups layout es (ids_view (take (k + 1) files))) ≡ first_error failure (lookups_at k f.id)
+    lookups-more =
+        ap (first_error failure) (by_index-more lookups_at k (ids_view (take k files)) (ids_view (take (k + 1) files)) f.id (length-map (take k files) _ ∙ files_before) ids-more)
+        ∙ first_error-none failure (number_lookups layout es (ids_view (take k files))) (lookups_at k f.id) before.succeeded
+
+    -- the plans with this one
+    plans-with : {new : List (SnippetPlan Id)} {plan : SnippetPlan Id} {all own : List (RustLine Id)} → new ≡ now ++ plan ∷ [] → all ≡ snippet_lines ++ own → IsPlan layout file es k f plan own
+        → ArePlans layout file es 0 (take k files) now snippet_lines → ArePlans layout file es 0 (take (k + 1) files) new all
+    plans-with {new} {plan} {all} {own} whole whole_steps is found =
+        let index : k ≡ 0 + length (take k files) = omega (arith, files_before) in
+        let planned = plans-more 0 (take k files) now snippet_lines found (subst (λ n. IsPlan layout file es n f plan own) index is) in
+        subst (λ fs. ArePlans layout file es 0 fs new all) (sym (take-at here))
+        (subst₂ (ArePlans layout file es 0 (take k files ++ f ∷ [])) (sym whole) (sym whole_steps) planned)
+
+    -- it is planned too
+    pub planned-more : {new : List (SnippetPlan Id)} {plan : SnippetPlan Id} {all own : List (RustLine Id)} → new ≡ now ++ plan ∷ [] → all ≡ snippet_lines ++ own → IsPlan layout file es k f plan own
+        → first_error failure (lookups_at k f.id) ≡ None → first_error failure (locus_lookups_of f) ≡ None
+        → ArePlanned layout file es failure (take (k + 1) files) new all located
+    planned-more {new} {all = all} whole whole_steps is succeeded there = record {
+      succeeded = lookups-more ∙ succeeded;
+      located_fails =
+          let others = first_error failure (loci_lookups (take k files)) in
+          subst (λ o. FailsByOrFormat o located) (sym (index-fails failure ∙ ap (or_failure others) there ∙ or_failure-none others)) before.located_fails;
+      plans =
+          IfOk-weaker located (λ _. ArePlans layout file es 0 (take k files) now snippet_lines) (λ _. ArePlans layout file es 0 (take (k + 1) files) new all)
+          (λ _ found. plans-with whole whole_steps is found) before.plans;
+    }
+
+    -- its numbers have been looked up, and the lookups of its locus fail
+    pub planned-unlocated : {all : List (RustLine Id)} {e : Error} → first_error failure (lookups_at k f.id) ≡ None
+        → (e ≢ OutOfMemory → e ≢ FormatError → first_error failure (locus_lookups_of f) ≡ Some e)
+        → ArePlanned layout file es failure (take (k + 1) files) now all (result_and located (Err e))
+    planned-unlocated {all} {e} succeeded known = record {
+      succeeded = lookups-more ∙ succeeded;
+      located_fails = subst (λ o. FailsByOrFormat {T = Unit {0}} o (result_and located (Err e))) (sym (index-fails failure)) (first-located_fails _ _ located e before.located_fails known);
+      plans = some-located_fails located e (λ _. ArePlans layout file es 0 (take (k + 1) files) now all);
+    }
+
+    -- what its numbers fail with fails all
+    pub planned-fails : {e : Error} → first_error failure (lookups_at k f.id) ≡ Some e
+        → first_error failure (number_lookups layout es (ids_view files) ++ loci_lookups files) ≡ Some e
+    planned-fails {e} known =
+        let rest = drop (k + 1) files in
+        let whole = ap ids_view (sym (take-append-drop (k + 1) files)) ∙ map-append (λ (g : RustFile Id). g.id) (take (k + 1) files) rest in
+        first_error-some failure (number_lookups layout es (ids_view files)) (loci_lookups files) e
+        (ap (λ ids. first_error failure (number_lookups layout es ids)) whole
+        ∙ ap (first_error failure) (by_index-append lookups_at 0 (ids_view (take (k + 1) files)) (ids_view rest))
+        ∙ first_error-some failure (number_lookups layout es (ids_view (take (k + 1) files))) _ e (lookups-more ∙ known))

@@ -1,0 +1,6 @@
+use Rattle.std.proofs.lemmas.List.Sorted.{IsPermutation-trans}
+use Rattle.codespan_plan.proofs.annotation.order.put_in_order.Goals as goal
+
+pub returns-clause-permutation : goal.returns-clause-permutation
+returns-clause-permutation g c =
+    IsPermutation-trans _ _ _ c.group_by_line.ensures.permutation c.sort.ensures.permutation

@@ -1,0 +1,98 @@
+use Rattle.std.proofs.Common.{◌<◌, ◌≤◌, [], Err, length, map, get_or, refl, sym, ap, ◌∙◌, subst, arith}
+use Rattle.std.proofs.lemmas.Result.{err_from_is_err_and}
+use Rattle.codespan_plan.specs.FileLookups.{FailsByOrFormat}
+use Rattle.codespan_plan.specs.AnnotationViews.{annotation_view}
+use Rattle.codespan_plan.specs.SnippetPlans.{ArePlans, plans_failure}
+use Rattle.codespan_plan.proofs.FileLengths.{rest-sorted}
+use Rattle.codespan_plan.proofs.FileParts.{from_file-first}
+use Rattle.codespan_plan.proofs.PlansFound.{IsAtFile, added-count, next_inside, next_left, own_lookups, own_lines, own_snippet_lines, planned-more, planned-fails, planned-unlocated, plans-add}
+use Rattle.codespan_plan.proofs.plan.snippet_plans.plan_snippets.Given.{Over}
+use Rattle.codespan_plan.proofs.plan.snippet_plans.plan_snippets.Goals.{After-branch-located, After-file_len-len, in-Err, in-Ok+in_ok-push-in-Ok}
+use Rattle.codespan_plan.proofs.plan.snippet_plans.plan_snippets.Goals as goal
+
+pub loop-index-init : goal.loop-index-init
+loop-index-init g c = record {
+  inside = omega arith;
+  left = from_file-first (map annotation_view c.args.collected.now.annotations.items);
+  planned = record {
+    plans =
+        subst (λ plans. ArePlans c.args.layout (((g.F.Files.database c.args.files.now).file)) (map annotation_view c.args.collected.now.annotations.items) 0 [] plans c.args.snippet_lines.now.items)
+        (sym c.in_ok-plans.ensures.items) c.requires.empty;
+    succeeded = refl;
+    located_fails = refl;
+  };
+}
+
+-- the loop is at a file, whose annotations are counted
+turn : (g : Over) (c : After-file_len-len g)
+    → IsAtFile c.args.collected.now.files.items c.args.collected.now.annotations.items c.loop-index.start c.file_len-len.result c.loop-index.index c.file-item.result
+turn g c =
+    let own = c.file-item.result in
+    let k = c.loop-index.index in
+    record {
+      up = c.requires.sorted;
+      inside = c.loop-index.invariant.inside;
+      left = c.loop-index.invariant.left;
+      counted = rw c.deref.ensures.value at c.file_len-len.ensures.value;
+      within = rw c.deref.ensures.value at c.file_len-len.ensures.within;
+      here = record {
+        inside = subst (λ fs. k < length fs) c.deref-file-items.ensures.value c.loop-index-test.true;
+        is = c.file-item.is ∙ ap (λ fs. get_or fs k own) c.deref-file-items.ensures.value;
+      };
+    }
+
+pub file_len-len-requires : goal.file_len-len-requires
+file_len-len-requires g c = rw c.deref.ensures.value (rest-sorted c.args.collected.now.annotations.items c.loop-index.start c.requires.sorted)
+
+pub push_lines-requires : goal.push_lines-requires
+push_lines-requires g c κs = ((refl, tt), own_lines (turn g (goal.at.push_lines-requires g c).After-file_len-len) c.deref-in-loop-index.ensures.value (((g.F.Files.database c.args.files.now).file)) c.requires.lines)
+
+pub returns-in_err-push_lines-clause-failed : goal.returns-in_err-push_lines-clause-failed
+returns-in_err-push_lines-clause-failed g c =
+    let at = turn g (goal.at.returns-in_err-push_lines-clause-failed g c).After-file_len-len in
+    let lookups = own_lookups at c.deref-in-loop-index.ensures.value c.args.layout (((g.F.Files.database c.args.files.now).failure)) in
+    let p = err_from_is_err_and c.from_residual-in_err-push_lines.result c.from_residual-in_err-push_lines.ensures.1 in
+    rw (p.1 ∙ ap Err p.2) (λ memory display. planned-fails at.here c.loop-index.invariant.planned (sym lookups ∙ c.in_err-push_lines.ensures.failed memory))
+
+pub loop-index-preserved : goal.loop-index-preserved
+loop-index-preserved g c =
+    let file = ((g.F.Files.database c.args.files.now).file) in
+    let at = turn g (goal.at.loop-index-preserved g c).After-file_len-len in
+    let before = c.loop-index.invariant.planned in
+    let zs_are = c.deref-in-loop-index.ensures.value in
+    let numbers = sym (own_lookups at zs_are c.args.layout (((g.F.Files.database c.args.files.now).failure))) ∙ c.in_ok-push_lines.ensures.failed in
+    let added = c.in_ok-push_lines.ensures.added in
+    record {
+      inside = next_inside at;
+      left = next_left at;
+      planned = elim c.match-locus.branch [
+        | in-Ok+in_ok-push-in-Ok w ↦
+            rw w.located-is (planned-more at.here before (ap (λ plans. plans.items) w.plans-is ∙ w.in_ok-push-in-Ok.ensures.items) added.whole
+            (record {
+              file_is = refl;
+              index = rw c.byte.ensures at w.in-Ok.ensures.locus;
+              count_is = added-count (c.len-in-loop-index.ensures ∙ c.push_lines.new.snippet_lines.ok.0) (c.len-before.ensures ∙ c.loop-index.snippet_lines.ok.0) added;
+              are = added.are ∙ own_snippet_lines at zs_are;
+              each = added.each;
+            })
+            numbers (rw c.byte.ensures at w.in-Ok.ensures.failed))
+        | in-Err w ↦ rw (w.plans-is, w.located-is ∙ w.and-located.ensures) (planned-unlocated at.here before numbers (rw c.byte.ensures at w.in-Err.ensures.failed))
+      ];
+    }
+
+-- after the last file what is kept is the error of the lookups of all
+all-add : (g : Over) (c : After-branch-located g) → FailsByOrFormat (plans_failure c.args.layout (((g.F.Files.database c.args.files.now).failure)) c.args.collected.now) c.loop-index.located
+all-add g c =
+    plans-add c.args.collected.now.files.items c.loop-index.index
+    (subst (λ fs. length fs ≤ c.loop-index.index) c.deref-file-items.ensures.value c.loop-index-test.false) c.loop-index.invariant.planned
+
+pub returns-in_err-located-clause-failed : goal.returns-in_err-located-clause-failed
+returns-in_err-located-clause-failed g c =
+    let are_known = all-add g (goal.at.returns-in_err-located-clause-failed g c).After-branch-located in
+    let p = err_from_is_err_and c.from_residual-in_err-located.result c.from_residual-in_err-located.ensures.1 in
+    rw (p.1 ∙ ap Err p.2) (rw c.in_err-located.was at are_known)
+
+pub returns-clause-failed : goal.returns-clause-failed
+returns-clause-failed g c =
+    let are_known = all-add g (goal.at.returns-clause-failed g c).After-branch-located in
+    rw c.in_ok-located.was at are_known

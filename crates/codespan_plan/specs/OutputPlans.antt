@@ -1,0 +1,119 @@
+-- What a view knows before it writes: the annotations of all labels, in order, and the plan of
+-- each snippet.
+use Rattle.std.specs.Prelude.{◌≡◌, List, [], ◌∷◌, ◌++◌, length, take, drop, flat_map, fold, map, max, Option, None}
+use Rattle.std.specs.List.{AllByRecursion}
+use Rattle.std.specs.List.Sorted.{IsPermutation, IsSortedBy}
+use Rattle.codespan_picture.specs.Types.{Error, Config}
+use Rattle.codespan_base.specs.FileModel.{Lookup}
+use Rattle.codespan_picture.specs.Arguments.{locus_view}
+use Rattle.codespan_picture.specs.Lines.{drawn_lines}
+use Rattle.codespan_picture.specs.Lookups.{lookups_of_file, filled_lines, first_error, locus_lookups, numbers_for_padding, filled_line_lookups}
+use Rattle.codespan_picture.specs.Padding.{padding_of}
+use Rattle.codespan_picture.specs.Rows.{Locus}
+use Rattle.codespan_picture.specs.Snippets.{InFile, LabeledFileModel, labeled_file_model, labeled_file_models, lane_count, rows_after, file_ids}
+use Rattle.codespan_plan.specs.declared.collect.Collected.{Collected}
+use Rattle.codespan_plan.specs.declared.plan.OutputPlan.{OutputPlan}
+use Rattle.codespan_plan.specs.declared.plan.snippet_plans.SnippetPlan.{SnippetPlan}
+use Rattle.codespan_plan.specs.declared.plan.snippet_lines.SnippetLine.{SnippetLine as RustLine}
+use Rattle.codespan_plan.specs.Annotations.{is_before}
+use Rattle.codespan_plan.specs.AnnotationViews.{Adds, IsOfFiles, annotation_view}
+use Rattle.codespan_plan.specs.SnippetLineViews.{IsSnippetLineOf, lookups_of_lines, line_view}
+use Rattle.codespan_plan.specs.LabeledFiles.{HasLabels, ids_view}
+use Rattle.codespan_plan.specs.IndexedLabels.{all_annotations}
+use Rattle.codespan_plan.specs.SpannedDigits.{all_digits}
+use Rattle.codespan_plan.specs.SnippetLines.{rows_of_lines, DoFit}
+use Rattle.codespan_base.specs.FileModel.{FileDatabase}
+use Rattle.codespan_plan.specs.TextLoci.{IsLocusOfFile}
+
+-- where the snippet of each file starts
+abbrev pub loci_of : {Id : Type 0} → List (SnippetPlan Id) → List Locus
+loci_of {Id} files = map (λ (f : SnippetPlan Id). locus_view f.locus) files
+
+-- the id of each file
+abbrev pub ids_of : {Id : Type 0} → List (SnippetPlan Id) → List Id
+ids_of {Id} files = map (λ (f : SnippetPlan Id). f.file.now.id) files
+
+-- the plan is that of a file with its labels: its lanes, its locus, the rows of its lines, and
+-- their lookups
+pub record IsSnippetPlan {Id : Type 0} (config : Config) (s : LabeledFileModel) (f : SnippetPlan Id)
+    (own : List (RustLine Id)) : Type 0 where
+  pub lanes_are : f.file.now.lane_count ≡ lane_count s
+  pub index : IsLocusOfFile s (locus_view f.locus)
+  pub count_is : f.line_total ≡ length own
+  pub each : AllByRecursion (IsSnippetLineOf s.file) own
+  pub fits : DoFit (lane_count s) (map line_view own)
+  pub rows : rows_of_lines s.file (lane_count s) (map line_view own)
+      ≡ rows_after s None (drawn_lines config s.file s.labels)
+  pub lookups : lookups_of_lines own ≡ flat_map (filled_line_lookups config.layout)
+      (filled_lines config s)
+
+module _ {Id : Type 0} (table : FileDatabase Id) where
+  -- the files of these labels were collected, and the padding width of the classic layout
+  pub record AreFilesCollected (xs : List (InFile Id)) (collected : Collected Id) : Type 0 where
+    pub ids_are : ids_view collected.files.items ≡ file_ids table.same xs
+    pub labels_are : AllByRecursion (HasLabels table.same table.file xs) collected.files.items
+    pub padding_is : collected.padding ≡ fold max 0 (all_digits table.file xs)
+
+  -- this was collected of these labels, one after another
+  pub record IsCollectedInTurn (config : Config) (xs : List (InFile Id))
+      (collected : Collected Id) : Type 0 where
+    pub files : AreFilesCollected xs collected
+    pub adds : Adds (IsOfFiles table.file (ids_view collected.files.items)) []
+        collected.annotations.items (all_annotations table.same table.file config xs)
+
+  -- this was collected of these labels, and is in order
+  pub record IsCollected (config : Config) (xs : List (InFile Id)) (collected : Collected Id) : Type
+      0 where
+    pub files : AreFilesCollected xs collected
+    pub sorted : IsSortedBy is_before (map annotation_view collected.annotations.items)
+    pub permutation : IsPermutation (all_annotations table.same table.file config xs)
+        (map annotation_view collected.annotations.items)
+    pub lines : AllByRecursion (IsOfFiles table.file (ids_view collected.files.items))
+        collected.annotations.items
+
+  -- the plans are those of the files of these labels, and the lines are theirs, those of the first
+  -- file in front
+  abbrev pub AreSnippetPlans : Config → List (InFile Id) → List (SnippetPlan Id)
+      → List (RustLine Id)
+      → Type 0
+  AreSnippetPlans config xs [] snippet_lines = Unit {0}
+  AreSnippetPlans config xs (f ∷ fs) snippet_lines =
+      IsSnippetPlan config (labeled_file_model table.same table.file xs f.file.now.id) f
+      (take f.line_total snippet_lines)
+      × AreSnippetPlans config xs fs (drop f.line_total snippet_lines)
+
+  -- the plan is that of these labels
+  pub record IsOutputPlan (config : Config) (xs : List (InFile Id)) (output_plan : OutputPlan Id)
+      : Type 0 where
+    pub ids_are : ids_of output_plan.files.items ≡ file_ids table.same xs
+    pub files_are : AreSnippetPlans config xs output_plan.files.items
+        output_plan.snippet_lines.items
+    pub padding_is : output_plan.padding
+        ≡ padding_of config (labeled_file_models table.same table.file xs)
+
+-- the lookups of the numbers of filled lines, where they are made before the header
+abbrev pub padding_lookups : {Id : Type 0} → Config → FileDatabase Id → List (InFile Id)
+    → List (Id × Lookup)
+padding_lookups config table xs =
+    flat_map
+    (λ id. lookups_of_file id
+    (numbers_for_padding table xs config config.layout id))
+    (file_ids table.same xs)
+
+-- those of names and locations
+abbrev pub file_locus_lookups : {Id : Type 0} → FileDatabase Id → List (InFile Id)
+    → List (Id × Lookup)
+file_locus_lookups table xs =
+    flat_map (λ id. lookups_of_file id (locus_lookups table xs id))
+    (file_ids table.same xs)
+
+-- both, which come after those of its labels
+abbrev pub output_plan_lookups : {Id : Type 0} → Config → FileDatabase Id → List (InFile Id)
+    → List (Id × Lookup)
+output_plan_lookups config table xs = padding_lookups config table xs ++ file_locus_lookups table xs
+
+-- what these lookups fail with
+abbrev pub output_plan_failure : {Id : Type 0} → Config → FileDatabase Id → List (InFile Id)
+    → Option Error
+output_plan_failure config table xs = first_error table.failure
+    (output_plan_lookups config table xs)

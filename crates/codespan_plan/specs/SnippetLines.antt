@@ -1,0 +1,145 @@
+-- The lines of a snippet that annotations in order make: shown lines, filled lines, and breaks.
+use Rattle.std.specs.Prelude.{◌≡◌, ℕ, Bool, false, true, ◌==◌, ◌&&◌, List, [], ◌∷◌, ◌++◌, flat_map, Option, Some, None, if◌then◌else◌}
+use Rattle.std.specs.List.{AllByRecursion, filter_map}
+use Rattle.codespan_base.specs.FileModel.{FileModel, line_text}
+use Rattle.codespan_base.specs.Labels.{LabelModel, LaneMark}
+use Rattle.codespan_picture.specs.CharMetrics.{text_without_line_end}
+use Rattle.codespan_picture.specs.Arguments.{ascend_from, starts_in_order}
+use Rattle.codespan_picture.specs.Rows.{Lanes, Line, Row, BreakRow, rows_of}
+use Rattle.codespan_picture.specs.Sequences.{before_line, gap_between}
+use Rattle.codespan_plan.specs.Annotations.{Annotation, AnnotationKind, Shown, Single, Multi, shows_line}
+
+-- a shown line with its annotations, the one line between two shown ones with its annotations, or a
+-- break before a line with these annotations
+pub data SnippetLine : Type 0 where
+  Labeled : (line : ℕ) (annotations : List Annotation) → SnippetLine
+  Filled : (line : ℕ) (annotations : List Annotation) → SnippetLine
+  Break : (next : List Annotation) → SnippetLine
+
+-- ---- from annotations in order to lines
+
+-- a line with annotations of it, in order
+pub record Group : Type 0 where
+  pub line : ℕ
+  pub annotations : List Annotation
+
+-- an annotation in front of others of its line
+abbrev pub group_of : Annotation → List Annotation → Group
+group_of x others = record { line = x.line; annotations = x ∷ others }
+
+-- an annotation in front of groups: it joins the first one where that is of its line
+abbrev pub join_group : Annotation → List Group → List Group
+join_group x [] = group_of x [] ∷ []
+join_group x (g ∷ gs) =
+    if g.line == x.line then group_of x g.annotations ∷ gs else group_of x [] ∷ g ∷ gs
+
+-- the longest runs of annotations of one line
+abbrev pub groups : List Annotation → List Group
+groups [] = []
+groups (x ∷ xs) = join_group x (groups xs)
+
+-- the line of these annotations, which are in order, is shown: the first of them makes it so
+abbrev pub are_shown : List Annotation → Bool
+are_shown [] = false
+are_shown (x ∷ xs) = shows_line x
+
+-- what is between two shown lines: the one line between them, with its annotations, a break,
+-- with those of the line after it, or nothing
+abbrev pub lines_between : List Annotation → List Annotation → ℕ → ℕ → List SnippetLine
+lines_between hidden next = gap_between (λ l. Filled l hidden ∷ []) (λ d. Break next ∷ [])
+
+-- a shown line, after what is before it
+abbrev pub lines_to : Option ℕ → List Annotation → ℕ → List Annotation → List SnippetLine
+lines_to was hidden d es = before_line (lines_between hidden es) was d ++ Labeled d es ∷ []
+
+-- the lines of groups, where `was` is the shown line before them, and `hidden` are the annotations
+-- of the line before them, where that is hidden
+abbrev pub lines_from : Option ℕ → List Annotation → List Group → List SnippetLine
+lines_from was hidden [] = []
+lines_from was hidden (g ∷ gs) =
+    if are_shown g.annotations then lines_to was hidden g.line g.annotations
+    ++ lines_from (Some g.line) [] gs
+    else lines_from was g.annotations gs
+
+-- the lines of the annotations of one file
+abbrev pub lines_of : List Annotation → List SnippetLine
+lines_of es = lines_from None [] (groups es)
+
+-- ---- the rows of lines
+
+-- the label of an annotation, where it is a single-line label
+abbrev pub single_label_of : AnnotationKind → Option LabelModel
+single_label_of Shown = None
+single_label_of (Single index x) = Some x
+single_label_of (Multi lane_mark) = None
+
+-- the single-line labels
+abbrev pub single_labels_in : List Annotation → List LabelModel
+single_labels_in es = filter_map (λ (e : Annotation). single_label_of e.kind) es
+
+-- the lane mark of an annotation, where it is a part of a multi-line label
+abbrev pub lane_mark_in : AnnotationKind → Option LaneMark
+lane_mark_in Shown = None
+lane_mark_in (Single index x) = None
+lane_mark_in (Multi lane_mark) = Some lane_mark
+
+-- the lane marks
+abbrev pub lane_marks_in : List Annotation → List LaneMark
+lane_marks_in es = filter_map (λ (e : Annotation). lane_mark_in e.kind) es
+
+module _ (f : FileModel) (count : ℕ) where
+  -- so many lanes, with the lane marks of these annotations
+  abbrev pub lanes_with : List Annotation → Lanes
+  lanes_with es = record { count = count; marks = lane_marks_in es }
+
+  -- a line of the file with these annotations
+  abbrev pub line_of_group : ℕ → List Annotation → Line
+  line_of_group l es = record {
+    number = f.number l;
+    text = text_without_line_end (line_text f l);
+    labels = single_labels_in es;
+    lanes = lanes_with es;
+  }
+
+  -- the rows of a line
+  abbrev pub rows_of_line : SnippetLine → List Row
+  rows_of_line (Labeled l es) = rows_of (line_of_group l es)
+  rows_of_line (Filled l es) = rows_of (line_of_group l es)
+  rows_of_line (Break es) = BreakRow (lanes_with es) ∷ []
+
+  -- the rows of all
+  abbrev pub rows_of_lines : List SnippetLine → List Row
+  rows_of_lines snippet_lines = flat_map rows_of_line snippet_lines
+
+-- ---- the lookups of lines
+
+-- the line, where it is filled in
+abbrev pub fill_of : SnippetLine → List ℕ
+fill_of (Labeled l es) = []
+fill_of (Filled l es) = l ∷ []
+fill_of (Break es) = []
+
+-- the lines that are filled in
+abbrev pub fills_of : List SnippetLine → List ℕ
+fills_of snippet_lines = flat_map fill_of snippet_lines
+
+-- ---- labels in order
+
+-- the lane marks of these annotations ascend in so many lanes
+abbrev pub do_lane_marks_fit : ℕ → List Annotation → Bool
+do_lane_marks_fit count es = ascend_from count 0 (lane_marks_in es)
+
+-- and the single-line labels are in the order of their starts
+abbrev pub do_annotations_fit : ℕ → List Annotation → Bool
+do_annotations_fit count es = starts_in_order (single_labels_in es) && do_lane_marks_fit count es
+
+-- so are those of a line of a snippet
+abbrev pub does_line_fit : ℕ → SnippetLine → Bool
+does_line_fit count (Labeled l es) = do_annotations_fit count es
+does_line_fit count (Filled l es) = do_annotations_fit count es
+does_line_fit count (Break es) = do_lane_marks_fit count es
+
+-- the single-line labels of each line are in order, and the multi-line ones have so many lanes
+abbrev pub DoFit : ℕ → List SnippetLine → Type 0
+DoFit count snippet_lines = AllByRecursion (λ snippet_line. does_line_fit count snippet_line ≡ true)
+    snippet_lines

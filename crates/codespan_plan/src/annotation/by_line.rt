@@ -1,0 +1,139 @@
+//! Annotations brought into the order of their lines, before they are sorted.
+//!
+//! Labels that cross each other, or that return to the same lines in turn, leave many short runs of
+//! annotations. Once each annotation is moved to its line, the sort meets one run, or nearly so,
+//! and takes time in proportion to it.
+
+ghost use Rattle.std.specs.Prelude.{◌≡◌, IfOk, OnErr, IsErrOf, length};
+ghost use Rattle.std.specs.List.Sorted.{IsPermutation};
+
+use crate::annotation::Annotation;
+use crate::annotation::order::{RANKS, rank};
+use codespan_base::files::Error;
+use std::alloc::Global;
+use std::ops::Range;
+
+/// The least number of annotations that are worth moving: fewer are sorted by insertion.
+const MIN_LEN: usize = 32;
+
+/// What is in place of the index of the next annotation where one was gathered: no index.
+const GATHERED: usize = usize::MAX;
+
+/// Moves annotations to the order of their lines, and on a line to that of the ranks of their
+/// kinds. Those of one line and one rank keep their order.
+///
+/// `lines` are the lines of the one file of which they are, if there is one. They stay as they are
+/// where there is none, where they are few or fewer than the lines, or where another line is found.
+/// Returns whether they were moved. The time is in proportion to their number.
+///
+/// # Errors
+///
+/// `OutOfMemory`: an allocation fails.
+pub fn group_by_line<FileId: Copy>(
+    annotations: &mut Vec<Annotation<'_, FileId>>,
+    lines: Option<Range<usize>>,
+) -> Result<bool, Error>
+    ensures permutation { IsPermutation annotations.old.items annotations.new.items }
+    ensures failed { OnErr result (IsErrOf result Error.OutOfMemory) }
+{
+    let Some(lines) = lines else {
+        return Ok(false);
+    };
+    if !are_worth_moving(annotations.len(), &lines) {
+        return Ok(false);
+    }
+    let alloc = *annotations.allocator();
+    let mut chains = chain_groups(alloc, annotations, lines)?;
+    let gathered = gather(alloc, annotations, &chains.first, &mut chains.next)?;
+    if gathered.len() != annotations.len() {
+        return Ok(false);
+    }
+    *annotations = gathered;
+    Ok(true)
+}
+
+/// Returns whether annotations of these lines are worth moving: they are not few, and no fewer than
+/// the lines.
+fn are_worth_moving(len: usize, lines: &Range<usize>) -> bool {
+    len >= MIN_LEN && lines.end.saturating_sub(lines.start) <= len
+}
+
+/// The groups of annotations, each a chain.
+#[derive(Drop)]
+struct Chains {
+    /// For each group the index of its first annotation. It is past the end for an empty group.
+    first: Vec<usize>,
+    /// For each annotation the index of the next one of its group. It is past the end for the last
+    /// one.
+    next: Vec<usize>,
+}
+
+/// Chains the annotations of each group in their order. Those of other lines are in no chain.
+///
+/// # Errors
+///
+/// `OutOfMemory`: an allocation fails.
+fn chain_groups<FileId>(
+    alloc: Global,
+    annotations: &[Annotation<'_, FileId>],
+    lines: Range<usize>,
+) -> Result<Chains, Error>
+    ensures next { IfOk result (λ chains. length chains.next.items ≡ length annotations.now) }
+    ensures failed { OnErr result (IsErrOf result Error.OutOfMemory) }
+{
+    let len = annotations.len();
+    let line_total = lines.end.saturating_sub(lines.start);
+    let mut first = vec![in alloc; len; line_total.saturating_mul(RANKS)]?;
+    let mut next = vec![in alloc; len; len]?;
+    for index in (0..len).rev() {
+        let group = group_of(&annotations[index], lines.start);
+        if group < first.len() {
+            next[index] = first[group];
+            first[group] = index;
+        }
+    }
+    Ok(Chains { first, next })
+}
+
+/// Returns the annotations of the chains, one chain after another. No annotation is returned twice.
+///
+/// # Errors
+///
+/// `OutOfMemory`: an allocation fails.
+///
+/// # Requires
+///
+/// There is one index in `next` for each annotation.
+fn gather<'d, FileId: Copy>(
+    alloc: Global,
+    annotations: &[Annotation<'d, FileId>],
+    first: &[usize],
+    next: &mut [usize],
+) -> Result<Vec<Annotation<'d, FileId>>, Error>
+    requires { length next.old ≡ length annotations.now }
+    ensures permutation { IfOk result (λ gathered. length gathered.items ≡ length annotations.now
+        → IsPermutation annotations.now gathered.items) }
+    ensures failed { OnErr result (IsErrOf result Error.OutOfMemory) }
+{
+    let mut gathered = Vec::with_capacity(alloc, annotations.len())?;
+    for start in first {
+        let mut source = *start;
+        while source < annotations.len() {
+            let following = next[source];
+            if following == GATHERED {
+                break;
+            }
+            gathered.push_reserved(annotations[source]);
+            next[source] = GATHERED;
+            source = following;
+        }
+    }
+    Ok(gathered)
+}
+
+/// Returns the number of groups before that of the annotation: each line from the first one on has
+/// one for each rank. A line before the first one has a group past the last.
+fn group_of<FileId>(annotation: &Annotation<'_, FileId>, first_line: usize) -> usize {
+    let line = annotation.line.index.wrapping_sub(first_line);
+    line.wrapping_mul(RANKS).wrapping_add(rank(annotation))
+}

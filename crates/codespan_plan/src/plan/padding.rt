@@ -1,0 +1,33 @@
+//! The padding width of the unbroken layout.
+
+ghost use Rattle.std.specs.Prelude.{◌≡◌, flat_map, fold, max};
+ghost use Rattle.codespan_plan.specs.SnippetPlans.{line_digits};
+
+use crate::plan::snippet_lines::SnippetLine;
+use codespan_picture::padding::count_digits;
+
+/// Returns the number of digits of the longest known number of these lines; 0 if no number is
+/// known.
+pub fn padding_of_lines<FileId>(snippet_lines: &[SnippetLine<'_, '_, FileId>]) -> usize
+    ensures { result ≡ fold max 0 (flat_map line_digits snippet_lines.now) }
+{
+    let mut padding = 0;
+    for snippet_line in snippet_lines {
+        padding = digits_in(snippet_line).max(padding);
+    }
+    padding
+}
+
+/// Returns the number of digits of the known number of a line; 0 if it is not known.
+fn digits_in<FileId>(snippet_line: &SnippetLine<'_, '_, FileId>) -> usize
+    ensures { result ≡ fold max 0 (line_digits snippet_line.now) }
+{
+    match snippet_line {
+        SnippetLine::Labeled { line, .. } => count_digits(line.number),
+        SnippetLine::Filled {
+            number: Some(number),
+            ..
+        } => count_digits(*number),
+        SnippetLine::Filled { number: None, .. } | SnippetLine::Break { .. } => 0,
+    }
+}

@@ -1,0 +1,218 @@
+//! The lines of a snippet: shown lines, the filled lines between them, and breaks.
+
+ghost use Rattle.std.specs.Prelude.{◌≡◌, ◌∷◌, [], All, IfOk, OnOk, map};
+ghost use Rattle.codespan_base.specs.LawfulFiles.{FailsBy};
+ghost use Rattle.codespan_plan.specs.AnnotationViews.{IsLineOf, annotation_view};
+ghost use Rattle.codespan_plan.specs.SnippetLineViews.{IsGapBefore, gap_lines, known_number};
+ghost use Rattle.codespan_plan.specs.SnippetLines.{fills_of, lines_of, lines_to};
+ghost use Rattle.codespan_plan.specs.LinePlanners.{AddsPlanned, numbers_failure};
+ghost use Rattle.codespan_plan.specs.SourceFiles.{model_of};
+
+use crate::annotation::groups::{line_len, shows_line};
+use crate::annotation::{Annotation, LineInfo};
+use crate::source_file::SourceFile;
+use codespan_base::files::{Error, Files};
+use codespan_base::term::Layout;
+
+/// A line of a snippet.
+#[derive(Clone, Copy)]
+pub enum SnippetLine<'e, 'd, FileId> {
+    /// A shown line.
+    Labeled {
+        /// The line.
+        line: LineInfo,
+        /// Its annotations, in order.
+        annotations: &'e [Annotation<'d, FileId>],
+    },
+    /// The one line between two shown ones. No single-line label is on it.
+    Filled {
+        /// The line's index, 0-based.
+        index: usize,
+        /// The line's number, where it is known before the header.
+        number: Option<usize>,
+        /// Its annotations, in order: parts of multi-line labels alone.
+        annotations: &'e [Annotation<'d, FileId>],
+    },
+    /// A break: two lines or more are left out.
+    Break {
+        /// The annotations of the shown line after it, in order.
+        next: &'e [Annotation<'d, FileId>],
+    },
+}
+
+/// What is between a shown line and the one before it.
+#[derive(Clone, Copy)]
+pub enum Gap {
+    /// Nothing, or the line is the first shown one.
+    Nothing,
+    /// The line of this index.
+    Line(usize),
+    /// Two lines or more.
+    Lines,
+}
+
+/// Returns what is before the shown line of this index, where `last` is the index of the shown
+/// line before it.
+pub fn gap_before(last: Option<usize>, index: usize) -> Gap
+    ensures { IsGapBefore last index result }
+{
+    let Some(last) = last else {
+        return Gap::Nothing;
+    };
+    let distance = index.saturating_sub(last);
+    if distance == 2 {
+        Gap::Line(index - 1)
+    } else if distance > 2 {
+        Gap::Lines
+    } else {
+        Gap::Nothing
+    }
+}
+
+/// Plans the lines of a snippet.
+#[derive(Drop)]
+pub struct LinePlanner<'files, F: Files<'files>> {
+    /// The file.
+    pub file: SourceFile<'files, F>,
+    /// The layout, which decides whether the padding width depends on the numbers of filled lines.
+    pub layout: Layout,
+}
+
+impl<'files, F: Files<'files>> LinePlanner<'files, F> {
+    /// Looks up the number of a filled line in the unbroken layout; returns `None` in the classic
+    /// one.
+    ///
+    /// # Errors
+    ///
+    /// That of the lookup.
+    fn known_number(&self, index: usize) -> Result<Option<usize>, Error>
+        ensures number { IfOk result (λ number. number
+            ≡ known_number self.now.layout
+            ((model_of F.database self.now.file).number index)) }
+        ensures failed { FailsBy (numbers_failure F.database self.now
+            (index ∷ [])) result }
+    {
+        match self.layout {
+            Layout::Classic => Ok(None),
+            Layout::Unbroken => Ok(Some(self.file.number(index)?)),
+        }
+    }
+
+    /// Appends what is between two shown lines: the one line between them, which has the
+    /// annotations `hidden`, or a break, where `next` are those of the shown line after it.
+    ///
+    /// # Errors
+    ///
+    /// - `OutOfMemory`: an allocation fails, or the lookup fails with it.
+    /// - Any other error: that of the lookup.
+    fn push_gap<'e, 'd>(
+        &self,
+        gap: Gap,
+        hidden: &'e [Annotation<'d, F::FileId>],
+        next: &'e [Annotation<'d, F::FileId>],
+        snippet_lines: &mut Vec<SnippetLine<'e, 'd, F::FileId>>,
+    ) -> Result<(), Error>
+        ensures added { OnOk result
+            (AddsPlanned F.database self.now snippet_lines.old.items
+            snippet_lines.new.items
+            (gap_lines (map annotation_view hidden.now) (map annotation_view next.now) gap)) }
+        ensures failed { FailsBy (numbers_failure F.database self.now
+            (fills_of (gap_lines (map annotation_view hidden.now) (map annotation_view next.now)
+            gap))) result }
+    {
+        match gap {
+            Gap::Nothing => {}
+            Gap::Line(index) => {
+                let number = self.known_number(index)?;
+                snippet_lines.push(SnippetLine::Filled {
+                    index,
+                    number,
+                    annotations: hidden,
+                })?;
+            }
+            Gap::Lines => snippet_lines.push(SnippetLine::Break { next })?,
+        }
+        Ok(())
+    }
+
+    /// Appends a shown line with its annotations, after what is before it. `hidden` are the
+    /// annotations of the line before it, where that is hidden.
+    ///
+    /// # Errors
+    ///
+    /// - `OutOfMemory`: an allocation fails, or the lookup fails with it.
+    /// - Any other error: that of the lookup.
+    fn push_shown<'e, 'd>(
+        &self,
+        last: Option<usize>,
+        hidden: &'e [Annotation<'d, F::FileId>],
+        line: LineInfo,
+        annotations: &'e [Annotation<'d, F::FileId>],
+        snippet_lines: &mut Vec<SnippetLine<'e, 'd, F::FileId>>,
+    ) -> Result<(), Error>
+        requires line { IsLineOf (model_of F.database self.now.file) line }
+        ensures added { OnOk result
+            (AddsPlanned F.database self.now snippet_lines.old.items
+            snippet_lines.new.items
+            (lines_to last (map annotation_view hidden.now) line.index
+            (map annotation_view annotations.now))) }
+        ensures failed { FailsBy (numbers_failure F.database self.now (fills_of
+            (lines_to last (map annotation_view hidden.now) line.index
+            (map annotation_view annotations.now))))
+            result }
+    {
+        self.push_gap(
+            gap_before(last, line.index),
+            hidden,
+            annotations,
+            snippet_lines,
+        )?;
+        snippet_lines.push(SnippetLine::Labeled { line, annotations })?;
+        Ok(())
+    }
+
+    /// Appends the lines of the snippet by the file's annotations, which are in order. A line whose
+    /// first annotation does not make it shown is hidden; where it is filled in, it has its
+    /// annotations.
+    ///
+    /// # Errors
+    ///
+    /// - `OutOfMemory`: an allocation fails, or a lookup fails with it.
+    /// - Any other error: that of the first lookup that fails.
+    pub fn push_lines<'e, 'd>(
+        &self,
+        annotations: &'e [Annotation<'d, F::FileId>],
+        snippet_lines: &mut Vec<SnippetLine<'e, 'd, F::FileId>>,
+    ) -> Result<(), Error>
+        requires lines { All (λ e. IsLineOf (model_of F.database self.now.file)
+            e.line) annotations.now }
+        ensures added { OnOk result
+            (AddsPlanned F.database self.now snippet_lines.old.items
+            snippet_lines.new.items (lines_of (map annotation_view annotations.now))) }
+        ensures failed { FailsBy (numbers_failure F.database self.now
+            (fills_of (lines_of (map annotation_view annotations.now)))) result }
+    {
+        let mut last = None;
+        let mut hidden = 0;
+        let mut at = 0;
+        while at < annotations.len() {
+            let line = annotations[at].line;
+            let end = at + line_len(&annotations[at..], line.index);
+            if shows_line(&annotations[at]) {
+                self.push_shown(
+                    last,
+                    &annotations[hidden..at],
+                    line,
+                    &annotations[at..end],
+                    snippet_lines,
+                )?;
+                last = Some(line.index);
+                hidden = end;
+            } else {
+                hidden = at;
+            }
+            at = end;
+        }
+        Ok(())
+    }
+}

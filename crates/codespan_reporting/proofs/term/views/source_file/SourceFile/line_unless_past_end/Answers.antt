@@ -1,5 +1,0 @@
-use Rattle.codespan_reporting.proofs.term.views.source_file.SourceFile.line_unless_past_end.Goals as goal
-
--- another error is returned, so that nothing is said of where the file ends
-pub returns-in-Err-clause-ended : goal.returns-in-Err-clause-ended
-returns-in-Err-clause-ended g c = tt

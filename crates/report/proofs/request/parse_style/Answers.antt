@@ -1,8 +1,0 @@
-use Rattle.std.proofs.Common.{refl}
-use Rattle.report.specs.Requests.{style_of}
-use Rattle.report.proofs.request.parse_style.Goals as goal
-
--- the style of the word `short`
-pub returns-in-short : goal.returns-in-short
-unfolding style_of
-returns-in-short c = rw c.in-short.is refl

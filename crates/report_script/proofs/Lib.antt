@@ -1,0 +1,5 @@
+pub mod Numbers
+pub mod Words
+pub mod ScriptCuts
+pub mod FaultRanges
+pub mod ReadBack

@@ -1,0 +1,17 @@
+use Rattle.std.proofs.Common.{◌≡◌, false, List, Some, ap, refl, sym, ◌∙◌}
+use Rattle.report_script.specs.declared.script.Fault.{Fault}
+use Rattle.report_script.specs.declared.script.words.Word.TheVariants.{Severity}
+use Rattle.report_script.specs.ScriptFaults.{line_fault, repetition}
+use Rattle.report_script.specs.ScriptLines.{ScriptLine, is_ignored, word_of}
+use Rattle.report_script.specs.ScriptWords.{word_named}
+use Rattle.report_script.proofs.script.faults.line_fault.Goals as goal
+
+-- a severity that is repeated is the error, before that of its name
+repeated-first : (before : List ScriptLine) (line : ScriptLine) (fault : Fault) → is_ignored line ≡ false → word_named (word_of line) ≡ Some Severity → Some fault ≡ repetition before line
+    → Some fault ≡ line_fault before line
+repeated-first before line fault read named repeated = rw (read, named, ← repeated) refl
+
+pub returns-in-Some : goal.returns-in-Some
+returns-in-Some c =
+    let named = ap word_named (sym c.word.ensures.word) ∙ sym c.in-Some-Severity.ensures ∙ ap Some c.in-Some-Severity.field-0-is in
+    repeated-first _ _ c.in-Some.fault (sym c.if-is_ignored.ensures) named c.in-Some.ensures

@@ -1,0 +1,71 @@
+-- The diagnostics of requests and of scripts' errors.
+use Rattle.std.specs.Prelude.{ℕ, List, [], ◌∷◌, Option, Some, None, codes}
+use Rattle.std.specs.declared.ops.Range.{Range}
+use Rattle.codespan_base.specs.declared.diagnostic.LabelStyle.TheVariants.{Primary, Secondary}
+use Rattle.codespan_base.specs.declared.diagnostic.Severity.TheVariants as severities
+use Rattle.codespan_base.specs.Diagnostics.{DiagnosticView, LabelView}
+use Rattle.report_script.specs.declared.script.Fault.{Fault}
+use Rattle.report_script.specs.declared.script.FaultNumber.{FaultNumber}
+use Rattle.report_script.specs.declared.script.FaultNumber.TheVariants.{UnknownWord, UnknownSeverity, BadNumber, RepeatedWord, MissingEnd}
+use Rattle.report_script.specs.Requests.{RequestView}
+
+-- the diagnostic of a request: an error with its message, and one primary label with the same
+abbrev pub request_diagnostic : RequestView → DiagnosticView (Unit {0})
+request_diagnostic request = record {
+  severity = severities.Error;
+  code = None;
+  message = request.message;
+  labels = record {
+    style = Primary;
+    file_id = tt;
+    range = record { start = request.start; end = request.end };
+    message = request.message;
+  } ∷ [];
+  notes = [];
+}
+
+-- the code of a script's error
+abbrev pub fault_code : FaultNumber → List ℕ
+fault_code UnknownWord = codes "S1"
+fault_code UnknownSeverity = codes "S2"
+fault_code BadNumber = codes "S3"
+fault_code RepeatedWord = codes "S4"
+fault_code MissingEnd = codes "S5"
+
+-- its message
+abbrev pub fault_message : FaultNumber → List ℕ
+fault_message UnknownWord = codes "unknown word"
+fault_message UnknownSeverity = codes "unknown severity"
+fault_message BadNumber = codes "bad number"
+fault_message RepeatedWord = codes "repeated word"
+fault_message MissingEnd = codes "missing end of script"
+
+-- the message of its primary label
+abbrev pub fault_note : FaultNumber → List ℕ
+fault_note UnknownWord = codes "expected severity, code, message, primary, secondary or note"
+fault_note UnknownSeverity = codes "expected bug, error, warning, note or help"
+fault_note BadNumber = codes "expected a decimal number"
+fault_note RepeatedWord = codes "given again"
+fault_note MissingEnd = codes "expected ---"
+
+-- the label over the first occurrence of a repeated word, if there is one
+abbrev pub first_label : Option (Range ℕ) → List (LabelView (Unit {0}))
+first_label None = []
+first_label (Some range) =
+    record { style = Secondary; file_id = tt; range = range; message = codes "first given here" }
+    ∷ []
+
+-- the diagnostic of a script's error: its code, and a primary label over its range
+abbrev pub fault_diagnostic : Fault → DiagnosticView (Unit {0})
+fault_diagnostic fault = record {
+  severity = severities.Error;
+  code = Some (fault_code fault.number);
+  message = fault_message fault.number;
+  labels = record {
+    style = Primary;
+    file_id = tt;
+    range = fault.range;
+    message = fault_note fault.number;
+  } ∷ first_label fault.first;
+  notes = [];
+}

@@ -1,0 +1,91 @@
+-- The first error of a script.
+use Rattle.std.specs.Prelude.{◌≡◌, ℕ, List, [], ◌∷◌, ◌++◌, length, Option, Some, None, Result, Err, if◌then◌else◌, is_some}
+use Rattle.std.specs.Option.{option_map}
+use Rattle.std.specs.Str.{bytes_eq}
+use Rattle.std.specs.declared.ops.Range.{Range}
+use Rattle.report_script.specs.declared.script.Fault.{Fault}
+use Rattle.report_script.specs.declared.script.FaultNumber.{FaultNumber}
+use Rattle.report_script.specs.declared.script.FaultNumber.TheVariants.{UnknownWord, UnknownSeverity, BadNumber, RepeatedWord, MissingEnd}
+use Rattle.report_script.specs.declared.script.ScriptError.{ScriptError}
+use Rattle.report_script.specs.declared.script.ScriptError.TheVariants as errors
+use Rattle.report_script.specs.declared.script.words.Word.{Word}
+use Rattle.report_script.specs.declared.script.words.Word.TheVariants.{Severity, Code, Message, Primary, Secondary, Note}
+use Rattle.report_script.specs.Requests.{number_of}
+use Rattle.report_script.specs.ScriptLines.{ScriptLine, is_ignored, word_of, rest_of, field_of, past_space, range_at, word_range}
+use Rattle.report_script.specs.ScriptWords.{word_named, severity_named}
+
+-- an error with one range
+abbrev pub fault_at : FaultNumber → Range ℕ → Fault
+fault_at number range = record { number = number; range = range; first = None }
+
+-- the first of two errors, if there is one
+abbrev pub or_fault : Option Fault → Option Fault → Option Fault
+or_fault (Some fault) other = Some fault
+or_fault None other = other
+
+-- the first line that begins with the word
+abbrev pub line_of_word : List ℕ → List ScriptLine → Option ScriptLine
+line_of_word word [] = None
+line_of_word word (line ∷ lines) =
+    if bytes_eq (word_of line) word then Some line else line_of_word word lines
+
+-- the word is that of an earlier line: the error is at the later word, and has the range of the
+-- first
+unfoldable pub repetition : List ScriptLine → ScriptLine → Option Fault
+repetition before line =
+    option_map
+    (λ first. record {
+      number = RepeatedWord;
+      range = word_range line;
+      first = Some (word_range first);
+    })
+    (line_of_word (word_of line) before)
+
+-- the rest of a severity line is not the name of one
+unfoldable pub severity_fault : ScriptLine → Option Fault
+severity_fault line =
+    if is_some (severity_named (rest_of line))
+    then None
+    else Some (fault_at UnknownSeverity (range_at line (rest_of line) (rest_of line)))
+
+-- one of the first two fields of a label's rest is no number
+unfoldable pub number_fault : ScriptLine → Option Fault
+number_fault line =
+    let rest = rest_of line in
+    let after = past_space rest in
+    if is_some (number_of (field_of rest))
+    then (if is_some (number_of (field_of after))
+    then None
+    else Some (fault_at BadNumber (range_at line after (field_of after))))
+    else Some (fault_at BadNumber (range_at line rest (field_of rest)))
+
+-- the error of a line by its word: the word itself, then its repetition, then the fields that it
+-- needs
+abbrev pub word_fault : List ScriptLine → ScriptLine → Option Word → Option Fault
+word_fault before line None = Some (fault_at UnknownWord (word_range line))
+word_fault before line (Some Severity) = or_fault (repetition before line) (severity_fault line)
+word_fault before line (Some Code) = repetition before line
+word_fault before line (Some Message) = repetition before line
+word_fault before line (Some Primary) = number_fault line
+word_fault before line (Some Secondary) = number_fault line
+word_fault before line (Some Note) = None
+
+-- the first error of a line, by the lines before it; an ignored line has none
+abbrev pub line_fault : List ScriptLine → ScriptLine → Option Fault
+line_fault before line =
+    if is_ignored line then None else word_fault before line (word_named (word_of line))
+
+-- the first error of lines that follow these
+abbrev pub fault_from : List ScriptLine → List ScriptLine → Option Fault
+fault_from before [] = None
+fault_from before (line ∷ lines) =
+    or_fault (line_fault before line) (fault_from (before ++ line ∷ []) lines)
+
+-- the error of a script without an end, at the input's end
+abbrev pub missing_end : List ℕ → Fault
+missing_end input = fault_at MissingEnd (record { start = length input; end = length input })
+
+-- the script's error is the one returned, unless memory ran out
+abbrev pub IsFaultOf : {T : Type 0} → Result T Fault → ScriptError → Type 0
+IsFaultOf read (errors.Fault fault) = read ≡ Err fault
+IsFaultOf read errors.OutOfMemory = Unit {0}

@@ -1,0 +1,96 @@
+-- The lines of a script, and the fields of a line.
+use Rattle.std.specs.Prelude.{ℕ, ◌+◌, ◌-◌, Bool, ◌==◌, List, [], ◌∷◌, length, drop, Option, Some, None, codes, if◌then◌else◌, true}
+use Rattle.std.specs.List.{slice_split, before_first, after_first}
+use Rattle.std.specs.Str.{bytes_eq}
+use Rattle.std.specs.Str.Lines.{strip_carriage_return}
+use Rattle.std.specs.declared.ops.Range.{Range}
+use Rattle.report_script.specs.declared.script.line.Line.{Line}
+
+-- a line: where it starts in the input, its text without its end, and where the next line starts
+pub record ScriptLine : Type 0 where
+  pub start : ℕ
+  pub text : List ℕ
+  pub next : ℕ
+
+-- a line by its text's bytes
+abbrev pub line_view : Line → ScriptLine
+line_view line = record { start = line.start; text = line.text.now; next = line.next }
+
+-- the byte at which lines are cut
+abbrev pub is_newline : ℕ → Bool
+is_newline b = b == 10
+
+-- the byte at which a line is cut into fields: one space
+abbrev pub is_space : ℕ → Bool
+is_space b = b == 32
+
+-- the lines of pieces that are cut at each newline, of which the first starts at this byte; a `\r`
+-- right before a newline is dropped
+abbrev pub lines_from : ℕ → List (List ℕ) → List ScriptLine
+lines_from start [] = []
+lines_from start (piece ∷ []) =
+    record { start = start; text = piece; next = start + length piece } ∷ []
+lines_from start (piece ∷ other ∷ more) =
+    record { start = start; text = strip_carriage_return piece; next = start + length piece + 1 }
+    ∷ lines_from (start + length piece + 1) (other ∷ more)
+
+-- the lines of an input
+unfoldable pub lines_of : List ℕ → List ScriptLine
+lines_of input = lines_from 0 (slice_split is_newline input)
+
+-- the line `---`, which ends the script
+abbrev pub is_end : ScriptLine → Bool
+is_end line = bytes_eq line.text (codes "---")
+
+-- the lines of the script: those before the first end
+abbrev pub body : List ScriptLine → List ScriptLine
+body [] = []
+body (line ∷ lines) = if is_end line then [] else line ∷ body lines
+
+-- the source: what follows the newline of the first end; none without an end
+abbrev pub source_of : List ℕ → List ScriptLine → Option (List ℕ)
+source_of input [] = None
+source_of input (line ∷ lines) =
+    if is_end line then Some (drop line.next input) else source_of input lines
+
+-- the lines of the end that is left of an input of so many bytes, if one is left
+abbrev pub lines_left : ℕ → Option (List ℕ) → List ScriptLine
+lines_left size None = []
+lines_left size (Some text) = lines_from (size - length text) (slice_split is_newline text)
+
+-- a text that is empty or begins with `#`
+abbrev pub is_ignored_text : List ℕ → Bool
+is_ignored_text [] = true
+is_ignored_text (b ∷ bs) = b == 35
+
+-- the line is ignored
+abbrev pub is_ignored : ScriptLine → Bool
+is_ignored line = is_ignored_text line.text
+
+-- the first field of a text: what precedes its first space, or all of it
+abbrev pub field_of : List ℕ → List ℕ
+field_of text = before_first is_space text
+
+-- what follows the first space of a text, or nothing
+abbrev pub past_space : List ℕ → List ℕ
+past_space text = after_first is_space text
+
+-- the word of a line
+abbrev pub word_of : ScriptLine → List ℕ
+word_of line = field_of line.text
+
+-- the rest of a line
+abbrev pub rest_of : ScriptLine → List ℕ
+rest_of line = past_space line.text
+
+-- the range in the input of a field with which a suffix of the line begins; a field that is not
+-- there is empty, at the line's end
+abbrev pub range_at : ScriptLine → List ℕ → List ℕ → Range ℕ
+range_at line from field = record {
+  start = line.start + length line.text - length from;
+  end = line.start + length line.text - length from + length field;
+}
+
+-- the range of the word
+abbrev pub word_range : ScriptLine → Range ℕ
+word_range line = range_at line line.text (word_of line)

@@ -1,0 +1,9 @@
+//! What `report` is requested to render: its arguments, its scripts, and their diagnostics.
+//!
+//! [`script`] says what a script is.
+#![tactic(auto)]
+
+pub mod laws;
+pub mod messages;
+pub mod request;
+pub mod script;

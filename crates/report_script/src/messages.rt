@@ -1,0 +1,89 @@
+//! The diagnostics of requests, of scripts, and of errors in scripts.
+
+ghost use Rattle.std.specs.Prelude.{◌≡◌, IfOk, map, string_bytes};
+ghost use Rattle.codespan_base.specs.Diagnostics.{diagnostic_view, label_view};
+ghost use Rattle.report_script.specs.Messages.{request_diagnostic, fault_diagnostic};
+ghost use Rattle.report_script.specs.Requests.{request_view};
+ghost use Rattle.report_script.specs.Scripts.{script_label_view, script_view};
+
+use crate::request::Request;
+use crate::script;
+use crate::script::{Script, ScriptLabel};
+use codespan_base::diagnostic::{Diagnostic, Label};
+use codespan_base::files::Error;
+use std::alloc::Global;
+
+/// Returns an error with the message, and with one primary label that has the same message.
+pub fn of_request(alloc: Global, request: &Request<'_>) -> Result<Diagnostic<()>, Error>
+    ensures { IfOk result (λ d. diagnostic_view d ≡ request_diagnostic (request_view request.now)) }
+{
+    let label = Label::primary(alloc, (), request.start..request.end).with_message(
+        request.message,
+    )?;
+    let error = Diagnostic::error(alloc).with_message(request.message)?;
+    error.with_label(label)
+}
+
+/// Returns the diagnostic that a script states.
+pub fn of_script(alloc: Global, script: &Script<'_>) -> Result<Diagnostic<()>, Error>
+    ensures { IfOk result (λ d. diagnostic_view d ≡ (script_view script.now).diagnostic) }
+{
+    let code = match script.code {
+        Some(code) => Some(String::from_str(alloc, code)?),
+        None => None,
+    };
+    Ok(Diagnostic {
+        severity: script.severity,
+        code,
+        message: String::from_str(alloc, script.message)?,
+        labels: labels(alloc, script.labels.as_slice())?,
+        notes: notes(alloc, script.notes.as_slice())?,
+    })
+}
+
+/// Returns the labels of a script.
+fn labels(alloc: Global, stated: &[ScriptLabel<'_>]) -> Result<Vec<Label<()>>, Error>
+    ensures { IfOk result (λ labels. map label_view labels.items
+        ≡ map script_label_view stated.now) }
+{
+    let mut labels = Vec::new(alloc);
+    for (style, range, message) in stated {
+        labels.push(Label {
+            style: *style,
+            file_id: (),
+            range: range.start..range.end,
+            message: String::from_str(alloc, message)?,
+        })?;
+    }
+    Ok(labels)
+}
+
+/// Returns the notes of a script.
+fn notes(alloc: Global, stated: &[&str]) -> Result<Vec<String>, Error>
+    ensures { IfOk result (λ notes. map string_bytes notes.items
+        ≡ map (λ note. note.now) stated.now) }
+{
+    let mut notes = Vec::new(alloc);
+    for note in stated {
+        notes.push(String::from_str(alloc, note)?)?;
+    }
+    Ok(notes)
+}
+
+/// Returns the diagnostic of a script's error: its code and message, a primary label over its
+/// range, and a secondary one over the first occurrence of a repeated word.
+pub fn of_fault(alloc: Global, fault: script::Fault) -> Result<Diagnostic<()>, Error>
+    ensures { IfOk result (λ d. diagnostic_view d ≡ fault_diagnostic fault) }
+{
+    let label = Label::primary(alloc, (), fault.range).with_message(fault.number.note())?;
+    let diagnostic = Diagnostic::error(alloc)
+        .with_code(fault.number.code())?
+        .with_message(fault.number.message())?
+        .with_label(label)?;
+    match fault.first {
+        Some(first) => diagnostic.with_label(Label::secondary(alloc, (), first).with_message(
+            "first given here",
+        )?),
+        None => Ok(diagnostic),
+    }
+}

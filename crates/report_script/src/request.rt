@@ -1,0 +1,93 @@
+//! What the arguments request.
+
+ghost use Rattle.std.specs.Prelude.{◌≡◌, map, string_bytes};
+ghost use Rattle.std.specs.Option.{option_map};
+ghost use Rattle.report_script.specs.Requests.{number_of, style_of};
+
+use codespan_base::term::DisplayStyle;
+
+/// A request for an error with one label over the input.
+#[derive(Clone, Copy, Debug)]
+pub struct Request<'args> {
+    /// The display style.
+    pub style: DisplayStyle,
+    /// The name of the file.
+    pub name: &'args str,
+    /// The byte index in the source at which the label starts.
+    pub start: usize,
+    /// The byte index at which the label ends, exclusive.
+    pub end: usize,
+    /// The message of the error and of its label.
+    pub message: &'args str,
+}
+
+impl<'args> Request<'args> {
+    ghost use Rattle.report_script.specs.Requests.{request_view, request_of};
+
+    /// Parses the arguments `STYLE NAME START END MESSAGE`; `None` if their number or form is
+    /// another.
+    pub fn from_arguments(args: &'args [String]) -> Option<Request<'args>>
+        ensures { option_map request_view result ≡ request_of (map string_bytes args.now) }
+    {
+        let [style, name, start, end, message] = args else {
+            return None;
+        };
+        Some(Request {
+            style: parse_style(style.as_str())?,
+            name: name.as_str(),
+            start: parse_number(start.as_str())?,
+            end: parse_number(end.as_str())?,
+            message: message.as_str(),
+        })
+    }
+}
+
+/// What the arguments request.
+#[derive(Clone, Copy, Debug)]
+pub enum Command<'args> {
+    /// An error with one label over the input.
+    OneLabel(Request<'args>),
+    /// The script at the input's start, in this display style; the file has this name, and its
+    /// source follows the script.
+    OfScript(DisplayStyle, &'args str),
+}
+
+impl<'args> Command<'args> {
+    ghost use Rattle.report_script.specs.Requests.{command_of, command_view};
+
+    /// Parses the arguments `STYLE NAME`, or those of a [`Request`]; `None` if their number or form
+    /// is another.
+    pub fn from_arguments(args: &'args [String]) -> Option<Command<'args>>
+        ensures { option_map command_view result ≡ command_of (map string_bytes args.now) }
+    {
+        match args {
+            [style, name] => Some(Command::OfScript(parse_style(style.as_str())?, name.as_str())),
+            _ => Some(Command::OneLabel(Request::from_arguments(args)?)),
+        }
+    }
+}
+
+/// Parses `rich`, `medium` or `short`; `None` for any other word.
+#[tactic(auto, unfolding(crate::specs::Requests::style_of))]
+fn parse_style(text: &str) -> Option<DisplayStyle>
+    ensures { result ≡ style_of text.now }
+{
+    match text {
+        "rich" => Some(DisplayStyle::Rich),
+        "medium" => Some(DisplayStyle::Medium),
+        "short" => Some(DisplayStyle::Short),
+        _ => None,
+    }
+}
+
+/// Parses one or more ASCII digits; `None` if there is another character or the number does not
+/// fit.
+pub fn parse_number(text: &str) -> Option<usize>
+    ensures { result ≡ number_of text.now }
+{
+    if text.bytes().all(|byte| byte.is_ascii_digit()) {
+        text.parse().ok()
+    } else {
+        None
+    }
+}

@@ -1,0 +1,164 @@
+//! Scripts: a diagnostic in lines of words, and the source that it is rendered over.
+//!
+//! A script is a text of lines, up to the first line that is `---`; the source follows that line.
+//! Each line begins with a word, which ends at the first space; its rest is what follows that
+//! space. Lines that are empty or begin with `#` are ignored.
+
+ghost use Rattle.std.specs.Prelude.{◌≡◌, MatchResult};
+ghost use Rattle.report_script.specs.Scripts.{read_script, script_view};
+ghost use Rattle.report_script.specs.ScriptFaults.{IsFaultOf};
+ghost use Rattle.report_script.specs.declared.script.ScriptError.TheVariants.{OutOfMemory};
+
+mod faults;
+mod line;
+mod lines;
+mod parts;
+mod words;
+
+use codespan_base::diagnostic::{LabelStyle, Severity};
+use faults::first_fault;
+use lines::read_lines;
+use parts::{labels, notes, parsed_severity, rest_of_word};
+use std::alloc::{AllocError, Global};
+use std::ops::Range;
+
+/// A label of a script: its style, the bytes of the source that it covers, and its message.
+pub type ScriptLabel<'input> = (LabelStyle, Range<usize>, &'input str);
+
+/// What a script states, with texts borrowed from the input that it was parsed from.
+#[derive(Debug, Drop)]
+pub struct Script<'input> {
+    /// The severity; an error if the script states none.
+    pub severity: Severity,
+    /// The code, if the script states one.
+    pub code: Option<&'input str>,
+    /// The message; empty if the script states none.
+    pub message: &'input str,
+    /// The labels in the order of their lines.
+    pub labels: Vec<ScriptLabel<'input>>,
+    /// The notes in the order of their lines.
+    pub notes: Vec<&'input str>,
+    /// The source: all that follows the line `---`.
+    pub source: &'input str,
+}
+
+/// The kinds of errors in scripts, in the order of their numbers, from 1.
+#[derive(Clone, Copy, Debug, PartialEq, Eq)]
+pub enum FaultNumber {
+    /// A line begins with a word that scripts do not have.
+    UnknownWord,
+    /// The rest of a `severity` line is no severity.
+    UnknownSeverity,
+    /// The start or the end of a label is no number.
+    BadNumber,
+    /// `severity`, `code` or `message` is repeated.
+    RepeatedWord,
+    /// No line is `---`.
+    MissingEnd,
+}
+
+impl FaultNumber {
+    ghost use Rattle.report_script.specs.Messages.{fault_code, fault_message, fault_note};
+
+    /// Returns the code of the diagnostic, `S1` for the first kind.
+    pub fn code(self) -> &'static str
+        ensures { result.now ≡ fault_code self }
+    {
+        match self {
+            FaultNumber::UnknownWord => "S1",
+            FaultNumber::UnknownSeverity => "S2",
+            FaultNumber::BadNumber => "S3",
+            FaultNumber::RepeatedWord => "S4",
+            FaultNumber::MissingEnd => "S5",
+        }
+    }
+
+    /// Returns the message of the diagnostic.
+    pub fn message(self) -> &'static str
+        ensures { result.now ≡ fault_message self }
+    {
+        match self {
+            FaultNumber::UnknownWord => "unknown word",
+            FaultNumber::UnknownSeverity => "unknown severity",
+            FaultNumber::BadNumber => "bad number",
+            FaultNumber::RepeatedWord => "repeated word",
+            FaultNumber::MissingEnd => "missing end of script",
+        }
+    }
+
+    /// Returns the message of the label over the error.
+    pub fn note(self) -> &'static str
+        ensures { result.now ≡ fault_note self }
+    {
+        match self {
+            FaultNumber::UnknownWord => {
+                "expected severity, code, message, primary, secondary or note"
+            }
+            FaultNumber::UnknownSeverity => "expected bug, error, warning, note or help",
+            FaultNumber::BadNumber => "expected a decimal number",
+            FaultNumber::RepeatedWord => "given again",
+            FaultNumber::MissingEnd => "expected ---",
+        }
+    }
+}
+
+/// The first error of a script, and its range in the input.
+#[derive(Clone, Debug, Drop, PartialEq, Eq)]
+pub struct Fault {
+    /// The kind of error.
+    pub number: FaultNumber,
+    /// The byte range of the input that is wrong.
+    pub range: Range<usize>,
+    /// Of a repeated word, the byte range of its first occurrence.
+    pub first: Option<Range<usize>>,
+}
+
+/// Why a text was not read as a script.
+#[derive(Debug, Drop)]
+pub enum ScriptError {
+    /// The text is no script.
+    Fault(Fault),
+    /// Memory ran out.
+    OutOfMemory,
+}
+
+/// A failed allocation becomes `OutOfMemory`.
+impl From<AllocError> for ScriptError {
+    ghost from_gives = { λ _ error. error ≡ OutOfMemory };
+
+    fn from(_error: AllocError) -> ScriptError {
+        ScriptError::OutOfMemory
+    }
+}
+
+/// Parses a text as a script.
+///
+/// # Errors
+///
+/// - `Fault` if the text is no script: its first error, by lines, and within a line from left to
+///   right.
+/// - `OutOfMemory` if memory runs out.
+pub fn parse_script(alloc: Global, input: &str) -> Result<Script<'_>, ScriptError>
+    ensures { MatchResult result (λ script. read_script input.now ≡ Ok (script_view script))
+        (λ error. IsFaultOf (read_script input.now) error) }
+{
+    let (lines, source) = read_lines(alloc, input)?;
+    if let Some(fault) = first_fault(lines.as_slice()) {
+        return Err(ScriptError::Fault(fault));
+    }
+    let Some(source) = source else {
+        return Err(ScriptError::Fault(Fault {
+            number: FaultNumber::MissingEnd,
+            range: input.len()..input.len(),
+            first: None,
+        }));
+    };
+    Ok(Script {
+        severity: parsed_severity(lines.as_slice()),
+        code: rest_of_word("code", lines.as_slice()),
+        message: rest_of_word("message", lines.as_slice()).unwrap_or(""),
+        labels: labels(alloc, lines.as_slice())?,
+        notes: notes(alloc, lines.as_slice())?,
+        source,
+    })
+}

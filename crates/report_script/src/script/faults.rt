@@ -1,0 +1,101 @@
+//! The errors of scripts.
+
+ghost use Rattle.std.specs.Prelude.{◌≡◌, [], map};
+ghost use Rattle.report_script.specs.ScriptLines.{line_view};
+ghost use Rattle.report_script.specs.ScriptFaults.{fault_from, line_fault, severity_fault, number_fault, repetition};
+
+use super::line::Line;
+use super::lines::cut;
+use super::parts::line_of_word;
+use super::words::{Word, parse_severity, parse_word};
+use super::{Fault, FaultNumber};
+use crate::request::parse_number;
+use std::ops::Range;
+
+/// Returns the first error in the lines of a script.
+pub(super) fn first_fault(lines: &[Line<'_>]) -> Option<Fault>
+    ensures { result ≡ fault_from [] (map line_view lines.now) }
+{
+    for (i, line) in lines.iter().enumerate() {
+        if let Some(fault) = line_fault(&lines[..i], line) {
+            return Some(fault);
+        }
+    }
+    None
+}
+
+/// Returns the first error of a line; `before` are the lines before it.
+fn line_fault(before: &[Line<'_>], line: &Line<'_>) -> Option<Fault>
+    ensures { result ≡ line_fault (map line_view before.now) (line_view line.now) }
+{
+    if line.is_ignored() {
+        return None;
+    }
+    match parse_word(line.word()) {
+        None => Some(fault(
+            FaultNumber::UnknownWord,
+            line.range_at(line.text, line.word()),
+        )),
+        Some(Word::Severity) => match repetition(before, line) {
+            Some(fault) => Some(fault),
+            None => severity_fault(line),
+        },
+        Some(Word::Code | Word::Message) => repetition(before, line),
+        Some(Word::Primary | Word::Secondary) => number_fault(line),
+        Some(Word::Note) => None,
+    }
+}
+
+/// Returns an error with one range.
+fn fault(number: FaultNumber, range: Range<usize>) -> Fault
+    ensures { result ≡ record { number = number; range = range; first = None } }
+{
+    Fault {
+        number,
+        range,
+        first: None,
+    }
+}
+
+/// Returns the error of a line whose word an earlier line has.
+#[tactic(auto, unfolding(crate::specs::ScriptFaults::repetition))]
+fn repetition(before: &[Line<'_>], line: &Line<'_>) -> Option<Fault>
+    ensures { result ≡ repetition (map line_view before.now) (line_view line.now) }
+{
+    let first = line_of_word(line.word(), before)?;
+    Some(Fault {
+        number: FaultNumber::RepeatedWord,
+        range: line.range_at(line.text, line.word()),
+        first: Some(first.range_at(first.text, first.word())),
+    })
+}
+
+/// Returns the error of a `severity` line whose rest is no severity.
+#[tactic(auto, unfolding(crate::specs::ScriptFaults::severity_fault))]
+fn severity_fault(line: &Line<'_>) -> Option<Fault>
+    ensures { result ≡ severity_fault (line_view line.now) }
+{
+    match parse_severity(line.rest()) {
+        Some(_) => None,
+        None => Some(fault(
+            FaultNumber::UnknownSeverity,
+            line.range_at(line.rest(), line.rest()),
+        )),
+    }
+}
+
+/// Returns the error of a label's line whose start or end is no number.
+#[tactic(auto, unfolding(crate::specs::ScriptFaults::number_fault))]
+fn number_fault(line: &Line<'_>) -> Option<Fault>
+    ensures { result ≡ number_fault (line_view line.now) }
+{
+    let (start, after) = cut(line.rest());
+    let (end, _) = cut(after);
+    if parse_number(start).is_none() {
+        return Some(fault(FaultNumber::BadNumber, line.range_at(line.rest(), start)));
+    }
+    if parse_number(end).is_none() {
+        return Some(fault(FaultNumber::BadNumber, line.range_at(after, end)));
+    }
+    None
+}

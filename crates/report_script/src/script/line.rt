@@ -1,0 +1,59 @@
+//! A line of a script, and its fields.
+
+ghost use Rattle.std.specs.Prelude.{◌+◌, ◌<◌, ◌^◌, length};
+
+use super::lines::cut;
+use std::ops::Range;
+
+/// A line of a script.
+#[derive(Clone, Copy, Debug)]
+pub(super) struct Line<'input> {
+    /// The byte index in the input at which it starts.
+    pub(super) start: usize,
+    /// Its text, without the newline and a carriage return before that.
+    pub(super) text: &'input str,
+    /// The byte index in the input at which the next line starts, or the input's length.
+    pub(super) next: usize,
+    ghost fits: { start + length text.now < 2 ^ 64 },
+}
+
+impl<'input> Line<'input> {
+    ghost use Rattle.std.specs.Prelude.{◌≡◌, ◌≤◌};
+    ghost use Rattle.report_script.specs.ScriptLines.{line_view, range_at, word_of, rest_of, is_ignored};
+
+    /// Returns the text before the first space.
+    pub(super) fn word(&self) -> &'input str
+        ensures word { result.now ≡ word_of (line_view self.now) }
+        ensures short { length result.now ≤ length self.now.text.now }
+    {
+        cut(self.text).0
+    }
+
+    /// Returns the text after the first space.
+    pub(super) fn rest(&self) -> &'input str
+        ensures rest { result.now ≡ rest_of (line_view self.now) }
+        ensures short { length result.now ≤ length self.now.text.now }
+    {
+        cut(self.text).1
+    }
+
+    /// Returns whether the line is empty or begins with `#`.
+    pub(super) fn is_ignored(&self) -> bool
+        ensures { result ≡ is_ignored (line_view self.now) }
+    {
+        match self.text.as_bytes() {
+            [] => true,
+            [first, ..] => *first == b'#',
+        }
+    }
+
+    /// Returns the range in the input of a field with which `from`, a suffix of the line, begins.
+    pub(super) fn range_at(&self, from: &str, field: &str) -> Range<usize>
+        requires { (length field.now ≤ length from.now)
+            × (length from.now ≤ length self.now.text.now) }
+        ensures { result ≡ range_at (line_view self.now) from.now field.now }
+    {
+        let start = self.start + self.text.len() - from.len();
+        start..start + field.len()
+    }
+}

@@ -1,0 +1,88 @@
+//! The lines of a script.
+
+ghost use Rattle.std.specs.Prelude.{◌≡◌, ◌≤◌, ◌+◌, ◌-◌, ◌<◌, ◌∷◌, length, map, drop, IfOk, IfSome, IfNone, Some};
+ghost use Rattle.std.specs.List.{before_first, after_first};
+ghost use Rattle.std.specs.Option.{option_map};
+ghost use Rattle.std.specs.Str.Lines.{strip_carriage_return};
+ghost use Rattle.report_script.specs.ScriptLines.{is_space, line_view, lines_of, lines_left, body, source_of};
+
+use super::line::Line;
+use std::alloc::{AllocError, Global};
+
+/// Splits a text at its first space, which is left out; without one the second part is empty.
+pub(super) fn cut(text: &str) -> (&str, &str)
+    ensures before { result.0.now ≡ before_first is_space text.now }
+    ensures after { result.1.now ≡ after_first is_space text.now }
+    ensures before_short { length result.0.now ≤ length text.now }
+    ensures after_short { length result.1.now ≤ length text.now }
+{
+    match text.split_once(' ') {
+        Some((before, after)) => (before, after),
+        None => (text, ""),
+    }
+}
+
+/// Returns the text without a carriage return at its end.
+fn without_return(text: &str) -> &str
+    ensures text { result.now ≡ strip_carriage_return text.now }
+    ensures short { length result.now ≤ length text.now }
+{
+    match text.strip_suffix('\r') {
+        Some(front) => front,
+        None => text,
+    }
+}
+
+/// Returns the first line of `left`, the rest of an input of `size` bytes, and what follows its
+/// newline, if it has one.
+fn first_line(size: usize, left: &str) -> (Line<'_>, Option<&str>)
+    requires { length left.now ≤ size }
+    ensures line { lines_left size (Some left.now)
+        ≡ line_view result.0 ∷ lines_left size (option_map (λ after. after.now) result.1) }
+    ensures after { IfSome result.1 (λ after. (result.0.next + length after.now ≡ size)
+        × (length after.now < length left.now)
+        × (after.now ≡ drop (length left.now - length after.now) left.now)) }
+    ensures last { IfNone result.1 (result.0.next ≡ size) }
+{
+    let start = size - left.len();
+    match left.split_once('\n') {
+        Some((text, after)) => (
+            Line {
+                start,
+                text: without_return(text),
+                next: size - after.len(),
+            },
+            Some(after),
+        ),
+        None => (
+            Line {
+                start,
+                text: left,
+                next: size,
+            },
+            None,
+        ),
+    }
+}
+
+/// Returns the lines before the first `---`, and the source after that line, if there is one.
+pub(super) fn read_lines(
+    alloc: Global,
+    input: &str,
+) -> Result<(Vec<Line<'_>>, Option<&str>), AllocError>
+    ensures body { IfOk result (λ read. map line_view read.0.items ≡ body (lines_of input.now)) }
+    ensures source { IfOk result (λ read. option_map (λ source. source.now) read.1
+        ≡ source_of input.now (lines_of input.now)) }
+{
+    let mut lines = Vec::new(alloc);
+    let mut rest = Some(input);
+    'lines: while let Some(left) = rest {
+        let (line, after) = first_line(input.len(), left);
+        if line.text == "---" {
+            return Ok((lines, Some(after.unwrap_or(""))));
+        }
+        lines.push(line)?;
+        rest = after;
+    }
+    Ok((lines, None))
+}
