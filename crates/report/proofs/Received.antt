@@ -1,13 +1,13 @@
--- For `Fault::write_line`: the line of a failed output.
+-- For `RunError::write_line`: the line of a failed output.
 use Rattle.std.proofs.Common.{◌≡◌, ℕ, List, Option, Result, IfSome, OnOk, sym, subst}
 use Rattle.std.specs.Fmt.{with_newline}
 use Rattle.std.specs.Io.KnownBytes.{Appends}
-use Rattle.report.specs.declared.fault.Fault.{Fault}
-use Rattle.report.specs.declared.fault.Fault.TheVariants.{CannotWriteOutput}
-use Rattle.report.specs.Faults.{fault_text, failed_output_line}
+use Rattle.report.specs.declared.run_error.RunError.{RunError}
+use Rattle.report.specs.declared.run_error.RunError.TheVariants.{CannotWriteOutput}
+use Rattle.report.specs.RunErrors.{error_line, failed_output_line}
 
 -- the line of a failed output, as that of an error
-pub line_of_fault : {E : Type 0} (fault : Fault) (old new : Option (List ℕ)) (r : Result (Unit {0}) E) → fault ≡ CannotWriteOutput
-    → OnOk r (Appends old new failed_output_line) → OnOk r (IfSome (with_newline (fault_text fault)) (Appends old new))
-line_of_fault fault old new r is appended =
-    subst (λ (f : Fault). OnOk r (IfSome (with_newline (fault_text f)) (Appends old new))) (sym is) appended
+pub line_of_error : {E : Type 0} (error : RunError) (old new : Option (List ℕ)) (r : Result (Unit {0}) E) → error ≡ CannotWriteOutput
+    → OnOk r (Appends old new failed_output_line) → OnOk r (IfSome (with_newline (error_line error)) (Appends old new))
+line_of_error error old new r is appended =
+    subst (λ (f : RunError). OnOk r (IfSome (with_newline (error_line f)) (Appends old new))) (sym is) appended

@@ -11,8 +11,8 @@ use Rattle.codespan_reporting.specs.Rows.{HeaderText}
 use Rattle.codespan_reporting.specs.Picture.{rendered, starts}
 use Rattle.codespan_reporting.specs.StatedPicture.{stated_locus}
 use Rattle.codespan_reporting.specs.Snippets.{InFile, labeled_file_models}
-use Rattle.report.specs.declared.fault.Fault as faults
-use Rattle.report.specs.declared.fault.Fault.TheVariants as fault
+use Rattle.report.specs.declared.run_error.RunError.{RunError}
+use Rattle.report.specs.declared.run_error.RunError.TheVariants as run_error
 use Rattle.report_script.specs.declared.script.Fault.{Fault}
 use Rattle.report_script.specs.Requests.{CommandView}
 use Rattle.report_script.specs.Messages.{request_diagnostic, fault_diagnostic}
@@ -77,7 +77,7 @@ rendering_of (OneLabel request) input =
 rendering_of (OfScript style name) input = rendering_of_script style name input (read_script input)
 
 -- the error of rendering: it failed, or the script has the error of this diagnostic
-abbrev pub IsRenderFailure : Result (List ℕ) (List ℕ) → faults.Fault → Type 0
-IsRenderFailure rendering (fault.CannotRender error) = Unit {0}
-IsRenderFailure rendering (fault.BadScript text) = rendering ≡ Err (string_bytes text)
+abbrev pub IsRenderFailure : Result (List ℕ) (List ℕ) → RunError → Type 0
+IsRenderFailure rendering (run_error.CannotRender error) = Unit {0}
+IsRenderFailure rendering (run_error.BadScript text) = rendering ≡ Err (string_bytes text)
 IsRenderFailure rendering _ = ⊥

@@ -17,7 +17,7 @@
 //! not UTF-8 are wrong; where memory for them runs out, the status is 1.
 #![tactic(auto)]
 
-mod fault;
+mod run_error;
 mod rendering;
 mod run;
 #[cfg(test)]

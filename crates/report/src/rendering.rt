@@ -6,7 +6,7 @@ ghost use Rattle.report.specs.RenderedTexts.{rendering_of, rendering_of_script, 
 ghost use Rattle.report_script.specs.Requests.{command_view};
 ghost use Rattle.report_script.specs.Scripts.{read_script};
 
-use crate::fault::Fault;
+use crate::run_error::RunError;
 use report_script::messages::{of_fault, of_request, of_script};
 use report_script::request::{Command, Request};
 use report_script::script::{ScriptError, parse_script};
@@ -22,7 +22,7 @@ use std::alloc::Global;
 /// - `BadScript` if a script is requested and the input is none: the rendered diagnostic of its
 ///   first error.
 /// - `CannotRender` if rendering fails.
-pub fn render(alloc: Global, command: &Command<'_>, input: &str) -> Result<String, Fault>
+pub fn render(alloc: Global, command: &Command<'_>, input: &str) -> Result<String, RunError>
     ensures text { IfOk result (λ text. rendering_of (command_view command.now) input.now
         ≡ Ok (string_bytes text)) }
     ensures failed { IfErr result
@@ -35,7 +35,7 @@ pub fn render(alloc: Global, command: &Command<'_>, input: &str) -> Result<Strin
 }
 
 /// Renders a request over the input.
-fn render_request(alloc: Global, request: &Request<'_>, input: &str) -> Result<String, Fault>
+fn render_request(alloc: Global, request: &Request<'_>, input: &str) -> Result<String, RunError>
     ensures text { IfOk result (λ text.
         rendering_of (command_view (Command.OneLabel request.now)) input.now
         ≡ Ok (string_bytes text)) }
@@ -52,7 +52,7 @@ fn render_script(
     style: DisplayStyle,
     name: &str,
     input: &str,
-) -> Result<String, Fault>
+) -> Result<String, RunError>
     ensures text { IfOk result (λ text.
         rendering_of_script style name.now input.now (read_script input.now)
         ≡ Ok (string_bytes text)) }
@@ -67,9 +67,9 @@ fn render_script(
         Err(ScriptError::Fault(fault)) => {
             let diagnostic = of_fault(alloc, fault)?;
             let text = render_over(alloc, style, "script", input, &diagnostic)?;
-            Err(Fault::BadScript(text))
+            Err(RunError::BadScript(text))
         }
-        Err(ScriptError::OutOfMemory) => Err(Fault::CannotRender(Error::OutOfMemory)),
+        Err(ScriptError::OutOfMemory) => Err(RunError::CannotRender(Error::OutOfMemory)),
     }
 }
 

@@ -5,10 +5,10 @@ ghost use Rattle.std.specs.Io.KnownBytes.{Appends, IsAtEnd};
 ghost use Rattle.std.specs.Str.{IsUtf8};
 ghost use Rattle.report.specs.RenderedTexts.{rendering_of};
 ghost use Rattle.program_io.specs.Output.{AppendsPrefix};
-ghost use Rattle.report.specs.Faults.{FaultMeans, IfBadScript, IsStatusOf, UnchangedUnlessRendered, failed_output_line};
+ghost use Rattle.report.specs.RunErrors.{ErrorMeans, IfBadScript, IsStatusOf, UnchangedUnlessRendered, failed_output_line};
 ghost use Rattle.report_script.specs.Requests.{WhereKnown, command_of};
 
-use crate::fault::Fault;
+use crate::run_error::RunError;
 use crate::rendering::render;
 use report_script::request::Command;
 use program_io::input::read_text;
@@ -66,27 +66,27 @@ pub fn run<R: Read, W: Write, E: Write>(
 /// rendered diagnostic, any other in one line.
 ///
 /// A failure of `error_output` is ignored, except that the status of a script's error is then 1.
-pub fn conclude<E: Write>(outcome: Result<(), Fault>, error_output: &mut E) -> u8
+pub fn conclude<E: Write>(outcome: Result<(), RunError>, error_output: &mut E) -> u8
     ensures status { IsStatusOf outcome result }
     ensures no_error { OnOk outcome (error_output.new ≡ error_output.old) }
     ensures reported { result ≡ 3 → IfErr outcome
-        (λ fault. IfBadScript fault
+        (λ error. IfBadScript error
         (λ text. Appends (E.contents error_output.old) (E.contents error_output.new)
         (string_bytes text))) }
-    ensures prefix { IsErrOf outcome Fault.CannotWriteOutput
+    ensures prefix { IsErrOf outcome RunError.CannotWriteOutput
         → AppendsPrefix (E.contents error_output.old) (E.contents error_output.new)
         failed_output_line }
 {
     match outcome {
         Ok(()) => 0,
-        Err(Fault::BadScript(text)) => match write_and_flush(error_output, text.as_bytes()) {
+        Err(RunError::BadScript(text)) => match write_and_flush(error_output, text.as_bytes()) {
             Ok(()) => 3,
             Err(_) => 1,
         },
-        Err(fault) => {
-            let _ = fault.write_line(error_output);
-            match fault {
-                Fault::WrongArguments => 2,
+        Err(error) => {
+            let _ = error.write_line(error_output);
+            match error {
+                RunError::WrongArguments => 2,
                 _ => 1,
             }
         }
@@ -99,10 +99,10 @@ fn report<R: Read, W: Write>(
     args: &[String],
     input: &mut R,
     output: &mut W,
-) -> Result<(), Fault>
-    ensures usage { IsErrOf result Fault.WrongArguments
+) -> Result<(), RunError>
+    ensures usage { IsErrOf result RunError.WrongArguments
         ↔ (command_of (map string_bytes args.now) ≡ None) }
-    ensures unread { IsErrOf result Fault.WrongArguments → input.new ≡ input.old }
+    ensures unread { IsErrOf result RunError.WrongArguments → input.new ≡ input.old }
     ensures read { OnOk result (IsAtEnd (R.remaining input.new)) }
     ensures rendered { OnOk result (WhereKnown (map string_bytes args.now) (R.remaining input.old)
         (λ command source.
@@ -110,30 +110,30 @@ fn report<R: Read, W: Write>(
         × Appends (W.contents output.old) (W.contents output.new) text)) }
     ensures utf8 { OnOk result (WhereKnown (map string_bytes args.now) (R.remaining input.old)
         (λ _ source. IsUtf8 source)) }
-    ensures reported { IfErr result (λ fault.
-        WhereKnown (map string_bytes args.now) (R.remaining input.old) (FaultMeans fault)) }
-    ensures unchanged { IfErr result (λ fault. fault ≢ Fault.CannotWriteOutput
+    ensures reported { IfErr result (λ error.
+        WhereKnown (map string_bytes args.now) (R.remaining input.old) (ErrorMeans error)) }
+    ensures unchanged { IfErr result (λ error. error ≢ RunError.CannotWriteOutput
         → output.new ≡ output.old) }
-    ensures prefix { IsErrOf result Fault.CannotWriteOutput
+    ensures prefix { IsErrOf result RunError.CannotWriteOutput
         → WhereKnown (map string_bytes args.now) (R.remaining input.old) (λ command source.
         (text : List ℕ) × (rendering_of command source ≡ Ok text)
         × AppendsPrefix (W.contents output.old) (W.contents output.new) text) }
 {
-    let command = Command::from_arguments(args).ok_or(Fault::WrongArguments)?;
+    let command = Command::from_arguments(args).ok_or(RunError::WrongArguments)?;
     let source = read_text(alloc, input)?;
     let text = render(alloc, &command, source.as_str())?;
     write_text(output, text.as_str())
 }
 
 /// Writes the text to the output and flushes it.
-fn write_text<W: Write>(output: &mut W, text: &str) -> Result<(), Fault>
+fn write_text<W: Write>(output: &mut W, text: &str) -> Result<(), RunError>
     ensures written { OnOk result (Appends (W.contents output.old)
         (W.contents output.new) text.now) }
     ensures prefix { AppendsPrefix (W.contents output.old) (W.contents output.new) text.now }
-    ensures failed { IfErr result (λ fault. fault ≡ Fault.CannotWriteOutput) }
+    ensures failed { IfErr result (λ error. error ≡ RunError.CannotWriteOutput) }
 {
     match write_and_flush(output, text.as_bytes()) {
         Ok(()) => Ok(()),
-        Err(_) => Err(Fault::CannotWriteOutput),
+        Err(_) => Err(RunError::CannotWriteOutput),
     }
 }

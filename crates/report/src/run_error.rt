@@ -3,7 +3,7 @@
 ghost use Rattle.std.specs.Prelude.{◌≡◌, IfSome, OnOk};
 ghost use Rattle.std.specs.Fmt.{with_newline};
 ghost use Rattle.std.specs.Io.KnownBytes.{Appends};
-ghost use Rattle.report.specs.declared.fault.Fault.TheVariants.{CannotWriteOutput, CannotRender};
+ghost use Rattle.report.specs.declared.run_error.RunError.TheVariants.{CannotWriteOutput, CannotRender};
 
 use codespan_reporting::files::Error;
 use program_io::arguments::ArgumentsError;
@@ -14,7 +14,7 @@ use std::{fmt, io};
 
 /// An error of a run.
 #[derive(Debug, Drop)]
-pub enum Fault {
+pub enum RunError {
     /// The number or the form of the arguments is wrong.
     WrongArguments,
     /// Reading the input failed, or memory for it ran out.
@@ -29,9 +29,9 @@ pub enum Fault {
     CannotWriteOutput,
 }
 
-impl Fault {
+impl RunError {
     ghost use Rattle.program_io.specs.Output.{AppendsPrefix};
-    ghost use Rattle.report.specs.Faults.{fault_text, failed_output_line};
+    ghost use Rattle.report.specs.RunErrors.{error_line, failed_output_line};
 
     /// Writes the error's line.
     ///
@@ -40,7 +40,7 @@ impl Fault {
     /// An [`io::Error`] if a write fails. Of the line of a failed output a prefix has then been
     /// written; what has been written of another line is unspecified.
     pub fn write_line<W: Write>(&self, error_output: &mut W) -> io::Result<()>
-        ensures written { OnOk result (IfSome (with_newline (fault_text self.now))
+        ensures written { OnOk result (IfSome (with_newline (error_line self.now))
             (Appends (W.contents error_output.old) (W.contents error_output.new))) }
         ensures prefix { self.now ≡ CannotWriteOutput
             → AppendsPrefix (W.contents error_output.old) (W.contents error_output.new)
@@ -48,65 +48,65 @@ impl Fault {
     {
         match self {
             // The contract of `writeln!` leaves open what a failed one has written.
-            Fault::CannotWriteOutput => write_whole(error_output, b"report: cannot write output\n"),
+            RunError::CannotWriteOutput => write_whole(error_output, b"report: cannot write output\n"),
             _ => writeln!(error_output, "{self}"),
         }
     }
 }
 
 /// Arguments that are not UTF-8 are wrong.
-impl From<ArgumentsError> for Fault {
-    ghost use Rattle.report.specs.Faults.{arguments_fault};
+impl From<ArgumentsError> for RunError {
+    ghost use Rattle.report.specs.RunErrors.{arguments_error};
 
-    ghost from_gives = { λ error fault. fault ≡ arguments_fault error };
+    ghost from_gives = { λ error run_error. run_error ≡ arguments_error error };
 
-    fn from(error: ArgumentsError) -> Fault {
+    fn from(error: ArgumentsError) -> RunError {
         match error {
-            ArgumentsError::NotUtf8 => Fault::WrongArguments,
-            ArgumentsError::OutOfMemory => Fault::CannotRender(Error::OutOfMemory),
+            ArgumentsError::NotUtf8 => RunError::WrongArguments,
+            ArgumentsError::OutOfMemory => RunError::CannotRender(Error::OutOfMemory),
         }
     }
 }
 
 /// An input that is no text.
-impl From<InputError> for Fault {
-    ghost use Rattle.report.specs.Faults.{input_fault};
+impl From<InputError> for RunError {
+    ghost use Rattle.report.specs.RunErrors.{input_error};
 
-    ghost from_gives = { λ error fault. fault ≡ input_fault error };
+    ghost from_gives = { λ error run_error. run_error ≡ input_error error };
 
-    fn from(error: InputError) -> Fault {
+    fn from(error: InputError) -> RunError {
         match error {
-            InputError::Unreadable => Fault::CannotReadInput,
-            InputError::NotUtf8 => Fault::NotUtf8,
+            InputError::Unreadable => RunError::CannotReadInput,
+            InputError::NotUtf8 => RunError::NotUtf8,
         }
     }
 }
 
 /// An error of rendering becomes `CannotRender`.
-impl From<Error> for Fault {
-    ghost from_gives = { λ error fault. fault ≡ CannotRender error };
+impl From<Error> for RunError {
+    ghost from_gives = { λ error run_error. run_error ≡ CannotRender error };
 
-    fn from(error: Error) -> Fault {
-        Fault::CannotRender(error)
+    fn from(error: Error) -> RunError {
+        RunError::CannotRender(error)
     }
 }
 
 /// The error's line, without its newline.
-impl fmt::Display for Fault {
-    ghost use Rattle.report.specs.Faults.{fault_text};
+impl fmt::Display for RunError {
+    ghost use Rattle.report.specs.RunErrors.{error_line};
 
-    ghost output = { fault_text };
+    ghost output = { error_line };
 
     fn fmt<W: fmt::Write>(&self, f: &mut fmt::Formatter<W>) -> fmt::Result {
         match self {
-            Fault::WrongArguments => write!(f, "usage: report STYLE NAME START END MESSAGE"),
-            Fault::CannotReadInput => write!(f, "report: cannot read input"),
-            Fault::NotUtf8 => write!(f, "report: input is not UTF-8"),
-            Fault::CannotRender(error) => write!(f, "report: {error}"),
-            Fault::BadScript(text) => write!(f, "{text}"),
-            Fault::CannotWriteOutput => write!(f, "report: cannot write output"),
+            RunError::WrongArguments => write!(f, "usage: report STYLE NAME START END MESSAGE"),
+            RunError::CannotReadInput => write!(f, "report: cannot read input"),
+            RunError::NotUtf8 => write!(f, "report: input is not UTF-8"),
+            RunError::CannotRender(error) => write!(f, "report: {error}"),
+            RunError::BadScript(text) => write!(f, "{text}"),
+            RunError::CannotWriteOutput => write!(f, "report: cannot write output"),
         }
     }
 }
 
-impl std::error::Error for Fault {}
+impl std::error::Error for RunError {}

@@ -11,14 +11,14 @@ use Rattle.program_io.specs.declared.arguments.ArgumentsError.{ArgumentsError}
 use Rattle.program_io.specs.declared.arguments.ArgumentsError.TheVariants as arguments
 use Rattle.program_io.specs.declared.input.InputError.{InputError}
 use Rattle.program_io.specs.declared.input.InputError.TheVariants as input
-use Rattle.report.specs.declared.fault.Fault.{Fault}
-use Rattle.report.specs.declared.fault.Fault.TheVariants.{WrongArguments, CannotReadInput, NotUtf8, CannotRender, BadScript, CannotWriteOutput}
+use Rattle.report.specs.declared.run_error.RunError.{RunError}
+use Rattle.report.specs.declared.run_error.RunError.TheVariants.{WrongArguments, CannotReadInput, NotUtf8, CannotRender, BadScript, CannotWriteOutput}
 use Rattle.report.specs.RenderedTexts.{rendering_of}
 use Rattle.report_script.specs.Requests.{CommandView}
 
 -- the program's status: 0 without an error, 2 for wrong arguments, 3 or 1 for a script's error, and
 -- 1 for any other
-abbrev pub IsStatusOf : Result (Unit {0}) Fault → ℕ → Type 0
+abbrev pub IsStatusOf : Result (Unit {0}) RunError → ℕ → Type 0
 IsStatusOf (Ok done) status = status ≡ 0
 IsStatusOf (Err WrongArguments) status = status ≡ 2
 IsStatusOf (Err CannotReadInput) status = status ≡ 1
@@ -29,35 +29,35 @@ IsStatusOf (Err CannotWriteOutput) status = status ≡ 1
 
 -- the line of an error, without its newline; that of rendering has the text of its error, that of a
 -- script its diagnostic
-abbrev pub fault_text : Fault → Option (List ℕ)
-fault_text WrongArguments = Some (codes "usage: report STYLE NAME START END MESSAGE")
-fault_text CannotReadInput = Some (codes "report: cannot read input")
-fault_text NotUtf8 = Some (codes "report: input is not UTF-8")
-fault_text (CannotRender error) = option_map (λ text. codes "report: " ++ text) (error_text error)
-fault_text (BadScript text) = Some (string_bytes text)
-fault_text CannotWriteOutput = Some (codes "report: cannot write output")
+abbrev pub error_line : RunError → Option (List ℕ)
+error_line WrongArguments = Some (codes "usage: report STYLE NAME START END MESSAGE")
+error_line CannotReadInput = Some (codes "report: cannot read input")
+error_line NotUtf8 = Some (codes "report: input is not UTF-8")
+error_line (CannotRender error) = option_map (λ text. codes "report: " ++ text) (error_text error)
+error_line (BadScript text) = Some (string_bytes text)
+error_line CannotWriteOutput = Some (codes "report: cannot write output")
 
 -- the error of arguments that are not known, and of an input that is no text
-abbrev pub arguments_fault : ArgumentsError → Fault
-arguments_fault arguments.NotUtf8 = WrongArguments
-arguments_fault arguments.OutOfMemory = CannotRender OutOfMemory
+abbrev pub arguments_error : ArgumentsError → RunError
+arguments_error arguments.NotUtf8 = WrongArguments
+arguments_error arguments.OutOfMemory = CannotRender OutOfMemory
 
-abbrev pub input_fault : InputError → Fault
-input_fault input.Unreadable = CannotReadInput
-input_fault input.NotUtf8 = NotUtf8
+abbrev pub input_error : InputError → RunError
+input_error input.Unreadable = CannotReadInput
+input_error input.NotUtf8 = NotUtf8
 
 -- what an error says of the request and of the input
-abbrev pub FaultMeans : Fault → CommandView → List ℕ → Type 0
-FaultMeans WrongArguments command input = ⊥
-FaultMeans CannotReadInput command input = Unit {0}
-FaultMeans NotUtf8 command input = ¬ (IsUtf8 input)
-FaultMeans (CannotRender error) command input = Unit {0}
-FaultMeans (BadScript text) command input = rendering_of command input ≡ Err (string_bytes text)
-FaultMeans CannotWriteOutput command input =
+abbrev pub ErrorMeans : RunError → CommandView → List ℕ → Type 0
+ErrorMeans WrongArguments command input = ⊥
+ErrorMeans CannotReadInput command input = Unit {0}
+ErrorMeans NotUtf8 command input = ¬ (IsUtf8 input)
+ErrorMeans (CannotRender error) command input = Unit {0}
+ErrorMeans (BadScript text) command input = rendering_of command input ≡ Err (string_bytes text)
+ErrorMeans CannotWriteOutput command input =
     IsUtf8 input × ((text : List ℕ) × (rendering_of command input ≡ Ok text))
 
 -- the fact holds of the diagnostic, where the error is that of a script
-abbrev pub IfBadScript : Fault → (String Global → Type 0) → Type 0
+abbrev pub IfBadScript : RunError → (String Global → Type 0) → Type 0
 IfBadScript (BadScript text) P = P text
 IfBadScript _ P = Unit {0}
 
@@ -65,8 +65,8 @@ IfBadScript _ P = Unit {0}
 abbrev pub failed_output_line : List ℕ
 failed_output_line = codes "report: cannot write output\n"
 
--- the output is unchanged, or all of it was rendered: the status is 0, or it is 1 and what `faults`
--- has received is a prefix of the line of a failed output
+-- the output is unchanged, or all of it was rendered: the status is 0, or it is 1 and what
+-- `error_output` has received is a prefix of the line of a failed output
 abbrev pub UnchangedUnlessRendered : Type 0 → ℕ → Option (List ℕ) → Option (List ℕ) → Type 0
 UnchangedUnlessRendered is_unchanged status old new =
     is_unchanged ⊎ ((status ≡ 0) ⊎ ((status ≡ 1) × AppendsPrefix old new failed_output_line))
