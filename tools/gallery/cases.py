@@ -147,7 +147,7 @@ def written(case, kind, texts):
     if colours == 'svg' and kind == 'ok':
         drawn = document(list(glyphs(drawn)))
     shown = ''.join(SHOWN.get(c, c) for c in drawn)
-    return '== %s\n%s%s' % (case.name, shown, 'refused: %s\n' % texts[0] if kind == 'err' else '')
+    return '== %s\n%s%s' % (case.name, shown, 'failed: %s\n' % texts[0] if kind == 'err' else '')
 
 
 def section(name):

@@ -8,9 +8,9 @@ ghost use Rattle.codespan_picture.specs.Picture.{label_of};
 ghost use Rattle.codespan_plan.specs.AnnotationViews.{Adds, kind_view, part_from};
 ghost use Rattle.codespan_plan.specs.Annotations.{annotation_if_any};
 
-use codespan_picture::arguments::MultiLabel;
 use codespan_base::diagnostic::Label;
 use codespan_base::files::Error;
+use codespan_picture::arguments::MultiLabel;
 use std::ops::Range;
 
 pub mod by_line;

@@ -8,9 +8,7 @@ ghost use Rattle.codespan_plan.specs.OutputPlans.{IsCollected, IsCollectedInTurn
 
 use crate::annotation::Annotation;
 use crate::annotation::order::put_in_order;
-use crate::collect::label_annotations::{
-    FoundAnnotations, LabelIndices, collect_label,
-};
+use crate::collect::label_annotations::{FoundAnnotations, LabelIndices, collect_label};
 use crate::collect::label_span::LabelSpan;
 use crate::collect::labeled_files::{LabeledFile, add_label, file_index};
 use crate::collect::padding::PaddingWidth;

@@ -10,10 +10,10 @@ ghost use Rattle.codespan_picture.specs.Picture.{label_of};
 ghost use Rattle.codespan_plan.specs.TextLoci.{IsTextLocus};
 ghost use Rattle.codespan_plan.specs.Loci.{least_with, no_start, start_byte, start_with};
 
-use codespan_picture::arguments::Locus;
 use codespan_base::diagnostic::text::display_text;
 use codespan_base::diagnostic::{Label, LabelStyle};
 use codespan_base::files::{Error, Files};
+use codespan_picture::arguments::Locus;
 use std::alloc::Global;
 
 /// Returns whether a label is primary.

@@ -11,10 +11,10 @@ ghost use Rattle.codespan_plan.specs.SnippetLineViews.{lookups_of_filled};
 ghost use Rattle.codespan_plan.specs.SourceFiles.{EndsBefore, failure_of, failure_unless_past_end, model_of};
 ghost use Rattle.codespan_plan.specs.TextLoci.{IsTextLocus};
 
-use codespan_picture::arguments::Locus;
 use crate::annotation::LineInfo;
 use codespan_base::diagnostic::text::display_text;
 use codespan_base::files::{Error, Files};
+use codespan_picture::arguments::Locus;
 use std::alloc::Global;
 
 /// A file of a file database.

@@ -4,8 +4,8 @@ use Rattle.std.proofs.lemmas.List.{map-append}
 use Rattle.std.specs.Prelude.{slice_set, slice_index_or}
 use Rattle.gallery_cases.specs.declared.case.Case.{Case}
 use Rattle.gallery_cases.specs.declared.case.File.{File}
-use Rattle.gallery_cases.specs.declared.fault.LineError.{LineError}
-use Rattle.gallery_cases.specs.declared.fault.LineError.TheVariants.{NoFile, OutOfMemory}
+use Rattle.gallery_cases.specs.declared.errors.LineError.{LineError}
+use Rattle.gallery_cases.specs.declared.errors.LineError.TheVariants.{NoFile, OutOfMemory}
 use Rattle.gallery_cases.specs.declared.statement.Statement.{Statement}
 use Rattle.gallery_cases.specs.Cases.{Applies, AppliesToLast, FailsAtLast, IsSource, ContinuesSource, file_view}
 

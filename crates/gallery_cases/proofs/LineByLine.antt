@@ -5,8 +5,8 @@ use Rattle.std.specs.Option.{option_map}
 use Rattle.std.proofs.lemmas.List.{append-nil, map-append, take-map, take_more}
 use Rattle.std.proofs.lemmas.Option.{slice_get-map, slice_get-get_or}
 use Rattle.gallery_cases.specs.declared.case.Case.{Case}
-use Rattle.gallery_cases.specs.declared.fault.Fault.TheVariants.{Line}
-use Rattle.gallery_cases.specs.declared.fault.LineError.{LineError}
+use Rattle.gallery_cases.specs.declared.errors.RunError.TheVariants.{Line}
+use Rattle.gallery_cases.specs.declared.errors.LineError.{LineError}
 use Rattle.gallery_cases.specs.Cases.{AppliesLine, AppliesLines, IsLineError, IsFirstLineError}
 use Rattle.gallery_cases.specs.Galleries.{title, IsSection, IsGallery}
 

@@ -8,10 +8,10 @@ use Rattle.gallery_cases.specs.declared.case.Case.{Case}
 use Rattle.gallery_cases.specs.declared.case.Colors.TheVariants.{Plain}
 use Rattle.gallery_cases.specs.declared.case.File.{File}
 use Rattle.gallery_cases.specs.declared.case.Table.TheVariants.{Several}
-use Rattle.gallery_cases.specs.declared.fault.Fault as faults
-use Rattle.gallery_cases.specs.declared.fault.Fault.TheVariants as fault
-use Rattle.gallery_cases.specs.declared.fault.LineError.{LineError}
-use Rattle.gallery_cases.specs.declared.fault.LineError.TheVariants.{NoCase, NoFile, OutOfMemory}
+use Rattle.gallery_cases.specs.declared.errors.RunError.{RunError}
+use Rattle.gallery_cases.specs.declared.errors.RunError.TheVariants as run_error
+use Rattle.gallery_cases.specs.declared.errors.LineError.{LineError}
+use Rattle.gallery_cases.specs.declared.errors.LineError.TheVariants.{NoCase, NoFile, OutOfMemory}
 use Rattle.gallery_cases.specs.declared.statement.Line.{Line}
 use Rattle.gallery_cases.specs.declared.statement.Line.TheVariants.{Ignored, Title, Description}
 use Rattle.gallery_cases.specs.declared.statement.Statement.{Statement}
@@ -149,10 +149,10 @@ IsLineError line before line_error =
 
 -- the error is the first line that has an error, by its number from 1, and the error; or a
 -- failed allocation
-abbrev pub IsFirstLineError : List (List ℕ) → faults.Fault → Type 0
-IsFirstLineError lines (fault.Line number line_error) =
+abbrev pub IsFirstLineError : List (List ℕ) → RunError → Type 0
+IsFirstLineError lines (run_error.Line number line_error) =
     (k : ℕ) × (line : List ℕ) × (before : List Case) × (number ≡ k + 1)
     × (slice_get lines k ≡ Some line) × AppliesLines (take k lines) [] before
     × IsLineError line before line_error
-IsFirstLineError lines fault.OutOfMemory = Unit {0}
+IsFirstLineError lines run_error.OutOfMemory = Unit {0}
 IsFirstLineError lines _ = ⊥

@@ -2,8 +2,8 @@
 use Rattle.std.specs.Prelude.{ℕ, ◌==◌, Bool, true, List, [], ◌∷◌, Ok, Err}
 use Rattle.std.specs.List.{before_first, after_first}
 use Rattle.std.specs.Str.Parse.{ParsesUnsigned}
-use Rattle.gallery_cases.specs.declared.fault.LineError.{LineError}
-use Rattle.gallery_cases.specs.declared.fault.LineError.TheVariants.{BadNumber}
+use Rattle.gallery_cases.specs.declared.errors.LineError.{LineError}
+use Rattle.gallery_cases.specs.declared.errors.LineError.TheVariants.{BadNumber}
 
 -- the byte that separates fields: one space
 abbrev pub is_space : ℕ → Bool

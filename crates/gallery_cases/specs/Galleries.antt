@@ -30,7 +30,7 @@ shown output = flat_map shown_byte output
 abbrev pub IsErrorLine : Result (Unit {0}) Error → List ℕ → Type 0
 IsErrorLine (Ok done) error_line = error_line ≡ []
 IsErrorLine (Err error) error_line =
-    IfSome (error_text error) (λ text. error_line ≡ codes "refused: " ++ text ++ 10 ∷ [])
+    IfSome (error_text error) (λ text. error_line ≡ codes "failed: " ++ text ++ 10 ∷ [])
 
 -- the section of a case after its heading: the output as it is shown, and, if rendering failed, a
 -- line of the error; in plain text the output is the rendered case, and as SVG the document that

@@ -7,8 +7,8 @@ use Rattle.codespan_base.specs.StyleTables.{default_styles}
 use Rattle.codespan_styled.specs.StyleSheet.{style_sheet}
 use Rattle.gallery_cases.specs.declared.case.Case.{Case}
 use Rattle.gallery_cases.specs.declared.document.Format.{Format}
-use Rattle.gallery_cases.specs.declared.fault.Fault.{Fault}
-use Rattle.gallery_cases.specs.declared.fault.Fault.TheVariants.{CannotReadInput, Line, NotUtf8, OutOfMemory, CannotRender, UnknownCase, WrongArguments}
+use Rattle.gallery_cases.specs.declared.errors.RunError.{RunError}
+use Rattle.gallery_cases.specs.declared.errors.RunError.TheVariants.{CannotReadInput, Line, NotUtf8, OutOfMemory, CannotRender, UnknownCase, WrongArguments}
 use Rattle.gallery_cases.specs.declared.request.Request.{Request}
 use Rattle.gallery_cases.specs.declared.request.Request.TheVariants as requests
 use Rattle.gallery_cases.specs.Cases.{IsFirstLineError, AppliesLines}
@@ -58,7 +58,7 @@ IsResponse request input bytes =
     (cases : List Case) × AppliesLines (lines input) [] cases × IsResponseOf request cases bytes
 
 -- why a request of cases fails: no case has the name, rendering failed, or an allocation failed
-abbrev pub IsFailureOf : RequestView → List Case → Fault → Type 0
+abbrev pub IsFailureOf : RequestView → List Case → RunError → Type 0
 IsFailureOf request cases (UnknownCase name) =
     (format : Format) × (request ≡ Document format (string_bytes name))
     × (case_named (string_bytes name) cases ≡ None)
@@ -67,26 +67,26 @@ IsFailureOf request cases OutOfMemory = Unit {0}
 IsFailureOf request cases _ = ⊥
 
 -- what an error says of the input: it is its first error, or no case has the requested name
-abbrev pub FaultMeans : Option RequestView → Fault → List ℕ → Type 0
-FaultMeans request (Line number line_error) input =
+abbrev pub ErrorMeans : Option RequestView → RunError → List ℕ → Type 0
+ErrorMeans request (Line number line_error) input =
     IsFirstLineError (lines input) (Line number line_error)
-FaultMeans request (UnknownCase name) input =
+ErrorMeans request (UnknownCase name) input =
     (format : Format) × (request ≡ Some (Document format (string_bytes name)))
     × ((cases : List Case) × AppliesLines (lines input) [] cases
     × (case_named (string_bytes name) cases ≡ None))
-FaultMeans request _ input = Unit {0}
+ErrorMeans request _ input = Unit {0}
 
 -- the error of arguments that are not known, and of an input that is no text
-abbrev pub arguments_fault : ArgumentsError → Fault
-arguments_fault arguments.NotUtf8 = WrongArguments
-arguments_fault arguments.OutOfMemory = OutOfMemory
+abbrev pub arguments_error : ArgumentsError → RunError
+arguments_error arguments.NotUtf8 = WrongArguments
+arguments_error arguments.OutOfMemory = OutOfMemory
 
-abbrev pub input_fault : InputError → Fault
-input_fault input.Unreadable = CannotReadInput
-input_fault input.NotUtf8 = NotUtf8
+abbrev pub input_error : InputError → RunError
+input_error input.Unreadable = CannotReadInput
+input_error input.NotUtf8 = NotUtf8
 
 -- the status of an outcome
-abbrev pub IsStatusOf : Result (Unit {0}) Fault → ℕ → Type 0
+abbrev pub IsStatusOf : Result (Unit {0}) RunError → ℕ → Type 0
 IsStatusOf (Ok done) status = status ≡ 0
 IsStatusOf (Err WrongArguments) status = status ≡ 2
 IsStatusOf (Err _) status = status ≡ 1

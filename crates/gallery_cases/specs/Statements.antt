@@ -3,8 +3,8 @@ use Rattle.std.specs.Prelude.{◌≡◌, ◌≢◌, ◌⊎◌, ℕ, true, false,
 use Rattle.codespan_base.specs.declared.diagnostic.Label.{Label}
 use Rattle.codespan_base.specs.declared.diagnostic.LabelStyle.{LabelStyle}
 use Rattle.codespan_base.specs.declared.diagnostic.LabelStyle.TheVariants as styles
-use Rattle.gallery_cases.specs.declared.fault.LineError.{LineError}
-use Rattle.gallery_cases.specs.declared.fault.LineError.TheVariants.{UnknownWord, UnknownName, BadNumber, BadEscape, NoCase, NoFile, OutOfMemory}
+use Rattle.gallery_cases.specs.declared.errors.LineError.{LineError}
+use Rattle.gallery_cases.specs.declared.errors.LineError.TheVariants.{UnknownWord, UnknownName, BadNumber, BadEscape, NoCase, NoFile, OutOfMemory}
 use Rattle.gallery_cases.specs.declared.statement.Context as contexts
 use Rattle.gallery_cases.specs.declared.statement.Line.{Line}
 use Rattle.gallery_cases.specs.declared.statement.Line.TheVariants.{Ignored, Title, Description}

@@ -4,9 +4,9 @@ ghost use Rattle.std.specs.Prelude.{◌≡◌, ◌⊎◌, [], ◌∷◌, ◌++�
 ghost use Rattle.codespan_base.specs.ConfigEquality.{IsChars};
 ghost use Rattle.gallery_cases.specs.Cases.{IsNew, Applies, IsSource, ContinuesSource, file_view};
 ghost use Rattle.gallery_cases.specs.Words.{chars_of};
-ghost use Rattle.gallery_cases.specs.declared.fault.LineError.TheVariants.{NoFile, OutOfMemory};
+ghost use Rattle.gallery_cases.specs.declared.errors.LineError.TheVariants.{NoFile, OutOfMemory};
 
-use crate::fault::LineError;
+use crate::errors::LineError;
 use crate::statement::{Context, Statement};
 use codespan_reporting::diagnostic::Diagnostic;
 use codespan_reporting::term::{Chars, Config};

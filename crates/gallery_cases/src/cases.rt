@@ -13,7 +13,7 @@ ghost use Rattle.std.specs.Str.Lines.{lines};
 ghost use Rattle.gallery_cases.specs.Cases.{AppliesLine, AppliesLines, IsLineError, IsFirstLineError, AppliesToLast, FailsAtLast};
 
 use crate::case::Case;
-use crate::fault::{Fault, LineError};
+use crate::errors::{LineError, RunError};
 use crate::statement::{Line, Statement, parse_line};
 use std::alloc::Global;
 
@@ -23,7 +23,7 @@ use std::alloc::Global;
 ///
 /// The error of the first line that has one, with the line's number from 1, and `OutOfMemory` if
 /// an allocation fails.
-pub fn parse_cases(alloc: Global, input: &str) -> Result<Vec<Case<'_>>, Fault>
+pub fn parse_cases(alloc: Global, input: &str) -> Result<Vec<Case<'_>>, RunError>
     ensures cases { IfOk result (λ cases. AppliesLines (lines input.now) [] cases.items) }
     ensures line_error { IfErr result (IsFirstLineError (lines input.now)) }
 {
@@ -32,7 +32,7 @@ pub fn parse_cases(alloc: Global, input: &str) -> Result<Vec<Case<'_>>, Fault>
 }
 
 /// Returns the cases of lines.
-fn apply_lines<'input>(alloc: Global, lines: &[&'input str]) -> Result<Vec<Case<'input>>, Fault>
+fn apply_lines<'input>(alloc: Global, lines: &[&'input str]) -> Result<Vec<Case<'input>>, RunError>
     ensures cases { IfOk result (λ cases.
         AppliesLines (map (λ line. line.now) lines.now) [] cases.items) }
     ensures line_error { IfErr result (IsFirstLineError (map (λ line. line.now) lines.now)) }
@@ -40,7 +40,7 @@ fn apply_lines<'input>(alloc: Global, lines: &[&'input str]) -> Result<Vec<Case<
     let mut cases = Vec::new(alloc);
     for (index, line) in lines.iter().enumerate() {
         if let Err(line_error) = apply_line(alloc, &mut cases, line) {
-            return Err(Fault::Line(index + 1, line_error));
+            return Err(RunError::Line(index + 1, line_error));
         }
     }
     Ok(cases)

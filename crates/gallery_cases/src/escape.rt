@@ -3,9 +3,9 @@
 ghost use Rattle.std.specs.Prelude.{◌≡◌, ◌⊎◌, ℕ, ◌≤◌, ◌<◌, length, IfSome, MatchResult, Some, None, string_bytes};
 ghost use Rattle.std.specs.Option.{option_map};
 ghost use Rattle.gallery_cases.specs.Escapes.{Unescapes, ReadsEscape, ReadsNumbered, IsNumbered};
-ghost use Rattle.gallery_cases.specs.declared.fault.LineError.TheVariants.{BadEscape, OutOfMemory};
+ghost use Rattle.gallery_cases.specs.declared.errors.LineError.TheVariants.{BadEscape, OutOfMemory};
 
-use crate::fault::LineError;
+use crate::errors::LineError;
 use std::alloc::Global;
 
 /// Returns the text that an escaped one stands for.

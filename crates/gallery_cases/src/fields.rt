@@ -3,9 +3,9 @@
 ghost use Rattle.std.specs.Prelude.{◌≡◌, IfOk, IfErr};
 ghost use Rattle.std.specs.Str.Parse.{ParsesUnsigned};
 ghost use Rattle.gallery_cases.specs.Fields.{field_of, past_space, IsNumber, IsNoNumber, is_ignored};
-ghost use Rattle.gallery_cases.specs.declared.fault.LineError.TheVariants.{BadNumber};
+ghost use Rattle.gallery_cases.specs.declared.errors.LineError.TheVariants.{BadNumber};
 
-use crate::fault::LineError;
+use crate::errors::LineError;
 
 /// Returns what precedes the first space of a text, and what follows it; the whole text and an
 /// empty one if there is no space.

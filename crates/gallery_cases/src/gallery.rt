@@ -79,7 +79,7 @@ fn add_failure(
     match rendered {
         Ok(()) => Ok(()),
         Err(error) => {
-            let line = format!(in alloc; "refused: {error}\n")?;
+            let line = format!(in alloc; "failed: {error}\n")?;
             gallery.extend_from_slice(line.as_bytes())
         }
     }

@@ -3,12 +3,12 @@
 ghost use Rattle.std.specs.Prelude.{◌≡◌, ◌≢◌, ◌≤◌, ◌↔◌, ℕ, List, MatchResult, None, OnOk, IfErr, IfOk, IfSome, IsErrAnd, IsErrOf, IsOkAnd, map, string_bytes};
 ghost use Rattle.std.specs.Io.KnownBytes.{Appends};
 ghost use Rattle.std.specs.Option.{option_copied};
-ghost use Rattle.gallery_cases.specs.Requests.{IsResponse, IsResponseOf, FaultMeans, IsStatusOf, IsFailureOf, request_of, case_named, request_view};
+ghost use Rattle.gallery_cases.specs.Requests.{IsResponse, IsResponseOf, ErrorMeans, IsStatusOf, IsFailureOf, request_of, case_named, request_view};
 
 use crate::case::Case;
 use crate::cases::parse_cases;
 use crate::document::{default_style_sheet, document};
-use crate::fault::Fault;
+use crate::errors::RunError;
 use crate::gallery::render_cases;
 use crate::request::Request;
 use codespan_reporting::files::Error;
@@ -44,16 +44,16 @@ pub fn run<R: Read, W: Write, E: Write>(
 
 /// Writes the error, if there is one, in one line, and returns the program's status. An error of
 /// `error_output` is ignored.
-pub fn conclude<E: Write>(outcome: Result<(), Fault>, error_output: &mut E) -> u8
+pub fn conclude<E: Write>(outcome: Result<(), RunError>, error_output: &mut E) -> u8
     ensures status { IsStatusOf outcome result }
     ensures no_error { OnOk outcome (error_output.new ≡ error_output.old) }
 {
     match outcome {
         Ok(()) => 0,
-        Err(fault) => {
-            let _ = fault.write_line(error_output);
-            match fault {
-                Fault::WrongArguments => 2,
+        Err(error) => {
+            let _ = error.write_line(error_output);
+            match error {
+                RunError::WrongArguments => 2,
                 _ => 1,
             }
         }
@@ -66,21 +66,21 @@ fn show<R: Read, W: Write>(
     args: &[String],
     input: &mut R,
     output: &mut W,
-) -> Result<(), Fault>
-    ensures usage { IsErrOf result Fault.WrongArguments
+) -> Result<(), RunError>
+    ensures usage { IsErrOf result RunError.WrongArguments
         ↔ (request_of (map string_bytes args.now) ≡ None) }
-    ensures unread { IsErrOf result Fault.WrongArguments → input.new ≡ input.old }
+    ensures unread { IsErrOf result RunError.WrongArguments → input.new ≡ input.old }
     ensures rendered { OnOk result (IfSome (request_of (map string_bytes args.now))
         (λ request. IfSome (R.remaining input.old) (λ text.
         (response : List ℕ) × IsResponse request text response
         × Appends (W.contents output.old) (W.contents output.new) response))) }
-    ensures reported { IfErr result (λ fault.
+    ensures reported { IfErr result (λ error.
         IfSome (R.remaining input.old)
-        (FaultMeans (request_of (map string_bytes args.now)) fault)) }
-    ensures unchanged { IfErr result (λ fault. fault ≢ Fault.CannotWriteOutput
+        (ErrorMeans (request_of (map string_bytes args.now)) error)) }
+    ensures unchanged { IfErr result (λ error. error ≢ RunError.CannotWriteOutput
         → output.new ≡ output.old) }
 {
-    let request = Request::from_arguments(args).ok_or(Fault::WrongArguments)?;
+    let request = Request::from_arguments(args).ok_or(RunError::WrongArguments)?;
     let text = read_text(alloc, input)?;
     let cases = parse_cases(alloc, text.as_str())?;
     let response = response(alloc, request, cases.as_slice())?;
@@ -88,19 +88,19 @@ fn show<R: Read, W: Write>(
 }
 
 /// Writes the bytes to the output and flushes it.
-fn write_bytes<W: Write>(output: &mut W, bytes: &[u8]) -> Result<(), Fault>
+fn write_bytes<W: Write>(output: &mut W, bytes: &[u8]) -> Result<(), RunError>
     ensures written { OnOk result (Appends (W.contents output.old)
         (W.contents output.new) bytes.now) }
-    ensures failed { IfErr result (λ fault. fault ≡ Fault.CannotWriteOutput) }
+    ensures failed { IfErr result (λ error. error ≡ RunError.CannotWriteOutput) }
 {
     match write_and_flush(output, bytes) {
         Ok(()) => Ok(()),
-        Err(_) => Err(Fault::CannotWriteOutput),
+        Err(_) => Err(RunError::CannotWriteOutput),
     }
 }
 
 /// Renders what is requested of cases.
-fn response(alloc: Global, request: Request<'_>, cases: &[Case<'_>]) -> Result<Vec<u8>, Fault>
+fn response(alloc: Global, request: Request<'_>, cases: &[Case<'_>]) -> Result<Vec<u8>, RunError>
     ensures responds { IfOk result (λ bytes.
         IsResponseOf (request_view request.entry) cases.now bytes.items) }
     ensures fails { IfErr result (IsFailureOf (request_view request.entry) cases.now) }
@@ -110,7 +110,7 @@ fn response(alloc: Global, request: Request<'_>, cases: &[Case<'_>]) -> Result<V
         Request::Styles => bytes_of(default_style_sheet(alloc)),
         Request::Document(format, name) => {
             let Some(case) = named(cases, name) else {
-                return Err(Fault::UnknownCase(String::from_str(alloc, name)?));
+                return Err(RunError::UnknownCase(String::from_str(alloc, name)?));
             };
             bytes_of(document(alloc, case, format))
         }
@@ -118,14 +118,14 @@ fn response(alloc: Global, request: Request<'_>, cases: &[Case<'_>]) -> Result<V
 }
 
 /// Returns the bytes of a document.
-fn bytes_of(document: Result<String, Error>) -> Result<Vec<u8>, Fault>
+fn bytes_of(document: Result<String, Error>) -> Result<Vec<u8>, RunError>
     ensures { MatchResult result
         (λ bytes. IsOkAnd document (λ text. bytes.items ≡ string_bytes text))
-        (λ fault. IsErrAnd document (λ error. fault ≡ Fault.CannotRender error)) }
+        (λ run_error. IsErrAnd document (λ error. run_error ≡ RunError.CannotRender error)) }
 {
     match document {
         Ok(document) => Ok(document.into_bytes()),
-        Err(error) => Err(Fault::CannotRender(error)),
+        Err(error) => Err(RunError::CannotRender(error)),
     }
 }
 

@@ -3,12 +3,12 @@
 ghost use Rattle.std.specs.Prelude.{◌≡◌, Some, IfOk, IfErr};
 ghost use Rattle.std.specs.Option.{ok_or};
 ghost use Rattle.gallery_cases.specs.Statements.{ParsesTo, Describes, IsWrong, IsWrongLine, style_word};
-ghost use Rattle.gallery_cases.specs.declared.fault.LineError.TheVariants.{UnknownName};
+ghost use Rattle.gallery_cases.specs.declared.errors.LineError.TheVariants.{UnknownName};
 ghost use Rattle.gallery_cases.specs.declared.words.Word.TheVariants as words;
 
 use crate::case::{CharacterSet, Colors, Table};
+use crate::errors::LineError;
 use crate::escape::unescape;
-use crate::fault::LineError;
 use crate::fields::{cut, cut_number, is_ignored, parse_number};
 use crate::words::{
     Word, parse_characters, parse_colors, parse_layout, parse_severity, parse_style, parse_table,

@@ -17,9 +17,9 @@
 //! not UTF-8 are wrong; where memory for them runs out, the status is 1.
 #![tactic(auto)]
 
-mod run_error;
 mod rendering;
 mod run;
+mod run_error;
 #[cfg(test)]
 mod script_tests;
 #[cfg(test)]

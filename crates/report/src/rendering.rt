@@ -7,12 +7,12 @@ ghost use Rattle.report_script.specs.Requests.{command_view};
 ghost use Rattle.report_script.specs.Scripts.{read_script};
 
 use crate::run_error::RunError;
-use report_script::messages::{of_fault, of_request, of_script};
-use report_script::request::{Command, Request};
-use report_script::script::{ScriptError, parse_script};
 use codespan_reporting::diagnostic::Diagnostic;
 use codespan_reporting::files::{Error, SimpleFile};
 use codespan_reporting::term::{Config, DisplayStyle, emit_into_string};
+use report_script::messages::{of_fault, of_request, of_script};
+use report_script::request::{Command, Request};
+use report_script::script::{ScriptError, parse_script};
 use std::alloc::Global;
 
 /// Returns the requested output.

@@ -8,11 +8,11 @@ ghost use Rattle.program_io.specs.Output.{AppendsPrefix};
 ghost use Rattle.report.specs.RunErrors.{ErrorMeans, IfBadScript, IsStatusOf, UnchangedUnlessRendered, failed_output_line};
 ghost use Rattle.report_script.specs.Requests.{WhereKnown, command_of};
 
-use crate::run_error::RunError;
 use crate::rendering::render;
-use report_script::request::Command;
+use crate::run_error::RunError;
 use program_io::input::read_text;
 use program_io::output::write_and_flush;
+use report_script::request::Command;
 use std::alloc::Global;
 use std::io::{Read, Write};
 

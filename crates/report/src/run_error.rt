@@ -48,7 +48,10 @@ impl RunError {
     {
         match self {
             // The contract of `writeln!` leaves open what a failed one has written.
-            RunError::CannotWriteOutput => write_whole(error_output, b"report: cannot write output\n"),
+            RunError::CannotWriteOutput => write_whole(
+                error_output,
+                b"report: cannot write output\n",
+            ),
             _ => writeln!(error_output, "{self}"),
         }
     }

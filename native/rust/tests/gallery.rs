@@ -103,7 +103,7 @@ fn section(case: &Case) -> String {
         }
     }
     if let Err(error) = result {
-        section += &format!("refused: {error}\n");
+        section += &format!("failed: {error}\n");
     }
     section.pop();
     section

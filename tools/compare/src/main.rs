@@ -1,6 +1,6 @@
 //! `compare < CASES` renders cases of the gallery by the Rust crate, and writes for each `NAME KIND
 //! LENGTH`, and then a text of that many bytes and a newline. KIND is `drawn`, and the text is the
-//! output; or `refused`, and the text is the error, a newline, and what was written before it; or
+//! output; or `failed`, and the text is the error, a newline, and what was written before it; or
 //! `panicked`, with an empty text. A case in
 //! colors is rendered with escape sequences.
 
@@ -97,7 +97,7 @@ fn main() -> io::Result<()> {
             Ok(Ok(picture)) => write(&mut output, &case.name, "drawn", &picture)?,
             Ok(Err((error, drawn))) => {
                 let text = [error.as_bytes(), b"\n", &drawn].concat();
-                write(&mut output, &case.name, "refused", &text)?
+                write(&mut output, &case.name, "failed", &text)?
             }
             Err(_) => write(&mut output, &case.name, "panicked", b"")?,
         }

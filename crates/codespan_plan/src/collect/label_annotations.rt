@@ -10,9 +10,7 @@ ghost use Rattle.codespan_plan.specs.SourceFiles.{EndsBefore, model_of};
 ghost use Rattle.codespan_plan.specs.AnnotationViews.{IsLineOf, kind_view};
 ghost use Rattle.codespan_plan.specs.LabelSpans.{IsFarInside, line_of_end, line_of_start};
 
-use crate::annotation::{
-    Annotation, AnnotationKind, LineInfo, MultiPart, push_annotation,
-};
+use crate::annotation::{Annotation, AnnotationKind, LineInfo, MultiPart, push_annotation};
 use crate::collect::label_span::{LabelSpan, label_lines};
 use crate::collect::padding::PaddingWidth;
 use crate::source_file::SourceFile;

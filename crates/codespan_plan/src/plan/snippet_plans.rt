@@ -9,7 +9,6 @@ ghost use Rattle.codespan_plan.specs.AnnotationViews.{IsOfFiles, annotation_view
 ghost use Rattle.codespan_plan.specs.LabeledFiles.{ids_view};
 ghost use Rattle.codespan_plan.specs.SnippetPlans.{ArePlansOf, plans_failure};
 
-use codespan_picture::arguments::Locus;
 use crate::annotation::groups::file_len;
 use crate::collect::Collected;
 use crate::collect::labeled_files::LabeledFile;
@@ -17,6 +16,7 @@ use crate::plan::snippet_lines::{LinePlanner, SnippetLine};
 use crate::source_file::SourceFile;
 use codespan_base::files::{Error, Files};
 use codespan_base::term::Layout;
+use codespan_picture::arguments::Locus;
 use std::alloc::Global;
 
 /// The plan of a file's snippet.

@@ -12,15 +12,15 @@ ghost use Rattle.codespan_reporting.specs.Private.Rendering.{RendersRows, Writes
 ghost use Rattle.codespan_reporting.specs.Private.ViewRendering.{RendersSnippets, RendersView, output_without_labels, closing_rows};
 
 use crate::term::renderer::Renderer;
-use codespan_plan::collect::collect;
 use crate::term::views::parts::{render_diagnostic_header, render_notes};
-use codespan_plan::plan::{OutputPlan, plan_output};
 use crate::term::views::snippet::line_labels::LineLabels;
 use crate::term::views::snippet::lines::SnippetContext;
 use crate::term::views::snippet::{render_snippet, render_trailing_border};
 use codespan_base::diagnostic::Diagnostic;
 use codespan_base::files::{Error, Files};
 use codespan_base::term::{Config, WriteStyle};
+use codespan_plan::collect::collect;
+use codespan_plan::plan::{OutputPlan, plan_output};
 
 /// Renders a diagnostic in rich style: a header, a snippet for each file with a label, and the
 /// notes.

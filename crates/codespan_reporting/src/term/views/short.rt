@@ -8,12 +8,12 @@ ghost use Rattle.codespan_reporting.specs.WriteCalls.{WritesStyled};
 ghost use Rattle.codespan_reporting.specs.Private.ViewRendering.{RendersHeadersOf, RendersInStyle};
 
 use crate::term::renderer::Renderer;
-use codespan_plan::file_start::is_primary;
 use crate::term::views::parts::{render_diagnostic_header, render_notes};
-use codespan_plan::source_file::SourceFile;
 use codespan_base::diagnostic::{Diagnostic, Label};
 use codespan_base::files::{Error, Files};
 use codespan_base::term::WriteStyle;
+use codespan_plan::file_start::is_primary;
+use codespan_plan::source_file::SourceFile;
 
 /// Renders a header for each primary label of a diagnostic, with the locus of the label's start, or
 /// one header without a locus where no label is primary; in medium style the notes follow. This is

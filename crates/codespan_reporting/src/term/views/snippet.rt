@@ -10,13 +10,13 @@ ghost use Rattle.codespan_reporting.specs.Private.Rendering.{RendersRows};
 ghost use Rattle.codespan_plan.specs.SnippetLines.{DoFit};
 
 use crate::term::renderer::Renderer;
-use codespan_plan::plan::snippet_lines::SnippetLine;
-use codespan_plan::plan::snippet_plans::SnippetPlan;
 use crate::term::views::snippet::line_labels::LineLabels;
 use crate::term::views::snippet::lines::{Snippet, SnippetContext};
-use codespan_plan::source_file::SourceFile;
 use codespan_base::files::{Error, Files};
 use codespan_base::term::WriteStyle;
+use codespan_plan::plan::snippet_lines::SnippetLine;
+use codespan_plan::plan::snippet_plans::SnippetPlan;
+use codespan_plan::source_file::SourceFile;
 use std::convert::AsStr;
 
 pub mod line_labels;

@@ -2,7 +2,7 @@ use Rattle.std.proofs.Common.{List, ℕ, IfSome, map, rules, string_bytes, subst
 use Rattle.std.specs.Str.Lines.{lines}
 use Rattle.gallery_cases.specs.declared.case.Case.{Case}
 use Rattle.gallery_cases.specs.Cases.{AppliesLines}
-use Rattle.gallery_cases.specs.Requests.{IsResponseOf, FaultMeans, IsFailureOf, request_of, request_view}
+use Rattle.gallery_cases.specs.Requests.{IsResponseOf, ErrorMeans, IsFailureOf, request_of, request_view}
 use Rattle.gallery_cases.proofs.Outcomes.{responded, requested, failed}
 use Rattle.gallery_cases.proofs.run.show.Goals as goal
 
@@ -12,7 +12,7 @@ returns-in_err-response-clause-reported g c =
     let read = c.in_ok-text.ensures.bytes in
     let applied_lines = subst (λ (t : List ℕ). AppliesLines (lines t) _ c.in_ok-cases.cases.items) c.as_str.ensures.value c.in_ok-cases.ensures.cases in
     let fails = subst (λ (cs : List Case). IsFailureOf (request_view c.in_ok-request.request) cs c.in_err-response.field-0.0) c.as_slice.ensures.value c.in_err-response.ensures.fails in
-    let reported : IfSome (g.R.Read.remaining c.args.input.now) (FaultMeans (request_of (map string_bytes c.args.args.now)) c.in_err-response.field-0.0) =
+    let reported : IfSome (g.R.Read.remaining c.args.input.now) (ErrorMeans (request_of (map string_bytes c.args.args.now)) c.in_err-response.field-0.0) =
     failed _ _ _ _ c.in_ok-cases.cases.items _ is_requested read applied_lines fails in
     search rules
 

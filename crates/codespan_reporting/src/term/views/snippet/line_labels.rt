@@ -8,9 +8,9 @@ ghost use Rattle.codespan_plan.specs.AnnotationViews.{annotation_view};
 ghost use Rattle.codespan_plan.specs.SnippetLines.{lane_marks_in, single_labels_in};
 
 use crate::term::renderer::{MultiLabel, SingleLabel};
-use codespan_plan::annotation::{Annotation, AnnotationKind, multi_label, range_in_line};
 use codespan_base::diagnostic::{Label, LabelStyle};
 use codespan_base::files::Error;
+use codespan_plan::annotation::{Annotation, AnnotationKind, multi_label, range_in_line};
 use codespan_renderer::term::renderer::cached::LineMetrics;
 use std::alloc::Global;
 

@@ -12,13 +12,13 @@ ghost use Rattle.codespan_plan.specs.SourceFiles.{model_of};
 ghost use Rattle.codespan_plan.specs.SnippetLines.{Labeled, Break, do_annotations_fit, do_lane_marks_fit, does_line_fit, DoFit};
 
 use crate::term::renderer::Renderer;
-use codespan_plan::annotation::{Annotation, LineInfo};
-use codespan_plan::plan::snippet_lines::SnippetLine;
 use crate::term::views::snippet::line_labels::{LineLabels, fill_multi_labels};
-use codespan_plan::source_file::SourceFile;
 use codespan_base::diagnostic::Severity;
 use codespan_base::files::{Error, Files};
 use codespan_base::term::WriteStyle;
+use codespan_plan::annotation::{Annotation, LineInfo};
+use codespan_plan::plan::snippet_lines::SnippetLine;
+use codespan_plan::source_file::SourceFile;
 use codespan_renderer::term::renderer::{Lanes, Line};
 
 /// What all snippets of an output share.

@@ -1,8 +1,8 @@
 //! The errors of the program.
 
 ghost use Rattle.std.specs.Prelude.{◌≡◌};
-ghost use Rattle.gallery_cases.specs.declared.fault.LineError.TheVariants as line_errors;
-ghost use Rattle.gallery_cases.specs.declared.fault.Fault.TheVariants as errors;
+ghost use Rattle.gallery_cases.specs.declared.errors.LineError.TheVariants as line_errors;
+ghost use Rattle.gallery_cases.specs.declared.errors.RunError.TheVariants as run_errors;
 
 use codespan_reporting::files::Error;
 use program_io::arguments::ArgumentsError;
@@ -32,7 +32,7 @@ pub enum LineError {
 
 /// An error that ends a run.
 #[derive(Debug, Drop)]
-pub enum Fault {
+pub enum RunError {
     /// The arguments are wrong.
     WrongArguments,
     /// Reading the input failed, or an allocation for it.
@@ -51,7 +51,7 @@ pub enum Fault {
     CannotWriteOutput,
 }
 
-impl Fault {
+impl RunError {
     /// Writes the message of the error as one line.
     pub fn write_line<W: Write>(&self, error_output: &mut W) -> io::Result<()> {
         writeln!(error_output, "{self}")
@@ -77,39 +77,39 @@ impl<T: Drop> From<AllocFailed<T>> for LineError {
 }
 
 /// Arguments that are not UTF-8 are wrong.
-impl From<ArgumentsError> for Fault {
-    ghost use Rattle.gallery_cases.specs.Requests.{arguments_fault};
+impl From<ArgumentsError> for RunError {
+    ghost use Rattle.gallery_cases.specs.Requests.{arguments_error};
 
-    ghost from_gives = { λ error fault. fault ≡ arguments_fault error };
+    ghost from_gives = { λ error run_error. run_error ≡ arguments_error error };
 
-    fn from(error: ArgumentsError) -> Fault {
+    fn from(error: ArgumentsError) -> RunError {
         match error {
-            ArgumentsError::NotUtf8 => Fault::WrongArguments,
-            ArgumentsError::OutOfMemory => Fault::OutOfMemory,
+            ArgumentsError::NotUtf8 => RunError::WrongArguments,
+            ArgumentsError::OutOfMemory => RunError::OutOfMemory,
         }
     }
 }
 
 /// An input that is no text.
-impl From<InputError> for Fault {
-    ghost use Rattle.gallery_cases.specs.Requests.{input_fault};
+impl From<InputError> for RunError {
+    ghost use Rattle.gallery_cases.specs.Requests.{input_error};
 
-    ghost from_gives = { λ error fault. fault ≡ input_fault error };
+    ghost from_gives = { λ error run_error. run_error ≡ input_error error };
 
-    fn from(error: InputError) -> Fault {
+    fn from(error: InputError) -> RunError {
         match error {
-            InputError::Unreadable => Fault::CannotReadInput,
-            InputError::NotUtf8 => Fault::NotUtf8,
+            InputError::Unreadable => RunError::CannotReadInput,
+            InputError::NotUtf8 => RunError::NotUtf8,
         }
     }
 }
 
 /// Converts a failed allocation.
-impl From<AllocError> for Fault {
-    ghost from_gives = { λ _ fault. fault ≡ errors.OutOfMemory };
+impl From<AllocError> for RunError {
+    ghost from_gives = { λ _ run_error. run_error ≡ run_errors.OutOfMemory };
 
-    fn from(_error: AllocError) -> Fault {
-        Fault::OutOfMemory
+    fn from(_error: AllocError) -> RunError {
+        RunError::OutOfMemory
     }
 }
 
@@ -129,22 +129,22 @@ impl fmt::Display for LineError {
 }
 
 /// Writes the message as one line, without its newline.
-impl fmt::Display for Fault {
+impl fmt::Display for RunError {
     fn fmt<W: fmt::Write>(&self, f: &mut fmt::Formatter<W>) -> fmt::Result {
         match self {
-            Fault::WrongArguments => write!(
+            RunError::WrongArguments => write!(
                 f,
                 "usage: gallery [svg|html|terminal NAME | styles] < CASES"
             ),
-            Fault::CannotReadInput => write!(f, "gallery: cannot read input"),
-            Fault::NotUtf8 => write!(f, "gallery: input is not UTF-8"),
-            Fault::Line(number, line_error) => write!(f, "gallery: line {number}: {line_error}"),
-            Fault::UnknownCase(name) => write!(f, "gallery: no case {name}"),
-            Fault::CannotRender(error) => write!(f, "gallery: refused: {error}"),
-            Fault::OutOfMemory => write!(f, "gallery: out of memory"),
-            Fault::CannotWriteOutput => write!(f, "gallery: cannot write output"),
+            RunError::CannotReadInput => write!(f, "gallery: cannot read input"),
+            RunError::NotUtf8 => write!(f, "gallery: input is not UTF-8"),
+            RunError::Line(number, line_error) => write!(f, "gallery: line {number}: {line_error}"),
+            RunError::UnknownCase(name) => write!(f, "gallery: no case {name}"),
+            RunError::CannotRender(error) => write!(f, "gallery: cannot render: {error}"),
+            RunError::OutOfMemory => write!(f, "gallery: out of memory"),
+            RunError::CannotWriteOutput => write!(f, "gallery: cannot write output"),
         }
     }
 }
 
-impl std::error::Error for Fault {}
+impl std::error::Error for RunError {}
