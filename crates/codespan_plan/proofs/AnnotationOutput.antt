@@ -120,15 +120,15 @@ lines-rise f (x ∷ xs) h a = (
 
 -- ---- the annotations of a file
 
-module _ {Id : Type 0} {table : FileDatabase Id} (lawful : AreFiles table)
-    {config : Config} {xs : List (InFile Id)} {collected : Collected Id} (known : IsCollected table config xs collected)
-    (f : ℕ) (id : Id) (at : IsIdAt (file_ids table.same xs) f id) where
+module _ {Id : Type 0} {database : FileDatabase Id} (lawful : AreFiles database)
+    {config : Config} {xs : List (InFile Id)} {collected : Collected Id} (known : IsCollected database config xs collected)
+    (f : ℕ) (id : Id) (at : IsIdAt (file_ids database.same xs) f id) where
   -- which ids name one file, and the file that an id names
   abbrev same : Id → Id → Bool
-  same = table.same
+  same = database.same
 
   abbrev file : Id → FileModel
-  file = table.file
+  file = database.file
 
   -- the annotations as they were given
   abbrev all : List Annotation

@@ -52,15 +52,15 @@ map-changed h d snippet_line {xs} {index} {x} at new is =
 -- the file database is lawful: sameness of ids is an equivalence, the same ids name one file, and
 -- each file
 -- has a line
-pub record AreFiles {Id : Type 0} (table : FileDatabase Id) : Type 0 where
-  pub equivalence : IsEquivalence table.same
-  pub one_file : (i j : Id) → table.same i j ≡ true → table.file i ≡ table.file j
-  pub some_line : (i : Id) → 0 < line_count (table.file i)
+pub record AreFiles {Id : Type 0} (database : FileDatabase Id) : Type 0 where
+  pub equivalence : IsEquivalence database.same
+  pub one_file : (i j : Id) → database.same i j ≡ true → database.file i ≡ database.file j
+  pub some_line : (i : Id) → 0 < line_count (database.file i)
 
 -- a lawful database, whose equality of ids is this one, has such files
-pub are-files : {Id : Type 0} {table : FileDatabase Id} {same : Id → Id → Bool} → table.same ≡ same → IsEquivalence same
-    → ((i j : Id) → table.same i j ≡ true → (table.file i ≡ table.file j) × (table.failure i ≡ table.failure j))
-    → ((id : Id) → IsLawful (table.file id)) → AreFiles table
+pub are-files : {Id : Type 0} {database : FileDatabase Id} {same : Id → Id → Bool} → database.same ≡ same → IsEquivalence same
+    → ((i j : Id) → database.same i j ≡ true → (database.file i ≡ database.file j) × (database.failure i ≡ database.failure j))
+    → ((id : Id) → IsLawful (database.file id)) → AreFiles database
 are-files is equivalence same_file lawful = record {
   equivalence = subst IsEquivalence (sym is) equivalence;
   one_file = λ i j equal. (same_file i j equal).0;
@@ -121,8 +121,8 @@ module _ {Id : Type 0} {same : Id → Id → Bool} (o : IsEquivalence same) wher
         (cases_Bool (same j i))
 
 -- equal ids have as many lanes
-pub lanes_in-equal : {Id : Type 0} {table : FileDatabase Id} (lawful : AreFiles table) (before : List (InFile Id)) (i j : Id) → table.same i j ≡ true
-    → lanes_in table.same table.file before i ≡ lanes_in table.same table.file before j
+pub lanes_in-equal : {Id : Type 0} {database : FileDatabase Id} (lawful : AreFiles database) (before : List (InFile Id)) (i j : Id) → database.same i j ≡ true
+    → lanes_in database.same database.file before i ≡ lanes_in database.same database.file before j
 lanes_in-equal {Id} lawful before i j t = λ k. lane_count (record {
   file = lawful.one_file i j t k;
   labels = map (λ (x : InFile Id). x.label) (filter (λ (x : InFile Id). lawful.equivalence.congr i j x.id t k) before);

@@ -39,20 +39,20 @@ use Rattle.codespan_plan.proofs.FirstErrors.{first_error-none, first_error-some}
 
 -- these labels are done with: each file has what they add, their annotations are there, the padding
 -- fits the lines that they span, and no lookup failed
-pub record AreCollected {Id : Type 0} (table : FileDatabase Id) (config : Config) (ids : List Id) (done : List (InFile Id)) (files : List (RustFile Id)) (found : FoundAnnotations Id) : Type 0 where
+pub record AreCollected {Id : Type 0} (database : FileDatabase Id) (config : Config) (ids : List Id) (done : List (InFile Id)) (files : List (RustFile Id)) (found : FoundAnnotations Id) : Type 0 where
   pub ids_are : ids_view files ≡ ids
-  pub starts_are : starts_view files ≡ map (file_start table.same done) ids
-  pub lanes_are : lanes_view files ≡ map (lanes_in table.same table.file done) ids
-  pub added : Adds (IsOfFiles table.file ids) [] found.annotations.items (annotations_after table.same table.file config ids [] done)
-  pub counted : found.padding.digits ≡ fold max 0 (all_digits table.file done)
-  pub succeeded : labels_failure config table done ≡ None
+  pub starts_are : starts_view files ≡ map (file_start database.same done) ids
+  pub lanes_are : lanes_view files ≡ map (lanes_in database.same database.file done) ids
+  pub added : Adds (IsOfFiles database.file ids) [] found.annotations.items (annotations_after database.same database.file config ids [] done)
+  pub counted : found.padding.digits ≡ fold max 0 (all_digits database.file done)
+  pub succeeded : labels_failure config database done ≡ None
 
 -- the annotations of a label were added, the padding fits the lines that it spans, and no lookup of
 -- it failed
-pub record IsCollectedLabel {Id : Type 0} (table : FileDatabase Id) (config : Config) (at : LabelIndices) (label : Label Id) (found more : FoundAnnotations Id) : Type 0 where
-  pub added : FindsLines (collected_label table config at label) found more
-  pub counted : ExtendsPadding (collected_label table config at label) found more
-  pub succeeded : label_failure (collected_label table config at label) ≡ None
+pub record IsCollectedLabel {Id : Type 0} (database : FileDatabase Id) (config : Config) (at : LabelIndices) (label : Label Id) (found more : FoundAnnotations Id) : Type 0 where
+  pub added : FindsLines (collected_label database config at label) found more
+  pub counted : ExtendsPadding (collected_label database config at label) found more
+  pub succeeded : label_failure (collected_label database config at label) ≡ None
 
 -- a label was added to the file at this index
 pub record IsAddedLabel {Id : Type 0} (file : Id → FileModel) (at : ℕ) (label : Label Id) (files next : List (RustFile Id)) : Type 0 where
@@ -66,13 +66,13 @@ pub record IsIndexedFile {Id : Type 0} (same : Id → Id → Bool) (id : Id) (fi
   pub starts : starts_view now ≡ with_file same (ids_view files) id (starts_view files) no_start
   pub lanes : lanes_view now ≡ with_file same (ids_view files) id (lanes_view files) 0
 
-module _ {Id : Type 0} {table : FileDatabase Id} (lawful : AreFiles table) {labels : List (Label Id)} {index : ℕ} {label : Label Id} (turn : IsElementAt labels index label) where
+module _ {Id : Type 0} {database : FileDatabase Id} (lawful : AreFiles database) {labels : List (Label Id)} {index : ℕ} {label : Label Id} (turn : IsElementAt labels index label) where
   -- which ids name one file, and the file that an id names
   abbrev same : Id → Id → Bool
-  same = table.same
+  same = database.same
 
   abbrev file : Id → FileModel
-  file = table.file
+  file = database.file
 
   -- sameness of ids is an equivalence
   abbrev o : IsEquivalence same
@@ -120,7 +120,7 @@ module _ {Id : Type 0} {table : FileDatabase Id} (lawful : AreFiles table) {labe
 
   -- ---- the labels before it are done with, and its file is there too
 
-  module _ {config : Config} {files : List (RustFile Id)} {found : FoundAnnotations Id} (g : AreCollected table config (file_ids same (before labels (index + 1))) (before labels index) files found) where
+  module _ {config : Config} {files : List (RustFile Id)} {found : FoundAnnotations Id} (g : AreCollected database config (file_ids same (before labels (index + 1))) (before labels index) files found) where
     -- the lanes that are kept at its file's index are those of its file
     lanes-unchanged : get_or (lanes_view files) (index_of_file same ids label.file_id) 0 ≡ lanes_in same file (before labels index) label.file_id
     lanes-unchanged =
@@ -191,8 +191,8 @@ module _ {Id : Type 0} {table : FileDatabase Id} (lawful : AreFiles table) {labe
           omega (arith, low, index-found, long)
 
       -- one more label, whose file is at this index
-      pub collected-more : {next : List (RustFile Id)} {more : FoundAnnotations Id} → IsCollectedLabel table config (record { file = at; index = index; lane = get_or (lanes_view files) at 0 }) label found more → IsAddedLabel file at label files next
-          → AreCollected table config (file_ids same (before labels (index + 1))) (before labels (index + 1)) next more
+      pub collected-more : {next : List (RustFile Id)} {more : FoundAnnotations Id} → IsCollectedLabel database config (record { file = at; index = index; lane = get_or (lanes_view files) at 0 }) label found more → IsAddedLabel file at label files next
+          → AreCollected database config (file_ids same (before labels (index + 1))) (before labels (index + 1)) next more
       collected-more {next} {more} own known = record {
         ids_are = known.ids ∙ g.ids_are;
         starts_are = starts-set turn o g.starts_are (known.starts ∙ ap (λ k. starts_with_label (starts_view files) k (label_of label).label) index-found);
@@ -201,21 +201,21 @@ module _ {Id : Type 0} {table : FileDatabase Id} (lawful : AreFiles table) {labe
             (subst₂ (λ k n. AddsOf (file label.file_id) found.annotations.items more.annotations.items (annotations_of config (file label.file_id) (record { file = k; index = index; lane = n }) (label_of label).label)) index-found lane-found own.added);
         counted = counted-more more own.counted;
         succeeded =
-            ap (λ xs. first_error table.failure (label_lookups config table xs)) (before-more turn)
-            ∙ ap (first_error table.failure) (flat_map-append (lookups_of_label config table) (before labels index) (label_of label ∷ []))
-            ∙ first_error-none table.failure (label_lookups config table (before labels index)) _ g.succeeded
-            ∙ ap (first_error table.failure) (append-nil (lookups_of_label config table (label_of label))) ∙ own.succeeded;
+            ap (λ xs. first_error database.failure (label_lookups config database xs)) (before-more turn)
+            ∙ ap (first_error database.failure) (flat_map-append (lookups_of_label config database) (before labels index) (label_of label ∷ []))
+            ∙ first_error-none database.failure (label_lookups config database (before labels index)) _ g.succeeded
+            ∙ ap (first_error database.failure) (append-nil (lookups_of_label config database (label_of label))) ∙ own.succeeded;
       }
 
   -- ---- the labels before it are done with
 
-  module _ {config : Config} {files : List (RustFile Id)} {found : FoundAnnotations Id} (g : AreCollected table config (file_ids same (before labels index)) (before labels index) files found) where
+  module _ {config : Config} {files : List (RustFile Id)} {found : FoundAnnotations Id} (g : AreCollected database config (file_ids same (before labels index)) (before labels index) files found) where
     -- its file was found: it is one of those of the labels before, or after them
-    pub file-indexed : {now : List (RustFile Id)} → IsIndexedFile same label.file_id files now → AreCollected table config (file_ids same (before labels (index + 1))) (before labels index) now found
+    pub file-indexed : {now : List (RustFile Id)} → IsIndexedFile same label.file_id files now → AreCollected database config (file_ids same (before labels (index + 1))) (before labels index) now found
     file-indexed {now} indexed =
         let xs = before labels index in
         let x = label_of label in
-        subst (λ ys. AreCollected table config (file_ids same ys) xs now found) (sym (before-more turn)) (record {
+        subst (λ ys. AreCollected database config (file_ids same ys) xs now found) (sym (before-more turn)) (record {
           ids_are = indexed.ids ∙ ap (λ (js : List Id). with_file same js label.file_id js label.file_id) g.ids_are ∙ sym (file_ids-more same o xs x);
           starts_are = known-more o xs x (file_start same xs) (start-unknown same xs label.file_id) g.starts_are
               (indexed.starts ∙ ap (λ (js : List Id). with_file same js label.file_id (starts_view files) no_start) g.ids_are);
@@ -227,27 +227,27 @@ module _ {Id : Type 0} {table : FileDatabase Id} (lawful : AreFiles table) {labe
         })
 
     -- its lookups fail
-    pub collected-failed : (e : Error) → first_error table.failure (lookups_of_file label.file_id (label_line_lookups config (file label.file_id) (table.failure label.file_id) (label_of label).label)) ≡ Some e
-        → first_error table.failure (label_lookups config table (map label_of labels)) ≡ Some e
+    pub collected-failed : (e : Error) → first_error database.failure (lookups_of_file label.file_id (label_line_lookups config (file label.file_id) (database.failure label.file_id) (label_of label).label)) ≡ Some e
+        → first_error database.failure (label_lookups config database (map label_of labels)) ≡ Some e
     collected-failed e some =
         let rest = map label_of (drop (index + 1) labels) in
         let whole : map label_of labels ≡ (before labels index ++ label_of label ∷ []) ++ rest =
         ap (map label_of) (sym (take-append-drop (index + 1) labels)) ∙ map-append label_of (take (index + 1) labels) (drop (index + 1) labels)
         ∙ ap (λ (xs : List (InFile Id)). xs ++ rest) (before-more turn) in
-        let lookups = lookups_of_label config table in
-        ap (λ xs. first_error table.failure (flat_map lookups xs)) whole
-        ∙ ap (first_error table.failure) (flat_map-append lookups (before labels index ++ label_of label ∷ []) rest)
-        ∙ first_error-some table.failure (flat_map lookups (before labels index ++ label_of label ∷ [])) (flat_map lookups rest) e
-        (ap (first_error table.failure) (flat_map-append lookups (before labels index) (label_of label ∷ []))
-        ∙ first_error-none table.failure (label_lookups config table (before labels index)) _ g.succeeded
-        ∙ ap (first_error table.failure) (append-nil (lookups_of_label config table (label_of label))) ∙ some)
+        let lookups = lookups_of_label config database in
+        ap (λ xs. first_error database.failure (flat_map lookups xs)) whole
+        ∙ ap (first_error database.failure) (flat_map-append lookups (before labels index ++ label_of label ∷ []) rest)
+        ∙ first_error-some database.failure (flat_map lookups (before labels index ++ label_of label ∷ [])) (flat_map lookups rest) e
+        (ap (first_error database.failure) (flat_map-append lookups (before labels index) (label_of label ∷ []))
+        ∙ first_error-none database.failure (label_lookups config database (before labels index)) _ g.succeeded
+        ∙ ap (first_error database.failure) (append-nil (lookups_of_label config database (label_of label))) ∙ some)
 
 -- all labels are done with after the last one
-pub collected-all : {Id : Type 0} {table : FileDatabase Id} {config : Config} {files : List (RustFile Id)} {found : FoundAnnotations Id} (labels : List (Label Id)) (index : ℕ)
-    → length labels ≤ index → AreCollected table config (file_ids table.same (before labels index)) (before labels index) files found
-    → AreCollected table config (file_ids table.same (map label_of labels)) (map label_of labels) files found
-collected-all {Id} {table} {config} {files} {found} labels index past g =
-    subst (λ (ls : List (Label Id)). AreCollected table config (file_ids table.same (map label_of ls)) (map label_of ls) files found) (take_all index labels past) g
+pub collected-all : {Id : Type 0} {database : FileDatabase Id} {config : Config} {files : List (RustFile Id)} {found : FoundAnnotations Id} (labels : List (Label Id)) (index : ℕ)
+    → length labels ≤ index → AreCollected database config (file_ids database.same (before labels index)) (before labels index) files found
+    → AreCollected database config (file_ids database.same (map label_of labels)) (map label_of labels) files found
+collected-all {Id} {database} {config} {files} {found} labels index past g =
+    subst (λ (ls : List (Label Id)). AreCollected database config (file_ids database.same (map label_of ls)) (map label_of ls) files found) (take_all index labels past) g
 
 -- each file has what the labels add to it
 pub each-labels : {Id : Type 0} (same : Id → Id → Bool) (file : Id → FileModel) (xs : List (InFile Id)) (files : List (RustFile Id))

@@ -19,11 +19,11 @@ use Rattle.codespan_plan.proofs.Collecting.{collected-each, collected-kind}
 use Rattle.codespan_plan.proofs.FileParts.{collected-sorted}
 
 -- what was collected, put in order
-pub collected-in_order : {Id : Type 0} {table : FileDatabase Id} {config : Config} {xs : List (InFile Id)} {was : Collected Id} (annotations : Vec (RustAnnotation Id) Global) → IsCollectedInTurn table config xs was
-    → IsPermutation was.annotations.items annotations.items → IsSortedBy is_before (map annotation_view annotations.items) → IsCollected table config xs (record was { annotations = annotations })
-collected-in_order {Id} {table} {config} {xs} {was} annotations g perm up =
-    let of_files = IsOfFiles table.file (ids_view was.files.items) in
-    let of_all_labels = all_annotations table.same table.file config xs in
+pub collected-in_order : {Id : Type 0} {database : FileDatabase Id} {config : Config} {xs : List (InFile Id)} {was : Collected Id} (annotations : Vec (RustAnnotation Id) Global) → IsCollectedInTurn database config xs was
+    → IsPermutation was.annotations.items annotations.items → IsSortedBy is_before (map annotation_view annotations.items) → IsCollected database config xs (record was { annotations = annotations })
+collected-in_order {Id} {database} {config} {xs} {was} annotations g perm up =
+    let of_files = IsOfFiles database.file (ids_view was.files.items) in
+    let of_all_labels = all_annotations database.same database.file config xs in
     record {
       files = record { ids_are = g.files.ids_are; labels_are = g.files.labels_are; padding_is = g.files.padding_is };
       sorted = up;
@@ -31,25 +31,25 @@ collected-in_order {Id} {table} {config} {xs} {was} annotations g perm up =
       lines = collected-each of_files was.annotations.items annotations.items of_all_labels g.adds perm;
     }
 
-module _ {Id : Type 0} (table : FileDatabase Id) (config : Config) (xs : List (InFile Id)) where
+module _ {Id : Type 0} (database : FileDatabase Id) (config : Config) (xs : List (InFile Id)) where
   -- what these lookups fail with
   abbrev failed : List (Id × Lookup) → Option Error
-  failed = first_error table.failure
+  failed = first_error database.failure
 
   -- all lookups before the header
   abbrev early : List (Id × Lookup)
-  early = early_lookups table xs config
+  early = early_lookups database xs config
 
   -- the lookups of the labels come first, and then those of the files
-  early-is : failed early ≡ or_failure (labels_failure config table xs) (output_plan_failure config table xs)
+  early-is : failed early ≡ or_failure (labels_failure config database xs) (output_plan_failure config database xs)
   early-is =
-      let of_labels = label_lookups config table xs in
-      ap failed (append_assoc of_labels (padding_lookups config table xs) (file_locus_lookups table xs)) ∙ first_error-append table.failure of_labels (output_plan_lookups config table xs)
+      let of_labels = label_lookups config database xs in
+      ap failed (append_assoc of_labels (padding_lookups config database xs) (file_locus_lookups database xs)) ∙ first_error-append database.failure of_labels (output_plan_lookups config database xs)
 
   -- a lookup of a label fails
-  pub labels-failed : (e : Error) → labels_failure config table xs ≡ Some e → failed early ≡ Some e
-  labels-failed e known = early-is ∙ ap (λ (o : Option Error). or_failure o (output_plan_failure config table xs)) known
+  pub labels-failed : (e : Error) → labels_failure config database xs ≡ Some e → failed early ≡ Some e
+  labels-failed e known = early-is ∙ ap (λ (o : Option Error). or_failure o (output_plan_failure config database xs)) known
 
   -- the labels' lookups succeed, and the files' decide the rest
-  pub labels-succeeded : labels_failure config table xs ≡ None → failed early ≡ output_plan_failure config table xs
-  labels-succeeded succeeded = early-is ∙ ap (λ (o : Option Error). or_failure o (output_plan_failure config table xs)) succeeded
+  pub labels-succeeded : labels_failure config database xs ≡ None → failed early ≡ output_plan_failure config database xs
+  labels-succeeded succeeded = early-is ∙ ap (λ (o : Option Error). or_failure o (output_plan_failure config database xs)) succeeded

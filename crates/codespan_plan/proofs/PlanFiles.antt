@@ -96,13 +96,13 @@ record AreLinesOfSnippet (config : Config) (s : LabeledFileModel) (snippet_lines
 numbered : (config : Config) → config.layout ≡ Unbroken → (s : LabeledFileModel) → numbered_lines config s ≡ drawn_lines config s.file s.labels
 numbered config unbroken s = ap (λ v. numbered_lines (record config { layout = v }) s) unbroken
 
-module _ {Id : Type 0} {table : FileDatabase Id} (lawful : AreFiles table) {config : Config} {xs : List (InFile Id)} {collected : Collected Id} (all : IsCollected table config xs collected) where
+module _ {Id : Type 0} {database : FileDatabase Id} (lawful : AreFiles database) {config : Config} {xs : List (InFile Id)} {collected : Collected Id} (all : IsCollected database config xs collected) where
   -- which ids name one file, and the file that an id names
   abbrev same : Id → Id → Bool
-  same = table.same
+  same = database.same
 
   abbrev file : Id → FileModel
-  file = table.file
+  file = database.file
 
   -- its annotations
   abbrev es : List Annotation
@@ -122,16 +122,16 @@ module _ {Id : Type 0} {table : FileDatabase Id} (lawful : AreFiles table) {conf
   }
 
   -- the numbers that are looked up before the header are those of the padding
-  numbers-are : number_lookups config.layout es (ids_view collected.files.items) ≡ padding_lookups config table xs
+  numbers-are : number_lookups config.layout es (ids_view collected.files.items) ≡ padding_lookups config database xs
   numbers-are =
       ap (number_lookups config.layout es) all.files.ids_are
-      ∙ by_index-same (λ k id. lookups_of_file id (numbers_looked_up config.layout (fills_of (lines_at es k)))) (λ id. lookups_of_file id (numbers_for_padding table xs config config.layout id)) 0 (file_ids same xs)
+      ∙ by_index-same (λ k id. lookups_of_file id (numbers_looked_up config.layout (fills_of (lines_at es k)))) (λ id. lookups_of_file id (numbers_for_padding database xs config config.layout id)) 0 (file_ids same xs)
       (λ i id at. let e : 0 + i ≡ i = omega arith in
       ap (λ k. lookups_of_file id (numbers_looked_up config.layout (fills_of (lines_at es k)))) e
       ∙ ap (λ (ls : List ℕ). lookups_of_file id (numbers_looked_up config.layout ls)) (snippet i id at).fills
       ∙ ap (λ (ls : List Lookup). lookups_of_file id ls) (by_layout config.layout id))
     where
-      by_layout : (layout : Layout) (id : Id) → numbers_looked_up layout (filled_lines config (labeled id)) ≡ numbers_for_padding table xs config layout id
+      by_layout : (layout : Layout) (id : Id) → numbers_looked_up layout (filled_lines config (labeled id)) ≡ numbers_for_padding database xs config layout id
       by_layout Classic id = refl
       by_layout Unbroken id = refl
 
@@ -140,13 +140,13 @@ module _ {Id : Type 0} {table : FileDatabase Id} (lawful : AreFiles table) {conf
   file_start-is {f} known = ap start_byte known.start_is ∙ start-is same file f.id xs
 
   -- the lookups of the loci of files are those of their snippets
-  loci-lookups : (fs : List (RustFile Id)) → AllByRecursion (HasLabels same file xs) fs → loci_lookups fs ≡ flat_map (λ id. lookups_of_file id (locus_lookups table xs id)) (ids_view fs)
+  loci-lookups : (fs : List (RustFile Id)) → AllByRecursion (HasLabels same file xs) fs → loci_lookups fs ≡ flat_map (λ id. lookups_of_file id (locus_lookups database xs id)) (ids_view fs)
   loci-lookups [] known = refl
   loci-lookups (f ∷ fs) known = λ i. lookups_of_file f.id (Name ∷ LocationAt (file_start-is known.0 i) ∷ []) ++ loci-lookups fs known.1 i
 
   -- so are those of all files
-  loci-are : loci_lookups collected.files.items ≡ file_locus_lookups table xs
-  loci-are = loci-lookups collected.files.items all.files.labels_are ∙ ap (flat_map (λ id. lookups_of_file id (locus_lookups table xs id))) all.files.ids_are
+  loci-are : loci_lookups collected.files.items ≡ file_locus_lookups database xs
+  loci-are = loci-lookups collected.files.items all.files.labels_are ∙ ap (flat_map (λ id. lookups_of_file id (locus_lookups database xs id))) all.files.ids_are
 
   module _ {k : ℕ} {f : RustFile Id} (at : IsIdAt (file_ids same xs) k f.id) (known : HasLabels same file xs f) {plan : SnippetPlan Id} {own : List (RustLine Id)}
       (is : IsPlan config.layout file es k f plan own) where
@@ -195,7 +195,7 @@ module _ {Id : Type 0} {table : FileDatabase Id} (lawful : AreFiles table) {conf
 
   -- plans are those of their files
   plans-from : (k : ℕ) (fs : List (RustFile Id)) (plans : List (SnippetPlan Id)) (snippet_lines : List (RustLine Id)) → AreAt k (ids_view fs) → AllByRecursion (HasLabels same file xs) fs
-      → ArePlans config.layout file es k fs plans snippet_lines → AreSnippetPlans table config xs plans snippet_lines
+      → ArePlans config.layout file es k fs plans snippet_lines → AreSnippetPlans database config xs plans snippet_lines
   plans-from k [] [] snippet_lines at known h = tt
   plans-from k [] (p ∷ ps) snippet_lines at known h = absurd h
   plans-from k (f ∷ fs) [] snippet_lines at known h = absurd h
@@ -227,7 +227,7 @@ module _ {Id : Type 0} {table : FileDatabase Id} (lawful : AreFiles table) {conf
     plan_ids = ids-from 0 collected.files.items plans snippet_lines found ∙ all.files.ids_are
 
     -- all plans
-    file_plans : AreSnippetPlans table config xs plans snippet_lines
+    file_plans : AreSnippetPlans database config xs plans snippet_lines
     file_plans = plans-from 0 collected.files.items plans snippet_lines ids_at all.files.labels_are found
 
     -- in the classic layout the labels determine the padding width
@@ -243,14 +243,14 @@ module _ {Id : Type 0} {table : FileDatabase Id} (lawful : AreFiles table) {conf
 
 -- ---- what was collected, with its plans
 
-module _ {Id : Type 0} {table : FileDatabase Id} (lawful : AreFiles table) {config : Config} {xs : List (InFile Id)} {collected : Collected Id} (all : IsCollected table config xs collected) where
+module _ {Id : Type 0} {database : FileDatabase Id} (lawful : AreFiles database) {config : Config} {xs : List (InFile Id)} {collected : Collected Id} (all : IsCollected database config xs collected) where
   -- plans fail with what the output plan fails with
-  pub failure-is : plans_failure config.layout table.failure collected ≡ output_plan_failure config table xs
-  failure-is = λ i. first_error table.failure (numbers-are lawful all i ++ loci-are lawful all i)
+  pub failure-is : plans_failure config.layout database.failure collected ≡ output_plan_failure config database xs
+  failure-is = λ i. first_error database.failure (numbers-are lawful all i ++ loci-are lawful all i)
 
   -- plans, and the padding width, are the output plan of the labels
-  pub output_plan-planned : {output_plan : OutputPlan Id} → ArePlansOf config.layout table.file collected output_plan.files.items output_plan.snippet_lines.items → output_plan.padding ≡ padding_of config (labeled_file_models table.same table.file xs)
-      → IsOutputPlan table config xs output_plan
+  pub output_plan-planned : {output_plan : OutputPlan Id} → ArePlansOf config.layout database.file collected output_plan.files.items output_plan.snippet_lines.items → output_plan.padding ≡ padding_of config (labeled_file_models database.same database.file xs)
+      → IsOutputPlan database config xs output_plan
   output_plan-planned {output_plan} found padding = record {
     ids_are = plan_ids lawful all output_plan.files.items output_plan.snippet_lines.items found;
     files_are = file_plans lawful all output_plan.files.items output_plan.snippet_lines.items found;

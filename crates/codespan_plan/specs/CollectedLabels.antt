@@ -20,14 +20,15 @@ use Rattle.codespan_plan.specs.SpannedDigits.{digits_on, label_digits}
 -- the lookups of one label
 abbrev pub lookups_of_label : {Id : Type 0} → Config → FileDatabase Id → InFile Id
     → List (Id × Lookup)
-lookups_of_label config table x =
-    lookups_of_file x.id (label_line_lookups config (table.file x.id) (table.failure x.id) x.label)
+lookups_of_label config database x =
+    lookups_of_file x.id
+    (label_line_lookups config (database.file x.id) (database.failure x.id) x.label)
 
 -- what the lookups of these labels fail with
 abbrev pub labels_failure : {Id : Type 0} → Config → FileDatabase Id → List (InFile Id)
     → Option Error
-labels_failure config table xs =
-    first_error table.failure (label_lookups config table xs)
+labels_failure config database xs =
+    first_error database.failure (label_lookups config database xs)
 
 -- a label with its file, what lookups of the file fail with, the configuration, and its indices
 pub record CollectedLabel (Id : Type 0) : Type 0 where
@@ -41,10 +42,10 @@ pub record CollectedLabel (Id : Type 0) : Type 0 where
 -- a label of the files of a database
 abbrev pub collected_label : {Id : Type 0} → FileDatabase Id → Config → LabelIndices → Label Id
     → CollectedLabel Id
-collected_label table config at label = record {
+collected_label database config at label = record {
   id = label.file_id;
-  file = table.file label.file_id;
-  failure = table.failure;
+  file = database.file label.file_id;
+  failure = database.failure;
   config = config;
   at = at;
   label = (label_of label).label;
@@ -53,10 +54,10 @@ collected_label table config at label = record {
 -- the label whose lines a collector looks up
 abbrev pub label_of_collector : {F Id Name Source : Type 0} → (F → FileDatabase Id)
     → LabelCollector F Id Name Source → Label Id → CollectedLabel Id
-label_of_collector table collector label = record {
+label_of_collector database collector label = record {
   id = collector.file.id;
-  file = model_of table collector.file;
-  failure = (table collector.file.files.now).failure;
+  file = model_of database collector.file;
+  failure = (database collector.file.files.now).failure;
   config = collector.config.now;
   at = collector.at;
   label = (label_of label).label;
@@ -145,6 +146,6 @@ multi_by collector label line =
 -- the label looks up a line, which fails with this error
 abbrev pub FailsLine : {F Id Name Source : Type 0} → (F → FileDatabase Id)
     → LabelCollector F Id Name Source → Label Id → ℕ → Error → Type 0
-FailsLine table collector label l e =
-    IsLookedUp (label_of_collector table collector label) l
-    × (failure_unless_past_end table collector.file collector.lines.last l ≡ Some e)
+FailsLine database collector label l e =
+    IsLookedUp (label_of_collector database collector label) l
+    × (failure_unless_past_end database collector.file collector.lines.last l ≡ Some e)

@@ -47,28 +47,28 @@ pub record IsSnippetPlan {Id : Type 0} (config : Config) (s : LabeledFileModel) 
   pub lookups : lookups_of_lines own ≡ flat_map (filled_line_lookups config.layout)
       (filled_lines config s)
 
-module _ {Id : Type 0} (table : FileDatabase Id) where
+module _ {Id : Type 0} (database : FileDatabase Id) where
   -- the files of these labels were collected, and the padding width of the classic layout
   pub record AreFilesCollected (xs : List (InFile Id)) (collected : Collected Id) : Type 0 where
-    pub ids_are : ids_view collected.files.items ≡ file_ids table.same xs
-    pub labels_are : AllByRecursion (HasLabels table.same table.file xs) collected.files.items
-    pub padding_is : collected.padding ≡ fold max 0 (all_digits table.file xs)
+    pub ids_are : ids_view collected.files.items ≡ file_ids database.same xs
+    pub labels_are : AllByRecursion (HasLabels database.same database.file xs) collected.files.items
+    pub padding_is : collected.padding ≡ fold max 0 (all_digits database.file xs)
 
   -- this was collected of these labels, one after another
   pub record IsCollectedInTurn (config : Config) (xs : List (InFile Id))
       (collected : Collected Id) : Type 0 where
     pub files : AreFilesCollected xs collected
-    pub adds : Adds (IsOfFiles table.file (ids_view collected.files.items)) []
-        collected.annotations.items (all_annotations table.same table.file config xs)
+    pub adds : Adds (IsOfFiles database.file (ids_view collected.files.items)) []
+        collected.annotations.items (all_annotations database.same database.file config xs)
 
   -- this was collected of these labels, and is in order
   pub record IsCollected (config : Config) (xs : List (InFile Id)) (collected : Collected Id) : Type
       0 where
     pub files : AreFilesCollected xs collected
     pub sorted : IsSortedBy is_before (map annotation_view collected.annotations.items)
-    pub permutation : IsPermutation (all_annotations table.same table.file config xs)
+    pub permutation : IsPermutation (all_annotations database.same database.file config xs)
         (map annotation_view collected.annotations.items)
-    pub lines : AllByRecursion (IsOfFiles table.file (ids_view collected.files.items))
+    pub lines : AllByRecursion (IsOfFiles database.file (ids_view collected.files.items))
         collected.annotations.items
 
   -- the plans are those of the files of these labels, and the lines are theirs, those of the first
@@ -78,42 +78,43 @@ module _ {Id : Type 0} (table : FileDatabase Id) where
       → Type 0
   AreSnippetPlans config xs [] snippet_lines = Unit {0}
   AreSnippetPlans config xs (f ∷ fs) snippet_lines =
-      IsSnippetPlan config (labeled_file_model table.same table.file xs f.file.now.id) f
+      IsSnippetPlan config (labeled_file_model database.same database.file xs f.file.now.id) f
       (take f.line_total snippet_lines)
       × AreSnippetPlans config xs fs (drop f.line_total snippet_lines)
 
   -- the plan is that of these labels
   pub record IsOutputPlan (config : Config) (xs : List (InFile Id)) (output_plan : OutputPlan Id)
       : Type 0 where
-    pub ids_are : ids_of output_plan.files.items ≡ file_ids table.same xs
+    pub ids_are : ids_of output_plan.files.items ≡ file_ids database.same xs
     pub files_are : AreSnippetPlans config xs output_plan.files.items
         output_plan.snippet_lines.items
     pub padding_is : output_plan.padding
-        ≡ padding_of config (labeled_file_models table.same table.file xs)
+        ≡ padding_of config (labeled_file_models database.same database.file xs)
 
 -- the lookups of the numbers of filled lines, where they are made before the header
 abbrev pub padding_lookups : {Id : Type 0} → Config → FileDatabase Id → List (InFile Id)
     → List (Id × Lookup)
-padding_lookups config table xs =
+padding_lookups config database xs =
     flat_map
     (λ id. lookups_of_file id
-    (numbers_for_padding table xs config config.layout id))
-    (file_ids table.same xs)
+    (numbers_for_padding database xs config config.layout id))
+    (file_ids database.same xs)
 
 -- those of names and locations
 abbrev pub file_locus_lookups : {Id : Type 0} → FileDatabase Id → List (InFile Id)
     → List (Id × Lookup)
-file_locus_lookups table xs =
-    flat_map (λ id. lookups_of_file id (locus_lookups table xs id))
-    (file_ids table.same xs)
+file_locus_lookups database xs =
+    flat_map (λ id. lookups_of_file id (locus_lookups database xs id))
+    (file_ids database.same xs)
 
 -- both, which come after those of its labels
 abbrev pub output_plan_lookups : {Id : Type 0} → Config → FileDatabase Id → List (InFile Id)
     → List (Id × Lookup)
-output_plan_lookups config table xs = padding_lookups config table xs ++ file_locus_lookups table xs
+output_plan_lookups config database xs =
+    padding_lookups config database xs ++ file_locus_lookups database xs
 
 -- what these lookups fail with
 abbrev pub output_plan_failure : {Id : Type 0} → Config → FileDatabase Id → List (InFile Id)
     → Option Error
-output_plan_failure config table xs = first_error table.failure
-    (output_plan_lookups config table xs)
+output_plan_failure config database xs = first_error database.failure
+    (output_plan_lookups config database xs)

@@ -20,14 +20,14 @@ use Rattle.codespan_reporting.proofs.LookupRuns.{IsLookupRun, run_as, run_cut, r
 use Rattle.codespan_plan.proofs.FirstErrors.{first_error-lookups}
 use Rattle.codespan_plan.proofs.LabelIndexing.{IsElementAt, take-at}
 
-module _ {F Id Name Source : Type 0} (table : F → FileDatabase Id) (lines : Snippet F Id Name Source) (config : Config) where
+module _ {F Id Name Source : Type 0} (database : F → FileDatabase Id) (lines : Snippet F Id Name Source) (config : Config) where
   -- the file
   abbrev f : FileModel
-  f = model_of table lines.file
+  f = model_of database lines.file
 
   -- what its lookups fail with
   abbrev lookups : List Lookup → Option Error
-  lookups = failure_of table lines.file
+  lookups = failure_of database lines.file
 
   -- what its rows share
   abbrev row_context : RowContext
@@ -59,44 +59,44 @@ module _ {F Id Name Source : Type 0} (table : F → FileDatabase Id) (lines : Sn
   -- the lookups of snippet lines, one after another
   lookups-append : (xs ys : List (RustLine Id)) → lookups_all (xs ++ ys) ≡ or_failure (lookups_all xs) (lookups_all ys)
   lookups-append xs ys =
-      ap lookups (flat_map-append lookups_of_line xs ys) ∙ first_error-lookups (table lines.file.files.now).failure lines.file.id (lookups_of_lines xs) (lookups_of_lines ys)
+      ap lookups (flat_map-append lookups_of_line xs ys) ∙ first_error-lookups (database lines.file.files.now).failure lines.file.id (lookups_of_lines xs) (lookups_of_lines ys)
 
-module _ {F Id Name Source : Type 0} {table : F → FileDatabase Id} {lines : Snippet F Id Name Source} {config : Config} where
+module _ {F Id Name Source : Type 0} {database : F → FileDatabase Id} {lines : Snippet F Id Name Source} {config : Config} where
   -- nothing is rendered
-  pub rendered-nothing : {s : Sink} → RendersAll table lines config [] s (Ok tt) s
+  pub rendered-nothing : {s : Sink} → RendersAll database lines config [] s (Ok tt) s
   rendered-nothing = record { rendered = run_of_nothing }
 
   -- one snippet line is rendered
-  rendered-one : {snippet_line : RustLine Id} {s t : Sink} {r : Result (Unit {0}) Error} → RendersOne table lines config snippet_line s r t → RendersAll table lines config (snippet_line ∷ []) s r t
+  rendered-one : {snippet_line : RustLine Id} {s t : Sink} {r : Result (Unit {0}) Error} → RendersOne database lines config snippet_line s r t → RendersAll database lines config (snippet_line ∷ []) s r t
   rendered-one {snippet_line} renders = record {
     rendered = run_as
-        (ap (lookups table lines config) (sym (append-nil (lookups_of_line snippet_line))))
-        (ap (stream_of_rows (row_context table lines config)) (sym (append-nil (rows_of_line (f table lines config) lines.lane_count (line_view snippet_line)))))
+        (ap (lookups database lines config) (sym (append-nil (lookups_of_line snippet_line))))
+        (ap (stream_of_rows (row_context database lines config)) (sym (append-nil (rows_of_line (f database lines config) lines.lane_count (line_view snippet_line)))))
         (record { renders = renders });
   }
 
   -- snippet lines are rendered, and then others, however that ends
-  rendered-then : {xs ys : List (RustLine Id)} {s t u : Sink} {r : Result (Unit {0}) Error} → RendersAll table lines config xs s (Ok tt) t → RendersAll table lines config ys t r u
-      → RendersAll table lines config (xs ++ ys) s r u
+  rendered-then : {xs ys : List (RustLine Id)} {s t u : Sink} {r : Result (Unit {0}) Error} → RendersAll database lines config xs s (Ok tt) t → RendersAll database lines config ys t r u
+      → RendersAll database lines config (xs ++ ys) s r u
   rendered-then {xs} {ys} first second = record {
-    rendered = run_as (sym (lookups-append table lines config xs ys)) (sym (rows-append table lines config xs ys)) (run_then first.rendered second.rendered);
+    rendered = run_as (sym (lookups-append database lines config xs ys)) (sym (rows-append database lines config xs ys)) (run_then first.rendered second.rendered);
   }
 
   -- snippet lines were rendered, and then the next one, by an equal configuration, however that
   -- ends
   pub rendered-next : {whole : List (RustLine Id)} {i : ℕ} {snippet_line : RustLine Id} {now : Config} {s t u : Sink} {r : Result (Unit {0}) Error} → IsElementAt whole i snippet_line
-      → RendersAll table lines config (take i whole) s (Ok tt) t → now ≡ config → RendersOne table lines now snippet_line t r u
-      → RendersAll table lines config (take (i + 1) whole) s r u
+      → RendersAll database lines config (take i whole) s (Ok tt) t → now ≡ config → RendersOne database lines now snippet_line t r u
+      → RendersAll database lines config (take (i + 1) whole) s r u
   rendered-next {snippet_line = snippet_line} {s = s} {t = t} {u = u} {r = r} at before equal next =
-      let here = subst (λ (k : Config). RendersOne table lines k snippet_line t r u) equal next in
-      subst (λ (snippet_lines : List (RustLine Id)). RendersAll table lines config snippet_lines s r u) (sym (take-at at)) (rendered-then before (rendered-one {snippet_line = snippet_line} here))
+      let here = subst (λ (k : Config). RendersOne database lines k snippet_line t r u) equal next in
+      subst (λ (snippet_lines : List (RustLine Id)). RendersAll database lines config snippet_lines s r u) (sym (take-at at)) (rendered-then before (rendered-one {snippet_line = snippet_line} here))
 
   -- the first snippet lines failed, and so all are
-  pub rendered-cut : (whole : List (RustLine Id)) (i : ℕ) {s t : Sink} {e : Error} → RendersAll table lines config (take i whole) s (Err e) t → RendersAll table lines config whole s (Err e) t
+  pub rendered-cut : (whole : List (RustLine Id)) (i : ℕ) {s t : Sink} {e : Error} → RendersAll database lines config (take i whole) s (Err e) t → RendersAll database lines config whole s (Err e) t
   rendered-cut whole i {s} {t} {e} cut =
       let first = take i whole in
       let later = drop i whole in
-      subst (λ (snippet_lines : List (RustLine Id)). RendersAll table lines config snippet_lines s (Err e) t) (take-append-drop i whole) (record {
-        rendered = run_as (sym (lookups-append table lines config first later)) (sym (rows-append table lines config first later))
-            (run_cut (lookups_all table lines config later) (rows table lines config later) cut.rendered);
+      subst (λ (snippet_lines : List (RustLine Id)). RendersAll database lines config snippet_lines s (Err e) t) (take-append-drop i whole) (record {
+        rendered = run_as (sym (lookups-append database lines config first later)) (sym (rows-append database lines config first later))
+            (run_cut (lookups_all database lines config later) (rows database lines config later) cut.rendered);
       })

@@ -82,23 +82,23 @@ module _ {Id : Type 0} {files : List (SnippetPlan Id)} {k : ℕ} {f : SnippetPla
   index-at : locus_view f.locus ≡ get_or (loci_of files) k (locus_view f.locus)
   index-at = ap (λ (g : SnippetPlan Id). locus_view g.locus) at.is ∙ sym (get_or-map (λ (g : SnippetPlan Id). locus_view g.locus) files k f (locus_view f.locus) at.inside)
 
-module _ {Id : Type 0} (table : FileDatabase Id) (config : Config) (xs : List (InFile Id)) where
+module _ {Id : Type 0} (database : FileDatabase Id) (config : Config) (xs : List (InFile Id)) where
   -- the file is that of its labels, with the snippet lines that it counts in front, and the rest is
   -- of the files after it
   abbrev pub IsFirstFile : List (SnippetPlan Id) → SnippetPlan Id → List (RustLine Id) → Type 0
   IsFirstFile later f snippet_lines =
-      IsSnippetPlan config (labeled_file_model table.same table.file xs f.file.now.id) f (take f.line_total snippet_lines) × AreSnippetPlans table config xs later (drop f.line_total snippet_lines)
+      IsSnippetPlan config (labeled_file_model database.same database.file xs f.file.now.id) f (take f.line_total snippet_lines) × AreSnippetPlans database config xs later (drop f.line_total snippet_lines)
 
   -- the files from an index on are those of their labels, with the snippet lines from an index on
   pub record AreFilesFrom (files : List (SnippetPlan Id)) (k : ℕ) (snippet_lines : List (RustLine Id)) (start : ℕ) : Type 0 where
     pub inside : start ≤ length snippet_lines
-    pub are : AreSnippetPlans table config xs (drop k files) (drop start snippet_lines)
+    pub are : AreSnippetPlans database config xs (drop k files) (drop start snippet_lines)
 
-module _ {Id : Type 0} {table : FileDatabase Id} {config : Config} {xs : List (InFile Id)} {files : List (SnippetPlan Id)} {k : ℕ} {f : SnippetPlan Id} {snippet_lines : List (RustLine Id)} {start : ℕ}
-    (at : IsElementAt files k f) (from : AreFilesFrom table config xs files k snippet_lines start) where
+module _ {Id : Type 0} {database : FileDatabase Id} {config : Config} {xs : List (InFile Id)} {files : List (SnippetPlan Id)} {k : ℕ} {f : SnippetPlan Id} {snippet_lines : List (RustLine Id)} {start : ℕ}
+    (at : IsElementAt files k f) (from : AreFilesFrom database config xs files k snippet_lines start) where
   -- from the file at an index on they are that file, and those after it
-  files-at : IsFirstFile table config xs (drop (k + 1) files) f (drop start snippet_lines)
-  files-at = subst (λ (fs : List (SnippetPlan Id)). AreSnippetPlans table config xs fs (drop start snippet_lines)) (drop-one files k f at.inside at.is) from.are
+  files-at : IsFirstFile database config xs (drop (k + 1) files) f (drop start snippet_lines)
+  files-at = subst (λ (fs : List (SnippetPlan Id)). AreSnippetPlans database config xs fs (drop start snippet_lines)) (drop-one files k f at.inside at.is) from.are
 
   -- there are as many snippet lines as it counts
   pub own-inside : start + f.line_total ≤ length snippet_lines
@@ -108,16 +108,16 @@ module _ {Id : Type 0} {table : FileDatabase Id} {config : Config} {xs : List (I
       omega (arith, count, inside, length-take f.line_total (drop start snippet_lines), length-drop start snippet_lines)
 
   -- it is the file of its labels, with these snippet lines
-  pub own-snippet_lines : {zs : List (RustLine Id)} → zs ≡ snippet_lines → IsSnippetPlan config (labeled_file_model table.same table.file xs f.file.now.id) f (next_part zs start f.line_total)
+  pub own-snippet_lines : {zs : List (RustLine Id)} → zs ≡ snippet_lines → IsSnippetPlan config (labeled_file_model database.same database.file xs f.file.now.id) f (next_part zs start f.line_total)
   own-snippet_lines same =
-      subst₂ (λ n (ss : List (RustLine Id)). IsSnippetPlan config (labeled_file_model table.same table.file xs f.file.now.id) f (take n (drop start ss)))
+      subst₂ (λ n (ss : List (RustLine Id)). IsSnippetPlan config (labeled_file_model database.same database.file xs f.file.now.id) f (take n (drop start ss)))
       (sym (add-sub_cancel_left start f.line_total)) (sym same) files-at.0
 
   -- the later files are those of their labels, with the snippet lines after these
-  pub later-files : AreFilesFrom table config xs files (k + 1) snippet_lines (start + f.line_total)
+  pub later-files : AreFilesFrom database config xs files (k + 1) snippet_lines (start + f.line_total)
   later-files = record {
     inside = own-inside;
-    are = subst (AreSnippetPlans table config xs (drop (k + 1) files)) (drop-drop f.line_total start snippet_lines) files-at.1;
+    are = subst (AreSnippetPlans database config xs (drop (k + 1) files)) (drop-drop f.line_total start snippet_lines) files-at.1;
   }
 
 module _ {Id : Type 0} {config : Config} {own : LabeledFileModel} {f : SnippetPlan Id} {snippet_lines : List (RustLine Id)} (is : IsSnippetPlan config own f snippet_lines) where
@@ -130,14 +130,14 @@ module _ {Id : Type 0} {config : Config} {own : LabeledFileModel} {f : SnippetPl
 
 -- ---- the files from an index on
 
-module _ {Id : Type 0} (table : FileDatabase Id) (view : RichDiagnostic Id) where
+module _ {Id : Type 0} (database : FileDatabase Id) (view : RichDiagnostic Id) where
   -- a file with its labels
   abbrev pub labeled : Id → LabeledFileModel
-  labeled = labeled_file_model table.same table.file (labels_of (diagnostic_of view))
+  labeled = labeled_file_model database.same database.file (labels_of (diagnostic_of view))
 
   -- the lookups with a file's snippet
   abbrev pub snippet_lookups_of : Id → List (Id × Lookup)
-  snippet_lookups_of = λ id. lookups_of_file id (snippet_lookups table (labels_of (diagnostic_of view)) (view_config_of view) id)
+  snippet_lookups_of = λ id. lookups_of_file id (snippet_lookups database (labels_of (diagnostic_of view)) (view_config_of view) id)
 
   module _ (output_plan : OutputPlan Id) where
     -- the rows of the files from an index on
@@ -154,16 +154,16 @@ module _ {Id : Type 0} (table : FileDatabase Id) (view : RichDiagnostic Id) wher
       pub rendered : IsLookupRun None old (stream_of_rows (context_of renderer (diagnostic_of view).severity output_plan.padding) rows) (Ok tt) now
       pub rows_whole : rows ++ rows_left k ≡ rows_left 0
       pub lookups : List (Id × Lookup)
-      pub succeeded : first_error table.failure lookups ≡ None
+      pub succeeded : first_error database.failure lookups ≡ None
       pub lookups_whole : lookups ++ lookups_left k ≡ lookups_left 0
 
 -- no file is rendered
-pub left-start : {Id : Type 0} {table : FileDatabase Id} {view : RichDiagnostic Id} {renderer : Config} {output_plan : OutputPlan Id} {s : Sink}
-    → SnippetsLeft table view output_plan renderer 0 s s
+pub left-start : {Id : Type 0} {database : FileDatabase Id} {view : RichDiagnostic Id} {renderer : Config} {output_plan : OutputPlan Id} {s : Sink}
+    → SnippetsLeft database view output_plan renderer 0 s s
 left-start = record { rows = []; rendered = run_of_nothing; rows_whole = refl; lookups = []; succeeded = refl; lookups_whole = refl }
 
-module _ {Id : Type 0} {table : FileDatabase Id} {view : RichDiagnostic Id} {renderer : Config} {output_plan : OutputPlan Id} {k : ℕ} {old mid : Sink}
-    (planned : IsOutputPlan table (view_config_of view) (labels_of (diagnostic_of view)) output_plan) (left : SnippetsLeft table view output_plan renderer k old mid) where
+module _ {Id : Type 0} {database : FileDatabase Id} {view : RichDiagnostic Id} {renderer : Config} {output_plan : OutputPlan Id} {k : ℕ} {old mid : Sink}
+    (planned : IsOutputPlan database (view_config_of view) (labels_of (diagnostic_of view)) output_plan) (left : SnippetsLeft database view output_plan renderer k old mid) where
   -- what all rows share, in a configuration
   abbrev context_by : Config → RowContext
   context_by config = context_of config (diagnostic_of view).severity output_plan.padding
@@ -185,29 +185,29 @@ module _ {Id : Type 0} {table : FileDatabase Id} {view : RichDiagnostic Id} {ren
 
   -- the rows of these files, whose snippets have these loci
   abbrev rows_at : List Locus → List Id → List Row
-  rows_at ps js = snippets (view_config_of view) has_notes ps (map (labeled table view) js)
+  rows_at ps js = snippets (view_config_of view) has_notes ps (map (labeled database view) js)
 
   -- the rows of the files from an index on, and their lookups
   abbrev rest : ℕ → List Row
-  rest = rows_left table view output_plan
+  rest = rows_left database view output_plan
 
   abbrev lookups_from : ℕ → List (Id × Lookup)
-  lookups_from = lookups_left table view output_plan
+  lookups_from = lookups_left database view output_plan
 
   -- the rows of all files
   abbrev all_rows : List Row
-  all_rows = snippets (view_config_of view) has_notes loci (labeled_file_models table.same table.file (labels_of (diagnostic_of view)))
+  all_rows = snippets (view_config_of view) has_notes loci (labeled_file_models database.same database.file (labels_of (diagnostic_of view)))
 
   -- what all their lookups fail with
   abbrev all_failure : Option Error
-  all_failure = first_error table.failure (late_lookups table (labels_of (diagnostic_of view)) (view_config_of view))
+  all_failure = first_error database.failure (late_lookups database (labels_of (diagnostic_of view)) (view_config_of view))
 
   -- from the first index on these are all of them
   rows-all : rest 0 ≡ all_rows
   rows-all = ap (rows_at loci) planned.ids_are
 
-  failure-all : first_error table.failure (lookups_from 0) ≡ all_failure
-  failure-all = ap (λ js. first_error table.failure (flat_map (snippet_lookups_of table view) js)) planned.ids_are
+  failure-all : first_error database.failure (lookups_from 0) ≡ all_failure
+  failure-all = ap (λ js. first_error database.failure (flat_map (snippet_lookups_of database view) js)) planned.ids_are
 
   -- all files are rendered
   pub left-end : {gs : List (SnippetPlan Id)} → gs ≡ output_plan.files.items → length gs ≤ k → WritesWithLookups all_failure old (stream_of_rows context all_rows) (Ok tt) mid
@@ -215,7 +215,7 @@ module _ {Id : Type 0} {table : FileDatabase Id} {view : RichDiagnostic Id} {ren
       let none : drop k ids ≡ [] =
       drop-end ids k (omega (arith, ids-count output_plan.files.items, subst (λ (hs : List (SnippetPlan Id)). length hs ≤ k) equal past)) in
       subst₂ (λ (o : Option Error) (s : Stream). WritesWithLookups o old s (Ok tt) mid)
-      (sym left.succeeded ∙ ap (first_error table.failure) (sym (append-nil left.lookups) ∙ ap (λ js. left.lookups ++ flat_map (snippet_lookups_of table view) js) (sym none) ∙ left.lookups_whole) ∙ failure-all)
+      (sym left.succeeded ∙ ap (first_error database.failure) (sym (append-nil left.lookups) ∙ ap (λ js. left.lookups ++ flat_map (snippet_lookups_of database view) js) (sym none) ∙ left.lookups_whole) ∙ failure-all)
       (ap (stream_of_rows context) (sym (append-nil left.rows) ∙ ap (λ r. left.rows ++ r) (sym (no-rows (drop k loci)) ∙ ap (rows_at (drop k loci)) (sym none))
       ∙ left.rows_whole ∙ rows-all))
       left.rendered.renders
@@ -225,10 +225,10 @@ module _ {Id : Type 0} {table : FileDatabase Id} {view : RichDiagnostic Id} {ren
       no-rows (p ∷ ps) = refl
 
   module _ {f : SnippetPlan Id} {snippet_lines : List (RustLine Id)} {notes : Bool} {count : ℕ} {now : Config} (at : IsElementAt output_plan.files.items k f)
-      (is : IsSnippetPlan (view_config_of view) (labeled table view f.file.now.id) f snippet_lines) (notes_are : notes ≡ has_notes) (count_is : count ≡ length output_plan.files.items) (equal : now ≡ renderer) where
+      (is : IsSnippetPlan (view_config_of view) (labeled database view f.file.now.id) f snippet_lines) (notes_are : notes ≡ has_notes) (count_is : count ≡ length output_plan.files.items) (equal : now ≡ renderer) where
     -- the file with its labels
     abbrev own : LabeledFileModel
-    own = labeled table view f.file.now.id
+    own = labeled database view f.file.now.id
 
     -- the rows of the file at the index
     abbrev rows_here : List Row
@@ -236,7 +236,7 @@ module _ {Id : Type 0} {table : FileDatabase Id} {view : RichDiagnostic Id} {ren
 
     -- its lookups
     abbrev lookups_here : List (Id × Lookup)
-    lookups_here = snippet_lookups_of table view f.file.now.id
+    lookups_here = snippet_lookups_of database view f.file.now.id
 
     -- these rows come first among those that are left
     rows-next : rest k ≡ rows_here ++ rest (k + 1)
@@ -244,13 +244,13 @@ module _ {Id : Type 0} {table : FileDatabase Id} {view : RichDiagnostic Id} {ren
         ∙ ap (rows_at (locus_view f.locus ∷ drop (k + 1) loci)) (drop-one ids k f.file.now.id (id-inside at) (id-at at))
         ∙ ap (λ (b : Bool). (snippet (view_config_of view) (locus_view f.locus) own ++ row_after b own) ++ rest (k + 1)) (followed-mapped (drop (k + 1) ids))
       where
-        followed-mapped : (js : List Id) → (has_any (map (labeled table view) js) || has_notes) ≡ (has_any js || has_notes)
+        followed-mapped : (js : List Id) → (has_any (map (labeled database view) js) || has_notes) ≡ (has_any js || has_notes)
         followed-mapped [] = refl
         followed-mapped (j ∷ js) = refl
 
     -- and so do its lookups
     lookups-next : lookups_from k ≡ lookups_here ++ lookups_from (k + 1)
-    lookups-next = ap (flat_map (snippet_lookups_of table view)) (drop-one ids k f.file.now.id (id-inside at) (id-at at))
+    lookups-next = ap (flat_map (snippet_lookups_of database view)) (drop-one ids k f.file.now.id (id-inside at) (id-at at))
 
     -- something follows the file
     abbrev follows : Bool
@@ -258,73 +258,73 @@ module _ {Id : Type 0} {table : FileDatabase Id} {view : RichDiagnostic Id} {ren
 
     -- the rows of its snippet, and the row after it
     abbrev snippet_stream : Stream
-    snippet_stream = stream_of_rows context (rows_in f (table.file f.file.now.id) snippet_lines)
+    snippet_stream = stream_of_rows context (rows_in f (database.file f.file.now.id) snippet_lines)
 
     abbrev end_stream : Stream
     end_stream = stream_of_rows context (trailing_border_rows f follows)
 
     -- its lookups, as its snippet lines make them
     abbrev snippet_lines_failure : Option Error
-    snippet_lines_failure = first_error table.failure (lookups_of_file f.file.now.id (lookups_with snippet_lines))
+    snippet_lines_failure = first_error database.failure (lookups_of_file f.file.now.id (lookups_with snippet_lines))
 
     -- the snippet is rendered, by an equal configuration
-    snippet-here : {r : Result (Unit {0}) Error} {new : Sink} → WritesWithLookups snippet_lines_failure mid (stream_of_rows (context_by now) (rows_in f (table.file f.file.now.id) snippet_lines)) r new
+    snippet-here : {r : Result (Unit {0}) Error} {new : Sink} → WritesWithLookups snippet_lines_failure mid (stream_of_rows (context_by now) (rows_in f (database.file f.file.now.id) snippet_lines)) r new
         → IsLookupRun snippet_lines_failure mid snippet_stream r new
-    snippet-here renders = run_as refl (λ i. stream_of_rows (context_by (equal i)) (rows_in f (table.file f.file.now.id) snippet_lines)) (record { renders = renders })
+    snippet-here renders = run_as refl (λ i. stream_of_rows (context_by (equal i)) (rows_in f (database.file f.file.now.id) snippet_lines)) (record { renders = renders })
 
     -- both are the rows and the lookups at the index
     rendered-here : {r : Result (Unit {0}) Error} {new : Sink} → IsLookupRun (or_failure snippet_lines_failure None) mid (snippet_stream ++ end_stream) r new
-        → IsLookupRun (first_error table.failure lookups_here) mid (stream_of_rows context rows_here) r new
+        → IsLookupRun (first_error database.failure lookups_here) mid (stream_of_rows context rows_here) r new
     rendered-here both =
         let followed : follows ≡ (has_any (drop (k + 1) ids) || has_notes) =
         (λ i. notes_are i || nat_lt (k + 1) ((count_is ∙ sym (ids-count output_plan.files.items)) i)) ∙ sym (followed-at has_notes ids k) in
-        run_as (or_failure-none snippet_lines_failure ∙ ap (λ (ls : List Lookup). first_error table.failure (lookups_of_file f.file.now.id (Source ∷ ls))) is.lookups)
-        (sym (rows-two context (rows_in f (table.file f.file.now.id) snippet_lines) (trailing_border_rows f follows))
+        run_as (or_failure-none snippet_lines_failure ∙ ap (λ (ls : List Lookup). first_error database.failure (lookups_of_file f.file.now.id (Source ∷ ls))) is.lookups)
+        (sym (rows-two context (rows_in f (database.file f.file.now.id) snippet_lines) (trailing_border_rows f follows))
         ∙ ap (stream_of_rows context) (rows-are is follows)
         ∙ ap (λ (b : Bool). stream_of_rows context (snippet (view_config_of view) (locus_view f.locus) own ++ row_after b own)) followed)
         both
 
     -- the file is rendered
-    left-next : {new : Sink} → IsLookupRun (first_error table.failure lookups_here) mid (stream_of_rows context rows_here) (Ok tt) new → SnippetsLeft table view output_plan renderer (k + 1) old new
+    left-next : {new : Sink} → IsLookupRun (first_error database.failure lookups_here) mid (stream_of_rows context rows_here) (Ok tt) new → SnippetsLeft database view output_plan renderer (k + 1) old new
     left-next rendered =
         record {
           rows = left.rows ++ rows_here;
           rendered = run_as rendered.renders.0 (sym (rows-two context left.rows rows_here)) (run_then left.rendered rendered);
           rows_whole = append_assoc left.rows rows_here (rest (k + 1)) ∙ ap (λ (r : List Row). left.rows ++ r) (sym rows-next) ∙ left.rows_whole;
           lookups = left.lookups ++ lookups_here;
-          succeeded = first_error-append table.failure left.lookups lookups_here ∙ ap (λ (o : Option Error). or_failure o (first_error table.failure lookups_here)) left.succeeded ∙ rendered.renders.0;
+          succeeded = first_error-append database.failure left.lookups lookups_here ∙ ap (λ (o : Option Error). or_failure o (first_error database.failure lookups_here)) left.succeeded ∙ rendered.renders.0;
           lookups_whole = append_assoc left.lookups lookups_here (lookups_from (k + 1)) ∙ ap (λ (ls : List (Id × Lookup)). left.lookups ++ ls) (sym lookups-next) ∙ left.lookups_whole;
         }
 
     -- the file was cut short
-    left-cut : {new : Sink} {e : Error} → IsLookupRun (first_error table.failure lookups_here) mid (stream_of_rows context rows_here) (Err e) new
+    left-cut : {new : Sink} {e : Error} → IsLookupRun (first_error database.failure lookups_here) mid (stream_of_rows context rows_here) (Err e) new
         → WritesWithLookups all_failure old (stream_of_rows context all_rows) (Err e) new
     left-cut rendered =
-        let here = first_error table.failure lookups_here in
-        let after = first_error table.failure (lookups_from (k + 1)) in
+        let here = first_error database.failure lookups_here in
+        let after = first_error database.failure (lookups_from (k + 1)) in
         (run_as
         (sym (ap (λ (o : Option Error). or_failure o (or_failure here after)) left.succeeded)
-        ∙ ap (or_failure (first_error table.failure left.lookups)) (sym (first_error-append table.failure lookups_here (lookups_from (k + 1))) ∙ ap (first_error table.failure) (sym lookups-next))
-        ∙ sym (first_error-append table.failure left.lookups (lookups_from k)) ∙ ap (first_error table.failure) left.lookups_whole ∙ failure-all)
+        ∙ ap (or_failure (first_error database.failure left.lookups)) (sym (first_error-append database.failure lookups_here (lookups_from (k + 1))) ∙ ap (first_error database.failure) (sym lookups-next))
+        ∙ sym (first_error-append database.failure left.lookups (lookups_from k)) ∙ ap (first_error database.failure) left.lookups_whole ∙ failure-all)
         (ap (λ (s : Stream). stream_of_rows context left.rows ++ s) (sym (rows-two context rows_here (rest (k + 1))) ∙ ap (stream_of_rows context) (sym rows-next))
         ∙ sym (rows-two context left.rows (rest k)) ∙ ap (stream_of_rows context) (left.rows_whole ∙ rows-all))
         (run_then left.rendered (run_cut after (stream_of_rows context (rest (k + 1))) rendered))).renders
 
     -- the snippet was cut short
-    pub cut-in_snippet : {new : Sink} {e : Error} → WritesWithLookups snippet_lines_failure mid (stream_of_rows (context_by now) (rows_in f (table.file f.file.now.id) snippet_lines)) (Err e) new
+    pub cut-in_snippet : {new : Sink} {e : Error} → WritesWithLookups snippet_lines_failure mid (stream_of_rows (context_by now) (rows_in f (database.file f.file.now.id) snippet_lines)) (Err e) new
         → WritesWithLookups all_failure old (stream_of_rows context all_rows) (Err e) new
     cut-in_snippet renders = left-cut (rendered-here (run_cut None end_stream (snippet-here renders)))
 
-    module _ {inner : Sink} (renders : WritesWithLookups snippet_lines_failure mid (stream_of_rows (context_by now) (rows_in f (table.file f.file.now.id) snippet_lines)) (Ok tt) inner)
+    module _ {inner : Sink} (renders : WritesWithLookups snippet_lines_failure mid (stream_of_rows (context_by now) (rows_in f (database.file f.file.now.id) snippet_lines)) (Ok tt) inner)
         {after : Config} (equal_after : after ≡ now) where
       -- then the row after it was rendered, by an equal configuration, however that ends
       end-here : {r : Result (Unit {0}) Error} {new : Sink} → Writes inner (stream_of_rows (context_by after) (trailing_border_rows f follows)) r new → IfErr r IsIo
-          → IsLookupRun (first_error table.failure lookups_here) mid (stream_of_rows context rows_here) r new
+          → IsLookupRun (first_error database.failure lookups_here) mid (stream_of_rows context rows_here) r new
       end-here {r} {new} writes io =
           rendered-here (run_then (snippet-here renders) (run_of_writes r (write_at (λ (c : Config). stream_of_rows (context_by c) (trailing_border_rows f follows)) (equal_after ∙ equal) inner new r writes) io))
 
       -- it was written
-      pub next-file : {new : Sink} → WroteStream inner (stream_of_rows (context_by after) (trailing_border_rows f follows)) new → SnippetsLeft table view output_plan renderer (k + 1) old new
+      pub next-file : {new : Sink} → WroteStream inner (stream_of_rows (context_by after) (trailing_border_rows f follows)) new → SnippetsLeft database view output_plan renderer (k + 1) old new
       next-file written = left-next (end-here written tt)
 
       -- it was cut short

@@ -37,13 +37,13 @@ written_after s t u a b (Err e) written writes = failed-then a written writes
 
 -- ---- the snippet of a file
 
-module _ {F Id : Type 0} (table : F → FileDatabase Id) (context : SnippetContext F) (snippet : SnippetPlan Id) (own : List (SnippetLine Id)) (config : Config) where
+module _ {F Id : Type 0} (database : F → FileDatabase Id) (context : SnippetContext F) (snippet : SnippetPlan Id) (own : List (SnippetLine Id)) (config : Config) where
   -- the source of its file was looked up, and so it is rendered
   pub record IsOpen : Type 0 where
-    pub succeeded : (table context.files.now).failure snippet.file.now.id Source ≡ None
+    pub succeeded : (database context.files.now).failure snippet.file.now.id Source ≡ None
 
-module _ {F Id : Type 0} {table : F → FileDatabase Id} {context : SnippetContext F} {snippet : SnippetPlan Id} {own : List (SnippetLine Id)} {config : Config}
-    (opened : IsOpen table context snippet own config) where
+module _ {F Id : Type 0} {database : F → FileDatabase Id} {context : SnippetContext F} {snippet : SnippetPlan Id} {own : List (SnippetLine Id)} {config : Config}
+    (opened : IsOpen database context snippet own config) where
   -- what rows share, as a configuration renders them
   abbrev context_by : Config → RowContext
   context_by by = context_of by context.severity context.padding
@@ -54,11 +54,11 @@ module _ {F Id : Type 0} {table : F → FileDatabase Id} {context : SnippetConte
 
   -- the rows of its lines
   abbrev line_rows : List Row
-  line_rows = rows_of_lines ((table context.files.now).file snippet.file.now.id) snippet.file.now.lane_count (map line_view own)
+  line_rows = rows_of_lines ((database context.files.now).file snippet.file.now.id) snippet.file.now.lane_count (map line_view own)
 
   -- the error of the lookups of these snippet lines
   abbrev lookups_failure : List (SnippetLine Id) → Option Error
-  lookups_failure snippet_lines = first_error (table context.files.now).failure (lookups_of_file snippet.file.now.id (lookups_of_lines snippet_lines))
+  lookups_failure snippet_lines = first_error (database context.files.now).failure (lookups_of_file snippet.file.now.id (lookups_of_lines snippet_lines))
 
   -- the streams of its first rows, and of its lines
   abbrev at_start : Stream
@@ -70,7 +70,7 @@ module _ {F Id : Type 0} {table : F → FileDatabase Id} {context : SnippetConte
   -- a call renders all of it, and makes all its lookups
   abbrev RendersWhole : Sink → Result (Unit {0}) Error → Sink → Type 0
   RendersWhole s r t =
-      WritesWithLookups (or_failure ((table context.files.now).failure snippet.file.now.id Source) (lookups_failure own)) s (stream (start_rows snippet ++ line_rows)) r t
+      WritesWithLookups (or_failure ((database context.files.now).failure snippet.file.now.id Source) (lookups_failure own)) s (stream (start_rows snippet ++ line_rows)) r t
 
   -- a call renders its lines, and makes their lookups
   abbrev RendersItsLines : Sink → Result (Unit {0}) Error → Sink → Type 0

@@ -12,15 +12,15 @@ use Rattle.codespan_plan.specs.SnippetLineViews.{lookups_of_lines, line_view}
 use Rattle.codespan_reporting.specs.Private.Rendering.{RendersRowsWithLookups}
 use Rattle.codespan_plan.specs.SnippetLines.{SnippetLine, rows_of_line, rows_of_lines}
 
-module _ {W F Id Name Source : Type 0} (sink : W → Sink) (table : F → FileDatabase Id)
+module _ {W F Id Name Source : Type 0} (sink : W → Sink) (database : F → FileDatabase Id)
     (lines : Snippet F Id Name Source) where
   -- the call renders rows of the file, and makes these lookups
   abbrev pub RendersFileRows : List Lookup → (FileModel → List Row) → Renderer W
       → Result (Unit {0}) Error → Renderer W → Type 0
   RendersFileRows lookups rows =
       let context = lines.context.now in
-      RendersRowsWithLookups sink (failure_of table lines.file lookups) context.severity
-      context.padding (rows (model_of table lines.file))
+      RendersRowsWithLookups sink (failure_of database lines.file lookups) context.severity
+      context.padding (rows (model_of database lines.file))
 
   -- the call renders a line of the snippet, and makes these lookups
   abbrev pub RendersLine : List Lookup → SnippetLine → Renderer W → Result (Unit {0}) Error

@@ -37,13 +37,13 @@ module _ {Id : Type 0} (file : SnippetPlan Id) where
 abbrev pub lookups_with : {Id : Type 0} → List (RustLine Id) → List Lookup
 lookups_with snippet_lines = Source ∷ lookups_of_lines snippet_lines
 
-module _ {W F Id : Type 0} (sink : W → Sink) (table : F → FileDatabase Id)
+module _ {W F Id : Type 0} (sink : W → Sink) (database : F → FileDatabase Id)
     (context : SnippetContext F) where
   -- the call renders the snippet of a file by these lines, and makes its lookups
   abbrev pub RendersSnippet : SnippetPlan Id → List (RustLine Id) → Renderer W
       → Result (Unit {0}) Error → Renderer W → Type 0
   RendersSnippet f snippet_lines =
-      let t = table context.files.now in
+      let t = database context.files.now in
       let id = f.file.now.id in
       RendersRowsWithLookups sink (failure_in t.failure id (lookups_with snippet_lines))
       context.severity context.padding

@@ -39,13 +39,13 @@ module _ {Id : Type 0} (d : Diagnostic Id) where
 
 -- ---- calls
 
-module _ {W Id : Type 0} (sink : W → Sink) (table : FileDatabase Id) where
+module _ {W Id : Type 0} (sink : W → Sink) (database : FileDatabase Id) where
   -- the call renders the headers of those of these labels that are primary, and returns whether
   -- there is one
   abbrev pub RendersHeadersOf : Diagnostic Id → List (InFile Id) → Renderer W → Result Bool Error
       → Renderer W → Type 0
   RendersHeadersOf d xs old r new =
-      RendersHeaders (config_of old) table.file table.failure d (primary_of xs)
+      RendersHeaders (config_of old) database.file database.failure d (primary_of xs)
       (sink (writer_of old))
       r (sink (writer_of new))
 
@@ -53,21 +53,21 @@ module _ {W Id : Type 0} (sink : W → Sink) (table : FileDatabase Id) where
   abbrev pub RendersInStyle : DisplayStyle → Diagnostic Id → Renderer W → Result (Unit {0}) Error
       → Renderer W → Type 0
   RendersInStyle style d old r new =
-      WritesOutput style (config_of old) (config_of old) table d (sink (writer_of old)) r
+      WritesOutput style (config_of old) (config_of old) database d (sink (writer_of old)) r
       (sink (writer_of new))
 
   module _ (view : RichDiagnostic Id) where
     -- the call renders a rich view
     abbrev pub RendersView : Renderer W → Result (Unit {0}) Error → Renderer W → Type 0
     RendersView old r new =
-        WritesOutput Rich (config_of old) (view_config_of view) table (diagnostic_of view)
+        WritesOutput Rich (config_of old) (view_config_of view) database (diagnostic_of view)
         (sink (writer_of old)) r (sink (writer_of new))
 
     -- the error of the first of the lookups of its snippets that fails; they are after its header
     abbrev pub snippets_failure : Option Error
     snippets_failure =
-        first_error table.failure
-        (late_lookups table (labels_of (diagnostic_of view)) (view_config_of view))
+        first_error database.failure
+        (late_lookups database (labels_of (diagnostic_of view)) (view_config_of view))
 
     -- the call renders its snippets, which start at the loci of a plan, and makes their lookups
     abbrev pub RendersSnippets : OutputPlan Id → Renderer W → Result (Unit {0}) Error → Renderer W
@@ -76,4 +76,4 @@ module _ {W Id : Type 0} (sink : W → Sink) (table : FileDatabase Id) where
         let d = diagnostic_of view in
         RendersRowsWithLookups sink snippets_failure d.severity output_plan.padding
         (snippets (view_config_of view) (has_any (notes_of d)) (loci_of output_plan.files.items)
-        (labeled_file_models table.same table.file (labels_of d)))
+        (labeled_file_models database.same database.file (labels_of d)))

@@ -106,9 +106,9 @@ loop-index-preserved g c =
     let known = c.add_label.ensures in
     let own = lanes_by-are (((g.F.Files.database c.args.files.now).file) label.file_id) (label_of label).label c.in_ok-lines.lines found.first found.last in
     let lane = lane_there g (goal.at.loop-index-preserved g c).After-index (indices_inside g (goal.at.loop-index-preserved g c).In_ok-file at) in
-    let table = g.F.Files.database c.args.files.now in
+    let database = g.F.Files.database c.args.files.now in
     collected-more lawful at there (found_there g (goal.at.loop-index-preserved g c).In_ok-file) (record {
-      added = subst (λ n. FindsLines (collected_label table c.args.config.now (record { file = c.in_ok-file.file; index = c.loop-index.index; lane = n }) label) c.loop-index.found c.collect_label.new.found) lane found.added;
+      added = subst (λ n. FindsLines (collected_label database c.args.config.now (record { file = c.in_ok-file.file; index = c.loop-index.index; lane = n }) label) c.loop-index.found c.collect_label.new.found) lane found.added;
       counted = found.padding;
       succeeded = found.failed;
     }) (record {
