@@ -15,7 +15,7 @@ use codespan_base::files::{Error, Files};
 use codespan_base::term::Layout;
 
 /// A line of a snippet.
-#[derive(Clone, Copy)]
+#[derive(Drop)]
 pub enum SnippetLine<'e, 'd, FileId> {
     /// A shown line.
     Labeled {
