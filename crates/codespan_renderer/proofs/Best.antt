@@ -5,7 +5,7 @@ use Rattle.std.specs.List.{list_any}
 use Rattle.codespan_base.specs.declared.diagnostic.LabelStyle.{LabelStyle}
 use Rattle.codespan_base.specs.declared.diagnostic.LabelStyle.TheVariants.{Primary, Secondary}
 use Rattle.codespan_base.specs.Labels.{LabelModel, is_primary}
-use Rattle.codespan_renderer.specs.Private.Runs.{primary_first, best_from}
+use Rattle.codespan_renderer.specs.Private.BestStyles.{primary_first, best_from}
 
 -- a label that passes betters what was found
 pub best-cons : (passes : LabelModel → Bool) (found : Option LabelStyle) (x : LabelModel) (xs : List LabelModel)

@@ -18,8 +18,9 @@ use Rattle.codespan_picture.specs.Carets.{covers}
 use Rattle.codespan_picture.specs.Arguments.{SingleLabelTuple, single_label_view, single_label_views, starts_from}
 use Rattle.codespan_renderer.specs.declared.term.renderer.cached.cached_metrics.CachedMetrics.{CachedMetrics}
 use Rattle.codespan_renderer.specs.Private.CachedMetrics.{cached_left}
-use Rattle.codespan_renderer.specs.Private.CursorStates.{Follow, IsBefore, HasReturned}
-use Rattle.codespan_renderer.specs.Private.LabelCursors.{is_covered, end_with, IsReached, HasPassedLabels}
+use Rattle.codespan_rows.specs.CharCursors.{Follow, is_covered}
+use Rattle.codespan_renderer.specs.Private.CursorStates.{IsBefore, HasReturned}
+use Rattle.codespan_renderer.specs.Private.LabelCursors.{end_with, IsReached, HasPassedLabels}
 
 -- a label that starts before the character's end has a byte of it where it has one at all and ends
 -- past the byte index of the character

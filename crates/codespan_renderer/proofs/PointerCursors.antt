@@ -11,8 +11,9 @@ use Rattle.codespan_picture.specs.Rows.{hanging}
 use Rattle.codespan_picture.specs.RowParts.{max_label_start, starts_in}
 use Rattle.codespan_picture.proofs.HangingStarts.{any-below, any-hanging, starts_in-low}
 use Rattle.std.specs.List.{list_any}
-use Rattle.codespan_renderer.specs.Private.Runs.{best_from, pointer_found, AreHanging}
-use Rattle.codespan_renderer.proofs.Hanging.{pointer_is}
+use Rattle.codespan_renderer.specs.Private.BestStyles.{best_from, pointer_found}
+use Rattle.codespan_rows.specs.Runs.{AreHanging}
+use Rattle.codespan_renderer.proofs.ScannedPointers.{pointer_is}
 use Rattle.codespan_picture.proofs.Consecutive.{AreConsecutive}
 
 -- two cursors have passed the labels of two lists that begin before these characters

@@ -1,5 +1,5 @@
 -- The pointers of a line with spaces between them.
-use Rattle.std.proofs.Common.{◌≡◌, ℕ, ◌+◌, ◌-◌, ◌<◌, ◌≤◌, max, min, Bool, true, false, cond, nat_lt, nat_le, List, [], ◌∷◌, ◌++◌, length, drop, get_or, drop-cons, add-one, Option, Some, None, refl, sym, ap, ◌∙◌, arith, append_assoc, append-nil, lt-ltb}
+use Rattle.std.proofs.Common.{◌≡◌, ℕ, ◌+◌, ◌-◌, ◌<◌, ◌≤◌, min, Bool, true, false, cond, nat_lt, nat_le, List, [], ◌∷◌, ◌++◌, length, drop, get_or, drop-cons, add-one, Option, Some, None, refl, sym, ap, ◌∙◌, arith, append_assoc, append-nil, lt-ltb}
 use Rattle.std.proofs.lemmas.Bool.Decides.{nat_tests}
 use Rattle.std.proofs.lemmas.Grind.{common_steps}
 use Rattle.codespan_base.specs.declared.diagnostic.LabelStyle.{LabelStyle}
@@ -12,16 +12,13 @@ use Rattle.codespan_picture.specs.Lanes.{label_glyph}
 use Rattle.codespan_renderer.specs.Private.PointerLists.{pointer_under, pointers_in, pointers_before, spaced}
 use Rattle.codespan_picture.specs.Rows.{RowContext, hanging}
 use Rattle.codespan_picture.specs.RowParts.{starts_in, pointer_style, max_label_start, spaces_up_to, pointers, metrics_before, metrics_up_to}
-use Rattle.codespan_renderer.specs.Private.Runs.{pointer_found}
+use Rattle.codespan_renderer.specs.Private.BestStyles.{pointer_found}
 use Rattle.std.specs.Prelude.{if◌then◌else◌}
-use Rattle.std.specs.List.{list_any, push}
-use Rattle.std.proofs.lemmas.List.{map-append}
-use Rattle.std.proofs.lemmas.List.Sums.{fold-append}
-use Rattle.codespan_picture.specs.Arguments.{SingleLabelTuple, single_label_view, single_label_views}
-use Rattle.codespan_renderer.proofs.Hanging.{spaces_none, spaces_due, spaces_past, pointer_none, pointer_some}
+use Rattle.std.specs.List.{list_any}
+use Rattle.codespan_renderer.proofs.ScannedPointers.{spaces_none, spaces_due, spaces_past, pointer_none, pointer_some}
 use Rattle.codespan_picture.proofs.HangingStarts.{any-below, any-hanging, starts_in-low}
 use Rattle.codespan_picture.proofs.Consecutive.{AreConsecutive, none-before}
-use Rattle.codespan_renderer.proofs.Underlines.{width-in, width-out}
+use Rattle.codespan_rows.proofs.UnderlineRows.{width-in, width-out}
 
 -- ---- a loop over the pointers
 
@@ -204,17 +201,3 @@ pub spaced-near : (context : RowContext) (labels : List LabelModel) (cs : List M
     → spaced context edge 0 (pointers_before before ps) ≡ pointers context labels (metrics_before before cs)
 spaced-near context labels cs ps before edge adjacent near found wide =
     rw (wide, found) (spaced-before context labels before cs adjacent near)
-
--- ---- labels from the last one on
-
--- the last of the remaining labels starts no later than the greatest start, nor do the others
-pub record IsNear (rest : List SingleLabelTuple) (x : SingleLabelTuple) (reach : ℕ) : Type 0 where
-  pub here : x.1.start ≤ reach
-  pub others : max_label_start (single_label_views rest) ≤ reach
-
-pub near-last : (left rest : List SingleLabelTuple) (x : SingleLabelTuple) (reach : ℕ) → left ≡ push rest x → max_label_start (single_label_views left) ≤ reach → IsNear rest x reach
-near-last left rest x reach step near =
-    let parts : max_label_start (single_label_views left) ≡ max (max_label_start (single_label_views rest)) x.1.start =
-    ap (λ xs. max_label_start (single_label_views xs)) step ∙ ap max_label_start (map-append single_label_view rest (x ∷ []))
-    ∙ fold-append (λ m (y : LabelModel). max m y.start) 0 (single_label_views rest) (single_label_view x ∷ []) in
-    record { here = omega arith; others = omega arith }

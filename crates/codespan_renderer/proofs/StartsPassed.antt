@@ -8,9 +8,9 @@ use Rattle.codespan_base.specs.Labels.{LabelModel, has_message}
 use Rattle.codespan_picture.specs.declared.char_metrics.Metrics.{Metrics}
 use Rattle.codespan_picture.specs.Arguments.{SingleLabelTuple, single_label_view, single_label_views, starts_from}
 use Rattle.codespan_picture.specs.RowParts.{starts_in}
-use Rattle.codespan_renderer.specs.Private.Runs.{primary_first, best_from}
+use Rattle.codespan_renderer.specs.Private.BestStyles.{primary_first, best_from}
 use Rattle.codespan_renderer.proofs.Best.{best-cons}
-use Rattle.codespan_renderer.proofs.Hanging.{best_step}
+use Rattle.codespan_renderer.proofs.ScannedPointers.{best_step}
 
 -- a label that starts in the character
 pub start-here : (c : Metrics) (found best : Option LabelStyle) (ys xs : List SingleLabelTuple) (i : ℕ) (d : SingleLabelTuple) (empty : Bool) → ys ≡ xs → i < length xs

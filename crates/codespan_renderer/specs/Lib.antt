@@ -26,7 +26,8 @@ pub use Rattle.codespan_picture.specs.Padding
 pub use Rattle.codespan_picture.specs.Picture
 pub use Rattle.codespan_picture.specs.Lookups
 pub use Rattle.codespan_picture.specs.Arguments
--- a renderer, as its contracts see it
+-- a renderer, as its contracts see it, and what its calls render
 pub mod Renderers
+pub use Rattle.codespan_rows.specs.RenderedRows
 -- words that private calls and proofs use
 pub mod Private

@@ -1,14 +1,9 @@
 -- What a cursor over cached characters has returned, and which labels it has passed.
-use Rattle.std.specs.Prelude.{◌≡◌, ℕ, ◌+◌, ◌≤◌, List, [], ◌∷◌}
+use Rattle.std.specs.Prelude.{ℕ, ◌+◌, ◌≤◌, List}
 use Rattle.codespan_picture.specs.declared.char_metrics.Metrics.{Metrics}
 use Rattle.codespan_renderer.specs.declared.term.renderer.cached.label_cursor.LabelCursor.{LabelCursor}
 use Rattle.codespan_renderer.specs.Private.LabelCursors.{HasPassedLabels}
-
--- characters of at least one byte each, one after another from a byte index on
-abbrev pub Follow : ℕ → List Metrics → Type 0
-Follow byte_index [] = Unit {0}
-Follow byte_index (c ∷ cs) =
-    (c.byte_index ≡ byte_index) × (1 ≤ c.bytes) × Follow (byte_index + c.bytes) cs
+use Rattle.codespan_rows.specs.CharCursors.{Follow}
 
 -- the cursor is before these characters, and has passed the labels that begin before the first of
 -- them

@@ -1,15 +1,10 @@
 -- A cursor over the characters of a line that passes its labels as they begin.
 use Rattle.std.specs.Prelude.{◌≡◌, ℕ, ◌+◌, ◌≤◌, Bool, true, ◌||◌, ◌&&◌, nat_lt, max, if◌then◌else◌, List, drop}
-use Rattle.std.specs.List.{list_any}
 use Rattle.codespan_base.specs.Labels.{LabelModel, is_primary}
 use Rattle.codespan_picture.specs.declared.char_metrics.Metrics.{Metrics}
 use Rattle.codespan_renderer.specs.declared.term.renderer.cached.label_cursor.LabelCursor.{LabelCursor}
-use Rattle.codespan_picture.specs.Carets.{covers}
 use Rattle.codespan_picture.specs.Arguments.{single_label_views, starts_in_order}
-
--- one of the labels that pass has a byte of the character
-abbrev pub is_covered : (LabelModel → Bool) → List LabelModel → Metrics → Bool
-is_covered passes xs c = list_any (λ x. passes x && covers x c) xs
+use Rattle.codespan_rows.specs.CharCursors.{is_covered}
 
 -- the greatest end with that of a label that counts; one with no byte has none
 abbrev pub end_with : Bool → ℕ → LabelModel → ℕ

@@ -12,7 +12,7 @@ use Rattle.codespan_picture.specs.Arguments.{single_label_views, starts_from}
 use Rattle.codespan_picture.specs.Lanes.{label_glyph}
 use Rattle.codespan_picture.specs.Rows.{RowContext}
 use Rattle.codespan_picture.specs.RowParts.{starts_in}
-use Rattle.codespan_renderer.specs.Private.Runs.{best_from, pointer_found}
+use Rattle.codespan_renderer.specs.Private.BestStyles.{best_from, pointer_found}
 
 -- the pointer under a character, of this style
 abbrev pub pointer_under : Metrics → LabelStyle → Pointer

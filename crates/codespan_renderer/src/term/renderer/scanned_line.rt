@@ -2,18 +2,21 @@
 //! character.
 
 ghost use Rattle.std.specs.Prelude.{⊤};
+ghost use Rattle.codespan_base.specs.WriterLaw.{Writes};
+ghost use Rattle.codespan_rows.specs.RowViews.{pointers_before_view};
+ghost use Rattle.codespan_rows.specs.Runs.{AreHanging};
 
 use crate::term::renderer::SingleLabel;
-use crate::term::renderer::carets::style_under;
-use crate::term::renderer::char_cursor::CharCursor;
 use crate::term::renderer::char_metrics::{CharMetrics, Metrics};
-use crate::term::renderer::line::{Line, RowContext};
-use crate::term::renderer::line_source::LineSource;
-use crate::term::renderer::messages::Messages;
-use crate::term::renderer::pointers::scanned_caret_pointers;
-use crate::term::renderer::source::has_primary_label;
+use crate::term::renderer::label_styles::{has_primary_label, pointer_in, style_under};
 use codespan_base::diagnostic::LabelStyle;
 use codespan_base::term::config::put_style::PutStyle;
+use codespan_rows::char_cursor::CharCursor;
+use codespan_rows::line::{Line, RowContext};
+use codespan_rows::line_source::LineSource;
+use codespan_rows::messages::Messages;
+use codespan_rows::pointers::{caret_pointer, max_label_start};
+use codespan_rows::runs::write_spaces;
 
 /// A cursor that scans the text of a line. It tests all labels at each character, so they may be in
 /// any order.
@@ -110,4 +113,36 @@ impl<'row, 'd> LineSource for ScannedLine<'row, 'd> {
     ) -> Result<(), W::Error> {
         scanned_caret_pointers(w, context, line, messages, before)
     }
+}
+
+/// Writes the pointers of the characters of a line that begin before a byte index. It tests each
+/// label at each of them.
+fn scanned_caret_pointers<W: PutStyle>(
+    w: &mut W,
+    context: RowContext<'_>,
+    line: Line<'_, '_>,
+    messages: Messages<'_, '_>,
+    before: usize,
+) -> Result<(), W::Error>
+    requires { AreHanging line.labels.now messages.before.now messages.after.now }
+    ensures { Writes (W.sink w.old) (pointers_before_view context.entry line.entry before)
+        result (W.sink w.new) }
+{
+    let reach = max_label_start(line.labels);
+    let mut pending = 0u128;
+    for metrics in CharMetrics::new(line.text, context.tab_width) {
+        if metrics.byte_index >= before {
+            continue;
+        }
+        let mut width = metrics.width;
+        if let Some(style) = pointer_in(line.labels, messages, metrics) {
+            caret_pointer(w, context, pending, style)?;
+            pending = 0;
+            width = width.saturating_sub(1);
+        }
+        if metrics.byte_index <= reach {
+            pending += width as u128;
+        }
+    }
+    write_spaces(w, pending)
 }

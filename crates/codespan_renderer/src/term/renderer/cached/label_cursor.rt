@@ -6,12 +6,13 @@ ghost use Rattle.codespan_picture.specs.Carets.{style_under};
 ghost use Rattle.codespan_picture.specs.Arguments.{single_label_view, single_label_views, starts_in_order};
 ghost use Rattle.codespan_renderer.specs.Private.PointerLists.{HasPassed};
 ghost use Rattle.codespan_picture.specs.RowParts.{starts_in};
-ghost use Rattle.codespan_renderer.specs.Private.Runs.{best_from};
-ghost use Rattle.codespan_renderer.specs.Private.LabelCursors.{is_covered, end_with, HasPassedLabels};
+ghost use Rattle.codespan_renderer.specs.Private.BestStyles.{best_from};
+ghost use Rattle.codespan_rows.specs.CharCursors.{is_covered};
+ghost use Rattle.codespan_renderer.specs.Private.LabelCursors.{end_with, HasPassedLabels};
 
 use crate::term::renderer::SingleLabel;
-use crate::term::renderer::carets::primary_first;
 use crate::term::renderer::char_metrics::Metrics;
+use crate::term::renderer::label_styles::primary_first;
 use codespan_base::diagnostic::LabelStyle;
 
 /// A cursor over the labels of a line, which passes a label once a character is under it.

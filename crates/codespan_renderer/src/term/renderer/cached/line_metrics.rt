@@ -11,10 +11,10 @@ use crate::term::renderer::cached::cached_metrics::CachedMetrics;
 use crate::term::renderer::cached::pointers::{Pointer, find_pointers};
 use crate::term::renderer::cached::reach::reach_of;
 use crate::term::renderer::char_metrics::{CharMetrics, Metrics};
-use crate::term::renderer::line::Line;
-use crate::term::renderer::messages::Messages;
 use codespan_base::files::Error;
 use codespan_base::term::WriteStyle;
+use codespan_rows::line::Line;
+use codespan_rows::messages::Messages;
 use std::alloc::Global;
 
 /// The characters of a line and the pointers under them, cached for all its rows.

@@ -1,32 +1,25 @@
 //! The pointers under the carets of a line, cached for its pointer row and its hanging messages.
 
-ghost use Rattle.std.specs.Prelude.{◌≡◌, ◌+◌, ◌^◌, ◌++◌, ◌<◌, ◌≤◌, IfOk, IsErrOf, IsTrue, OnErr};
-ghost use Rattle.codespan_base.specs.Streams.{newline};
+ghost use Rattle.std.specs.Prelude.{◌≡◌, ◌+◌, ◌^◌, ◌<◌, IfOk, IsErrOf, IsTrue, OnErr};
 ghost use Rattle.codespan_base.specs.WriterLaw.{Writes};
-ghost use Rattle.codespan_picture.specs.CharMetrics.{char_metrics, width_of};
-ghost use Rattle.codespan_picture.specs.Arguments.{single_label_view, single_label_views, starts_in_order};
-ghost use Rattle.codespan_renderer.specs.Private.LineViews.{context_view, line_view};
-ghost use Rattle.codespan_renderer.specs.Private.RowViews.{line_metrics_view, hanging_stream_view, hanging_rows_view, messages_view, pointers_view};
+ghost use Rattle.codespan_picture.specs.CharMetrics.{char_metrics};
+ghost use Rattle.codespan_picture.specs.Arguments.{single_label_views, starts_in_order};
+ghost use Rattle.codespan_rows.specs.LineViews.{context_view};
 ghost use Rattle.codespan_renderer.specs.Private.CachedMetrics.{cached_left};
 ghost use Rattle.codespan_renderer.specs.Private.PointerLists.{pointer_under, pointers_in, pointers_before, spaced};
 ghost use Rattle.codespan_picture.specs.Rows.{hanging};
-ghost use Rattle.codespan_picture.specs.RowParts.{metrics_before, metrics_up_to, max_label_start, pointers};
-ghost use Rattle.codespan_picture.specs.RowStreams.{pointer_row, hanging_row};
-ghost use Rattle.codespan_renderer.specs.Private.Runs.{AreHanging, ArePieces};
+ghost use Rattle.codespan_rows.specs.Runs.{AreHanging};
 
-use crate::term::renderer::SingleLabel;
 use crate::term::renderer::cached::cached_metrics::CachedMetrics;
 use crate::term::renderer::cached::label_cursor::StartCursor;
-use crate::term::renderer::carets::write_message;
 use crate::term::renderer::char_metrics::Metrics;
-use crate::term::renderer::line::{Line, RowContext};
-use crate::term::renderer::messages::Messages;
-use crate::term::renderer::parts::{write_newline, write_row_start};
-use crate::term::renderer::pointers::{caret_pointer, has_any_message, max_label_start};
-use crate::term::renderer::runs::write_spaces;
 use codespan_base::diagnostic::LabelStyle;
 use codespan_base::files::Error;
 use codespan_base::term::config::put_style::PutStyle;
+use codespan_rows::line::{Line, RowContext};
+use codespan_rows::messages::Messages;
+use codespan_rows::pointers::{caret_pointer, has_any_message, max_label_start};
+use codespan_rows::runs::write_spaces;
 
 /// A character from which labels hang.
 #[derive(Clone, Copy, Debug)]

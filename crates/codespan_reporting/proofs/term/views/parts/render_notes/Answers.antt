@@ -7,7 +7,8 @@ use Rattle.codespan_base.specs.Streams.{Stream}
 use Rattle.codespan_base.proofs.Writes.{with_written-nil}
 use Rattle.codespan_reporting.specs.Private.LookupsWhileRendering.{WroteStream, WrotePrefix}
 use Rattle.codespan_picture.specs.Picture.{context_of}
-use Rattle.codespan_renderer.specs.Renderers.{config_of, writer_of, note_stream}
+use Rattle.codespan_renderer.specs.Renderers.{config_of, writer_of}
+use Rattle.codespan_rows.specs.RenderedRows.{note_stream}
 use Rattle.codespan_base.proofs.Chains.{written-then, failed-before, failed-then}
 use Rattle.codespan_reporting.proofs.Chains.{written_at, failed_at}
 use Rattle.codespan_reporting.proofs.NoteRows.{notes-all, notes-cut, notes-next, stream_of_notes}

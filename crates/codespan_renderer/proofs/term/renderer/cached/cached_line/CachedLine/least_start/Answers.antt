@@ -1,5 +1,5 @@
 use Rattle.std.proofs.Common.{◌∙◌}
-use Rattle.codespan_renderer.proofs.SkippedCells.{least-given}
+use Rattle.codespan_renderer.proofs.SkippedSearch.{least-given}
 use Rattle.codespan_renderer.proofs.term.renderer.cached.cached_line.CachedLine.least_start.Goals as goal
 
 pub returns-in-Some : goal.returns-in-Some

@@ -5,7 +5,7 @@ use Rattle.codespan_picture.specs.declared.char_metrics.Metrics.{Metrics}
 use Rattle.codespan_picture.specs.Arguments.{single_label_views, starts_from}
 use Rattle.codespan_renderer.specs.Private.PointerLists.{starts_left}
 use Rattle.codespan_picture.specs.RowParts.{starts_in}
-use Rattle.codespan_renderer.specs.Private.Runs.{best_from}
+use Rattle.codespan_renderer.specs.Private.BestStyles.{best_from}
 use Rattle.codespan_renderer.proofs.term.renderer.cached.label_cursor.StartCursor.best_start.Given as goal
 
 -- the remaining labels improve on what was found; those behind start in no later character

@@ -1,4 +1,4 @@
-use Rattle.codespan_renderer.proofs.Pieces.{before-ordered, after-ordered}
+use Rattle.codespan_renderer.proofs.PiecesInOrder.{before-ordered, after-ordered}
 use Rattle.codespan_renderer.proofs.term.renderer.cached.line_metrics.LineMetrics.take_line.Goals as goal
 
 pub find_pointers-requires-clause-before : goal.find_pointers-requires-clause-before

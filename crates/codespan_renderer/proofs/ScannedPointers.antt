@@ -1,0 +1,154 @@
+-- The style of a pointer, and the pointers of a line, character by character.
+use Rattle.std.proofs.Common.{◌≡◌, ℕ, suc, ◌+◌, ◌-◌, ◌<◌, ◌≤◌, Bool, true, false, cond, ◌==◌, ◌&&◌, ◌||◌, nat_lt, nat_le, List, [], ◌∷◌, ◌++◌, length, get_or, drop, filter, fold, Option, Some, None, refl, sym, ap, ◌∙◌, drop-cons, add-one, append_assoc, append-nil}
+use Rattle.std.specs.Prelude.{not, if◌then◌else◌}
+use Rattle.std.specs.List.{list_any}
+use Rattle.std.proofs.lemmas.Bool.{le-leb, lt-leb, lt-ltb}
+use Rattle.std.proofs.lemmas.List.Elements.{filter-append}
+use Rattle.std.proofs.lemmas.List.Sums.{fold-append}
+use Rattle.codespan_base.specs.declared.diagnostic.LabelStyle.{LabelStyle}
+use Rattle.codespan_base.specs.declared.diagnostic.LabelStyle.TheVariants.{Primary, Secondary}
+use Rattle.codespan_base.specs.Labels.{LabelModel, has_message, is_primary, is_primary_style}
+use Rattle.codespan_base.specs.Streams.{Stream, bytes, spaces}
+use Rattle.codespan_picture.specs.declared.char_metrics.Metrics.{Metrics}
+use Rattle.codespan_picture.specs.Arguments.{SingleLabelTuple, single_label_view, single_label_views}
+use Rattle.codespan_picture.specs.Lanes.{label_glyph}
+use Rattle.codespan_picture.specs.Rows.{RowContext, hanging}
+use Rattle.codespan_picture.specs.RowParts.{starts_in, pointer_style, max_label_start, spaces_up_to, pointer_at, pointers, metrics_before}
+use Rattle.codespan_renderer.specs.Private.BestStyles.{primary_first, best_from, pointer_found}
+use Rattle.codespan_rows.specs.Runs.{AreHanging}
+use Rattle.codespan_renderer.proofs.Best.{best-cons, best-primary}
+use Rattle.codespan_rows.proofs.RowWords.{spaces-add}
+use Rattle.codespan_rows.proofs.Hanging.{hanging_parts, spaces_is}
+
+-- ---- the style of a pointer
+
+-- the best of two lists
+best_append : (p : LabelModel → Bool) (found : Option LabelStyle) (xs ys : List LabelModel) → best_from p found (xs ++ ys) ≡ best_from p (best_from p found xs) ys
+best_append p found xs ys =
+    let step = λ (best : Option LabelStyle) (x : LabelModel). primary_first best x.style in
+    ap (fold step found) (filter-append p xs ys) ∙ fold-append step found (filter p xs) (filter p ys)
+
+-- after a secondary style only a primary one counts
+best_later : (c : Metrics) (xs : List LabelModel) → best_from (starts_in c) (Some Secondary) xs ≡ Some (pointer_style xs c)
+best_later c [] = refl
+best_later c (x ∷ xs) = best-cons (starts_in c) (Some Secondary) x xs ∙ by_style (best_later c xs) (starts_in c x) x.style
+  where
+    by_style : best_from (starts_in c) (Some Secondary) xs ≡ Some (pointer_style xs c) → (b : Bool) (s : LabelStyle)
+        → best_from (starts_in c) (if b then primary_first (Some Secondary) s else Some Secondary) xs
+        ≡ Some (if (is_primary_style s && b) || list_any (λ y. is_primary y && starts_in c y) xs then Primary else Secondary)
+    by_style more true Primary = best-primary (starts_in c) xs
+    by_style more true Secondary = more
+    by_style more false Primary = more
+    by_style more false Secondary = more
+
+-- the best style of the labels that start in the character is that of its pointer
+best_is : (c : Metrics) (xs : List LabelModel) → best_from (starts_in c) None xs ≡ pointer_found xs c
+best_is c [] = refl
+best_is c (x ∷ xs) = best-cons (starts_in c) None x xs ∙ by_style (best_is c xs) (starts_in c x) x.style
+  where
+    by_style : best_from (starts_in c) None xs ≡ pointer_found xs c → (b : Bool) (s : LabelStyle)
+        → best_from (starts_in c) (if b then primary_first None s else None) xs
+        ≡ (if b || list_any (starts_in c) xs then Some (if (is_primary_style s && b) || list_any (λ y. is_primary y && starts_in c y) xs then Primary else Secondary) else None)
+    by_style more true Primary = best-primary (starts_in c) xs
+    by_style more true Secondary = best_later c xs
+    by_style more false Primary = more
+    by_style more false Secondary = more
+
+-- the style of a pointer is that of the labels of the one list and then of the other
+pub pointer_is : (labels before after : List SingleLabelTuple) (c : Metrics) → AreHanging labels before after
+    → best_from (starts_in c) (best_from (starts_in c) None (filter has_message (single_label_views before))) (filter has_message (single_label_views after))
+    ≡ pointer_found (hanging (single_label_views labels)) c
+pointer_is labels before after c h =
+    sym (best_append (starts_in c) None (filter has_message (single_label_views before)) (filter has_message (single_label_views after)))
+    ∙ ap (best_from (starts_in c) None) (hanging_parts labels before after h)
+    ∙ best_is c (hanging (single_label_views labels))
+
+-- a step over the label at an index
+pub best_step : (c : Metrics) (found best : Option LabelStyle) (xs : List SingleLabelTuple) (i : ℕ) (d : SingleLabelTuple) (empty : Bool) → i < length xs
+    → empty ≡ (length (get_or xs i d).2.now == 0)
+    → best ≡ (if not empty then (if starts_in c (single_label_view (get_or xs i d)) then primary_first found (get_or xs i d).0 else found) else found)
+    → best_from (starts_in c) best (filter has_message (single_label_views (drop (i + 1) xs))) ≡ best_from (starts_in c) found (filter has_message (single_label_views (drop i xs)))
+best_step c found best xs i d empty h is e = rw (drop-cons xs i d h, add-one, e, spaces_is, ← is) (by_message (get_or xs i d) (not empty))
+  where
+    by_message : (x : SingleLabelTuple) (b : Bool)
+        → best_from (starts_in c) (if b then (if starts_in c (single_label_view x) then primary_first found x.0 else found) else found) (filter has_message (single_label_views (drop (suc i) xs)))
+        ≡ best_from (starts_in c) found (cond b (single_label_view x ∷ filter has_message (single_label_views (drop (suc i) xs))) (filter has_message (single_label_views (drop (suc i) xs))))
+    by_message x true = sym (best-cons (starts_in c) found (single_label_view x) (filter has_message (single_label_views (drop (suc i) xs))))
+    by_message x false = refl
+
+-- ---- the pointers of a line
+
+-- no space is pending
+pub spaces_none : (s : Stream) → spaces 0 ++ s ≡ s
+unfolding spaces bytes
+spaces_none s = refl
+
+-- a character before the byte index shows its own
+pointers_next : (context : RowContext) (labels : List LabelModel) (before : ℕ) (c : Metrics) (cs : List Metrics) → c.byte_index < before
+    → pointers context labels (metrics_before before (c ∷ cs)) ≡ pointer_at context labels (hanging labels) c ++ pointers context labels (metrics_before before cs)
+unfolding pointers
+pointers_next context labels before c cs h =
+    let cached : nat_lt c.byte_index before ≡ true = lt-ltb c.byte_index before h in
+    rw cached refl
+
+-- no label hangs from the character
+pub pointer_none : (context : RowContext) (labels : List LabelModel) (c : Metrics) → pointer_found (hanging labels) c ≡ None
+    → pointer_at context labels (hanging labels) c ≡ spaces_up_to (max_label_start labels) c c.width
+unfolding pointer_at
+pointer_none context labels c h = by_test (list_any (starts_in c) (hanging labels)) refl h
+  where
+    by_test : (b : Bool) → list_any (starts_in c) (hanging labels) ≡ b → (if b then Some (pointer_style (hanging labels) c) else None) ≡ None
+        → pointer_at context labels (hanging labels) c ≡ spaces_up_to (max_label_start labels) c c.width
+    by_test true is h = cc
+    by_test false is h = rw is refl
+
+-- a label of this style hangs from it
+pub pointer_some : (context : RowContext) (labels : List LabelModel) (c : Metrics) (style : LabelStyle) → pointer_found (hanging labels) c ≡ Some style
+    → pointer_at context labels (hanging labels) c
+    ≡ label_glyph context.severity style context.chars.pointer_left ++ spaces_up_to (max_label_start labels) c (c.width - 1)
+unfolding pointer_at
+pointer_some context labels c style h = by_test (list_any (starts_in c) (hanging labels)) refl h
+  where
+    by_test : (b : Bool) → list_any (starts_in c) (hanging labels) ≡ b → (if b then Some (pointer_style (hanging labels) c) else None) ≡ Some style
+        → pointer_at context labels (hanging labels) c
+        ≡ label_glyph context.severity style context.chars.pointer_left ++ spaces_up_to (max_label_start labels) c (c.width - 1)
+    by_test true is h = let same : pointer_style (hanging labels) c ≡ style = cc in rw (is, same) refl
+    by_test false is h = cc
+
+-- the spaces of a character are added to the pending ones
+pub spaces_due : (reach : ℕ) (c : Metrics) (pending width : ℕ) (s : Stream) → c.byte_index ≤ reach
+    → spaces pending ++ (spaces_up_to reach c width ++ s) ≡ spaces (pending + width) ++ s
+unfolding spaces_up_to
+spaces_due reach c pending width s h =
+    let within : nat_le c.byte_index reach ≡ true = le-leb c.byte_index reach h in
+    rw (within, spaces-add) (sym (append_assoc (spaces pending) (spaces width) s))
+
+-- it has none past the greatest start
+pub spaces_past : (reach : ℕ) (c : Metrics) (width : ℕ) (s : Stream) → reach < c.byte_index → spaces_up_to reach c width ++ s ≡ s
+unfolding spaces_up_to
+spaces_past reach c width s h =
+    let past : nat_le c.byte_index reach ≡ false = lt-leb c.byte_index reach h in
+    rw past refl
+
+-- what is still to be written begins with the pending spaces and a pointer
+pub pointer_first : (context : RowContext) (labels : List LabelModel) (before reach : ℕ) (left : List Metrics) (c : Metrics) (cs : List Metrics) (pending : ℕ) (style : LabelStyle)
+    → reach ≡ max_label_start labels → left ≡ c ∷ cs → c.byte_index < before → pointer_found (hanging labels) c ≡ Some style
+    → spaces pending ++ pointers context labels (metrics_before before left)
+    ≡ (spaces pending ++ label_glyph context.severity style context.chars.pointer_left)
+    ++ (spaces_up_to reach c (c.width - 1) ++ pointers context labels (metrics_before before cs))
+pointer_first context labels before reach left c cs pending style far step h found =
+    rw (far, step, pointers_next context labels before c cs h, pointer_some context labels c style found) (simp append_assoc)
+
+-- it begins with the pending spaces and those of a character
+pub spaces_first : (context : RowContext) (labels : List LabelModel) (before reach : ℕ) (left : List Metrics) (c : Metrics) (cs : List Metrics) (pending : ℕ)
+    → reach ≡ max_label_start labels → left ≡ c ∷ cs → c.byte_index < before → pointer_found (hanging labels) c ≡ None
+    → spaces pending ++ pointers context labels (metrics_before before left)
+    ≡ spaces pending ++ (spaces_up_to reach c c.width ++ pointers context labels (metrics_before before cs))
+spaces_first context labels before reach left c cs pending far step h found =
+    rw (far, step, pointers_next context labels before c cs h, pointer_none context labels c found) refl
+
+-- only the pending spaces are still to be written
+pub spaces_last : (context : RowContext) (labels : List LabelModel) (before : ℕ) (left : List Metrics) (pending : ℕ) → left ≡ []
+    → spaces pending ++ pointers context labels (metrics_before before left) ≡ spaces pending
+unfolding pointers
+spaces_last context labels before left pending none = rw none (append-nil (spaces pending))

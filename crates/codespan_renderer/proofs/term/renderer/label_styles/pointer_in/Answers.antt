@@ -1,0 +1,8 @@
+use Rattle.std.proofs.Common.{◌∙◌}
+use Rattle.codespan_renderer.proofs.ScannedPointers.{pointer_is}
+use Rattle.codespan_renderer.proofs.term.renderer.label_styles.pointer_in.Goals as goal
+
+pub returns : goal.returns
+returns c =
+    let first = c.best_start.ensures in
+    c.best_start-2.ensures ∙ rw first (pointer_is c.args.labels.now c.args.messages.before.now c.args.messages.after.now c.args.metrics c.requires)

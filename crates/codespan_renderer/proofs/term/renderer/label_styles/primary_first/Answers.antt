@@ -1,0 +1,13 @@
+use Rattle.std.proofs.Common.{◌≡◌, Option, Some, refl, ap, ◌∙◌}
+use Rattle.codespan_base.specs.declared.diagnostic.LabelStyle.{LabelStyle}
+use Rattle.codespan_base.specs.declared.diagnostic.LabelStyle.TheVariants.{Primary}
+use Rattle.codespan_renderer.specs.Private.BestStyles.{primary_first}
+use Rattle.codespan_renderer.proofs.term.renderer.label_styles.primary_first.Goals as goal
+
+-- no style is primary_first than a primary one
+primary_stays : (found : Option LabelStyle) (style : LabelStyle) → found ≡ Some Primary → found ≡ primary_first found style
+primary_stays found style e = rw e refl
+
+-- a primary style stays
+pub returns-in-Some-Primary : goal.returns-in-Some-Primary
+returns-in-Some-Primary c = primary_stays c.args.found c.args.style (c.in-Some-Primary.is ∙ ap Some (rw c.in-Some-Primary.is at c.in-Some-Primary.field-0-is))

@@ -1,8 +1,0 @@
-use Rattle.std.proofs.Common.{◌∙◌}
-use Rattle.codespan_renderer.proofs.Hanging.{pointer_is}
-use Rattle.codespan_renderer.proofs.term.renderer.pointers.pointer_in.Goals as goal
-
-pub returns : goal.returns
-returns c =
-    let first = c.best_start.ensures in
-    c.best_start-2.ensures ∙ rw first (pointer_is c.args.labels.now c.args.messages.before.now c.args.messages.after.now c.args.metrics c.requires)

@@ -1,0 +1,23 @@
+-- The best style of some labels, found label by label.
+use Rattle.std.specs.Prelude.{Bool, List, filter, fold, Option, Some, None, if◌then◌else◌}
+use Rattle.std.specs.List.{list_any}
+use Rattle.codespan_picture.specs.Types.{LabelStyle, Primary}
+use Rattle.codespan_base.specs.Labels.{LabelModel}
+use Rattle.codespan_picture.specs.declared.char_metrics.Metrics.{Metrics}
+use Rattle.codespan_picture.specs.Rows.{hanging}
+use Rattle.codespan_picture.specs.RowParts.{starts_in, pointer_style}
+
+-- of two styles a primary one takes precedence
+abbrev pub primary_first : Option LabelStyle → LabelStyle → Option LabelStyle
+primary_first (Some Primary) style = Some Primary
+primary_first _ style = Some style
+
+-- the best style among what was found and the labels that pass
+abbrev pub best_from : (LabelModel → Bool) → Option LabelStyle → List LabelModel → Option LabelStyle
+best_from passes found xs =
+    fold (λ best (x : LabelModel). primary_first best x.style) found (filter passes xs)
+
+-- the style of the pointer under a character, where a label hangs from it
+abbrev pub pointer_found : List LabelModel → Metrics → Option LabelStyle
+pointer_found hanging c =
+    if list_any (starts_in c) hanging then Some (pointer_style hanging c) else None

@@ -1,0 +1,105 @@
+//! The styles that the labels of a line have at one of its characters. Each label is tested.
+
+ghost use Rattle.std.specs.Prelude.{◌≡◌, filter};
+ghost use Rattle.codespan_base.specs.Labels.{has_message, is_primary};
+ghost use Rattle.codespan_picture.specs.Arguments.{single_label_view, single_label_views};
+ghost use Rattle.codespan_picture.specs.Carets.{covers, style_under};
+ghost use Rattle.codespan_picture.specs.RowParts.{starts_in};
+ghost use Rattle.codespan_picture.specs.Rows.{hanging};
+ghost use Rattle.codespan_rows.specs.CharCursors.{is_covered};
+ghost use Rattle.codespan_rows.specs.Runs.{AreHanging};
+ghost use Rattle.codespan_renderer.specs.Private.BestStyles.{best_from, pointer_found, primary_first};
+
+use crate::term::renderer::SingleLabel;
+use crate::term::renderer::char_metrics::Metrics;
+use codespan_base::diagnostic::LabelStyle;
+use codespan_rows::messages::Messages;
+
+/// Returns whether the label has a byte of the character.
+fn covers(label: &SingleLabel<'_>, metrics: Metrics) -> bool
+    ensures { result ≡ covers (single_label_view label.now) metrics }
+{
+    let first = label.1.start.max(metrics.byte_index);
+    first < label.1.end && first - metrics.byte_index < metrics.bytes
+}
+
+/// Returns which of two styles takes precedence: a primary one, or the second.
+pub fn primary_first(found: Option<LabelStyle>, style: LabelStyle) -> Option<LabelStyle>
+    ensures { result ≡ primary_first found style }
+{
+    match found {
+        Some(LabelStyle::Primary) => found,
+        _ => Some(style),
+    }
+}
+
+/// Returns the style of the labels over a character: a primary one takes precedence.
+pub fn style_under(labels: &[SingleLabel<'_>], metrics: Metrics) -> Option<LabelStyle>
+    ensures { result ≡ style_under (single_label_views labels.now) metrics }
+{
+    let mut found = None;
+    for label in labels {
+        if covers(label, metrics) {
+            found = primary_first(found, label.0);
+        }
+    }
+    found
+}
+
+/// Returns whether a primary label has a byte of the character.
+pub fn has_primary_label(labels: &[SingleLabel<'_>], metrics: Metrics) -> bool
+    ensures { result ≡ is_covered is_primary (single_label_views labels.now) metrics }
+{
+    for label in labels {
+        if label.0 == LabelStyle::Primary && covers(label, metrics) {
+            return true;
+        }
+    }
+    false
+}
+
+/// Returns whether the label starts in the character.
+fn starts_in(metrics: Metrics, label: &SingleLabel<'_>) -> bool
+    ensures { result ≡ starts_in metrics (single_label_view label.now) }
+{
+    match label.1.start.checked_sub(metrics.byte_index) {
+        Some(inside) => inside < metrics.bytes,
+        None => false,
+    }
+}
+
+/// Returns the best style of the one found so far and those of the labels with a message that start
+/// in the character.
+fn best_start(
+    found: Option<LabelStyle>,
+    labels: &[SingleLabel<'_>],
+    metrics: Metrics,
+) -> Option<LabelStyle>
+    ensures { result
+        ≡ best_from (starts_in metrics) found (filter has_message (single_label_views labels.now)) }
+{
+    let mut best = found;
+    for label in labels {
+        if !label.2.is_empty() && starts_in(metrics, label) {
+            best = primary_first(best, label.0);
+        }
+    }
+    best
+}
+
+/// Returns the style of the pointer under a character, where a label hangs from it: a primary one
+/// takes precedence.
+pub fn pointer_in(
+    labels: &[SingleLabel<'_>],
+    messages: Messages<'_, '_>,
+    metrics: Metrics,
+) -> Option<LabelStyle>
+    requires { AreHanging labels.now messages.before.now messages.after.now }
+    ensures { result ≡ pointer_found (hanging (single_label_views labels.now)) metrics }
+{
+    best_start(
+        best_start(None, messages.before, metrics),
+        messages.after,
+        metrics,
+    )
+}

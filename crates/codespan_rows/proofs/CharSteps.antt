@@ -1,0 +1,33 @@
+-- A step over one character of a text.
+use Rattle.std.proofs.Common.{◌≡◌, ℕ, ◌+◌, ◌-◌, ◌≤◌, true, false, cond, List, [], ◌∷◌, ◌++◌, length, drop, length-append, length-drop, ap, ◌∙◌, arith}
+use Rattle.std.specs.Prelude.{sum_by, take_while}
+use Rattle.std.specs.Char.{encode_utf8, len_utf8, is_whitespace}
+use Rattle.std.specs.Str.{IsUtf8, chars}
+use Rattle.std.proofs.lemmas.List.Sums.{sum_by-cons, take_while-cons}
+use Rattle.std.proofs.lemmas.Str.{chars_past_char, chars-nil, length-encode}
+use Rattle.codespan_picture.specs.CharMetrics.{leading_whitespace}
+
+-- a remaining character fits in the text
+pub bytes_left : (text rest : List ℕ) (byte_index c : ℕ) → drop byte_index text ≡ encode_utf8 c ++ rest → len_utf8 c ≤ length text - byte_index
+bytes_left text rest byte_index c e =
+    omega (arith, ap length e, length-drop byte_index text, length-append (encode_utf8 c) rest, length-encode c)
+
+-- ---- white space at the start of a line
+
+-- the white space goes on
+pub leading-more : (bs rest : List ℕ) (c : ℕ) → IsUtf8 bs → bs ≡ encode_utf8 c ++ rest → is_whitespace c ≡ true → leading_whitespace bs ≡ len_utf8 c + leading_whitespace rest
+leading-more bs rest c u e h =
+    ap (λ cs. sum_by len_utf8 (take_while is_whitespace cs)) (chars_past_char bs rest c u e)
+    ∙ ap (sum_by len_utf8) (take_while-cons is_whitespace c (chars rest) ∙ ap (λ b. cond b (c ∷ take_while is_whitespace (chars rest)) []) h)
+    ∙ sum_by-cons len_utf8 c (take_while is_whitespace (chars rest))
+
+-- it stops
+pub leading-stop : (bs rest : List ℕ) (c : ℕ) → IsUtf8 bs → bs ≡ encode_utf8 c ++ rest → is_whitespace c ≡ false → leading_whitespace bs ≡ 0
+leading-stop bs rest c u e h =
+    ap (λ cs. sum_by len_utf8 (take_while is_whitespace cs)) (chars_past_char bs rest c u e)
+    ∙ ap (sum_by len_utf8) (take_while-cons is_whitespace c (chars rest) ∙ ap (λ b. cond b (c ∷ take_while is_whitespace (chars rest)) []) h)
+
+-- nothing remains
+pub leading-end : (bs : List ℕ) → length bs ≡ 0 → leading_whitespace bs ≡ 0
+leading-end [] e = ap (λ cs. sum_by len_utf8 (take_while is_whitespace cs)) chars-nil
+leading-end (b ∷ bs) e = absurd (omega arith)

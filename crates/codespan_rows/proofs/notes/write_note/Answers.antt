@@ -1,0 +1,50 @@
+use Rattle.std.proofs.Common.{ap, refl}
+use Rattle.std.proofs.lemmas.Iterator.Splits.{YieldsList-from_lines}
+use Rattle.std.proofs.lemmas.Result.{err_from_is_err_and}
+use Rattle.codespan_base.proofs.Loops.{StillToWrite-start, StillToWrite-more, StillToWrite-failed, StillToWrite-end}
+use Rattle.codespan_rows.specs.RenderedRows.{later_notes, note_stream}
+use Rattle.codespan_rows.proofs.UnderlineRows.{lines-next, lines-none}
+use Rattle.codespan_rows.proofs.notes.write_note.Goals as goal
+
+pub returns-in_default : goal.returns-in_default
+returns-in_default g c =
+    let all = YieldsList-from_lines {s = c.lines-pieces.result} c.args.message.now c.lines-pieces.ensures.rest in
+    let none = lines-none _ _ _ all c.in_default.ensures.steps in
+    StillToWrite-end _ _ _ _ (StillToWrite-start _ _ _ refl) (ap (note_stream c.args.chars.now c.args.padding) none)
+
+pub returns-in_err-write_first_piece : goal.returns-in_err-write_first_piece
+returns-in_err-write_first_piece g c = let p = err_from_is_err_and c.from_residual.result c.from_residual.ensures.1 in
+    let all = YieldsList-from_lines {s = c.lines-pieces.result} c.args.message.now c.lines-pieces.ensures.rest in
+    let next = lines-next c.lines-pieces.result c.in-Some.first c.next.new.self _ all c.in-Some.ensures.steps in
+    rw p.1 (StillToWrite-failed _ _ _ _ _ _ _ (StillToWrite-start _ _ _ refl) c.in_err-write_first_piece.ensures (ap (note_stream c.args.chars.now c.args.padding) next.is))
+
+pub loop-piece-init : goal.loop-piece-init
+loop-piece-init g c =
+    let all = YieldsList-from_lines {s = c.lines-pieces.result} c.args.message.now c.lines-pieces.ensures.rest in
+    let next = lines-next c.lines-pieces.result c.in-Some.first c.next.new.self _ all c.in-Some.ensures.steps in
+    rw c.into_iter-piece-iterator.ensures.into_iter_gives record {
+      pieces = next.after;
+      yields = next.yields;
+      written_so_far = StillToWrite-more _ _ _ _ _ _ _ (StillToWrite-start _ _ _ refl) c.in_ok-write_first_piece.ensures (ap (note_stream c.args.chars.now c.args.padding) next.is);
+    }
+
+pub loop-piece-preserved : goal.loop-piece-preserved
+loop-piece-preserved g c =
+    let i = c.loop-piece.invariant in
+    let next = lines-next c.loop-piece.piece-iterator c.in-Some-piece.piece c.next-in-loop-piece.new.self _ i.yields c.in-Some-piece.ensures.steps in
+    record {
+      pieces = next.after;
+      yields = next.yields;
+      written_so_far = StillToWrite-more _ _ _ _ _ _ _ i.written_so_far c.in_ok-write_later_piece.ensures (ap (later_notes c.args.padding) next.is);
+    }
+
+pub returns-in_err-write_later_piece : goal.returns-in_err-write_later_piece
+returns-in_err-write_later_piece g c = let p = err_from_is_err_and c.from_residual-in_err-write_later_piece.result c.from_residual-in_err-write_later_piece.ensures.1 in
+    let i = c.loop-piece.invariant in
+    let next = lines-next c.loop-piece.piece-iterator c.in-Some-piece.piece c.next-in-loop-piece.new.self _ i.yields c.in-Some-piece.ensures.steps in
+    rw p.1 (StillToWrite-failed _ _ _ _ _ _ _ i.written_so_far c.in_err-write_later_piece.ensures (ap (later_notes c.args.padding) next.is))
+
+pub returns : goal.returns
+returns g c =
+    let i = c.loop-piece.invariant in
+    StillToWrite-end _ _ _ _ i.written_so_far (ap (later_notes c.args.padding) (lines-none _ _ _ i.yields c.in-None.ensures.steps))

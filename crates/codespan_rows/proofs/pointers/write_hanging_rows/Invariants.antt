@@ -1,0 +1,16 @@
+use Rattle.std.specs.Prelude.{filter, ◌≤◌}
+use Rattle.codespan_base.specs.Labels.{has_message}
+use Rattle.codespan_base.proofs.Loops.{StillToWrite}
+use Rattle.codespan_picture.specs.Arguments.{single_label_views}
+use Rattle.codespan_rows.specs.LineViews.{context_view, line_view}
+use Rattle.codespan_picture.specs.RowParts.{max_label_start}
+use Rattle.codespan_rows.specs.Runs.{hanging_stream}
+use Rattle.codespan_rows.proofs.pointers.write_hanging_rows.Given as goal
+
+-- the remaining labels are the first ones
+abbrev pub invariant-loop-label : goal.invariant-loop-label
+invariant-loop-label g l = record {
+  with_written : StillToWrite (g.W.PutStyle.sink l.fn.w) (hanging_stream (context_view l.context) (line_view l.line) (filter has_message (single_label_views l.labels)))
+      (hanging_stream (context_view l.context) (line_view l.line) (filter has_message (single_label_views l.label-iterator.iter.rest.now))) (g.W.PutStyle.sink l.w);
+  near : max_label_start (single_label_views l.label-iterator.iter.rest.now) ≤ max_label_start (single_label_views l.line.labels.now);
+}

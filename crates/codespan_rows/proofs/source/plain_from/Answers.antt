@@ -1,0 +1,11 @@
+use Rattle.std.proofs.Common.{◌≤◌, length, ap, arith}
+use Rattle.codespan_rows.specs.LineViews.{line_view}
+use Rattle.codespan_rows.proofs.PlainText.{no-style-past}
+use Rattle.codespan_rows.proofs.source.plain_from.Goals as goal
+
+pub returns-else-contains-clause-style : goal.returns-else-contains-clause-style
+returns-else-contains-clause-style c = λ x low high some.
+    let size = ap length c.as_bytes-text.ensures.value in
+    let past : c.max.result ≤ x.byte_index = omega (arith, c.min-end.ensures, size, low, high) in
+    let marked = c.end.ensures x (omega (arith, past, c.max.ensures)) (omega (arith, high)) some in
+    no-style-past (line_view c.args.line) c.args.marks x c.requires.marks marked (omega (arith, past, c.max.ensures, c.max_label_end.ensures)) some

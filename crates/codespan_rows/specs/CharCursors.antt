@@ -1,0 +1,16 @@
+-- The characters of a line as a cursor goes over them, and the labels over them.
+use Rattle.std.specs.Prelude.{◌≡◌, ℕ, ◌+◌, ◌≤◌, Bool, ◌&&◌, List, [], ◌∷◌}
+use Rattle.std.specs.List.{list_any}
+use Rattle.codespan_base.specs.Labels.{LabelModel}
+use Rattle.codespan_picture.specs.declared.char_metrics.Metrics.{Metrics}
+use Rattle.codespan_picture.specs.Carets.{covers}
+
+-- one of the labels that pass has a byte of the character
+abbrev pub is_covered : (LabelModel → Bool) → List LabelModel → Metrics → Bool
+is_covered passes xs c = list_any (λ x. passes x && covers x c) xs
+
+-- characters of at least one byte each, one after another from a byte index on
+abbrev pub Follow : ℕ → List Metrics → Type 0
+Follow byte_index [] = Unit {0}
+Follow byte_index (c ∷ cs) =
+    (c.byte_index ≡ byte_index) × (1 ≤ c.bytes) × Follow (byte_index + c.bytes) cs

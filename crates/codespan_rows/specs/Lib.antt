@@ -1,0 +1,11 @@
+-- what each call of a renderer renders
+pub mod RenderedRows
+-- words that the calls of this crate and proofs use
+pub mod LineViews
+pub mod RowViews
+pub mod CharCursors
+pub mod LineSources
+pub mod LaneMarksLeft
+pub mod PrimaryLaneMarks
+pub mod Runs
+pub mod Underlines

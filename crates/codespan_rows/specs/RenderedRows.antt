@@ -1,0 +1,63 @@
+-- What each call of a renderer renders, by its arguments.
+use Rattle.std.specs.Prelude.{ℕ, List, ◌∷◌, ◌++◌, Option, [], flat_map}
+use Rattle.std.specs.Option.{option_map}
+use Rattle.std.specs.Borrow.{Bor}
+use Rattle.std.specs.Str.Lines.{lines}
+use Rattle.codespan_picture.specs.Types.{Severity, Config, Chars}
+use Rattle.codespan_base.specs.Streams.{Stream, newline}
+use Rattle.codespan_picture.specs.declared.arguments.Locus as rust_locus
+use Rattle.codespan_picture.specs.CharMetrics.{text_without_line_end}
+use Rattle.codespan_picture.specs.Arguments.{SingleLabelTuple, LaneMarkTuple, lanes_of, locus_view, single_label_views, text_now}
+use Rattle.codespan_picture.specs.Picture.{context_of}
+use Rattle.codespan_picture.specs.Rows.{Line, rows_of}
+use Rattle.codespan_picture.specs.RowStreams.{break_row, empty_row, header_row, snippet_start_row, stream_of_rows, first_note_row, later_note_row}
+
+-- the header of a diagnostic
+abbrev pub rendered_header : Option (Bor rust_locus.Locus) → Severity → Option (Bor (List ℕ))
+    → List ℕ → Stream
+rendered_header locus severity code message =
+    header_row severity (option_map (λ (at : Bor rust_locus.Locus). locus_view at.now) locus)
+    (record { code = option_map text_now code; message = message }) ++ newline
+
+-- the start of a file's snippet
+abbrev pub rendered_start : Config → ℕ → rust_locus.Locus → Stream
+rendered_start config padding locus =
+    snippet_start_row config.chars padding (locus_view locus) ++ newline
+
+-- a line of the source, with the labels inside it and the multi-line label marks on it
+abbrev pub source_line : ℕ → List ℕ → List SingleLabelTuple → ℕ → List LaneMarkTuple → Line
+source_line number source labels lane_count marks = record {
+  number = number;
+  text = text_without_line_end source;
+  labels = single_label_views labels;
+  lanes = lanes_of lane_count marks;
+}
+
+-- all rows of a line of the source
+abbrev pub rendered_source : Config → Severity → ℕ → Line → Stream
+rendered_source config severity padding line =
+    stream_of_rows (context_of config severity padding) (rows_of line)
+
+-- a row of a snippet without text
+abbrev pub rendered_empty : Config → Severity → ℕ → ℕ → List LaneMarkTuple → Stream
+rendered_empty config severity padding lane_count marks =
+    empty_row (context_of config severity padding) (lanes_of lane_count marks) ++ newline
+
+-- the row of a break
+abbrev pub rendered_break : Config → Severity → ℕ → ℕ → List LaneMarkTuple → Stream
+rendered_break config severity padding lane_count marks =
+    break_row (context_of config severity padding) (lanes_of lane_count marks) ++ newline
+
+-- the later rows of a note
+abbrev pub later_notes : ℕ → List (List ℕ) → Stream
+later_notes padding pieces = flat_map (λ piece. later_note_row padding piece ++ newline) pieces
+
+-- the rows of a note of these pieces
+abbrev pub note_stream : Chars → ℕ → List (List ℕ) → Stream
+note_stream chars padding [] = []
+note_stream chars padding (p ∷ ps) =
+    first_note_row chars padding p ++ newline ++ later_notes padding ps
+
+-- the rows of a note
+abbrev pub rendered_note : Config → ℕ → List ℕ → Stream
+rendered_note config padding message = note_stream config.chars padding (lines message)

@@ -1,0 +1,48 @@
+-- Words of the loops that write rows: runs of one character, labels that may be there, messages.
+use Rattle.std.specs.Prelude.{◌≡◌, ℕ, List, ◌++◌, map, filter, fold, min, reverse, slice_get, Option, Some, None}
+use Rattle.std.specs.Option.{option_map}
+use Rattle.std.specs.Borrow.{Bor}
+use Rattle.codespan_picture.specs.Types.{LabelStyle, Chars}
+use Rattle.codespan_base.specs.Labels.{LabelModel, has_message}
+use Rattle.codespan_base.specs.Streams.{Stream, spaces, repeated}
+use Rattle.codespan_picture.specs.Carets.{caret_for}
+use Rattle.codespan_picture.specs.Arguments.{SingleLabelTuple, single_label_view, single_label_views}
+use Rattle.codespan_picture.specs.Rows.{RowContext, Line, HangingRow, hanging}
+use Rattle.codespan_picture.specs.RowStreams.{stream_of_rows}
+
+-- a run of carets of a style, or of spaces
+unfoldable pub caret_run : Chars → Option LabelStyle → ℕ → Stream
+caret_run chars None count = spaces count
+caret_run chars (Some style) count = repeated count (caret_for chars (Some style))
+
+-- the least start of the labels, or this byte index where all start past it or there is none
+abbrev pub least_start : ℕ → List LabelModel → ℕ
+least_start end xs = fold (λ m (x : LabelModel). min x.start m) end xs
+
+-- a label that may be there
+abbrev pub optional_label_view : Option (Bor SingleLabelTuple) → Option LabelModel
+optional_label_view x = option_map (λ (l : Bor SingleLabelTuple). single_label_view l.now) x
+
+-- ---- messages
+
+-- the label at an index, with the index
+abbrev pub label_entry_view : List SingleLabelTuple → Option ℕ → Option (ℕ × LabelModel)
+label_entry_view xs None = None
+label_entry_view xs (Some k) = option_map (λ x. (k, single_label_view x)) (slice_get xs k)
+
+-- the labels that hang are those of the two lists that have a message
+pub record AreHanging (labels before after : List SingleLabelTuple) : Type 0 where
+  pub are :
+      filter has_message (single_label_views (before ++ after))
+      ≡ hanging (single_label_views labels)
+
+-- the two lists are a prefix of the labels and a suffix of them
+pub record ArePieces (labels before after : List SingleLabelTuple) : Type 0 where
+  pub rest : List SingleLabelTuple
+  pub begins : before ++ rest ≡ labels
+  pub skipped : List SingleLabelTuple
+  pub ends : skipped ++ after ≡ labels
+
+-- the rows of messages that hang, the last one first
+abbrev pub hanging_stream : RowContext → Line → List LabelModel → Stream
+hanging_stream context line xs = stream_of_rows context (map (HangingRow line) (reverse xs))

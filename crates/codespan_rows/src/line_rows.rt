@@ -1,0 +1,61 @@
+//! All rows of a line, from its source to its underlines.
+
+ghost use Rattle.std.specs.Prelude.{◌≡◌};
+ghost use Rattle.codespan_base.specs.WriterLaw.{Writes};
+ghost use Rattle.codespan_picture.specs.Arguments.{single_label_views};
+ghost use Rattle.codespan_picture.specs.Rows.{rows_of, trailing};
+ghost use Rattle.codespan_picture.specs.RowStreams.{stream_of_rows};
+ghost use Rattle.codespan_rows.specs.LineSources.{char_input};
+ghost use Rattle.codespan_rows.specs.LineViews.{context_view, line_view};
+ghost use Rattle.codespan_rows.specs.RowViews.{caret_rows_view};
+ghost use Rattle.codespan_rows.specs.Runs.{optional_label_view};
+
+use crate::carets::write_caret_row;
+use crate::line::{Line, RowContext};
+use crate::line_source::LineSource;
+use crate::messages::Messages;
+use crate::pointers::write_hanging;
+use crate::source::write_source_row;
+use crate::underlines::write_underlines;
+use codespan_base::term::config::put_style::PutStyle;
+
+/// Writes the caret row of a line, where it has labels.
+fn write_caret_rows<W: PutStyle, S: LineSource>(
+    w: &mut W,
+    context: RowContext<'_>,
+    line: Line<'_, '_>,
+    source: &S,
+    messages: Messages<'_, '_>,
+) -> Result<(), W::Error>
+    requires of { S.of source.now ≡ char_input context line }
+    requires trailing { optional_label_view messages.trailing
+        ≡ trailing (single_label_views line.labels.now) }
+    ensures { Writes (W.sink w.old) (caret_rows_view context.entry line.entry) result
+        (W.sink w.new) }
+{
+    if line.labels.is_empty() {
+        Ok(())
+    } else {
+        write_caret_row(w, context, line, source, messages)
+    }
+}
+
+/// Writes all rows of a line: its source, its carets, pointers and hanging messages, and its
+/// underlines.
+pub fn write_line<W: PutStyle, S: LineSource>(
+    w: &mut W,
+    context: RowContext<'_>,
+    line: Line<'_, '_>,
+    source: &S,
+) -> Result<(), W::Error>
+    requires of { S.of source.now ≡ char_input context line }
+    ensures { Writes (W.sink w.old)
+        (stream_of_rows (context_view context.entry) (rows_of (line_view line.entry)))
+        result (W.sink w.new) }
+{
+    let messages = Messages::of(line.labels);
+    write_source_row(w, context, line, source)?;
+    write_caret_rows(w, context, line, source, messages)?;
+    write_hanging(w, context, line, source, messages)?;
+    write_underlines(w, context, line, source)
+}

@@ -1,0 +1,100 @@
+//! Notes, breaks, and the rows of a snippet without source.
+
+ghost use Rattle.std.specs.Prelude.{◌++◌};
+ghost use Rattle.std.specs.Str.Lines.{lines};
+ghost use Rattle.codespan_base.specs.Streams.{newline};
+ghost use Rattle.codespan_base.specs.WriterLaw.{Writes};
+ghost use Rattle.codespan_rows.specs.LineViews.{context_view, lanes_view};
+ghost use Rattle.codespan_picture.specs.RowStreams.{empty_row, break_row, first_note_row, later_note_row};
+ghost use Rattle.codespan_rows.specs.RenderedRows.{note_stream};
+
+use crate::lanes::{LaneRow, inner_gutter};
+use crate::line::{Lanes, RowContext};
+use crate::parts::{border_left, border_left_break, outer_gutter, write_newline, write_space};
+use codespan_base::term::Chars;
+use codespan_base::term::config::put_style::PutStyle;
+use codespan_base::term::config::writing::{put_all, put_char};
+
+/// Writes a row of a snippet without source.
+pub fn write_empty<W: PutStyle>(
+    w: &mut W,
+    context: RowContext<'_>,
+    lanes: Lanes<'_, '_>,
+) -> Result<(), W::Error>
+    ensures { Writes (W.sink w.old)
+        (empty_row (context_view context.entry) (lanes_view lanes.entry) ++ newline)
+        result (W.sink w.new) }
+{
+    outer_gutter(w, context.padding)?;
+    border_left(w, context.chars)?;
+    inner_gutter(w, context, 0, LaneRow::Plain, lanes)?;
+    write_newline(w)
+}
+
+/// Writes the row of a break.
+pub fn write_break<W: PutStyle>(
+    w: &mut W,
+    context: RowContext<'_>,
+    lanes: Lanes<'_, '_>,
+) -> Result<(), W::Error>
+    ensures { Writes (W.sink w.old)
+        (break_row (context_view context.entry) (lanes_view lanes.entry) ++ newline)
+        result (W.sink w.new) }
+{
+    outer_gutter(w, context.padding)?;
+    border_left_break(w, context.chars)?;
+    inner_gutter(w, context, 0, LaneRow::Plain, lanes)?;
+    write_newline(w)
+}
+
+/// Writes the first row of a note.
+fn write_first_piece<W: PutStyle>(
+    w: &mut W,
+    chars: &Chars<'_>,
+    padding: usize,
+    piece: &str,
+) -> Result<(), W::Error>
+    ensures { Writes (W.sink w.old) (first_note_row chars.now padding piece.now ++ newline)
+        result (W.sink w.new) }
+{
+    outer_gutter(w, padding)?;
+    w.set_note_bullet()?;
+    put_char(w, chars.note_bullet)?;
+    w.reset()?;
+    write_space(w)?;
+    put_all(w, piece.as_bytes())?;
+    write_newline(w)
+}
+
+/// Writes a later row of a note.
+fn write_later_piece<W: PutStyle>(w: &mut W, padding: usize, piece: &str) -> Result<(), W::Error>
+    ensures { Writes (W.sink w.old) (later_note_row padding piece.now ++ newline)
+        result (W.sink w.new) }
+{
+    outer_gutter(w, padding)?;
+    write_space(w)?;
+    write_space(w)?;
+    put_all(w, piece.as_bytes())?;
+    write_newline(w)
+}
+
+/// Writes the rows of a note: one for each of its lines.
+pub fn write_note<W: PutStyle>(
+    w: &mut W,
+    chars: &Chars<'_>,
+    padding: usize,
+    message: &str,
+) -> Result<(), W::Error>
+    ensures { Writes (W.sink w.old) (note_stream chars.now padding (lines message.now))
+        result (W.sink w.new) }
+{
+    let mut pieces = message.lines();
+    let Some(first) = pieces.next() else {
+        return Ok(());
+    };
+    write_first_piece(w, chars, padding, first)?;
+    for piece in pieces {
+        write_later_piece(w, padding, piece)?;
+    }
+    Ok(())
+}

@@ -1,0 +1,172 @@
+//! The pointers under the carets of a line, and the messages that hang from them.
+
+ghost use Rattle.std.specs.Prelude.{◌≡◌, ◌≤◌, ◌++◌};
+ghost use Rattle.std.specs.List.{list_any};
+ghost use Rattle.codespan_base.specs.Labels.{has_message};
+ghost use Rattle.codespan_base.specs.Streams.{newline, spaces};
+ghost use Rattle.codespan_base.specs.WriterLaw.{Writes};
+ghost use Rattle.codespan_picture.specs.Arguments.{single_label_view, single_label_views};
+ghost use Rattle.codespan_rows.specs.LineViews.{context_view, line_view};
+ghost use Rattle.codespan_rows.specs.RowViews.{hanging_stream_view, hanging_rows_view, messages_view};
+ghost use Rattle.codespan_picture.specs.Lanes.{label_glyph};
+ghost use Rattle.codespan_picture.specs.RowParts.{max_label_start};
+ghost use Rattle.codespan_picture.specs.RowStreams.{pointer_row, hanging_row};
+ghost use Rattle.codespan_rows.specs.Runs.{AreHanging, ArePieces};
+ghost use Rattle.codespan_rows.specs.LineSources.{char_input};
+
+use crate::carets::write_message;
+use crate::line::{Line, RowContext};
+use crate::line_source::LineSource;
+use crate::messages::Messages;
+use crate::parts::{write_label_glyph, write_newline, write_row_start};
+use crate::runs::write_spaces;
+use codespan_base::diagnostic::LabelStyle;
+use codespan_base::term::config::put_style::PutStyle;
+use codespan_picture::arguments::SingleLabel;
+
+/// Returns the greatest start of the labels, or 0 where there is none.
+pub fn max_label_start(labels: &[SingleLabel<'_>]) -> usize
+    ensures { result ≡ max_label_start (single_label_views labels.now) }
+{
+    let mut greatest = 0;
+    for label in labels {
+        greatest = label.1.start.max(greatest);
+    }
+    greatest
+}
+
+/// Writes the spaces before a pointer, and the pointer.
+#[inline(always)]
+pub fn caret_pointer<W: PutStyle>(
+    w: &mut W,
+    context: RowContext<'_>,
+    pending: u128,
+    style: LabelStyle,
+) -> Result<(), W::Error>
+    ensures { Writes (W.sink w.old)
+        (spaces pending ++ label_glyph context.entry.severity style
+        context.entry.chars.now.pointer_left)
+        result (W.sink w.new) }
+{
+    write_spaces(w, pending)?;
+    write_label_glyph(w, context.severity, style, context.chars.pointer_left)
+}
+
+/// Writes the row of the pointers under a line.
+fn write_pointer_row<W: PutStyle, S: LineSource>(
+    w: &mut W,
+    context: RowContext<'_>,
+    line: Line<'_, '_>,
+    source: &S,
+    messages: Messages<'_, '_>,
+) -> Result<(), W::Error>
+    requires of { S.of source.now ≡ char_input context line }
+    requires hanging { AreHanging line.labels.now messages.before.now messages.after.now }
+    ensures { Writes (W.sink w.old)
+        (pointer_row (context_view context.entry) (line_view line.entry) ++ newline)
+        result (W.sink w.new) }
+{
+    write_row_start(w, context, line)?;
+    source.caret_pointers(w, context, line, messages)?;
+    write_newline(w)
+}
+
+/// Writes a hanging message under its pointer.
+fn write_hanging_row<W: PutStyle, S: LineSource>(
+    w: &mut W,
+    context: RowContext<'_>,
+    line: Line<'_, '_>,
+    source: &S,
+    messages: Messages<'_, '_>,
+    label: &SingleLabel<'_>,
+) -> Result<(), W::Error>
+    requires of { S.of source.now ≡ char_input context line }
+    requires hanging { AreHanging line.labels.now messages.before.now messages.after.now }
+    requires near { (single_label_view label.now).start
+        ≤ max_label_start (single_label_views line.labels.now) }
+    ensures { Writes (W.sink w.old)
+        (hanging_row (context_view context.entry) (line_view line.entry)
+        (single_label_view label.now)
+        ++ newline) result (W.sink w.new) }
+{
+    write_row_start(w, context, line)?;
+    source.caret_pointers_before(w, context, line, messages, label.1.start)?;
+    write_message(w, context.severity, label)?;
+    write_newline(w)
+}
+
+/// Writes the rows of the hanging messages of these labels, the last one first.
+fn write_hanging_rows<W: PutStyle, S: LineSource>(
+    w: &mut W,
+    context: RowContext<'_>,
+    line: Line<'_, '_>,
+    source: &S,
+    messages: Messages<'_, '_>,
+    labels: &[SingleLabel<'_>],
+) -> Result<(), W::Error>
+    requires of { S.of source.now ≡ char_input context line }
+    requires hanging { AreHanging line.labels.now messages.before.now messages.after.now }
+    requires near { max_label_start (single_label_views labels.now)
+        ≤ max_label_start (single_label_views line.labels.now) }
+    ensures { Writes (W.sink w.old) (hanging_stream_view context.entry line.entry labels.now)
+        result (W.sink w.new) }
+{
+    for label in labels.iter().rev() {
+        if label.2.is_empty() {
+            continue;
+        }
+        write_hanging_row(w, context, line, source, messages, label)?;
+    }
+    Ok(())
+}
+
+/// Writes the pointers, and a row for each hanging message.
+fn write_pointers_and_messages<W: PutStyle, S: LineSource>(
+    w: &mut W,
+    context: RowContext<'_>,
+    line: Line<'_, '_>,
+    source: &S,
+    messages: Messages<'_, '_>,
+) -> Result<(), W::Error>
+    requires of { S.of source.now ≡ char_input context line }
+    requires hanging { AreHanging line.labels.now messages.before.now messages.after.now }
+    requires pieces { ArePieces line.labels.now messages.before.now messages.after.now }
+    ensures { Writes (W.sink w.old) (messages_view context.entry line.entry messages.entry)
+        result (W.sink w.new) }
+{
+    write_pointer_row(w, context, line, source, messages)?;
+    write_hanging_rows(w, context, line, source, messages, messages.after)?;
+    write_hanging_rows(w, context, line, source, messages, messages.before)
+}
+
+/// Returns whether one of the labels has a message.
+pub fn has_any_message(labels: &[SingleLabel<'_>]) -> bool
+    ensures { result ≡ list_any has_message (single_label_views labels.now) }
+{
+    for label in labels {
+        if !label.2.is_empty() {
+            return true;
+        }
+    }
+    false
+}
+
+/// Writes the pointers and a row for each hanging message, where there is one.
+pub fn write_hanging<W: PutStyle, S: LineSource>(
+    w: &mut W,
+    context: RowContext<'_>,
+    line: Line<'_, '_>,
+    source: &S,
+    messages: Messages<'_, '_>,
+) -> Result<(), W::Error>
+    requires of { S.of source.now ≡ char_input context line }
+    requires hanging { AreHanging line.labels.now messages.before.now messages.after.now }
+    requires pieces { ArePieces line.labels.now messages.before.now messages.after.now }
+    ensures { Writes (W.sink w.old) (hanging_rows_view context.entry line.entry)
+        result (W.sink w.new) }
+{
+    if !has_any_message(messages.before) && !has_any_message(messages.after) {
+        return Ok(());
+    }
+    write_pointers_and_messages(w, context, line, source, messages)
+}

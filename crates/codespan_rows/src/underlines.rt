@@ -1,0 +1,175 @@
+//! The underlines of multi-line labels.
+
+ghost use Rattle.std.specs.Prelude.{◌≡◌, ◌++◌};
+ghost use Rattle.codespan_base.specs.Streams.{newline, bytes};
+ghost use Rattle.codespan_base.specs.WriterLaw.{Writes};
+ghost use Rattle.codespan_picture.specs.CharMetrics.{char_metrics};
+ghost use Rattle.codespan_picture.specs.Arguments.{lane_mark_view, multi_label_view};
+ghost use Rattle.codespan_rows.specs.LineViews.{context_view, line_view};
+ghost use Rattle.codespan_rows.specs.RowViews.{underline_lanes_view};
+ghost use Rattle.codespan_rows.specs.Underlines.{underline_by_width, underline_width};
+ghost use Rattle.codespan_rows.specs.LineSources.{char_input, characters_of};
+ghost use Rattle.codespan_picture.specs.Rows.{has_underline, underline_rows};
+ghost use Rattle.codespan_picture.specs.RowParts.{underline_message, start_caret, end_caret, metrics_before, metrics_up_to};
+ghost use Rattle.codespan_picture.specs.RowStreams.{underline_row, stream_of_rows};
+
+use crate::lanes::{LaneRow, inner_gutter};
+use crate::line::{Line, RowContext};
+use crate::line_source::LineSource;
+use crate::parts::{border_left, outer_gutter, write_newline, write_space};
+use crate::runs::write_repeated;
+use codespan_base::diagnostic::LabelStyle;
+use codespan_base::term::Chars;
+use codespan_base::term::config::put_style::PutStyle;
+use codespan_base::term::config::writing::{put_all, put_char};
+use codespan_picture::arguments::MultiLabel;
+
+/// Returns the caret under the start of a label.
+fn start_caret(chars: &Chars<'_>, style: LabelStyle) -> char
+    ensures { result ≡ start_caret chars.now style }
+{
+    match style {
+        LabelStyle::Primary => chars.multi_primary_caret_start,
+        LabelStyle::Secondary => chars.multi_secondary_caret_start,
+    }
+}
+
+/// Returns the caret under the end of a label.
+fn end_caret(chars: &Chars<'_>, style: LabelStyle) -> char
+    ensures { result ≡ end_caret chars.now style }
+{
+    match style {
+        LabelStyle::Primary => chars.multi_primary_caret_end,
+        LabelStyle::Secondary => chars.multi_secondary_caret_end,
+    }
+}
+
+/// Writes a space and the message, where there is one.
+#[tactic(auto, using(codespan_base::proofs::Writes::write_chains, crate::proofs::UnderlineRows::underline_messages))]
+fn write_underline_message<W: PutStyle>(w: &mut W, message: &str) -> Result<(), W::Error>
+    ensures { Writes (W.sink w.old) (underline_message (bytes message.now)) result (W.sink w.new) }
+{
+    if message.is_empty() {
+        return Ok(());
+    }
+    write_space(w)?;
+    put_all(w, message.as_bytes())
+}
+
+/// Returns how many cells an underline has between its corner and its caret.
+fn underline_width<S: LineSource>(source: &S, part: MultiLabel<'_>) -> u128
+    ensures { result
+        ≡ underline_width (characters_of (S.of source.now)) (multi_label_view part.entry) }
+{
+    match part {
+        MultiLabel::Top(start) => source.width_up_to(start),
+        MultiLabel::Left => 0,
+        MultiLabel::Bottom(end, _) => source.width_before(end),
+    }
+}
+
+/// Writes an underline from its corner on: `width` cells, the caret, and the message.
+#[tactic(auto, using(codespan_base::proofs::Writes::write_chains), unfolding(crate::specs::Underlines::underline_by_width))]
+fn label_multi_caret<W: PutStyle>(
+    w: &mut W,
+    chars: &Chars<'_>,
+    style: LabelStyle,
+    part: MultiLabel<'_>,
+    width: u128,
+) -> Result<(), W::Error>
+    ensures { Writes (W.sink w.old)
+        (underline_by_width chars.now style width (multi_label_view part.entry))
+        result (W.sink w.new) }
+{
+    match part {
+        MultiLabel::Top(_) => {
+            write_repeated(w, chars.multi_top, width)?;
+            put_char(w, start_caret(chars, style))
+        }
+        MultiLabel::Left => Ok(()),
+        MultiLabel::Bottom(_, message) => {
+            write_repeated(w, chars.multi_bottom, width)?;
+            put_char(w, end_caret(chars, style))?;
+            write_underline_message(w, message)
+        }
+    }
+}
+
+/// Writes the start of an underline row: up to its lanes.
+fn write_underline_lanes<W: PutStyle>(
+    w: &mut W,
+    context: RowContext<'_>,
+    line: Line<'_, '_>,
+    lane_mark: (usize, LabelStyle, MultiLabel<'_>),
+) -> Result<(), W::Error>
+    ensures { Writes (W.sink w.old) (underline_lanes_view context.entry line.entry lane_mark.entry)
+        result (W.sink w.new) }
+{
+    let (lane, style, part) = lane_mark;
+    outer_gutter(w, context.padding)?;
+    border_left(w, context.chars)?;
+    inner_gutter(
+        w,
+        context,
+        line.leading,
+        LaneRow::Underline(lane, style, part),
+        line.lanes,
+    )
+}
+
+/// Writes the underline row of a multi-line label mark, with `width` cells between its corner and
+/// its caret.
+fn write_underline_row<W: PutStyle>(
+    w: &mut W,
+    context: RowContext<'_>,
+    line: Line<'_, '_>,
+    lane_mark: (usize, LabelStyle, MultiLabel<'_>),
+    width: u128,
+) -> Result<(), W::Error>
+    requires { width ≡ underline_width (char_metrics context.tab_width line.text.now)
+        (multi_label_view lane_mark.2) }
+    ensures { Writes (W.sink w.old)
+        (underline_row (context_view context.entry) (line_view line.entry)
+        (lane_mark_view lane_mark.entry)
+        ++ newline) result (W.sink w.new) }
+{
+    let (_, style, part) = lane_mark;
+    write_underline_lanes(w, context, line, lane_mark)?;
+    w.set_label(context.severity, style)?;
+    label_multi_caret(w, context.chars, style, part, width)?;
+    w.reset()?;
+    write_newline(w)
+}
+
+/// Returns whether a multi-line label mark has an underline row: one whose corner is in the source
+/// row has none.
+fn has_underline(leading: usize, part: MultiLabel<'_>) -> bool
+    ensures { result ≡ has_underline leading (multi_label_view part.entry) }
+{
+    match part {
+        MultiLabel::Top(start) => start > leading,
+        MultiLabel::Left => false,
+        MultiLabel::Bottom(_, _) => true,
+    }
+}
+
+/// Writes the underline rows of a line, in the order of the lanes.
+pub fn write_underlines<W: PutStyle, S: LineSource>(
+    w: &mut W,
+    context: RowContext<'_>,
+    line: Line<'_, '_>,
+    source: &S,
+) -> Result<(), W::Error>
+    requires of { S.of source.now ≡ char_input context line }
+    ensures { Writes (W.sink w.old)
+        (stream_of_rows (context_view context.entry) (underline_rows (line_view line.entry)))
+        result (W.sink w.new) }
+{
+    for lane_mark in line.lanes.marks {
+        if has_underline(line.leading, lane_mark.2) {
+            let width = underline_width(source, lane_mark.2);
+            write_underline_row(w, context, line, *lane_mark, width)?;
+        }
+    }
+    Ok(())
+}
