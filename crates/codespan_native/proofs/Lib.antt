@@ -1,9 +1,5 @@
--- which argument is invalid
-pub mod FirstInvalid
+-- which parts are valid
 pub mod Parts
 -- what is rendered
 pub mod Rendered
 pub mod LookupsFound
--- files
-pub mod Searches
-pub mod Views

@@ -15,15 +15,16 @@ use Rattle.codespan_picture.specs.Types.{Config, Diagnostic, Error, DisplayStyle
 use Rattle.codespan_picture.specs.Lookups.{AllSucceed, looked_up_lines, lookups_of_file, early_lookups, ends_context, file_at, filled_lines, header_lookups_of, is_looked_up, label_lookups, late_lookups, locus_lookups, lookup_past_end, lookups_in, numbers_for_padding, filled_line_lookups, label_line_lookups, line_lookups, snippet_lookups}
 use Rattle.codespan_picture.specs.Snippets.{InFile, file_ids, locus_start, primary_of}
 use Rattle.codespan_base.specs.Diagnostics.{DiagnosticView, LabelView}
-use Rattle.codespan_native.specs.declared.error.Argument.TheVariants.{LabelFile}
-use Rattle.codespan_native.specs.declared.raw.RawConfig.{RawConfig}
-use Rattle.codespan_native.specs.declared.raw.RawDiagnostic.{RawDiagnostic}
-use Rattle.codespan_native.specs.declared.raw.RawFile.{RawFile}
-use Rattle.codespan_native.specs.declared.raw.RawLabel.{RawLabel}
-use Rattle.codespan_native.specs.Meaning.{NoLookupFails, label_in, label_of, source_in}
-use Rattle.codespan_native.specs.Validity.{AreValid}
+use Rattle.codespan_structs.specs.declared.error.Argument.TheVariants.{LabelFile}
+use Rattle.codespan_structs.specs.declared.raw.RawConfig.{RawConfig}
+use Rattle.codespan_structs.specs.declared.raw.RawDiagnostic.{RawDiagnostic}
+use Rattle.codespan_structs.specs.declared.raw.RawFile.{RawFile}
+use Rattle.codespan_structs.specs.declared.raw.RawLabel.{RawLabel}
+use Rattle.codespan_native.specs.Meaning.{NoLookupFails, label_in}
+use Rattle.codespan_structs.specs.Converted.{label_of, source_in}
+use Rattle.codespan_structs.specs.Validity.{AreValid}
 use Rattle.codespan_native.proofs.Rendered.{labels_equal}
-use Rattle.codespan_native.specs.SourceTexts.{SourceView, database_of, failure_of, file_of}
+use Rattle.codespan_structs.specs.SourceTexts.{SourceView, database_of, failure_of, file_of}
 
 -- ---- facts of each element of a list
 

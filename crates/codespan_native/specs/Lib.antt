@@ -1,16 +1,15 @@
 -- What the contracts of this crate cite.
--- style marks in band
-pub mod StyleMarkBytes
--- files
-pub mod StatedLines
-pub mod SourceTexts
-pub mod Lemmas
-pub mod SourceModel
--- what the structs of C mean, which of their values are valid, and what the call leaves
+-- re-exports: the structs of C
+pub use Rattle.codespan_structs.specs.StyleMarkBytes
+pub use Rattle.codespan_structs.specs.StatedLines
+pub use Rattle.codespan_structs.specs.SourceTexts
+pub use Rattle.codespan_structs.specs.SourceModel
+pub use Rattle.codespan_structs.specs.Converted
+pub use Rattle.codespan_structs.specs.Spellings
+pub use Rattle.codespan_structs.specs.Validity
+pub use Rattle.codespan_structs.specs.ValidParts
+pub use Rattle.codespan_structs.specs.Results
+pub use Rattle.codespan_structs.specs.StatusTexts
+-- the output of the structs, and what it means
 pub mod Meaning
-pub mod Spellings
-pub mod Validity
-pub mod ValidParts
-pub mod Results
--- texts of statuses
-pub mod StatusTexts
+pub mod RenderedStreams

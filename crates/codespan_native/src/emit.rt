@@ -1,21 +1,22 @@
 //! The call.
 
-ghost use Rattle.std.specs.Prelude.{◌≡◌, ◌≢◌, ◌≤◌, ◌↔◌, IfOk, length};
-ghost use Rattle.codespan_native.specs.declared.error.Argument.TheVariants.{LabelFile};
+ghost use Rattle.std.specs.Prelude.{◌≡◌, ◌≢◌, ◌≤◌, ◌↔◌, IfOk};
+ghost use Rattle.codespan_structs.specs.declared.error.Argument.TheVariants.{LabelFile};
 ghost use Rattle.codespan_native.specs.Meaning.{Means, NoLookupFails, output_bytes};
-ghost use Rattle.codespan_native.specs.Results.{IsTooSmall, IsUnchanged, IsWritten};
-ghost use Rattle.codespan_native.specs.Validity.{AreValid, FirstInvalidIs, NamesFirstInvalid, no_detail};
+ghost use Rattle.codespan_structs.specs.Results.{IsTooSmall, IsUnchanged, IsWritten};
+ghost use Rattle.codespan_structs.specs.Validity.{AreValid, FirstInvalidIs, NamesFirstInvalid, no_detail};
 
-use crate::convert::{convert_config, convert_diagnostic, convert_files};
-use crate::error::OutOfMemory;
-use crate::raw::{Detail, RawConfig, RawDiagnostic, RawFile};
+use codespan_structs::buffer::copy_out;
+use codespan_structs::convert::{convert_config, convert_diagnostic, convert_files};
+use codespan_structs::error::OutOfMemory;
+use codespan_structs::raw::{Detail, RawConfig, RawDiagnostic, RawFile};
 use crate::render::render;
-use crate::status::{NO_ARGUMENT, OK, OUT_OF_MEMORY, TOO_SMALL, status_for};
-use crate::validate::first_invalid;
+use codespan_structs::status::{NO_ARGUMENT, OUT_OF_MEMORY, status_for};
+use codespan_structs::validate::first_invalid;
 use std::alloc::Global;
 
 /// Renders a diagnostic over files into `out`, and returns a status, a constant of
-/// [`crate::status`].
+/// [`codespan_structs::status`].
 ///
 /// The arguments are looked at first, in the order of their numbers. Where one is invalid nothing
 /// is rendered, and `detail` names the first such; otherwise it names none. Where the output fits
@@ -81,20 +82,4 @@ fn output_of(
     let database = convert_files(alloc, files)?;
     let diagnostic = convert_diagnostic(alloc, files, diagnostic)?;
     render(alloc, &settings, &database, &diagnostic)
-}
-
-/// Copies the bytes to the front of `out` where they fit, and sets `written` to their number.
-pub fn copy_out(bytes: &[u8], out: &mut [u8], written: &mut usize) -> u32
-    ensures ok { result ≡ 0 → IsWritten bytes.now out.old out.new written.new }
-    ensures too_small { result ≡ 1 → IsTooSmall bytes.now out.old out.new written.new }
-    ensures set { written.new ≡ length bytes.now }
-    ensures status { result ≤ 1 }
-{
-    let length = bytes.len();
-    *written = length;
-    if length > out.len() {
-        return TOO_SMALL;
-    }
-    out[..length].copy_from_slice(bytes);
-    OK
 }

@@ -5,13 +5,7 @@
 //! `codespan_c` exports it to C; `native/include/codespan.h` is its header.
 #![tactic(auto)]
 
-pub mod convert;
 pub mod emit;
-pub mod error;
-pub mod raw;
 pub mod render;
-pub mod source_file;
-pub mod source_files;
-pub mod status;
-pub mod style_mark_writer;
-pub mod validate;
+
+pub use codespan_structs::{error, raw, status, style_mark_writer};

@@ -5,16 +5,17 @@ ghost use Rattle.codespan_base.specs.Streams.{no_style_marks, spelled};
 ghost use Rattle.codespan_base.specs.WriterLaw.{is_known, with_written};
 ghost use Rattle.codespan_base.specs.declared.term.config.DisplayStyle.TheVariants.{Rich};
 ghost use Rattle.codespan_laws.specs.RichLaws.{MeansLabels};
-ghost use Rattle.codespan_native.specs.StyleMarkBytes.{style_mark_spelling};
-ghost use Rattle.codespan_native.specs.Meaning.{ansi_spelling};
-ghost use Rattle.codespan_native.specs.SourceModel.{sources_of};
-ghost use Rattle.codespan_native.specs.SourceTexts.{database_of};
-ghost use Rattle.codespan_native.specs.Spellings.{stream_of_output, spelling_by_kind};
+ghost use Rattle.codespan_structs.specs.StyleMarkBytes.{style_mark_spelling};
+ghost use Rattle.codespan_structs.specs.Converted.{ansi_spelling};
+ghost use Rattle.codespan_structs.specs.SourceModel.{sources_of};
+ghost use Rattle.codespan_structs.specs.SourceTexts.{database_of};
+ghost use Rattle.codespan_structs.specs.Spellings.{spelling_by_kind};
+ghost use Rattle.codespan_native.specs.RenderedStreams.{stream_of_output};
 
-use crate::convert::{Settings, Spelling};
-use crate::error::OutOfMemory;
-use crate::source_files::SourceFiles;
-use crate::style_mark_writer::StyleMarkWriter;
+use codespan_structs::convert::{Settings, Spelling};
+use codespan_structs::error::OutOfMemory;
+use codespan_structs::source_files::SourceFiles;
+use codespan_structs::style_mark_writer::StyleMarkWriter;
 use codespan_reporting::diagnostic::Diagnostic;
 use codespan_reporting::files::Error;
 use codespan_reporting::term::{

@@ -1,9 +1,0 @@
-use Rattle.std.proofs.Common.{refl}
-use Rattle.codespan_native.proofs.convert.config.config_of.Goals as goal
-
--- the fields but the characters are equal; the width of a tab is at most 1024
-pub returns : goal.returns
-returns c = record {
-  chars = c.convert_chars.ensures;
-  others = rw (c.display_style_of.ensures, c.min.ensures, c.layout_of.ensures) refl;
-}

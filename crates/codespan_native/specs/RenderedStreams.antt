@@ -1,0 +1,11 @@
+-- What the Rust values of settings, files and a diagnostic render.
+use Rattle.std.specs.Prelude.{ℕ, List}
+use Rattle.codespan_base.specs.declared.diagnostic.Diagnostic.{Diagnostic}
+use Rattle.codespan_base.specs.declared.term.config.Config.{Config}
+use Rattle.codespan_base.specs.Streams.{Stream}
+use Rattle.codespan_picture.specs.StatedPicture.{picture}
+use Rattle.codespan_structs.specs.SourceTexts.{SourceView, database_of}
+
+-- the output of a diagnostic over files, with the names that the files have
+abbrev pub stream_of_output : Config → List SourceView → Diagnostic ℕ → Stream
+stream_of_output config ss d = picture config.display_style config config (database_of ss) d

@@ -1,0 +1,5 @@
+-- which argument is invalid
+pub mod FirstInvalid
+-- files
+pub mod Searches
+pub mod Views

@@ -1,0 +1,11 @@
+use Rattle.std.proofs.Common.{rules, subst}
+use Rattle.std.specs.Char.{InScalarRange}
+use Rattle.codespan_structs.proofs.FirstInvalid.{by_index, where_chosen}
+use Rattle.codespan_structs.specs.Validity.{FindsInvalid, HoldsIfAt}
+use Rattle.codespan_structs.proofs.validate.config.character_index.Goals as goal
+
+pub returns : goal.returns
+returns c =
+    where_chosen _ _ _ (search rules)
+    (subst (λ codes. FindsInvalid (HoldsIfAt InScalarRange codes) c.code_index.result) c.codes_of.ensures
+    (by_index InScalarRange c.codes_of.result c.code_index.result c.code_index.ensures))

@@ -1,0 +1,40 @@
+use Rattle.std.proofs.Common.{◌≡◌, arith}
+use Rattle.std.proofs.lemmas.Bool.Decides.{nat_tests}
+use Rattle.codespan_structs.proofs.FirstInvalid.{by_index, by_test}
+use Rattle.codespan_structs.specs.Validity.{HasLabelStyle, HasTextMessage, HasTextName, HasTextSource, HasValidLines, HasValidLoci, IsOfAFile, IsValidText}
+use Rattle.codespan_structs.proofs.validate.invalid_index.Goals as goal
+
+pub returns-in-Character : goal.returns-in-Character
+returns-in-Character c = rw c.in-Character.is c.character_index.ensures
+
+pub returns-in-Color : goal.returns-in-Color
+returns-in-Color c = rw c.in-Color.is c.color_index.ensures
+
+pub returns-in-FileName : goal.returns-in-FileName
+returns-in-FileName c = rw c.in-FileName.is (by_index HasTextName _ _ c.name_index.ensures)
+
+pub returns-in-FileSource : goal.returns-in-FileSource
+returns-in-FileSource c = rw c.in-FileSource.is (by_index HasTextSource _ _ c.source_index.ensures)
+
+pub returns-in-FileLines : goal.returns-in-FileLines
+returns-in-FileLines c = rw c.in-FileLines.is (by_index HasValidLines _ _ c.lines_index.ensures)
+
+pub returns-in-FileLoci : goal.returns-in-FileLoci
+returns-in-FileLoci c = rw c.in-FileLoci.is (by_index HasValidLoci _ _ c.loci_index.ensures)
+
+pub returns-in-LabelStyle : goal.returns-in-LabelStyle
+returns-in-LabelStyle c = rw c.in-LabelStyle.is (by_index HasLabelStyle _ _ c.label_style_index.ensures)
+
+pub returns-in-LabelMessage : goal.returns-in-LabelMessage
+returns-in-LabelMessage c = rw c.in-LabelMessage.is (by_index HasTextMessage _ _ c.label_message_index.ensures)
+
+pub returns-in-LabelFile : goal.returns-in-LabelFile
+returns-in-LabelFile c = rw c.in-LabelFile.is (by_index (IsOfAFile _) _ _ c.label_file_index.ensures)
+
+pub returns-in-Note : goal.returns-in-Note
+returns-in-Note c = rw c.in-Note.is (by_index IsValidText _ _ c.note_index.ensures)
+
+-- the layouts are those of the library, or not
+pub returns-in-Abi : goal.returns-in-Abi
+returns-in-Abi c =
+    rw c.in-Abi.is (by_test _ (c.args.config.now.abi ≡ 1) _ (λ test. grind (arith, nat_tests, test)) (λ same. grind (arith, nat_tests, same)) c.index_unless.ensures)

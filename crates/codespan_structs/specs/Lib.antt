@@ -1,0 +1,16 @@
+-- What the contracts of this crate cite.
+-- style marks in band
+pub mod StyleMarkBytes
+-- files
+pub mod StatedLines
+pub mod SourceTexts
+pub mod Lemmas
+pub mod SourceModel
+-- what the structs of C are converted to, which of their values are valid, and what a call leaves
+pub mod Converted
+pub mod Spellings
+pub mod Validity
+pub mod ValidParts
+pub mod Results
+-- texts of statuses
+pub mod StatusTexts

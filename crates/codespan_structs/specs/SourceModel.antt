@@ -1,0 +1,83 @@
+-- What is seen of the Rust values of the files of C.
+use Rattle.std.proofs.Common.{arith, refl}
+use Rattle.std.proofs.lemmas.Bool.{le-leb}
+use Rattle.std.specs.Prelude.{◌≡◌, ◌<◌, ℕ, suc, length, List, map, slice_get, Option, None}
+use Rattle.std.proofs.lemmas.Str.{IsUtf8-had}
+use Rattle.codespan_base.specs.declared.files.Location.{Location}
+use Rattle.codespan_base.specs.FileModel.{line_of}
+use Rattle.codespan_base.specs.LawfulFiles.{IsLawful, FailsPastEnd}
+use Rattle.codespan_base.specs.FileModel.Lookup.{LineRange}
+use Rattle.codespan_base.specs.DatabaseViews.{name_of, source_of as simple_source_of}
+use Rattle.codespan_base.specs.Lemmas.Simple.{past_end_is, text_fits, text_is_utf8}
+use Rattle.codespan_base.specs.Lemmas.Lines.{line_of_below}
+use Rattle.codespan_base.specs.Lemmas.Missing.{past_end_or, database_lawful}
+use Rattle.codespan_structs.specs.declared.source_file.lined.LinedText.{LinedText}
+use Rattle.codespan_structs.specs.declared.source_file.numbered.NumberedText.{NumberedText}
+use Rattle.codespan_structs.specs.declared.source_file.SourceFile.{SourceFile}
+use Rattle.codespan_structs.specs.declared.source_file.text.SourceText.{SourceText}
+use Rattle.codespan_structs.specs.declared.source_file.text.SourceText.TheVariants.{Numbered, Lined}
+use Rattle.codespan_structs.specs.declared.source_files.SourceFiles.{SourceFiles}
+use Rattle.codespan_structs.specs.StatedLines.{locus_at}
+use Rattle.codespan_structs.specs.SourceTexts.{CutText, SourceView, database_of, failure_of, file_of, lined_text, numbered_text, past_last}
+use Rattle.codespan_structs.specs.Lemmas.{lined_lawful, numbered_lawful}
+
+-- a text cut at newlines
+abbrev pub numbered_of : NumberedText → CutText
+numbered_of t = numbered_text (name_of t.file).now (simple_source_of t.file).now t.first_line
+
+-- a text of given lines
+abbrev pub lined_of : LinedText → CutText
+lined_of t = lined_text t.name.now t.source.now t.first_byte t.lines.now
+
+-- either
+abbrev pub cut_of : SourceText → CutText
+cut_of (Numbered t) = numbered_of t
+cut_of (Lined t) = lined_of t
+
+-- a file
+abbrev pub source_of : SourceFile → SourceView
+source_of f = record { cut = cut_of f.text; set = locus_at f.first_byte f.loci.now }
+
+-- the files of a database
+abbrev pub sources_of : SourceFiles → List SourceView
+sources_of files = map source_of files.files.items
+
+-- a text of given lines makes a lawful file, whatever its loci are
+lined_lawful_with : (t : LinedText) (set : ℕ → Option Location)
+    → IsLawful (file_of (record { cut = lined_of t; set = set }))
+lined_lawful_with t set =
+    lined_lawful _ _ t.first_byte t.lines.now set (IsUtf8-had _ t.utf8) t.fits t.cut
+
+pub lined_is_lawful : (t : LinedText)
+    → IsLawful (file_of (record { cut = lined_of t; set = λ _. None }))
+lined_is_lawful t = lined_lawful_with t (λ _. None)
+
+-- a text makes a lawful file
+text_is_lawful : (t : SourceText) (set : ℕ → Option Location)
+    → IsLawful (file_of (record { cut = cut_of t; set = set }))
+text_is_lawful (Numbered t) set =
+    numbered_lawful _ _ t.first_line set (text_is_utf8 t.file) (text_fits t.file)
+text_is_lawful (Lined t) set = lined_lawful_with t set
+
+-- the line of a byte is there
+pub byte_has_line : (f : SourceFile) (byte : ℕ)
+    → past_last (source_of f).cut.starts (line_of (source_of f).cut.starts byte) ≡ None
+byte_has_line f byte =
+    let starts = (source_of f).cut.starts in
+    let law = text_is_lawful f.text (locus_at f.first_byte f.loci.now) in
+    let h : line_of starts byte < length starts = line_of_below starts byte law.some_line in
+    rw (le-leb (suc (line_of starts byte)) (length starts) (omega (arith, h))) refl
+
+-- a database is lawful
+pub database_is_lawful : (files : SourceFiles) (id : ℕ)
+    → IsLawful ((database_of (sources_of files)).file id)
+database_is_lawful files id =
+    database_lawful source_of file_of files.files.items id
+    (λ f. text_is_lawful f.text (locus_at f.first_byte f.loci.now))
+
+-- the range of a line fails past the last one
+pub database_fails_past_end : (ss : List SourceView) (id i : ℕ)
+    → FailsPastEnd ((database_of ss).file id) i ((database_of ss).failure id (LineRange i))
+database_fails_past_end ss id i =
+    past_end_or file_of failure_of i (slice_get ss id)
+    (λ s there. past_end_is (length s.cut.starts) i)

@@ -1,0 +1,170 @@
+-- Which arguments are valid, and which invalid one is named.
+use Rattle.std.specs.Prelude.{◌≡◌, ◌<◌, ◌≤◌, ℕ, true, List, [], ◌∷◌, length, Option, MatchOption}
+use Rattle.std.specs.List.{slice_index_or, HoldsAt, AllWithin}
+use Rattle.std.specs.Char.{InScalarRange}
+use Rattle.std.specs.Str.{IsUtf8}
+use Rattle.codespan_structs.specs.declared.error.Argument.{Argument}
+use Rattle.codespan_structs.specs.declared.error.Argument.TheVariants.{Abi, DisplayStyle, Layout, Spelling, Characters, SnippetStart, Character, Color, FileName, FileSource, FileLines, FileLoci, Severity, Code, Message, LabelStyle, LabelMessage, LabelFile, Note}
+use Rattle.codespan_structs.specs.declared.raw.Detail.{Detail}
+use Rattle.codespan_structs.specs.declared.raw.RawChars.{RawChars}
+use Rattle.codespan_structs.specs.declared.raw.RawColorSpec.{RawColorSpec}
+use Rattle.codespan_structs.specs.declared.raw.RawConfig.{RawConfig}
+use Rattle.codespan_structs.specs.declared.raw.RawDiagnostic.{RawDiagnostic}
+use Rattle.codespan_structs.specs.declared.raw.RawFile.{RawFile}
+use Rattle.codespan_structs.specs.declared.raw.RawLabel.{RawLabel}
+use Rattle.codespan_structs.specs.declared.raw.RawLine.{RawLine}
+use Rattle.codespan_structs.specs.declared.raw.RawStyles.{RawStyles}
+use Rattle.codespan_structs.specs.declared.raw.RawText.{RawText}
+use Rattle.codespan_structs.specs.StatedLines.{are_lines, ascends}
+
+-- ---- values
+
+-- the caller's characters, by their code points
+abbrev pub codes_of : RawChars → List ℕ
+codes_of c =
+    c.source_border_left ∷ c.source_border_left_break ∷ c.note_bullet ∷ c.single_primary_caret
+    ∷ c.single_secondary_caret ∷ c.multi_primary_caret_start ∷ c.multi_primary_caret_end
+    ∷ c.multi_secondary_caret_start ∷ c.multi_secondary_caret_end ∷ c.multi_top_left ∷ c.multi_top
+    ∷ c.multi_bottom_left ∷ c.multi_bottom ∷ c.multi_left ∷ c.pointer_left ∷ []
+
+-- the caller's styles
+abbrev pub color_specs_of : RawStyles → List RawColorSpec
+color_specs_of s =
+    s.header_bug ∷ s.header_error ∷ s.header_warning ∷ s.header_note ∷ s.header_help
+    ∷ s.header_message ∷ s.primary_label_bug ∷ s.primary_label_error ∷ s.primary_label_warning
+    ∷ s.primary_label_note ∷ s.primary_label_help ∷ s.secondary_label ∷ s.line_number
+    ∷ s.source_border ∷ s.note_bullet ∷ []
+
+-- the colors of a style
+pub record IsColorSpec (s : RawColorSpec) : Type 0 where
+  pub fg : s.fg ≤ 8
+  pub bg : s.bg ≤ 8
+
+-- lines of a text, or none
+abbrev pub AreValidLines : List ℕ → ℕ → List RawLine → Type 0
+AreValidLines text first [] = Unit {0}
+AreValidLines text first (l ∷ ls) = are_lines text first (l ∷ ls) ≡ true
+
+-- facts of a file, of a label and of a note
+abbrev pub HasTextName : RawFile → Type 0
+HasTextName f = IsUtf8 f.name.now
+
+abbrev pub HasTextSource : RawFile → Type 0
+HasTextSource f = IsUtf8 f.source.now
+
+abbrev pub HasValidLines : RawFile → Type 0
+HasValidLines f = AreValidLines f.source.now f.first_byte f.lines.now
+
+abbrev pub HasValidLoci : RawFile → Type 0
+HasValidLoci f = ascends f.first_byte f.loci.now ≡ true
+
+abbrev pub HasLabelStyle : RawLabel → Type 0
+HasLabelStyle l = l.style ≤ 1
+
+abbrev pub HasTextMessage : RawLabel → Type 0
+HasTextMessage l = IsUtf8 l.message.now
+
+abbrev pub IsValidText : RawText → Type 0
+IsValidText t = IsUtf8 t.bytes.now
+
+-- the label is of one of so many files
+abbrev pub IsOfAFile : ℕ → RawLabel → Type 0
+IsOfAFile count l = l.file < count
+
+-- ---- arguments
+
+-- the number of an argument
+abbrev pub number_of : Argument → ℕ
+number_of Abi = 1
+number_of DisplayStyle = 2
+number_of Layout = 3
+number_of Spelling = 4
+number_of Characters = 5
+number_of SnippetStart = 6
+number_of Character = 7
+number_of Color = 8
+number_of FileName = 9
+number_of FileSource = 10
+number_of FileLines = 11
+number_of FileLoci = 12
+number_of Severity = 13
+number_of Code = 14
+number_of Message = 15
+number_of LabelStyle = 16
+number_of LabelMessage = 17
+number_of LabelFile = 18
+number_of Note = 19
+
+-- the fact holds of the value at this index, where there is one
+abbrev pub HoldsIfAt : {X : Type 0} → (X → Type 0) → List X → ℕ → Type 0
+HoldsIfAt {X} P xs i = (d : X) → i < length xs → P (slice_index_or xs i d)
+
+-- the first of these values of which the fact does not hold has this index
+abbrev pub IsFirstWithout : {X : Type 0} → (X → Type 0) → List X → ℕ → Type 0
+IsFirstWithout P xs i = (i < length xs) × HoldsAt (λ x. ¬ P x) xs i × AllWithin P xs 0 i
+
+-- that index, or the fact holds of all values
+abbrev pub FindsWithout : {X : Type 0} → (X → Type 0) → List X → Option ℕ → Type 0
+FindsWithout P xs r = MatchOption r (AllWithin P xs 0 (length xs)) (IsFirstWithout P xs)
+
+-- the first index at which the fact does not hold
+pub record IsFirstInvalidIndex (Valid : ℕ → Type 0) (i : ℕ) : Type 0 where
+  pub invalid : ¬ Valid i
+  pub before : (j : ℕ) → j < i → Valid j
+
+-- that index, or the fact holds at all indices
+abbrev pub FindsInvalid : (ℕ → Type 0) → Option ℕ → Type 0
+FindsInvalid Valid r = MatchOption r ((i : ℕ) → Valid i) (IsFirstInvalidIndex Valid)
+
+module _ (files : List RawFile) (d : RawDiagnostic) (c : RawConfig) where
+  -- the argument is valid; of several, the one of this index
+  abbrev pub IsValidAt : Argument → ℕ → Type 0
+  IsValidAt Abi i = c.abi ≡ 1
+  IsValidAt DisplayStyle i = c.display_style ≤ 2
+  IsValidAt Layout i = c.layout ≤ 1
+  IsValidAt Spelling i = c.spelling ≤ 3
+  IsValidAt Characters i = c.characters ≤ 2
+  IsValidAt SnippetStart i = c.characters ≡ 2 → IsUtf8 c.chars.snippet_start.now
+  IsValidAt Character i = c.characters ≡ 2 → HoldsIfAt InScalarRange (codes_of c.chars) i
+  IsValidAt Color i = c.spelling ≡ 2 → HoldsIfAt IsColorSpec (color_specs_of c.styles) i
+  IsValidAt FileName i = HoldsIfAt HasTextName files i
+  IsValidAt FileSource i = HoldsIfAt HasTextSource files i
+  IsValidAt FileLines i = HoldsIfAt HasValidLines files i
+  IsValidAt FileLoci i = HoldsIfAt HasValidLoci files i
+  IsValidAt Severity i = d.severity ≤ 4
+  IsValidAt Code i = IsUtf8 d.code.now
+  IsValidAt Message i = IsUtf8 d.message.now
+  IsValidAt LabelStyle i = HoldsIfAt HasLabelStyle d.labels.now i
+  IsValidAt LabelMessage i = HoldsIfAt HasTextMessage d.labels.now i
+  IsValidAt LabelFile i = HoldsIfAt (IsOfAFile (length files)) d.labels.now i
+  IsValidAt Note i = HoldsIfAt IsValidText d.notes.now i
+
+  -- every argument is valid
+  abbrev pub AreValid : Type 0
+  AreValid = (a : Argument) (i : ℕ) → IsValidAt a i
+
+  -- the argument, of several the one of this index, is invalid, and each one before it is valid:
+  -- those of lower indices, and arguments of lower numbers
+  pub record IsFirstInvalid (a : Argument) (i : ℕ) : Type 0 where
+    pub invalid : ¬ IsValidAt a i
+    pub before : (j : ℕ) → j < i → IsValidAt a j
+    pub arguments_before : (b : Argument) (j : ℕ) → number_of b < number_of a → IsValidAt b j
+
+  -- there is an invalid argument, and the first one is such an argument
+  abbrev pub FirstInvalidIs : (Argument → Type 0) → Type 0
+  FirstInvalidIs Such = (a : Argument) × (i : ℕ) × Such a × IsFirstInvalid a i
+
+  -- the detail names the first invalid argument, by its number and its index
+  pub record NamesFirstInvalid (detail : Detail) : Type 0 where
+    pub argument : Argument
+    pub number_is : detail.argument ≡ number_of argument
+    pub first : IsFirstInvalid argument detail.index
+
+-- the detail that names no argument
+abbrev pub no_detail : Detail
+no_detail = record { argument = 0; index = 0 }
+
+-- the status of a call whose first invalid argument is this one
+abbrev pub status_for : Argument → ℕ
+status_for LabelFile = 3
+status_for _ = 4

@@ -1,0 +1,22 @@
+//! The caller's buffer.
+
+ghost use Rattle.std.specs.Prelude.{◌≡◌, ◌≤◌, length};
+ghost use Rattle.codespan_structs.specs.Results.{IsTooSmall, IsWritten};
+
+use crate::status::{OK, TOO_SMALL};
+
+/// Copies the bytes to the front of `out` where they fit, and sets `written` to their number.
+pub fn copy_out(bytes: &[u8], out: &mut [u8], written: &mut usize) -> u32
+    ensures ok { result ≡ 0 → IsWritten bytes.now out.old out.new written.new }
+    ensures too_small { result ≡ 1 → IsTooSmall bytes.now out.old out.new written.new }
+    ensures set { written.new ≡ length bytes.now }
+    ensures status { result ≤ 1 }
+{
+    let length = bytes.len();
+    *written = length;
+    if length > out.len() {
+        return TOO_SMALL;
+    }
+    out[..length].copy_from_slice(bytes);
+    OK
+}

@@ -1,0 +1,94 @@
+//! The configuration.
+
+ghost use Rattle.std.specs.Prelude.{◌≡◌};
+ghost use Rattle.codespan_base.specs.ConfigEquality.{IsConfig};
+ghost use Rattle.codespan_structs.specs.Converted.{config_of, display_style_of, layout_of, spelling_of};
+ghost use Rattle.codespan_structs.specs.Spellings.{spelling_by_kind};
+ghost use Rattle.codespan_structs.specs.ValidParts.{AreValidChars};
+
+use crate::convert::chars::convert_chars;
+use crate::convert::styles::convert_styles;
+use crate::raw::{RawConfig, TAB_WIDTH_MAX};
+use codespan_base::term::{Config, DisplayStyle, Layout, Styles};
+
+/// How style marks are spelled.
+#[derive(Clone, Copy, Debug, PartialEq, Eq)]
+pub enum Spelling {
+    /// As nothing.
+    Plain,
+    /// As the escape sequences of these styles.
+    Ansi(Styles),
+    /// In band, as the byte 255 and the number of the style mark.
+    StyleMarks,
+}
+
+/// How a diagnostic is rendered.
+#[derive(Drop)]
+pub struct Settings<'a> {
+    /// The configuration.
+    pub config: Config<'a>,
+    /// How style marks are spelled.
+    pub spelling: Spelling,
+}
+
+/// Returns the settings of a configuration of C.
+pub fn convert_config<'a>(raw: &RawConfig<'a>) -> Settings<'a>
+    requires { AreValidChars raw.now }
+    ensures config { IsConfig (config_of raw.now) result.config }
+    ensures spelling { spelling_by_kind result.spelling ≡ spelling_of raw.now }
+{
+    Settings {
+        config: config_of(raw),
+        spelling: spelling_of(raw),
+    }
+}
+
+/// Returns the configuration itself.
+fn config_of<'a>(raw: &RawConfig<'a>) -> Config<'a>
+    requires { AreValidChars raw.now }
+    ensures { IsConfig (config_of raw.now) result }
+{
+    Config {
+        display_style: display_style_of(raw.display_style),
+        tab_width: raw.tab_width.min(TAB_WIDTH_MAX),
+        layout: layout_of(raw.layout),
+        chars: convert_chars(raw),
+        start_context_lines: raw.start_context_lines,
+        end_context_lines: raw.end_context_lines,
+        before_label_lines: raw.before_label_lines,
+        after_label_lines: raw.after_label_lines,
+    }
+}
+
+/// Returns the style of the output of this number.
+fn display_style_of(number: u32) -> DisplayStyle
+    ensures { result ≡ display_style_of number }
+{
+    match number {
+        0 => DisplayStyle::Rich,
+        1 => DisplayStyle::Medium,
+        _ => DisplayStyle::Short,
+    }
+}
+
+/// Returns the layout of this number.
+fn layout_of(number: u32) -> Layout
+    ensures { result ≡ layout_of number }
+{
+    match number {
+        0 => Layout::Classic,
+        _ => Layout::Unbroken,
+    }
+}
+
+/// Returns how a configuration spells style marks.
+fn spelling_of(raw: &RawConfig<'_>) -> Spelling
+    ensures { spelling_by_kind result ≡ spelling_of raw.now }
+{
+    match raw.spelling {
+        0 => Spelling::Plain,
+        1 => Spelling::Ansi(Styles::default()),
+        2 => Spelling::Ansi(convert_styles(&raw.styles)),
+        _ => Spelling::StyleMarks,
+    }
+}

@@ -1,0 +1,128 @@
+//! The diagnostic.
+
+ghost use Rattle.std.specs.Prelude.{◌≡◌, All, IfOk, map, string_bytes};
+ghost use Rattle.std.specs.Str.{IsUtf8};
+ghost use Rattle.std.specs.Option.{option_map};
+ghost use Rattle.codespan_base.specs.Diagnostics.{diagnostic_view, label_view};
+ghost use Rattle.codespan_structs.specs.Converted.{bytes_of, code_of, label_of, label_style_of, first_byte_of, severity_of, view_of};
+ghost use Rattle.codespan_structs.specs.Validity.{HasTextMessage, IsValidText};
+ghost use Rattle.codespan_structs.specs.ValidParts.{IsValidDiagnostic};
+
+use crate::convert::text::string_of;
+use crate::error::OutOfMemory;
+use crate::raw::{RawDiagnostic, RawFile, RawLabel, RawText};
+use codespan_base::diagnostic::{Diagnostic, Label, LabelStyle, Severity};
+use std::alloc::{AllocError, Global};
+
+/// Returns a diagnostic over these files.
+///
+/// # Errors
+///
+/// [`OutOfMemory`] where an allocation fails.
+pub fn convert_diagnostic(
+    alloc: Global,
+    files: &[RawFile<'_>],
+    raw: &RawDiagnostic<'_>,
+) -> Result<Diagnostic<usize>, OutOfMemory>
+    requires { IsValidDiagnostic raw.now }
+    ensures { IfOk result (λ d. diagnostic_view d ≡ view_of files.now raw.now) }
+{
+    Ok(Diagnostic {
+        severity: severity_of(raw.severity),
+        code: code_of(alloc, raw.code)?,
+        message: string_of(alloc, raw.message)?,
+        labels: labels_of(alloc, files, raw.labels)?,
+        notes: notes_of(alloc, raw.notes)?,
+    })
+}
+
+/// Returns the severity of this number.
+fn severity_of(number: u32) -> Severity
+    ensures { result ≡ severity_of number }
+{
+    match number {
+        0 => Severity::Help,
+        1 => Severity::Note,
+        2 => Severity::Warning,
+        3 => Severity::Error,
+        _ => Severity::Bug,
+    }
+}
+
+/// Returns the code of these bytes; none where they are empty.
+fn code_of(alloc: Global, raw: &[u8]) -> Result<Option<String>, AllocError>
+    requires { IsUtf8 raw.now }
+    ensures { IfOk result (λ code. option_map string_bytes code ≡ code_of raw.now) }
+{
+    match raw {
+        [] => Ok(None),
+        [_, ..] => Ok(Some(string_of(alloc, raw)?)),
+    }
+}
+
+/// Returns the labels.
+fn labels_of(
+    alloc: Global,
+    files: &[RawFile<'_>],
+    raw: &[RawLabel<'_>],
+) -> Result<Vec<Label<usize>>, OutOfMemory>
+    requires { All HasTextMessage raw.now }
+    ensures { IfOk result (λ labels.
+        map label_view labels.items ≡ map (label_of files.now) raw.now) }
+{
+    let mut labels = Vec::new(alloc);
+    for label in raw {
+        labels.push(label_of(alloc, files, label)?)?;
+    }
+    Ok(labels)
+}
+
+/// Returns a label, with byte indices in the source of its file.
+fn label_of(
+    alloc: Global,
+    files: &[RawFile<'_>],
+    raw: &RawLabel<'_>,
+) -> Result<Label<usize>, AllocError>
+    requires { HasTextMessage raw.now }
+    ensures { IfOk result (λ label. label_view label ≡ label_of files.now raw.now) }
+{
+    let first_byte = first_byte_of(files, raw.file);
+    Ok(Label {
+        style: label_style_of(raw.style),
+        file_id: raw.file,
+        range: raw.start.saturating_sub(first_byte)..raw.end.saturating_sub(first_byte),
+        message: string_of(alloc, raw.message)?,
+    })
+}
+
+/// Returns the byte of a file at which its source starts; 0 of none.
+fn first_byte_of(files: &[RawFile<'_>], id: usize) -> usize
+    ensures { result ≡ first_byte_of files.now id }
+{
+    match files.get(id) {
+        Some(file) => file.first_byte,
+        None => 0,
+    }
+}
+
+/// Returns the label style of this number.
+fn label_style_of(number: u32) -> LabelStyle
+    ensures { result ≡ label_style_of number }
+{
+    match number {
+        0 => LabelStyle::Primary,
+        _ => LabelStyle::Secondary,
+    }
+}
+
+/// Returns the notes.
+fn notes_of(alloc: Global, raw: &[RawText<'_>]) -> Result<Vec<String>, OutOfMemory>
+    requires { All IsValidText raw.now }
+    ensures { IfOk result (λ notes. map string_bytes notes.items ≡ map bytes_of raw.now) }
+{
+    let mut notes = Vec::new(alloc);
+    for note in raw {
+        notes.push(string_of(alloc, note.bytes)?)?;
+    }
+    Ok(notes)
+}

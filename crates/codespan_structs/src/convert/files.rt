@@ -1,0 +1,52 @@
+//! The files.
+
+ghost use Rattle.std.specs.Prelude.{◌≡◌, All, IfOk, map};
+ghost use Rattle.codespan_structs.specs.Converted.{source_in};
+ghost use Rattle.codespan_structs.specs.SourceModel.{cut_of, source_of, sources_of};
+ghost use Rattle.codespan_structs.specs.ValidParts.{IsValidFile};
+
+use crate::convert::text::text_of;
+use crate::error::OutOfMemory;
+use crate::raw::RawFile;
+use crate::source_file::{LinedText, NumberedText, SourceFile, SourceText};
+use crate::source_files::SourceFiles;
+use std::alloc::Global;
+
+/// Returns the file database of these files.
+///
+/// # Errors
+///
+/// [`OutOfMemory`] where an allocation fails.
+pub fn convert_files<'a>(alloc: Global, raw: &[RawFile<'a>]) -> Result<SourceFiles<'a>, OutOfMemory>
+    requires { All IsValidFile raw.now }
+    ensures { IfOk result (λ files. sources_of files ≡ map source_in raw.now) }
+{
+    let mut files = SourceFiles::new(alloc);
+    for file in raw {
+        files.add(file_of(alloc, file)?)?;
+    }
+    Ok(files)
+}
+
+/// Returns a file.
+fn file_of<'a>(alloc: Global, raw: &RawFile<'a>) -> Result<SourceFile<'a>, OutOfMemory>
+    requires { IsValidFile raw.now }
+    ensures { IfOk result (λ file. source_of file ≡ source_in raw.now) }
+{
+    let text = source_text_of(alloc, raw)?;
+    Ok(SourceFile::new(text, raw.first_byte, raw.loci))
+}
+
+/// Returns the text of a file, cut into lines.
+fn source_text_of<'a>(alloc: Global, raw: &RawFile<'a>) -> Result<SourceText<'a>, OutOfMemory>
+    requires { IsValidFile raw.now }
+    ensures { IfOk result (λ text. cut_of text ≡ (source_in raw.now).cut) }
+{
+    let name = text_of(raw.name);
+    let source = text_of(raw.source);
+    Ok(if raw.lines.is_empty() {
+        SourceText::Numbered(NumberedText::new(alloc, name, source, raw.first_line)?)
+    } else {
+        SourceText::Lined(LinedText::new(name, source, raw.first_byte, raw.lines))
+    })
+}

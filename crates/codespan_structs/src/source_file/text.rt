@@ -1,0 +1,74 @@
+//! Texts cut into lines.
+
+ghost use Rattle.std.specs.Prelude.{◌≡◌, IfOk};
+ghost use Rattle.codespan_base.specs.FileModel.{line_of};
+ghost use Rattle.codespan_base.specs.LawfulFiles.{FailsBy};
+ghost use Rattle.codespan_structs.specs.SourceTexts.{IsRangeIn, past_last};
+
+use crate::source_file::{LinedText, NumberedText};
+use codespan_base::files::Error;
+use std::ops::Range;
+
+/// A text cut into lines.
+#[derive(Drop)]
+pub enum SourceText<'a> {
+    /// Cut at newlines.
+    Numbered(NumberedText<'a>),
+    /// Cut into given lines.
+    Lined(LinedText<'a>),
+}
+
+impl<'a> SourceText<'a> {
+    ghost use Rattle.codespan_structs.specs.SourceModel.{cut_of};
+
+    /// Returns the name.
+    pub fn name(&self) -> &'a str
+        ensures { result.now ≡ (cut_of self.now).name }
+    {
+        match self {
+            SourceText::Numbered(text) => text.name(),
+            SourceText::Lined(text) => text.name(),
+        }
+    }
+
+    /// Returns the source.
+    pub fn source(&self) -> &'a str
+        ensures { result.now ≡ (cut_of self.now).text }
+    {
+        match self {
+            SourceText::Numbered(text) => text.source(),
+            SourceText::Lined(text) => text.source(),
+        }
+    }
+
+    /// Returns the index of the byte's line.
+    pub fn line_index(&self, byte_index: usize) -> usize
+        ensures { result ≡ line_of (cut_of self.now).starts byte_index }
+    {
+        match self {
+            SourceText::Numbered(text) => text.line_index(byte_index),
+            SourceText::Lined(text) => text.line_index(byte_index),
+        }
+    }
+
+    /// Returns the number of the line of this index.
+    pub fn line_number(&self, line_index: usize) -> usize
+        ensures { result ≡ (cut_of self.now).number line_index }
+    {
+        match self {
+            SourceText::Numbered(text) => text.line_number(line_index),
+            SourceText::Lined(text) => text.line_number(line_index),
+        }
+    }
+
+    /// Returns the bytes of the line of this index.
+    pub fn line_range(&self, line_index: usize) -> Result<Range<usize>, Error>
+        ensures value { IfOk result (IsRangeIn (cut_of self.now) line_index) }
+        ensures failed { FailsBy (past_last (cut_of self.now).starts line_index) result }
+    {
+        match self {
+            SourceText::Numbered(text) => text.line_range(line_index),
+            SourceText::Lined(text) => text.line_range(line_index),
+        }
+    }
+}

@@ -1,0 +1,99 @@
+//! Statuses by their numbers, and the texts of statuses and arguments.
+
+ghost use Rattle.std.specs.Prelude.{◌≡◌, ◌≤◌, length};
+ghost use Rattle.codespan_structs.specs.Results.{IsTooSmall, IsWritten};
+ghost use Rattle.codespan_structs.specs.StatusTexts.{argument_text, status_text, text_for};
+ghost use Rattle.codespan_structs.specs.Validity.{status_for};
+
+use crate::buffer::copy_out;
+use crate::error::Argument;
+
+/// The output was written.
+pub const OK: u32 = 0;
+
+/// The output does not fit.
+pub const TOO_SMALL: u32 = 1;
+
+/// An allocation failed.
+pub const OUT_OF_MEMORY: u32 = 2;
+
+/// A label is of no file, and each argument before is valid.
+pub const FILE_MISSING: u32 = 3;
+
+/// An argument is invalid.
+pub const INVALID: u32 = 4;
+
+/// The number of no argument.
+pub const NO_ARGUMENT: u32 = 0;
+
+/// Returns the status of a call whose first invalid argument is this one.
+pub fn status_for(argument: Argument) -> u32
+    ensures { result ≡ status_for argument }
+{
+    match argument {
+        Argument::LabelFile => FILE_MISSING,
+        _ => INVALID,
+    }
+}
+
+/// Writes what a status means to `out`, as [`copy_out`] copies bytes, and returns [`OK`] or
+/// [`TOO_SMALL`].
+///
+/// Of [`INVALID`] it says what the argument must be.
+pub fn write_status(status: u32, argument: u32, out: &mut [u8], written: &mut usize) -> u32
+    ensures ok { result ≡ 0 → IsWritten (text_for status argument) out.old out.new written.new }
+    ensures too_small { result ≡ 1
+        → IsTooSmall (text_for status argument) out.old out.new written.new }
+    ensures short { written.new ≤ 128 }
+    ensures status { result ≤ 1 }
+{
+    let text = if status == INVALID {
+        argument_text(argument)
+    } else {
+        status_text(status)
+    };
+    copy_out(text.as_bytes(), out, written)
+}
+
+/// Returns what a status means.
+fn status_text(status: u32) -> &'static str
+    ensures value { result.now ≡ status_text status }
+    ensures short { length result.now ≤ 128 }
+{
+    match status {
+        0 => "the output was written",
+        1 => "the output does not fit into the buffer",
+        2 => "out of memory",
+        3 => "the file of a label is not one of the files",
+        _ => "unknown status",
+    }
+}
+
+/// Returns what an argument must be.
+fn argument_text(argument: u32) -> &'static str
+    ensures value { result.now ≡ argument_text argument }
+    ensures short { length result.now ≤ 128 }
+{
+    match argument {
+        1 => "the number of the layouts must be that of the library",
+        2 => "the display style must be one of those of the header",
+        3 => "the layout must be one of those of the header",
+        4 => "the spelling must be one of those of the header",
+        5 => "the choice of characters must be one of those of the header",
+        6 => "the text before a locus must be UTF-8",
+        7 => "a character must be a Unicode scalar value",
+        8 => "a color must be one of those of the header",
+        9 => "the name of a file must be UTF-8",
+        10 => "the source of a file must be UTF-8",
+        11 =>
+            "the lines of a file must ascend and lie inside its source, at boundaries of characters",
+        12 => "the loci of a file must ascend strictly",
+        13 => "the severity must be one of those of the header",
+        14 => "the code must be UTF-8",
+        15 => "the message must be UTF-8",
+        16 => "the style of a label must be one of those of the header",
+        17 => "the message of a label must be UTF-8",
+        19 => "a note must be UTF-8",
+        _ => "an argument is invalid",
+    }
+}

@@ -1,0 +1,131 @@
+//! A writer with style marks in band.
+
+ghost use Rattle.std.specs.Prelude.{◌≡◌, refl};
+ghost use Rattle.codespan_base.specs.Diagnostics.{severity_rank};
+ghost use Rattle.codespan_base.specs.Streams.{bytes};
+ghost use Rattle.codespan_base.specs.WriterLaw.{Writes};
+ghost use Rattle.codespan_structs.specs.StyleMarkBytes.{style_mark_bytes, style_mark_sink};
+
+use codespan_base::term::config::writing::{forward_all, forward_put};
+use codespan_base::diagnostic::{LabelStyle, Severity};
+use codespan_base::term::WriteStyle;
+use std::io;
+use std::io::Write;
+
+/// The byte before the number of a style mark. UTF-8 never has it.
+const STYLE_MARK_BYTE: u8 = 255;
+
+/// A writer that spells each style mark as the byte 255 and the number of the mark.
+#[derive(Drop)]
+pub struct StyleMarkWriter<W> {
+    inner: W,
+    failed: bool,
+}
+
+impl<W: Write> StyleMarkWriter<W> {
+    ghost use Rattle.codespan_base.specs.Writers.{fresh_sink};
+    ghost use Rattle.codespan_structs.specs.StyleMarkBytes.{inner_writer, style_mark_spelling, style_mark_writer_sink};
+
+    /// Returns a writer over `writer`. Its flag is not set.
+    pub fn new(writer: W) -> StyleMarkWriter<W>
+        ensures begins { style_mark_writer_sink W.contents result
+            ≡ fresh_sink style_mark_spelling (W.contents writer) }
+    {
+        StyleMarkWriter {
+            inner: writer,
+            failed: false,
+        }
+    }
+
+    /// Returns the inner writer.
+    pub fn into_inner(self) -> W
+        ensures { result ≡ inner_writer self }
+    {
+        let StyleMarkWriter { inner, .. } = self;
+        inner
+    }
+
+    /// Writes the style mark of this number, and sets the flag where that fails.
+    fn write_style_mark(&mut self, number: u8) -> io::Result<()>
+        ensures { Writes (style_mark_sink self.old.failed (W.contents self.old.inner))
+            (bytes (style_mark_bytes number)) result
+            (style_mark_sink self.new.failed (W.contents self.new.inner)) }
+    {
+        forward_all(
+            &mut self.inner,
+            &mut self.failed,
+            &[STYLE_MARK_BYTE, number],
+        )
+    }
+}
+
+/// Returns the number of a severity, from help to bug.
+fn severity_number(severity: Severity) -> u8
+    ensures { result ≡ severity_rank severity }
+{
+    match severity {
+        Severity::Help => 0,
+        Severity::Note => 1,
+        Severity::Warning => 2,
+        Severity::Error => 3,
+        Severity::Bug => 4,
+    }
+}
+
+impl<W: Write> Write for StyleMarkWriter<W> {
+    ghost contents = { λ w. W.contents w.inner };
+
+    fn write(&mut self, buf: &[u8]) -> io::Result<usize> {
+        self.inner.write(buf)
+    }
+
+    fn flush(&mut self) -> io::Result<()> {
+        self.inner.flush()
+    }
+}
+
+#[tactic(auto, using(codespan_base::proofs::StyleMarks::marking))]
+impl<W: Write> WriteStyle for StyleMarkWriter<W> {
+    ghost use Rattle.codespan_structs.specs.StyleMarkBytes.{style_mark_writer_sink};
+
+    ghost sink = { λ w. style_mark_writer_sink W.contents w };
+
+    fn set_header(&mut self, severity: Severity) -> io::Result<()> {
+        let number = severity_number(severity);
+        self.write_style_mark(number)
+    }
+
+    fn set_header_message(&mut self) -> io::Result<()> {
+        self.write_style_mark(5)
+    }
+
+    fn set_line_number(&mut self) -> io::Result<()> {
+        self.write_style_mark(6)
+    }
+
+    fn set_note_bullet(&mut self) -> io::Result<()> {
+        self.write_style_mark(7)
+    }
+
+    fn set_source_border(&mut self) -> io::Result<()> {
+        self.write_style_mark(8)
+    }
+
+    fn set_label(&mut self, severity: Severity, label_style: LabelStyle) -> io::Result<()> {
+        let number = severity_number(severity);
+        match label_style {
+            LabelStyle::Primary => self.write_style_mark(9 + number),
+            LabelStyle::Secondary => self.write_style_mark(14 + number),
+        }
+    }
+
+    fn reset(&mut self) -> io::Result<()> {
+        self.write_style_mark(19)
+    }
+
+    fn put(&mut self, bytes: &[u8]) -> io::Result<usize> {
+        forward_put(&mut self.inner, &mut self.failed, bytes)
+    }
+
+    ghost holds_contents = { λ _. refl };
+}

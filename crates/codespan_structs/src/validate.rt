@@ -1,0 +1,108 @@
+//! Which argument is invalid, found without a conversion or an allocation.
+
+ghost use Rattle.std.specs.Prelude.{IfNone, IfSome, IsTrue, MatchOption, ◌≡◌};
+ghost use Rattle.codespan_structs.specs.Validity.{AreValid, FindsInvalid, IsFirstInvalid, IsValidAt};
+
+mod config;
+mod diagnostic;
+mod files;
+mod values;
+
+use crate::error::Argument;
+use crate::raw::{ABI, RawConfig, RawDiagnostic, RawFile};
+use crate::validate::config::{character_index, color_index, has_snippet_start};
+use crate::validate::diagnostic::{
+    label_file_index, label_message_index, label_style_index, note_index,
+};
+use crate::validate::files::{lines_index, loci_index, name_index, source_index};
+use crate::validate::values::is_text;
+
+/// An invalid argument.
+#[derive(Drop)]
+pub struct Invalid {
+    /// Which one it is.
+    pub argument: Argument,
+    /// Its index, where there are several.
+    pub index: usize,
+}
+
+/// The arguments, in the order of their numbers.
+const ARGUMENTS: [Argument; 19] = [
+    Argument::Abi,
+    Argument::DisplayStyle,
+    Argument::Layout,
+    Argument::Spelling,
+    Argument::Characters,
+    Argument::SnippetStart,
+    Argument::Character,
+    Argument::Color,
+    Argument::FileName,
+    Argument::FileSource,
+    Argument::FileLines,
+    Argument::FileLoci,
+    Argument::Severity,
+    Argument::Code,
+    Argument::Message,
+    Argument::LabelStyle,
+    Argument::LabelMessage,
+    Argument::LabelFile,
+    Argument::Note,
+];
+
+/// Returns the invalid argument with the lowest number, and of several the one with the lowest
+/// index.
+pub fn first_invalid(
+    files: &[RawFile<'_>],
+    diagnostic: &RawDiagnostic<'_>,
+    config: &RawConfig<'_>,
+) -> Option<Invalid>
+    ensures none { IfNone result (AreValid files.now diagnostic.now config.now) }
+    ensures some { IfSome result (λ found.
+        IsFirstInvalid files.now diagnostic.now config.now found.argument found.index) }
+{
+    for argument in ARGUMENTS {
+        if let Some(index) = invalid_index(argument, files, diagnostic, config) {
+            return Some(Invalid { argument, index });
+        }
+    }
+    None
+}
+
+/// Returns the lowest index at which an argument is invalid; 0 where there is only one.
+fn invalid_index(
+    argument: Argument,
+    files: &[RawFile<'_>],
+    diagnostic: &RawDiagnostic<'_>,
+    config: &RawConfig<'_>,
+) -> Option<usize>
+    ensures { FindsInvalid (IsValidAt files.now diagnostic.now config.now argument) result }
+{
+    match argument {
+        Argument::Abi => index_unless(config.abi == ABI),
+        Argument::DisplayStyle => index_unless(config.display_style <= 2),
+        Argument::Layout => index_unless(config.layout <= 1),
+        Argument::Spelling => index_unless(config.spelling <= 3),
+        Argument::Characters => index_unless(config.characters <= 2),
+        Argument::SnippetStart => index_unless(has_snippet_start(config)),
+        Argument::Character => character_index(config),
+        Argument::Color => color_index(config),
+        Argument::FileName => name_index(files),
+        Argument::FileSource => source_index(files),
+        Argument::FileLines => lines_index(files),
+        Argument::FileLoci => loci_index(files),
+        Argument::Severity => index_unless(diagnostic.severity <= 4),
+        Argument::Code => index_unless(is_text(diagnostic.code)),
+        Argument::Message => index_unless(is_text(diagnostic.message)),
+        Argument::LabelStyle => label_style_index(diagnostic.labels),
+        Argument::LabelMessage => label_message_index(diagnostic.labels),
+        Argument::LabelFile => label_file_index(files.len(), diagnostic.labels),
+        Argument::Note => note_index(diagnostic.notes),
+    }
+}
+
+/// Returns the index of an argument that there is only one of, unless it is valid.
+fn index_unless(is_valid: bool) -> Option<usize>
+    ensures { MatchOption result (IsTrue is_valid) (λ index. (index ≡ 0) × ¬ IsTrue is_valid) }
+{
+    if is_valid { None } else { Some(0) }
+}

@@ -1,0 +1,35 @@
+//! The diagnostic.
+
+ghost use Rattle.std.specs.Prelude.{◌≤◌};
+ghost use Rattle.codespan_structs.specs.Validity.{FindsWithout, HasLabelStyle, HasTextMessage, IsOfAFile, IsValidText};
+
+use crate::raw::{RawLabel, RawText};
+use crate::validate::values::is_text;
+
+/// Returns the index of the first label whose style is invalid.
+pub fn label_style_index(labels: &[RawLabel<'_>]) -> Option<usize>
+    ensures { FindsWithout HasLabelStyle labels.now result }
+{
+    labels.iter().position(|label| label.style > 1)
+}
+
+/// Returns the index of the first label whose message is not UTF-8.
+pub fn label_message_index(labels: &[RawLabel<'_>]) -> Option<usize>
+    ensures { FindsWithout HasTextMessage labels.now result }
+{
+    labels.iter().position(|label| !is_text(label.message))
+}
+
+/// Returns the index of the first note that is not UTF-8.
+pub fn note_index(notes: &[RawText<'_>]) -> Option<usize>
+    ensures { FindsWithout IsValidText notes.now result }
+{
+    notes.iter().position(|note| !is_text(note.bytes))
+}
+
+/// Returns the index of the first label whose file is not one of so many files.
+pub fn label_file_index(count: usize, labels: &[RawLabel<'_>]) -> Option<usize>
+    ensures { FindsWithout (IsOfAFile count) labels.now result }
+{
+    labels.iter().position(|label| label.file >= count)
+}

@@ -1,0 +1,29 @@
+//! Tests of single values.
+
+ghost use Rattle.std.specs.Prelude.{◌≡◌, ◌-◌, IsTrue, ◌↔◌};
+ghost use Rattle.std.specs.Char.{InScalarRange};
+ghost use Rattle.std.specs.Str.{IsUtf8};
+ghost use Rattle.codespan_structs.specs.Validity.{IsColorSpec};
+
+use crate::raw::RawColorSpec;
+
+/// Returns whether the bytes are UTF-8.
+pub fn is_text(bytes: &[u8]) -> bool
+    ensures { IsTrue result ↔ IsUtf8 bytes.now }
+{
+    std::str::from_utf8(bytes).is_ok()
+}
+
+/// Returns whether a code point is a Unicode scalar value.
+pub fn is_character(code: u32) -> bool
+    ensures { IsTrue result ↔ InScalarRange code }
+{
+    char::from_u32(code).is_some()
+}
+
+/// Returns whether the colors of a style are none but those of the header.
+pub fn is_color_spec(spec: &RawColorSpec) -> bool
+    ensures { IsTrue result ↔ IsColorSpec spec.now }
+{
+    spec.fg <= 8 && spec.bg <= 8
+}
